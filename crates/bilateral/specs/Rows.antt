@@ -1,7 +1,8 @@
 -- What a centre's tables hold, and where its rows stand.
-use Rattle.std.specs.Prelude.{◌≢◌, ◌==◌, ℕ, ◌<◌, ◌≤◌, List, length, All, AllPairs, Option, position, bytes_eq}
+use Rattle.std.specs.Prelude.{◌≢◌, ◌==◌, ℕ, ◌<◌, ◌≤◌, List, [], length, slice_index_or, All, AllPairs, Option, None, position, bytes_eq}
 use Rattle.bilateral.specs.declared.rows.PointRow.{PointRow}
 use Rattle.bilateral.specs.declared.rows.Table.{Table}
+use Rattle.tase_points.specs.declared.kind.Kind.TheVariants.{State}
 
 -- the points of a centre and its peers' bilateral tables, each numbered from 0 in the order of the file
 pub record CentreRows : Type 0 where
@@ -33,3 +34,19 @@ pub record IsCentre (rows : CentreRows) : Type 0 where
   pub tables : All (IsTable (length rows.points)) rows.tables
   pub point_limit : length rows.points ≤ 20000
   pub peer_limit : length rows.tables ≤ 256
+
+-- a table without anything, where no table stands
+abbrev pub no_table : Table
+no_table = record { key = []; title = None; domain = []; id = []; sees = [] }
+
+-- a point without a name, where no point stands
+abbrev pub no_point : PointRow
+no_point = record { name = []; kind = State }
+
+-- the peer's table
+abbrev pub table_of : CentreRows → ℕ → Table
+table_of rows peer = slice_index_or rows.tables peer no_table
+
+-- the point's row
+abbrev pub point_of : CentreRows → ℕ → PointRow
+point_of rows point = slice_index_or rows.points point no_point
