@@ -1,13 +1,14 @@
-// A library with one function.
+//! Data of MMS (ISO 9506-2), and the names of variables.
 #![tactic(auto)]
 
-ghost use Rattle.std.specs.Prelude.{◌≡◌};
-ghost use Rattle.mms_data.specs.Echo.{echo_of};
+mod data;
+mod names;
+mod object_name;
+mod octets;
+mod outcome;
 
-// The `ensures` clause is the contract: what `echo` returns is `echo_of` of its argument, a definition
-// in `specs/Echo.antt`, which a caller's clause can cite too.
-pub fn echo(x: usize) -> usize
-    ensures { result ≡ echo_of x }
-{
-    x
-}
+pub use data::{DataKind, DataList, MmsData};
+pub use names::Names;
+pub use object_name::{Name, Scope};
+pub use octets::OctetList;
+pub use outcome::Outcome;

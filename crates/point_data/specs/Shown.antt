@@ -5,11 +5,11 @@ use Rattle.tase_points.specs.declared.body.Body.TheVariants.{State, Discrete, Re
 use Rattle.tase_points.specs.declared.layout.Component.{Component}
 use Rattle.tase_points.specs.declared.layout.Component.TheVariants.{Value, Time, Millis, Flags, Cov}
 use Rattle.tase_points.specs.Sample.{Sample}
-use Rattle.mms_data.specs.Datum.{Datum, integer, unsigned, bit_string, real, structure, data_of}
+use Rattle.mms_data.specs.Datum.{Datum, integer, unsigned, bits, real, structure, data_of}
 
 -- one octet as a bit string
 abbrev pub octet_bits : ℕ → Datum
-octet_bits octet = bit_string (record { count = 8; octets = octet ∷ [] })
+octet_bits octet = bits (record { count = 8; octets = octet ∷ [] })
 
 -- a body: a state in the two highest bits of an octet with the flags below it, an integer, or a real value
 abbrev pub shown_body : Body → ℕ → Datum

@@ -12,7 +12,7 @@ pub fn to_data(
     _cov: u16,
     _layout: &Layout,
 ) -> Result<MmsData, AllocError>
-    ensures { IfOk result (λ data. data ≡ shown_as _value.now _cov _layout.now) }
+    ensures { IfOk result (λ shown. shown ≡ shown_as _value.now _cov _layout.now) }
 {
     Err(AllocError)
 }
