@@ -38,9 +38,7 @@ pub fn is_visible(octets: &[u8]) -> bool
 fn all_visible(octets: &[u8]) -> bool
     ensures { result ≡ list_all is_visible_octet octets.now }
 {
-    octets
-        .iter()
-        .all(|octet| 32 <= *octet && *octet <= 126)
+    octets.iter().all(|octet| 32 <= *octet && *octet <= 126)
 }
 
 impl Visible {

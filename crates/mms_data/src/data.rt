@@ -122,3 +122,36 @@ impl DataList {
         self.items.get(index)
     }
 }
+
+impl Clone for MmsData {
+    ghost is_clone = { λ value copy. copy ≡ value };
+
+    #[cycle(copies)]
+    fn clone(&self) -> Result<MmsData, AllocError> {
+        let kind = match &self.kind {
+            DataKind::Boolean(boolean) => DataKind::Boolean(*boolean),
+            DataKind::Integer(integer) => DataKind::Integer(*integer),
+            DataKind::Unsigned(unsigned) => DataKind::Unsigned(*unsigned),
+            DataKind::Bits(bits) => DataKind::Bits(bits.clone()?),
+            DataKind::Real(real) => DataKind::Real(*real),
+            DataKind::Octets(octets) => DataKind::Octets(octets.clone()?),
+            DataKind::Text(text) => DataKind::Text(text.clone()?),
+            DataKind::Structure(members) => DataKind::Structure(members.clone()?),
+            DataKind::Array(members) => DataKind::Array(members.clone()?),
+        };
+        Ok(MmsData { kind })
+    }
+}
+
+impl Clone for DataList {
+    ghost is_clone = { λ list copy. copy ≡ list };
+
+    #[cycle(copies)]
+    fn clone(&self) -> Result<DataList, AllocError> {
+        let mut copies = Vec::new(*self.items.allocator());
+        for item in &self.items {
+            copies.push(item.clone()?)?;
+        }
+        Ok(DataList { items: copies })
+    }
+}

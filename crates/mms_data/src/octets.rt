@@ -63,3 +63,13 @@ impl OctetList {
         self.octets.as_slice()
     }
 }
+
+impl Clone for OctetList {
+    ghost is_clone = { λ list copy. copy ≡ list };
+
+    fn clone(&self) -> Result<OctetList, AllocError> {
+        Ok(OctetList {
+            octets: self.octets.clone()?,
+        })
+    }
+}
