@@ -2,6 +2,10 @@
 ghost use Rattle.std.specs.Prelude.{◌≡◌, [], ◌∷◌, ◌++◌, length, slice_get, OnOk, OnErr};
 ghost use Rattle.std.specs.Option.{option_copied};
 
+mod spelling;
+
+pub use spelling::spell_data;
+
 use crate::octets::OctetList;
 use ber_values::{BitString, Visible};
 use std::alloc::{AllocError, Global};

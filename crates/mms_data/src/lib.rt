@@ -7,7 +7,7 @@ mod object_name;
 mod octets;
 mod outcome;
 
-pub use data::{DataKind, DataList, MmsData};
+pub use data::{DataKind, DataList, MmsData, spell_data};
 pub use names::Names;
 pub use object_name::{Name, Scope};
 pub use octets::OctetList;
