@@ -1,0 +1,15 @@
+//! The bilateral tables of a control centre: its points, and for each peer what that peer may see
+//! (IEC 60870-6-503, bilateral agreements and tables).
+#![tactic(auto)]
+
+mod centre;
+mod fault;
+mod line;
+mod reading;
+mod rows;
+
+pub use centre::Centre;
+pub use fault::{TableFault, TableWhy};
+pub use line::TableLine;
+pub use reading::read_centre;
+pub use rows::{PointRow, See, Sees, Table};

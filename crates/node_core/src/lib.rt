@@ -1,0 +1,6 @@
+//! One step of a TASE.2 node: from an event to its answer and one more entry in the history.
+#![tactic(auto)]
+
+mod node;
+
+pub use node::Node;

@@ -1,0 +1,4 @@
+pub mod Points
+pub mod Sample
+pub mod Values
+pub mod Layouts

@@ -1,0 +1,70 @@
+ghost use Rattle.std.specs.Prelude.{◌≡◌, length, slice_get, IfOk};
+ghost use Rattle.std.specs.Option.{option_copied};
+ghost use Rattle.tase_points.specs.Layouts.{IsLayout};
+
+use std::alloc::AllocError;
+use std::marker::Model;
+
+/// One part of what a peer is shown of a point.
+#[derive(Clone, Copy, Debug, PartialEq, Eq)]
+pub enum Component {
+    /// The body; of a state with its flags.
+    Value,
+    /// Seconds since 1970.
+    Time,
+    /// Milliseconds past the second.
+    Millis,
+    Flags,
+    /// The count of changes, modulo 65,536.
+    Cov,
+}
+
+/// The components in which a point is shown, in order: at least one, none twice.
+#[derive(Debug, Drop)]
+pub struct Layout {
+    components: Vec<Component>,
+}
+
+impl Model for Layout {
+    ghost use Rattle.std.specs.Prelude.{List};
+    ghost use Rattle.tase_points.specs.declared.layout.Component.{Component};
+
+    ghost Value = { List Component };
+
+    ghost use Rattle.tase_points.specs.Layouts.{IsLayout};
+
+    ghost view = { λ l. l.components.items };
+
+    ghost invariant = { λ l. IsLayout l.components.items };
+}
+
+impl Layout {
+    pub fn new(components: Vec<Component>) -> Layout
+        requires { IsLayout components.items }
+        ensures { result ≡ components.items }
+    {
+        Layout { components }
+    }
+
+    pub fn len(&self) -> usize
+        ensures { result ≡ length self.now }
+    {
+        self.components.len()
+    }
+
+    pub fn as_slice(&self) -> &[Component]
+        ensures value { result.now ≡ self.now }
+        ensures lawful { IsLayout self.now }
+    {
+        self.components.as_slice()
+    }
+
+    /// The same components in room of their own.
+    pub fn try_clone(&self) -> Result<Layout, AllocError>
+        ensures { IfOk result (λ l. l ≡ self.now) }
+    {
+        Ok(Layout {
+            components: self.components.clone()?,
+        })
+    }
+}

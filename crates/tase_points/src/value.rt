@@ -1,0 +1,92 @@
+ghost use Rattle.std.specs.Prelude.{◌≡◌};
+ghost use Rattle.tase_points.specs.Values.{IsSample, unknown_sample, is_change};
+
+use crate::{Body, Kind};
+use std::marker::Model;
+
+/// A point's value with its quality flags and its time.
+#[derive(Clone, Copy, Debug, PartialEq, Eq)]
+pub struct PointValue {
+    body: Body,
+    flags: u8,
+    seconds: u32,
+    millis: u16,
+}
+
+impl Model for PointValue {
+    ghost use Rattle.tase_points.specs.Sample.{Sample};
+
+    ghost Value = { Sample };
+
+    ghost use Rattle.tase_points.specs.Values.{IsSample};
+
+    ghost view = { λ v. record { body = v.body; flags = v.flags; seconds = v.seconds; millis = v.millis } };
+
+    ghost invariant = { λ v. IsSample (record { body = v.body; flags = v.flags; seconds = v.seconds; millis = v.millis }) };
+
+    ghost inverse = { λ s. record { body = s.body; flags = s.flags; seconds = s.seconds; millis = s.millis } };
+}
+
+impl PointValue {
+    /// A state is 0 to 3. Flags are six bits: validity times 16 (0 valid, 1 held, 2 suspect, 3 not valid), source
+    /// times 4 (0 telemetered, 1 calculated, 2 entered, 3 estimated), 2 where the value is not normal, 1 where the
+    /// time is not valid. The time is seconds since 1970, below 2,147,483,648, and 0 to 999 milliseconds.
+    pub fn new(body: Body, flags: u8, seconds: u32, millis: u16) -> PointValue
+        requires { IsSample (record { body = body; flags = flags; seconds = seconds; millis = millis }) }
+        ensures { result ≡ record { body = body; flags = flags; seconds = seconds; millis = millis } }
+    {
+        PointValue {
+            body,
+            flags,
+            seconds,
+            millis,
+        }
+    }
+
+    pub fn body(&self) -> Body
+        ensures value { result ≡ self.now.body }
+        ensures lawful { IsSample self.now }
+    {
+        self.body
+    }
+
+    pub fn flags(&self) -> u8
+        ensures value { result ≡ self.now.flags }
+        ensures lawful { IsSample self.now }
+    {
+        self.flags
+    }
+
+    pub fn seconds(&self) -> u32
+        ensures value { result ≡ self.now.seconds }
+        ensures lawful { IsSample self.now }
+    {
+        self.seconds
+    }
+
+    pub fn millis(&self) -> u16
+        ensures value { result ≡ self.now.millis }
+        ensures lawful { IsSample self.now }
+    {
+        self.millis
+    }
+}
+
+/// Whether `new` is a change from `old`: another body or other flags. A new time alone is none.
+pub fn changes(old: &PointValue, new: &PointValue) -> bool
+    ensures { result ≡ is_change old.now new.now }
+{
+    old.body != new.body || old.flags != new.flags
+}
+
+/// What a point has before any update: a zero body, not valid, at time 0.
+pub fn unknown(kind: Kind) -> PointValue
+    ensures { result ≡ unknown_sample kind }
+{
+    let body = match kind {
+        Kind::State => Body::State(0),
+        Kind::Discrete => Body::Discrete(0),
+        Kind::Real => Body::Real([0; 4]),
+    };
+    PointValue::new(body, 48, 0, 0)
+}

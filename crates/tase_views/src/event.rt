@@ -1,0 +1,80 @@
+ghost use Rattle.std.specs.Prelude.{◌≡◌};
+
+use crate::call::Call;
+use std::alloc::AllocError;
+use std::marker::Model;
+use tase_points::PointValue;
+
+/// What may happen to a node.
+#[derive(Debug, Drop)]
+pub enum EventKind {
+    /// A peer, by its number, opens an association.
+    Open { peer: u32 },
+    /// The peer of an open association asks something.
+    Request { call: Call },
+    /// The centre's own systems give a point, by its number, a value.
+    Update { point: u32, value: PointValue },
+}
+
+/// An event of a node: an [`EventKind`].
+#[derive(Debug, Drop)]
+pub struct Event {
+    kind: EventKind,
+}
+
+impl Model for Event {
+    ghost use Rattle.tase_views.specs.declared.event.EventKind.{EventKind};
+
+    ghost Value = { EventKind };
+
+    ghost view = { λ event. event.kind };
+}
+
+impl Event {
+    pub fn new(kind: EventKind) -> Event
+        ensures { result ≡ kind }
+    {
+        Event { kind }
+    }
+
+    pub fn kind(&self) -> &EventKind
+        ensures { result.now ≡ self.now }
+    {
+        &self.kind
+    }
+}
+
+impl Clone for Event {
+    ghost is_clone = { λ event copy. copy ≡ event };
+
+    fn clone(&self) -> Result<Event, AllocError> {
+        let kind = match &self.kind {
+            EventKind::Open { peer } => EventKind::Open { peer: *peer },
+            EventKind::Request { call } => EventKind::Request { call: call.clone()? },
+            EventKind::Update { point, value } => EventKind::Update {
+                point: *point,
+                value: *value,
+            },
+        };
+        Ok(Event { kind })
+    }
+}
+
+/// An event of the history with the seat that it is of. A peer's seat is the number of its connection;
+/// the centre's own updates are of seat 0.
+#[derive(Debug, Drop)]
+pub struct Entry {
+    pub who: u64,
+    pub event: Event,
+}
+
+impl Clone for Entry {
+    ghost is_clone = { λ entry copy. copy ≡ entry };
+
+    fn clone(&self) -> Result<Entry, AllocError> {
+        Ok(Entry {
+            who: self.who,
+            event: self.event.clone()?,
+        })
+    }
+}

@@ -1,0 +1,33 @@
+ghost use Rattle.std.specs.Prelude.{◌≡◌};
+ghost use Rattle.tase_views.specs.declared.fault.StepFault.TheVariants.{Memory};
+
+use std::alloc::{AllocError, AllocFailed};
+
+/// Why the node refused an event. A refused event changes nothing.
+#[derive(Clone, Copy, Debug, PartialEq, Eq)]
+pub enum StepFault {
+    /// Memory ran out.
+    Memory,
+    /// A request of a seat without an open association.
+    NoAssociation,
+    /// An open of a seat that has an open association already.
+    Already,
+    /// A peer or a point that the centre doesn't have, or a value of another kind than its point's.
+    UnknownName,
+}
+
+impl From<AllocError> for StepFault {
+    ghost from_gives = { λ _ e. e ≡ Memory };
+
+    fn from(_: AllocError) -> StepFault {
+        StepFault::Memory
+    }
+}
+
+impl<T: Drop> From<AllocFailed<T>> for StepFault {
+    ghost from_gives = { λ _ e. e ≡ Memory };
+
+    fn from(_: AllocFailed<T>) -> StepFault {
+        StepFault::Memory
+    }
+}

@@ -1,0 +1,13 @@
+//! Events, calls and replies of a TASE.2 node, their texts, and the definitions by which the node is judged:
+//! associations, a peer's own table, a peer's view of the history, and the answer to each event.
+#![tactic(auto)]
+
+mod call;
+mod event;
+mod fault;
+mod reply;
+
+pub use call::{Call, CallKind};
+pub use event::{Entry, Event, EventKind};
+pub use fault::StepFault;
+pub use reply::{Answer, Key, Reply, ReplyKind, Results};
