@@ -1,7 +1,7 @@
-ghost use Rattle.std.specs.Prelude.{◌≡◌, ◌<◌, length, Some, slice_get};
-ghost use Rattle.bilateral.specs.Rows.{IsCentre};
+ghost use Rattle.std.specs.Prelude.{◌≡◌, ◌==◌, ◌<◌, length, Some, slice_get, position, bytes_eq};
+ghost use Rattle.bilateral.specs.Rows.{IsCentre, place_of_point, place_of_peer, place_of_see, table_of};
 
-use crate::rows::{PointRow, Table};
+use crate::rows::{PointRow, See, Table};
 use std::marker::Model;
 
 /// The points of a centre and its peers' tables. Points and peers are numbered from 0 in the order of the file.
@@ -53,4 +53,48 @@ impl Centre {
     {
         &self.tables[peer as usize]
     }
+
+    /// The number of the point with this name.
+    pub fn find_point(&self, name: &[u8]) -> Option<u32>
+        ensures { result ≡ place_of_point self.now name.now }
+    {
+        let place = point_place(self.points.as_slice(), name)?;
+        Some(place as u32)
+    }
+
+    /// The number of the peer with this key.
+    pub fn find_peer(&self, key: &[u8]) -> Option<u32>
+        ensures { result ≡ place_of_peer self.now key.now }
+    {
+        let place = peer_place(self.tables.as_slice(), key)?;
+        Some(place as u32)
+    }
+
+    /// Where the peer's table has its row for a point.
+    pub fn find_see(&self, peer: u32, point: u32) -> Option<u32>
+        requires { peer < length self.now.tables }
+        ensures { result ≡ place_of_see (table_of self.now peer) point }
+    {
+        let sees = self.tables[peer as usize].sees.as_slice();
+        let place = see_place(sees, point)?;
+        Some(place as u32)
+    }
+}
+
+fn point_place(points: &[PointRow], name: &[u8]) -> Option<usize>
+    ensures { result ≡ position (λ row. bytes_eq row.name name.now) points.now }
+{
+    points.iter().position(|row| row.name.as_slice() == name)
+}
+
+fn peer_place(tables: &[Table], key: &[u8]) -> Option<usize>
+    ensures { result ≡ position (λ table. bytes_eq table.key key.now) tables.now }
+{
+    tables.iter().position(|table| table.key.as_slice() == key)
+}
+
+fn see_place(sees: &[See], point: u32) -> Option<usize>
+    ensures { result ≡ position (λ see. see.point == point) sees.now }
+{
+    sees.iter().position(|see| see.point == point)
 }

@@ -1,1 +1,4 @@
 pub mod Octets
+pub mod Numbers
+pub mod Lines
+pub mod Words
