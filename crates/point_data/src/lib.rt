@@ -8,3 +8,6 @@ mod showing;
 
 pub use reading::from_data;
 pub use showing::to_data;
+
+#[cfg(test)]
+mod tests;
