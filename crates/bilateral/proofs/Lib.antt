@@ -1,0 +1,2 @@
+pub mod TitleOctets
+pub mod Components
