@@ -1,2 +1,3 @@
 pub mod TitleOctets
 pub mod Components
+pub mod VisibleWords
