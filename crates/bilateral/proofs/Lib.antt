@@ -1,1 +1,4 @@
 mod Places
+pub mod Components
+pub mod TitleOctets
+pub mod VisibleWords
