@@ -1,5 +1,5 @@
-ghost use Rattle.std.specs.Prelude.{◌≡◌, ◌==◌, ◌<◌, ◌≤◌, length, position, bytes_eq, Some, slice_get};
-ghost use Rattle.bilateral.specs.Rows.{IsCentre, place_of_point, place_of_peer, place_of_see};
+ghost use Rattle.std.specs.Prelude.{◌≡◌, ◌==◌, ◌<◌, length, Some, slice_get, position, bytes_eq};
+ghost use Rattle.bilateral.specs.Rows.{IsCentre, place_of_point, place_of_peer, place_of_see, table_of};
 
 use crate::rows::{PointRow, See, Table};
 use std::marker::Model;
@@ -56,62 +56,45 @@ impl Centre {
 
     /// The number of the point with this name.
     pub fn find_point(&self, name: &[u8]) -> Option<u32>
-        ensures value { result ≡ place_of_point self.now name.now }
-        ensures lawful { IsCentre self.now }
+        ensures { result ≡ place_of_point self.now name.now }
     {
-        find_name(self.points.as_slice(), name)
+        let place = point_place(self.points.as_slice(), name)?;
+        Some(place as u32)
     }
 
     /// The number of the peer with this key.
     pub fn find_peer(&self, key: &[u8]) -> Option<u32>
-        ensures value { result ≡ place_of_peer self.now key.now }
-        ensures lawful { IsCentre self.now }
+        ensures { result ≡ place_of_peer self.now key.now }
     {
-        find_key(self.tables.as_slice(), key)
+        let place = peer_place(self.tables.as_slice(), key)?;
+        Some(place as u32)
     }
 
     /// Where the peer's table has its row for a point.
     pub fn find_see(&self, peer: u32, point: u32) -> Option<u32>
         requires { peer < length self.now.tables }
-        ensures value { (table : _) → slice_get self.now.tables peer ≡ Some table → result ≡ place_of_see table point }
-        ensures lawful { IsCentre self.now }
+        ensures { result ≡ place_of_see (table_of self.now peer) point }
     {
-        find_see_in(self.tables[peer as usize].sees.as_slice(), point)
+        let sees = self.tables[peer as usize].sees.as_slice();
+        let place = see_place(sees, point)?;
+        Some(place as u32)
     }
 }
 
-fn find_name(rows: &[PointRow], name: &[u8]) -> Option<u32>
-    requires { length rows.now ≤ 20000 }
-    ensures { result ≡ position (λ row. bytes_eq row.name name.now) rows.now }
+fn point_place(points: &[PointRow], name: &[u8]) -> Option<usize>
+    ensures { result ≡ position (λ row. bytes_eq row.name name.now) points.now }
 {
-    for (place, row) in rows.iter().enumerate() {
-        if row.name.as_slice() == name {
-            return Some(place as u32);
-        }
-    }
-    None
+    points.iter().position(|row| row.name.as_slice() == name)
 }
 
-fn find_key(tables: &[Table], key: &[u8]) -> Option<u32>
-    requires { length tables.now ≤ 256 }
+fn peer_place(tables: &[Table], key: &[u8]) -> Option<usize>
     ensures { result ≡ position (λ table. bytes_eq table.key key.now) tables.now }
 {
-    for (place, table) in tables.iter().enumerate() {
-        if table.key.as_slice() == key {
-            return Some(place as u32);
-        }
-    }
-    None
+    tables.iter().position(|table| table.key.as_slice() == key)
 }
 
-fn find_see_in(sees: &[See], point: u32) -> Option<u32>
-    requires { length sees.now ≤ 5000 }
+fn see_place(sees: &[See], point: u32) -> Option<usize>
     ensures { result ≡ position (λ see. see.point == point) sees.now }
 {
-    for (place, see) in sees.iter().enumerate() {
-        if see.point == point {
-            return Some(place as u32);
-        }
-    }
-    None
+    sees.iter().position(|see| see.point == point)
 }

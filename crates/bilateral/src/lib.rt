@@ -4,10 +4,12 @@
 
 mod centre;
 mod fault;
+mod line;
 mod reading;
 mod rows;
 
 pub use centre::Centre;
 pub use fault::{TableFault, TableWhy};
+pub use line::TableLine;
 pub use reading::read_centre;
 pub use rows::{PointRow, See, Sees, Table};

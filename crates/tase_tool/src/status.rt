@@ -1,0 +1,35 @@
+use std::process::ExitCode;
+
+/// How a command ended; its number is the exit status of the program.
+#[derive(Clone, Copy, Debug, PartialEq, Eq)]
+pub enum Status {
+    /// 0: all inputs were read to their ends and all output is whole.
+    Done,
+    /// 2: the words are no command.
+    Usage,
+    /// 3: an input has a bad line or is too long; the last line printed says which.
+    Input,
+    /// 4: an object outside failed, or couldn't be opened.
+    Outside,
+    /// 7: memory ran out.
+    Memory,
+}
+
+impl Status {
+    /// The exit status.
+    pub fn code(self) -> u8 {
+        match self {
+            Status::Done => 0,
+            Status::Usage => 2,
+            Status::Input => 3,
+            Status::Outside => 4,
+            Status::Memory => 7,
+        }
+    }
+}
+
+impl From<Status> for ExitCode {
+    fn from(status: Status) -> ExitCode {
+        ExitCode::from(status.code())
+    }
+}
