@@ -81,36 +81,27 @@ IsStored-request rows past values counts opens found who call s =
       known = s.known;
     }
 
--- the counts after an update of the point p
-abbrev pub counts_after : List ℕ → ℕ → ℕ → Bool → List ℕ
-counts_after counts p count change = if change then set counts p ((count + 1) % 65536) else counts
+-- a count after an update
+abbrev pub count_after : ℕ → Bool → ℕ
+count_after count change = if change then (count + 1) % 65536 else count
 
-counted_here : (counts : List ℕ) (p q total : ℕ) (change : Bool) → p ≡ q → p < length counts → slice_get counts p ≡ Some (total % 65536)
-    → slice_get (counts_after counts p (total % 65536) change) q ≡ Some (((if change then 1 else 0) + total) % 65536)
-counted_here counts p q total true same within was =
-    slice_get-set_here counts p q ((total % 65536 + 1) % 65536) same within ∙ ap Some (omega arith)
-counted_here counts p q total false same within was = rw (← same) (was ∙ ap (λ n. Some (n % 65536)) (sym (zero-add total)))
+count_after-total : (total : ℕ) (change : Bool) → count_after (total % 65536) change ≡ ((if change then 1 else 0) + total) % 65536
+count_after-total total true = omega arith
+count_after-total total false = ap (λ n. n % 65536) (sym (zero-add total))
 
-counted_other : (counts : List ℕ) (p q count total : ℕ) (change : Bool) → q ≢ p → q < length counts → slice_get counts q ≡ Some (total % 65536)
-    → slice_get (counts_after counts p count change) q ≡ Some ((0 + total) % 65536)
-counted_other counts p q count total true apart within was = slice_get-set_other counts p q ((count + 1) % 65536) apart within ∙ was ∙ ap (λ n. Some (n % 65536)) (sym (zero-add total))
-counted_other counts p q count total false apart within was = was ∙ ap (λ n. Some (n % 65536)) (sym (zero-add total))
-
-length-counts_after : (counts : List ℕ) (p count : ℕ) (change : Bool) → length (counts_after counts p count change) ≡ length counts
-length-counts_after counts p count true = length-set counts p ((count + 1) % 65536)
-length-counts_after counts p count false = refl
-
-pub IsStored-update : (rows : CentreRows) (past : Past) (values : List Sample) (counts opens : List ℕ) (found : ℕ → Option Key) (who p : ℕ) (value : Sample)
-    → p < length values
+-- an update of a point, by what is kept of it
+pub IsStored-update : (rows : CentreRows) (past : Past) (values : List Sample) (counts opens : List ℕ) (found : ℕ → Option Key) (who p : ℕ) (value old : Sample) (count : ℕ)
+    → p < length values → old ≡ get_or values p old → count ≡ get_or counts p count
     → IsStored rows past values counts opens found
-    → IsStored rows (record { who = who; event = Update p value } ∷ past) (set values p value)
-    (counts_after counts p (change_total rows past p % 65536) (is_change (last_value rows past p) value)) opens found
-IsStored-update rows past values counts opens found who p value within s =
+    → IsStored rows (record { who = who; event = Update p value } ∷ past) (set values p value) (set counts p (count_after count (is_change old value))) opens found
+IsStored-update rows past values counts opens found who p value old count within old_is count_is s =
     let values_length : length values ≡ length rows.points = s.value_count in
     let counts_length : length counts ≡ length rows.points = s.count_count in
+    let last_is : old ≡ last_value rows past p = old_is ∙ get_or_from_slice_get values p (last_value rows past p) old (s.last p (omega arith)) in
+    let total_is : count ≡ change_total rows past p % 65536 = count_is ∙ get_or_from_slice_get counts p (change_total rows past p % 65536) count (s.changed p (omega arith)) in
     record {
       value_count = length-set values p value ∙ s.value_count;
-      count_count = length-counts_after counts p _ (is_change (last_value rows past p) value) ∙ s.count_count;
+      count_count = length-set counts p _ ∙ s.count_count;
       open_count = s.open_count;
       last = λ q there.
           ⊎_elim
@@ -119,38 +110,17 @@ IsStored-update rows past values counts opens found who p value within s =
           (cases_eq p q);
       changed = λ q there.
           ⊎_elim
-          (λ same. rw (eq-eqb p q same, ← same) (counted_here counts p p (change_total rows past p) (is_change (last_value rows past p) value) refl (omega arith) (s.changed p (omega arith))))
-          (λ apart. rw (ne_eqb p q apart) (counted_other counts p q (change_total rows past p % 65536) (change_total rows past q) (is_change (last_value rows past p) value) (λ e. apart (sym e)) (omega arith) (s.changed q there)))
+          (λ same.
+              rw (eq-eqb p q same, ← same)
+              (slice_get-set_here counts p p _ refl (omega arith) ∙ ap Some (rw (total_is, last_is) (count_after-total (change_total rows past p) (is_change (last_value rows past p) value)))))
+          (λ apart.
+              rw (ne_eqb p q apart)
+              (slice_get-set_other counts p q _ (λ e. apart (sym e)) (omega arith) ∙ s.changed q there ∙ ap (λ n. Some (n % 65536)) (sym (zero-add (change_total rows past q)))))
           (cases_eq p q);
       opened = λ q there. s.opened q there ∙ ap Some (sym (zero-add (opens_in past q)));
       seated = λ asked. elim (who == asked) as (λ b. found asked ≡ (if b then association_in past asked else association_in past asked)) [ true ↦ s.seated asked | false ↦ s.seated asked ];
       known = s.known;
     }
-
--- the same by what the lists have there: a change
-pub IsStored-changed : (rows : CentreRows) (past : Past) (values : List Sample) (counts opens : List ℕ) (found : ℕ → Option Key) (who p : ℕ) (value old : Sample) (count : ℕ)
-    → p < length values → old ≡ get_or values p old → count ≡ get_or counts p count → is_change old value ≡ true
-    → IsStored rows past values counts opens found
-    → IsStored rows (record { who = who; event = Update p value } ∷ past) (set values p value) (set counts p ((count + 1) % 65536)) opens found
-IsStored-changed rows past values counts opens found who p value old count within old_is count_is change s =
-    let values_length : length values ≡ length rows.points = s.value_count in
-    let last_is : old ≡ last_value rows past p = old_is ∙ get_or_from_slice_get values p (last_value rows past p) old (s.last p (omega arith)) in
-    let count_here : count ≡ change_total rows past p % 65536 = count_is ∙ get_or_from_slice_get counts p (change_total rows past p % 65536) count (s.changed p (omega arith)) in
-    let changed : is_change (last_value rows past p) value ≡ true = rw (← last_is) change in
-    let stored = IsStored-update rows past values counts opens found who p value within s in
-    rw count_here (rw changed at stored)
-
--- and none
-pub IsStored-kept : (rows : CentreRows) (past : Past) (values : List Sample) (counts opens : List ℕ) (found : ℕ → Option Key) (who p : ℕ) (value old : Sample)
-    → p < length values → old ≡ get_or values p old → is_change old value ≡ false
-    → IsStored rows past values counts opens found
-    → IsStored rows (record { who = who; event = Update p value } ∷ past) (set values p value) counts opens found
-IsStored-kept rows past values counts opens found who p value old within old_is change s =
-    let values_length : length values ≡ length rows.points = s.value_count in
-    let last_is : old ≡ last_value rows past p = old_is ∙ get_or_from_slice_get values p (last_value rows past p) old (s.last p (omega arith)) in
-    let kept : is_change (last_value rows past p) value ≡ false = rw (← last_is) change in
-    let stored = IsStored-update rows past values counts opens found who p value within s in
-    rw kept at stored
 
 pub opens-at : (rows : CentreRows) (past : Past) (values : List Sample) (counts opens : List ℕ) (found : ℕ → Option Key) (peer : ℕ)
     → peer < length rows.tables → IsStored rows past values counts opens found → get_or opens peer 0 ≡ opens_in past peer
