@@ -8,3 +8,6 @@ mod visible_string;
 pub use bit_string::BitString;
 pub use object_identifier::Oid;
 pub use visible_string::{Visible, is_visible};
+
+#[cfg(test)]
+mod tests;

@@ -1,1 +1,3 @@
-mod Places
+pub mod Components
+pub mod TitleOctets
+pub mod VisibleWords

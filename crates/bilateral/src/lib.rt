@@ -4,9 +4,12 @@
 
 mod centre;
 mod fault;
+mod layouts;
 mod line;
 mod reading;
 mod rows;
+mod titles;
+mod words;
 
 pub use centre::Centre;
 pub use fault::{TableFault, TableWhy};
