@@ -92,9 +92,10 @@ fn play_entry<K: Sink>(
     let Entry { who, event } = entry;
     match node.step(alloc, who, event) {
         Ok(Answer::Reply(reply)) => print_reply(who, &reply, sink, text),
-        Ok(Answer::Opened { .. }) => ReplayEnd::Done,
-        Ok(Answer::Noted) => ReplayEnd::Done,
+        Ok(Answer::Opened { .. } | Answer::Noted) => ReplayEnd::Done,
         Err(StepFault::Memory) => ReplayEnd::Memory,
-        Err(_) => ReplayEnd::BadLine { line: number },
+        Err(StepFault::NoAssociation | StepFault::Already | StepFault::UnknownName) => {
+            ReplayEnd::BadLine { line: number }
+        }
     }
 }

@@ -6,7 +6,7 @@ ghost use Rattle.tase_replay.specs.Lines.{seat_in, body_in, flags_in, value_in};
 use plain_text::{read_hex_four, read_hex_octet, read_integer, read_number};
 use tase_points::{Body, PointValue};
 
-/// The seat of a peer that a word is.
+/// The seat of a peer that a word is, from 1 on.
 pub(crate) fn read_seat(word: &[u8]) -> Option<u64>
     ensures { result ≡ seat_in word.now }
 {
@@ -14,7 +14,7 @@ pub(crate) fn read_seat(word: &[u8]) -> Option<u64>
     if seat >= 1 { Some(seat) } else { None }
 }
 
-/// A number of the file that fits 32 bits, where it is at most `limit`.
+/// The decimal number that a word is, where it is at most `limit`.
 fn read_small(word: &[u8], limit: u32) -> Option<u32>
     ensures value { result ≡ number_up_to limit word.now }
     ensures bound { IfSome result (λ n. n ≤ limit) }
@@ -22,7 +22,7 @@ fn read_small(word: &[u8], limit: u32) -> Option<u32>
     Some(read_number(word, u64::from(limit))? as u32)
 }
 
-/// The body that a word is.
+/// The body that a word is: `s` and a state, `d` and a discrete value, or `r` and the eight digits of a real one.
 fn read_body(word: &[u8]) -> Option<Body>
     ensures value { result ≡ body_in word.now }
     ensures lawful { IfSome result (λ body. state_of body ≤ 3) }
@@ -42,7 +42,7 @@ fn read_discrete(word: &[u8]) -> Option<i32>
     Some(read_integer(word, -2_147_483_648, 2_147_483_647)? as i32)
 }
 
-/// The flags that a word is.
+/// The six bits of flags that a word of two hexadecimal digits is.
 fn read_flags(word: &[u8]) -> Option<u8>
     ensures value { result ≡ flags_in word.now }
     ensures lawful { IfSome result (λ flags. flags ≤ 63) }
