@@ -1,0 +1,4 @@
+pub mod Octets
+pub mod Reading
+pub mod Tags
+pub mod Heads
