@@ -1,5 +1,5 @@
 -- Heads: a tag, a length, and at least as many octets after them.
-use Rattle.std.specs.Prelude.{◌≡◌, ℕ, ◌+◌, ◌<◌, ◌≤◌, List, length, ◌⊎◌, Result, Ok, Err, nat_lt, if◌then◌else◌}
+use Rattle.std.specs.Prelude.{◌≡◌, ℕ, ◌+◌, ◌^◌, ◌<◌, ◌≤◌, List, length, ◌⊎◌, Result, Ok, Err, nat_lt, if◌then◌else◌}
 use Rattle.ber_values.specs.declared.fault.BerFault.{BerFault}
 use Rattle.ber_values.specs.declared.fault.Why.TheVariants as whys
 use Rattle.ber_values.specs.declared.tag.Tag.{Tag}
@@ -44,6 +44,7 @@ pub record IsHeadWithin (at end : ℕ) (head : Head) : Type 0 where
   pub after_length : head.length_at < head.body
   pub order : head.body ≤ head.end
   pub stop : head.end ≤ end
+  pub bounded : head.end < head.body + 2 ^ 32
 
 -- reading a head from the left
 unfoldable pub head_in : ℕ → List ℕ → Result Head BerFault

@@ -6,3 +6,8 @@ pub mod Octets
 pub mod Reading
 pub mod Tags
 pub mod Heads
+pub mod Contents
+pub mod Numbers
+pub mod Booleans
+pub mod BitContents
+pub mod TextContents

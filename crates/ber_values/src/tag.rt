@@ -100,6 +100,7 @@ fn read_third(
 pub(crate) fn read_length(octets: &[u8], at: usize) -> Result<(usize, usize, &[u8]), BerFault>
     requires { at + length octets.now < 2 ^ 64 }
     ensures exact { Gives (λ x. record { value = x.0; next = x.1; rest = x.2.now }) result (length_in at octets.now) }
+    ensures bounded { IfOk result (λ x. x.0 < 2 ^ 32) }
     ensures places { IfOk result (λ x. IsAfter at octets.now x.1 x.2.now) }
 {
     match octets {
@@ -120,6 +121,7 @@ fn read_more(count: usize, octets: &[u8], at: usize) -> Result<(usize, usize, &[
     requires fits { at + 1 + length octets.now < 2 ^ 64 }
     requires few { count ≤ 4 }
     ensures exact { Gives (λ x. record { value = x.0; next = x.1; rest = x.2.now }) result (more_length_in at count octets.now) }
+    ensures bounded { IfOk result (λ x. x.0 < 2 ^ 32) }
     ensures places { IfOk result (λ x. (at < x.1) × (x.1 + length x.2.now ≡ at + 1 + length octets.now)) }
 {
     if octets.len() < count {
