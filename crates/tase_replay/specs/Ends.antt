@@ -1,5 +1,5 @@
 -- What a replay leaves, by how it ended.
-use Rattle.std.specs.Prelude.{◌≡◌, ℕ, List, [], ◌++◌, Option, Some, None}
+use Rattle.std.specs.Prelude.{◌≡◌, ℕ, List, ◌++◌, Option, Some, None}
 use Rattle.outside.specs.Faults.{Rose}
 use Rattle.outside.specs.Sink.{AppendsAll, AppendsPart}
 use Rattle.tase_views.specs.History.{Past}
@@ -18,6 +18,13 @@ IsPlayed played past before after Done = (played.bad ≡ None) × (past ≡ play
 IsPlayed played past before after (BadLine line) = (played.bad ≡ Some line) × (past ≡ played.past) × AppendsAll before after played.shown
 IsPlayed played past before after SinkFault = IsOnTheWay played.past past × AppendsPart before after played.shown
 IsPlayed played past before after Memory = IsOnTheWay played.past past × AppendsPart before after played.shown
+
+-- a text was shown, whole where nothing stopped it
+abbrev pub IsShown : List ℕ → Option (List ℕ) → Option (List ℕ) → ReplayEnd → Type 0
+IsShown text before after Done = AppendsAll before after text
+IsShown text before after (BadLine line) = ⊥
+IsShown text before after SinkFault = AppendsPart before after text
+IsShown text before after Memory = AppendsPart before after text
 
 -- a fault of the sink comes only where its count rose, which nothing else lets rise
 abbrev pub HasSinkCause : ℕ → ℕ → ReplayEnd → Type 0
