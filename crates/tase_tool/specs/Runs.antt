@@ -1,5 +1,5 @@
 -- What a run leaves outside, by its status.
-use Rattle.std.specs.Prelude.{◌≡◌, ◌⊎◌, ℕ, List, Option, Some, None, IfSome, option_and_then}
+use Rattle.std.specs.Prelude.{◌≡◌, ◌⊎◌, ℕ, ◌<◌, List, Option, Some, None, is_some, IsSomeAnd, option_and_then}
 use Rattle.outside.specs.Faults.{Rose}
 use Rattle.outside.specs.Outside.{object_at}
 use Rattle.outside.specs.Sink.{AppendsAll, AppendsPart}
@@ -7,10 +7,22 @@ use Rattle.tase_tool.specs.declared.status.Status.{Status}
 use Rattle.tase_tool.specs.declared.status.Status.TheVariants.{Done, Usage, Input, Outside, Memory}
 use Rattle.tase_tool.specs.Saying.{Said}
 
+-- the object told to stand under a name
+abbrev pub standing_at : {X : Type 0} → Option (List ℕ → Option (Option X)) → List ℕ → Option X
+standing_at None name = None
+standing_at (Some told) name = object_at told name
+
 -- the octets told of what stands under a name
 abbrev pub octets_under : {X : Type 0} → (X → Option (List ℕ)) → Option (List ℕ → Option (Option X)) → List ℕ → Option (List ℕ)
-octets_under octets None name = None
-octets_under octets (Some told) name = option_and_then octets (object_at told name)
+octets_under octets told name = option_and_then octets (standing_at told name)
+
+-- under each name under which something stood, something stands again
+abbrev pub IsPutBack : {X : Type 0} → Option (List ℕ → Option (Option X)) → Option (List ℕ → Option (Option X)) → Type 0
+IsPutBack before after = (name : List ℕ) → is_some (standing_at after name) ≡ is_some (standing_at before name)
+
+-- nothing was told to stand under the name, or what stands there since has faults
+abbrev pub HasReason : {X : Type 0} → (X → ℕ) → Option (List ℕ → Option (Option X)) → Option (List ℕ → Option (Option X)) → List ℕ → Type 0
+HasReason fault_count before after name = (standing_at before name ≡ None) ⊎ IsSomeAnd (standing_at after name) (λ object. 0 < fault_count object)
 
 -- the status and the whole text are those said; after a fault outside and want of memory a front part of the text went out
 abbrev pub IsSaid : Status → Option (List ℕ) → Option (List ℕ) → Said → Type 0
@@ -28,8 +40,29 @@ HasCause before now Usage = Unit {0}
 HasCause before now Input = Unit {0}
 HasCause before now Memory = Unit {0}
 
+-- a fact of a status that answers a fault outside
+abbrev pub OnOutside : Status → Type 0 → Type 0
+OnOutside Outside fact = fact
+OnOutside Done fact = Unit {0}
+OnOutside Usage fact = Unit {0}
+OnOutside Input fact = Unit {0}
+OnOutside Memory fact = Unit {0}
+
+-- one of the two sources or the sink had a reason; with words out of the grammar only the sink counts
+abbrev pub HasReasonOf : Option (List ℕ × List ℕ) → (List ℕ → Type 0) → Type 0 → Type 0
+HasReasonOf None input output = output
+HasReasonOf (Some names) input output = input names.0 ⊎ (input names.1 ⊎ output)
+
 -- words out of the grammar are answered so, or by a fault outside where `usage` can't be printed; no other words are
 abbrev pub MatchesWords : Option (List ℕ × List ℕ) → Status → Type 0
 MatchesWords None status = (status ≡ Usage) ⊎ (status ≡ Outside)
 MatchesWords (Some names) Usage = ⊥
 MatchesWords (Some names) _ = Unit {0}
+
+-- the exit status
+abbrev pub code_of : Status → ℕ
+code_of Done = 0
+code_of Usage = 2
+code_of Input = 3
+code_of Outside = 4
+code_of Memory = 7

@@ -3,7 +3,7 @@ use Rattle.std.specs.Prelude.{ℕ, nat_lt, if◌then◌else◌, List, [], ◌∷
 use Rattle.bilateral.specs.Rows.{CentreRows}
 use Rattle.bilateral.specs.Reading.{centre_in}
 use Rattle.bilateral.specs.declared.fault.TableFault.{TableFault}
-use Rattle.tase_replay.specs.Play.{Played, scenario_of}
+use Rattle.tase_replay.specs.Play.{scenario_of}
 use Rattle.tase_tool.specs.declared.status.Status.{Status}
 use Rattle.tase_tool.specs.declared.status.Status.TheVariants.{Done, Usage, Input}
 
