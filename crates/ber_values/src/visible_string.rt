@@ -50,18 +50,21 @@ impl Visible {
         Visible { octets }
     }
 
+    /// The number of octets.
     pub fn len(&self) -> usize
         ensures { result ≡ length self.now }
     {
         self.octets.len()
     }
 
+    /// Whether there are none.
     pub fn is_empty(&self) -> bool
         ensures { IsTrue result ↔ (length self.now ≡ 0) }
     {
         self.octets.is_empty()
     }
 
+    /// The octets.
     pub fn as_slice(&self) -> &[u8]
         ensures value { result.now ≡ self.now }
         ensures visible { IsVisible self.now }

@@ -1,1 +1,4 @@
 pub mod Spelled
+pub mod Unescape
+pub mod EscapedText
+pub mod ReadName

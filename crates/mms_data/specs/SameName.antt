@@ -9,7 +9,7 @@ use Rattle.mms_data.specs.declared.object_name.Scope.{Scope}
 use Rattle.mms_data.specs.declared.object_name.Scope.TheVariants.{Vmd, Domain, Association}
 use Rattle.mms_data.specs.ObjectName.{ObjectName, same_scope, same_name}
 
-same_scope-Decides : (a b : Scope) → Decides (same_scope a b) (a ≡ b)
+pub same_scope-Decides : (a b : Scope) → Decides (same_scope a b) (a ≡ b)
 same_scope-Decides Vmd Vmd = (λ _. refl, λ _. refl)
 same_scope-Decides Vmd (Domain b) = (λ e. cc, λ e. cc)
 same_scope-Decides Vmd Association = (λ e. cc, λ e. cc)
@@ -56,3 +56,7 @@ IsEquivalence-Decides same decides =
 -- `same_name` is an equivalence
 pub same_name-IsEquivalence : IsEquivalence same_name
 same_name-IsEquivalence = IsEquivalence-Decides same_name same_name-Decides
+
+-- `same_scope` is an equivalence
+pub same_scope-IsEquivalence : IsEquivalence same_scope
+same_scope-IsEquivalence = IsEquivalence-Decides same_scope same_scope-Decides

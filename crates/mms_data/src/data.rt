@@ -4,23 +4,22 @@ ghost use Rattle.std.specs.Option.{option_copied};
 
 mod spelling;
 
-pub use spelling::spell_data;
-
 use crate::octets::OctetList;
 use ber_values::{BitString, Visible};
+pub use spelling::spell_data;
 use std::alloc::{AllocError, Global};
 use std::marker::Model;
 
 /// A value: a [`DataKind`] that contracts see as a datum.
 #[cycle(tree)]
-#[derive(Drop)]
+#[derive(Debug, Drop)]
 pub struct MmsData {
     kind: DataKind,
 }
 
 /// What a value is. Structures and arrays hold values again.
 #[cycle(tree)]
-#[derive(Drop)]
+#[derive(Debug, Drop)]
 pub enum DataKind {
     Boolean(bool),
     Integer(i64),
@@ -35,7 +34,7 @@ pub enum DataKind {
 
 /// The members of a structure or an array.
 #[cycle(tree)]
-#[derive(Drop)]
+#[derive(Debug, Drop)]
 pub struct DataList {
     items: Vec<MmsData>,
 }
@@ -82,12 +81,14 @@ impl Model for DataList {
 impl MmsData {
     ghost use Rattle.mms_data.specs.DatumOf.{datum_of};
 
+    /// The value of this kind.
     pub fn new(kind: DataKind) -> Self
         ensures { result ≡ datum_of kind }
     {
         MmsData { kind }
     }
 
+    /// What the value is.
     pub fn kind(&self) -> &DataKind
         ensures { self.now ≡ datum_of result.now }
     {
@@ -114,12 +115,14 @@ impl DataList {
         Ok(())
     }
 
+    /// The number of members.
     pub fn len(&self) -> usize
         ensures { result ≡ length self.now }
     {
         self.items.len()
     }
 
+    /// The member at an index.
     pub fn get(&self, index: usize) -> Option<&MmsData>
         ensures { option_copied result ≡ slice_get self.now index }
     {

@@ -40,12 +40,14 @@ impl Names {
         Ok(())
     }
 
+    /// The number of names.
     pub fn len(&self) -> usize
         ensures { result ≡ length self.now }
     {
         self.names.len()
     }
 
+    /// The name at an index.
     pub fn get(&self, index: usize) -> Option<&Name>
         ensures { option_copied result ≡ slice_get self.now index }
     {

@@ -37,6 +37,7 @@ impl Model for Name {
 impl Name {
     ghost use Rattle.mms_data.specs.ObjectName.{IsName};
 
+    /// The name of an item, which takes no memory.
     pub fn new(scope: Scope, item: Visible) -> Self
         requires { IsName (record { scope = scope; item = item }) }
         ensures { result ≡ record { scope = scope; item = item } }
@@ -44,6 +45,7 @@ impl Name {
         Name { scope, item }
     }
 
+    /// Where the item is.
     pub fn scope(&self) -> &Scope
         ensures value { result.now ≡ self.now.scope }
         ensures named { IsName self.now }
@@ -51,6 +53,7 @@ impl Name {
         &self.scope
     }
 
+    /// The item's own name.
     pub fn item(&self) -> &Visible
         ensures value { result.now ≡ self.now.item }
         ensures named { IsName self.now }
@@ -82,19 +85,37 @@ impl Clone for Name {
     }
 }
 
-fn is_same_scope(a: &Scope, b: &Scope) -> bool
-    ensures { result ≡ same_scope a.now b.now }
-{
-    match (a, b) {
-        (Scope::Vmd, Scope::Vmd) => true,
-        (Scope::Domain(a), Scope::Domain(b)) => a == b,
-        (Scope::Association, Scope::Association) => true,
-        _ => false,
+impl PartialEq for Scope {
+    ghost use Rattle.std.specs.Cmp.{partial_equiv_from_equiv};
+    ghost use Rattle.mms_data.specs.ObjectName.{same_scope};
+    ghost use Rattle.mms_data.specs.SameName.{same_scope-IsEquivalence};
+
+    ghost eq = { same_scope };
+
+    ghost laws = { partial_equiv_from_equiv same_scope-IsEquivalence };
+
+    fn eq(&self, other: &Scope) -> bool
+        ensures value { result ≡ same_scope self.now other.now }
+        ensures same { IsTrue result ↔ (self.now ≡ other.now) }
+    {
+        match (self, other) {
+            (Scope::Vmd, Scope::Vmd) => true,
+            (Scope::Domain(a), Scope::Domain(b)) => a == b,
+            (Scope::Association, Scope::Association) => true,
+            _ => false,
+        }
     }
+}
+
+impl Eq for Scope {
+    ghost use Rattle.mms_data.specs.SameName.{same_scope-IsEquivalence};
+
+    ghost laws = { same_scope-IsEquivalence };
 }
 
 impl PartialEq for Name {
     ghost use Rattle.std.specs.Cmp.{partial_equiv_from_equiv};
+    ghost use Rattle.mms_data.specs.ObjectName.{same_name};
     ghost use Rattle.mms_data.specs.SameName.{same_name-IsEquivalence};
 
     ghost eq = { same_name };
@@ -105,7 +126,7 @@ impl PartialEq for Name {
         ensures value { result ≡ same_name self.now other.now }
         ensures same { IsTrue result ↔ (self.now ≡ other.now) }
     {
-        is_same_scope(&self.scope, &other.scope) && self.item == other.item
+        self.scope == other.scope && self.item == other.item
     }
 }
 

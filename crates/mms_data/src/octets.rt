@@ -45,18 +45,21 @@ impl OctetList {
         Ok(())
     }
 
+    /// The number of octets.
     pub fn len(&self) -> usize
         ensures { result ≡ length self.now }
     {
         self.octets.len()
     }
 
+    /// The octet at an index.
     pub fn get(&self, index: usize) -> Option<&u8>
         ensures { option_copied result ≡ slice_get self.now index }
     {
         self.octets.get(index)
     }
 
+    /// The octets.
     pub fn as_slice(&self) -> &[u8]
         ensures { result.now ≡ self.now }
     {

@@ -2,7 +2,7 @@
 use crate::data::MmsData;
 
 /// The value that was read, or the reason that there is none (ISO 9506-2, `AccessResult`).
-#[derive(Drop)]
+#[derive(Debug, Drop)]
 pub enum Outcome {
     /// The value.
     Good(MmsData),

@@ -29,6 +29,10 @@ slice_split-found c xs i found =
     let below : position_or_len (λ x. eqb x c) xs < length xs = omega arith in
     slice_split_first (λ x. eqb x c) xs 0 below ∙ ap (λ k. take k xs ∷ slice_split (λ x. eqb x c) (drop (k + 1) xs)) at.0
 
+-- a text with no such octet is one part
+pub slice_split-last : (c : ℕ) (xs : List ℕ) → None ≡ position (λ x. eqb x c) xs → slice_split (λ x. eqb x c) xs ≡ xs ∷ []
+slice_split-last c xs none = slice_split_none (λ x. eqb x c) xs (position-None (λ x. eqb x c) xs (sym none))
+
 lines_of_parts-more : (x : List ℕ) (parts : List (List ℕ)) → 0 < length parts → lines_of_parts (x ∷ parts) ≡ strip_carriage_return x ∷ lines_of_parts parts
 lines_of_parts-more x [] some = absurd (omega arith)
 lines_of_parts-more x (y ∷ more) some = refl

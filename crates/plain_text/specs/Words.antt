@@ -18,3 +18,8 @@ is_spaced line = not (list_any (λ octet. octet == 9) line) && not (slice_index 
 -- the words of a line that is well spaced
 abbrev pub words_in : List ℕ → Option (List (List ℕ))
 words_in line = if is_spaced line then Some (words line) else None
+
+-- the parts of what follows a separator; none where no separator stood
+abbrev pub parts_after : ℕ → Option (List ℕ) → List (List ℕ)
+parts_after separator None = []
+parts_after separator (Some rest) = slice_split (λ octet. octet == separator) rest

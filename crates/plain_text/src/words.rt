@@ -1,4 +1,6 @@
-ghost use Rattle.std.specs.Prelude.{◌≡◌, ◌≢◌, ◌<◌, ◌≤◌, [], ◌∷◌, length, slice_index, IfSome, IfNone};
+ghost use Rattle.std.specs.Prelude.{◌≡◌, ◌≢◌, ◌==◌, ◌<◌, ◌≤◌, [], ◌∷◌, length, slice_index, IfSome, IfNone};
+ghost use Rattle.std.specs.Option.{option_copied};
+ghost use Rattle.std.specs.List.{slice_split};
 ghost use Rattle.plain_text.specs.Words as own;
 
 use crate::lines::find_octet;
@@ -37,4 +39,15 @@ fn without_spaces(text: &[u8]) -> &[u8]
         rest = more;
     }
     rest
+}
+
+/// A text up to its first separator, and what comes after that where there is one.
+pub fn next_part(text: &[u8], separator: u8) -> (&[u8], Option<&[u8]>)
+    ensures parts { slice_split (λ octet. octet == separator) text.now ≡ result.0.now ∷ own.parts_after separator (option_copied result.1) }
+    ensures shorter { IfSome result.1 (λ rest. length rest.now < length text.now) }
+{
+    match find_octet(text, separator) {
+        Some(end) => (&text[..end], Some(&text[end + 1..])),
+        None => (text, None),
+    }
 }

@@ -1,5 +1,5 @@
 -- Which values points may have, what they have before any update, and what counts as a change.
-use Rattle.std.specs.Prelude.{ℕ, ◌<◌, ◌≤◌, ◌^◌, Bool, false, not, ◌&&◌, ◌==◌, nat_eq, bytes_eq}
+use Rattle.std.specs.Prelude.{◌<◌, ◌≤◌, ◌^◌, Bool, false, not, ◌&&◌, ◌==◌, bytes_eq}
 use Rattle.tase_points.specs.declared.kind.Kind.{Kind}
 use Rattle.tase_points.specs.declared.body.Body.{Body}
 use Rattle.tase_points.specs.declared.body.Body.TheVariants.{State, Discrete, Real}

@@ -11,3 +11,6 @@ pub use body::Body;
 pub use kind::Kind;
 pub use layout::{Component, Layout};
 pub use value::{PointValue, changes, unknown};
+
+#[cfg(test)]
+mod tests;

@@ -1,12 +1,11 @@
 -- The lines of a scenario: what each one asks of the node.
-use Rattle.std.specs.Prelude.{ℕ, zero, ◌+◌, Bool, ◌==◌, nat_le, if◌then◌else◌, pos, negsuc, List, [], ◌∷◌, Option, Some, None, option_map, option_and_then, codes, bytes_eq}
+use Rattle.std.specs.Prelude.{ℕ, ◌==◌, nat_le, if◌then◌else◌, pos, negsuc, List, [], ◌∷◌, Option, None, option_map, option_and_then, codes, bytes_eq}
 use Rattle.plain_text.specs.Numbers.{if_passes, number_up_to, integer_within, hex_octet, hex_octets}
 use Rattle.plain_text.specs.Words.{words_in}
 use Rattle.tase_points.specs.declared.body.Body.{Body}
 use Rattle.tase_points.specs.declared.body.Body.TheVariants.{State, Discrete, Real}
 use Rattle.tase_points.specs.Sample.{Sample}
 use Rattle.bilateral.specs.Rows.{CentreRows, place_of_point, place_of_peer}
-use Rattle.tase_views.specs.declared.event.EventKind.{EventKind}
 use Rattle.tase_views.specs.declared.event.EventKind.TheVariants.{Open, Request, Update}
 use Rattle.tase_views.specs.declared.event.Entry.{Entry}
 use Rattle.tase_views.specs.Texts.{call_in}
@@ -31,7 +30,7 @@ flags_in word = option_and_then (if_passes (λ n. nat_le n 63)) (hex_octet word)
 abbrev pub value_in : List ℕ → List ℕ → List ℕ → List ℕ → Option Sample
 value_in body flags seconds millis =
     option_and_then (λ b. option_and_then (λ f. option_and_then (λ s. option_map (λ m. record { body = b; flags = f; seconds = s; millis = m })
-        (number_up_to 999 millis)) (number_up_to 2147483647 seconds)) (flags_in flags)) (body_in body)
+    (number_up_to 999 millis)) (number_up_to 2147483647 seconds)) (flags_in flags)) (body_in body)
 
 -- `open W KEY`, less its first word
 abbrev pub open_in : CentreRows → List (List ℕ) → Option Entry

@@ -24,12 +24,7 @@ pub enum ReplayEnd {
 
 /// Plays a scenario on a node: takes each line's event after those before it, and prints the reply to each request.
 /// At the first bad line it stops; what was printed before stands.
-pub fn replay<K: Sink>(
-    _alloc: Global,
-    node: &mut Node,
-    scenario: &[u8],
-    sink: &mut K,
-) -> ReplayEnd
+pub fn replay<K: Sink>(_alloc: Global, node: &mut Node, scenario: &[u8], sink: &mut K) -> ReplayEnd
     ensures played { IsPlayed (play node.old.centre (lines scenario.now) (reverse node.old.history) 1)
         (reverse node.new.history) (K.taken sink.old) (K.taken sink.new) result }
     ensures centre { node.new.centre ≡ node.old.centre }

@@ -6,3 +6,4 @@ pub mod OwnTable
 pub mod View
 pub mod Answers
 pub mod Outcomes
+pub mod Texts

@@ -6,8 +6,10 @@ mod call;
 mod event;
 mod fault;
 mod reply;
+mod texts;
 
 pub use call::{Call, CallKind};
 pub use event::{Entry, Event, EventKind};
 pub use fault::StepFault;
 pub use reply::{Answer, Key, Reply, ReplyKind, Results};
+pub use texts::{read_call, spell_reply};

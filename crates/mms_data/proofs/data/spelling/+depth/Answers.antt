@@ -10,11 +10,11 @@ spell_members-loop-index-preserved t c =
     let members = c.args.members.now in
     let index = c.loop-index.index in
     let within : index < length members = omega (arith, ap length c.members.view_is) in
-    elim c.if-index-gt0.branch
-      [ spell_members-then-index-gt0+in_ok-push w ↦
+    elim c.if-index-gt0.branch [
+      | spell_members-then-index-gt0+in_ok-push w ↦
           let text = members_text-take_more members index c.member-item.result within (omega arith) in
           grind (arith, common_steps, text, append_assoc)
       | spell_members-else-index-gt0 w ↦
           let text = members_text-take_one members index c.member-item.result within (omega arith) in
           grind (arith, common_steps, text, append_assoc)
-      ]
+    ]
