@@ -1,5 +1,5 @@
 -- What reading an input gives.
-use Rattle.std.specs.Prelude.{◌≡◌, ℕ, ◌<◌, ◌≤◌, bytes_eq, if◌then◌else◌, List, [], length, Option, option_map, Result, Ok, Err, Vec, IsErrAnd, codes}
+use Rattle.std.specs.Prelude.{◌≡◌, ℕ, ◌<◌, ◌≤◌, bytes_eq, if◌then◌else◌, List, [], length, Option, Result, Ok, Err, Vec, IsErrAnd, codes}
 use Rattle.std.specs.declared.alloc.Global.{Global}
 use Rattle.outside.specs.Faults.{Rose}
 use Rattle.outside.specs.declared.text.TextEnd.TheVariants as text_ends
@@ -9,7 +9,7 @@ use Rattle.bilateral.specs.declared.fault.TableFault.{TableFault}
 use Rattle.tase_tool.specs.declared.inputs.InputEnd.{InputEnd}
 use Rattle.tase_tool.specs.declared.inputs.InputEnd.TheVariants.{Long, BadLine, Outside, Memory}
 use Rattle.tase_tool.specs.declared.status.Status.TheVariants.{Input}
-use Rattle.tase_tool.specs.Saying.{Said, text_limit, long_line, bad_line}
+use Rattle.tase_tool.specs.Saying.{Said, Text, untold, missing, told, emptied, text_limit, tables_said, long_line, bad_line}
 
 -- an input's text as it is read, or why there is none
 abbrev pub input_of : TextResult → Result (Vec ℕ Global) InputEnd
@@ -19,16 +19,18 @@ input_of (Ok (Err text_ends.Long)) = Err Long
 input_of (Err out_of_memory) = Err Memory
 
 -- the whole text is read, and it is too long exactly where it has more octets than the limit
-abbrev pub IsInput : Result (Vec ℕ Global) InputEnd → List ℕ → Type 0
-IsInput (Ok text) octets = (octets ≡ text.items) × (length octets ≤ text_limit)
-IsInput (Err Long) octets = text_limit < length octets
-IsInput (Err (BadLine line)) octets = ⊥
-IsInput (Err Outside) octets = Unit {0}
-IsInput (Err Memory) octets = Unit {0}
+abbrev pub IsInput : Result (Vec ℕ Global) InputEnd → Text → Type 0
+IsInput result untold = Unit {0}
+IsInput result missing = result ≡ Err Outside
+IsInput (Ok text) (told octets) = (octets ≡ text.items) × (length octets ≤ text_limit)
+IsInput (Err Long) (told octets) = text_limit < length octets
+IsInput (Err (BadLine line)) (told octets) = ⊥
+IsInput (Err Outside) (told octets) = Unit {0}
+IsInput (Err Memory) (told octets) = Unit {0}
 
 -- nothing is left under the name, and under every other name what was
-abbrev pub TakesOctets : (List ℕ → Option (List ℕ)) → (List ℕ → Option (List ℕ)) → List ℕ → Type 0
-TakesOctets before after taken = (name : List ℕ) → after name ≡ (if bytes_eq name taken then option_map (λ _. []) (before taken) else before name)
+abbrev pub TakesText : (List ℕ → Text) → (List ℕ → Text) → List ℕ → Type 0
+TakesText before after taken = (name : List ℕ) → after name ≡ (if bytes_eq name taken then emptied (before taken) else before name)
 
 -- the count of faults rose where the outside failed, and never falls
 abbrev pub IsInputCause : {T : Type 0} → ℕ → ℕ → Result T InputEnd → Type 0
@@ -66,9 +68,15 @@ IsCentreFrom (Err Outside) read = ⊥
 IsCentreFrom (Err Memory) read = Unit {0}
 
 -- the centre that the tables say, or the refusal
-abbrev pub IsTables : Result CentreRows InputEnd → Result CentreRows (List ℕ) → Type 0
-IsTables (Ok rows) said = said ≡ Ok rows
-IsTables (Err Long) said = said ≡ Err (long_line (codes "tables"))
-IsTables (Err (BadLine line)) said = said ≡ Err (bad_line (codes "tables") line)
-IsTables (Err Outside) said = Unit {0}
-IsTables (Err Memory) said = Unit {0}
+abbrev pub IsTablesSaid : Result CentreRows InputEnd → Result CentreRows (List ℕ) → Type 0
+IsTablesSaid (Ok rows) said = said ≡ Ok rows
+IsTablesSaid (Err Long) said = said ≡ Err (long_line (codes "tables"))
+IsTablesSaid (Err (BadLine line)) said = said ≡ Err (bad_line (codes "tables") line)
+IsTablesSaid (Err Outside) said = Unit {0}
+IsTablesSaid (Err Memory) said = Unit {0}
+
+-- the same of what is told of the tables' text
+abbrev pub IsTables : Result CentreRows InputEnd → Text → Type 0
+IsTables result untold = Unit {0}
+IsTables result missing = result ≡ Err Outside
+IsTables result (told octets) = IsTablesSaid result (tables_said octets)

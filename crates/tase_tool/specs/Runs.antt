@@ -5,16 +5,30 @@ use Rattle.outside.specs.Outside.{object_at}
 use Rattle.outside.specs.Sink.{AppendsAll, AppendsPart}
 use Rattle.tase_tool.specs.declared.status.Status.{Status}
 use Rattle.tase_tool.specs.declared.status.Status.TheVariants.{Done, Usage, Input, Outside, Memory}
-use Rattle.tase_tool.specs.Saying.{Said}
+use Rattle.tase_tool.specs.Saying.{Said, Text, untold, missing, told}
 
 -- the object told to stand under a name
 abbrev pub standing_at : {X : Type 0} → Option (List ℕ → Option (Option X)) → List ℕ → Option X
 standing_at None name = None
-standing_at (Some told) name = object_at told name
+standing_at (Some standing) name = object_at standing name
 
 -- the octets told of what stands under a name
 abbrev pub octets_under : {X : Type 0} → (X → Option (List ℕ)) → Option (List ℕ → Option (Option X)) → List ℕ → Option (List ℕ)
-octets_under octets told name = option_and_then octets (standing_at told name)
+octets_under octets standing name = option_and_then octets (standing_at standing name)
+
+-- what an object tells
+abbrev pub told_by : Option (List ℕ) → Text
+told_by None = untold
+told_by (Some octets) = told octets
+
+abbrev pub text_in : {X : Type 0} → (X → Option (List ℕ)) → Option X → Text
+text_in octets None = missing
+text_in octets (Some object) = told_by (octets object)
+
+-- what is told of the text under a name
+abbrev pub text_under : {X : Type 0} → (X → Option (List ℕ)) → Option (List ℕ → Option (Option X)) → List ℕ → Text
+text_under octets None name = untold
+text_under octets (Some standing) name = text_in octets (object_at standing name)
 
 -- under each name under which something stood, something stands again
 abbrev pub IsPutBack : {X : Type 0} → Option (List ℕ → Option (Option X)) → Option (List ℕ → Option (Option X)) → Type 0

@@ -1,9 +1,8 @@
 //! The inputs of a command: their texts, each opened, read to its end and closed.
-ghost use Rattle.std.specs.Prelude.{◌≡◌, IfSome, OnOk};
+ghost use Rattle.std.specs.Prelude.{◌≡◌, OnOk};
 ghost use Rattle.bilateral.specs.Reading.{centre_in};
-ghost use Rattle.tase_tool.specs.Saying.{tables_said};
-ghost use Rattle.tase_tool.specs.Runs.{octets_under, IsPutBack, HasReason};
-ghost use Rattle.tase_tool.specs.Inputs.{input_of, IsInput, TakesOctets, IsInputCause, OnInputFault, IsCentreFrom, IsTables};
+ghost use Rattle.tase_tool.specs.Runs.{text_under, IsPutBack, HasReason};
+ghost use Rattle.tase_tool.specs.Inputs.{input_of, IsInput, TakesText, IsInputCause, OnInputFault, IsCentreFrom, IsTables};
 
 use bilateral::{Centre, read_centre};
 use outside::{Outside, TextEnd, read_text};
@@ -43,8 +42,8 @@ pub(crate) fn read_input<O: Outside>(
     outside: &mut O,
     name: &str,
 ) -> Result<Vec<u8>, InputEnd>
-    ensures text { IfSome (octets_under O.In.left (O.sources outside.old) name.now) (IsInput result) }
-    ensures taken { OnOk result (TakesOctets (octets_under O.In.left (O.sources outside.old)) (octets_under O.In.left (O.sources outside.new)) name.now) }
+    ensures text { IsInput result (text_under O.In.left (O.sources outside.old) name.now) }
+    ensures taken { OnOk result (TakesText (text_under O.In.left (O.sources outside.old)) (text_under O.In.left (O.sources outside.new)) name.now) }
     ensures put_back { IsPutBack (O.sources outside.old) (O.sources outside.new) }
     ensures sinks { O.sinks outside.new ≡ O.sinks outside.old }
     ensures cause { IsInputCause (O.fault_count outside.old) (O.fault_count outside.new) result }
@@ -75,8 +74,8 @@ pub(crate) fn read_tables<O: Outside>(
     outside: &mut O,
     name: &str,
 ) -> Result<Centre, InputEnd>
-    ensures tables { IfSome (octets_under O.In.left (O.sources outside.old) name.now) (λ octets. IsTables result (tables_said octets)) }
-    ensures taken { OnOk result (TakesOctets (octets_under O.In.left (O.sources outside.old)) (octets_under O.In.left (O.sources outside.new)) name.now) }
+    ensures tables { IsTables result (text_under O.In.left (O.sources outside.old) name.now) }
+    ensures taken { OnOk result (TakesText (text_under O.In.left (O.sources outside.old)) (text_under O.In.left (O.sources outside.new)) name.now) }
     ensures put_back { IsPutBack (O.sources outside.old) (O.sources outside.new) }
     ensures sinks { O.sinks outside.new ≡ O.sinks outside.old }
     ensures cause { IsInputCause (O.fault_count outside.old) (O.fault_count outside.new) result }

@@ -1,13 +1,12 @@
 //! The commands.
 ghost use Rattle.std.specs.Prelude.{◌≡◌, ◌≢◌, ◌⊎◌, [], ◌∷◌, map, reverse, string_bytes, IfSome, IfOk, codes};
-ghost use Rattle.std.specs.Option.{option_map};
 ghost use Rattle.std.specs.Str.Lines.{lines};
 ghost use Rattle.outside.specs.Faults.{Rose};
 ghost use Rattle.tase_replay.specs.Play.{play};
 ghost use Rattle.tase_tool.specs.Words.{replay_in};
-ghost use Rattle.tase_tool.specs.Saying.{said_by, scenario_said, played_said, bad_line};
+ghost use Rattle.tase_tool.specs.Saying.{said_by, said_of, scenario_said, played_said, bad_line};
 ghost use Rattle.tase_tool.specs.Inputs.{refused_as};
-ghost use Rattle.tase_tool.specs.Runs.{octets_under, IsPutBack, HasReason, HasReasonOf, IsSaid, HasCause, OnOutside, MatchesWords};
+ghost use Rattle.tase_tool.specs.Runs.{text_under, octets_under, IsPutBack, HasReason, HasReasonOf, IsSaid, HasCause, OnOutside, MatchesWords};
 
 use crate::inputs::{read_input, read_tables};
 use crate::printing::{OUTPUT, bad_line, end_without, print};
@@ -31,7 +30,7 @@ const HISTORY_LIMIT: u64 = 134_217_728;
 /// table and its view of the history.
 pub fn run<O: Outside>(alloc: Global, words: &[String], outside: &mut O) -> Status
     ensures words { MatchesWords (replay_in (map string_bytes words.now)) result }
-    ensures said { IfSome (said_by (replay_in (map string_bytes words.now)) (octets_under O.In.left (O.sources outside.old)))
+    ensures said { IfSome (said_by (replay_in (map string_bytes words.now)) (text_under O.In.left (O.sources outside.old)))
         (IsSaid result (octets_under O.Out.taken (O.sinks outside.old) (codes "-")) (octets_under O.Out.taken (O.sinks outside.new) (codes "-"))) }
     ensures cause { HasCause (O.fault_count outside.old) (O.fault_count outside.new) result }
     ensures reason { OnOutside result (HasReasonOf (replay_in (map string_bytes words.now))
@@ -52,7 +51,7 @@ pub fn run<O: Outside>(alloc: Global, words: &[String], outside: &mut O) -> Stat
 // Reads the tables, and runs the scenario over them.
 fn run_replay<O: Outside>(alloc: Global, outside: &mut O, tables: &str, scenario: &str) -> Status
     ensures words { result ≢ Status.Usage }
-    ensures said { IfSome (said_by (Some (tables.now, scenario.now)) (octets_under O.In.left (O.sources outside.old)))
+    ensures said { IfSome (said_by (Some (tables.now, scenario.now)) (text_under O.In.left (O.sources outside.old)))
         (IsSaid result (octets_under O.Out.taken (O.sinks outside.old) (codes "-")) (octets_under O.Out.taken (O.sinks outside.new) (codes "-"))) }
     ensures cause { HasCause (O.fault_count outside.old) (O.fault_count outside.new) result }
     ensures reason { OnOutside result (HasReasonOf (Some (tables.now, scenario.now))
@@ -75,7 +74,7 @@ fn run_scenario<O: Outside>(
     scenario: &str,
 ) -> Status
     ensures words { result ≢ Status.Usage }
-    ensures said { IfSome (option_map (scenario_said centre) (octets_under O.In.left (O.sources outside.old) scenario.now))
+    ensures said { IfSome (said_of (λ octets. Some (scenario_said centre octets)) (text_under O.In.left (O.sources outside.old) scenario.now))
         (IsSaid result (octets_under O.Out.taken (O.sinks outside.old) (codes "-")) (octets_under O.Out.taken (O.sinks outside.new) (codes "-"))) }
     ensures cause { HasCause (O.fault_count outside.old) (O.fault_count outside.new) result }
     ensures reason { OnOutside result (HasReason O.In.fault_count (O.sources outside.old) (O.sources outside.new) scenario.now
