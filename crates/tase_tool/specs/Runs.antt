@@ -1,5 +1,5 @@
 -- What a run leaves outside, by its status.
-use Rattle.std.specs.Prelude.{◌≡◌, ◌⊎◌, ℕ, ◌<◌, List, Option, Some, None, is_some, IsSomeAnd, option_and_then}
+use Rattle.std.specs.Prelude.{◌≡◌, ◌⊎◌, ℕ, ◌<◌, List, Option, Some, None, is_some, IsSome, IsSomeAnd, option_and_then}
 use Rattle.outside.specs.Faults.{Rose}
 use Rattle.outside.specs.Outside.{object_at}
 use Rattle.outside.specs.Sink.{AppendsAll, AppendsPart}
@@ -61,6 +61,19 @@ OnOutside Done fact = Unit {0}
 OnOutside Usage fact = Unit {0}
 OnOutside Input fact = Unit {0}
 OnOutside Memory fact = Unit {0}
+
+-- a fact of a status with which all output is whole
+abbrev pub OnWhole : Status → Type 0 → Type 0
+OnWhole Done fact = fact
+OnWhole Usage fact = fact
+OnWhole Input fact = fact
+OnWhole Outside fact = Unit {0}
+OnWhole Memory fact = Unit {0}
+
+-- something stands under the name, where anything is told
+abbrev pub IsThere : {X : Type 0} → Option (List ℕ → Option (Option X)) → List ℕ → Type 0
+IsThere None name = Unit {0}
+IsThere (Some standing) name = IsSome (object_at standing name)
 
 -- one of the two sources or the sink had a reason; with words out of the grammar only the sink counts
 abbrev pub HasReasonOf : Option (List ℕ × List ℕ) → (List ℕ → Type 0) → Type 0 → Type 0

@@ -3,7 +3,7 @@ ghost use Rattle.std.specs.Prelude.{◌≡◌, ◌⊎◌, ◌≤◌, ◌≢◌, 
 ghost use Rattle.outside.specs.Faults.{Rose};
 ghost use Rattle.outside.specs.Sink.{AppendsAll, AppendsPart};
 ghost use Rattle.tase_tool.specs.Saying.{Said, bad_line, long_line};
-ghost use Rattle.tase_tool.specs.Runs.{octets_under, IsPutBack, HasReason, IsSaid, OnOutside};
+ghost use Rattle.tase_tool.specs.Runs.{octets_under, IsPutBack, HasReason, IsSaid, OnOutside, OnWhole, IsThere};
 ghost use Rattle.tase_tool.specs.Inputs.{IsRefusal, refused_as};
 
 use crate::inputs::InputEnd;
@@ -18,6 +18,7 @@ pub(crate) const OUTPUT: &str = "-";
 pub(crate) fn print<O: Outside>(outside: &mut O, text: &[u8]) -> Result<(), SinkFailed>
     ensures ok { OnOk result (AppendsAll (octets_under O.Out.taken (O.sinks outside.old) (codes "-")) (octets_under O.Out.taken (O.sinks outside.new) (codes "-")) text.now) }
     ensures err { OnErr result (AppendsPart (octets_under O.Out.taken (O.sinks outside.old) (codes "-")) (octets_under O.Out.taken (O.sinks outside.new) (codes "-")) text.now) }
+    ensures output { OnOk result (IsThere (O.sinks outside.old) (codes "-")) }
     ensures put_back { IsPutBack (O.sinks outside.old) (O.sinks outside.new) }
     ensures sources { O.sources outside.new ≡ O.sources outside.old }
     ensures low { O.fault_count outside.old ≤ O.fault_count outside.new }
@@ -50,6 +51,7 @@ fn long_line(alloc: Global, input: &str) -> Result<String, AllocError>
 fn print_refusal<O: Outside>(outside: &mut O, refusal: Result<String, AllocError>) -> Status
     ensures said { IfOk refusal (λ text. IsSaid result (octets_under O.Out.taken (O.sinks outside.old) (codes "-")) (octets_under O.Out.taken (O.sinks outside.new) (codes "-")) (refused_as (string_bytes text))) }
     ensures memory { OnErr refusal ((O.sinks outside.new ≡ O.sinks outside.old) × (result ≡ Status.Memory)) }
+    ensures output { OnWhole result (IsThere (O.sinks outside.old) (codes "-")) }
     ensures put_back { IsPutBack (O.sinks outside.old) (O.sinks outside.new) }
     ensures sources { O.sources outside.new ≡ O.sources outside.old }
     ensures low { O.fault_count outside.old ≤ O.fault_count outside.new }
@@ -75,6 +77,7 @@ pub(crate) fn end_without<O: Outside>(
 ) -> Status
     ensures said { (said : Said) → IsRefusal input.now end said
         → IsSaid result (octets_under O.Out.taken (O.sinks outside.old) (codes "-")) (octets_under O.Out.taken (O.sinks outside.new) (codes "-")) said }
+    ensures output { OnWhole result (IsThere (O.sinks outside.old) (codes "-")) }
     ensures put_back { IsPutBack (O.sinks outside.old) (O.sinks outside.new) }
     ensures sources { O.sources outside.new ≡ O.sources outside.old }
     ensures low { O.fault_count outside.old ≤ O.fault_count outside.new }

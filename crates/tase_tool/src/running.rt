@@ -6,7 +6,7 @@ ghost use Rattle.tase_replay.specs.Play.{play};
 ghost use Rattle.tase_tool.specs.Words.{replay_in};
 ghost use Rattle.tase_tool.specs.Saying.{said_by, said_of, scenario_said, played_said, bad_line};
 ghost use Rattle.tase_tool.specs.Inputs.{refused_as};
-ghost use Rattle.tase_tool.specs.Runs.{text_under, octets_under, IsPutBack, HasReason, HasReasonOf, IsSaid, HasCause, OnOutside, MatchesWords};
+ghost use Rattle.tase_tool.specs.Runs.{text_under, octets_under, IsPutBack, HasReason, HasReasonOf, IsSaid, HasCause, OnOutside, OnWhole, IsThere, MatchesWords};
 
 use crate::inputs::{read_input, read_tables};
 use crate::printing::{OUTPUT, bad_line, end_without, print};
@@ -32,6 +32,7 @@ pub fn run<O: Outside>(alloc: Global, words: &[String], outside: &mut O) -> Stat
     ensures words { MatchesWords (replay_in (map string_bytes words.now)) result }
     ensures said { IfSome (said_by (replay_in (map string_bytes words.now)) (text_under O.In.left (O.sources outside.old)))
         (IsSaid result (octets_under O.Out.taken (O.sinks outside.old) (codes "-")) (octets_under O.Out.taken (O.sinks outside.new) (codes "-"))) }
+    ensures output { OnWhole result (IsThere (O.sinks outside.old) (codes "-")) }
     ensures cause { HasCause (O.fault_count outside.old) (O.fault_count outside.new) result }
     ensures reason { OnOutside result (HasReasonOf (replay_in (map string_bytes words.now))
         (HasReason O.In.fault_count (O.sources outside.old) (O.sources outside.new))
@@ -53,6 +54,7 @@ fn run_replay<O: Outside>(alloc: Global, outside: &mut O, tables: &str, scenario
     ensures words { result ≢ Status.Usage }
     ensures said { IfSome (said_by (Some (tables.now, scenario.now)) (text_under O.In.left (O.sources outside.old)))
         (IsSaid result (octets_under O.Out.taken (O.sinks outside.old) (codes "-")) (octets_under O.Out.taken (O.sinks outside.new) (codes "-"))) }
+    ensures output { OnWhole result (IsThere (O.sinks outside.old) (codes "-")) }
     ensures cause { HasCause (O.fault_count outside.old) (O.fault_count outside.new) result }
     ensures reason { OnOutside result (HasReasonOf (Some (tables.now, scenario.now))
         (HasReason O.In.fault_count (O.sources outside.old) (O.sources outside.new))
@@ -76,6 +78,7 @@ fn run_scenario<O: Outside>(
     ensures words { result ≢ Status.Usage }
     ensures said { IfSome (said_of (λ octets. Some (scenario_said centre octets)) (text_under O.In.left (O.sources outside.old) scenario.now))
         (IsSaid result (octets_under O.Out.taken (O.sinks outside.old) (codes "-")) (octets_under O.Out.taken (O.sinks outside.new) (codes "-"))) }
+    ensures output { OnWhole result (IsThere (O.sinks outside.old) (codes "-")) }
     ensures cause { HasCause (O.fault_count outside.old) (O.fault_count outside.new) result }
     ensures reason { OnOutside result (HasReason O.In.fault_count (O.sources outside.old) (O.sources outside.new) scenario.now
         ⊎ HasReason O.Out.fault_count (O.sinks outside.old) (O.sinks outside.new) (codes "-")) }
@@ -103,6 +106,7 @@ fn play_on_output<O: Outside>(alloc: Global, outside: &mut O, node: Node, scenar
     ensures words { result ≢ Status.Usage }
     ensures said { let played = play node.centre (lines scenario.now) (reverse node.history) 1 in
         IsSaid result (octets_under O.Out.taken (O.sinks outside.old) (codes "-")) (octets_under O.Out.taken (O.sinks outside.new) (codes "-")) (played_said played.shown played.bad) }
+    ensures output { OnWhole result (IsThere (O.sinks outside.old) (codes "-")) }
     ensures cause { OnOutside result (Rose (O.fault_count outside.old) (O.fault_count outside.new)) }
     ensures reason { OnOutside result (HasReason O.Out.fault_count (O.sinks outside.old) (O.sinks outside.new) (codes "-")) }
     ensures sources { O.sources outside.new ≡ O.sources outside.old }
