@@ -2,9 +2,27 @@
 #![tactic(auto)]
 
 mod bit_string;
+mod bits;
+mod boolean;
+mod contents;
+mod fault;
+mod head;
+mod integer;
+mod number;
 mod object_identifier;
+mod tag;
+mod texts;
 mod visible_string;
 
 pub use bit_string::BitString;
+pub use bits::read_bits;
+pub use boolean::read_boolean;
+pub use fault::{BerFault, Span, Why};
+pub use head::{Head, read_head};
+pub use integer::{read_integer, read_unsigned};
 pub use object_identifier::Oid;
+pub use texts::{read_oid, read_visible};
 pub use visible_string::{Visible, is_visible};
+
+#[cfg(test)]
+mod tests;

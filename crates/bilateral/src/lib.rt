@@ -4,12 +4,20 @@
 
 mod centre;
 mod fault;
+mod index;
+mod layouts;
 mod line;
 mod reading;
 mod rows;
+mod store;
+mod titles;
+mod words;
 
 pub use centre::Centre;
 pub use fault::{TableFault, TableWhy};
 pub use line::TableLine;
 pub use reading::read_centre;
 pub use rows::{PointRow, See, Sees, Table};
+
+#[cfg(test)]
+mod tests;

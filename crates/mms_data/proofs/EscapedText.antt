@@ -1,15 +1,21 @@
 -- Escaped text is read back as what it was, and nothing else is read.
-use Rattle.std.proofs.Common.{◌≡◌, ℕ, ◌+◌, ◌*◌, ◌/◌, ◌%◌, ◌<◌, Bool, true, false, cond, ◌&&◌, eqb, List, [], ◌∷◌, ◌++◌, Option, Some, None, option_and_then, refl, sym, ap, ◌∙◌, arith, nat_lt}
+use Rattle.std.proofs.Common.{◌≡◌, ℕ, ◌+◌, ◌*◌, ◌/◌, ◌%◌, ◌<◌, Bool, true, false, cond, ◌&&◌, eqb, List, [], ◌∷◌, ◌++◌, Option, Some, None, option_map, refl, sym, ap, ◌∙◌, arith, nat_lt}
 use Rattle.std.specs.List.{list_all}
 use Rattle.std.proofs.lemmas.Bool.Decides.{nat_tests}
 use Rattle.std.proofs.lemmas.Option.{option_and_then_some}
 use Rattle.plain_text.specs.Octets.{hex_digit, hex_pair, is_plain, escaped_octet, escaped_text}
-use Rattle.mms_data.specs.NameIn.{hex_value, if_escaped, octet_of_digits, before_octets, unescaped, unescaped_high, unescaped_low}
+use Rattle.plain_text.specs.Numbers.{hex_value, hex_pair_value}
+use Rattle.mms_data.specs.NameIn.{if_escaped, escaped_value, before_octets, unescaped, unescaped_high, unescaped_low}
 
 -- two tests that hold together hold each
 pub both_from_true : (a b : Bool) → (a && b) ≡ true → (a ≡ true) × (b ≡ true)
 both_from_true true b e = (refl, e)
 both_from_true false b e = absurd cc
+
+-- an option that was mapped
+pub option_map-found : {A B P : Type 0} (f : A → B) (o : Option A) (y : B) → option_map f o ≡ Some y → ((x : A) → o ≡ Some x → y ≡ f x → P) → P
+option_map-found f None y e k = absurd cc
+option_map-found f (Some x) y e k = k x refl cc
 
 pub hex_value-found : (digit value : ℕ) → hex_value digit ≡ Some value → (value < 16) × (hex_digit value ≡ digit)
 hex_value-found digit value e = (grind (arith, nat_tests), grind (arith, nat_tests))
@@ -21,24 +27,26 @@ if_escaped-found : (octet found : ℕ) (plain : Bool) → is_plain octet ≡ pla
 if_escaped-found octet found true e k = absurd cc
 if_escaped-found octet found false e k = (cc, e)
 
-pub octet_of_digits-found : (high low octet : ℕ) → octet_of_digits high low ≡ Some octet → (hex_pair octet ≡ high ∷ low ∷ []) × (is_plain octet ≡ false)
-octet_of_digits-found high low octet e =
-    option_and_then_some (λ h. option_and_then (λ l. if_escaped (16 * h + l)) (hex_value low)) (hex_value high) octet e
-    (λ h high_is e'.
-    option_and_then_some (λ l. if_escaped (16 * h + l)) (hex_value low) octet e'
-    (λ l low_is e''.
+pub escaped_value-found : (high low octet : ℕ) → escaped_value high low ≡ Some octet → (hex_pair octet ≡ high ∷ low ∷ []) × (is_plain octet ≡ false)
+escaped_value-found high low octet e =
+    option_and_then_some if_escaped (hex_pair_value high low) octet e
+    (λ whole digits k.
+    option_and_then_some (λ h. option_map (λ l. h * 16 + l) (hex_value low)) (hex_value high) whole digits
+    (λ h high_is digits'.
+    option_map-found (λ l. h * 16 + l) (hex_value low) whole digits'
+    (λ l low_is sum.
     let first = hex_value-found high h high_is in
     let second = hex_value-found low l low_is in
-    let whole = if_escaped-found (16 * h + l) octet _ refl e'' in
+    let found = if_escaped-found whole octet _ refl k in
     let quotient : octet / 16 ≡ h = omega arith in
     let rest : octet % 16 ≡ l = omega arith in
-    ((λ i. hex_digit (quotient i) ∷ hex_digit (rest i) ∷ []) ∙ (λ i. first.1 i ∷ second.1 i ∷ []), ap is_plain whole.0 ∙ whole.1)))
+    ((λ i. hex_digit (quotient i) ∷ hex_digit (rest i) ∷ []) ∙ (λ i. first.1 i ∷ second.1 i ∷ []), ap is_plain found.0 ∙ found.1))))
 
-pub octet_of_digits-hex_pair : (octet : ℕ) → octet < 256 → is_plain octet ≡ false → octet_of_digits (hex_digit (octet / 16)) (hex_digit (octet % 16)) ≡ Some octet
-octet_of_digits-hex_pair octet h e =
+pub escaped_value-hex_pair : (octet : ℕ) → octet < 256 → is_plain octet ≡ false → escaped_value (hex_digit (octet / 16)) (hex_digit (octet % 16)) ≡ Some octet
+escaped_value-hex_pair octet h e =
     let quotient : octet / 16 < 16 = omega arith in
     let rest : octet % 16 < 16 = omega arith in
-    let whole : 16 * (octet / 16) + octet % 16 ≡ octet = omega arith in
+    let whole : octet / 16 * 16 + octet % 16 ≡ octet = omega arith in
     rw (hex_value-hex_digit (octet / 16) quotient, hex_value-hex_digit (octet % 16) rest, whole, e) refl
 
 -- an octet that stands for itself, and one that is escaped
@@ -47,7 +55,7 @@ unescaped-plain octet rest e = rw e refl
 
 unescaped-escaped_octet : (octet : ℕ) (rest : List ℕ) (plain : Bool) → is_plain octet ≡ plain → octet < 256 → unescaped (escaped_octet octet ++ rest) ≡ before_octets octet (unescaped rest)
 unescaped-escaped_octet octet rest true e h = rw e (unescaped-plain octet rest e)
-unescaped-escaped_octet octet rest false e h = rw (e, octet_of_digits-hex_pair octet h e) refl
+unescaped-escaped_octet octet rest false e h = rw (e, escaped_value-hex_pair octet h e) refl
 
 pub unescaped-escaped_text : (octets : List ℕ) → list_all (λ octet. nat_lt octet 256) octets ≡ true → unescaped (escaped_text octets) ≡ Some octets
 unescaped-escaped_text [] h = refl
@@ -94,9 +102,9 @@ mutual
   unescaped_low-found : (escaped : List ℕ) (high : ℕ) (octets : List ℕ) → unescaped_low escaped high ≡ Some octets → 37 ∷ high ∷ escaped ≡ escaped_text octets
   unescaped_low-found [] high octets e = absurd cc
   unescaped_low-found (low ∷ rest) high octets e =
-      option_and_then_some (λ octet. before_octets octet (unescaped rest)) (octet_of_digits high low) octets e
+      option_and_then_some (λ octet. before_octets octet (unescaped rest)) (escaped_value high low) octets e
       (λ octet digits k.
       before_octets-found octet (unescaped rest) octets k
       (λ after is_after whole.
-      let pair = octet_of_digits-found high low octet digits in
+      let pair = escaped_value-found high low octet digits in
       ap (λ t. 37 ∷ high ∷ low ∷ t) (unescaped-found rest after is_after) ∙ sym (escaped_text-escaped octet high low after pair.1 pair.0) ∙ ap escaped_text (sym whole)))

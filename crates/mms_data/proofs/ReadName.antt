@@ -15,12 +15,7 @@ use Rattle.mms_data.specs.declared.object_name.Scope.TheVariants.{Vmd, Domain, A
 use Rattle.mms_data.specs.ObjectName.{ObjectName, IsIdentifier, IsScope, IsName}
 use Rattle.mms_data.specs.NameIn.{unescaped, if_identifier, identifier_in, is_separator, scope_in, name_of_parts, name_in}
 use Rattle.mms_data.specs.Texts.{scope_text, name_text}
-use Rattle.mms_data.proofs.EscapedText.{both_from_true, unescaped-found, unescaped-escaped_text}
-
--- an option that was mapped
-option_map-found : {A B P : Type 0} (f : A → B) (o : Option A) (y : B) → option_map f o ≡ Some y → ((x : A) → o ≡ Some x → y ≡ f x → P) → P
-option_map-found f None y e k = absurd cc
-option_map-found f (Some x) y e k = k x refl cc
+use Rattle.mms_data.proofs.EscapedText.{both_from_true, option_map-found, unescaped-found, unescaped-escaped_text}
 
 -- visible octets are octets
 octets_from_visible : (octets : List ℕ) → list_all is_visible_octet octets ≡ true → list_all (λ octet. nat_lt octet 256) octets ≡ true

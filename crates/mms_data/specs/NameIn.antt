@@ -1,28 +1,22 @@
 -- The name that a text stands for.
-use Rattle.std.specs.Prelude.{ℕ, ◌+◌, ◌-◌, ◌*◌, Bool, ◌&&◌, ◌||◌, ◌==◌, nat_lt, nat_le, if◌then◌else◌, List, [], ◌∷◌, length, slice_index, codes, Option, Some, None, option_map, option_and_then}
+use Rattle.std.specs.Prelude.{ℕ, ◌+◌, Bool, ◌&&◌, ◌||◌, ◌==◌, nat_lt, nat_le, if◌then◌else◌, List, [], ◌∷◌, length, slice_index, codes, Option, Some, None, option_map, option_and_then}
 use Rattle.std.proofs.Common.{take, drop}
 use Rattle.std.specs.List.{list_all, position}
 use Rattle.std.specs.Str.{bytes_eq}
 use Rattle.plain_text.specs.Octets.{is_plain}
+use Rattle.plain_text.specs.Numbers.{hex_pair_value}
 use Rattle.ber_values.specs.Visible.{is_visible_octet}
 use Rattle.mms_data.specs.declared.object_name.Scope.{Scope}
 use Rattle.mms_data.specs.declared.object_name.Scope.TheVariants.{Vmd, Domain, Association}
 use Rattle.mms_data.specs.ObjectName.{ObjectName}
 
--- the number of a lower-case hexadecimal digit
-abbrev pub hex_value : ℕ → Option ℕ
-hex_value digit =
-    if nat_le 48 digit && nat_le digit 57 then Some (digit - 48)
-    else (if nat_le 97 digit && nat_le digit 102 then Some (digit - 87) else None)
-
 -- an octet, unless it stands for itself
 abbrev pub if_escaped : ℕ → Option ℕ
 if_escaped octet = if is_plain octet then None else Some octet
 
--- the octet of two digits
-abbrev pub octet_of_digits : ℕ → ℕ → Option ℕ
-octet_of_digits high low =
-    option_and_then (λ h. option_and_then (λ l. if_escaped (16 * h + l)) (hex_value low)) (hex_value high)
+-- the octet of two digits, unless it stands for itself
+abbrev pub escaped_value : ℕ → ℕ → Option ℕ
+escaped_value high low = option_and_then if_escaped (hex_pair_value high low)
 
 -- an octet, before others
 abbrev pub before_octets : ℕ → Option (List ℕ) → Option (List ℕ)
@@ -42,7 +36,7 @@ abbrev mutual
   -- the same behind a `%` and a digit
   pub unescaped_low : List ℕ → ℕ → Option (List ℕ)
   unescaped_low [] h = None
-  unescaped_low (l ∷ cs) h = option_and_then (λ octet. before_octets octet (unescaped cs)) (octet_of_digits h l)
+  unescaped_low (l ∷ cs) h = option_and_then (λ octet. before_octets octet (unescaped cs)) (escaped_value h l)
 
 -- octets that an item or a domain may have
 abbrev pub if_identifier : List ℕ → Option (List ℕ)

@@ -1,10 +1,11 @@
 //! Escaped text, read back.
-ghost use Rattle.std.specs.Prelude.{◌≡◌, ◌<◌, length, IfOk, IfSome};
+ghost use Rattle.std.specs.Prelude.{◌≡◌, ◌<◌, length, IfOk};
 ghost use Rattle.std.specs.Option.{option_map};
 ghost use Rattle.plain_text.specs.Octets.{is_plain};
-ghost use Rattle.mms_data.specs.NameIn.{hex_value, octet_of_digits, unescaped};
+ghost use Rattle.mms_data.specs.NameIn.{escaped_value, unescaped};
 ghost use Rattle.mms_data.specs.Unescaped.{ReadsOctet};
 
+use plain_text::read_hex_octet;
 use std::alloc::{AllocError, Global};
 
 /// The octets that an escaped text stands for, or nothing where it isn't one. Only octets that
@@ -38,25 +39,9 @@ fn read_octet(text: &[u8]) -> Option<(u8, usize)>
 
 /// The octet of two digits, unless it stands for itself.
 fn read_digits(high: u8, low: u8) -> Option<u8>
-    ensures { result ≡ octet_of_digits high low }
+    ensures { result ≡ escaped_value high low }
 {
-    let octet = 16 * read_digit(high)? + read_digit(low)?;
-    if is_plain_octet(octet) {
-        None
-    } else {
-        Some(octet)
-    }
-}
-
-fn read_digit(digit: u8) -> Option<u8>
-    ensures value { result ≡ hex_value digit }
-    ensures small { IfSome result (λ number. number < 16) }
-{
-    match digit {
-        b'0'..=b'9' => Some(digit - b'0'),
-        b'a'..=b'f' => Some(digit - b'a' + 10),
-        _ => None,
-    }
+    read_hex_octet(&[high, low]).filter(|octet| !is_plain_octet(*octet))
 }
 
 fn is_plain_octet(octet: u8) -> bool

@@ -17,3 +17,6 @@ pub use object_name::{Name, Scope};
 pub use octets::OctetList;
 pub use outcome::Outcome;
 pub use outcome_text::spell_outcome;
+
+#[cfg(test)]
+mod tests;

@@ -1,1 +1,3 @@
 pub mod NodeState
+pub mod LastValues
+pub mod Stored

@@ -1,6 +1,8 @@
 //! One step of a TASE.2 node: from an event to its answer and one more entry in the history.
 #![tactic(auto)]
 
+mod naming;
 mod node;
+mod store;
 
 pub use node::Node;

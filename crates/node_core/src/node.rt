@@ -1,13 +1,29 @@
-ghost use Rattle.std.specs.Prelude.{◌≡◌, ◌≤◌, ◌^◌, [], length, reverse, slice_get, IfOk, OnOk, OnErr};
+ghost use Rattle.std.specs.Prelude.{◌≡◌, ◌<◌, ◌≤◌, ◌^◌, [], length, reverse, slice_get, None, IfOk, IfErr, OnOk, OnErr};
 ghost use Rattle.std.specs.Arc.{arc_value};
-ghost use Rattle.tase_views.specs.Outcomes.{IsRightOutcome};
+ghost use Rattle.bilateral.specs.Rows.{table_of, place_of_see};
+ghost use Rattle.tase_views.specs.declared.call.CallKind.{CallKind as AnyCall};
+ghost use Rattle.tase_views.specs.declared.event.EventKind.TheVariants.{Request, Update, Open};
+ghost use Rattle.tase_views.specs.OwnTable.{own_table};
+ghost use Rattle.tase_views.specs.View.{view_of};
+ghost use Rattle.tase_views.specs.Answers.{outcome_of, outcomes_of};
+ghost use Rattle.tase_views.specs.Outcomes.{refusal_of, IsAnswer, IsRefusal, IsRightOutcome};
 ghost use Rattle.node_core.specs.NodeState.{with_entry};
 
+use crate::naming::{find_named, is_known};
+use crate::store::Store;
 use bilateral::Centre;
+use mms_data::{Name, Names, Outcome};
+use point_data::to_data;
 use std::alloc::{AllocError, Global};
 use std::marker::Model;
 use std::sync::Arc;
-use tase_views::{Answer, Entry, Event, StepFault};
+use tase_points::PointValue;
+use tase_views::{
+    Answer, Call, CallKind, Entry, Event, EventKind, Key, Reply, ReplyKind, Results, StepFault,
+};
+
+/// The reason of a read that a name doesn't exist (ISO 9506-2, `DataAccessError`: object-non-existent).
+const NOT_THERE: u8 = 10;
 
 /// A TASE.2 node without input and output: its centre's tables and the history of its accepted events.
 #[derive(Drop)]
@@ -15,39 +31,60 @@ pub struct Node {
     centre: Arc<Centre>,
     limit: u64,
     history: Vec<Entry>,
+    store: Store,
 }
 
 impl Model for Node {
+    ghost use Rattle.std.specs.Prelude.{reverse};
     ghost use Rattle.std.specs.Arc.{arc_value};
     ghost use Rattle.node_core.specs.NodeState.{NodeState};
+    ghost use Rattle.node_core.specs.Stored.{Keeps};
 
     ghost Value = { NodeState };
 
     ghost view = { λ n. record { centre = arc_value n.centre; limit = n.limit; history = n.history.items } };
+
+    ghost invariant = { λ n. Keeps (arc_value n.centre) (reverse n.history.items) n.store };
 }
 
 impl Node {
     /// A node of this centre with an empty history. The limit on the history's weight is kept, and refuses
     /// nothing yet.
-    pub fn new(_alloc: Global, _centre: Arc<Centre>, _limit: u64) -> Result<Node, AllocError>
-        requires { _limit ≤ 2 ^ 31 }
-        ensures { IfOk result (λ node. node ≡ record { centre = arc_value _centre; limit = _limit; history = [] }) }
+    pub fn new(alloc: Global, centre: Arc<Centre>, limit: u64) -> Result<Node, AllocError>
+        requires { limit ≤ 2 ^ 31 }
+        ensures { IfOk result (λ node. node ≡ record { centre = arc_value centre; limit = limit; history = [] }) }
     {
-        Err(AllocError)
+        let store = Store::new(alloc, &centre)?;
+        Ok(Node {
+            centre,
+            limit,
+            history: Vec::new(alloc),
+            store,
+        })
     }
 
     /// Takes one event of a seat. An answer adds exactly this entry to the history; a fault changes nothing.
-    pub fn step(
-        &mut self,
-        _alloc: Global,
-        _who: u64,
-        _event: Event,
-    ) -> Result<Answer, StepFault>
-        ensures right { IsRightOutcome self.old.centre (reverse self.old.history) _who _event result }
-        ensures ok { OnOk result (self.new ≡ with_entry self.old _who _event) }
+    pub fn step(&mut self, alloc: Global, who: u64, event: Event) -> Result<Answer, StepFault>
+        ensures right { IsRightOutcome self.old.centre (reverse self.old.history) who event result }
+        ensures ok { OnOk result (self.new ≡ with_entry self.old who event) }
         ensures err { OnErr result (self.new ≡ self.old) }
     {
-        Err(StepFault::Memory)
+        match event.kind() {
+            EventKind::Open { peer } => {
+                let peer = *peer;
+                self.open(who, peer, event)
+            }
+            EventKind::Request { call } => {
+                let reply = self.reply_to(alloc, who, call)?;
+                self.note(who, event)?;
+                Ok(Answer::Reply(reply))
+            }
+            EventKind::Update { point, value } => {
+                let point = *point;
+                let value = *value;
+                self.update(who, point, value, event)
+            }
+        }
     }
 
     /// How many entries the history has.
@@ -71,5 +108,97 @@ impl Node {
         ensures { result.now ≡ self.now.centre }
     {
         &self.centre
+    }
+
+    fn open(&mut self, who: u64, peer: u32, event: Event) -> Result<Answer, StepFault>
+        requires { event ≡ Open peer }
+        ensures right { IsRightOutcome self.old.centre (reverse self.old.history) who event result }
+        ensures ok { OnOk result (self.new ≡ with_entry self.old who event) }
+        ensures err { OnErr result (self.new ≡ self.old) }
+    {
+        if self.store.association(who).is_some() {
+            return Err(StepFault::Already);
+        }
+        if peer >= self.centre.peers() {
+            return Err(StepFault::UnknownName);
+        }
+        self.history.reserve(1)?;
+        let key = self.store.open(who, peer)?;
+        self.history.push(Entry { who, event }).unwrap();
+        Ok(Answer::Opened { key })
+    }
+
+    fn update(
+        &mut self,
+        who: u64,
+        point: u32,
+        value: PointValue,
+        event: Event,
+    ) -> Result<Answer, StepFault>
+        requires { event ≡ Update point value }
+        ensures right { IsRightOutcome self.old.centre (reverse self.old.history) who event result }
+        ensures ok { OnOk result (self.new ≡ with_entry self.old who event) }
+        ensures err { OnErr result (self.new ≡ self.old) }
+    {
+        if !is_known(&self.centre, point, &value) {
+            return Err(StepFault::UnknownName);
+        }
+        self.history.push(Entry { who, event })?;
+        self.store.update(who, point, value);
+        Ok(Answer::Noted)
+    }
+
+    /// Adds a request to the history.
+    fn note(&mut self, who: u64, event: Event) -> Result<(), AllocError>
+        requires { (call : AnyCall) × (event ≡ Request call) }
+        ensures ok { OnOk result (self.new ≡ with_entry self.old who event) }
+        ensures err { OnErr result (self.new ≡ self.old) }
+    {
+        self.history.push(Entry { who, event })?;
+        Ok(())
+    }
+
+    fn reply_to(&self, alloc: Global, who: u64, call: &Call) -> Result<Reply, StepFault>
+        ensures ok { IfOk result (λ reply. (refusal_of self.now.centre (reverse self.now.history) who (Request call.now) ≡ None)
+            × IsAnswer self.now.centre (reverse self.now.history) who (Request call.now) (Answer.Reply reply)) }
+        ensures err { IfErr result (IsRefusal (refusal_of self.now.centre (reverse self.now.history) who (Request call.now))) }
+    {
+        let Some(key) = self.store.association(who) else {
+            return Err(StepFault::NoAssociation);
+        };
+        let kind = match call.kind() {
+            CallKind::Read { names } => ReplyKind::Results {
+                results: self.read(alloc, key, names)?,
+            },
+        };
+        Ok(Reply::new(kind))
+    }
+
+    /// Reads the named variables for an association, in order.
+    fn read(&self, alloc: Global, key: Key, names: &Names) -> Result<Results, AllocError>
+        requires { key.peer < length self.now.centre.tables }
+        ensures { IfOk result (λ results. results
+            ≡ outcomes_of (own_table self.now.centre key.peer) (view_of self.now.centre key.peer (reverse self.now.history)) key.ordinal names.now) }
+    {
+        let mut results = Results::new(alloc);
+        for place in 0..names.len() {
+            let name = names.get(place).unwrap();
+            results.push(self.read_one(alloc, key.peer, name)?)?;
+        }
+        Ok(results)
+    }
+
+    fn read_one(&self, alloc: Global, peer: u32, name: &Name) -> Result<Outcome, AllocError>
+        requires { peer < length self.now.centre.tables }
+        ensures { IfOk result (λ outcome. outcome
+            ≡ outcome_of (own_table self.now.centre peer) (view_of self.now.centre peer (reverse self.now.history)) name.now) }
+    {
+        let Some(see) = find_named(&self.centre, peer, name) else {
+            return Ok(Outcome::Fail(NOT_THERE));
+        };
+        let value = self.store.value(see.point);
+        let count = self.store.count(see.point);
+        let shown = to_data(alloc, &value, count, &see.layout)?;
+        Ok(Outcome::Good(shown))
     }
 }

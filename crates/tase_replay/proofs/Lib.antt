@@ -1,2 +1,3 @@
 pub mod Pasts
 pub mod Shown
+pub mod Reached

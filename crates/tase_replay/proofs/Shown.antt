@@ -1,10 +1,44 @@
--- What a sink has taken, as lines are shown one after another.
-use Rattle.std.proofs.Common.{ℕ, List, refl, sym, ap}
-use Rattle.std.specs.Prelude.{Option, Some, None}
-use Rattle.std.proofs.lemmas.List.{append-nil}
-use Rattle.outside.specs.Sink.{AppendsPart}
+-- What a sink has taken, as texts are shown one after another.
+use Rattle.std.proofs.Common.{◌≡◌, ℕ, ◌+◌, ◌≤◌, min, List, [], ◌++◌, length, take, Option, Some, None, sym, ap, ◌∙◌, subst, append_assoc, refl, arith}
+use Rattle.std.proofs.lemmas.List.{append-nil, take_min, take-append-le}
+use Rattle.std.proofs.Math.Seq.{take-append-add}
+use Rattle.outside.specs.Sink.{AppendsAll, AppendsPart}
 
 -- a sink that took nothing has a front part
 pub AppendsPart-none : (sink : Option (List ℕ)) (bytes : List ℕ) → AppendsPart sink sink bytes
 AppendsPart-none None bytes = refl
 AppendsPart-none (Some octets) bytes = (0, ap Some (sym (append-nil octets)))
+
+-- and all of an empty text
+pub AppendsAll-none : (sink : Option (List ℕ)) → AppendsAll sink sink []
+AppendsAll-none None = refl
+AppendsAll-none (Some octets) = ap Some (sym (append-nil octets))
+
+-- a text and then another
+pub AppendsAll-append : (before now after : Option (List ℕ)) (first next : List ℕ) → AppendsAll before now first → AppendsAll now after next → AppendsAll before after (first ++ next)
+AppendsAll-append None now after first next all then =
+    subst (λ (sink : Option (List ℕ)). AppendsAll sink after next) all then
+AppendsAll-append (Some octets) now after first next all then =
+    let taken : AppendsAll (Some (octets ++ first)) after next = subst (λ (sink : Option (List ℕ)). AppendsAll sink after next) all then in
+    taken ∙ ap Some (append_assoc octets first next)
+
+-- a text and then a front part of another
+pub AppendsPart-append : (before now after : Option (List ℕ)) (first next : List ℕ) → AppendsAll before now first → AppendsPart now after next → AppendsPart before after (first ++ next)
+AppendsPart-append None now after first next all then =
+    subst (λ (sink : Option (List ℕ)). AppendsPart sink after next) all then
+AppendsPart-append (Some octets) now after first next all then =
+    let taken : AppendsPart (Some (octets ++ first)) after next = subst (λ (sink : Option (List ℕ)). AppendsPart sink after next) all then in (
+      length first + taken.0,
+      taken.1 ∙ ap Some (append_assoc octets first (take taken.0 next) ∙ ap (λ bytes. octets ++ bytes) (sym (take-append-add first next taken.0))),
+    )
+
+take-front : (count : ℕ) (first next : List ℕ) → take (min count (length first)) (first ++ next) ≡ take count first
+take-front count first next =
+    let within : min count (length first) ≤ length first = omega arith in
+    take-append-le (min count (length first)) first next within ∙ take_min count first
+
+-- a front part of a text is one of the text with another after it
+pub AppendsPart-front : (before after : Option (List ℕ)) (first next : List ℕ) → AppendsPart before after first → AppendsPart before after (first ++ next)
+AppendsPart-front None after first next part = part
+AppendsPart-front (Some octets) after first next part =
+    (min part.0 (length first), part.1 ∙ ap (λ bytes. Some (octets ++ bytes)) (sym (take-front part.0 first next)))

@@ -19,6 +19,13 @@ IsPlayed played past before after (BadLine line) = (played.bad ≡ Some line) ×
 IsPlayed played past before after SinkFault = IsOnTheWay played.past past × AppendsPart before after played.shown
 IsPlayed played past before after Memory = IsOnTheWay played.past past × AppendsPart before after played.shown
 
+-- a text was shown, whole where nothing stopped it
+abbrev pub IsShown : List ℕ → Option (List ℕ) → Option (List ℕ) → ReplayEnd → Type 0
+IsShown text before after Done = AppendsAll before after text
+IsShown text before after (BadLine line) = ⊥
+IsShown text before after SinkFault = AppendsPart before after text
+IsShown text before after Memory = AppendsPart before after text
+
 -- a fault of the sink comes only where its count rose, which nothing else lets rise
 abbrev pub HasSinkCause : ℕ → ℕ → ReplayEnd → Type 0
 HasSinkCause before now Done = now ≡ before

@@ -8,6 +8,7 @@ use Rattle.tase_views.specs.declared.event.EventKind.{EventKind}
 use Rattle.tase_views.specs.declared.event.EventKind.TheVariants.{Open, Request, Update}
 use Rattle.tase_views.specs.declared.event.Entry.{Entry}
 use Rattle.tase_views.specs.declared.reply.Key.{Key}
+use Rattle.tase_views.specs.declared.reply.ReplyKind.{ReplyKind}
 use Rattle.tase_views.specs.History.{Past, association_in}
 use Rattle.tase_views.specs.OwnTable.{own_table}
 use Rattle.tase_views.specs.View.{view_of}
@@ -30,11 +31,14 @@ accepted rows past (Some entry) = if is_some (refusal_of rows past entry.who ent
 abbrev pub line_in : CentreRows → Past → List ℕ → Line
 line_in rows past line = if is_skipped line then skipped else accepted rows past (entry_in rows line)
 
+-- a reply to a seat, as a line
+abbrev pub line_of_reply : ℕ → ReplyKind → List ℕ
+line_of_reply who reply = codes "reply " ++ decimal who ++ 32 ∷ reply_text reply ++ 10 ∷ []
+
 -- a reply to the peer of an association, as a line
 abbrev pub reply_line : CentreRows → Past → ℕ → CallKind → Option Key → List ℕ
 reply_line rows past who call None = []
-reply_line rows past who call (Some key) =
-    codes "reply " ++ decimal who ++ 32 ∷ reply_text (reply_to (own_table rows key.peer) (view_of rows key.peer past) key.ordinal call) ++ 10 ∷ []
+reply_line rows past who call (Some key) = line_of_reply who (reply_to (own_table rows key.peer) (view_of rows key.peer past) key.ordinal call)
 
 -- what is printed at an event: the reply to a request
 abbrev pub printed_at : CentreRows → Past → ℕ → EventKind → List ℕ
@@ -56,6 +60,10 @@ abbrev pub play_line : CentreRows → Past → ℕ → Line → (Past → Played
 play_line rows past number skipped rest = rest past
 play_line rows past number bad rest = record { past = past; shown = []; bad = Some number }
 play_line rows past number (taken entry) rest = with_shown (printed_at rows past entry.who entry.event) (rest (entry ∷ past))
+
+-- a line and nothing after it
+abbrev pub play_alone : CentreRows → Past → ℕ → Line → Played
+play_alone rows past number line = play_line rows past number line (λ p. record { past = p; shown = []; bad = None })
 
 -- each line after those before it, up to the first bad one; the first line has this number
 abbrev pub play : CentreRows → List (List ℕ) → Past → ℕ → Played

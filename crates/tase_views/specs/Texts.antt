@@ -1,5 +1,6 @@
 -- The texts of calls and replies.
-use Rattle.std.specs.Prelude.{ℕ, nat_lt, ◌&&◌, if◌then◌else◌, List, [], ◌∷◌, ◌++◌, length, map, flat_map, Option, Some, None, option_map, codes, bytes_eq}
+use Rattle.std.specs.Prelude.{ℕ, if◌then◌else◌, List, [], ◌∷◌, ◌++◌, flat_map, Option, Some, None, codes, bytes_eq}
+use Rattle.mms_data.specs.declared.outcome.Outcome.{Outcome}
 use Rattle.mms_data.specs.ObjectName.{ObjectName}
 use Rattle.mms_data.specs.NameIn.{name_in}
 use Rattle.mms_data.specs.Texts.{outcome_text}
@@ -8,9 +9,13 @@ use Rattle.tase_views.specs.declared.call.CallKind.TheVariants.{Read}
 use Rattle.tase_views.specs.declared.reply.ReplyKind.{ReplyKind}
 use Rattle.tase_views.specs.declared.reply.ReplyKind.TheVariants.{Results}
 
--- a reply: `read`, and each outcome after a space
+-- an outcome of a read, after a space
+abbrev pub result_text : Outcome → List ℕ
+result_text outcome = 32 ∷ outcome_text outcome
+
+-- a reply: `read`, and the outcomes
 abbrev pub reply_text : ReplyKind → List ℕ
-reply_text (Results results) = codes "read" ++ flat_map (λ outcome. 32 ∷ outcome_text outcome) results
+reply_text (Results results) = codes "read" ++ flat_map result_text results
 
 -- one more name before the others, where all are names
 abbrev pub with_name : Option ObjectName → Option (List ObjectName) → Option (List ObjectName)

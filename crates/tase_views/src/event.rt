@@ -50,7 +50,9 @@ impl Clone for Event {
     fn clone(&self) -> Result<Event, AllocError> {
         let kind = match &self.kind {
             EventKind::Open { peer } => EventKind::Open { peer: *peer },
-            EventKind::Request { call } => EventKind::Request { call: call.clone()? },
+            EventKind::Request { call } => EventKind::Request {
+                call: call.clone()?,
+            },
             EventKind::Update { point, value } => EventKind::Update {
                 point: *point,
                 value: *value,

@@ -13,3 +13,6 @@ pub use event::{Entry, Event, EventKind};
 pub use fault::StepFault;
 pub use reply::{Answer, Key, Reply, ReplyKind, Results};
 pub use texts::{read_call, spell_reply};
+
+#[cfg(test)]
+mod tests;

@@ -20,7 +20,6 @@ pub struct Results {
 impl Model for Results {
     ghost use Rattle.std.specs.Prelude.{List};
     ghost use Rattle.mms_data.specs.declared.outcome.Outcome.{Outcome};
-
     ghost use Rattle.std.specs.Coded.{coded_list};
     ghost use Rattle.tase_views.specs.Codes.{outcome_code};
 

@@ -1,13 +1,42 @@
--- Where memory ran out before the first line, nothing was taken and nothing shown.
-use Rattle.std.proofs.Common.{reverse}
+use Rattle.std.proofs.Common.{◌+◌, reverse, arith, sym, ◌∙◌}
 use Rattle.std.specs.Str.Lines.{lines}
-use Rattle.tase_replay.specs.Play.{play}
+use Rattle.tase_views.specs.History.{Past}
+use Rattle.tase_replay.specs.Play.{play, line_in}
 use Rattle.tase_replay.proofs.Pasts.{play_keeps}
-use Rattle.tase_replay.proofs.Shown.{AppendsPart-none}
+use Rattle.tase_replay.proofs.Reached.{Reached-more, Reached-last}
 use Rattle.tase_replay.proofs.playing.replay.Goals as goal
 
-pub returns-clause-played : goal.returns-clause-played
-returns-clause-played g c = (
-  play_keeps c.args.node.now.centre (lines c.args.scenario.now) (reverse c.args.node.now.history) 1,
-  AppendsPart-none (g.K.Sink.taken c.args.sink.now) (play c.args.node.now.centre (lines c.args.scenario.now) (reverse c.args.node.now.history) 1).shown,
-)
+pub returns-in_default-play_line : goal.returns-in_default-play_line
+returns-in_default-play_line g c =
+    let first = c.args.node.now in
+    let node = c.loop-line.node in
+    let past : Past = reverse node.history in
+    let rest = λ (p : Past). play node.centre (lines c.in-Some.more.now) p (c.loop-line.number + 1) in
+    let reached = rw c.in-Some.ensures.some at c.loop-line.invariant.0 in
+    record {
+      played = Reached-last node.centre past (reverse c.play_line.new.node.history) c.loop-line.number (line_in node.centre past c.in-Some.line.now) rest
+          (play first.centre (lines c.args.scenario.now) (reverse first.history) 1)
+          (g.K.Sink.taken c.args.sink.now) (g.K.Sink.taken c.loop-line.sink) (g.K.Sink.taken c.play_line.new.sink) c.play_line.result
+          c.in_default-play_line.not-Done (λ p. play_keeps node.centre (lines c.in-Some.more.now) p (c.loop-line.number + 1)) reached c.play_line.ensures.played;
+      centre = c.play_line.ensures.centre ∙ c.loop-line.invariant.1;
+      cause = rw (sym c.loop-line.invariant.2) c.play_line.ensures.cause;
+      name = c.play_line.ensures.name ∙ c.loop-line.invariant.3;
+    }
+
+pub loop-line-preserved : goal.loop-line-preserved
+loop-line-preserved g c =
+    let first = c.args.node.now in
+    let node = c.loop-line.node in
+    let past : Past = reverse node.history in
+    let rest = λ (p : Past). play node.centre (lines c.in-Some.more.now) p (c.loop-line.number + 1) in
+    let reached = rw c.in-Some.ensures.some at c.loop-line.invariant.0 in
+    let further = Reached-more node.centre past (reverse c.play_line.new.node.history) c.loop-line.number (line_in node.centre past c.in-Some.line.now) rest
+    (play first.centre (lines c.args.scenario.now) (reverse first.history) 1)
+    (g.K.Sink.taken c.args.sink.now) (g.K.Sink.taken c.loop-line.sink) (g.K.Sink.taken c.play_line.new.sink)
+    reached c.in-Done.ensures.played in (
+      rw c.in-Done.ensures.centre further,
+      c.in-Done.ensures.centre ∙ c.loop-line.invariant.1,
+      c.in-Done.ensures.cause ∙ c.loop-line.invariant.2,
+      c.in-Done.ensures.name ∙ c.loop-line.invariant.3,
+      omega (arith, c.in-Some.ensures.shorter),
+    )

@@ -1,0 +1,6 @@
+pub mod Octets
+pub mod Reading
+pub mod Tags
+pub mod Heads
+pub mod BitsLemmas
+pub mod Signed

@@ -1,0 +1,19 @@
+use Rattle.std.proofs.Common.{◌≡◌, ◌≤◌, ◌+◌, length, take, drop, sym, refl, ap, ◌∙◌, arith}
+use Rattle.std.proofs.lemmas.List.{take_rest}
+use Rattle.outside.specs.States.{TextState}
+use Rattle.outside.proofs.Reading.{front_copied}
+use Rattle.outside.proofs.text_source.TextSourceSource.read.Goals as goal
+
+pub returns-clause-took : goal.returns-clause-took
+returns-clause-took c =
+    let octets = c.self.inside.octets.items in
+    let rest = take_rest octets c.self.inside.at in
+    let left : c.args.self.now.left ≡ drop c.self.inside.at octets = ap (λ (s : TextState). s.left) (sym c.self.view_is) in
+    let copied : c.copy_from_slice.new.self ≡ take c.min-count.result (drop c.self.inside.at octets) =
+    rw (c.deref-2.ensures.value, rest) at c.copy_from_slice.ensures.after in
+    let count = rw (c.deref-2.ensures.value, rest) at c.min-count.ensures in
+    let fits : c.min-count.result ≤ length (drop c.self.inside.at octets) = omega (arith, count) in (
+      drop (c.self.inside.at + c.min-count.result) octets,
+      left ∙ front_copied octets c.args.buf.now c.copy_from_slice.new.self c.self.inside.at c.min-count.result copied fits,
+      refl,
+    )

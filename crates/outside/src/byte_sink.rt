@@ -1,0 +1,114 @@
+//! A sink of octets in memory, some of whose calls fail.
+ghost use Rattle.std.specs.Prelude.{◌≡◌, ℕ, ◌+◌, ◌-◌, ◌<◌, ◌≤◌, ◌↔◌, ◌⊎◌, List, [], Option, Some, length, min, Contains, IfOk, unwrap_or, option_map, string_bytes, vec_len, vec_capacity};
+ghost use Rattle.outside.specs.Sink.{Writes, IsWriteCount, WriteCause};
+ghost use Rattle.outside.specs.States.{ByteState, next_count};
+
+use crate::places::Named;
+use crate::sink::{Sink, WriteEnd};
+use std::alloc::{AllocError, Global};
+use std::marker::Model;
+
+/// A sink that takes octets as far as its room goes. Its calls are numbered from 0, and some of them fail.
+#[derive(Drop)]
+pub struct ByteSink {
+    taken: Vec<u8>,
+    room: usize,
+    fails: Vec<u64>,
+    calls: u64,
+    faults: u64,
+    name: Option<String>,
+}
+
+impl Model for ByteSink {
+    ghost Value = { ByteState };
+
+    ghost view = { λ s. record {
+      taken = s.taken.items;
+      room = s.room;
+      fails = s.fails.items;
+      calls = s.calls;
+      faults = s.faults;
+      name = unwrap_or (option_map string_bytes s.name) [];
+    } };
+
+    // The room was taken when the sink was made.
+    ghost invariant = { λ s. vec_len s.taken + s.room ≤ vec_capacity s.taken };
+}
+
+impl ByteSink {
+    /// A sink with room for so many octets, whose calls with these numbers fail. The room is taken here.
+    pub fn new(alloc: Global, room: usize, fails: Vec<u64>) -> Result<Self, AllocError>
+        ensures { IfOk result (λ sink. sink ≡ record { taken = []; room = room; fails = fails.items; calls = 0; faults = 0; name = [] }) }
+    {
+        Ok(ByteSink {
+            taken: Vec::with_capacity(alloc, room)?,
+            room,
+            fails,
+            calls: 0,
+            faults: 0,
+            name: None,
+        })
+    }
+
+    /// The octets that it took.
+    pub fn taken(&self) -> &[u8]
+        ensures { result.now ≡ self.now.taken }
+    {
+        &self.taken
+    }
+
+    /// Gives it the name under which it is to stand in its outside.
+    pub(crate) fn set_name(&mut self, name: String)
+        ensures { self.new ≡ record self.old { name = string_bytes name } }
+    {
+        self.name = Some(name);
+    }
+}
+
+impl Sink for ByteSink {
+    ghost taken = { λ s. Some s.taken };
+
+    ghost fault_count = { λ s. s.faults };
+
+    ghost name = { λ s. s.name };
+
+    fn write(&mut self, piece: &[u8]) -> WriteEnd
+        requires { 0 < length piece.now }
+        ensures took { Writes (Some self.old.taken) (Some self.new.taken) result piece.now }
+        ensures count { IsWriteCount result (length piece.now) }
+        ensures cause { WriteCause self.old.faults self.new.faults result }
+        ensures name { self.new.name ≡ self.old.name }
+        ensures fails { (result ≡ WriteEnd.Failed) ↔ (Contains self.old.fails self.old.calls ⊎ (self.old.room ≡ 0)) }
+        ensures fits { (n : ℕ) → result ≡ WriteEnd.Took n → n ≡ min (length piece.now) self.old.room }
+        ensures room { (n : ℕ) → result ≡ WriteEnd.Took n → self.new.room ≡ self.old.room - n }
+        ensures no_room { result ≡ WriteEnd.Failed → self.new.room ≡ self.old.room }
+        ensures calls { self.new.calls ≡ next_count self.old.calls }
+        ensures script { self.new.fails ≡ self.old.fails }
+    {
+        let call = self.calls;
+        self.calls = call.saturating_add(1);
+        if self.room == 0 || self.fails.contains(&call) {
+            self.faults = self.faults.saturating_add(1);
+            return WriteEnd::Failed;
+        }
+        let count = piece.len().min(self.room);
+        self.taken.extend_from_slice(&piece[..count]).unwrap();
+        self.room -= count;
+        WriteEnd::Took(count)
+    }
+
+    fn faults(&self) -> u64 {
+        self.faults
+    }
+}
+
+impl Named for ByteSink {
+    ghost name_of = { λ s. s.name };
+
+    fn name(&self) -> &str {
+        match &self.name {
+            Some(name) => name.as_str(),
+            None => "",
+        }
+    }
+}

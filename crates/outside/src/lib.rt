@@ -1,0 +1,93 @@
+//! What lies outside the program: sources and sinks of octets, the outside that opens them by name, and doubles of
+//! them in memory. Each object counts its faults; no call fails in silence, and none claims a fault that wasn't.
+#![tactic(auto)]
+
+mod byte_sink;
+mod memory;
+mod outside;
+mod places;
+mod sink;
+mod source;
+mod text;
+mod text_source;
+
+pub use byte_sink::ByteSink;
+pub use memory::MemoryOutside;
+pub use outside::Outside;
+pub use sink::{Sink, SinkFailed, WriteEnd, write_all};
+pub use source::{ReadEnd, Source};
+pub use text::{TextEnd, read_text};
+pub use text_source::TextSource;
+
+#[cfg(test)]
+mod tests {
+    use super::*;
+    use std::test::Fail;
+
+    // A text, the calls that fail, the limit, and what is read.
+    const READINGS: [(&[u8], &[u64], u64, Result<&[u8], TextEnd>); 6] = [
+        (b"abc", &[], 3, Ok(b"abc")),
+        (b"", &[], 0, Ok(b"")),
+        (b"abc", &[], 2, Err(TextEnd::Long)),
+        (b"abc", &[0], 3, Err(TextEnd::Failed)),
+        (b"abc", &[1], 3, Err(TextEnd::Failed)),
+        (b"abc", &[2], 3, Ok(b"abc")),
+    ];
+
+    #[test]
+    fn reads_texts(rt: HostRuntime) -> Result<(), Fail> {
+        let alloc = rt.alloc();
+        for (octets, fails, limit, want) in READINGS {
+            let mut source = TextSource::new(octets.to_vec(alloc)?, fails.to_vec(alloc)?);
+            match (read_text(alloc, &mut source, limit)?, want) {
+                (Ok(text), Ok(wanted)) => assert_eq!(rt; text.as_slice(), wanted),
+                (Err(end), Err(wanted)) => assert_eq!(rt; end, wanted),
+                _ => panic!(rt; "at limit {limit}"),
+            }
+            assert_eq!(rt;
+                source.faults(),
+                if want == Err(TextEnd::Failed) { 1 } else { 0 }
+            );
+        }
+        Ok(())
+    }
+
+    #[test]
+    fn writes_as_far_as_the_room_goes(rt: HostRuntime) -> Result<(), Fail> {
+        let alloc = rt.alloc();
+        let mut sink = ByteSink::new(alloc, 4, [1].to_vec(alloc)?)?;
+        assert_eq!(rt; write_all(&mut sink, b"abc"), Ok(()));
+        assert_eq!(rt; write_all(&mut sink, b"d"), Err(SinkFailed));
+        assert_eq!(rt; write_all(&mut sink, b"de"), Err(SinkFailed));
+        assert_eq!(rt; sink.taken(), b"abcd".as_slice());
+        assert_eq!(rt; sink.faults(), 2);
+        Ok(())
+    }
+
+    #[test]
+    fn opens_what_was_put(rt: HostRuntime) -> Result<(), Fail> {
+        let alloc = rt.alloc();
+        let mut outside = MemoryOutside::new(alloc);
+        let source = TextSource::new(b"text".to_vec(alloc)?, Vec::new(alloc));
+        outside.put_in(alloc, "in", source)?;
+        outside.put_out(alloc, "out", ByteSink::new(alloc, 9, Vec::new(alloc))?)?;
+
+        let mut source = outside.open_in("in").ok_or("in")?;
+        assert!(rt; outside.open_in("in").is_none());
+        assert!(rt; outside.open_in("out").is_none());
+        let text = read_text(alloc, &mut source, 9)?.map_err(|_| "read")?;
+        outside.close_in(source);
+        assert!(rt; outside.open_in("in").is_some());
+
+        let mut sink = outside.open_out("out").ok_or("out")?;
+        write_all(&mut sink, &text)?;
+        assert!(rt; outside.sink("out").is_none());
+        outside.close_out(sink);
+        assert_eq!(rt;
+            outside.sink("out").ok_or("sink")?.taken(),
+            b"text".as_slice()
+        );
+        assert_eq!(rt; outside.faults(), 2);
+        Ok(())
+    }
+}

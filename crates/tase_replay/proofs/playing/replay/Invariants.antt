@@ -1,0 +1,17 @@
+use Rattle.std.proofs.Common.{◌≡◌, ◌+◌, ◌≤◌, length, reverse}
+use Rattle.std.specs.Str.Lines.{lines}
+use Rattle.tase_replay.specs.Play.{play}
+use Rattle.tase_replay.proofs.Reached.{Reached}
+use Rattle.tase_replay.proofs.playing.replay.Given as goal
+
+abbrev pub invariant-loop-line : goal.invariant-loop-line
+invariant-loop-line g l =
+    (Reached (play l.fn.node.centre (lines l.fn.scenario) (reverse l.fn.node.history) 1) (play l.node.centre (lines l.rest) (reverse l.node.history) l.number)
+    (g.K.Sink.taken l.fn.sink) (g.K.Sink.taken l.sink))
+    × (l.node.centre ≡ l.fn.node.centre)
+    × (g.K.Sink.fault_count l.sink ≡ g.K.Sink.fault_count l.fn.sink)
+    × (g.K.Sink.name l.sink ≡ g.K.Sink.name l.fn.sink)
+    × (l.number + length l.rest ≤ length l.scenario + 1)
+
+abbrev pub decreases-loop-line : goal.decreases-loop-line
+decreases-loop-line g l = length l.rest

@@ -1,0 +1,42 @@
+ghost use Rattle.std.specs.Prelude.{◌≡◌, OnOk};
+ghost use Rattle.tase_replay.specs.Play.{line_of_reply};
+ghost use Rattle.tase_replay.specs.Ends.{IsShown, HasSinkCause};
+
+use crate::playing::ReplayEnd;
+use outside::{Sink, write_all};
+use plain_text::push_decimal;
+use std::alloc::AllocError;
+use tase_views::{Reply, spell_reply};
+
+/// Prints a reply to a seat as a line. `text` is where the line is put together; what it held is gone.
+pub(crate) fn print_reply<K: Sink>(
+    who: u64,
+    reply: &Reply,
+    sink: &mut K,
+    text: &mut Vec<u8>,
+) -> ReplayEnd
+    ensures shown { IsShown (line_of_reply who reply.now) (K.taken sink.old) (K.taken sink.new) result }
+    ensures cause { HasSinkCause (K.fault_count sink.old) (K.fault_count sink.new) result }
+    ensures name { K.name sink.new ≡ K.name sink.old }
+{
+    if spell_line(text, who, reply).is_err() {
+        return ReplayEnd::Memory;
+    }
+    match write_all(sink, text.as_slice()) {
+        Ok(()) => ReplayEnd::Done,
+        Err(_) => ReplayEnd::SinkFault,
+    }
+}
+
+/// Puts the line of a reply into `text`, in place of what that held.
+fn spell_line(text: &mut Vec<u8>, who: u64, reply: &Reply) -> Result<(), AllocError>
+    ensures { OnOk result (text.new.items ≡ line_of_reply who reply.now) }
+{
+    text.clear();
+    text.extend_from_slice(b"reply ")?;
+    push_decimal(text, who)?;
+    text.push(b' ')?;
+    spell_reply(text, reply)?;
+    text.push(b'\n')?;
+    Ok(())
+}
