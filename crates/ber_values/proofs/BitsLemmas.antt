@@ -1,10 +1,10 @@
 -- Octets with zeros at their end hold bits.
-use Rattle.std.proofs.Common.{◌≡◌, ℕ, zero, suc, ◌+◌, ◌-◌, ◌*◌, ◌/◌, ◌%◌, ◌^◌, ◌<◌, ◌≤◌, true, List, [], ◌∷◌, length, get_or, set, refl, sym, ap, ◌∙◌, inl, inr, arith, ltb}
+use Rattle.std.proofs.Common.{◌≡◌, ℕ, zero, suc, ◌-◌, ◌*◌, ◌/◌, ◌%◌, ◌^◌, ◌<◌, ◌≤◌, true, List, [], ◌∷◌, length, get_or, set, refl, ◌∙◌, inl, inr, arith, ltb}
 use Rattle.std.specs.List.{list_all}
 use Rattle.std.proofs.lemmas.Bool.{lt-ltb, and_from, cases_lt}
-use Rattle.std.proofs.lemmas.List.{length-set, get_or-set_same, nil_from_length, set_past}
+use Rattle.std.proofs.lemmas.List.{length-set, get_or-set_same, nil_from_length}
 use Rattle.std.proofs.Math.Nat.{mul-mod_left, div-mul-le_self, zero-mod}
-use Rattle.ber_values.specs.Bits.{Bits, IsBits}
+use Rattle.ber_values.specs.Bits.{IsBits}
 use Rattle.ber_values.specs.Octets.{IsOctets}
 use Rattle.ber_values.specs.BitContents.{with_zeros, bits_with}
 use Rattle.ber_values.proofs.Octets.{IsOctets-rest}

@@ -1,5 +1,5 @@
 -- Reading a head is exact.
-use Rattle.std.proofs.Common.{◌≡◌, ℕ, ◌+◌, ◌<◌, ◌≤◌, cond, ltb, List, length, Result, Ok, Err, MatchResult, refl, sym, ap, ◌∙◌, inl, inr, ◌⊎◌, arith}
+use Rattle.std.proofs.Common.{◌≡◌, ℕ, ◌<◌, ◌≤◌, cond, ltb, List, length, Result, Ok, Err, MatchResult, refl, sym, ap, ◌∙◌, inl, inr, ◌⊎◌}
 use Rattle.std.proofs.lemmas.Bool.{cond_both, cond-true, cond-false, ltb-true, ltb-false, lt-ltb, le-ltb}
 use Rattle.ber_values.specs.declared.fault.BerFault.{BerFault}
 use Rattle.ber_values.specs.declared.fault.Why.TheVariants as whys
@@ -8,7 +8,7 @@ use Rattle.ber_values.specs.declared.head.Head.{Head}
 use Rattle.ber_values.specs.Faults.{fault_at, ◌>>=◌}
 use Rattle.ber_values.specs.Reading.{Taken, Begins, IsReading}
 use Rattle.ber_values.specs.Tags.{SpellsTag, TagFault, SpellsLength, LengthFault, tag_in, length_in}
-use Rattle.ber_values.specs.Heads.{head_of, SpellsHead, IsPastEnd, FaultAfterTag, HeadFault, head_in}
+use Rattle.ber_values.specs.Heads.{head_of, SpellsHead, HeadFault, head_in}
 use Rattle.ber_values.proofs.Reading.{IsReading-from, IsReading-then, IsReading-as}
 use Rattle.ber_values.proofs.Tags.{tag_reads, length_reads}
 

@@ -4,3 +4,5 @@ pub mod Tags
 pub mod Heads
 pub mod BitsLemmas
 pub mod Signed
+pub mod Written
+pub mod Elements

@@ -1,8 +1,8 @@
 -- Readings: made of their parts, one after the other, and the law of one reading.
-use Rattle.std.proofs.Common.{◌≡◌, ℕ, Bool, true, false, cond, Result, Ok, Err, refl, sym, ap, subst, ◌∙◌, inl, inr, ◌⊎◌, MatchResult, IfOk, ◌↔◌}
+use Rattle.std.proofs.Common.{◌≡◌, Result, Ok, Err, refl, sym, ap, subst, ◌∙◌, inl, inr, ◌⊎◌, MatchResult, IfOk, ◌↔◌}
 use Rattle.ber_values.specs.declared.fault.BerFault.{BerFault}
 use Rattle.ber_values.specs.Faults.{◌>>=◌}
-use Rattle.ber_values.specs.Reading.{IsReading, IsOne, HasOneReading}
+use Rattle.ber_values.specs.Reading.{IsReading, HasOneReading}
 
 abbrev pub done : {X : Type 0} → X → Result X BerFault
 done x = Ok x

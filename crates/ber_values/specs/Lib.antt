@@ -11,3 +11,5 @@ pub mod Numbers
 pub mod Booleans
 pub mod BitContents
 pub mod TextContents
+pub mod Writing
+pub mod Elements

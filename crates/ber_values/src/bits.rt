@@ -1,14 +1,16 @@
 //! Bit strings as contents octets (ISO 8825-1, 8.6): the number of unused bits, then the octets.
-ghost use Rattle.std.specs.Prelude.{◌≡◌, ◌≢◌, ◌<◌, ◌≤◌, ◌-◌, ◌*◌, ◌^◌, ◌↔◌, [], length, IfOk};
+ghost use Rattle.std.specs.Prelude.{◌≡◌, ◌≢◌, ◌<◌, ◌≤◌, ◌-◌, ◌*◌, ◌^◌, ◌%◌, ◌↔◌, [], ◌++◌, take, length, IfOk, OnOk, OnErr};
 ghost use Rattle.ber_values.specs.declared.fault.BerFault.{BerFault};
 ghost use Rattle.ber_values.specs.Bits.{Bits};
 ghost use Rattle.ber_values.specs.Contents.{contents_of, IsContents};
 ghost use Rattle.ber_values.specs.BitContents.{with_zeros, bits_with, SpellsBits, BitsFault, bits_in};
+ghost use Rattle.ber_values.specs.Writing.{bits_octets, written};
 
 use crate::bit_string::BitString;
 use crate::contents::{length_fault, value_fault};
 use crate::fault::BerFault;
 use crate::head::Head;
+use crate::writing::{or_undo, put_head};
 use std::alloc::{AllocError, Global};
 
 /// The octets with their last `unused` bits zero.
@@ -64,4 +66,28 @@ pub fn read_bits(
     ensures exact { IfOk result (λ read. read ≡ bits_in head.now (contents_of bytes.now head.now)) }
 {
     bits_at(alloc, bytes, head)
+}
+
+fn put_bits(out: &mut Vec<u8>, tag: u8, value: &BitString) -> Result<(), AllocError>
+    requires { length value.now.octets < 2 ^ 32 - 1 }
+    ensures ok { OnOk result (out.new.items ≡ out.old.items ++ written tag (bits_octets value.now)) }
+    ensures err { OnErr result (take (length out.old.items) out.new.items ≡ out.old.items) }
+{
+    let octets = value.octets();
+    let unused = 8 * octets.len() - value.count();
+    put_head(out, tag, 1 + octets.len())?;
+    out.push(unused as u8)?;
+    out.extend_from_slice(octets)
+}
+
+/// Appends a bit string, its unused bits zero.
+pub fn write_bits(out: &mut Vec<u8>, tag: u8, value: &BitString) -> Result<(), AllocError>
+    requires single { tag % 32 ≢ 31 }
+    requires bounded { length value.now.octets < 2 ^ 32 - 1 }
+    ensures ok { OnOk result (out.new.items ≡ out.old.items ++ written tag (bits_octets value.now)) }
+    ensures err { OnErr result (out.new.items ≡ out.old.items) }
+{
+    let mark = out.len();
+    let done = put_bits(out, tag, value);
+    or_undo(out, mark, done)
 }

@@ -1,12 +1,15 @@
 //! The head of an element: its tag and its length (ISO 8825-1, 8.1.2 and 8.1.3).
-ghost use Rattle.std.specs.Prelude.{◌≡◌, ◌≤◌, ◌<◌, ◌↔◌, length, IfOk};
+ghost use Rattle.std.specs.Prelude.{◌≡◌, ◌≢◌, ◌%◌, ◌^◌, ◌≤◌, ◌<◌, ◌↔◌, ◌++◌, length, IfOk, OnOk, OnErr};
 ghost use Rattle.std.specs.List.{slice_range};
 ghost use Rattle.ber_values.specs.declared.fault.BerFault.{BerFault};
 ghost use Rattle.ber_values.specs.declared.head.Head.{Head};
 ghost use Rattle.ber_values.specs.Heads.{SpellsHead, HeadFault, IsHeadWithin, head_in};
+ghost use Rattle.ber_values.specs.Writing.{head_octets};
 
 use crate::fault::{BerFault, Why};
 use crate::tag::{read_length, read_tag};
+use crate::writing::{or_undo, put_head};
+use std::alloc::AllocError;
 
 /// The head of an element. Places count the octets of the slice that was read.
 #[derive(Clone, Copy, Debug, PartialEq, Eq)]
@@ -65,4 +68,16 @@ pub fn read_head(bytes: &[u8], at: usize, end: usize) -> Result<Head, BerFault>
     ensures exact { result ≡ head_in at (slice_range bytes.now at end) }
 {
     head_from(bytes, at, end)
+}
+
+/// Appends a tag of one octet and the shortest length.
+pub fn write_head(out: &mut Vec<u8>, tag: u8, len: usize) -> Result<(), AllocError>
+    requires single { tag % 32 ≢ 31 }
+    requires bounded { len < 2 ^ 32 }
+    ensures ok { OnOk result (out.new.items ≡ out.old.items ++ head_octets tag len) }
+    ensures err { OnErr result (out.new.items ≡ out.old.items) }
+{
+    let mark = out.len();
+    let done = put_head(out, tag, len);
+    or_undo(out, mark, done)
 }

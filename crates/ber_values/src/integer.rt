@@ -1,13 +1,16 @@
 //! Integers, ASN.1's `INTEGER` (ISO 8825-1, 8.3).
-ghost use Rattle.std.specs.Prelude.{◌≡◌, ℕ, ℤ, ◌≤◌, ◌<◌, ◌↔◌, length, IfOk};
+ghost use Rattle.std.specs.Prelude.{◌≡◌, ◌≢◌, ℕ, ℤ, ◌%◌, ◌≤◌, ◌<◌, ◌↔◌, ◌++◌, take, length, IfOk, OnOk, OnErr};
 ghost use Rattle.ber_values.specs.declared.fault.BerFault.{BerFault};
 ghost use Rattle.ber_values.specs.Numbers.{twos_complement, SpellsInteger, IntegerFault, integer_in, SpellsUnsigned, UnsignedFault, unsigned_in};
 ghost use Rattle.ber_values.specs.Contents.{contents_of, IsContents};
+ghost use Rattle.ber_values.specs.Writing.{number_size, integer_size, integer_octets, written};
 
 use crate::contents::{length_fault, value_fault};
 use crate::fault::BerFault;
 use crate::head::Head;
 use crate::number::unsigned_number;
+use crate::writing::{or_undo, put_head, put_number};
+use std::alloc::AllocError;
 
 /// The number that one to eight octets are in two's complement.
 fn signed_number(octets: &[u8]) -> i64
@@ -68,4 +71,49 @@ pub fn read_unsigned(bytes: &[u8], head: &Head) -> Result<u32, BerFault>
     ensures exact { result ≡ unsigned_in head.now (contents_of bytes.now head.now) }
 {
     unsigned_from(bytes, head)
+}
+
+fn size_of_number(number: u64) -> usize
+    ensures { result ≡ number_size number }
+{
+    match number {
+        0..0x80 => 1,
+        0x80..0x8000 => 2,
+        0x8000..0x80_0000 => 3,
+        0x80_0000..0x8000_0000 => 4,
+        0x8000_0000..0x80_0000_0000 => 5,
+        0x80_0000_0000..0x8000_0000_0000 => 6,
+        0x8000_0000_0000..0x80_0000_0000_0000 => 7,
+        _ => 8,
+    }
+}
+
+fn size_of_integer(value: i64) -> usize
+    ensures { result ≡ integer_size value }
+{
+    if value < 0 {
+        size_of_number((-1 - value) as u64)
+    } else {
+        size_of_number(value as u64)
+    }
+}
+
+fn put_integer(out: &mut Vec<u8>, tag: u8, value: i64) -> Result<(), AllocError>
+    ensures ok { OnOk result (out.new.items ≡ out.old.items ++ written tag (integer_octets value)) }
+    ensures err { OnErr result (take (length out.old.items) out.new.items ≡ out.old.items) }
+{
+    let size = size_of_integer(value);
+    put_head(out, tag, size)?;
+    put_number(out, value.cast_unsigned(), size)
+}
+
+/// Appends an integer in the shortest form.
+pub fn write_integer(out: &mut Vec<u8>, tag: u8, value: i64) -> Result<(), AllocError>
+    requires { tag % 32 ≢ 31 }
+    ensures ok { OnOk result (out.new.items ≡ out.old.items ++ written tag (integer_octets value)) }
+    ensures err { OnErr result (out.new.items ≡ out.old.items) }
+{
+    let mark = out.len();
+    let done = put_integer(out, tag, value);
+    or_undo(out, mark, done)
 }

@@ -1,14 +1,16 @@
 //! Object identifiers and visible text as contents octets (ISO 8825-1, 8.19 and 8.23).
-ghost use Rattle.std.specs.Prelude.{◌≡◌, ℕ, List, ◌↔◌, IfOk};
+ghost use Rattle.std.specs.Prelude.{◌≡◌, ◌≢◌, ℕ, ◌%◌, List, ◌++◌, ◌↔◌, take, length, IfOk, OnOk, OnErr};
 ghost use Rattle.ber_values.specs.declared.fault.BerFault.{BerFault};
 ghost use Rattle.ber_values.specs.Contents.{contents_of, IsContents};
 ghost use Rattle.ber_values.specs.TextContents.{SpellsOid, OidFault, oid_in, SpellsVisible, VisibleFault, visible_in};
+ghost use Rattle.ber_values.specs.Writing.{written};
 
 use crate::contents::{length_fault, value_fault};
 use crate::fault::BerFault;
 use crate::head::Head;
 use crate::object_identifier::Oid;
 use crate::visible_string::{Visible, is_visible};
+use crate::writing::{or_undo, put_element};
 use std::alloc::{AllocError, Global};
 
 fn oid_at(alloc: Global, bytes: &[u8], head: &Head) -> Result<Result<Oid, BerFault>, AllocError>
@@ -35,6 +37,24 @@ pub fn read_oid(
     ensures exact { IfOk result (λ read. read ≡ oid_in head.now (contents_of bytes.now head.now)) }
 {
     oid_at(alloc, bytes, head)
+}
+
+fn put_oid(out: &mut Vec<u8>, tag: u8, value: &Oid) -> Result<(), AllocError>
+    ensures ok { OnOk result (out.new.items ≡ out.old.items ++ written tag value.now) }
+    ensures err { OnErr result (take (length out.old.items) out.new.items ≡ out.old.items) }
+{
+    put_element(out, tag, value.octets())
+}
+
+/// Appends an object identifier.
+pub fn write_oid(out: &mut Vec<u8>, tag: u8, value: &Oid) -> Result<(), AllocError>
+    requires { tag % 32 ≢ 31 }
+    ensures ok { OnOk result (out.new.items ≡ out.old.items ++ written tag value.now) }
+    ensures err { OnErr result (out.new.items ≡ out.old.items) }
+{
+    let mark = out.len();
+    let done = put_oid(out, tag, value);
+    or_undo(out, mark, done)
 }
 
 fn visible_at(
@@ -68,4 +88,22 @@ pub fn read_visible(
     ensures exact { IfOk result (λ read. read ≡ visible_in head.now (contents_of bytes.now head.now)) }
 {
     visible_at(alloc, bytes, head)
+}
+
+fn put_visible(out: &mut Vec<u8>, tag: u8, value: &Visible) -> Result<(), AllocError>
+    ensures ok { OnOk result (out.new.items ≡ out.old.items ++ written tag value.now) }
+    ensures err { OnErr result (take (length out.old.items) out.new.items ≡ out.old.items) }
+{
+    put_element(out, tag, value.as_slice())
+}
+
+/// Appends visible text.
+pub fn write_visible(out: &mut Vec<u8>, tag: u8, value: &Visible) -> Result<(), AllocError>
+    requires { tag % 32 ≢ 31 }
+    ensures ok { OnOk result (out.new.items ≡ out.old.items ++ written tag value.now) }
+    ensures err { OnErr result (out.new.items ≡ out.old.items) }
+{
+    let mark = out.len();
+    let done = put_visible(out, tag, value);
+    or_undo(out, mark, done)
 }

@@ -1,5 +1,5 @@
 -- Rows that a line was added to: they are lawful, and the indexes that note it find what a search finds.
-use Rattle.std.proofs.Common.{◌≡◌, ◌≢◌, ℕ, zero, suc, ◌+◌, ◌-◌, ◌<◌, ◌≤◌, Bool, true, false, ◌&&◌, ◌==◌, cond, eqb, List, [], ◌∷◌, ◌++◌, length, get_or, set, AllPairs, All, IsTrue, Option, Some, None, unwrap_or, position, refl, sym, ap, subst, ◌∙◌, inl, inr, arith, bytes_eq}
+use Rattle.std.proofs.Common.{◌≡◌, ◌≢◌, ℕ, zero, suc, ◌-◌, ◌<◌, ◌≤◌, Bool, true, false, ◌&&◌, ◌==◌, cond, eqb, List, [], ◌∷◌, ◌++◌, length, get_or, set, AllPairs, All, IsTrue, Option, Some, None, unwrap_or, position, refl, sym, ap, subst, ◌∙◌, inl, inr, arith, bytes_eq}
 use Rattle.std.specs.Option.{option_eq}
 use Rattle.std.specs.List.{list_any}
 use Rattle.std.specs.Cmp.Lexicographic.{bytes_decides}
@@ -13,11 +13,11 @@ use Rattle.bilateral.specs.declared.rows.See.{See as SeeRow}
 use Rattle.bilateral.specs.declared.rows.Table.{Table}
 use Rattle.tase_points.specs.declared.kind.Kind.TheVariants.{State}
 use Rattle.tase_points.specs.declared.layout.Component.{Component}
-use Rattle.bilateral.specs.Words.{is_name, is_identifier}
+use Rattle.bilateral.specs.Words.{is_name}
 use Rattle.bilateral.specs.Rows.{CentreRows, IsCentre, IsTable, place_of_point, place_of_peer, place_of_see, table_of, no_table}
 use Rattle.bilateral.specs.Reading.{with_row, with_see, last_peer, seen_in_last}
 use Rattle.bilateral.specs.Lines.{IsLawful}
-use Rattle.bilateral.proofs.Positions.{position-None, position-by_key, position-push_here, position-push_other, position-set, list_any-false}
+use Rattle.bilateral.proofs.Positions.{position-None, position-push_here, position-push_other, position-set, list_any-false}
 use Rattle.bilateral.proofs.Taken.{IsNewPoint, IsNewPeer, IsNewSee}
 
 -- a key that is found nowhere differs from every row's

@@ -1,5 +1,5 @@
 -- Stores that a line was added to.
-use Rattle.std.proofs.Common.{◌≡◌, ℕ, ◌-◌, ◌<◌, Bool, ◌&&◌, ◌==◌, cond, List, [], ◌∷◌, ◌++◌, length, set, IsTrue, Option, Some, None, refl, sym, ap, subst, ◌∙◌, bytes_eq}
+use Rattle.std.proofs.Common.{◌≡◌, ℕ, ◌<◌, ◌&&◌, ◌==◌, cond, List, [], ◌∷◌, ◌++◌, length, IsTrue, Option, Some, None, sym, ap, subst, ◌∙◌, bytes_eq}
 use Rattle.bilateral.specs.declared.line.TableLine.TheVariants.{Point, Peer}
 use Rattle.bilateral.specs.declared.rows.PointRow.{PointRow}
 use Rattle.bilateral.specs.declared.rows.See.{See as SeeRow}
@@ -9,7 +9,7 @@ use Rattle.bilateral.specs.Words.{is_name}
 use Rattle.bilateral.specs.Lines.{IsLawful}
 use Rattle.bilateral.specs.Rows.{CentreRows, IsCentre, place_of_point, place_of_peer, place_of_see, table_of}
 use Rattle.bilateral.specs.Index.{place_by, row_by}
-use Rattle.bilateral.specs.Reading.{row_fault, with_row, with_see, last_peer, seen_in_last}
+use Rattle.bilateral.specs.Reading.{row_fault, with_row, last_peer, seen_in_last}
 use Rattle.bilateral.specs.Store.{rows_of, IsStore}
 use Rattle.bilateral.proofs.Positions.{position-by_key}
 use Rattle.bilateral.proofs.Taken.{IsNewPoint-from_no_fault, IsNewPeer-from_no_fault}

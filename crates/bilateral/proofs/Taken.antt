@@ -1,5 +1,5 @@
 -- What it says that a line can be taken: no reason stands against it.
-use Rattle.std.proofs.Common.{◌≡◌, ◌≢◌, ℕ, ◌<◌, ◌≤◌, Bool, true, false, not, ◌||◌, cond, eqb, leb, List, [], length, Option, Some, None, is_some, refl, sym, ap, ◌∙◌, arith, bytes_eq}
+use Rattle.std.proofs.Common.{◌≡◌, ◌≢◌, ℕ, ◌<◌, Bool, true, false, cond, List, length, Option, Some, None, is_some, refl, arith, bytes_eq}
 use Rattle.std.specs.Option.{option_eq}
 use Rattle.std.specs.List.{list_any}
 use Rattle.std.proofs.lemmas.Bool.{leb-false, eqb-true, eqb-false, not-false, or_parts}
@@ -10,7 +10,7 @@ use Rattle.bilateral.specs.declared.rows.PointRow.{PointRow}
 use Rattle.bilateral.specs.declared.rows.Table.{Table}
 use Rattle.tase_points.specs.declared.layout.Component.{Component}
 use Rattle.bilateral.specs.Rows.{CentreRows, place_of_point, place_of_peer, place_of_see, table_of}
-use Rattle.bilateral.specs.Reading.{row_fault, see_fault, limit_fault, last_peer}
+use Rattle.bilateral.specs.Reading.{row_fault, see_fault, last_peer}
 
 no_reason : (test : Bool) (why : TableWhy) (rest : Option TableWhy) → cond test (Some why) rest ≡ None → (test ≡ false) × (rest ≡ None)
 no_reason true why rest none = absurd cc

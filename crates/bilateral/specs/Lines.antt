@@ -1,5 +1,5 @@
 -- The lines of a table text.
-use Rattle.std.specs.Prelude.{◌≡◌, ℕ, IsTrue, Bool, ◌&&◌, if◌then◌else◌, List, [], ◌∷◌, Option, Some, None, option_and_then, bytes_eq, codes}
+use Rattle.std.specs.Prelude.{◌≡◌, ℕ, IsTrue, ◌&&◌, if◌then◌else◌, List, [], ◌∷◌, Option, None, option_and_then, bytes_eq, codes}
 use Rattle.std.specs.Option.{option_map}
 use Rattle.plain_text.specs.Words.{words_in}
 use Rattle.bilateral.specs.declared.line.TableLine.{TableLine}

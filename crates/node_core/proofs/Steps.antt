@@ -7,7 +7,7 @@ use Rattle.std.proofs.lemmas.List.{length-replicate, get_or-replicate, length-ma
 use Rattle.std.proofs.lemmas.Option.{slice_get-get_or, slice_get-map, get_or_from_slice_get, same_Some, none-some}
 use Rattle.tase_points.specs.Sample.{Sample}
 use Rattle.tase_points.specs.Values.{unknown_sample, is_change}
-use Rattle.bilateral.specs.Rows.{CentreRows, no_point}
+use Rattle.bilateral.specs.Rows.{CentreRows, IsCentre, no_point}
 use Rattle.tase_views.specs.declared.call.CallKind.{CallKind}
 use Rattle.tase_views.specs.declared.event.EventKind.{EventKind}
 use Rattle.tase_views.specs.declared.event.EventKind.TheVariants.{Open, Request, Update}
@@ -33,13 +33,15 @@ slice_get-set_other xs p q y apart within =
 
 -- an empty history
 pub IsStored-new : (rows : CentreRows) (values : List Sample) (counts opens : List ℕ) (found : ℕ → Option Key)
+    → IsCentre rows
     → values ≡ map (λ row. unknown_sample row.kind) rows.points
     → counts ≡ replicate (length rows.points) 0
     → opens ≡ replicate (length rows.tables) 0
     → ((who : ℕ) → found who ≡ None)
     → IsStored rows [] values counts opens found
-IsStored-new rows values counts opens found values_are counts_are opens_are none =
+IsStored-new rows values counts opens found lawful values_are counts_are opens_are none =
     record {
+      lawful = lawful;
       value_count = ap length values_are ∙ length-map rows.points (λ row. unknown_sample row.kind);
       count_count = ap length counts_are ∙ length-replicate (length rows.points) 0;
       open_count = ap length opens_are ∙ length-replicate (length rows.tables) 0;
@@ -56,6 +58,7 @@ pub IsStored-found : (rows : CentreRows) (past : Past) (values : List Sample) (c
     → ((who : ℕ) → after who ≡ found who) → IsStored rows past values counts opens found → IsStored rows past values counts opens after
 IsStored-found rows past values counts opens found after same s =
     record {
+      lawful = s.lawful;
       value_count = s.value_count;
       count_count = s.count_count;
       open_count = s.open_count;
@@ -71,6 +74,7 @@ pub IsStored-request : (rows : CentreRows) (past : Past) (values : List Sample) 
     → IsStored rows past values counts opens found → IsStored rows (record { who = who; event = Request call } ∷ past) values counts opens found
 IsStored-request rows past values counts opens found who call s =
     record {
+      lawful = s.lawful;
       value_count = s.value_count;
       count_count = s.count_count;
       open_count = s.open_count;
@@ -100,6 +104,7 @@ IsStored-update rows past values counts opens found who p value old count within
     let last_is : old ≡ last_value rows past p = old_is ∙ get_or_from_slice_get values p (last_value rows past p) old (s.last p (omega arith)) in
     let total_is : count ≡ change_total rows past p % 65536 = count_is ∙ get_or_from_slice_get counts p (change_total rows past p % 65536) count (s.changed p (omega arith)) in
     record {
+      lawful = s.lawful;
       value_count = length-set values p value ∙ s.value_count;
       count_count = length-set counts p _ ∙ s.count_count;
       open_count = s.open_count;
@@ -111,11 +116,11 @@ IsStored-update rows past values counts opens found who p value old count within
       changed = λ q there.
           ⊎_elim
           (λ same.
-              rw (eq-eqb p q same, ← same)
-              (slice_get-set_here counts p p _ refl (omega arith) ∙ ap Some (rw (total_is, last_is) (count_after-total (change_total rows past p) (is_change (last_value rows past p) value)))))
+          rw (eq-eqb p q same, ← same)
+          (slice_get-set_here counts p p _ refl (omega arith) ∙ ap Some (rw (total_is, last_is) (count_after-total (change_total rows past p) (is_change (last_value rows past p) value)))))
           (λ apart.
-              rw (ne_eqb p q apart)
-              (slice_get-set_other counts p q _ (λ e. apart (sym e)) (omega arith) ∙ s.changed q there ∙ ap (λ n. Some (n % 65536)) (sym (zero-add (change_total rows past q)))))
+          rw (ne_eqb p q apart)
+          (slice_get-set_other counts p q _ (λ e. apart (sym e)) (omega arith) ∙ s.changed q there ∙ ap (λ n. Some (n % 65536)) (sym (zero-add (change_total rows past q)))))
           (cases_eq p q);
       opened = λ q there. s.opened q there ∙ ap Some (sym (zero-add (opens_in past q)));
       seated = λ asked. elim (who == asked) as (λ b. found asked ≡ (if b then association_in past asked else association_in past asked)) [ true ↦ s.seated asked | false ↦ s.seated asked ];
@@ -142,6 +147,7 @@ IsStored-open rows past values counts opens found after who peer within seated s
     let opens_length : length opens ≡ length rows.tables = s.open_count in
     let before : get_or opens peer 0 ≡ opens_in past peer = opens-at rows past values counts opens found peer (omega arith) s in
     record {
+      lawful = s.lawful;
       value_count = s.value_count;
       count_count = s.count_count;
       open_count = length-set opens peer _ ∙ s.open_count;

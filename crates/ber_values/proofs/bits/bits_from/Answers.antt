@@ -1,5 +1,4 @@
-use Rattle.std.proofs.Common.{subst, sym, List, ℕ, ◌-◌, ◌*◌, length, ◌<◌, arith}
-use Rattle.ber_values.specs.Bits.{IsBits}
+use Rattle.std.proofs.Common.{arith}
 use Rattle.ber_values.proofs.BitsLemmas.{IsBits-bits_with}
 use Rattle.ber_values.proofs.bits.bits_from.Goals as goal
 

@@ -1,8 +1,7 @@
-use Rattle.std.proofs.Common.{ℕ, ◌+◌, ◌-◌, ◌*◌, ◌/◌, ◌^◌, ◌≤◌, ◌<◌, ◌≡◌, ◌∙◌, sym, get_or, length, arith}
+use Rattle.std.proofs.Common.{◌+◌, ◌-◌, ◌*◌, ◌/◌, ◌^◌, ◌≤◌, ◌<◌, ◌≡◌, ◌∙◌, sym, get_or, length, arith}
 use Rattle.std.proofs.lemmas.Int.{ints}
 use Rattle.std.proofs.lemmas.Bool.{lt-ltb, le-ltb}
-use Rattle.ber_values.specs.Octets.{IsOctets, number_of}
-use Rattle.ber_values.specs.Numbers.{twos_complement}
+use Rattle.ber_values.specs.Octets.{number_of}
 use Rattle.ber_values.proofs.Octets.{FirstBounds, first_bounds, ones_shifted, unit_bound, mul_le, number_of-below}
 use Rattle.ber_values.proofs.Signed.{below_zero, pos_less}
 use Rattle.ber_values.proofs.integer.signed_number.Goals as goal

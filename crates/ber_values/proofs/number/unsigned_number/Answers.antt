@@ -1,4 +1,4 @@
-use Rattle.std.proofs.Common.{◌≡◌, ◌*◌, ◌+◌, ◌^◌, ◌<◌, ◌≤◌, take, get_or, arith}
+use Rattle.std.proofs.Common.{◌≡◌, ◌*◌, ◌+◌, take, get_or, arith}
 use Rattle.ber_values.specs.Octets.{number_of}
 use Rattle.ber_values.proofs.Octets.{number_of-more, below_next, below_eight}
 use Rattle.ber_values.proofs.number.unsigned_number.Goals as goal

@@ -1,4 +1,4 @@
-use Rattle.std.proofs.Common.{◌≡◌, ◌++◌, ◌∷◌, [], refl, rules, arith, length}
+use Rattle.std.proofs.Common.{◌≡◌, ◌++◌, ◌∷◌, [], refl, arith}
 use Rattle.bilateral.proofs.Stores.{IsStore-with_point}
 use Rattle.bilateral.proofs.store.Store.add_point.Goals as goal
 

@@ -6,4 +6,4 @@ pub returns : goal.returns
 returns c = λ rows past s.
     rw c.next_count.ensures
     (IsStored-update rows past c.args.self.now.values.items c.args.self.now.counts.items _ _ c.args.who c.args.point c.args.value c.index-2.result.now c.index.result.now
-        (omega (arith, c.requires.values, c.args.self.now.values.ok)) c.index-2.ensures c.index.ensures s)
+    (omega (arith, c.requires.values, c.args.self.now.values.ok)) c.index-2.ensures c.index.ensures s)
