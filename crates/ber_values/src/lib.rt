@@ -26,3 +26,6 @@ pub use laws::{one_reading, written_is_read};
 pub use object_identifier::Oid;
 pub use texts::{read_oid, read_visible, write_oid, write_visible};
 pub use visible_string::{Visible, is_visible};
+
+#[cfg(test)]
+mod tests;
