@@ -178,7 +178,7 @@ impl Store {
         ensures store { OnOk result (IsStore self.new) }
     {
         let (Some(point), Some(layout)) = (self.find_point(name.as_slice()), layout) else {
-            return Ok(());
+            unreachable!();
         };
         self.push_see(See { point, vmd, layout })
     }
