@@ -30,7 +30,7 @@ scenario_refused rows (BadLine line) status missing before after input refused =
 scenario_refused rows Memory status missing before after input refused = absurd cc
 scenario_refused rows Long status (told octets) before after input refused =
     refused (scenario_said rows octets)
-        (ap (λ b. cond b (refused_as (long_line (codes "scenario"))) (played_said (scenario_of rows octets).shown (scenario_of rows octets).bad)) (is_less text_limit (length octets) input))
+    (ap (λ b. cond b (refused_as (long_line (codes "scenario"))) (played_said (scenario_of rows octets).shown (scenario_of rows octets).bad)) (is_less text_limit (length octets) input))
 scenario_refused rows (BadLine line) status (told octets) before after input refused = absurd input
 scenario_refused rows Outside status (told octets) before after input refused = refused (scenario_said rows octets) tt
 scenario_refused rows Memory status (told octets) before after input refused = refused (scenario_said rows octets) tt

@@ -1,5 +1,5 @@
 -- What reading an input gives.
-use Rattle.std.specs.Prelude.{◌≡◌, ℕ, ◌<◌, ◌≤◌, bytes_eq, if◌then◌else◌, List, [], length, Option, Result, Ok, Err, Vec, IsErrAnd, codes}
+use Rattle.std.specs.Prelude.{◌≡◌, ℕ, ◌<◌, ◌≤◌, bytes_eq, if◌then◌else◌, List, length, Result, Ok, Err, Vec, IsErrAnd, codes}
 use Rattle.std.specs.declared.alloc.Global.{Global}
 use Rattle.outside.specs.Faults.{Rose}
 use Rattle.outside.specs.declared.text.TextEnd.TheVariants as text_ends

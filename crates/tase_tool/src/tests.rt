@@ -28,7 +28,11 @@ fn outside_of(
 ) -> Result<MemoryOutside, AllocError> {
     let mut outside = MemoryOutside::new(alloc);
     outside.put_in(alloc, "tables", tables)?;
-    outside.put_in(alloc, "scenario", source_of(alloc, scenario, Vec::new(alloc))?)?;
+    outside.put_in(
+        alloc,
+        "scenario",
+        source_of(alloc, scenario, Vec::new(alloc))?,
+    )?;
     outside.put_out(alloc, "-", output)?;
     Ok(outside)
 }
@@ -93,12 +97,27 @@ fn refuses_words_and_tables(rt: HostRuntime) -> Result<(), Fail> {
         (["replay"].as_slice(), "", Status::Usage, "usage\n"),
         (&["replay", "tables", ""], "", Status::Usage, "usage\n"),
         (&["replay", "-tables", "-"], "", Status::Usage, "usage\n"),
-        (&["play", "tables", "scenario"], "", Status::Usage, "usage\n"),
+        (
+            &["play", "tables", "scenario"],
+            "",
+            Status::Usage,
+            "usage\n",
+        ),
         (&LAWFUL, "", Status::Done, ""),
-        (&LAWFUL, "point A state\n\npoint A state\n", Status::Input, "input tables line 3\n"),
+        (
+            &LAWFUL,
+            "point A state\n\npoint A state\n",
+            Status::Input,
+            "input tables line 3\n",
+        ),
         (&["replay", "nowhere", "scenario"], "", Status::Outside, ""),
         (&["replay", "tables", "nowhere"], "", Status::Outside, ""),
-        (&["replay", "tables", "tables"], "point A state\n", Status::Done, ""),
+        (
+            &["replay", "tables", "tables"],
+            "point A state\n",
+            Status::Done,
+            "",
+        ),
     ] {
         let words = words_of(alloc, texts)?;
         let output = ByteSink::new(alloc, 1000, Vec::new(alloc))?;
@@ -115,7 +134,12 @@ fn answers_faults_outside(rt: HostRuntime) -> Result<(), Fail> {
     let alloc = rt.alloc();
     let scenario = "open 1 A\nsay 1 read DOMA/BUS1\nsay 1 read DOMA/BUS1\n";
     for (first_read_fails, room, status, shown) in [
-        (false, 1000, Status::Done, "reply 1 read b8.30\nreply 1 read b8.30\n"),
+        (
+            false,
+            1000,
+            Status::Done,
+            "reply 1 read b8.30\nreply 1 read b8.30\n",
+        ),
         (true, 1000, Status::Outside, ""),
         (false, 22, Status::Outside, "reply 1 read b8.30\nrep"),
         (false, 0, Status::Outside, ""),
