@@ -1,3 +1,15 @@
 pub mod Visible
 pub mod Bits
 pub mod Oid
+pub mod Faults
+pub mod Octets
+pub mod Reading
+pub mod Tags
+pub mod Heads
+pub mod Contents
+pub mod Numbers
+pub mod Booleans
+pub mod BitContents
+pub mod TextContents
+pub mod Writing
+pub mod Elements

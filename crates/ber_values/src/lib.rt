@@ -2,11 +2,29 @@
 #![tactic(auto)]
 
 mod bit_string;
+mod bits;
+mod boolean;
+mod contents;
+mod fault;
+mod head;
+mod integer;
+mod laws;
+mod number;
 mod object_identifier;
+mod tag;
+mod texts;
 mod visible_string;
+mod writing;
 
 pub use bit_string::BitString;
+pub use bits::{read_bits, write_bits};
+pub use boolean::{read_boolean, write_boolean};
+pub use fault::{BerFault, Span, Why};
+pub use head::{Head, read_head, write_head};
+pub use integer::{read_integer, read_unsigned, write_integer};
+pub use laws::{one_reading, written_is_read};
 pub use object_identifier::Oid;
+pub use texts::{read_oid, read_visible, write_oid, write_visible};
 pub use visible_string::{Visible, is_visible};
 
 #[cfg(test)]

@@ -1,5 +1,5 @@
 -- Components in order: whether one stands twice.
-use Rattle.std.proofs.Common.{◌≡◌, ◌≢◌, ℕ, zero, suc, ◌<◌, Bool, true, false, not, ◌&&◌, ◌||◌, cond, List, [], ◌∷◌, ◌++◌, length, get_or, take, drop, ◌+◌, AllPairs, refl, sym, ap, ◌∙◌, arith, append_assoc}
+use Rattle.std.proofs.Common.{◌≡◌, ◌≢◌, ℕ, ◌<◌, Bool, true, false, not, ◌&&◌, ◌||◌, List, [], ◌∷◌, ◌++◌, length, get_or, take, drop, ◌+◌, AllPairs, refl, sym, ap, ◌∙◌, arith}
 use Rattle.std.specs.List.{list_any}
 use Rattle.std.proofs.lemmas.List.{take-append-drop, drop_more, take_more}
 use Rattle.std.proofs.lemmas.List.Folds.{list_any-append}
@@ -8,6 +8,7 @@ use Rattle.std.proofs.lemmas.Bool.{false≢true, both_ways, and_parts, and_from,
 use Rattle.tase_points.specs.declared.layout.Component.{Component}
 use Rattle.tase_points.specs.declared.layout.Component.TheVariants.{Value, Time, Millis, Flags, Cov}
 use Rattle.tase_points.specs.Layouts.{IsLayout}
+use Rattle.bilateral.proofs.Positions.{list_any-false}
 use Rattle.bilateral.specs.Words.{is_same_component, is_distinct}
 
 pub is_same_component-true : (a b : Component) → is_same_component a b ≡ true → a ≡ b
@@ -52,12 +53,6 @@ is_distinct-again (x ∷ xs) more c there =
     not_distinct (is_same_component x c) (list_any (λ other. is_same_component other c) xs) (list_any (is_same_component x) (xs ++ c ∷ more)) (is_distinct (xs ++ c ∷ more))
     (λ same. list_any-append (is_same_component x) xs (c ∷ more) ∙ or_right (list_any (is_same_component x) xs) _ (or_left (is_same_component x c) _ same))
     (λ later. is_distinct-again xs more c later) there
-
--- no element passes where none does
-list_any-false : (p : Component → Bool) (xs : List Component) (k : ℕ) (d : Component) → list_any p xs ≡ false → k < length xs → p (get_or xs k d) ≡ false
-list_any-false p [] k d none below = absurd (omega arith)
-list_any-false p (x ∷ xs) zero d none below = (or_parts (p x) (list_any p xs) none).0
-list_any-false p (x ∷ xs) (suc k) d none below = list_any-false p xs k d (or_parts (p x) (list_any p xs) none).1 (omega arith)
 
 AllPairs-from_distinct : (components : List Component) → is_distinct components ≡ true → AllPairs (λ a b. a ≢ b) components
 AllPairs-from_distinct [] distinct = λ i j d before below. absurd (omega arith)

@@ -1,3 +1,8 @@
 pub mod Components
 pub mod TitleOctets
 pub mod VisibleWords
+pub mod NameIndexes
+pub mod Positions
+pub mod Taken
+pub mod Grown
+pub mod Stores

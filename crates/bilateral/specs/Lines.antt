@@ -1,5 +1,5 @@
 -- The lines of a table text.
-use Rattle.std.specs.Prelude.{ℕ, Bool, ◌&&◌, if◌then◌else◌, List, [], ◌∷◌, Option, Some, None, option_and_then, bytes_eq, codes}
+use Rattle.std.specs.Prelude.{◌≡◌, ℕ, IsTrue, ◌&&◌, if◌then◌else◌, List, [], ◌∷◌, Option, None, option_and_then, bytes_eq, codes}
 use Rattle.std.specs.Option.{option_map}
 use Rattle.plain_text.specs.Words.{words_in}
 use Rattle.bilateral.specs.declared.line.TableLine.{TableLine}
@@ -31,3 +31,9 @@ line_of (first ∷ more) = if bytes_eq first (codes "point") then point_line mor
 -- what a line says, where it is one of the forms
 abbrev pub line_in : List ℕ → Option TableLine
 line_in line = option_and_then line_of (words_in line)
+
+-- a line's names and identifiers are such, and a new table has no rows
+abbrev pub IsLawful : TableLine → Type 0
+IsLawful (Point point) = IsTrue (is_name point.name)
+IsLawful (Peer table) = IsTrue (is_identifier table.key) × IsTrue (is_identifier table.domain) × IsTrue (is_identifier table.id) × (table.sees ≡ [])
+IsLawful (See name vmd layout) = Unit {0}

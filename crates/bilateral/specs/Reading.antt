@@ -1,5 +1,5 @@
 -- What a table text holds: its lines one after another, up to the first that can't be taken.
-use Rattle.std.specs.Prelude.{ℕ, ◌+◌, ◌-◌, ◌^◌, min, Bool, not, ◌||◌, ◌==◌, nat_le, if◌then◌else◌, is_some, List, [], ◌∷◌, ◌++◌, length, slice_set, Option, Some, None, unwrap_or, Result, Ok, Err, bytes_eq}
+use Rattle.std.specs.Prelude.{ℕ, ◌+◌, ◌-◌, ◌^◌, min, not, ◌||◌, ◌==◌, nat_le, if◌then◌else◌, is_some, List, [], ◌∷◌, ◌++◌, length, slice_set, Option, Some, None, unwrap_or, Result, Ok, Err, bytes_eq}
 use Rattle.std.specs.Option.{option_eq}
 use Rattle.std.specs.List.{list_any}
 use Rattle.std.specs.Str.Lines.{lines}
@@ -45,12 +45,15 @@ row_fault rows (See name vmd layout) = if length rows.tables == 0 then Some Plac
 abbrev pub with_see : Table → rows.See → Table
 with_see table see = record table { sees = table.sees ++ see ∷ [] }
 
+-- the rows with one row more in the last table
+abbrev pub seen_in_last : CentreRows → rows.See → CentreRows
+seen_in_last centre see = record centre { tables = slice_set centre.tables (last_peer centre) (with_see (table_of centre (last_peer centre)) see) }
+
 -- the rows with what a line adds, where they can take it
 abbrev pub with_row : CentreRows → TableLine → CentreRows
 with_row rows (Point point) = record rows { points = rows.points ++ point ∷ [] }
 with_row rows (Peer table) = record rows { tables = rows.tables ++ table ∷ [] }
-with_row rows (See name vmd layout) =
-    record rows { tables = slice_set rows.tables (last_peer rows) (with_see (table_of rows (last_peer rows)) (record { point = unwrap_or (place_of_point rows name) 0; vmd = vmd; layout = unwrap_or layout [] })) }
+with_row rows (See name vmd layout) = seen_in_last rows (record { point = unwrap_or (place_of_point rows name) 0; vmd = vmd; layout = unwrap_or layout [] })
 
 -- the rows after a line that is one of the forms, unless there is a reason against it
 abbrev pub unless : Option TableWhy → CentreRows → Result CentreRows TableWhy

@@ -1,5 +1,5 @@
 -- The words of table lines: names, identifiers, kinds, scopes, layouts and titles.
-use Rattle.std.specs.Prelude.{ℕ, ◌+◌, ◌*◌, ◌/◌, ◌%◌, Bool, true, false, not, ◌&&◌, ◌||◌, ◌==◌, nat_lt, nat_le, nat_eq, if◌then◌else◌, List, [], ◌∷◌, ◌++◌, length, map, drop, Option, Some, None, option_and_then, bytes_eq, codes}
+use Rattle.std.specs.Prelude.{ℕ, ◌+◌, ◌*◌, ◌/◌, ◌%◌, Bool, true, false, not, ◌&&◌, ◌||◌, ◌==◌, nat_lt, nat_le, nat_eq, if◌then◌else◌, List, [], ◌∷◌, ◌++◌, length, map, Option, Some, None, option_and_then, bytes_eq, codes}
 use Rattle.std.specs.Option.{option_map}
 use Rattle.std.specs.List.{slice_split, list_any, list_all, starts_with, ends_with, flat_map}
 use Rattle.std.specs.Char.{is_ascii_alphabetic, is_ascii_alphanumeric}

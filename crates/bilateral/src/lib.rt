@@ -4,10 +4,12 @@
 
 mod centre;
 mod fault;
+mod index;
 mod layouts;
 mod line;
 mod reading;
 mod rows;
+mod store;
 mod titles;
 mod words;
 
@@ -16,3 +18,6 @@ pub use fault::{TableFault, TableWhy};
 pub use line::TableLine;
 pub use reading::read_centre;
 pub use rows::{PointRow, See, Sees, Table};
+
+#[cfg(test)]
+mod tests;

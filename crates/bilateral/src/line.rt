@@ -1,6 +1,6 @@
-ghost use Rattle.std.specs.Prelude.{◌≡◌, IfOk};
+ghost use Rattle.std.specs.Prelude.{◌≡◌, IfOk, IfSome};
 ghost use Rattle.plain_text.specs.Words.{words};
-ghost use Rattle.bilateral.specs.Lines.{line_in, point_line, peer_line, see_line};
+ghost use Rattle.bilateral.specs.Lines.{line_in, point_line, peer_line, see_line, IsLawful};
 
 use crate::layouts::read_layout;
 use crate::rows::{PointRow, Sees, Table};
@@ -28,7 +28,8 @@ pub enum TableLine {
 
 /// Reads a line, or answers `None` where it is none of the forms.
 pub fn read_line(alloc: Global, line: &[u8]) -> Result<Option<TableLine>, AllocError>
-    ensures { IfOk result (λ said. said ≡ line_in line.now) }
+    ensures value { IfOk result (λ said. said ≡ line_in line.now) }
+    ensures lawful { IfOk result (λ said. IfSome said IsLawful) }
 {
     if !is_spaced(line) {
         return Ok(None);
@@ -49,7 +50,8 @@ pub fn read_line(alloc: Global, line: &[u8]) -> Result<Option<TableLine>, AllocE
 
 /// `NAME KIND`.
 fn read_point(alloc: Global, text: &[u8]) -> Result<Option<TableLine>, AllocError>
-    ensures { IfOk result (λ said. said ≡ point_line (words text.now)) }
+    ensures value { IfOk result (λ said. said ≡ point_line (words text.now)) }
+    ensures lawful { IfOk result (λ said. IfSome said IsLawful) }
 {
     let Some((name, kind)) = two_words(text) else {
         return Ok(None);
@@ -66,7 +68,8 @@ fn read_point(alloc: Global, text: &[u8]) -> Result<Option<TableLine>, AllocErro
 
 /// `KEY TITLE DOMAIN ID`.
 fn read_peer(alloc: Global, text: &[u8]) -> Result<Option<TableLine>, AllocError>
-    ensures { IfOk result (λ said. said ≡ peer_line (words text.now)) }
+    ensures value { IfOk result (λ said. said ≡ peer_line (words text.now)) }
+    ensures lawful { IfOk result (λ said. IfSome said IsLawful) }
 {
     let Some((key, title, domain, id)) = four_words(text) else {
         return Ok(None);
@@ -89,7 +92,8 @@ fn read_peer(alloc: Global, text: &[u8]) -> Result<Option<TableLine>, AllocError
 
 /// `NAME SCOPE LAYOUT`.
 fn read_see(alloc: Global, text: &[u8]) -> Result<Option<TableLine>, AllocError>
-    ensures { IfOk result (λ said. said ≡ see_line (words text.now)) }
+    ensures value { IfOk result (λ said. said ≡ see_line (words text.now)) }
+    ensures lawful { IfOk result (λ said. IfSome said IsLawful) }
 {
     let Some((name, scope, layout)) = three_words(text) else {
         return Ok(None);

@@ -12,7 +12,7 @@ pub some_of : {A : Type 0} (o : Option A) → is_some o ≡ true → (x : A) × 
 some_of None e = absurd (false≢true e)
 some_of (Some x) e = (x, refl)
 
-no_see : See
+pub no_see : See
 no_see = record { point = 0; vmd = false; layout = [] }
 
 pub table_is_lawful : (rows : CentreRows) (peer : ℕ) → IsCentre rows → peer < length rows.tables → IsTable (length rows.points) (table_of rows peer)

@@ -16,7 +16,7 @@ use Rattle.bilateral.specs.declared.rows.See.{See}
 use Rattle.bilateral.specs.declared.rows.Table.{Table}
 use Rattle.bilateral.specs.Rows.{CentreRows, IsCentre, no_point, no_table, table_of, point_of, place_of_point, place_of_see}
 use Rattle.tase_views.specs.OwnTable.{OwnPoint, own_point, own_table, is_scope_of, point_named}
-use Rattle.node_core.proofs.Known.{table_is_lawful, bytes_eq-names}
+use Rattle.node_core.proofs.Known.{no_see, table_is_lawful, bytes_eq-names}
 
 -- the first of a mapped list that passes, where the test agrees with one of the list itself
 find-map : {X Y : Type 0} (f : X → Y) (test : Y → Bool) (same : X → Bool) (xs : List X) → All (λ x. test (f x) ≡ same x) xs → find test (map f xs) ≡ option_map f (find same xs)
@@ -134,6 +134,9 @@ named_if false row named own e = e
 pub IfSome-then_some : {X : Type 0} (found : Bool) (x : X) (P : X → Type 0) → P x → IfSome (then_some found x) P
 IfSome-then_some true x P holds = holds
 IfSome-then_some false x P holds = tt
+
+pub place_of_see-within : (table : Table) (p k : ℕ) → place_of_see table p ≡ Some k → k < length table.sees
+place_of_see-within table p k found = (position-Some (λ see. see.point == p) table.sees k no_see found).0
 
 -- a row is of a point that its table names
 pub row_is_named : (table : Table) (p k : ℕ) (see : See) → place_of_see table p ≡ Some k → see ≡ get_or table.sees k see → is_some (place_of_see table see.point) ≡ true

@@ -7,7 +7,7 @@ use Rattle.std.proofs.lemmas.List.{length-replicate, get_or-replicate, length-ma
 use Rattle.std.proofs.lemmas.Option.{slice_get-get_or, slice_get-map, get_or_from_slice_get, same_Some, none-some}
 use Rattle.tase_points.specs.Sample.{Sample}
 use Rattle.tase_points.specs.Values.{unknown_sample, is_change}
-use Rattle.bilateral.specs.Rows.{CentreRows, no_point}
+use Rattle.bilateral.specs.Rows.{CentreRows, IsCentre, no_point}
 use Rattle.tase_views.specs.declared.call.CallKind.{CallKind}
 use Rattle.tase_views.specs.declared.event.EventKind.{EventKind}
 use Rattle.tase_views.specs.declared.event.EventKind.TheVariants.{Open, Request, Update}
@@ -33,13 +33,15 @@ slice_get-set_other xs p q y apart within =
 
 -- an empty history
 pub IsStored-new : (rows : CentreRows) (values : List Sample) (counts opens : List ℕ) (found : ℕ → Option Key)
+    → IsCentre rows
     → values ≡ map (λ row. unknown_sample row.kind) rows.points
     → counts ≡ replicate (length rows.points) 0
     → opens ≡ replicate (length rows.tables) 0
     → ((who : ℕ) → found who ≡ None)
     → IsStored rows [] values counts opens found
-IsStored-new rows values counts opens found values_are counts_are opens_are none =
+IsStored-new rows values counts opens found lawful values_are counts_are opens_are none =
     record {
+      lawful = lawful;
       value_count = ap length values_are ∙ length-map rows.points (λ row. unknown_sample row.kind);
       count_count = ap length counts_are ∙ length-replicate (length rows.points) 0;
       open_count = ap length opens_are ∙ length-replicate (length rows.tables) 0;
@@ -56,6 +58,7 @@ pub IsStored-found : (rows : CentreRows) (past : Past) (values : List Sample) (c
     → ((who : ℕ) → after who ≡ found who) → IsStored rows past values counts opens found → IsStored rows past values counts opens after
 IsStored-found rows past values counts opens found after same s =
     record {
+      lawful = s.lawful;
       value_count = s.value_count;
       count_count = s.count_count;
       open_count = s.open_count;
@@ -71,6 +74,7 @@ pub IsStored-request : (rows : CentreRows) (past : Past) (values : List Sample) 
     → IsStored rows past values counts opens found → IsStored rows (record { who = who; event = Request call } ∷ past) values counts opens found
 IsStored-request rows past values counts opens found who call s =
     record {
+      lawful = s.lawful;
       value_count = s.value_count;
       count_count = s.count_count;
       open_count = s.open_count;
@@ -81,36 +85,28 @@ IsStored-request rows past values counts opens found who call s =
       known = s.known;
     }
 
--- the counts after an update of the point p
-abbrev pub counts_after : List ℕ → ℕ → ℕ → Bool → List ℕ
-counts_after counts p count change = if change then set counts p ((count + 1) % 65536) else counts
+-- a count after an update
+abbrev pub count_after : ℕ → Bool → ℕ
+count_after count change = if change then (count + 1) % 65536 else count
 
-counted_here : (counts : List ℕ) (p q total : ℕ) (change : Bool) → p ≡ q → p < length counts → slice_get counts p ≡ Some (total % 65536)
-    → slice_get (counts_after counts p (total % 65536) change) q ≡ Some (((if change then 1 else 0) + total) % 65536)
-counted_here counts p q total true same within was =
-    slice_get-set_here counts p q ((total % 65536 + 1) % 65536) same within ∙ ap Some (omega arith)
-counted_here counts p q total false same within was = rw (← same) (was ∙ ap (λ n. Some (n % 65536)) (sym (zero-add total)))
+count_after-total : (total : ℕ) (change : Bool) → count_after (total % 65536) change ≡ ((if change then 1 else 0) + total) % 65536
+count_after-total total true = omega arith
+count_after-total total false = ap (λ n. n % 65536) (sym (zero-add total))
 
-counted_other : (counts : List ℕ) (p q count total : ℕ) (change : Bool) → q ≢ p → q < length counts → slice_get counts q ≡ Some (total % 65536)
-    → slice_get (counts_after counts p count change) q ≡ Some ((0 + total) % 65536)
-counted_other counts p q count total true apart within was = slice_get-set_other counts p q ((count + 1) % 65536) apart within ∙ was ∙ ap (λ n. Some (n % 65536)) (sym (zero-add total))
-counted_other counts p q count total false apart within was = was ∙ ap (λ n. Some (n % 65536)) (sym (zero-add total))
-
-length-counts_after : (counts : List ℕ) (p count : ℕ) (change : Bool) → length (counts_after counts p count change) ≡ length counts
-length-counts_after counts p count true = length-set counts p ((count + 1) % 65536)
-length-counts_after counts p count false = refl
-
-pub IsStored-update : (rows : CentreRows) (past : Past) (values : List Sample) (counts opens : List ℕ) (found : ℕ → Option Key) (who p : ℕ) (value : Sample)
-    → p < length values
+-- an update of a point, by what is kept of it
+pub IsStored-update : (rows : CentreRows) (past : Past) (values : List Sample) (counts opens : List ℕ) (found : ℕ → Option Key) (who p : ℕ) (value old : Sample) (count : ℕ)
+    → p < length values → old ≡ get_or values p old → count ≡ get_or counts p count
     → IsStored rows past values counts opens found
-    → IsStored rows (record { who = who; event = Update p value } ∷ past) (set values p value)
-    (counts_after counts p (change_total rows past p % 65536) (is_change (last_value rows past p) value)) opens found
-IsStored-update rows past values counts opens found who p value within s =
+    → IsStored rows (record { who = who; event = Update p value } ∷ past) (set values p value) (set counts p (count_after count (is_change old value))) opens found
+IsStored-update rows past values counts opens found who p value old count within old_is count_is s =
     let values_length : length values ≡ length rows.points = s.value_count in
     let counts_length : length counts ≡ length rows.points = s.count_count in
+    let last_is : old ≡ last_value rows past p = old_is ∙ get_or_from_slice_get values p (last_value rows past p) old (s.last p (omega arith)) in
+    let total_is : count ≡ change_total rows past p % 65536 = count_is ∙ get_or_from_slice_get counts p (change_total rows past p % 65536) count (s.changed p (omega arith)) in
     record {
+      lawful = s.lawful;
       value_count = length-set values p value ∙ s.value_count;
-      count_count = length-counts_after counts p _ (is_change (last_value rows past p) value) ∙ s.count_count;
+      count_count = length-set counts p _ ∙ s.count_count;
       open_count = s.open_count;
       last = λ q there.
           ⊎_elim
@@ -119,38 +115,17 @@ IsStored-update rows past values counts opens found who p value within s =
           (cases_eq p q);
       changed = λ q there.
           ⊎_elim
-          (λ same. rw (eq-eqb p q same, ← same) (counted_here counts p p (change_total rows past p) (is_change (last_value rows past p) value) refl (omega arith) (s.changed p (omega arith))))
-          (λ apart. rw (ne_eqb p q apart) (counted_other counts p q (change_total rows past p % 65536) (change_total rows past q) (is_change (last_value rows past p) value) (λ e. apart (sym e)) (omega arith) (s.changed q there)))
+          (λ same.
+          rw (eq-eqb p q same, ← same)
+          (slice_get-set_here counts p p _ refl (omega arith) ∙ ap Some (rw (total_is, last_is) (count_after-total (change_total rows past p) (is_change (last_value rows past p) value)))))
+          (λ apart.
+          rw (ne_eqb p q apart)
+          (slice_get-set_other counts p q _ (λ e. apart (sym e)) (omega arith) ∙ s.changed q there ∙ ap (λ n. Some (n % 65536)) (sym (zero-add (change_total rows past q)))))
           (cases_eq p q);
       opened = λ q there. s.opened q there ∙ ap Some (sym (zero-add (opens_in past q)));
       seated = λ asked. elim (who == asked) as (λ b. found asked ≡ (if b then association_in past asked else association_in past asked)) [ true ↦ s.seated asked | false ↦ s.seated asked ];
       known = s.known;
     }
-
--- the same by what the lists have there: a change
-pub IsStored-changed : (rows : CentreRows) (past : Past) (values : List Sample) (counts opens : List ℕ) (found : ℕ → Option Key) (who p : ℕ) (value old : Sample) (count : ℕ)
-    → p < length values → old ≡ get_or values p old → count ≡ get_or counts p count → is_change old value ≡ true
-    → IsStored rows past values counts opens found
-    → IsStored rows (record { who = who; event = Update p value } ∷ past) (set values p value) (set counts p ((count + 1) % 65536)) opens found
-IsStored-changed rows past values counts opens found who p value old count within old_is count_is change s =
-    let values_length : length values ≡ length rows.points = s.value_count in
-    let last_is : old ≡ last_value rows past p = old_is ∙ get_or_from_slice_get values p (last_value rows past p) old (s.last p (omega arith)) in
-    let count_here : count ≡ change_total rows past p % 65536 = count_is ∙ get_or_from_slice_get counts p (change_total rows past p % 65536) count (s.changed p (omega arith)) in
-    let changed : is_change (last_value rows past p) value ≡ true = rw (← last_is) change in
-    let stored = IsStored-update rows past values counts opens found who p value within s in
-    rw count_here (rw changed at stored)
-
--- and none
-pub IsStored-kept : (rows : CentreRows) (past : Past) (values : List Sample) (counts opens : List ℕ) (found : ℕ → Option Key) (who p : ℕ) (value old : Sample)
-    → p < length values → old ≡ get_or values p old → is_change old value ≡ false
-    → IsStored rows past values counts opens found
-    → IsStored rows (record { who = who; event = Update p value } ∷ past) (set values p value) counts opens found
-IsStored-kept rows past values counts opens found who p value old within old_is change s =
-    let values_length : length values ≡ length rows.points = s.value_count in
-    let last_is : old ≡ last_value rows past p = old_is ∙ get_or_from_slice_get values p (last_value rows past p) old (s.last p (omega arith)) in
-    let kept : is_change (last_value rows past p) value ≡ false = rw (← last_is) change in
-    let stored = IsStored-update rows past values counts opens found who p value within s in
-    rw kept at stored
 
 pub opens-at : (rows : CentreRows) (past : Past) (values : List Sample) (counts opens : List ℕ) (found : ℕ → Option Key) (peer : ℕ)
     → peer < length rows.tables → IsStored rows past values counts opens found → get_or opens peer 0 ≡ opens_in past peer
@@ -172,6 +147,7 @@ IsStored-open rows past values counts opens found after who peer within seated s
     let opens_length : length opens ≡ length rows.tables = s.open_count in
     let before : get_or opens peer 0 ≡ opens_in past peer = opens-at rows past values counts opens found peer (omega arith) s in
     record {
+      lawful = s.lawful;
       value_count = s.value_count;
       count_count = s.count_count;
       open_count = length-set opens peer _ ∙ s.open_count;

@@ -2,14 +2,15 @@
 use Rattle.std.specs.Prelude.{◌≡◌, ℕ, ◌<◌, ◌%◌, List, length, Option, Some, slice_get, nat_eq}
 use Rattle.std.specs.HashMap.{get}
 use Rattle.tase_points.specs.Sample.{Sample}
-use Rattle.bilateral.specs.Rows.{CentreRows}
+use Rattle.bilateral.specs.Rows.{CentreRows, IsCentre}
 use Rattle.tase_views.specs.declared.reply.Key.{Key}
 use Rattle.tase_views.specs.History.{Past, opens_in, association_in}
 use Rattle.node_core.specs.declared.store.Store.{Store}
 use Rattle.node_core.specs.LastValues.{last_value, change_total}
 
--- each point's value and count of changes, each peer's count of opens, and each seat's association are those of this past
+-- the centre is lawful; each point's value and count of changes, each peer's count of opens, and each seat's association are those of this past
 pub record IsStored (rows : CentreRows) (past : Past) (values : List Sample) (counts opens : List ℕ) (found : ℕ → Option Key) : Type 0 where
+  pub lawful : IsCentre rows
   pub value_count : length values ≡ length rows.points
   pub count_count : length counts ≡ length rows.points
   pub open_count : length opens ≡ length rows.tables

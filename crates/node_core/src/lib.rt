@@ -6,3 +6,6 @@ mod node;
 mod store;
 
 pub use node::Node;
+
+#[cfg(test)]
+mod tests;

@@ -10,12 +10,12 @@ use tase_points::PointValue;
 
 /// The row of a peer's table that a name stands for.
 pub fn find_named<'a>(centre: &'a Centre, peer: u32, name: &Name) -> Option<&'a See>
-    requires { peer < length centre.now.tables }
+    requires known { peer < length centre.now.tables }
+    requires lawful { IsCentre centre.now }
     ensures named { MatchOption result
         (point_named (own_table centre.now peer) name.now ≡ None)
         (λ see. point_named (own_table centre.now peer) name.now ≡ Some (own_point centre.now see.now)) }
     ensures seen { IfSome result (λ see. is_some (place_of_see (table_of centre.now peer) see.now.point) ≡ true) }
-    ensures lawful { IsCentre centre.now }
 {
     let point = centre.find_point(name.item().as_slice())?;
     let place = centre.find_see(peer, point)?;

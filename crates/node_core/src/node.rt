@@ -1,6 +1,5 @@
 ghost use Rattle.std.specs.Prelude.{◌≡◌, ◌<◌, ◌≤◌, ◌^◌, [], length, reverse, slice_get, None, IfOk, IfErr, OnOk, OnErr};
 ghost use Rattle.std.specs.Arc.{arc_value};
-ghost use Rattle.bilateral.specs.Rows.{table_of, place_of_see};
 ghost use Rattle.tase_views.specs.declared.call.CallKind.{CallKind as AnyCall};
 ghost use Rattle.tase_views.specs.declared.event.EventKind.TheVariants.{Request, Update, Open};
 ghost use Rattle.tase_views.specs.OwnTable.{own_table};

@@ -1,5 +1,5 @@
-ghost use Rattle.std.specs.Prelude.{◌≡◌, ◌+◌, ◌%◌, ◌^◌, ◌<◌, [], ◌∷◌, map, slice_get, slice_index, IfOk, OnErr, vec_len};
-ghost use Rattle.tase_points.specs.Values.{unknown_sample};
+ghost use Rattle.std.specs.Prelude.{if◌then◌else◌, ◌≡◌, ◌+◌, ◌%◌, ◌^◌, ◌<◌, [], ◌∷◌, map, slice_get, slice_index, IfOk, OnErr, vec_len};
+ghost use Rattle.tase_points.specs.Values.{is_change, unknown_sample};
 ghost use Rattle.bilateral.specs.Rows.{CentreRows};
 ghost use Rattle.tase_views.specs.declared.event.EventKind.TheVariants.{Open, Update};
 ghost use Rattle.tase_views.specs.History.{Past, association_in};
@@ -89,9 +89,7 @@ impl Store {
             → Keeps rows (record { who = who; event = Update point value } ∷ past) self.new }
     {
         let place = point as usize;
-        if changes(&self.values[place], &value) {
-            self.counts[place] = self.counts[place].wrapping_add(1);
-        }
+        self.counts[place] = next_count(self.counts[place], &self.values[place], &value);
         self.values[place] = value;
     }
 }
@@ -104,4 +102,15 @@ fn unknown_values(alloc: Global, centre: &Centre) -> Result<Vec<PointValue>, All
         values.push(unknown(centre.point(point).kind))?;
     }
     Ok(values)
+}
+
+/// The count of changes after a new value, modulo 65,536.
+fn next_count(count: u16, old: &PointValue, new: &PointValue) -> u16
+    ensures { result ≡ (if is_change old.now new.now then (count + 1) % 65536 else count) }
+{
+    if changes(old, new) {
+        count.wrapping_add(1)
+    } else {
+        count
+    }
 }

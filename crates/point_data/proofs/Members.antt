@@ -1,5 +1,5 @@
 -- Where a value that is shown in a layout has its components.
-use Rattle.std.proofs.Common.{◌≡◌, ℕ, zero, suc, List, [], ◌∷◌, Option, Some, None, map, option_map, refl, sym, ap, ◌∙◌, length, ◌≢◌, arith, ◌+◌, ◌<◌, ◌++◌, take, get_or, Bor, IfSome, IfNone}
+use Rattle.std.proofs.Common.{◌≡◌, ℕ, zero, suc, List, [], ◌∷◌, Option, Some, None, map, option_map, refl, sym, ap, ◌∙◌, length, ◌≢◌, arith, ◌+◌, ◌<◌, take, get_or, Bor, IfSome, IfNone}
 use Rattle.std.specs.List.{slice_get, Contains}
 use Rattle.std.specs.Option.{option_copied}
 use Rattle.std.proofs.lemmas.List.{map_more, take_more}

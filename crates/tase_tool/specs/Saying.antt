@@ -1,11 +1,11 @@
 -- What a command says: its status and what it prints, from the octets of its inputs.
-use Rattle.std.specs.Prelude.{ℕ, nat_lt, if◌then◌else◌, List, [], ◌∷◌, ◌++◌, length, Option, Some, None, Result, Ok, Err, option_map, codes, decimal, bytes_eq}
+use Rattle.std.specs.Prelude.{ℕ, nat_lt, if◌then◌else◌, List, [], ◌∷◌, ◌++◌, length, Option, Some, None, Result, Ok, Err, codes, decimal, bytes_eq}
 use Rattle.bilateral.specs.Rows.{CentreRows}
 use Rattle.bilateral.specs.Reading.{centre_in}
 use Rattle.bilateral.specs.declared.fault.TableFault.{TableFault}
-use Rattle.tase_replay.specs.Play.{Played, scenario_of}
+use Rattle.tase_replay.specs.Play.{scenario_of}
 use Rattle.tase_tool.specs.declared.status.Status.{Status}
-use Rattle.tase_tool.specs.declared.status.Status.TheVariants.{Done, Usage, Input}
+use Rattle.tase_tool.specs.declared.status.Status.TheVariants.{Done, Usage, Input, Outside}
 
 -- a status, and the octets that standard output takes
 pub record Said : Type 0 where
@@ -45,17 +45,31 @@ scenario_said rows text =
     if nat_lt text_limit (length text) then record { status = Input; text = long_line (codes "scenario") }
     else played_said (scenario_of rows text).shown (scenario_of rows text).bad
 
--- over these tables, where the scenario's octets are told
-abbrev pub said_over : Result CentreRows (List ℕ) → Option (List ℕ) → Option Said
+-- what is told of an input: nothing, that it isn't there, or its octets
+pub data Text : Type 0 where
+  untold : Text
+  missing : Text
+  told : List ℕ → Text
+
+-- the text when its octets were read
+abbrev pub emptied : Text → Text
+emptied untold = untold
+emptied missing = missing
+emptied (told octets) = told []
+
+-- what is said of an input's octets, where they are told; without the input a fault outside, and nothing is printed
+abbrev pub said_of : (List ℕ → Option Said) → Text → Option Said
+said_of say untold = None
+said_of say missing = Some (record { status = Outside; text = [] })
+said_of say (told octets) = say octets
+
+-- over these tables
+abbrev pub said_over : Result CentreRows (List ℕ) → Text → Option Said
 said_over (Err refusal) scenario = Some (record { status = Input; text = refusal })
-said_over (Ok rows) scenario = option_map (scenario_said rows) scenario
+said_over (Ok rows) scenario = said_of (λ octets. Some (scenario_said rows octets)) scenario
 
--- where the octets are told
-abbrev pub said_of_texts : Option (List ℕ) → Option (List ℕ) → Option Said
-said_of_texts None scenario = None
-said_of_texts (Some tables) scenario = said_over (tables_said tables) scenario
-
--- what the command of these words says: `texts` tells the octets under the first name, and then those under the second
-abbrev pub said_by : Option (List ℕ × List ℕ) → (List ℕ → Option (List ℕ)) → Option Said
+-- what the command of these words says: `texts` is what is told under the first name, and then under the second
+abbrev pub said_by : Option (List ℕ × List ℕ) → (List ℕ → Text) → Option Said
 said_by None texts = Some usage
-said_by (Some names) texts = said_of_texts (texts names.0) (if bytes_eq names.0 names.1 then option_map (λ _. []) (texts names.0) else texts names.1)
+said_by (Some names) texts =
+    said_of (λ octets. said_over (tables_said octets) (if bytes_eq names.0 names.1 then emptied (texts names.0) else texts names.1)) (texts names.0)

@@ -1,3 +1,6 @@
+//! How a command ended.
+ghost use Rattle.std.specs.Prelude.{◌≡◌};
+
 use std::process::ExitCode;
 
 /// How a command ended; its number is the exit status of the program.
@@ -16,8 +19,12 @@ pub enum Status {
 }
 
 impl Status {
+    ghost use Rattle.tase_tool.specs.Runs.{code_of};
+
     /// The exit status.
-    pub fn code(self) -> u8 {
+    pub fn code(self) -> u8
+        ensures { result ≡ code_of self }
+    {
         match self {
             Status::Done => 0,
             Status::Usage => 2,
@@ -29,6 +36,11 @@ impl Status {
 }
 
 impl From<Status> for ExitCode {
+    ghost use Rattle.std.specs.Process.{exit_status};
+    ghost use Rattle.tase_tool.specs.Runs.{code_of};
+
+    ghost from_gives = { λ status code. exit_status code ≡ code_of status };
+
     fn from(status: Status) -> ExitCode {
         ExitCode::from(status.code())
     }

@@ -1,6 +1,6 @@
 -- Outcomes and replies as data that a proof can tell apart.
-use Rattle.std.specs.Prelude.{◌≡◌, ℕ, ◌⊎◌, List, refl}
-use Rattle.std.specs.Coded.{Coded, code_by, coded⊎, coded_ℕ, coded_list}
+use Rattle.std.specs.Prelude.{◌≡◌, ℕ, ◌⊎◌, refl}
+use Rattle.std.specs.Coded.{Coded, code_by, coded⊎, coded_ℕ}
 use Rattle.std.proofs.Common.{inl, inr}
 use Rattle.mms_data.specs.Datum.{Datum}
 use Rattle.mms_data.specs.DatumCode.{datum_code}

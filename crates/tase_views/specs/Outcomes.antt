@@ -1,5 +1,5 @@
 -- When a node may answer an event so: each refusal exactly where its cause holds, and the right answer elsewhere.
-use Rattle.std.specs.Prelude.{◌≡◌, ℕ, Bool, ◌&&◌, ◌==◌, nat_lt, if◌then◌else◌, List, ◌∷◌, length, Option, Some, None, is_some, Result, Ok, Err}
+use Rattle.std.specs.Prelude.{◌≡◌, ℕ, Bool, ◌&&◌, ◌==◌, nat_lt, if◌then◌else◌, ◌∷◌, length, Option, Some, None, is_some, Result, Ok, Err}
 use Rattle.tase_points.specs.declared.kind.Kind.{Kind}
 use Rattle.tase_points.specs.declared.kind.Kind.TheVariants.{State, Discrete, Real}
 use Rattle.tase_points.specs.Points.{kind_of}
@@ -7,7 +7,6 @@ use Rattle.tase_points.specs.Sample.{Sample}
 use Rattle.bilateral.specs.Rows.{CentreRows, point_of}
 use Rattle.tase_views.specs.declared.event.EventKind.{EventKind}
 use Rattle.tase_views.specs.declared.event.EventKind.TheVariants.{Open, Request, Update}
-use Rattle.tase_views.specs.declared.event.Entry.{Entry}
 use Rattle.tase_views.specs.declared.reply.Answer.{Answer}
 use Rattle.tase_views.specs.declared.reply.Answer.TheVariants.{Opened, Reply, Noted}
 use Rattle.tase_views.specs.declared.reply.Key.{Key}

@@ -1,5 +1,4 @@
-use Rattle.std.proofs.Common.{arith, sym, rules}
-use Rattle.tase_points.specs.declared.layout.Component.TheVariants.{Value}
+use Rattle.std.proofs.Common.{sym}
 use Rattle.bilateral.proofs.Components.{is_distinct-at, is_distinct-take}
 use Rattle.bilateral.proofs.layouts.is_distinct.Goals as goal
 

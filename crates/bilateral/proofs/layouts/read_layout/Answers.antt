@@ -1,5 +1,4 @@
-use Rattle.std.proofs.Common.{◌≡◌, ◌<◌, arith, sym, rules, ap, ◌∙◌, length, true}
-use Rattle.std.proofs.lemmas.Grind.{common_steps}
+use Rattle.std.proofs.Common.{◌<◌, sym, ap, ◌∙◌, length}
 use Rattle.bilateral.specs.Words.{is_distinct}
 use Rattle.bilateral.proofs.Components.{IsLayout-from_distinct}
 use Rattle.bilateral.proofs.layouts.read_layout.Goals as goal

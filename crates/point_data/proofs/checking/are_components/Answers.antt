@@ -1,4 +1,4 @@
-use Rattle.std.proofs.Common.{◌≡◌, ◌∙◌, sym, ap, refl, arith}
+use Rattle.std.proofs.Common.{◌∙◌, sym, ap, refl, arith}
 use Rattle.std.specs.Option.{option_copied}
 use Rattle.point_data.specs.Shown.{shown_component}
 use Rattle.point_data.proofs.Members.{components_more}

@@ -1,4 +1,4 @@
-use Rattle.std.proofs.Common.{◌≡◌, ◌∙◌, List, true, false, sym, ap, subst, refl, arith, rules}
+use Rattle.std.proofs.Common.{◌≡◌, ◌∙◌, List, true, false, ap, subst, refl, arith, rules}
 use Rattle.tase_points.specs.declared.layout.Component.{Component}
 use Rattle.tase_points.specs.Sample.{Sample}
 use Rattle.point_data.specs.Bare.{IsBare}

@@ -1,0 +1,119 @@
+//! Integers, ASN.1's `INTEGER` (ISO 8825-1, 8.3).
+ghost use Rattle.std.specs.Prelude.{◌≡◌, ◌≢◌, ℕ, ℤ, ◌%◌, ◌≤◌, ◌<◌, ◌↔◌, ◌++◌, take, length, IfOk, OnOk, OnErr};
+ghost use Rattle.ber_values.specs.declared.fault.BerFault.{BerFault};
+ghost use Rattle.ber_values.specs.Numbers.{twos_complement, SpellsInteger, IntegerFault, integer_in, SpellsUnsigned, UnsignedFault, unsigned_in};
+ghost use Rattle.ber_values.specs.Contents.{contents_of, IsContents};
+ghost use Rattle.ber_values.specs.Writing.{number_size, integer_size, integer_octets, written};
+
+use crate::contents::{length_fault, value_fault};
+use crate::fault::BerFault;
+use crate::head::Head;
+use crate::number::unsigned_number;
+use crate::writing::{or_undo, put_head, put_number};
+use std::alloc::AllocError;
+
+/// The number that one to eight octets are in two's complement.
+fn signed_number(octets: &[u8]) -> i64
+    requires some { 0 < length octets.now }
+    requires few { length octets.now ≤ 8 }
+    ensures { result ≡ twos_complement octets.now }
+{
+    let number = unsigned_number(octets);
+    if octets[0] < 128 {
+        number as i64
+    } else {
+        let below = (u64::MAX >> (64 - 8 * octets.len() as u32)) - number;
+        -1 - below as i64
+    }
+}
+
+fn integer_from(bytes: &[u8], head: &Head) -> Result<i64, BerFault>
+    requires { IsContents bytes.now head.now }
+    ensures { result ≡ integer_in head.now (contents_of bytes.now head.now) }
+{
+    let contents = &bytes[head.body..head.end];
+    match contents.len() {
+        1..=8 => Ok(signed_number(contents)),
+        _ => Err(length_fault(head)),
+    }
+}
+
+/// The integer in the contents of the element with this head, which `read_head` gave: one to
+/// eight octets.
+pub fn read_integer(bytes: &[u8], head: &Head) -> Result<i64, BerFault>
+    requires { IsContents bytes.now head.now }
+    ensures found { IfOk result (λ value. SpellsInteger value (contents_of bytes.now head.now)) }
+    ensures only { (value : ℤ) → SpellsInteger value (contents_of bytes.now head.now) → result ≡ Ok value }
+    ensures fault { (fault : BerFault) → (result ≡ Err fault) ↔ IntegerFault head.now (contents_of bytes.now head.now) fault }
+    ensures exact { result ≡ integer_in head.now (contents_of bytes.now head.now) }
+{
+    integer_from(bytes, head)
+}
+
+fn unsigned_from(bytes: &[u8], head: &Head) -> Result<u32, BerFault>
+    requires { IsContents bytes.now head.now }
+    ensures { result ≡ unsigned_in head.now (contents_of bytes.now head.now) }
+{
+    let value = integer_from(bytes, head)?;
+    if 0 <= value && value <= 0xFFFF_FFFF {
+        Ok(value as u32)
+    } else {
+        Err(value_fault(head))
+    }
+}
+
+/// The integer in the contents of the element with this head, where it is from 0 to 2^32 - 1.
+pub fn read_unsigned(bytes: &[u8], head: &Head) -> Result<u32, BerFault>
+    requires { IsContents bytes.now head.now }
+    ensures found { IfOk result (λ value. SpellsUnsigned value (contents_of bytes.now head.now)) }
+    ensures only { (value : ℕ) → SpellsUnsigned value (contents_of bytes.now head.now) → result ≡ Ok value }
+    ensures fault { (fault : BerFault) → (result ≡ Err fault) ↔ UnsignedFault head.now (contents_of bytes.now head.now) fault }
+    ensures exact { result ≡ unsigned_in head.now (contents_of bytes.now head.now) }
+{
+    unsigned_from(bytes, head)
+}
+
+fn size_of_number(number: u64) -> usize
+    ensures { result ≡ number_size number }
+{
+    match number {
+        0..0x80 => 1,
+        0x80..0x8000 => 2,
+        0x8000..0x80_0000 => 3,
+        0x80_0000..0x8000_0000 => 4,
+        0x8000_0000..0x80_0000_0000 => 5,
+        0x80_0000_0000..0x8000_0000_0000 => 6,
+        0x8000_0000_0000..0x80_0000_0000_0000 => 7,
+        _ => 8,
+    }
+}
+
+fn size_of_integer(value: i64) -> usize
+    ensures { result ≡ integer_size value }
+{
+    if value < 0 {
+        size_of_number((-1 - value) as u64)
+    } else {
+        size_of_number(value as u64)
+    }
+}
+
+fn put_integer(out: &mut Vec<u8>, tag: u8, value: i64) -> Result<(), AllocError>
+    ensures ok { OnOk result (out.new.items ≡ out.old.items ++ written tag (integer_octets value)) }
+    ensures err { OnErr result (take (length out.old.items) out.new.items ≡ out.old.items) }
+{
+    let size = size_of_integer(value);
+    put_head(out, tag, size)?;
+    put_number(out, value.cast_unsigned(), size)
+}
+
+/// Appends an integer in the shortest form.
+pub fn write_integer(out: &mut Vec<u8>, tag: u8, value: i64) -> Result<(), AllocError>
+    requires { tag % 32 ≢ 31 }
+    ensures ok { OnOk result (out.new.items ≡ out.old.items ++ written tag (integer_octets value)) }
+    ensures err { OnErr result (out.new.items ≡ out.old.items) }
+{
+    let mark = out.len();
+    let done = put_integer(out, tag, value);
+    or_undo(out, mark, done)
+}

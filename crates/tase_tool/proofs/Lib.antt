@@ -1,0 +1,3 @@
+mod Exchanged
+mod Saids
+mod Refusals
