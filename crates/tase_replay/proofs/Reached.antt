@@ -1,6 +1,5 @@
 -- How far a play has come, and how a line takes it further or ends it.
-use Rattle.std.proofs.Common.{◌≡◌, ℕ, List, [], ◌++◌, Option, None, refl, sym, ap, ◌∙◌, subst, append_assoc}
-use Rattle.std.proofs.lemmas.List.{append-nil}
+use Rattle.std.proofs.Common.{◌≡◌, ℕ, List, ◌++◌, Option, refl, sym, ap, ◌∙◌, subst, append_assoc}
 use Rattle.bilateral.specs.Rows.{CentreRows}
 use Rattle.tase_views.specs.History.{Past}
 use Rattle.tase_replay.specs.declared.playing.ReplayEnd.{ReplayEnd}
@@ -9,17 +8,13 @@ use Rattle.outside.specs.Sink.{AppendsAll, AppendsPart}
 use Rattle.tase_replay.specs.Play.{Line, Played, with_shown, play_line, play_alone}
 use Rattle.tase_replay.specs.Ends.{IsOnTheWay, IsPlayed}
 use Rattle.tase_replay.proofs.Pasts.{IsOnTheWay-then, play-more, play-bad, play-front}
-use Rattle.tase_replay.proofs.Shown.{AppendsAll-none, AppendsAll-append, AppendsPart-append, AppendsPart-front}
+use Rattle.tase_replay.proofs.Shown.{AppendsAll-append, AppendsPart-append, AppendsPart-front}
 
 -- what was shown, and then what the rest shows, is what all shows
 pub record Reached (all rest : Played) (before now : Option (List ℕ)) : Type 0 where
   pub shown : List ℕ
   pub whole : all ≡ with_shown shown rest
   pub sink : AppendsAll before now shown
-
--- at the first line nothing was shown
-pub Reached-first : (all : Played) (sink : Option (List ℕ)) → Reached all all sink sink
-Reached-first all sink = record { shown = []; whole = refl; sink = AppendsAll-none sink }
 
 with_shown-with_shown : (a b : List ℕ) (played : Played) → with_shown a (with_shown b played) ≡ with_shown (a ++ b) played
 with_shown-with_shown a b played = ap (λ (s : List ℕ). let p : Played = record { past = played.past; shown = s; bad = played.bad } in p) (sym (append_assoc a b played.shown))
@@ -71,11 +66,3 @@ Reached-last rows past after_line number line rest all before now after SinkFaul
     Reached-part rows past after_line number line rest all before now after keeps reached played
 Reached-last rows past after_line number line rest all before now after Memory other keeps reached played =
     Reached-part rows past after_line number line rest all before now after keeps reached played
-
--- where no line is left, all was played
-pub Reached-done : (all : Played) (past : Past) (before now : Option (List ℕ)) → Reached all (record { past = past; shown = []; bad = None }) before now → IsPlayed all past before now Done
-Reached-done all past before now reached = (
-  ap (λ p. p.bad) reached.whole,
-  sym (ap (λ p. p.past) reached.whole),
-  subst (λ (s : List ℕ). AppendsAll before now s) (sym (ap (λ p. p.shown) reached.whole ∙ append-nil reached.shown)) reached.sink,
-)

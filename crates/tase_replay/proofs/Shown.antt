@@ -1,5 +1,5 @@
 -- What a sink has taken, as texts are shown one after another.
-use Rattle.std.proofs.Common.{◌≡◌, ℕ, ◌+◌, ◌≤◌, min, List, [], ◌++◌, length, take, Option, Some, None, sym, ap, ◌∙◌, subst, append_assoc, refl, arith}
+use Rattle.std.proofs.Common.{◌≡◌, ℕ, ◌+◌, ◌≤◌, min, List, ◌++◌, length, take, Option, Some, None, sym, ap, ◌∙◌, subst, append_assoc, refl, arith}
 use Rattle.std.proofs.lemmas.List.{append-nil, take_min, take-append-le}
 use Rattle.std.proofs.Math.Seq.{take-append-add}
 use Rattle.outside.specs.Sink.{AppendsAll, AppendsPart}
@@ -8,11 +8,6 @@ use Rattle.outside.specs.Sink.{AppendsAll, AppendsPart}
 pub AppendsPart-none : (sink : Option (List ℕ)) (bytes : List ℕ) → AppendsPart sink sink bytes
 AppendsPart-none None bytes = refl
 AppendsPart-none (Some octets) bytes = (0, ap Some (sym (append-nil octets)))
-
--- and all of an empty text
-pub AppendsAll-none : (sink : Option (List ℕ)) → AppendsAll sink sink []
-AppendsAll-none None = refl
-AppendsAll-none (Some octets) = ap Some (sym (append-nil octets))
 
 -- a text and then another
 pub AppendsAll-append : (before now after : Option (List ℕ)) (first next : List ℕ) → AppendsAll before now first → AppendsAll now after next → AppendsAll before after (first ++ next)
