@@ -2,9 +2,11 @@
 use Rattle.std.proofs.Common.{◌≡◌, ℕ, ◌<◌, true, List, length, Option, Some, None, cond, ltb, refl, sym, ◌∙◌, ap, subst, arith}
 use Rattle.std.specs.Prelude.{IfSome, Ok, Err, bytes_eq, if◌then◌else◌, codes}
 use Rattle.std.proofs.lemmas.Bool.Decides.{nat_tests, same_from_decides}
+use Rattle.std.proofs.lemmas.List.{append-nil}
 use Rattle.std.proofs.lemmas.Slice.Eq.{bytes_eq-Decides}
 use Rattle.bilateral.specs.Rows.{CentreRows}
 use Rattle.tase_tool.specs.declared.status.Status.{Status}
+use Rattle.tase_tool.specs.declared.status.Status.TheVariants.{Memory as OutOfMemory}
 use Rattle.tase_tool.specs.declared.inputs.InputEnd.{InputEnd}
 use Rattle.tase_tool.specs.declared.inputs.InputEnd.TheVariants.{Long, BadLine, Outside, Memory}
 use Rattle.tase_tool.specs.Saying.{Said, Text, untold, missing, told, text_limit, tables_said, scenario_said, said_of, said_by, emptied, said_over, played_said, long_line, bad_line}
@@ -18,6 +20,12 @@ is_less m n h = grind (arith, nat_tests)
 IfSome-each : {T : Type 0} (o : Option T) (P : T → Type 0) → ((x : T) → P x) → IfSome o P
 IfSome-each None P all = tt
 IfSome-each (Some x) P all = all x
+
+-- where nothing was printed, and memory ran out
+pub nothing_said : (said : Option Said) (octets : Option (List ℕ)) → IfSome said (IsSaid OutOfMemory octets octets)
+nothing_said None octets = tt
+nothing_said (Some said) None = refl
+nothing_said (Some said) (Some octets) = (0, ap Some (sym (append-nil octets)))
 
 -- where the scenario is refused
 pub scenario_refused : (rows : CentreRows) (end : InputEnd) (status : Status) (text : Text) (before after : Option (List ℕ)) → IsInput (Err end) text
