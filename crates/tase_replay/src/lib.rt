@@ -14,3 +14,6 @@ mod printing;
 mod values;
 
 pub use playing::{ReplayEnd, replay};
+
+#[cfg(test)]
+mod tests;
