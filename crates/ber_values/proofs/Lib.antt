@@ -6,3 +6,4 @@ pub mod BitsLemmas
 pub mod Signed
 pub mod Written
 pub mod Elements
+pub mod Windows

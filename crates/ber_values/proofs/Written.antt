@@ -268,6 +268,7 @@ element_written kind value tag at rest fits single =
       head = head_written tag at (length contents);
       spelled = (head_spelled tag at contents rest (contents_few kind value fits) single, subst (SpellsContents kind value) (sym (contents_written tag at contents rest)) (contents_spelled kind value fits));
       class = refl;
+      constructed = refl;
       number = refl;
       short = refl;
       ends = omega (arith, length-append (length_octets (length contents)) contents);

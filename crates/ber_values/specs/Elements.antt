@@ -1,5 +1,5 @@
 -- Elements: a head and contents of a kind. What each spells, its first fault, and its written form.
-use Rattle.std.specs.Prelude.{◌≡◌, ℕ, ◌-◌, ◌/◌, ◌%◌, ◌^◌, ◌<◌, Bool, false, List, length, ℤ, pos, ◌⊎◌}
+use Rattle.std.specs.Prelude.{◌≡◌, ℕ, ◌-◌, ◌/◌, ◌%◌, ◌^◌, ◌<◌, Bool, false, ◌==◌, List, length, ℤ, pos, ◌⊎◌}
 use Rattle.std.specs.Int.{w64}
 use Rattle.std.specs.Int.RustNames.{FitsSigned}
 use Rattle.std.specs.List.{slice_range}
@@ -96,6 +96,7 @@ pub record WrittenAt (kind : Kind) (value : Value kind) (tag at : ℕ) (octets :
   pub head : Head
   pub spelled : SpellsElement kind at octets (record { head = head; value = value })
   pub class : head.class ≡ tag / 64
+  pub constructed : head.constructed ≡ (tag / 32 % 2 == 1)
   pub number : head.number ≡ tag % 32
   pub short : head.long_form ≡ false
   pub ends : head.end ≡ end
