@@ -229,6 +229,7 @@ fn identifiers_and_text(rt: HostRuntime) -> Result<(), Fail> {
     assert!(rt; visible_again(&rt, &[26, 1, 127])?.is_none());
     Ok(())
 }
+
 #[test]
 fn visible_text(rt: HostRuntime) -> Result<(), Fail> {
     assert!(rt; is_visible(b" ~") && is_visible(b"") && is_visible(&[b'A'; 64]));
