@@ -1,3 +1,7 @@
+mod faults;
+mod lines;
+mod tables;
+
 use super::*;
 use outside::{ByteSink, MemoryOutside, TextSource};
 use std::alloc::{AllocError, Global};

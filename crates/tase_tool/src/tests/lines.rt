@@ -1,0 +1,111 @@
+use super::{LAWFUL, TABLES, outside_of, printed, source_of, words_of};
+use crate::{Status, run};
+use outside::ByteSink;
+use std::process::Abort;
+use std::test::Fail;
+
+// Scenario lines that are bad behind `open 1 A` and `open 2 B`.
+const BAD_LINES: [&str; 46] = [
+    "open 1 A",
+    "open 0 A",
+    "open 4294967296 A",
+    "open 18446744073709551617 A",
+    "open 03 A",
+    "open +3 A",
+    "open 3 C",
+    "open 3",
+    "open 3 A B",
+    "open 3 A ",
+    " open 3 A",
+    "open\t3 A",
+    "OPEN 3 A",
+    "close 1",
+    "take 1",
+    "tick 5",
+    "update BUS2 s1 00 1 0",
+    "update BUS1 s4 00 1 0",
+    "update BUS1 s 00 1 0",
+    "update BUS1 s01 00 1 0",
+    "update BUS1 s1 40 1 0",
+    "update BUS1 s1 3F 1 0",
+    "update BUS1 s1 0 1 0",
+    "update BUS1 s1 00 2147483648 0",
+    "update BUS1 s1 00 1 1000",
+    "update BUS1 s1 00 1",
+    "update BUS1 s1 00 1 0 0",
+    "update BUS1 d1 00 1 0",
+    "update LOAD1 d2147483648 00 1 0",
+    "update LOAD1 d-2147483649 00 1 0",
+    "update LOAD1 d-0 00 1 0",
+    "update LOAD1 d+1 00 1 0",
+    "update LOAD1 d01 00 1 0",
+    "update LOAD1 d 00 1 0",
+    "update FREQ1 r0000000 00 1 0",
+    "update FREQ1 r0000000A 00 1 0",
+    "update FREQ1 r000000000 00 1 0",
+    "say 3 read DOMA/BUS1",
+    "say 1 read",
+    "say 1 read BUS1",
+    "say 1 read vmd:",
+    "say 1 read /BUS1",
+    "say 1 read DOMA/%42US1",
+    "say 1 read DOMA/A%2F",
+    "say 1 write DOMA/BUS1=b8.80",
+    "say 1 read DOMA/AAAAAAAAAAAAAAAAAAAAAAAAAAAAAAAAAAAAAAAAAAAAAAAAAAAAAAAAAAAAAAAAA",
+];
+
+// Lines that are taken behind these two opens, and what they print.
+const GOOD_LINES: [(&str, &str); 11] = [
+    ("open 4294967295 A", ""),
+    ("update BUS1 s3 3f 2147483647 999", ""),
+    ("update LOAD1 d-2147483648 00 0 0", ""),
+    ("update LOAD1 d2147483647 00 0 0", ""),
+    ("update FREQ1 rffffffff 00 0 0", ""),
+    ("# say 3 read", ""),
+    ("\r", ""),
+    ("say   1  read   DOMA/BUS1", "reply 1 read b8.30\n"),
+    ("say 1 read DOMA/A%2f", "reply 1 read !10\n"),
+    (
+        "say 1 read DOMA/AAAAAAAAAAAAAAAAAAAAAAAAAAAAAAAAAAAAAAAAAAAAAAAAAAAAAAAAAAAAAAAA",
+        "reply 1 read !10\n",
+    ),
+    (
+        "update LOAD1 d5 12 7 8\r\nsay 2 read DOMB/LOAD1\r",
+        "reply 2 read {i5,b8.12}\n",
+    ),
+];
+
+// Plays a line behind two opens, with a reply before it.
+fn played(
+    rt: &(impl Abort + AllocGlobal),
+    line: &str,
+    status: Status,
+    shown: &str,
+) -> Result<(), Fail> {
+    let alloc = rt.alloc();
+    let scenario = format!(in alloc; "open 1 A\nopen 2 B\nsay 1 read DOMA/BUS1\n{line}\n")?;
+    let words = words_of(alloc, &LAWFUL)?;
+    let tables = source_of(alloc, TABLES, Vec::new(alloc))?;
+    let output = ByteSink::new(alloc, 1000, Vec::new(alloc))?;
+    let mut outside = outside_of(alloc, tables, scenario.as_str(), output)?;
+    assert_eq!(rt; run(alloc, &words, &mut outside), status, "{line}");
+    let wanted = format!(in alloc; "reply 1 read b8.30\n{shown}")?;
+    assert_eq!(rt; printed(&outside), wanted.as_bytes(), "{line}");
+    Ok(())
+}
+
+#[test]
+fn scenario_lines_are_refused(rt: HostRuntime) -> Result<(), Fail> {
+    for line in BAD_LINES {
+        played(&rt, line, Status::Input, "input scenario line 4\n")?;
+    }
+    Ok(())
+}
+
+#[test]
+fn scenario_lines_are_taken(rt: HostRuntime) -> Result<(), Fail> {
+    for (line, shown) in GOOD_LINES {
+        played(&rt, line, Status::Done, shown)?;
+    }
+    Ok(())
+}
