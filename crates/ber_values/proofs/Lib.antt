@@ -7,3 +7,4 @@ pub mod Signed
 pub mod Written
 pub mod Elements
 pub mod Windows
+pub mod Shortest

@@ -1,7 +1,10 @@
 //! What holds of all octets and values.
-ghost use Rattle.std.specs.Prelude.{◌≡◌, ◌≢◌, ℕ, ◌+◌, ◌%◌, List, ◌++◌, length};
+ghost use Rattle.std.specs.Prelude.{◌≡◌, ◌≢◌, ℕ, ◌+◌, ◌%◌, ◌≤◌, ℤ, List, ◌++◌, length};
 ghost use Rattle.ber_values.specs.Reading.{HasOneReading};
-ghost use Rattle.ber_values.specs.Writing.{written};
+ghost use Rattle.ber_values.specs.Octets.{IsOctets};
+ghost use Rattle.ber_values.specs.Tags.{SpellsLength};
+ghost use Rattle.ber_values.specs.Numbers.{SpellsInteger};
+ghost use Rattle.ber_values.specs.Writing.{written, length_octets, integer_octets};
 ghost use Rattle.ber_values.specs.Elements.{Kind, Value, Element, SpellsElement, ElementFault, contents_octets, IsWritable, WrittenAt};
 
 /// Octets have one reading for each kind of element: exactly one holds, they begin with exactly
@@ -14,4 +17,10 @@ pub fn one_reading()
 pub fn written_is_read()
     ensures { (kind : Kind) (value : Value kind) (tag at : ℕ) (rest : List ℕ) → IsWritable kind value → tag % 32 ≢ 31
         → WrittenAt kind value tag at (written tag (contents_octets kind value) ++ rest) (at + length (written tag (contents_octets kind value))) }
+{}
+
+/// No spelling is shorter than the written form: of a length, and of an integer.
+pub fn written_is_shortest()
+    ensures lengths { (n : ℕ) (octets : List ℕ) → IsOctets octets → SpellsLength n octets → length (length_octets n) ≤ length octets }
+    ensures integers { (value : ℤ) (octets : List ℕ) → IsOctets octets → SpellsInteger value octets → length (integer_octets value) ≤ length octets }
 {}

@@ -22,7 +22,7 @@ pub use boolean::{read_boolean, write_boolean};
 pub use fault::{BerFault, Span, Why};
 pub use head::{Head, read_head, write_head};
 pub use integer::{read_integer, read_unsigned, write_integer};
-pub use laws::{one_reading, written_is_read};
+pub use laws::{one_reading, written_is_read, written_is_shortest};
 pub use object_identifier::Oid;
 pub use texts::{read_oid, read_visible, write_oid, write_visible};
 pub use visible_string::{Visible, is_visible};

@@ -230,6 +230,64 @@ fn identifiers_and_text(rt: HostRuntime) -> Result<(), Fail> {
     Ok(())
 }
 
+/// An element of this many contents octets, each of them the same.
+fn element(rt: &HostRuntime, tag: u8, len: u8, octet: u8) -> Result<Vec<u8>, Fail> {
+    let mut octets = Vec::new(rt.alloc());
+    octets.push(tag)?;
+    octets.push(len)?;
+    for _ in 0..len {
+        octets.push(octet)?;
+    }
+    Ok(octets)
+}
+
+#[test]
+fn limits_of_contents(rt: HostRuntime) -> Result<(), Fail> {
+    // The object identifiers 2.5, and 1.1.1 and so on of 32 and of 33 octets.
+    for (len, octet, is_taken) in [(1, 0x55, true), (32, 0x01, true), (33, 0x01, false)] {
+        let octets = element(&rt, 6, len, octet)?;
+        let again = oid_again(&rt, octets.as_slice())?;
+        assert_eq!(rt; again.is_some(), is_taken, "an identifier of {len}");
+        assert_eq!(rt;
+            again.is_none_or(|written| written.as_slice() == octets.as_slice()),
+            true
+        );
+    }
+    // The texts of no letter, and of 64 and 65 letters A.
+    for (len, is_taken) in [(0, true), (64, true), (65, false)] {
+        let octets = element(&rt, 26, len, 0x41)?;
+        let again = visible_again(&rt, octets.as_slice())?;
+        assert_eq!(rt; again.is_some(), is_taken, "a text of {len}");
+        assert_eq!(rt;
+            again.is_none_or(|written| written.as_slice() == octets.as_slice()),
+            true
+        );
+    }
+    Ok(())
+}
+
+#[test]
+fn truncations(rt: HostRuntime) {
+    let rows: [&[u8]; 6] = [
+        &[1, 1, 0xFF],
+        &[3, 3, 7, 0xB7, 0],
+        &[6, 3, 0x81, 0x34, 3],
+        &[26, 5, 0x4A, 0x6F, 0x6E, 0x65, 0x73],
+        &[2, 5, 0, 0xFF, 0xFF, 0xFF, 0xFF],
+        &[0x1A, 0x01, 0x41],
+    ];
+    for octets in rows {
+        for kept in 0..octets.len() {
+            let want = if kept < 2 {
+                at(kept, Why::Short)
+            } else {
+                at(1, Why::Length)
+            };
+            assert_eq!(rt; read_head(&octets[..kept], 0, kept), Err(want));
+        }
+    }
+}
+
 #[test]
 fn visible_text(rt: HostRuntime) -> Result<(), Fail> {
     assert!(rt; is_visible(b" ~") && is_visible(b"") && is_visible(&[b'A'; 64]));
