@@ -6,3 +6,4 @@ pub mod Positions
 pub mod Taken
 pub mod Grown
 pub mod Stores
+pub mod OneReading

@@ -1,5 +1,5 @@
 -- What a table text holds: its lines one after another, up to the first that can't be taken.
-use Rattle.std.specs.Prelude.{ℕ, ◌+◌, ◌-◌, ◌^◌, min, not, ◌||◌, ◌==◌, nat_le, if◌then◌else◌, is_some, List, [], ◌∷◌, ◌++◌, length, slice_set, Option, Some, None, unwrap_or, Result, Ok, Err, bytes_eq}
+use Rattle.std.specs.Prelude.{◌≡◌, ℕ, ◌+◌, ◌-◌, ◌^◌, min, not, ◌||◌, ◌==◌, nat_le, if◌then◌else◌, is_some, List, [], ◌∷◌, ◌++◌, length, slice_set, Option, Some, None, unwrap_or, Result, Ok, Err, bytes_eq}
 use Rattle.std.specs.Option.{option_eq}
 use Rattle.std.specs.List.{list_any}
 use Rattle.std.specs.Str.Lines.{lines}
@@ -86,3 +86,11 @@ after_lines rows number (line ∷ more) = and_go_on number (after_line rows line
 -- what a text holds, or its first bad line
 abbrev pub centre_in : List ℕ → Result CentreRows TableFault
 centre_in text = after_lines no_rows 1 (lines text)
+
+-- the text spells this centre
+abbrev pub Spells : List ℕ → CentreRows → Type 0
+Spells text rows = centre_in text ≡ Ok rows
+
+-- the text has this first bad line, for this reason
+abbrev pub HasFault : List ℕ → TableFault → Type 0
+HasFault text fault = centre_in text ≡ Err fault

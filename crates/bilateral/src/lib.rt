@@ -5,6 +5,7 @@
 mod centre;
 mod fault;
 mod index;
+mod laws;
 mod layouts;
 mod line;
 mod reading;
@@ -15,6 +16,7 @@ mod words;
 
 pub use centre::Centre;
 pub use fault::{TableFault, TableWhy};
+pub use laws::one_reading;
 pub use line::TableLine;
 pub use reading::read_centre;
 pub use rows::{PointRow, See, Sees, Table};

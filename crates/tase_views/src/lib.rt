@@ -5,12 +5,14 @@
 mod call;
 mod event;
 mod fault;
+mod laws;
 mod reply;
 mod texts;
 
 pub use call::{Call, CallKind};
 pub use event::{Entry, Event, EventKind};
 pub use fault::StepFault;
+pub use laws::two_worlds;
 pub use reply::{Answer, Key, Reply, ReplyKind, Results};
 pub use texts::{read_call, spell_reply};
 
