@@ -1,6 +1,7 @@
 -- Reads of a piece after another.
 use Rattle.std.proofs.Common.{◌≡◌, ℕ, ◌+◌, ◌<◌, ◌≤◌, List, [], ◌++◌, length, take, drop, Option, Some, None, refl, sym, ◌∙◌, ap, subst, append_assoc, arith, length-append, length-take, take-append-drop}
 use Rattle.std.proofs.lemmas.List.{append-nil, take_at, drop-drop}
+use Rattle.std.proofs.Math.Seq.{take-add, take-append_seam}
 use Rattle.std.specs.Prelude.{Vec, Ok, Err}
 use Rattle.std.specs.declared.alloc.AllocError.{AllocError}
 use Rattle.std.specs.declared.alloc.Global.{Global}
@@ -83,3 +84,11 @@ front_copied octets buf copied start n is fits =
   where
     long : length copied ≡ n
     long = omega (arith, ap length is, length-take n (drop start octets))
+
+-- the octets given with those that were copied
+pub given_copied : (octets buf copied : List ℕ) (place count : ℕ) → copied ≡ take count (drop place octets) → count ≤ length (drop place octets)
+    → take (place + count) octets ≡ take place octets ++ take count (copied ++ drop count buf)
+given_copied octets buf copied place count same fits =
+    let size : length copied ≡ count = ap length same ∙ omega (arith, length-take count (drop place octets)) in
+    let front : take count (copied ++ drop count buf) ≡ copied = ap (λ n. take n (copied ++ drop count buf)) (sym size) ∙ take-append_seam copied (drop count buf) in
+    take-add place count octets ∙ ap (λ (l : List ℕ). take place octets ++ l) (sym (front ∙ same))

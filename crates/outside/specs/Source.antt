@@ -1,5 +1,5 @@
 -- What a read does to a source.
-use Rattle.std.specs.Prelude.{◌≡◌, ℕ, ◌≤◌, List, [], ◌++◌, take, Option, Some, None}
+use Rattle.std.specs.Prelude.{Bool, true, false, ◌≡◌, ℕ, ◌≤◌, List, [], ◌++◌, take, Option, Some, None}
 use Rattle.outside.specs.declared.source.ReadEnd.{ReadEnd}
 use Rattle.outside.specs.declared.source.ReadEnd.TheVariants.{Got, End, Failed}
 use Rattle.outside.specs.Faults.{Rose}
@@ -30,3 +30,17 @@ abbrev pub ReadCause : ℕ → ℕ → ReadEnd → Type 0
 ReadCause before now (Got count) = now ≡ before
 ReadCause before now End = now ≡ before
 ReadCause before now Failed = Rose before now
+
+-- a read adds its octets to those given so far, where the source tells these; one that tells none goes on so
+abbrev pub Gives : Option (List ℕ) → Option (List ℕ) → ReadEnd → List ℕ → Type 0
+Gives None after end buf = after ≡ None
+Gives (Some octets) after (Got count) buf = after ≡ Some (octets ++ take count buf)
+Gives (Some octets) after End buf = after ≡ Some octets
+Gives (Some octets) after Failed buf = after ≡ Some octets
+
+-- whether this read answered that nothing is left, where the source tells it
+abbrev pub Ends : Option Bool → Option Bool → ReadEnd → Type 0
+Ends None after end = after ≡ None
+Ends (Some before) after (Got count) = after ≡ Some false
+Ends (Some before) after End = after ≡ Some true
+Ends (Some before) after Failed = after ≡ Some false

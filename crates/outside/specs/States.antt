@@ -1,9 +1,12 @@
 -- What contracts see of the doubles in memory.
-use Rattle.std.specs.Prelude.{ℕ, ◌+◌, ◌-◌, ◌^◌, min, List}
+use Rattle.std.specs.Prelude.{Bool, ℕ, ◌+◌, ◌-◌, ◌^◌, min, List}
 
--- a source: the octets left, the numbers of the calls that fail, the number of the next call, the faults, the name
+-- a source: the octets left, those given so far, whether the last read answered that nothing is left, the numbers of the
+-- calls that fail, the number of the next call, the faults, the name
 pub record TextState : Type 0 where
   pub left : List ℕ
+  pub given : List ℕ
+  pub ended : Bool
   pub fails : List ℕ
   pub calls : ℕ
   pub faults : ℕ

@@ -1,6 +1,6 @@
 //! A source of octets in memory, some of whose calls fail.
-ghost use Rattle.std.specs.Prelude.{◌≡◌, ℕ, ◌<◌, ◌≤◌, ◌↔◌, List, [], Option, Some, length, min, drop, Contains, unwrap_or, option_map, string_bytes};
-ghost use Rattle.outside.specs.Source.{Reads, IsReadCount, ReadCause};
+ghost use Rattle.std.specs.Prelude.{Bool, take, false, ◌≡◌, ℕ, ◌<◌, ◌≤◌, ◌↔◌, List, [], Option, Some, length, min, drop, Contains, unwrap_or, option_map, string_bytes};
+ghost use Rattle.outside.specs.Source.{Reads, Gives, Ends, IsReadCount, ReadCause};
 ghost use Rattle.outside.specs.States.{TextState, next_count};
 
 use crate::places::Named;
@@ -12,6 +12,7 @@ use std::marker::Model;
 pub struct TextSource {
     octets: Vec<u8>,
     at: usize,
+    ended: bool,
     fails: Vec<u64>,
     calls: u64,
     faults: u64,
@@ -23,6 +24,8 @@ impl Model for TextSource {
 
     ghost view = { λ s. record {
       left = drop s.at s.octets.items;
+      given = take s.at s.octets.items;
+      ended = s.ended;
       fails = s.fails.items;
       calls = s.calls;
       faults = s.faults;
@@ -35,11 +38,12 @@ impl Model for TextSource {
 impl TextSource {
     /// A source of these octets, whose calls with these numbers fail. It takes no memory.
     pub fn new(octets: Vec<u8>, fails: Vec<u64>) -> Self
-        ensures { result ≡ record { left = octets.items; fails = fails.items; calls = 0; faults = 0; name = [] } }
+        ensures { result ≡ record { left = octets.items; given = []; ended = false; fails = fails.items; calls = 0; faults = 0; name = [] } }
     {
         TextSource {
             octets,
             at: 0,
+            ended: false,
             fails,
             calls: 0,
             faults: 0,
@@ -58,6 +62,10 @@ impl TextSource {
 impl Source for TextSource {
     ghost left = { λ s. Some s.left };
 
+    ghost given = { λ s. Some s.given };
+
+    ghost ended = { λ s. Some s.ended };
+
     ghost fault_count = { λ s. s.faults };
 
     ghost name = { λ s. s.name };
@@ -65,6 +73,8 @@ impl Source for TextSource {
     fn read(&mut self, buf: &mut [u8]) -> ReadEnd
         requires { 0 < length buf.old }
         ensures took { Reads (Some self.old.left) (Some self.new.left) result buf.new }
+        ensures given { Gives (Some self.old.given) (Some self.new.given) result buf.new }
+        ensures ended { Ends (Some self.old.ended) (Some self.new.ended) result }
         ensures count { IsReadCount result (length buf.new) }
         ensures cause { ReadCause self.old.faults self.new.faults result }
         ensures name { self.new.name ≡ self.old.name }
@@ -75,12 +85,14 @@ impl Source for TextSource {
     {
         let call = self.calls;
         self.calls = call.saturating_add(1);
+        self.ended = false;
         if self.fails.contains(&call) {
             self.faults = self.faults.saturating_add(1);
             return ReadEnd::Failed;
         }
         let left = &self.octets[self.at..];
         if left.is_empty() {
+            self.ended = true;
             return ReadEnd::End;
         }
         let count = left.len().min(buf.len());

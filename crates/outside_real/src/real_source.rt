@@ -37,6 +37,10 @@ impl<S, F> RealSource<S, F> {
 impl<S: Read, F: Read> Source for RealSource<S, F> {
     ghost left = { λ _. None };
 
+    ghost given = { λ _. None };
+
+    ghost ended = { λ _. None };
+
     ghost fault_count = { λ s. s };
 
     ghost name = { λ _. [] };

@@ -93,3 +93,7 @@ code_of Usage = 2
 code_of Input = 3
 code_of Outside = 4
 code_of Memory = 7
+
+-- where nothing outside failed and the texts have no fault of their own, all is done, but for want of memory
+abbrev pub IsComplete : ℕ → ℕ → Status → Said → Type 0
+IsComplete before now status said = (Rose before now → ⊥) → said.status ≡ Done → (status ≡ Done) ⊎ (status ≡ Memory)

@@ -6,7 +6,7 @@ ghost use Rattle.tase_replay.specs.Play.{play};
 ghost use Rattle.tase_tool.specs.Words.{replay_in};
 ghost use Rattle.tase_tool.specs.Saying.{said_by, said_of, scenario_said, played_said, bad_line};
 ghost use Rattle.tase_tool.specs.Inputs.{refused_as};
-ghost use Rattle.tase_tool.specs.Runs.{text_under, octets_under, IsPutBack, HasReason, HasReasonOf, IsSaid, HasCause, OnOutside, OnWhole, IsThere, MatchesWords};
+ghost use Rattle.tase_tool.specs.Runs.{text_under, octets_under, IsPutBack, HasReason, HasReasonOf, IsSaid, HasCause, OnOutside, OnWhole, IsThere, MatchesWords, IsComplete};
 
 use crate::inputs::{read_input, read_tables};
 use crate::printing::{OUTPUT, bad_line, end_without, print};
@@ -29,6 +29,24 @@ const HISTORY_LIMIT: u64 = 134_217_728;
 /// the tables that the first text spells, and over them what the scenario shows, each reply from the asking peer's own
 /// table and its view of the history.
 pub fn run<O: Outside>(alloc: Global, words: &[String], outside: &mut O) -> Status
+    ensures words { MatchesWords (replay_in (map string_bytes words.now)) result }
+    ensures said { IfSome (said_by (replay_in (map string_bytes words.now)) (text_under O.In.left (O.sources outside.old)))
+        (IsSaid result (octets_under O.Out.taken (O.sinks outside.old) (codes "-")) (octets_under O.Out.taken (O.sinks outside.new) (codes "-"))) }
+    ensures output { OnWhole result (IsThere (O.sinks outside.old) (codes "-")) }
+    ensures cause { HasCause (O.fault_count outside.old) (O.fault_count outside.new) result }
+    ensures reason { OnOutside result (HasReasonOf (replay_in (map string_bytes words.now))
+        (HasReason O.In.fault_count (O.sources outside.old) (O.sources outside.new))
+        (HasReason O.Out.fault_count (O.sinks outside.old) (O.sinks outside.new) (codes "-"))) }
+    ensures inputs_closed { IsPutBack (O.sources outside.old) (O.sources outside.new) }
+    ensures output_closed { IsPutBack (O.sinks outside.old) (O.sinks outside.new) }
+    ensures complete { IfSome (said_by (replay_in (map string_bytes words.now)) (text_under O.In.left (O.sources outside.old)))
+        (IsComplete (O.fault_count outside.old) (O.fault_count outside.new) result) }
+{
+    run_words(alloc, words, outside)
+}
+
+// The same, without the last clause, which follows from the others.
+fn run_words<O: Outside>(alloc: Global, words: &[String], outside: &mut O) -> Status
     ensures words { MatchesWords (replay_in (map string_bytes words.now)) result }
     ensures said { IfSome (said_by (replay_in (map string_bytes words.now)) (text_under O.In.left (O.sources outside.old)))
         (IsSaid result (octets_under O.Out.taken (O.sinks outside.old) (codes "-")) (octets_under O.Out.taken (O.sinks outside.new) (codes "-"))) }

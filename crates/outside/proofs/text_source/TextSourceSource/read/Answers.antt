@@ -1,7 +1,7 @@
-use Rattle.std.proofs.Common.{◌≡◌, ◌≤◌, ◌+◌, length, take, drop, sym, refl, ap, ◌∙◌, arith}
+use Rattle.std.proofs.Common.{◌≡◌, ◌≤◌, ◌+◌, ◌++◌, ℕ, List, length, take, drop, Some, sym, refl, ap, ◌∙◌, arith}
 use Rattle.std.proofs.lemmas.List.{take_rest}
 use Rattle.outside.specs.States.{TextState}
-use Rattle.outside.proofs.Reading.{front_copied}
+use Rattle.outside.proofs.Reading.{front_copied, given_copied}
 use Rattle.outside.proofs.text_source.TextSourceSource.read.Goals as goal
 
 pub returns-clause-took : goal.returns-clause-took
@@ -17,3 +17,14 @@ returns-clause-took c =
       left ∙ front_copied octets c.args.buf.now c.copy_from_slice.new.self c.self.inside.at c.min-count.result copied fits,
       refl,
     )
+
+pub returns-clause-given : goal.returns-clause-given
+returns-clause-given c =
+    let octets = c.self.inside.octets.items in
+    let rest = take_rest octets c.self.inside.at in
+    let given : c.args.self.now.given ≡ take c.self.inside.at octets = ap (λ (s : TextState). s.given) (sym c.self.view_is) in
+    let copied : c.copy_from_slice.new.self ≡ take c.min-count.result (drop c.self.inside.at octets) =
+    rw (c.deref-2.ensures.value, rest) at c.copy_from_slice.ensures.after in
+    let count = rw (c.deref-2.ensures.value, rest) at c.min-count.ensures in
+    let fits : c.min-count.result ≤ length (drop c.self.inside.at octets) = omega (arith, count) in
+    rw given (ap (λ (l : List ℕ). Some l) (given_copied octets c.args.buf.now c.copy_from_slice.new.self c.self.inside.at c.min-count.result copied fits))
