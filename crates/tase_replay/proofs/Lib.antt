@@ -1,3 +1,4 @@
 pub mod Pasts
 pub mod Shown
 pub mod Reached
+mod Worked
