@@ -2,7 +2,10 @@
 //! them in memory. Each object counts its faults; no call fails in silence, and none claims a fault that wasn't.
 #![tactic(auto)]
 
+mod asked;
+mod buffered;
 mod byte_sink;
+mod faults;
 mod memory;
 mod outside;
 mod places;
@@ -11,12 +14,14 @@ mod source;
 mod text;
 mod text_source;
 
+pub use buffered::{BufferedSink, ROOM};
 pub use byte_sink::ByteSink;
+pub use faults::count_fault;
 pub use memory::MemoryOutside;
 pub use outside::Outside;
 pub use sink::{Sink, SinkFailed, WriteEnd, write_all};
 pub use source::{ReadEnd, Source};
-pub use text::{TextEnd, read_text};
+pub use text::{PIECE, TextEnd, read_text};
 pub use text_source::TextSource;
 
 #[cfg(test)]
