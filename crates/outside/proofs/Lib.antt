@@ -1,0 +1,6 @@
+mod Standing
+pub mod Calling
+pub mod Writing
+pub mod Reading
+pub mod Opening
+pub mod Buffering

@@ -46,9 +46,16 @@ HandsOut {X} name_of faults_of before name missing result = result ≡ None
 HandsOut {X} name_of faults_of before name lent result = result ≡ None
 HandsOut {X} name_of faults_of before name (there object) result = (result ≡ Some object) × (name_of object ≡ name)
 
--- every other name is as before
+-- this change at the name; every other name is as before
 abbrev pub Changes : {X : Type 0} → (Standing X → Standing X) → (List ℕ → Standing X) → (List ℕ → Standing X) → List ℕ → Type 0
 Changes change before after name = (n : List ℕ) → after n ≡ (if bytes_eq n name then change (before n) else before n)
+
+-- what the object under a name went through between these two, where it is told; what isn't there stays so
+abbrev pub Acts : {X : Type 0} → (X → X → Type 0) → Standing X → Standing X → Type 0
+Acts {X} R untold after = after ≡ untold
+Acts {X} R missing after = after ≡ missing
+Acts {X} R lent after = after ≡ lent
+Acts {X} R (there object) after = (now : X) × (after ≡ there now) × R object now
 
 -- the names asked for were more by these; an outside that tells none goes on so, and one that tells them may stop
 abbrev pub Asks : Option (List (List ℕ)) → Option (List (List ℕ)) → List (List ℕ) → Type 0

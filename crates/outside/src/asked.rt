@@ -1,5 +1,5 @@
 //! The names that an outside in memory was asked for.
-ghost use Rattle.std.specs.Prelude.{◌≡◌, ℕ, List, [], ◌∷◌, Option, Some, None, map, string_bytes, if◌then◌else◌};
+ghost use Rattle.std.specs.Prelude.{◌≡◌, ℕ, List, [], ◌∷◌, ◌++◌, OnOk, Option, Some, None, map, option_map, string_bytes, if◌then◌else◌};
 ghost use Rattle.outside.specs.Outside.{Asks};
 
 use std::alloc::{AllocError, Global};
@@ -35,9 +35,17 @@ impl AskedNames {
             self.whole = false;
         }
     }
+
+    pub(crate) fn names(&self) -> Option<&[String]>
+        ensures { option_map (λ names. map string_bytes names.now) result ≡ self.now }
+    {
+        if self.whole { Some(&self.names) } else { None }
+    }
 }
 
-fn push_name(alloc: Global, names: &mut Vec<String>, name: &str) -> Result<(), AllocError> {
+fn push_name(alloc: Global, names: &mut Vec<String>, name: &str) -> Result<(), AllocError>
+    ensures { OnOk result (map string_bytes names.new.items ≡ map string_bytes names.old.items ++ name.now ∷ []) }
+{
     names.push(String::from_str(alloc, name)?)?;
     Ok(())
 }

@@ -1,5 +1,6 @@
 //! A sink that gathers octets for another.
-ghost use Rattle.std.specs.Prelude.{◌≡◌, ℕ, ◌<◌, ◌≤◌, List, [], length, drop, IfOk, IfErr, vec_len, vec_capacity};
+ghost use Rattle.std.specs.Prelude.{◌≡◌, ℕ, ◌+◌, ◌<◌, ◌≤◌, List, [], ◌++◌, length, drop, IfOk, IfErr, vec_len, vec_capacity};
+ghost use Rattle.outside.specs.declared.buffered.TheConstants.{ROOM};
 ghost use Rattle.outside.specs.Sink.{SinkTold, Writes};
 ghost use Rattle.outside.specs.Buffered.{buffered_told, HandsOn, Finishes};
 
@@ -15,51 +16,52 @@ pub const ROOM: usize = 65_536;
 pub struct BufferedSink<K> {
     sink: K,
     gathered: Vec<u8>,
-    // So many of them went out.
-    at: usize,
 }
 
 // What contracts see: the sink behind it, and the octets gathered for that.
 impl<K> Model for BufferedSink<K> {
     ghost Value = { K × List ℕ };
 
-    ghost view = { λ s. (s.sink, drop s.at s.gathered.items) };
+    ghost view = { λ s. (s.sink, s.gathered.items) };
 
-    // The room was taken when it was made.
-    ghost invariant = { λ s. (s.at ≤ vec_len s.gathered) × (vec_len s.gathered ≤ 65536) × (65536 ≤ vec_capacity s.gathered) };
+    // The room was taken when it was made, and no more is ever held.
+    ghost invariant = { λ s. (vec_len s.gathered ≤ ROOM) × (ROOM ≤ vec_capacity s.gathered) };
 }
 
 impl<K> BufferedSink<K> {
     /// Takes the room. Where there is none, the sink comes back.
     pub fn new(alloc: Global, sink: K) -> Result<Self, K>
-    where
-        K: Drop,
         ensures ok { IfOk result (λ buffered. buffered ≡ (sink, [])) }
         ensures err { IfErr result (λ back. back ≡ sink) }
     {
         match Vec::with_capacity(alloc, ROOM) {
-            Ok(gathered) => Ok(BufferedSink {
-                sink,
-                gathered,
-                at: 0,
-            }),
+            Ok(gathered) => Ok(BufferedSink { sink, gathered }),
             Err(_) => Err(sink),
         }
     }
 
-    /// How many octets are gathered that didn't go out yet.
+    /// How many octets are gathered that didn't go out yet: at most 65,536.
     pub fn held(&self) -> usize
         ensures held { result ≡ length self.now.1 }
         ensures room { result ≤ ROOM }
     {
-        self.gathered.len() - self.at
+        self.gathered.len()
     }
 
     /// The sink behind it. What is gathered is lost.
     pub fn into_sink(self) -> K
         ensures { result ≡ self.0 }
     {
-        self.sink
+        let BufferedSink { sink, gathered: _ } = self;
+        sink
+    }
+
+    // Gathers a piece for which there is room.
+    fn gather(&mut self, piece: &[u8])
+        requires { length self.old.1 + length piece.now ≤ ROOM }
+        ensures { self.new ≡ (self.old.0, self.old.1 ++ piece.now) }
+    {
+        self.gathered.extend_from_slice(piece).unwrap();
     }
 }
 
@@ -68,16 +70,12 @@ impl<K: Sink> BufferedSink<K> {
     pub fn hand_on(&mut self) -> Result<(), SinkFailed>
         ensures { HandsOn (K.told self.old.0) (K.told self.new.0) self.old.1 self.new.1 result }
     {
-        let (sent, end) = write_front(&mut self.sink, &self.gathered[self.at..]);
-        self.at += sent;
-        if end.is_ok() {
-            self.gathered.clear();
-            self.at = 0;
-        }
+        let (sent, end) = write_front(&mut self.sink, &self.gathered);
+        drop_front(&mut self.gathered, sent);
         end
     }
 
-    /// Hands on all that is gathered, and gives back the sink behind it. What didn't go out is lost after a fault.
+    /// Hands on all that is gathered, and gives back the sink behind it. What didn't go out after a fault is lost.
     pub fn finish(self) -> (K, Result<(), SinkFailed>)
         ensures { Finishes (K.told self.0) (K.told result.0) self.1 result.1 }
     {
@@ -86,9 +84,17 @@ impl<K: Sink> BufferedSink<K> {
         (buffered.into_sink(), end)
     }
 
-    // Gathers a piece for which there is room.
-    fn gather(&mut self, piece: &[u8]) {
-        self.gathered.extend_from_slice(piece).unwrap();
+    // A write with nothing gathered: a piece that has no room goes straight on.
+    fn write_first(&mut self, piece: &[u8]) -> WriteEnd
+        requires piece { 0 < length piece.now }
+        requires empty { self.old.1 ≡ [] }
+        ensures { Writes (buffered_told (K.told self.old.0) self.old.1) (buffered_told (K.told self.new.0) self.new.1) result piece.now }
+    {
+        if piece.len() > ROOM {
+            return self.sink.write(piece);
+        }
+        self.gather(piece);
+        WriteEnd::Took(piece.len())
     }
 }
 
@@ -98,19 +104,30 @@ impl<K: Sink> Sink for BufferedSink<K> {
     fn write(&mut self, piece: &[u8]) -> WriteEnd
         requires { 0 < length piece.now }
         ensures writes { Writes (buffered_told (K.told self.old.0) self.old.1) (buffered_told (K.told self.new.0) self.new.1) result piece.now }
-        ensures room { length self.new.1 ≤ ROOM }
+        ensures gathers { length self.old.1 + length piece.now ≤ ROOM → self.new ≡ (self.old.0, self.old.1 ++ piece.now) }
     {
-        if piece.len() > ROOM - self.gathered.len() && self.hand_on().is_err() {
-            return WriteEnd::Failed;
+        if piece.len() <= ROOM - self.held() {
+            self.gather(piece);
+            return WriteEnd::Took(piece.len());
         }
-        if piece.len() > ROOM {
-            return self.sink.write(piece);
+        match self.hand_on() {
+            Ok(()) => self.write_first(piece),
+            Err(SinkFailed) => WriteEnd::Failed,
         }
-        self.gather(piece);
-        WriteEnd::Took(piece.len())
     }
 
     fn faults(&self) -> u64 {
         self.sink.faults()
     }
+}
+
+// Drops the front of so many octets.
+fn drop_front(octets: &mut Vec<u8>, count: usize)
+    requires { count ≤ vec_len octets.old }
+    ensures items { octets.new.items ≡ drop count octets.old.items }
+    ensures capacity { vec_capacity octets.new ≡ vec_capacity octets.old }
+{
+    let rest = octets.len() - count;
+    octets.copy_within(count.., 0);
+    octets.truncate(rest);
 }

@@ -98,8 +98,8 @@ impl Sink for ByteSink {
         let call = self.calls;
         self.calls = call.saturating_add(1);
         self.late = count_fault(self.late, self.stopped);
+        self.stopped = true;
         if self.room == 0 || self.fails.contains(&call) {
-            self.stopped = true;
             self.faults = self.faults.saturating_add(1);
             return WriteEnd::Failed;
         }

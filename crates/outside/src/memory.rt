@@ -1,5 +1,5 @@
 //! An outside in memory.
-ghost use Rattle.std.specs.Prelude.{◌≡◌, ℕ, [], List, Option, OnOk, OnErr, Some, option_copied, option_map};
+ghost use Rattle.std.specs.Prelude.{◌≡◌, ℕ, [], List, Option, OnOk, OnErr, Some, option_copied, option_map, map, string_bytes};
 ghost use Rattle.outside.specs.Outside.{OutsideTold, OpensIn, ClosesIn, OpensOut, ClosesOut};
 ghost use Rattle.outside.specs.States.{text_told, byte_told};
 ghost use Rattle.outside.specs.Places.{MemoryState, memory_told, standing, object_there, PutsUnder, AllNamed};
@@ -95,6 +95,20 @@ impl MemoryOutside {
         ensures { option_copied result ≡ object_there (standing self.now.sinks name.now) }
     {
         look(&self.sinks, name)
+    }
+
+    /// The names that it was asked to open for reading, in order; None once one found no memory.
+    pub fn read_names(&self) -> Option<&[String]>
+        ensures { option_map (λ names. map string_bytes names.now) result ≡ self.now.read_names }
+    {
+        self.read_names.names()
+    }
+
+    /// The same for writing.
+    pub fn written_names(&self) -> Option<&[String]>
+        ensures { option_map (λ names. map string_bytes names.now) result ≡ self.now.written_names }
+    {
+        self.written_names.names()
     }
 }
 

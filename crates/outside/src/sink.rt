@@ -50,10 +50,7 @@ pub fn write_all<S: Sink>(sink: &mut S, bytes: &[u8]) -> Result<(), SinkFailed>
 }
 
 // The same, and how many went out.
-pub(crate) fn write_front<S: Sink>(
-    sink: &mut S,
-    bytes: &[u8],
-) -> (usize, Result<(), SinkFailed>)
+pub(crate) fn write_front<S: Sink>(sink: &mut S, bytes: &[u8]) -> (usize, Result<(), SinkFailed>)
     ensures within { result.0 ≤ length bytes.now }
     ensures whole { OnOk result.1 (result.0 ≡ length bytes.now) }
     ensures front { Appends (S.told sink.old) (S.told sink.new) (take result.0 bytes.now) (is_err result.1) }
