@@ -1,0 +1,5 @@
+pub mod Leaving
+pub mod Exchanging
+pub mod Reading
+pub mod Running
+pub mod Printing

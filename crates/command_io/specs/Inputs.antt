@@ -1,0 +1,51 @@
+-- The inputs of a command: what one is read to, and why there is none.
+use Rattle.std.specs.Prelude.{◌≡◌, ℕ, Bool, true, false, ◌<◌, ◌≤◌, List, [], ◌∷◌, length}
+use Rattle.std.specs.Prelude.{Result, Ok, Err, Vec, OnOk}
+use Rattle.std.specs.declared.alloc.Global.{Global}
+use Rattle.outside.specs.declared.text.TextEnd.TheVariants as text_ends
+use Rattle.outside.specs.Text.{TextResult}
+use Rattle.outside.specs.Outside.{OutsideTold, Asks}
+use Rattle.command_io.specs.declared.input.Refusal.TheVariants.{Long, BadLine}
+use Rattle.command_io.specs.declared.input.InputEnd.{InputEnd}
+use Rattle.command_io.specs.declared.input.InputEnd.TheVariants.{Refused, Outside, Memory}
+use Rattle.command_io.specs.declared.input.TheConstants.{TEXT_LIMIT}
+use Rattle.command_io.specs.Leaves.{Uses}
+use Rattle.command_io.specs.Saying.{Text, untold, missing, told, emptied, text_of}
+
+-- an input's text as it is read, or why there is none
+abbrev pub input_of : TextResult → Result (Vec ℕ Global) InputEnd
+input_of (Ok (Ok text)) = Ok text
+input_of (Ok (Err text_ends.Failed)) = Err Outside
+input_of (Ok (Err text_ends.Long)) = Err (Refused Long)
+input_of (Err out_of_memory) = Err Memory
+
+-- the whole text is read, and it is too long exactly where it has more octets than the limit
+abbrev pub IsInput : Result (Vec ℕ Global) InputEnd → Text → Type 0
+IsInput result untold = Unit {0}
+IsInput result missing = result ≡ Err Outside
+IsInput (Ok text) (told octets) = (octets ≡ text.items) × (length octets ≤ TEXT_LIMIT)
+IsInput (Err (Refused Long)) (told octets) = TEXT_LIMIT < length octets
+IsInput (Err (Refused (BadLine line))) (told octets) = ⊥
+IsInput (Err Outside) (told octets) = Unit {0}
+IsInput (Err Memory) (told octets) = Unit {0}
+
+-- whether there is no input since something outside failed
+abbrev pub is_lost : {T : Type 0} → Result T InputEnd → Bool
+is_lost (Ok value) = false
+is_lost (Err (Refused refusal)) = false
+is_lost (Err Outside) = true
+is_lost (Err Memory) = false
+
+-- no other input was opened, and no output
+pub record OpensInput (before after : OutsideTold) (name : List ℕ) (failed : Bool) : Type 0 where
+  pub uses : Uses (name ∷ []) [] failed before after
+  pub asked : Asks before.read_names after.read_names (name ∷ [])
+  pub sinks : after.sinks ≡ before.sinks
+  pub written : after.written_names ≡ before.written_names
+
+-- what an input leaves outside that was opened, read and closed again, and what it is read to
+pub record ReadsInput (before after : OutsideTold) (name : List ℕ) (result : Result (Vec ℕ Global) InputEnd) : Type 0 where
+  pub text : IsInput result (text_of (before.sources name))
+  -- nothing is left of a text that was read
+  pub spent : OnOk result (text_of (after.sources name) ≡ emptied (text_of (before.sources name)))
+  pub opens : OpensInput before after name (is_lost result)

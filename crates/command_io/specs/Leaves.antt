@@ -1,0 +1,119 @@
+-- What a call leaves of an outside whose objects it opened, used and closed again.
+use Rattle.std.specs.Prelude.{◌≡◌, ◌⊎◌, ℕ, zero, suc, Bool, true, false, ◌<◌, List, [], ◌∷◌, take}
+use Rattle.std.specs.Prelude.{Option, bytes_eq}
+use Rattle.std.specs.List.{list_any}
+use Rattle.outside.specs.Faults.{next_count}
+use Rattle.outside.specs.Source.{SourceTold}
+use Rattle.outside.specs.Sink.{SinkTold}
+use Rattle.outside.specs.Outside.{Standing, untold, missing, lent, there, OutsideTold, Asks}
+
+-- a count of faults after so many more
+abbrev pub raised : ℕ → ℕ → ℕ
+raised zero count = count
+raised (suc more) count = next_count (raised more count)
+
+-- a count rose by some faults, or by none
+abbrev pub Grows : ℕ → ℕ → Type 0
+Grows before now = (more : ℕ) × (now ≡ raised more before)
+
+-- a count rose
+abbrev pub Rises : ℕ → ℕ → Type 0
+Rises before now = (more : ℕ) × (now ≡ raised (suc more) before)
+
+-- whether a name is one of these
+abbrev pub is_among : List (List ℕ) → List ℕ → Bool
+is_among names name = list_any (bytes_eq name) names
+
+-- a fact of some of these names
+abbrev pub SomeOf : List (List ℕ) → (List ℕ → Type 0) → Type 0
+SomeOf [] fact = ⊥
+SomeOf (name ∷ names) fact = fact name ⊎ SomeOf names fact
+
+-- a fact of each of these names
+abbrev pub EachOf : List (List ℕ) → (List ℕ → Type 0) → Type 0
+EachOf [] fact = Unit {0}
+EachOf (name ∷ names) fact = fact name × EachOf names fact
+
+module _ {X : Type 0} (faults : X → ℕ) where
+  -- an object stands there again, with no fewer faults, and with no more unless the call failed
+  abbrev pub StandsAgain : Bool → Standing X → Standing X → Type 0
+  StandsAgain failed untold after = after ≡ untold
+  StandsAgain failed missing after = after ≡ missing
+  StandsAgain failed lent after = after ≡ lent
+  StandsAgain failed (there x) after =
+      (y : X) × (after ≡ there y) × Grows (faults x) (faults y)
+      × (failed ≡ false → faults y ≡ faults x)
+
+  -- no object is told to stand there, or the one that stands there has failed since
+  abbrev pub FailedAt : Standing X → Standing X → Type 0
+  FailedAt untold after = Unit {0}
+  FailedAt missing after = Unit {0}
+  FailedAt lent after = Unit {0}
+  FailedAt (there x) after = (y : X) × (after ≡ there y) × Rises (faults x) (faults y)
+
+  -- no object is told to stand there, or the one that stands there has a fault, however old
+  abbrev pub FaultyAt : Standing X → Standing X → Type 0
+  FaultyAt untold after = Unit {0}
+  FaultyAt missing after = Unit {0}
+  FaultyAt lent after = Unit {0}
+  FaultyAt (there x) after = (y : X) × (after ≡ there y) × (0 < faults y)
+
+  -- the object that stands there, if one does, has no fault
+  abbrev pub CleanAt : Standing X → Type 0
+  CleanAt untold = Unit {0}
+  CleanAt missing = Unit {0}
+  CleanAt lent = Unit {0}
+  CleanAt (there x) = faults x ≡ 0
+
+  -- what stands under other names is as before, and under these names something stands again
+  pub record Keeps (failed : Bool) (names : List (List ℕ)) (before after : List ℕ → Standing X) : Type 0 where
+    pub others : (name : List ℕ) → is_among names name ≡ false → after name ≡ before name
+    pub again : (name : List ℕ) → StandsAgain failed (before name) (after name)
+
+abbrev pub source_faults : SourceTold → ℕ
+source_faults source = source.faults
+
+abbrev pub sink_faults : SinkTold → ℕ
+sink_faults sink = sink.faults
+
+-- a front part of these names was asked for
+abbrev pub AsksFront : Option (List (List ℕ)) → Option (List (List ℕ)) → List (List ℕ) → Type 0
+AsksFront before after names = (count : ℕ) × Asks before after (take count names)
+
+module _ (inputs outputs : List (List ℕ)) where
+  -- an object under one of the names is the reason of a failure
+  abbrev pub HasReason : OutsideTold → OutsideTold → Type 0
+  HasReason before after =
+      SomeOf inputs (λ name. FailedAt source_faults (before.sources name) (after.sources name))
+      ⊎ SomeOf outputs (λ name. FailedAt sink_faults (before.sinks name) (after.sinks name))
+
+  -- an object under one of the names is missing or has a fault
+  abbrev pub HasFaulty : OutsideTold → OutsideTold → Type 0
+  HasFaulty before after =
+      SomeOf inputs (λ name. FaultyAt source_faults (before.sources name) (after.sources name))
+      ⊎ SomeOf outputs (λ name. FaultyAt sink_faults (before.sinks name) (after.sinks name))
+
+  -- no object under the names has a fault
+  abbrev pub IsClean : OutsideTold → Type 0
+  IsClean before =
+      EachOf inputs (λ name. CleanAt source_faults (before.sources name))
+      × EachOf outputs (λ name. CleanAt sink_faults (before.sinks name))
+
+  -- the faults that a call counts: `failed` says whether it answers that something outside failed
+  pub record IsCounted (failed : Bool) (before after : OutsideTold) : Type 0 where
+    -- a failure is answered only where the count rose
+    pub cause : failed ≡ true → Rises before.faults after.faults
+    -- and only where nothing stood under one of the names, or what stands there failed since
+    pub reason : failed ≡ true → HasReason before after
+    -- whatever is answered, the count is as before, or it rose and has its reason
+    pub kept : (after.faults ≡ before.faults) ⊎ (Rises before.faults after.faults × HasFaulty before after)
+    -- where no object had a fault before, the count rises only where a failure is answered
+    pub exact : IsClean before → failed ≡ false → after.faults ≡ before.faults
+
+  -- a call opens these names and no others, in order as far as it comes, and closes what it opened
+  pub record Uses (failed : Bool) (before after : OutsideTold) : Type 0 where
+    pub counted : IsCounted failed before after
+    pub sources : Keeps source_faults failed inputs before.sources after.sources
+    pub sinks : Keeps sink_faults failed outputs before.sinks after.sinks
+    pub read : AsksFront before.read_names after.read_names inputs
+    pub written : AsksFront before.written_names after.written_names outputs

@@ -1,0 +1,5 @@
+pub mod Leaves
+pub mod Statuses
+pub mod Saying
+pub mod Runs
+pub mod Inputs

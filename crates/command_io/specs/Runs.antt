@@ -1,0 +1,86 @@
+-- What a run leaves outside, by its status.
+use Rattle.std.specs.Prelude.{◌≡◌, ◌≢◌, ◌⊎◌, ℕ, Bool, true, false, List, [], ◌∷◌, take}
+use Rattle.std.specs.Prelude.{Option, Some, None, IfSome, codes}
+use Rattle.outside.specs.Octets.{Adds}
+use Rattle.outside.specs.Sink.{SinkTold, AppendsAll, AppendsPart}
+use Rattle.outside.specs.Outside.{Standing, untold, missing, lent, there, OutsideTold, Asks}
+use Rattle.command_io.specs.declared.status.Status.{Status}
+use Rattle.command_io.specs.declared.status.Status.TheVariants.{Done, Usage, Input, Outside, Memory}
+use Rattle.command_io.specs.Statuses.{is_outside, OnWhole}
+use Rattle.command_io.specs.Leaves.{Uses, Rises}
+use Rattle.command_io.specs.Saying.{Said, Duty}
+
+-- the name of standard output among the sinks
+abbrev pub output_name : List ℕ
+output_name = codes "-"
+
+-- the octets told to be taken by what stands under a name
+abbrev pub taken_of : Standing SinkTold → Option (List ℕ)
+taken_of untold = None
+taken_of missing = None
+taken_of lent = None
+taken_of (there sink) = sink.taken
+
+-- a sink took all of these octets; after a fault outside and want of memory a front part of them
+abbrev pub Took : Status → Option (List ℕ) → Option (List ℕ) → List ℕ → Type 0
+Took Done before after octets = Adds before after octets
+Took Usage before after octets = Adds before after octets
+Took Input before after octets = Adds before after octets
+Took Outside before after octets = (count : ℕ) × Adds before after (take count octets)
+Took Memory before after octets = (count : ℕ) × Adds before after (take count octets)
+
+-- a fact of each of some files and its octets
+abbrev pub EachFile : List (List ℕ × List ℕ) → (List ℕ → List ℕ → Type 0) → Type 0
+EachFile [] fact = Unit {0}
+EachFile (file ∷ files) fact = fact file.0 file.1 × EachFile files fact
+
+-- the status and the whole output are those said; after a fault outside and want of memory a front
+-- part of the output went out
+pub record IsSaid (status : Status) (before after : List ℕ → Standing SinkTold) (said : Said) : Type 0 where
+  pub answered : OnWhole status (said.status ≡ status)
+  pub output : Took status (taken_of (before output_name)) (taken_of (after output_name)) said.text
+  pub files : EachFile said.files (λ name octets. Took status (taken_of (before name)) (taken_of (after name)) octets)
+
+-- words that are no command are answered so, or by a fault outside where `usage` can't be printed;
+-- no command is
+abbrev pub MatchesWords : Bool → Status → Type 0
+MatchesWords false status = (status ≡ Usage) ⊎ (status ≡ Outside)
+MatchesWords true status = status ≢ Usage
+
+-- a sink stands under the name, where anything is told of it
+abbrev pub IsThere : Standing SinkTold → Type 0
+IsThere untold = Unit {0}
+IsThere missing = ⊥
+IsThere lent = ⊥
+IsThere (there sink) = Unit {0}
+
+-- where nothing outside failed, the status is the one said, but for want of memory
+abbrev pub IsComplete : ℕ → ℕ → Status → Said → Type 0
+IsComplete before now status said =
+    (Rises before now → ⊥) → (status ≡ said.status) ⊎ (status ≡ Memory)
+
+-- what a run with this duty leaves outside, and the status that it answers
+pub record IsRun (duty : Duty) (before after : OutsideTold) (status : Status) : Type 0 where
+  -- words out of the grammar are answered 2, and no others are
+  pub words : MatchesWords duty.is_command status
+  -- where the inputs are told, the status and what is printed are those said
+  pub said : IfSome duty.says (IsSaid status before.sinks after.sinks)
+  -- nothing is called whole where standard output couldn't be opened
+  pub output : OnWhole status (IsThere (before.sinks output_name))
+  -- the inputs and standard output alone are opened, in order, and each is closed again; a fault
+  -- outside has its cause and its reason
+  pub uses : Uses duty.inputs (output_name ∷ []) (is_outside status) before after
+  -- where the output is whole, all of the inputs were opened, and standard output
+  pub opened : OnWhole status (IfSome duty.says (λ _. Asks before.read_names after.read_names duty.inputs))
+  pub printed : OnWhole status (Asks before.written_names after.written_names (output_name ∷ []))
+  -- where nothing outside failed, all is done, but for want of memory
+  pub complete : IfSome duty.says (IsComplete before.faults after.faults status)
+
+-- what a command does to standard output while that is open: the status and what is taken are those
+-- said, and no write comes after one that failed
+abbrev pub Tells : Said → SinkTold → SinkTold → Status → Type 0
+Tells said before after Done = (said.status ≡ Done) × AppendsAll before after said.text
+Tells said before after Usage = (said.status ≡ Usage) × AppendsAll before after said.text
+Tells said before after Input = (said.status ≡ Input) × AppendsAll before after said.text
+Tells said before after Outside = AppendsPart before after said.text true
+Tells said before after Memory = AppendsPart before after said.text false

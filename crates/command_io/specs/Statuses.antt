@@ -1,0 +1,44 @@
+-- Exit statuses.
+use Rattle.std.specs.Prelude.{ℕ, Bool, true, false}
+use Rattle.command_io.specs.declared.status.Status.{Status}
+use Rattle.command_io.specs.declared.status.Status.TheVariants.{Done, Usage, Input, Outside, Memory}
+
+-- the exit status
+abbrev pub code_of : Status → ℕ
+code_of Done = 0
+code_of Usage = 2
+code_of Input = 3
+code_of Outside = 4
+code_of Memory = 7
+
+-- whether it answers a fault outside
+abbrev pub is_outside : Status → Bool
+is_outside Done = false
+is_outside Usage = false
+is_outside Input = false
+is_outside Outside = true
+is_outside Memory = false
+
+-- whether all output is whole with it
+abbrev pub is_whole : Status → Bool
+is_whole Done = true
+is_whole Usage = true
+is_whole Input = true
+is_whole Outside = false
+is_whole Memory = false
+
+-- a fact of a status with which all output is whole
+abbrev pub OnWhole : Status → Type 0 → Type 0
+OnWhole Done fact = fact
+OnWhole Usage fact = fact
+OnWhole Input fact = fact
+OnWhole Outside fact = Unit {0}
+OnWhole Memory fact = Unit {0}
+
+-- whether it answers words that are a command
+abbrev pub is_of_command : Status → Bool
+is_of_command Done = true
+is_of_command Usage = false
+is_of_command Input = true
+is_of_command Outside = true
+is_of_command Memory = true

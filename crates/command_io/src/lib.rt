@@ -1,0 +1,11 @@
+//! What the commands of the program share: how a command ends, its inputs, each opened, read to its end and closed, and
+//! what it prints.
+#![tactic(auto)]
+
+mod input;
+mod output;
+mod status;
+
+pub use input::{InputEnd, Refusal, TEXT_LIMIT, read_input};
+pub use output::{OUTPUT, print, refuse, tell_refusal};
+pub use status::Status;
