@@ -2,7 +2,6 @@
 #![tactic(auto)]
 
 mod data;
-mod escaped;
 mod name_text;
 mod object_name;
 mod outcome;

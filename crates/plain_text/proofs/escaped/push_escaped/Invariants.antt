@@ -1,6 +1,6 @@
 use Rattle.std.proofs.Common.{◌≡◌, ◌++◌, take, length}
-use Rattle.plain_text.specs.Octets.{escaped_text}
-use Rattle.plain_text.proofs.writing.push_escaped.Given as goal
+use Rattle.plain_text.specs.Escaped.{escaped_text}
+use Rattle.plain_text.proofs.escaped.push_escaped.Given as goal
 
 abbrev pub invariant-loop-octet : goal.invariant-loop-octet
 invariant-loop-octet l = record {

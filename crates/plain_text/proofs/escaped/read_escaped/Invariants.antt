@@ -1,8 +1,8 @@
 -- The text up to the place is read.
 use Rattle.std.proofs.Common.{◌≡◌, ◌-◌, ◌≤◌, length, drop}
-use Rattle.mms_data.specs.NameIn.{unescaped}
-use Rattle.mms_data.proofs.Unescape.{after_octets}
-use Rattle.mms_data.proofs.escaped.unescape.Given as goal
+use Rattle.plain_text.specs.Escaped.{unescaped}
+use Rattle.plain_text.proofs.Unescape.{after_octets}
+use Rattle.plain_text.proofs.escaped.read_escaped.Given as goal
 
 abbrev pub invariant-loop-place : goal.invariant-loop-place
 invariant-loop-place l = record {

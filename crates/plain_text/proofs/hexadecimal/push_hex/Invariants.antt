@@ -1,6 +1,6 @@
 use Rattle.std.proofs.Common.{◌≡◌, ◌++◌, take, length}
 use Rattle.plain_text.specs.Octets.{hex_text}
-use Rattle.plain_text.proofs.writing.push_hex.Given as goal
+use Rattle.plain_text.proofs.hexadecimal.push_hex.Given as goal
 
 abbrev pub invariant-loop-octet : goal.invariant-loop-octet
 invariant-loop-octet l = record {
