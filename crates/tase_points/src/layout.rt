@@ -19,6 +19,19 @@ pub enum Component {
     Cov,
 }
 
+impl Component {
+    ghost use Rattle.std.specs.Prelude.{◌≡◌, ◌↔◌, IsTrue};
+    ghost use Rattle.tase_points.specs.Same.{same_component};
+
+    /// Whether two components are one.
+    pub fn is_same(self, other: Component) -> bool
+        ensures value { result ≡ same_component self other }
+        ensures same { IsTrue result ↔ (self ≡ other) }
+    {
+        self == other
+    }
+}
+
 /// The components in which a point is shown, in order: at least one, none twice.
 #[derive(Debug, Drop)]
 pub struct Layout {
