@@ -10,7 +10,7 @@ mod value;
 
 pub use body::Body;
 pub use kind::Kind;
-pub use layout::{Component, Layout};
+pub use layout::{COV_MODULUS, Component, Layout};
 pub use value::{
     FLAGS_LIMIT, MILLIS_LIMIT, PointValue, SECONDS_LIMIT, STATE_LIMIT, changes, unknown,
 };
