@@ -1,6 +1,8 @@
 //! Steps of the writers.
-ghost use Rattle.std.specs.Prelude.{◌≡◌, ◌≢◌, ◌+◌, ◌%◌, ◌^◌, ◌<◌, ◌≤◌, ◌++◌, take, length, vec_len, OnOk, OnErr};
-ghost use Rattle.ber_values.specs.Writing.{octets_of, length_size, length_octets, head_octets, written};
+ghost use Rattle.std.specs.Prelude.{◌≡◌, ◌≢◌, ◌+◌, ◌%◌, ◌^◌, ◌<◌, ◌≤◌, ◌++◌, take, length, vec_len};
+ghost use Rattle.std.specs.Prelude.{OnOk, OnErr};
+ghost use Rattle.ber_values.specs.Writing.{octets_of, length_size, length_octets, head_octets};
+ghost use Rattle.ber_values.specs.Writing.{written};
 
 use std::alloc::AllocError;
 
