@@ -1,5 +1,5 @@
 -- What a node keeps beside its history stays right as the history grows.
-use Rattle.std.proofs.Common.{◌≡◌, ◌≢◌, ◌==◌, ℕ, ◌+◌, ◌%◌, ◌<◌, ◌≤◌, Bool, true, false, List, [], ◌∷◌, map, set, length, get_or, Option, Some, None, refl, sym, ap, ◌∙◌, ⊎_elim, arith, zero-add, length-set, get_or-set_same, get_or-set_other}
+use Rattle.std.proofs.Common.{◌≡◌, ◌≢◌, ◌==◌, ℕ, ◌+◌, ◌%◌, ◌<◌, ◌≤◌, Bool, true, false, List, [], ◌∷◌, map, set, length, get_or, Option, Some, None, refl, sym, ap, ◌∙◌, subst, ⊎_elim, arith, zero-add, length-set, get_or-set_same, get_or-set_other}
 use Rattle.std.specs.Prelude.{replicate, slice_get, if◌then◌else◌}
 use Rattle.std.specs.Option.{option_map}
 use Rattle.std.proofs.lemmas.Bool.{cases_eq, eq-eqb, ne_eqb}
@@ -10,8 +10,9 @@ use Rattle.tase_points.specs.Values.{unknown_sample, is_change}
 use Rattle.bilateral.specs.Rows.{CentreRows, IsCentre, no_point}
 use Rattle.tase_views.specs.declared.call.CallKind.{CallKind}
 use Rattle.tase_views.specs.declared.event.EventKind.{EventKind}
+use Rattle.tase_views.specs.declared.event.Entry.{Entry}
 use Rattle.tase_views.specs.declared.event.EventKind.TheVariants.{Open, Request, Update}
-use Rattle.tase_views.specs.declared.reply.Key.{Key}
+use Rattle.sbo_device.specs.declared.key.Key.{Key}
 use Rattle.tase_views.specs.History.{Past, association_in, opens_in, counts_open}
 use Rattle.node_core.specs.LastValues.{last_value, change_total}
 use Rattle.node_core.specs.Stored.{IsStored}
@@ -79,7 +80,7 @@ IsStored-request rows past values counts opens found who call s =
       count_count = s.count_count;
       open_count = s.open_count;
       last = s.last;
-      changed = λ p there. s.changed p there ∙ ap (λ n. Some (n % 65536)) (sym (zero-add (change_total rows past p)));
+      changed = s.changed;
       opened = λ p there. s.opened p there ∙ ap Some (sym (zero-add (opens_in past p)));
       seated = λ asked. elim (who == asked) as (λ b. found asked ≡ (if b then association_in past asked else association_in past asked)) [ true ↦ s.seated asked | false ↦ s.seated asked ];
       known = s.known;
@@ -103,6 +104,8 @@ IsStored-update rows past values counts opens found who p value old count within
     let counts_length : length counts ≡ length rows.points = s.count_count in
     let last_is : old ≡ last_value rows past p = old_is ∙ get_or_from_slice_get values p (last_value rows past p) old (s.last p (omega arith)) in
     let total_is : count ≡ change_total rows past p % 65536 = count_is ∙ get_or_from_slice_get counts p (change_total rows past p % 65536) count (s.changed p (omega arith)) in
+    let after : ℕ = count_after count (is_change old value) in
+    let entry : Entry = record { who = who; event = Update p value } in
     record {
       lawful = s.lawful;
       value_count = length-set values p value ∙ s.value_count;
@@ -116,11 +119,13 @@ IsStored-update rows past values counts opens found who p value old count within
       changed = λ q there.
           ⊎_elim
           (λ same.
-          rw (eq-eqb p q same, ← same)
-          (slice_get-set_here counts p p _ refl (omega arith) ∙ ap Some (rw (total_is, last_is) (count_after-total (change_total rows past p) (is_change (last_value rows past p) value)))))
+          subst (λ at. slice_get (set counts p after) at ≡ Some (change_total rows (entry ∷ past) at % 65536)) same
+          (rw (eq-eqb p p refl)
+          (slice_get-set_here counts p p after refl (omega arith)
+          ∙ ap Some (rw (total_is, last_is) (count_after-total (change_total rows past p) (is_change (last_value rows past p) value))))))
           (λ apart.
           rw (ne_eqb p q apart)
-          (slice_get-set_other counts p q _ (λ e. apart (sym e)) (omega arith) ∙ s.changed q there ∙ ap (λ n. Some (n % 65536)) (sym (zero-add (change_total rows past q)))))
+          (slice_get-set_other counts p q _ (λ e. apart (sym e)) (omega arith) ∙ s.changed q there))
           (cases_eq p q);
       opened = λ q there. s.opened q there ∙ ap Some (sym (zero-add (opens_in past q)));
       seated = λ asked. elim (who == asked) as (λ b. found asked ≡ (if b then association_in past asked else association_in past asked)) [ true ↦ s.seated asked | false ↦ s.seated asked ];
@@ -152,7 +157,7 @@ IsStored-open rows past values counts opens found after who peer within seated s
       count_count = s.count_count;
       open_count = length-set opens peer _ ∙ s.open_count;
       last = s.last;
-      changed = λ p there. s.changed p there ∙ ap (λ n. Some (n % 65536)) (sym (zero-add (change_total rows past p)));
+      changed = s.changed;
       opened = λ q there.
           ⊎_elim
           (λ same. rw (eq-eqb peer q same, ← same) (slice_get-set_here opens peer peer _ refl within ∙ ap Some (omega arith)))

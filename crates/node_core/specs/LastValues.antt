@@ -1,30 +1,26 @@
 -- What a history gives each point, by its number.
-use Rattle.std.specs.Prelude.{ℕ, ◌+◌, ◌==◌, ◌&&◌, if◌then◌else◌, [], ◌∷◌}
+use Rattle.std.specs.Prelude.{ℕ, ◌==◌, if◌then◌else◌, List, Option, Some, None, filter_map}
 use Rattle.tase_points.specs.Sample.{Sample}
-use Rattle.tase_points.specs.Values.{unknown_sample, is_change}
 use Rattle.bilateral.specs.Rows.{CentreRows, point_of}
 use Rattle.tase_views.specs.declared.event.EventKind.{EventKind}
 use Rattle.tase_views.specs.declared.event.EventKind.TheVariants.{Open, Request, Update}
 use Rattle.tase_views.specs.History.{Past}
+use Rattle.tase_views.specs.Values.{last_of, changes_of}
 
--- a point's value after an event, if it had `before`
-abbrev pub value_after : EventKind → ℕ → Sample → Sample
-value_after (Open peer) p before = before
-value_after (Request call) p before = before
-value_after (Update point value) p before = if point == p then value else before
+-- the new value of a point that an event is, where it is one
+abbrev pub value_given : ℕ → EventKind → Option Sample
+value_given p (Open peer) = None
+value_given p (Request call) = None
+value_given p (Update point value) = if point == p then Some value else None
+
+-- the values that a point was given, the newest first
+abbrev pub values_given : Past → ℕ → List Sample
+values_given past p = filter_map (λ entry. value_given p entry.event) past
 
 -- a point's last value
 abbrev pub last_value : CentreRows → Past → ℕ → Sample
-last_value rows [] p = unknown_sample (point_of rows p).kind
-last_value rows (entry ∷ past) p = value_after entry.event p (last_value rows past p)
-
--- whether an event changes a point that had `before`, as a number
-abbrev pub counts_change : EventKind → ℕ → Sample → ℕ
-counts_change (Open peer) p before = 0
-counts_change (Request call) p before = 0
-counts_change (Update point value) p before = if point == p && is_change before value then 1 else 0
+last_value rows past p = last_of (point_of rows p).kind (values_given past p)
 
 -- how often a point has changed
 abbrev pub change_total : CentreRows → Past → ℕ → ℕ
-change_total rows [] p = 0
-change_total rows (entry ∷ past) p = counts_change entry.event p (last_value rows past p) + change_total rows past p
+change_total rows past p = changes_of (point_of rows p).kind (values_given past p)

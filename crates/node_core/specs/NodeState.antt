@@ -1,13 +1,12 @@
 -- What contracts see of a node.
 use Rattle.std.specs.Prelude.{ℕ, List, [], ◌∷◌, ◌++◌}
-use Rattle.bilateral.specs.Rows.{CentreRows}
 use Rattle.tase_views.specs.declared.event.Entry.{Entry}
 use Rattle.tase_views.specs.declared.event.EventKind.{EventKind}
+use Rattle.tase_views.specs.Setup.{Setup}
 
--- the centre, the limit on the history's weight, and the accepted events with their seats, the oldest first
+-- the setup, and the accepted events with their seats, the oldest first
 pub record NodeState : Type 0 where
-  pub centre : CentreRows
-  pub limit : ℕ
+  pub setup : Setup
   pub history : List Entry
 
 -- the node with one more entry in its history

@@ -3,7 +3,7 @@ use Rattle.std.specs.Prelude.{◌≡◌, ℕ, ◌<◌, ◌%◌, List, length, Op
 use Rattle.std.specs.HashMap.{get}
 use Rattle.tase_points.specs.Sample.{Sample}
 use Rattle.bilateral.specs.Rows.{CentreRows, IsCentre}
-use Rattle.tase_views.specs.declared.reply.Key.{Key}
+use Rattle.sbo_device.specs.declared.key.Key.{Key}
 use Rattle.tase_views.specs.History.{Past, opens_in, association_in}
 use Rattle.node_core.specs.declared.store.Store.{Store}
 use Rattle.node_core.specs.LastValues.{last_value, change_total}

@@ -13,16 +13,15 @@ use crate::store::Store;
 use bilateral::Centre;
 use mms_data::{Name, Names, Outcome};
 use point_data::to_data;
+use sbo_device::Key;
 use std::alloc::{AllocError, Global};
 use std::marker::Model;
 use std::sync::Arc;
 use tase_points::PointValue;
 use tase_views::{
-    Answer, Call, CallKind, Entry, Event, EventKind, Key, Reply, ReplyKind, Results, StepFault,
+    Answer, Call, CallKind, Entry, Event, EventKind, OBJECT_NON_EXISTENT, Reply, ReplyKind, Results,
+    StepFault,
 };
-
-/// The reason of a read that a name doesn't exist (ISO 9506-2, `DataAccessError`: object-non-existent).
-const NOT_THERE: u8 = 10;
 
 /// A TASE.2 node without input and output: its centre's tables and the history of its accepted events.
 #[derive(Drop)]
@@ -41,7 +40,7 @@ impl Model for Node {
 
     ghost Value = { NodeState };
 
-    ghost view = { λ n. record { centre = arc_value n.centre; limit = n.limit; history = n.history.items } };
+    ghost view = { λ n. record { setup = record { centre = arc_value n.centre; limit = n.limit }; history = n.history.items } };
 
     ghost invariant = { λ n. Keeps (arc_value n.centre) (reverse n.history.items) n.store };
 }
@@ -51,7 +50,8 @@ impl Node {
     /// nothing yet.
     pub fn new(alloc: Global, centre: Arc<Centre>, limit: u64) -> Result<Node, AllocError>
         requires { limit ≤ 2 ^ 31 }
-        ensures { IfOk result (λ node. node ≡ record { centre = arc_value centre; limit = limit; history = [] }) }
+        ensures { IfOk result (λ node. node
+            ≡ record { setup = record { centre = arc_value centre; limit = limit }; history = [] }) }
     {
         let store = Store::new(alloc, &centre)?;
         Ok(Node {
@@ -64,7 +64,7 @@ impl Node {
 
     /// Takes one event of a seat. An answer adds exactly this entry to the history; a fault changes nothing.
     pub fn step(&mut self, alloc: Global, who: u64, event: Event) -> Result<Answer, StepFault>
-        ensures right { IsRightOutcome self.old.centre (reverse self.old.history) who event result }
+        ensures right { IsRightOutcome self.old.setup (reverse self.old.history) who event result }
         ensures ok { OnOk result (self.new ≡ with_entry self.old who event) }
         ensures err { OnErr result (self.new ≡ self.old) }
     {
@@ -104,14 +104,14 @@ impl Node {
     }
 
     pub fn centre(&self) -> &Centre
-        ensures { result.now ≡ self.now.centre }
+        ensures { result.now ≡ self.now.setup.centre }
     {
         &self.centre
     }
 
     fn open(&mut self, who: u64, peer: u32, event: Event) -> Result<Answer, StepFault>
         requires { event ≡ Open peer }
-        ensures right { IsRightOutcome self.old.centre (reverse self.old.history) who event result }
+        ensures right { IsRightOutcome self.old.setup (reverse self.old.history) who event result }
         ensures ok { OnOk result (self.new ≡ with_entry self.old who event) }
         ensures err { OnErr result (self.new ≡ self.old) }
     {
@@ -135,7 +135,7 @@ impl Node {
         event: Event,
     ) -> Result<Answer, StepFault>
         requires { event ≡ Update point value }
-        ensures right { IsRightOutcome self.old.centre (reverse self.old.history) who event result }
+        ensures right { IsRightOutcome self.old.setup (reverse self.old.history) who event result }
         ensures ok { OnOk result (self.new ≡ with_entry self.old who event) }
         ensures err { OnErr result (self.new ≡ self.old) }
     {
@@ -158,9 +158,11 @@ impl Node {
     }
 
     fn reply_to(&self, alloc: Global, who: u64, call: &Call) -> Result<Reply, StepFault>
-        ensures ok { IfOk result (λ reply. (refusal_of self.now.centre (reverse self.now.history) who (Request call.now) ≡ None)
-            × IsAnswer self.now.centre (reverse self.now.history) who (Request call.now) (Answer.Reply reply)) }
-        ensures err { IfErr result (IsRefusal (refusal_of self.now.centre (reverse self.now.history) who (Request call.now))) }
+        ensures ok { IfOk result (λ reply.
+            (refusal_of self.now.setup (reverse self.now.history) who (Request call.now) ≡ None)
+            × IsAnswer self.now.setup (reverse self.now.history) who (Request call.now) (Answer.Reply reply)) }
+        ensures err { IfErr result (IsRefusal
+            (refusal_of self.now.setup (reverse self.now.history) who (Request call.now))) }
     {
         let Some(key) = self.store.association(who) else {
             return Err(StepFault::NoAssociation);
@@ -175,25 +177,27 @@ impl Node {
 
     /// Reads the named variables for an association, in order.
     fn read(&self, alloc: Global, key: Key, names: &Names) -> Result<Results, AllocError>
-        requires { key.peer < length self.now.centre.tables }
-        ensures { IfOk result (λ results. results
-            ≡ outcomes_of (own_table self.now.centre key.peer) (view_of self.now.centre key.peer (reverse self.now.history)) key.ordinal names.now) }
+        requires { key.peer < length self.now.setup.centre.tables }
+        ensures { let rows = self.now.setup.centre in IfOk result (λ results. results
+            ≡ outcomes_of (own_table rows key.peer) (view_of rows key.peer (reverse self.now.history))
+            key.ordinal names.now) }
     {
         let mut results = Results::new(alloc);
         for place in 0..names.len() {
             let name = names.get(place).unwrap();
-            results.push(self.read_one(alloc, key.peer, name)?)?;
+            results.push(self.read_one(alloc, key, name)?)?;
         }
         Ok(results)
     }
 
-    fn read_one(&self, alloc: Global, peer: u32, name: &Name) -> Result<Outcome, AllocError>
-        requires { peer < length self.now.centre.tables }
-        ensures { IfOk result (λ outcome. outcome
-            ≡ outcome_of (own_table self.now.centre peer) (view_of self.now.centre peer (reverse self.now.history)) name.now) }
+    fn read_one(&self, alloc: Global, key: Key, name: &Name) -> Result<Outcome, AllocError>
+        requires { key.peer < length self.now.setup.centre.tables }
+        ensures { let rows = self.now.setup.centre in IfOk result (λ outcome. outcome
+            ≡ outcome_of (own_table rows key.peer) (view_of rows key.peer (reverse self.now.history))
+            key.ordinal name.now) }
     {
-        let Some(see) = find_named(&self.centre, peer, name) else {
-            return Ok(Outcome::Fail(NOT_THERE));
+        let Some(see) = find_named(&self.centre, key.peer, name) else {
+            return Ok(Outcome::Fail(OBJECT_NON_EXISTENT));
         };
         let value = self.store.value(see.point);
         let count = self.store.count(see.point);

@@ -6,10 +6,10 @@ ghost use Rattle.tase_views.specs.History.{Past, association_in};
 ghost use Rattle.node_core.specs.Stored.{Keeps};
 
 use bilateral::Centre;
+use sbo_device::Key;
 use std::alloc::{AllocError, Global};
 use std::collections::HashMap;
 use tase_points::{PointValue, changes, unknown};
-use tase_views::Key;
 
 /// What a node knows of its history without looking through it.
 #[derive(Drop)]

@@ -1,10 +1,11 @@
 use super::*;
 use bilateral::read_centre;
+use sbo_device::Key;
 use std::alloc::Global;
 use std::sync::Arc;
 use std::test::Fail;
 use tase_points::{Body, PointValue};
-use tase_views::{Answer, Event, EventKind, Key, StepFault, read_call, spell_reply};
+use tase_views::{Answer, Event, EventKind, StepFault, read_call, spell_reply};
 
 const TABLES: &str =
     "point BUS1 state\npoint LOAD1 discrete\npeer A 1.1.999.1 DOMA TBLA\nsee BUS1 domain value\npeer B 1.1.999.2 DOMB TBLB\nsee BUS1 vmd value,cov\nsee LOAD1 domain value,flags\n";

@@ -1,1 +1,4 @@
 pub mod Names
+pub mod Seen
+pub mod Alike
+pub mod Reseated

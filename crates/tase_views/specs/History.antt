@@ -1,9 +1,9 @@
 -- The history of a node, and the associations of its seats.
-use Rattle.std.specs.Prelude.{ℕ, ◌+◌, ◌==◌, if◌then◌else◌, List, [], ◌∷◌, Option, Some, None}
+use Rattle.std.specs.Prelude.{ℕ, ◌+◌, ◌==◌, ◌&&◌, if◌then◌else◌, Bool, false, List, [], ◌∷◌, Option, Some, None}
+use Rattle.sbo_device.specs.declared.key.Key.{Key}
 use Rattle.tase_views.specs.declared.event.EventKind.{EventKind}
 use Rattle.tase_views.specs.declared.event.EventKind.TheVariants.{Open, Request, Update}
 use Rattle.tase_views.specs.declared.event.Entry.{Entry}
-use Rattle.tase_views.specs.declared.reply.Key.{Key}
 
 -- the accepted events with their seats, the newest first
 abbrev pub Past : Type 0
@@ -11,7 +11,7 @@ Past = List Entry
 
 -- whether an event is an open by this peer, as a number
 abbrev pub counts_open : EventKind → ℕ → ℕ
-counts_open (Open opened) peer = if opened == peer then 1 else 0
+counts_open (Open opener) peer = if opener == peer then 1 else 0
 counts_open (Request call) peer = 0
 counts_open (Update point value) peer = 0
 
@@ -20,13 +20,35 @@ abbrev pub opens_in : Past → ℕ → ℕ
 opens_in [] peer = 0
 opens_in (entry ∷ past) peer = counts_open entry.event peer + opens_in past peer
 
+-- the association that an open by this peer opens: the peer, and how many associations it had opened before
+abbrev pub next_key : Past → ℕ → Key
+next_key past peer = record { peer = peer; ordinal = opens_in past peer }
+
 -- the association of a seat after an event of it, if it had `before`
 abbrev pub association_after : EventKind → Past → Option Key → Option Key
-association_after (Open peer) past before = Some (record { peer = peer; ordinal = opens_in past peer })
+association_after (Open peer) past before = Some (next_key past peer)
 association_after (Request call) past before = before
 association_after (Update point value) past before = before
 
--- the open association of a seat: the peer of its last open, and how many associations that peer had opened before
+-- the open association of a seat
 abbrev pub association_in : Past → ℕ → Option Key
 association_in [] who = None
-association_in (entry ∷ past) who = if entry.who == who then association_after entry.event past (association_in past who) else association_in past who
+association_in (entry ∷ past) who =
+    if entry.who == who then association_after entry.event past (association_in past who) else association_in past who
+
+-- the association that an event of a seat is of: that which it opens, or else the seat's before it
+abbrev pub key_at : EventKind → Past → ℕ → Option Key
+key_at (Open peer) past who = Some (next_key past peer)
+key_at (Request call) past who = association_in past who
+key_at (Update point value) past who = association_in past who
+
+-- whether an association is this one
+abbrev pub is_key : Key → Option Key → Bool
+is_key key None = false
+is_key key (Some other) = (other.peer == key.peer) && (other.ordinal == key.ordinal)
+
+-- the entries of an association, the newest first: its open, and the others of its seat for as long as it is open there
+abbrev pub entries_of : Key → Past → Past
+entries_of key [] = []
+entries_of key (entry ∷ past) =
+    if is_key key (key_at entry.event past entry.who) then entry ∷ entries_of key past else entries_of key past

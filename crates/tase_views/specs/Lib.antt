@@ -1,9 +1,12 @@
 pub mod Calls
 pub mod Codes
 pub mod ReplyCode
+pub mod Setup
 pub mod History
 pub mod OwnTable
 pub mod View
+pub mod Values
+pub mod Concerns
 pub mod Answers
 pub mod Outcomes
 pub mod Texts

@@ -1,51 +1,55 @@
--- The moves of a history, what a peer sees of them, and what a point has in such a view.
-use Rattle.std.specs.Prelude.{ℕ, ◌+◌, ◌%◌, ◌==◌, ◌&&◌, if◌then◌else◌, List, [], ◌∷◌, ◌++◌, map, reverse, Option, Some, None, is_some, filter_map, bytes_eq}
-use Rattle.tase_points.specs.declared.kind.Kind.{Kind}
+-- The moves of a history, and what a peer sees of them.
+use Rattle.std.specs.Prelude.{ℕ, ◌==◌, if◌then◌else◌, List, [], ◌∷◌, ◌++◌, map, reverse, Option, Some, None, is_some, filter_map}
 use Rattle.tase_points.specs.Sample.{Sample}
-use Rattle.tase_points.specs.Values.{unknown_sample, is_change}
 use Rattle.mms_data.specs.ObjectName.{ObjectName}
 use Rattle.bilateral.specs.Rows.{CentreRows, table_of, point_of, place_of_see}
+use Rattle.sbo_device.specs.declared.key.Key.{Key}
 use Rattle.tase_views.specs.declared.call.CallKind.{CallKind}
 use Rattle.tase_views.specs.declared.call.CallKind.TheVariants.{Read}
 use Rattle.tase_views.specs.declared.event.EventKind.{EventKind}
 use Rattle.tase_views.specs.declared.event.EventKind.TheVariants.{Open, Request, Update}
-use Rattle.tase_views.specs.declared.reply.Key.{Key}
-use Rattle.tase_views.specs.History.{Past, association_in}
+use Rattle.tase_views.specs.History.{Past, key_at}
 
--- what an event does, one move for each variable of a read, with the association that does it
+-- what an association does
+pub data Act : Type 0 where
+  opens : Act
+  reads : ObjectName → Act
+
+-- an act of an association, or a new value of a point, by its number
 pub data Move : Type 0 where
-  opens : Key → Move
-  reads : Key → ObjectName → Move
+  acts : Key → Act → Move
   updates : ℕ → Sample → Move
 
--- the moves of an association's call, the newest first
-abbrev pub moves_of_call : Key → CallKind → List Move
-moves_of_call key (Read names) = reverse (map (reads key) names)
+-- the acts of a call, one for each variable of a read, the newest first
+abbrev pub acts_of_call : CallKind → List Act
+acts_of_call (Read names) = reverse (map reads names)
 
--- the moves of an event of a seat with this association after it, the newest first
-abbrev pub moves_of_event : Option Key → EventKind → List Move
-moves_of_event (Some key) (Open peer) = opens key ∷ []
-moves_of_event (Some key) (Request call) = moves_of_call key call
-moves_of_event key (Update point value) = updates point value ∷ []
-moves_of_event None (Open peer) = []
-moves_of_event None (Request call) = []
+-- acts of an association; a seat without one does nothing
+abbrev pub moves_by : Option Key → List Act → List Move
+moves_by None acts_of = []
+moves_by (Some key) acts_of = map (acts key) acts_of
+
+-- the moves of an event of this association, the newest first
+abbrev pub moves_of_event : EventKind → Option Key → List Move
+moves_of_event (Open peer) key = moves_by key (opens ∷ [])
+moves_of_event (Request call) key = moves_by key (acts_of_call call)
+moves_of_event (Update point value) key = updates point value ∷ []
 
 -- the moves of a history, the newest first
 abbrev pub moves_in : Past → List Move
 moves_in [] = []
-moves_in (entry ∷ past) = moves_of_event (association_in (entry ∷ past) entry.who) entry.event ++ moves_in past
+moves_in (entry ∷ past) = moves_of_event entry.event (key_at entry.event past entry.who) ++ moves_in past
 
--- A move as a peer sees it: its own associations by their ordinals, points by their names.
+-- A move as a peer sees it: an act of its own association with this ordinal, or a new value of a point, by its name.
 pub data Seen : Type 0 where
-  opened : ℕ → Seen
-  read : ℕ → ObjectName → Seen
+  own : ℕ → Act → Seen
   updated : List ℕ → Sample → Seen
 
--- a move of the peer's own associations, or an update of a point that its table names; nothing else
+-- an act of the peer's own associations, or an update of a point that its table names; nothing else
 abbrev pub seen_by : CentreRows → ℕ → Move → Option Seen
-seen_by rows peer (opens key) = if key.peer == peer then Some (opened key.ordinal) else None
-seen_by rows peer (reads key name) = if key.peer == peer then Some (read key.ordinal name) else None
-seen_by rows peer (updates point value) = if is_some (place_of_see (table_of rows peer) point) then Some (updated (point_of rows point).name value) else None
+seen_by rows peer (acts key act) = if key.peer == peer then Some (own key.ordinal act) else None
+seen_by rows peer (updates point value) =
+    if is_some (place_of_see (table_of rows peer) point) then Some (updated (point_of rows point).name value) else None
 
 -- what a peer sees of a history, the newest first
 abbrev pub View : Type 0
@@ -53,21 +57,3 @@ View = List Seen
 
 abbrev pub view_of : CentreRows → ℕ → Past → View
 view_of rows peer past = filter_map (seen_by rows peer) (moves_in past)
-
--- a point's value: that of its last update, or none known
-abbrev pub value_in : View → List ℕ → Kind → Sample
-value_in [] name kind = unknown_sample kind
-value_in (opened ordinal ∷ view) name kind = value_in view name kind
-value_in (read ordinal asked ∷ view) name kind = value_in view name kind
-value_in (updated point value ∷ view) name kind = if bytes_eq point name then value else value_in view name kind
-
--- how often a point has changed
-abbrev pub changes_in : View → List ℕ → Kind → ℕ
-changes_in [] name kind = 0
-changes_in (opened ordinal ∷ view) name kind = changes_in view name kind
-changes_in (read ordinal asked ∷ view) name kind = changes_in view name kind
-changes_in (updated point value ∷ view) name kind = (if bytes_eq point name && is_change (value_in view name kind) value then 1 else 0) + changes_in view name kind
-
--- the count of changes that a peer is shown
-abbrev pub change_count_in : View → List ℕ → Kind → ℕ
-change_count_in view name kind = changes_in view name kind % 65536

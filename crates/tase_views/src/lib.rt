@@ -12,8 +12,8 @@ mod texts;
 pub use call::{Call, CallKind};
 pub use event::{Entry, Event, EventKind};
 pub use fault::StepFault;
-pub use laws::two_worlds;
-pub use reply::{Answer, Key, Reply, ReplyKind, Results};
+pub use laws::{others_are_unseen, seats_are_unseen, two_worlds, views_are_of_entries};
+pub use reply::{Answer, OBJECT_NON_EXISTENT, Reply, ReplyKind, Results};
 pub use texts::{read_call, spell_reply};
 
 #[cfg(test)]

@@ -1,15 +1,12 @@
 ghost use Rattle.std.specs.Prelude.{◌≡◌, [], ◌∷◌, ◌++◌, length, OnOk, OnErr};
 
 use mms_data::Outcome;
+use sbo_device::Key;
 use std::alloc::{AllocError, Global};
 use std::marker::Model;
 
-/// An association: a peer, by its number, and how many associations that peer had opened before.
-#[derive(Clone, Copy, Debug, PartialEq, Eq)]
-pub struct Key {
-    pub peer: u32,
-    pub ordinal: u64,
-}
+/// The reason of a read that a name doesn't exist (ISO 9506-2, `DataAccessError`: object-non-existent).
+pub const OBJECT_NON_EXISTENT: u8 = 10;
 
 /// The outcomes of the variables of a read, in order.
 #[derive(Drop)]

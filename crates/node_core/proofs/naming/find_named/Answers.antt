@@ -1,7 +1,6 @@
 use Rattle.std.proofs.Common.{◌≡◌, Some, None, true, get_or, is_some, sym, ap, ◌∙◌}
-use Rattle.std.proofs.lemmas.Option.{slice_get-get_or}
 use Rattle.bilateral.specs.declared.rows.Table.{Table}
-use Rattle.bilateral.specs.Rows.{no_table, place_of_point, place_of_see, table_of}
+use Rattle.bilateral.specs.Rows.{place_of_point, place_of_see, table_of}
 use Rattle.tase_views.specs.OwnTable.{own_point, own_table, is_scope_of, point_named}
 use Rattle.node_core.proofs.Names.{point_named-no_point, point_named-no_see, point_named-see, table_of-slice_get, named_if, IfSome-then_some, row_is_named, place_of_see-within}
 use Rattle.node_core.proofs.naming.find_named.Goals as goal

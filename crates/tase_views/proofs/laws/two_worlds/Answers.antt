@@ -1,4 +1,4 @@
-use Rattle.std.proofs.Common.{◌≡◌, ap, ◌∙◌}
+use Rattle.std.proofs.Common.{ap, ◌∙◌}
 use Rattle.tase_views.specs.OwnTable.{OwnTable, own_table}
 use Rattle.tase_views.specs.View.{View, view_of}
 use Rattle.tase_views.specs.Answers.{reply_to}

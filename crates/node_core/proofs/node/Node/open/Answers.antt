@@ -2,6 +2,7 @@ use Rattle.std.proofs.Common.{◌≡◌, ◌<◌, false, is_some, get_or, length
 use Rattle.std.specs.Arc.{arc_value}
 use Rattle.std.proofs.lemmas.List.{length-reverse}
 use Rattle.bilateral.specs.Rows.{CentreRows}
+use Rattle.tase_views.specs.Setup.{Setup}
 use Rattle.tase_views.specs.History.{association_in, opens_in}
 use Rattle.node_core.proofs.Steps.{opens-at, opens_in-le-length}
 use Rattle.node_core.proofs.Outcomes.{reverse_push, IsRightOutcome-open}
@@ -37,4 +38,5 @@ returns-clause-right c =
     rw (c.association.ensures rows past c.self.invariant) at (sym c.is_some.ensures ∙ c.if-is_some.false) in
     let before : get_or c.self.inside.store.opens.items c.args.peer 0 ≡ opens_in past c.args.peer =
     opens-at rows past _ _ c.self.inside.store.opens.items _ c.args.peer there c.self.invariant in
-    rw (← c.self.view_is) (IsRightOutcome-open rows past c.args.who c.args.peer c.args.event c.in_ok-key.key c.requires free there (rw before at c.in_ok-key.ensures.key))
+    let setup : Setup = record { centre = rows; limit = c.self.inside.limit } in
+    rw (← c.self.view_is) (IsRightOutcome-open setup past c.args.who c.args.peer c.args.event c.in_ok-key.key c.requires free there (rw before at c.in_ok-key.ensures.key))

@@ -23,7 +23,8 @@ unwrap-name-requires c =
 
 pub loop-place-preserved : goal.loop-place-preserved
 loop-place-preserved c =
-    let outcome = outcome_of (own_table c.args.self.now.centre c.args.key.peer) (view_of c.args.self.now.centre c.args.key.peer (reverse c.args.self.now.history)) in
+    let rows = c.args.self.now.setup.centre in
+    let outcome = outcome_of (own_table rows c.args.key.peer) (view_of rows c.args.key.peer (reverse c.args.self.now.history)) c.args.key.ordinal in
     let name = c.unwrap-name.result.now in
     let here : get_or c.args.names.now c.loop-place.place name ≡ name =
     get_or_from_slice_get c.args.names.now c.loop-place.place name name (sym (rw c.unwrap-name.ensures at c.get.ensures)) in
@@ -32,5 +33,6 @@ loop-place-preserved c =
 
 pub returns : goal.returns
 returns c =
-    let outcome = outcome_of (own_table c.args.self.now.centre c.args.key.peer) (view_of c.args.self.now.centre c.args.key.peer (reverse c.args.self.now.history)) in
+    let rows = c.args.self.now.setup.centre in
+    let outcome = outcome_of (own_table rows c.args.key.peer) (view_of rows c.args.key.peer (reverse c.args.self.now.history)) c.args.key.ordinal in
     rw outcomes_of-map (c.loop-place.invariant ∙ ap (map outcome) (take_all c.loop-place.place c.args.names.now (omega arith)))
