@@ -85,6 +85,8 @@ pub record ClosesIn (before after : OutsideTold) (source : SourceTold) : Type 0 
 pub record OpensOut (before after : OutsideTold) (name : List ℕ) (result : Option SinkTold) : Type 0 where
   -- it hands out what stood there
   pub sink : HandsOut (λ sink. sink.name) (λ sink. sink.faults) before.sinks name (before.sinks name) result
+  -- and it holds nothing back
+  pub held : IfSome result (λ sink. sink.held ≡ 0)
   -- which is handed out now
   pub sinks : Changes lent_from before.sinks after.sinks name
   pub sources : after.sources ≡ before.sources
