@@ -1,4 +1,4 @@
-use Rattle.std.proofs.Common.{false, true, ◌≡◌, ◌∙◌, sym, arith, rules}
+use Rattle.std.proofs.Common.{arith, rules}
 use Rattle.outside_real.proofs.Trying.{interrupted_more, attempted_failed, not_true}
 use Rattle.outside_real.proofs.source.try_read.Goals as goal
 
