@@ -1,4 +1,5 @@
 mod Standing
+pub mod Counting
 pub mod Calling
 pub mod Writing
 pub mod Reading

@@ -1,10 +1,13 @@
 -- An object that was opened, used, and closed again under its name.
 use Rattle.std.proofs.Common.{◌≡◌, ◌≢◌, ◌⊎◌, ℕ, true, false, cond, List, [], ◌∷◌, ◌++◌, Option, Some, None, inl, inr, refl, sym, ◌∙◌, ap, subst, append_assoc}
-use Rattle.std.specs.Prelude.{bytes_eq}
+use Rattle.std.specs.Prelude.{bytes_eq, nat_lt}
 use Rattle.std.proofs.lemmas.Bool.{cases_Bool}
 use Rattle.std.proofs.lemmas.List.{append-nil}
 use Rattle.std.proofs.lemmas.Slice.Eq.{bytes_eq-Decides}
-use Rattle.outside.specs.Outside.{Standing, untold, missing, lent, there, lent_from, put_back_at, HandsOut, Changes, Acts, Asks}
+use Rattle.outside.specs.Faults.{counted}
+use Rattle.outside.specs.Source.{SourceTold}
+use Rattle.outside.specs.Sink.{SinkTold}
+use Rattle.outside.specs.Outside.{OutsideTold, OpensIn, ClosesIn, OpensOut, ClosesOut, Standing, untold, missing, lent, there, lent_from, put_back_at, HandsOut, Changes, Acts, Asks}
 
 pub bytes_are : (xs ys : List ℕ) → bytes_eq xs ys ≡ true → xs ≡ ys
 bytes_are xs ys = (bytes_eq-Decides xs ys).0
@@ -110,3 +113,41 @@ Asks-append (Some names) mid after first next (inr told) two = go (subst (λ (m 
     go : Asks (Some (names ++ first)) after next → Asks (Some names) after (first ++ next)
     go (inl none) = inl none
     go (inr more) = inr (more ∙ ap Some (append_assoc names first next))
+
+-- a source was opened, used and closed again: what that did to the outside
+pub record ExchangesIn (before after : OutsideTold) (name : List ℕ) (x y : SourceTold) : Type 0 where
+  pub source : Exchanges before.sources after.sources name x y
+  pub sinks : after.sinks ≡ before.sinks
+  pub read_names : Asks before.read_names after.read_names (name ∷ [])
+  pub written_names : after.written_names ≡ before.written_names
+  pub faults : after.faults ≡ counted (nat_lt 0 y.faults) before.faults
+
+pub exchanges_in : (before mid after : OutsideTold) (name : List ℕ) (x y : SourceTold)
+    → OpensIn before mid name (Some x) → y.name ≡ x.name → ClosesIn mid after y → ExchangesIn before after name x y
+exchanges_in before mid after name x y opened same closed = record {
+  source = exchanges (λ s. s.name) (λ s. s.faults) before.sources mid.sources after.sources name x y
+      opened.source opened.sources same closed.sources;
+  sinks = closed.sinks ∙ opened.sinks;
+  read_names = subst (λ (n : Option (List (List ℕ))). Asks before.read_names n (name ∷ [])) (sym closed.read_names) opened.read_names;
+  written_names = closed.written_names ∙ opened.written_names;
+  faults = rw (← opened.faults) closed.faults;
+}
+
+-- the same of a sink
+pub record ExchangesOut (before after : OutsideTold) (name : List ℕ) (x y : SinkTold) : Type 0 where
+  pub sink : Exchanges before.sinks after.sinks name x y
+  pub sources : after.sources ≡ before.sources
+  pub written_names : Asks before.written_names after.written_names (name ∷ [])
+  pub read_names : after.read_names ≡ before.read_names
+  pub faults : after.faults ≡ counted (nat_lt 0 y.faults) before.faults
+
+pub exchanges_out : (before mid after : OutsideTold) (name : List ℕ) (x y : SinkTold)
+    → OpensOut before mid name (Some x) → y.name ≡ x.name → ClosesOut mid after y → ExchangesOut before after name x y
+exchanges_out before mid after name x y opened same closed = record {
+  sink = exchanges (λ s. s.name) (λ s. s.faults) before.sinks mid.sinks after.sinks name x y
+      opened.sink opened.sinks same closed.sinks;
+  sources = closed.sources ∙ opened.sources;
+  written_names = subst (λ (n : Option (List (List ℕ))). Asks before.written_names n (name ∷ [])) (sym closed.written_names) opened.written_names;
+  read_names = closed.read_names ∙ opened.read_names;
+  faults = rw (← opened.faults) closed.faults;
+}

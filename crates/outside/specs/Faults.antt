@@ -1,9 +1,9 @@
 -- The count of faults of an object outside. It stands still at its type's end.
-use Rattle.std.specs.Prelude.{Bool, true, false, ℕ, ◌+◌, ◌-◌, ◌^◌, ◌≤◌, min}
+use Rattle.std.specs.Prelude.{Bool, true, false, ℕ, ◌+◌, ◌-◌, ◌^◌, ◌≤◌, max, min}
 
 -- one more, or the same at the type's end
 abbrev pub next_count : ℕ → ℕ
-next_count n = min (n + 1) (2 ^ 64 - 1)
+next_count n = max n (min (n + 1) (2 ^ 64 - 1))
 
 -- the count with one more where there was a fault
 abbrev pub counted : Bool → ℕ → ℕ

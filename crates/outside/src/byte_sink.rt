@@ -96,11 +96,11 @@ impl Sink for ByteSink {
         ensures script { self.new.fails ≡ self.old.fails }
     {
         let call = self.calls;
-        self.calls = call.saturating_add(1);
+        self.calls = count_fault(call, true);
         self.late = count_fault(self.late, self.stopped);
         self.stopped = true;
         if self.room == 0 || self.fails.contains(&call) {
-            self.faults = self.faults.saturating_add(1);
+            self.faults = count_fault(self.faults, true);
             return WriteEnd::Failed;
         }
         let count = piece.len().min(self.room);

@@ -89,12 +89,12 @@ impl Source for TextSource {
         ensures script { self.new.fails ≡ self.old.fails }
     {
         let call = self.calls;
-        self.calls = call.saturating_add(1);
+        self.calls = count_fault(call, true);
         self.late = count_fault(self.late, self.stopped);
         self.ended = false;
         self.stopped = true;
         if self.fails.contains(&call) {
-            self.faults = self.faults.saturating_add(1);
+            self.faults = count_fault(self.faults, true);
             return ReadEnd::Failed;
         }
         let left = &self.octets[self.at..];
