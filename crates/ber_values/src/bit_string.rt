@@ -1,9 +1,10 @@
 //! Bit strings, ASN.1's `BIT STRING`. Their contents octets (ISO 8825-1, 8.6) are the number of
 //! unused bits, then the octets that hold the bits.
-ghost use Rattle.std.specs.Prelude.{◌≡◌, ◌≢◌, ◌<◌, ◌≤◌, ◌-◌, ◌*◌, ◌^◌, ◌%◌, ◌↔◌, ◌&&◌, ◌==◌, []};
-ghost use Rattle.std.specs.Prelude.{◌++◌, take, length, IsTrue, bytes_eq, IfOk, OnOk, OnErr};
+ghost use Rattle.std.specs.Prelude.{◌≡◌, ◌≢◌, ◌<◌, ◌-◌, ◌*◌, ◌^◌, ◌%◌, ◌↔◌, ◌&&◌, ◌==◌, []};
+ghost use Rattle.std.specs.Prelude.{◌++◌, length, IsTrue, bytes_eq, IfOk, OnOk, OnErr};
 ghost use Rattle.std.specs.Cmp.Rules.{comparing};
 ghost use Rattle.std.proofs.Common.{rules};
+ghost use Rattle.plain_text.specs.Extends.{Extends};
 ghost use Rattle.ber_values.specs.declared.fault.BerFault.{BerFault};
 ghost use Rattle.ber_values.specs.Bits.{Bits, IsBits};
 ghost use Rattle.ber_values.specs.Contents.{contents_of, IsContents};
@@ -157,7 +158,7 @@ fn put_bits(out: &mut Vec<u8>, tag: u8, value: &BitString) -> Result<(), AllocEr
     requires { length value.now.octets < 2 ^ 32 - 1 }
     ensures ok { OnOk result
         (out.new.items ≡ out.old.items ++ written tag (bits_octets value.now)) }
-    ensures err { OnErr result (take (length out.old.items) out.new.items ≡ out.old.items) }
+    ensures err { OnErr result (Extends out.old.items out.new.items) }
 {
     let octets = value.octets();
     let unused = 8 * octets.len() - value.count();

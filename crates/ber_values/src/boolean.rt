@@ -1,6 +1,7 @@
 //! Booleans, ASN.1's `BOOLEAN` (ISO 8825-1, 8.2).
-ghost use Rattle.std.specs.Prelude.{◌≡◌, ◌≢◌, ◌%◌, ◌++◌, Bool, ◌↔◌, take, length, IfOk, OnOk};
+ghost use Rattle.std.specs.Prelude.{◌≡◌, ◌≢◌, ◌%◌, ◌++◌, Bool, ◌↔◌, IfOk, OnOk};
 ghost use Rattle.std.specs.Prelude.{OnErr};
+ghost use Rattle.plain_text.specs.Extends.{Extends};
 ghost use Rattle.ber_values.specs.declared.fault.BerFault.{BerFault};
 ghost use Rattle.ber_values.specs.Contents.{contents_of, IsContents};
 ghost use Rattle.ber_values.specs.Booleans.{SpellsBoolean, BooleanFault, boolean_in};
@@ -37,7 +38,7 @@ pub fn read_boolean(bytes: &[u8], head: &Head) -> Result<bool, BerFault>
 
 fn put_boolean(out: &mut Vec<u8>, tag: u8, value: bool) -> Result<(), AllocError>
     ensures ok { OnOk result (out.new.items ≡ out.old.items ++ written tag (boolean_octets value)) }
-    ensures err { OnErr result (take (length out.old.items) out.new.items ≡ out.old.items) }
+    ensures err { OnErr result (Extends out.old.items out.new.items) }
 {
     put_head(out, tag, 1)?;
     out.push(if value { 0xFF } else { 0 })?;

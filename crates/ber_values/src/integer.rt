@@ -1,6 +1,7 @@
 //! Integers, ASN.1's `INTEGER` (ISO 8825-1, 8.3).
-ghost use Rattle.std.specs.Prelude.{◌≡◌, ◌≢◌, ℕ, ℤ, ◌%◌, ◌≤◌, ◌<◌, ◌↔◌, ◌++◌, take, length, IfOk};
+ghost use Rattle.std.specs.Prelude.{◌≡◌, ◌≢◌, ℕ, ℤ, ◌%◌, ◌≤◌, ◌<◌, ◌↔◌, ◌++◌, length, IfOk};
 ghost use Rattle.std.specs.Prelude.{OnOk, OnErr};
+ghost use Rattle.plain_text.specs.Extends.{Extends};
 ghost use Rattle.ber_values.specs.declared.fault.BerFault.{BerFault};
 ghost use Rattle.ber_values.specs.Numbers.{twos_complement, SpellsInteger, IntegerFault};
 ghost use Rattle.ber_values.specs.Numbers.{integer_in, SpellsUnsigned, UnsignedFault, unsigned_in};
@@ -106,7 +107,7 @@ fn size_of_integer(value: i64) -> usize
 
 fn put_integer(out: &mut Vec<u8>, tag: u8, value: i64) -> Result<(), AllocError>
     ensures ok { OnOk result (out.new.items ≡ out.old.items ++ written tag (integer_octets value)) }
-    ensures err { OnErr result (take (length out.old.items) out.new.items ≡ out.old.items) }
+    ensures err { OnErr result (Extends out.old.items out.new.items) }
 {
     let size = size_of_integer(value);
     put_head(out, tag, size)?;

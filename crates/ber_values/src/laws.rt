@@ -1,5 +1,5 @@
 //! What holds of all octets and values.
-ghost use Rattle.std.specs.Prelude.{◌≡◌, ◌≢◌, ℕ, ◌+◌, ◌%◌, ◌≤◌, ℤ, List, ◌++◌, length};
+ghost use Rattle.std.specs.Prelude.{◌≢◌, ℕ, ◌+◌, ◌%◌, ◌≤◌, ℤ, List, ◌++◌, length};
 ghost use Rattle.ber_values.specs.Reading.{HasOneReading};
 ghost use Rattle.ber_values.specs.Octets.{IsOctets};
 ghost use Rattle.ber_values.specs.Tags.{SpellsLength};

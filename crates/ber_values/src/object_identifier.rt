@@ -1,11 +1,12 @@
 //! Object identifiers: their contents octets, and their text of numbers joined by dots.
 ghost use Rattle.std.specs.Prelude.{◌≡◌, ◌≢◌, ◌==◌, ◌≤◌, ◌+◌, ◌*◌, ◌%◌, ◌++◌, ◌↔◌, ℕ, List, IsTrue};
-ghost use Rattle.std.specs.Prelude.{bytes_eq, length, map, take, IfOk, IfSome, OnOk, OnErr};
+ghost use Rattle.std.specs.Prelude.{bytes_eq, length, map, IfOk, IfSome, OnOk, OnErr};
 ghost use Rattle.std.specs.Option.{option_map};
 ghost use Rattle.std.specs.List.{slice_split, flat_map};
 ghost use Rattle.std.specs.Int.Digits.{digits_of};
 ghost use Rattle.std.specs.Cmp.{partial_equiv_from_equiv};
 ghost use Rattle.std.specs.Cmp.Lexicographic.{nat_list_eq_equiv};
+ghost use Rattle.plain_text.specs.Extends.{Extends};
 ghost use Rattle.plain_text.specs.Numbers.{number_up_to};
 ghost use Rattle.plain_text.specs.Words.{each_in};
 ghost use Rattle.ber_values.specs.declared.fault.BerFault.{BerFault};
@@ -221,7 +222,7 @@ pub fn read_oid(
 
 fn put_oid(out: &mut Vec<u8>, tag: u8, value: &Oid) -> Result<(), AllocError>
     ensures ok { OnOk result (out.new.items ≡ out.old.items ++ written tag value.now) }
-    ensures err { OnErr result (take (length out.old.items) out.new.items ≡ out.old.items) }
+    ensures err { OnErr result (Extends out.old.items out.new.items) }
 {
     put_element(out, tag, value.octets())
 }

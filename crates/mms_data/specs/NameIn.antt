@@ -1,6 +1,6 @@
 -- The name that a text stands for.
 use Rattle.std.specs.Prelude.{ℕ, ◌+◌, Bool, ◌&&◌, ◌||◌, ◌==◌, nat_lt, nat_le, if◌then◌else◌, List}
-use Rattle.std.specs.Prelude.{[], ◌∷◌, length, slice_index, codes, Option, Some, None, option_map}
+use Rattle.std.specs.Prelude.{length, slice_index, codes, Option, Some, None, option_map}
 use Rattle.std.specs.Prelude.{option_and_then}
 use Rattle.std.proofs.Common.{take, drop}
 use Rattle.std.specs.List.{list_all, position}

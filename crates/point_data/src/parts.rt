@@ -1,8 +1,7 @@
 //! Parts of data: the number, the octets or the member that a datum has.
-ghost use Rattle.std.specs.Prelude.{◌≡◌, ℕ, Some, IfSome, IfNone, OnSome};
+ghost use Rattle.std.specs.Prelude.{◌≡◌, ℕ, Some, IfSome, IfNone};
 ghost use Rattle.std.specs.List.{slice_get};
 ghost use Rattle.std.specs.Option.{option_copied};
-ghost use Rattle.mms_data.specs.Datum.{Datum};
 ghost use Rattle.point_data.specs.Parts.{Has, members_in, member_in, integer_in, unsigned_in};
 ghost use Rattle.point_data.specs.Parts.{real_in, octet_in};
 ghost use Rattle.point_data.specs.Shown.{shown_as, shown_component};

@@ -1,5 +1,4 @@
-ghost use Rattle.std.specs.Prelude.{◌≡◌, ◌≤◌, ◌<◌, IfOk, length, map};
-ghost use Rattle.mms_data.specs.Datum.{structure, data_of};
+ghost use Rattle.std.specs.Prelude.{◌≡◌, ◌≤◌, ◌<◌, IfOk, map};
 ghost use Rattle.tase_points.specs.declared.value.TheConstants.{STATE_LIMIT, FLAGS_LIMIT};
 ghost use Rattle.tase_points.specs.Points.{state_of};
 ghost use Rattle.point_data.specs.Shown.{octet_bits, shown_body, shown_component, shown_as};

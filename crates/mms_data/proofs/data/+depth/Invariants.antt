@@ -2,7 +2,7 @@
 use Rattle.std.proofs.Common.{◌≡◌, ◌++◌, take}
 use Rattle.mms_data.specs.Datum.{data_of}
 use Rattle.mms_data.specs.Texts.{members_text}
-use Rattle.mms_data.proofs.data.spelling.+depth.Given as goal
+use Rattle.mms_data.proofs.data.+depth.Given as goal
 
 abbrev pub invariant-spell_members-loop-index : goal.invariant-spell_members-loop-index
 invariant-spell_members-loop-index l =

@@ -3,7 +3,7 @@ use Rattle.std.proofs.Common.{◌≡◌, None, IfOk, ap, ◌∙◌, arith, rules
 use Rattle.std.proofs.lemmas.Grind.{common_steps}
 use Rattle.mms_data.specs.NameIn.{name_in}
 use Rattle.mms_data.proofs.ReadName.{found_from_exact, only_from_exact, name_in-name_text}
-use Rattle.mms_data.proofs.name_text.read_name.Goals as goal
+use Rattle.mms_data.proofs.object_name.read_name.Goals as goal
 
 pub returns-in-Some-clause-found : goal.returns-in-Some-clause-found
 returns-in-Some-clause-found c =

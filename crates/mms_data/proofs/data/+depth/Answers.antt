@@ -2,9 +2,9 @@
 use Rattle.std.proofs.Common.{◌<◌, length, arith, append_assoc, ap}
 use Rattle.std.proofs.lemmas.Grind.{common_steps}
 use Rattle.mms_data.proofs.Spelled.{members_text-take_one, members_text-take_more}
-use Rattle.mms_data.proofs.data.spelling.+depth.Goals as goal
-use Rattle.mms_data.proofs.data.spelling.+depth.Goals.{spell_members-then-index-gt0+in_ok-push}
-use Rattle.mms_data.proofs.data.spelling.+depth.Goals.{spell_members-else-index-gt0}
+use Rattle.mms_data.proofs.data.+depth.Goals as goal
+use Rattle.mms_data.proofs.data.+depth.Goals.{spell_members-then-index-gt0+in_ok-push}
+use Rattle.mms_data.proofs.data.+depth.Goals.{spell_members-else-index-gt0}
 
 pub spell_members-loop-index-preserved : goal.spell_members-loop-index-preserved
 spell_members-loop-index-preserved t c =
