@@ -12,4 +12,5 @@ pub mod OneReading
 pub mod Answering
 pub mod Kept
 pub mod Cutting
-pub mod Laws
+pub mod OneStream
+pub mod Always

@@ -3,6 +3,7 @@
 #![tactic(auto)]
 
 mod fault;
+mod laws;
 mod limits;
 mod message;
 mod parameters;
@@ -14,6 +15,7 @@ mod turn;
 mod writing;
 
 pub use fault::CotpFault;
+pub use laws::{no_message_begins_another, one_reading, what_was_said_stays, written_is_said};
 pub use limits::TSDU_LIMIT;
 pub use message::TransportIn;
 pub use selector::Selector;

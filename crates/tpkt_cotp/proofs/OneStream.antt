@@ -41,10 +41,10 @@ one_message turn at m n a b x y s t is =
     )
 
 -- no message stands at the front
-abbrev NoMessage : Turn → ℕ → List ℕ → Type 0
+abbrev pub NoMessage : Turn → ℕ → List ℕ → Type 0
 NoMessage turn at octets = (m : Message) (first more : List ℕ) → octets ≡ first ++ more → SpellsMessage turn at m first → ⊥
 
-fault_no_message : (turn : Turn) (at : ℕ) (octets : List ℕ) (f : CotpFault) → BreaksRule turn at octets f → NoMessage turn at octets
+pub fault_no_message : (turn : Turn) (at : ℕ) (octets : List ℕ) (f : CotpFault) → BreaksRule turn at octets f → NoMessage turn at octets
 fault_no_message turn at octets f b m first more is s =
     let same = one_end turn octets s.sections b.sections (s.last ++ more) b.rest (tpkt_of (length s.last) s.tpdu) (Err b.broken) (message_ends turn at octets first more m is s) (fault_ends turn at octets f b) in
     let e = same.1 in absurd cc
@@ -100,7 +100,7 @@ same_stream turn at (m ∷ ms) (n ∷ ns) w v r q one two is none neither =
     }
 
 -- places count from the start
-at_zero : (turn : Turn) (n : ℕ) (octets : List ℕ) → NoMessage turn n octets → NoMessage turn (0 + n) octets
+pub at_zero : (turn : Turn) (n : ℕ) (octets : List ℕ) → NoMessage turn n octets → NoMessage turn (0 + n) octets
 at_zero turn n octets none = let e : n ≡ 0 + n = omega arith in subst (λ (k : ℕ). NoMessage turn k octets) e none
 
 pub says_once : (role : Role) (octets : List ℕ) (ms ns : List Message) (rest other : List ℕ) → Says role octets ms rest → Says role octets ns other → (ms ≡ ns) × (rest ≡ other)
