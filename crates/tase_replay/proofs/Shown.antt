@@ -1,6 +1,6 @@
 -- What a sink has taken, as texts are shown one after another.
-use Rattle.std.proofs.Common.{◌≡◌, ℕ, ◌+◌, ◌≤◌, min, List, ◌++◌, length, take, Option, Some, None, sym, ap, ◌∙◌, subst, append_assoc, refl, arith}
-use Rattle.std.proofs.lemmas.List.{append-nil, take_min, take-append-le}
+use Rattle.std.proofs.Common.{ℕ, ◌+◌, List, [], ◌++◌, length, take, Option, Some, None, sym, ap, ◌∙◌, subst, append_assoc, refl}
+use Rattle.std.proofs.lemmas.List.{append-nil}
 use Rattle.std.proofs.Math.Seq.{take-append-add}
 use Rattle.outside.specs.Sink.{AppendsAll, AppendsPart}
 
@@ -8,6 +8,11 @@ use Rattle.outside.specs.Sink.{AppendsAll, AppendsPart}
 pub AppendsPart-none : (sink : Option (List ℕ)) (bytes : List ℕ) → AppendsPart sink sink bytes
 AppendsPart-none None bytes = refl
 AppendsPart-none (Some octets) bytes = (0, ap Some (sym (append-nil octets)))
+
+-- nothing more
+pub AppendsAll-none : (sink : Option (List ℕ)) → AppendsAll sink sink []
+AppendsAll-none None = refl
+AppendsAll-none (Some octets) = ap Some (sym (append-nil octets))
 
 -- a text and then another
 pub AppendsAll-append : (before now after : Option (List ℕ)) (first next : List ℕ) → AppendsAll before now first → AppendsAll now after next → AppendsAll before after (first ++ next)
@@ -26,14 +31,3 @@ AppendsPart-append (Some octets) now after first next all then =
       length first + taken.0,
       taken.1 ∙ ap Some (append_assoc octets first (take taken.0 next) ∙ ap (λ bytes. octets ++ bytes) (sym (take-append-add first next taken.0))),
     )
-
-take-front : (count : ℕ) (first next : List ℕ) → take (min count (length first)) (first ++ next) ≡ take count first
-take-front count first next =
-    let within : min count (length first) ≤ length first = omega arith in
-    take-append-le (min count (length first)) first next within ∙ take_min count first
-
--- a front part of a text is one of the text with another after it
-pub AppendsPart-front : (before after : Option (List ℕ)) (first next : List ℕ) → AppendsPart before after first → AppendsPart before after (first ++ next)
-AppendsPart-front None after first next part = part
-AppendsPart-front (Some octets) after first next part =
-    (min part.0 (length first), part.1 ∙ ap (λ bytes. Some (octets ++ bytes)) (sym (take-front part.0 first next)))

@@ -1,23 +1,34 @@
 -- What a replay leaves, by how it ended.
-use Rattle.std.specs.Prelude.{◌≡◌, ℕ, List, ◌++◌, Option, Some, None}
+use Rattle.std.specs.Prelude.{◌≡◌, ℕ, ◌≤◌, List, ◌++◌, length, take, Option, Some, None, Result, Ok, Err}
 use Rattle.outside.specs.Faults.{Rose}
 use Rattle.outside.specs.Sink.{AppendsAll, AppendsPart}
-use Rattle.tase_views.specs.History.{Past}
+use Rattle.tase_views.specs.declared.event.Entry.{Entry}
+use Rattle.tase_views.specs.declared.fault.StepFault.{StepFault}
+use Rattle.tase_views.specs.declared.fault.StepFault.TheVariants as faults
 use Rattle.tase_replay.specs.declared.playing.ReplayEnd.{ReplayEnd}
 use Rattle.tase_replay.specs.declared.playing.ReplayEnd.TheVariants.{Done, BadLine, SinkFault, Memory}
-use Rattle.tase_replay.specs.Play.{Played}
+use Rattle.tase_replay.specs.Play.{Step, Played, done, bad_line, steps_of, entries_in, printed_in}
 
--- the node has taken the entries of some of the lines, from the first on
-abbrev pub IsOnTheWay : Past → Past → Type 0
-IsOnTheWay all past = (later : Past) × (all ≡ later ++ past)
+-- all these steps were taken: the history has their entries behind what it had, and the sink took what they print
+pub record TakesAll (steps : List Step) (history now : List Entry) (before after : Option (List ℕ)) : Type 0 where
+  pub entries : now ≡ history ++ entries_in steps
+  pub shown : AppendsAll before after (printed_in steps)
+
+-- the first so many of these steps were taken, and the sink took a front part of what they print
+pub record TakesPart (steps : List Step) (history now : List Entry) (before after : Option (List ℕ)) : Type 0 where
+  pub count : ℕ
+  pub within : count ≤ length steps
+  pub entries : now ≡ history ++ entries_in (take count steps)
+  pub shown : AppendsPart before after (printed_in (take count steps))
 
 -- Done and a bad line come exactly where the scenario has none and has this one, with all before it taken and shown;
 -- after a fault of the sink and want of memory a front part is.
-abbrev pub IsPlayed : Played → Past → Option (List ℕ) → Option (List ℕ) → ReplayEnd → Type 0
-IsPlayed played past before after Done = (played.bad ≡ None) × (past ≡ played.past) × AppendsAll before after played.shown
-IsPlayed played past before after (BadLine line) = (played.bad ≡ Some line) × (past ≡ played.past) × AppendsAll before after played.shown
-IsPlayed played past before after SinkFault = IsOnTheWay played.past past × AppendsPart before after played.shown
-IsPlayed played past before after Memory = IsOnTheWay played.past past × AppendsPart before after played.shown
+abbrev pub IsPlayed : Played → List Entry → List Entry → Option (List ℕ) → Option (List ℕ) → ReplayEnd → Type 0
+IsPlayed played history now before after Done = (played.end ≡ done) × TakesAll (steps_of played) history now before after
+IsPlayed played history now before after (BadLine line) =
+    (played.end ≡ bad_line line) × TakesAll (steps_of played) history now before after
+IsPlayed played history now before after SinkFault = TakesPart (steps_of played) history now before after
+IsPlayed played history now before after Memory = TakesPart (steps_of played) history now before after
 
 -- a text was shown, whole where nothing stopped it
 abbrev pub IsShown : List ℕ → Option (List ℕ) → Option (List ℕ) → ReplayEnd → Type 0
@@ -32,3 +43,21 @@ HasSinkCause before now Done = now ≡ before
 HasSinkCause before now (BadLine line) = now ≡ before
 HasSinkCause before now SinkFault = Rose before now
 HasSinkCause before now Memory = now ≡ before
+
+-- the entry of the line with this number, by what was read of it; or how the line ends
+abbrev pub entry_or_end : {E : Type 0} → ℕ → Result (Option Entry) E → Result Entry ReplayEnd
+entry_or_end number (Ok (Some entry)) = Ok entry
+entry_or_end number (Ok None) = Err (BadLine number)
+entry_or_end number (Err none) = Err Memory
+
+-- how the line with this number ends whose event was refused
+abbrev pub end_of_refusal : ℕ → StepFault → ReplayEnd
+end_of_refusal number faults.Memory = Memory
+end_of_refusal number faults.NoAssociation = BadLine number
+end_of_refusal number faults.Already = BadLine number
+end_of_refusal number faults.UnknownName = BadLine number
+
+-- how a line ends whose text was written so
+abbrev pub end_of_write : {E : Type 0} → Result (Unit {0}) E → ReplayEnd
+end_of_write (Ok written) = Done
+end_of_write (Err failed) = SinkFault

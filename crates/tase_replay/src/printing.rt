@@ -1,9 +1,9 @@
 ghost use Rattle.std.specs.Prelude.{◌≡◌, OnOk};
 ghost use Rattle.tase_replay.specs.Play.{line_of_reply};
-ghost use Rattle.tase_replay.specs.Ends.{IsShown, HasSinkCause};
+ghost use Rattle.tase_replay.specs.Ends.{IsShown, HasSinkCause, end_of_write};
 
 use crate::playing::ReplayEnd;
-use outside::{Sink, write_all};
+use outside::{Sink, SinkFailed, write_all};
 use plain_text::push_decimal;
 use std::alloc::AllocError;
 use tase_views::{Reply, spell_reply};
@@ -22,7 +22,15 @@ pub(crate) fn print_reply<K: Sink>(
     if spell_line(text, who, reply).is_err() {
         return ReplayEnd::Memory;
     }
-    match write_all(sink, text.as_slice()) {
+    let end = write_all(sink, text.as_slice());
+    written(end)
+}
+
+/// How a line ends whose text was written so.
+fn written(end: Result<(), SinkFailed>) -> ReplayEnd
+    ensures { result ≡ end_of_write end }
+{
+    match end {
         Ok(()) => ReplayEnd::Done,
         Err(_) => ReplayEnd::SinkFault,
     }

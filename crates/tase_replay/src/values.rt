@@ -6,11 +6,25 @@ ghost use Rattle.tase_replay.specs.Lines.{seat_in, body_in, flags_in, value_in};
 use plain_text::{read_hex_four, read_hex_octet, read_integer, read_number};
 use tase_points::{Body, PointValue};
 
+/// The highest number of a peer's seat.
+const HIGHEST_SEAT: u64 = 4_294_967_295;
+
+/// States are four.
+const HIGHEST_STATE: u32 = 3;
+
+/// Flags are six bits.
+const HIGHEST_FLAGS: u8 = 63;
+
+/// The last second since 1970 that a value's time may have.
+const LAST_SECOND: u32 = 2_147_483_647;
+
+const LAST_MILLISECOND: u32 = 999;
+
 /// The seat of a peer that a word is, from 1 on.
 pub(crate) fn read_seat(word: &[u8]) -> Option<u64>
     ensures { result ≡ seat_in word.now }
 {
-    let seat = read_number(word, 4_294_967_295)?;
+    let seat = read_number(word, HIGHEST_SEAT)?;
     if seat >= 1 { Some(seat) } else { None }
 }
 
@@ -28,7 +42,7 @@ fn read_body(word: &[u8]) -> Option<Body>
     ensures lawful { IfSome result (λ body. state_of body ≤ 3) }
 {
     match word {
-        [b's', rest @ ..] => Some(Body::State(read_small(rest, 3)? as u8)),
+        [b's', rest @ ..] => Some(Body::State(read_small(rest, HIGHEST_STATE)? as u8)),
         [b'd', rest @ ..] => Some(Body::Discrete(read_discrete(rest)?)),
         [b'r', rest @ ..] => Some(Body::Real(read_hex_four(rest)?)),
         _ => None,
@@ -48,7 +62,7 @@ fn read_flags(word: &[u8]) -> Option<u8>
     ensures lawful { IfSome result (λ flags. flags ≤ 63) }
 {
     let flags = read_hex_octet(word)?;
-    if flags <= 63 { Some(flags) } else { None }
+    if flags <= HIGHEST_FLAGS { Some(flags) } else { None }
 }
 
 /// The value that the words of its body, its flags, its seconds and its milliseconds are.
@@ -62,7 +76,7 @@ pub(crate) fn read_value(
 {
     let body = read_body(body)?;
     let flags = read_flags(flags)?;
-    let seconds = read_small(seconds, 2_147_483_647)?;
-    let millis = read_small(millis, 999)?;
+    let seconds = read_small(seconds, LAST_SECOND)?;
+    let millis = read_small(millis, LAST_MILLISECOND)?;
     Some(PointValue::new(body, flags, seconds, millis as u16))
 }
