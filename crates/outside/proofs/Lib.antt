@@ -1,3 +1,6 @@
-pub mod Reading
-pub mod Standing
+mod Standing
+pub mod Calling
 pub mod Writing
+pub mod Reading
+pub mod Opening
+pub mod Buffering

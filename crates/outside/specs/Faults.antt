@@ -1,7 +1,16 @@
--- The count of faults of an object outside.
-use Rattle.std.specs.Prelude.{ℕ, ◌+◌, ◌-◌, ◌^◌, ◌≤◌, min}
+-- The count of faults of an object outside. It stands still at its type's end.
+use Rattle.std.specs.Prelude.{Bool, true, false, ℕ, ◌+◌, ◌-◌, ◌^◌, ◌≤◌, min}
 
--- the count rose, or stands at its type's end
+-- one more, or the same at the type's end
+abbrev pub next_count : ℕ → ℕ
+next_count n = min (n + 1) (2 ^ 64 - 1)
+
+-- the count with one more where there was a fault
+abbrev pub counted : Bool → ℕ → ℕ
+counted true n = next_count n
+counted false n = n
+
+-- the count rose, by one or more, or stands at its type's end; of several calls together
 pub record Rose (before now : ℕ) : Type 0 where
-  pub risen : min (before + 1) (2 ^ 64 - 1) ≤ now
+  pub risen : next_count before ≤ now
   pub no_lower : before ≤ now

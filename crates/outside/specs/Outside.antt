@@ -1,33 +1,103 @@
--- What opening and closing an object does to an outside. What is told of its names is a function: a name that isn't
--- there gives None, one whose object is handed out gives `Some None`, one under which x stands gives `Some (Some x)`.
-use Rattle.std.specs.Prelude.{◌≡◌, ℕ, ◌<◌, List, Option, Some, None, option_map, option_and_then, bytes_eq, if◌then◌else◌}
-use Rattle.outside.specs.Faults.{Rose}
+-- What an outside tells of its names, and what opening and closing an object does to it.
+use Rattle.std.specs.Prelude.{◌≡◌, ◌⊎◌, ℕ, List, [], ◌∷◌, ◌++◌, Option, Some, None, IfSome, is_none, nat_lt, bytes_eq, if◌then◌else◌}
+use Rattle.outside.specs.Faults.{counted}
+use Rattle.outside.specs.Source.{SourceTold}
+use Rattle.outside.specs.Sink.{SinkTold}
 
--- the object that stands under a name
-abbrev pub object_at : {X : Type 0} → (List ℕ → Option (Option X)) → List ℕ → Option X
-object_at told name = option_and_then (λ object. object) (told name)
+-- what is told of a name: nothing; that it isn't there; that its object is handed out; that this object stands there
+pub data Standing (X : Type 0) : Type 0 where
+  untold : Standing X
+  missing : Standing X
+  lent : Standing X
+  there : X → Standing X
 
--- under this name, where it is there, this stands now; every other name is as before
-abbrev pub Places : {X : Type 0} → (List ℕ → Option (Option X)) → (List ℕ → Option (Option X)) → List ℕ → Option X → Type 0
-Places before after name object = (n : List ℕ) → after n ≡ (if bytes_eq n name then option_map (λ _. object) (before n) else before n)
+-- what an outside tells
+pub record OutsideTold : Type 0 where
+  -- what stands under each name of a source
+  pub sources : List ℕ → Standing SourceTold
+  -- what stands under each name of a sink
+  pub sinks : List ℕ → Standing SinkTold
+  -- the names that it was asked to open for reading, in order, also those that it found nothing under
+  pub read_names : Option (List (List ℕ))
+  -- the names that it was asked to open for writing
+  pub written_names : Option (List (List ℕ))
+  -- how many faults there were, of opens and of objects when they were closed
+  pub faults : ℕ
 
--- an open hands out the object under the name, which is then handed out; who tells nothing goes on so
-abbrev pub Opens : {X : Type 0} → Option (List ℕ → Option (Option X)) → Option (List ℕ → Option (Option X)) → List ℕ → Option X → Type 0
-Opens {X} None after name result = after ≡ None
-Opens {X} (Some before) after name result =
-    (told : List ℕ → Option (Option X)) × (after ≡ Some told) × (result ≡ object_at before name) × Places before told name None
+-- what stands under a name after an open, and after an object was put back there
+abbrev pub lent_from : {X : Type 0} → Standing X → Standing X
+lent_from {X} untold = untold
+lent_from {X} missing = missing
+lent_from {X} lent = lent
+lent_from {X} (there object) = lent
 
--- a close puts the object back under its name
-abbrev pub Closes : {X : Type 0} → Option (List ℕ → Option (Option X)) → Option (List ℕ → Option (Option X)) → List ℕ → X → Type 0
-Closes {X} None after name object = after ≡ None
-Closes {X} (Some before) after name object = (told : List ℕ → Option (Option X)) × (after ≡ Some told) × Places before told name (Some object)
+abbrev pub put_back_at : {X : Type 0} → Standing X → X → Standing X
+put_back_at {X} untold object = untold
+put_back_at {X} missing object = missing
+put_back_at {X} lent object = there object
+put_back_at {X} (there other) object = there object
 
--- an open gives nothing only where the count rose
-abbrev pub OpenCause : {X : Type 0} → ℕ → ℕ → Option X → Type 0
-OpenCause before now None = Rose before now
-OpenCause before now (Some object) = now ≡ before
+-- what an open hands out: exactly what stands under the name, and it bears that name. Where nothing is told of the
+-- name, a new object, which has no faults, or nothing; of the name that such an object bears nothing is told either
+abbrev pub HandsOut : {X : Type 0} → (X → List ℕ) → (X → ℕ) → (List ℕ → Standing X) → List ℕ → Standing X → Option X → Type 0
+HandsOut {X} name_of faults_of before name untold result =
+    IfSome result (λ object. (faults_of object ≡ 0) × (before (name_of object) ≡ untold))
+HandsOut {X} name_of faults_of before name missing result = result ≡ None
+HandsOut {X} name_of faults_of before name lent result = result ≡ None
+HandsOut {X} name_of faults_of before name (there object) result = (result ≡ Some object) × (name_of object ≡ name)
 
--- a close counts a fault exactly where the object had one
-pub record CloseCause (object before now : ℕ) : Type 0 where
-  pub sound : object ≡ 0 → now ≡ before
-  pub faulty : 0 < object → Rose before now
+-- this change at the name; every other name is as before
+abbrev pub Changes : {X : Type 0} → (Standing X → Standing X) → (List ℕ → Standing X) → (List ℕ → Standing X) → List ℕ → Type 0
+Changes change before after name = (n : List ℕ) → after n ≡ (if bytes_eq n name then change (before n) else before n)
+
+-- what the object under a name went through between these two, where it is told; what isn't there stays so
+abbrev pub Acts : {X : Type 0} → (X → X → Type 0) → Standing X → Standing X → Type 0
+Acts {X} R untold after = after ≡ untold
+Acts {X} R missing after = after ≡ missing
+Acts {X} R lent after = after ≡ lent
+Acts {X} R (there object) after = (now : X) × (after ≡ there now) × R object now
+
+-- the names asked for were more by these; an outside that tells none goes on so, and one that tells them may stop
+abbrev pub Asks : Option (List (List ℕ)) → Option (List (List ℕ)) → List (List ℕ) → Type 0
+Asks None after names = after ≡ None
+Asks (Some before) after names = (after ≡ None) ⊎ (after ≡ Some (before ++ names))
+
+pub record OpensIn (before after : OutsideTold) (name : List ℕ) (result : Option SourceTold) : Type 0 where
+  -- it hands out what stood there
+  pub source : HandsOut (λ source. source.name) (λ source. source.faults) before.sources name (before.sources name) result
+  -- which is handed out now
+  pub sources : Changes lent_from before.sources after.sources name
+  pub sinks : after.sinks ≡ before.sinks
+  pub read_names : Asks before.read_names after.read_names (name ∷ [])
+  pub written_names : after.written_names ≡ before.written_names
+  -- the count rises by one exactly where nothing is handed out
+  pub faults : after.faults ≡ counted (is_none result) before.faults
+
+pub record ClosesIn (before after : OutsideTold) (source : SourceTold) : Type 0 where
+  -- the source stands under its name again
+  pub sources : Changes (λ standing. put_back_at standing source) before.sources after.sources source.name
+  pub sinks : after.sinks ≡ before.sinks
+  pub read_names : after.read_names ≡ before.read_names
+  pub written_names : after.written_names ≡ before.written_names
+  -- the count rises by one exactly where the source had faults
+  pub faults : after.faults ≡ counted (nat_lt 0 source.faults) before.faults
+
+pub record OpensOut (before after : OutsideTold) (name : List ℕ) (result : Option SinkTold) : Type 0 where
+  -- it hands out what stood there
+  pub sink : HandsOut (λ sink. sink.name) (λ sink. sink.faults) before.sinks name (before.sinks name) result
+  -- which is handed out now
+  pub sinks : Changes lent_from before.sinks after.sinks name
+  pub sources : after.sources ≡ before.sources
+  pub written_names : Asks before.written_names after.written_names (name ∷ [])
+  pub read_names : after.read_names ≡ before.read_names
+  -- the count rises by one exactly where nothing is handed out
+  pub faults : after.faults ≡ counted (is_none result) before.faults
+
+pub record ClosesOut (before after : OutsideTold) (sink : SinkTold) : Type 0 where
+  -- the sink stands under its name again
+  pub sinks : Changes (λ standing. put_back_at standing sink) before.sinks after.sinks sink.name
+  pub sources : after.sources ≡ before.sources
+  pub written_names : after.written_names ≡ before.written_names
+  pub read_names : after.read_names ≡ before.read_names
+  -- the count rises by one exactly where the sink had faults
+  pub faults : after.faults ≡ counted (nat_lt 0 sink.faults) before.faults

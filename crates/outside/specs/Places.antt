@@ -1,33 +1,55 @@
 -- The places of an outside in memory: a name each, with the object that stands there.
-use Rattle.std.specs.Prelude.{◌≡◌, ℕ, List, [], ◌∷◌, ◌++◌, Option, Some, None, is_some, bytes_eq, if◌then◌else◌}
+use Rattle.std.specs.Prelude.{◌≡◌, ℕ, List, [], ◌∷◌, ◌++◌, Option, Some, None, bytes_eq, if◌then◌else◌}
 use Rattle.std.specs.Option.{IfSome}
-use Rattle.outside.specs.States.{TextState, ByteState}
+use Rattle.outside.specs.Outside.{Standing, untold, missing, lent, there, OutsideTold}
+use Rattle.outside.specs.States.{TextState, ByteState, text_told, byte_told}
 
--- what stands under a name: None where the name isn't there, `Some None` where its object is handed out
-abbrev pub standing : {X : Type 0} → List (List ℕ × Option X) → List ℕ → Option (Option X)
-standing [] name = None
-standing (place ∷ places) name = if bytes_eq name place.0 then Some place.1 else standing places name
+-- what stands at a place
+abbrev pub at_place : {X : Type 0} → Option X → Standing X
+at_place {X} None = lent
+at_place {X} (Some object) = there object
 
--- the places with this at the name, where the name is there
-abbrev pub placed : {X : Type 0} → List (List ℕ × Option X) → List ℕ → Option X → List (List ℕ × Option X)
-placed [] name object = []
-placed (place ∷ places) name object = if bytes_eq name place.0 then (place.0, object) ∷ places else place ∷ placed places name object
+-- what stands under a name
+abbrev pub standing : {X : Type 0} → List (List ℕ × Option X) → List ℕ → Standing X
+standing [] name = missing
+standing (place ∷ places) name = if bytes_eq name place.0 then at_place place.1 else standing places name
 
--- the same, with the name as a new place where it isn't there
-abbrev pub put_at : {X : Type 0} → List (List ℕ × Option X) → List ℕ → X → List (List ℕ × Option X)
-put_at places name object = if is_some (standing places name) then placed places name (Some object) else places ++ (name, Some object) ∷ []
+-- the object that stands there
+abbrev pub object_there : {X : Type 0} → Standing X → Option X
+object_there {X} untold = None
+object_there {X} missing = None
+object_there {X} lent = None
+object_there {X} (there object) = Some object
+
+-- what is told of it
+abbrev pub told_there : {X Y : Type 0} → (X → Y) → Standing X → Standing Y
+told_there {X} {Y} told untold = untold
+told_there {X} {Y} told missing = missing
+told_there {X} {Y} told lent = lent
+told_there {X} {Y} told (there object) = there (told object)
 
 -- the object stands under the name now, and what stands under any other name is as before
 abbrev pub PutsUnder : {X : Type 0} → List (List ℕ × Option X) → List (List ℕ × Option X) → List ℕ → X → Type 0
-PutsUnder before after name object = (n : List ℕ) → standing after n ≡ (if bytes_eq n name then Some (Some object) else standing before n)
+PutsUnder before after name object = (n : List ℕ) → standing after n ≡ (if bytes_eq n name then there object else standing before n)
 
 -- each object bears the name of its place
 abbrev pub AllNamed : {X : Type 0} → (X → List ℕ) → List (List ℕ × Option X) → Type 0
 AllNamed name_of [] = Unit {0}
 AllNamed name_of (place ∷ places) = IfSome place.1 (λ object. name_of object ≡ place.0) × AllNamed name_of places
 
--- an outside in memory
+-- an outside in memory, with the names that it was asked to open
 pub record MemoryState : Type 0 where
   pub sources : List (List ℕ × Option TextState)
   pub sinks : List (List ℕ × Option ByteState)
+  pub read_names : Option (List (List ℕ))
+  pub written_names : Option (List (List ℕ))
   pub faults : ℕ
+
+abbrev pub memory_told : MemoryState → OutsideTold
+memory_told o = record {
+  sources = λ name. told_there text_told (standing o.sources name);
+  sinks = λ name. told_there byte_told (standing o.sinks name);
+  read_names = o.read_names;
+  written_names = o.written_names;
+  faults = o.faults;
+}

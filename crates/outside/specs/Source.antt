@@ -1,23 +1,48 @@
--- What a read does to a source.
-use Rattle.std.specs.Prelude.{Bool, true, false, ◌≡◌, ℕ, ◌≤◌, List, [], ◌++◌, take, Option, Some, None}
+-- What a source tells, and what a read does to it.
+use Rattle.std.specs.Prelude.{Bool, true, false, ◌≡◌, ℕ, ◌≤◌, List, [], length, take, Option, option_map, IfSome}
 use Rattle.outside.specs.declared.source.ReadEnd.{ReadEnd}
 use Rattle.outside.specs.declared.source.ReadEnd.TheVariants.{Got, End, Failed}
-use Rattle.outside.specs.Faults.{Rose}
+use Rattle.outside.specs.Calls.{Calls, called}
+use Rattle.outside.specs.Faults.{counted}
+use Rattle.outside.specs.Octets.{Adds, Takes}
 
--- these octets were read from the front of those left
-abbrev pub ReadsFront : List ℕ → Option (List ℕ) → List ℕ → Type 0
-ReadsFront octets after front = (rest : List ℕ) × (octets ≡ front ++ rest) × (after ≡ Some rest)
+-- what a source tells; a member that is an option may be untold
+pub record SourceTold : Type 0 where
+  -- the octets that are left
+  pub left : Option (List ℕ)
+  -- the octets given so far
+  pub given : Option (List ℕ)
+  -- whether the last read answered that nothing is left
+  pub ended : Option Bool
+  -- its calls: a read stops where it says that nothing is left, and where it fails
+  pub calls : Option Calls
+  -- how many faults there were
+  pub faults : ℕ
+  -- the name under which it stands in its outside; empty for none
+  pub name : List ℕ
 
--- a read takes its octets from the front of those left, ends where none are left, and takes none where it fails
-abbrev pub ReadsFrom : List ℕ → Option (List ℕ) → ReadEnd → List ℕ → Type 0
-ReadsFrom octets after (Got count) buf = ReadsFront octets after (take count buf)
-ReadsFrom octets after End buf = (octets ≡ []) × (after ≡ Some [])
-ReadsFrom octets after Failed buf = after ≡ Some octets
+-- the octets that a read gave, of its buffer
+abbrev pub octets_read : ReadEnd → List ℕ → List ℕ
+octets_read (Got count) buf = take count buf
+octets_read End buf = []
+octets_read Failed buf = []
 
--- the same of a source that tells its octets; one that tells none goes on so
-abbrev pub Reads : Option (List ℕ) → Option (List ℕ) → ReadEnd → List ℕ → Type 0
-Reads None after end buf = after ≡ None
-Reads (Some octets) after end buf = ReadsFrom octets after end buf
+-- whether it answered that nothing is left
+abbrev pub is_end : ReadEnd → Bool
+is_end (Got count) = false
+is_end End = true
+is_end Failed = false
+
+abbrev pub is_failed_read : ReadEnd → Bool
+is_failed_read (Got count) = false
+is_failed_read End = false
+is_failed_read Failed = true
+
+-- whether no read should come after it
+abbrev pub is_last_read : ReadEnd → Bool
+is_last_read (Got count) = false
+is_last_read End = true
+is_last_read Failed = true
 
 -- a read that got octets got at least one, and at most so many
 abbrev pub IsReadCount : ReadEnd → ℕ → Type 0
@@ -25,22 +50,29 @@ IsReadCount (Got count) most = (1 ≤ count) × (count ≤ most)
 IsReadCount End most = Unit {0}
 IsReadCount Failed most = Unit {0}
 
--- a read fails only where the count rose
-abbrev pub ReadCause : ℕ → ℕ → ReadEnd → Type 0
-ReadCause before now (Got count) = now ≡ before
-ReadCause before now End = now ≡ before
-ReadCause before now Failed = Rose before now
+-- nothing is left, where it is told
+abbrev pub IsSpent : Option (List ℕ) → Type 0
+IsSpent left = IfSome left (λ octets. octets ≡ [])
 
--- a read adds its octets to those given so far, where the source tells these; one that tells none goes on so
-abbrev pub Gives : Option (List ℕ) → Option (List ℕ) → ReadEnd → List ℕ → Type 0
-Gives None after end buf = after ≡ None
-Gives (Some octets) after (Got count) buf = after ≡ Some (octets ++ take count buf)
-Gives (Some octets) after End buf = after ≡ Some octets
-Gives (Some octets) after Failed buf = after ≡ Some octets
+-- a read answers the end only where nothing is left
+abbrev pub IsEndTrue : ReadEnd → Option (List ℕ) → Type 0
+IsEndTrue (Got count) left = Unit {0}
+IsEndTrue End left = IsSpent left
+IsEndTrue Failed left = Unit {0}
 
--- whether this read answered that nothing is left, where the source tells it
-abbrev pub Ends : Option Bool → Option Bool → ReadEnd → Type 0
-Ends None after end = after ≡ None
-Ends (Some before) after (Got count) = after ≡ Some false
-Ends (Some before) after End = after ≡ Some true
-Ends (Some before) after Failed = after ≡ Some false
+pub record Reads (before after : SourceTold) (end : ReadEnd) (buf : List ℕ) : Type 0 where
+  -- its octets came from the front of those left
+  pub took : Takes before.left after.left (octets_read end buf)
+  -- they were added to those given so far
+  pub gave : Adds before.given after.given (octets_read end buf)
+  -- it gave at least one, and as many as fit at most
+  pub count : IsReadCount end (length buf)
+  -- it answers the end only where nothing is left
+  pub spent : IsEndTrue end after.left
+  -- whether it was the end
+  pub ended : after.ended ≡ option_map (λ _. is_end end) before.ended
+  -- it is one call, which stops at the end and where it fails
+  pub calls : after.calls ≡ option_map (called (is_last_read end)) before.calls
+  -- the count rises by one exactly where it fails
+  pub faults : after.faults ≡ counted (is_failed_read end) before.faults
+  pub name : after.name ≡ before.name

@@ -1,31 +1,61 @@
 -- What reading a whole text does to a source.
-use Rattle.std.specs.Prelude.{◌≡◌, ℕ, ◌<◌, ◌≤◌, List, [], length, Option, Some, None, Result, Ok, Err, Vec}
+use Rattle.std.specs.Prelude.{Bool, true, false, ◌≡◌, ◌⊎◌, ℕ, ◌+◌, ◌<◌, ◌≤◌, List, length, Option, option_map, Result, Ok, Err, Vec}
 use Rattle.std.specs.declared.alloc.AllocError.{AllocError}
 use Rattle.std.specs.declared.alloc.Global.{Global}
 use Rattle.outside.specs.declared.text.TextEnd.{TextEnd}
 use Rattle.outside.specs.declared.text.TextEnd.TheVariants.{Failed, Long}
-use Rattle.outside.specs.Faults.{Rose}
-use Rattle.outside.specs.Source.{ReadsFront}
+use Rattle.outside.specs.declared.text.TheConstants.{PIECE}
+use Rattle.outside.specs.Calls.{Calls, called, GoesOn}
+use Rattle.outside.specs.Faults.{counted}
+use Rattle.outside.specs.Octets.{Adds, Takes}
+use Rattle.outside.specs.Source.{SourceTold, IsSpent}
 
 -- what reading a text answers
 abbrev pub TextResult : Type 0
 TextResult = Result (Result (Vec ℕ Global) TextEnd) AllocError
 
--- all the octets that were left, up to the limit; too many exactly where more were left
-abbrev pub ReadsAllOf : List ℕ → Option (List ℕ) → ℕ → TextResult → Type 0
-ReadsAllOf octets after limit (Ok (Ok text)) = (octets ≡ text.items) × (after ≡ Some []) × (length octets ≤ limit)
-ReadsAllOf octets after limit (Ok (Err Failed)) = (front : List ℕ) × ReadsFront octets after front
-ReadsAllOf octets after limit (Ok (Err Long)) = (front : List ℕ) × ReadsFront octets after front × (limit < length octets)
-ReadsAllOf octets after limit (Err out_of_memory) = (front : List ℕ) × ReadsFront octets after front
+-- the text is all that was left, within the limit; too long exactly where more than the limit came
+abbrev pub IsTextOf : List ℕ → Option (List ℕ) → ℕ → TextResult → Type 0
+IsTextOf octets left limit (Ok (Ok text)) = (octets ≡ text.items) × (length octets ≤ limit) × IsSpent left
+IsTextOf octets left limit (Ok (Err Failed)) = length octets ≤ limit
+IsTextOf octets left limit (Ok (Err Long)) = limit < length octets
+IsTextOf octets left limit (Err out_of_memory) = Unit {0}
 
--- the same of a source that tells its octets; one that tells none goes on so
-abbrev pub ReadsAll : Option (List ℕ) → Option (List ℕ) → ℕ → TextResult → Type 0
-ReadsAll None after limit result = after ≡ None
-ReadsAll (Some octets) after limit result = ReadsAllOf octets after limit result
+-- whether the last read answered that nothing is left
+abbrev pub TextEnded : Option Bool → Option Bool → TextResult → Type 0
+TextEnded before after (Ok (Ok text)) = after ≡ option_map (λ _. true) before
+TextEnded before after (Ok (Err Failed)) = after ≡ option_map (λ _. false) before
+TextEnded before after (Ok (Err Long)) = after ≡ option_map (λ _. false) before
+TextEnded before after (Err out_of_memory) = (after ≡ before) ⊎ (after ≡ option_map (λ _. false) before)
 
--- the count rose where reading failed, and else stayed
-abbrev pub TextCause : ℕ → ℕ → TextResult → Type 0
-TextCause before now (Ok (Ok text)) = now ≡ before
-TextCause before now (Ok (Err Failed)) = Rose before now
-TextCause before now (Ok (Err Long)) = now ≡ before
-TextCause before now (Err out_of_memory) = now ≡ before
+-- no read came after the end or a failed read; it isn't said how many came before
+abbrev pub TextCalls : Option Calls → Option Calls → TextResult → Type 0
+TextCalls before after (Ok (Ok text)) = GoesOn before after true
+TextCalls before after (Ok (Err Failed)) = GoesOn before after true
+TextCalls before after (Ok (Err Long)) = after ≡ option_map (called false) before
+TextCalls before after (Err out_of_memory) = GoesOn before after false
+
+-- whether a read failed
+abbrev pub is_failed_text : TextResult → Bool
+is_failed_text (Ok (Ok text)) = false
+is_failed_text (Ok (Err Failed)) = true
+is_failed_text (Ok (Err Long)) = false
+is_failed_text (Err out_of_memory) = false
+
+-- what reading a text leaves of a source that gave these octets to it
+pub record ReadsText (before after : SourceTold) (limit : ℕ) (result : TextResult) (octets : List ℕ) : Type 0 where
+  -- they came from the front of those left
+  pub took : Takes before.left after.left octets
+  -- they were added to those given so far
+  pub gave : Adds before.given after.given octets
+  -- they are at most the limit and one piece
+  pub most : length octets ≤ limit + PIECE
+  -- what is answered of them
+  pub text : IsTextOf octets after.left limit result
+  -- whether the last read answered that nothing is left
+  pub ended : TextEnded before.ended after.ended result
+  -- no read came after the end or a failed read
+  pub calls : TextCalls before.calls after.calls result
+  -- the count rises by one exactly where a read failed
+  pub faults : after.faults ≡ counted (is_failed_text result) before.faults
+  pub name : after.name ≡ before.name

@@ -1,8 +1,10 @@
 //! A sink of octets in memory, some of whose calls fail.
-ghost use Rattle.std.specs.Prelude.{◌≡◌, ℕ, ◌+◌, ◌-◌, ◌<◌, ◌≤◌, ◌↔◌, ◌⊎◌, List, [], Option, Some, length, min, Contains, IfOk, unwrap_or, option_map, string_bytes, vec_len, vec_capacity};
-ghost use Rattle.outside.specs.Sink.{Writes, IsWriteCount, WriteCause};
-ghost use Rattle.outside.specs.States.{ByteState, next_count};
+ghost use Rattle.std.specs.Prelude.{false, ◌≡◌, ℕ, ◌+◌, ◌-◌, ◌<◌, ◌≤◌, ◌↔◌, ◌⊎◌, List, [], Option, Some, length, min, Contains, IfOk, unwrap_or, option_map, string_bytes, vec_len, vec_capacity};
+ghost use Rattle.outside.specs.Faults.{next_count};
+ghost use Rattle.outside.specs.Sink.{SinkTold, Writes};
+ghost use Rattle.outside.specs.States.{ByteState, byte_told};
 
+use crate::faults::count_fault;
 use crate::places::Named;
 use crate::sink::{Sink, WriteEnd};
 use std::alloc::{AllocError, Global};
@@ -13,6 +15,8 @@ use std::marker::Model;
 pub struct ByteSink {
     taken: Vec<u8>,
     room: usize,
+    stopped: bool,
+    late: u64,
     fails: Vec<u64>,
     calls: u64,
     faults: u64,
@@ -25,6 +29,8 @@ impl Model for ByteSink {
     ghost view = { λ s. record {
       taken = s.taken.items;
       room = s.room;
+      stopped = s.stopped;
+      late = s.late;
       fails = s.fails.items;
       calls = s.calls;
       faults = s.faults;
@@ -38,11 +44,22 @@ impl Model for ByteSink {
 impl ByteSink {
     /// A sink with room for so many octets, whose calls with these numbers fail. The room is taken here.
     pub fn new(alloc: Global, room: usize, fails: Vec<u64>) -> Result<Self, AllocError>
-        ensures { IfOk result (λ sink. sink ≡ record { taken = []; room = room; fails = fails.items; calls = 0; faults = 0; name = [] }) }
+        ensures { IfOk result (λ sink. sink ≡ record {
+          taken = [];
+          room = room;
+          stopped = false;
+          late = 0;
+          fails = fails.items;
+          calls = 0;
+          faults = 0;
+          name = [];
+        }) }
     {
         Ok(ByteSink {
             taken: Vec::with_capacity(alloc, room)?,
             room,
+            stopped: false,
+            late: 0,
             fails,
             calls: 0,
             faults: 0,
@@ -66,18 +83,11 @@ impl ByteSink {
 }
 
 impl Sink for ByteSink {
-    ghost taken = { λ s. Some s.taken };
-
-    ghost fault_count = { λ s. s.faults };
-
-    ghost name = { λ s. s.name };
+    ghost told = { byte_told };
 
     fn write(&mut self, piece: &[u8]) -> WriteEnd
         requires { 0 < length piece.now }
-        ensures took { Writes (Some self.old.taken) (Some self.new.taken) result piece.now }
-        ensures count { IsWriteCount result (length piece.now) }
-        ensures cause { WriteCause self.old.faults self.new.faults result }
-        ensures name { self.new.name ≡ self.old.name }
+        ensures writes { Writes (byte_told self.old) (byte_told self.new) result piece.now }
         ensures fails { (result ≡ WriteEnd.Failed) ↔ (Contains self.old.fails self.old.calls ⊎ (self.old.room ≡ 0)) }
         ensures fits { (n : ℕ) → result ≡ WriteEnd.Took n → n ≡ min (length piece.now) self.old.room }
         ensures room { (n : ℕ) → result ≡ WriteEnd.Took n → self.new.room ≡ self.old.room - n }
@@ -87,6 +97,8 @@ impl Sink for ByteSink {
     {
         let call = self.calls;
         self.calls = call.saturating_add(1);
+        self.late = count_fault(self.late, self.stopped);
+        self.stopped = true;
         if self.room == 0 || self.fails.contains(&call) {
             self.faults = self.faults.saturating_add(1);
             return WriteEnd::Failed;
@@ -94,6 +106,7 @@ impl Sink for ByteSink {
         let count = piece.len().min(self.room);
         self.taken.extend_from_slice(&piece[..count]).unwrap();
         self.room -= count;
+        self.stopped = false;
         WriteEnd::Took(count)
     }
 

@@ -2,7 +2,10 @@
 //! them in memory. Each object counts its faults; no call fails in silence, and none claims a fault that wasn't.
 #![tactic(auto)]
 
+mod asked;
+mod buffered;
 mod byte_sink;
+mod faults;
 mod memory;
 mod outside;
 mod places;
@@ -11,12 +14,14 @@ mod source;
 mod text;
 mod text_source;
 
+pub use buffered::{BufferedSink, ROOM};
 pub use byte_sink::ByteSink;
+pub use faults::count_fault;
 pub use memory::MemoryOutside;
 pub use outside::Outside;
 pub use sink::{Sink, SinkFailed, WriteEnd, write_all};
 pub use source::{ReadEnd, Source};
-pub use text::{TextEnd, read_text};
+pub use text::{PIECE, TextEnd, read_text};
 pub use text_source::TextSource;
 
 #[cfg(test)]
@@ -88,6 +93,48 @@ mod tests {
             b"text".as_slice()
         );
         assert_eq!(rt; outside.faults(), 2);
+        assert_eq!(rt; outside.read_names().ok_or("names")?.len(), 4);
+        assert_eq!(rt; outside.written_names().ok_or("names")?.len(), 1);
+        Ok(())
+    }
+
+    // What the room is, what is written, the calls of the sink that fail, and what it took when it is given back.
+    const GATHERINGS: [(usize, &[&[u8]], &[u64], bool, &[u8]); 4] = [
+        (9, &[], &[], true, b""),
+        (9, &[b"ab", b"cd"], &[], true, b"abcd"),
+        (3, &[b"ab", b"cd"], &[], false, b"abc"),
+        (9, &[b"ab", b"cd"], &[0], false, b""),
+    ];
+
+    #[test]
+    fn gathers_what_is_written(rt: HostRuntime) -> Result<(), Fail> {
+        let alloc = rt.alloc();
+        for (room, pieces, fails, is_whole, want) in GATHERINGS {
+            let sink = ByteSink::new(alloc, room, fails.to_vec(alloc)?)?;
+            let mut buffered = BufferedSink::new(alloc, sink).map_err(|_| "memory")?;
+            for piece in pieces {
+                assert_eq!(rt; write_all(&mut buffered, piece), Ok(()));
+            }
+            let (sink, end) = buffered.finish();
+            assert_eq!(rt; end.is_ok(), is_whole);
+            assert_eq!(rt; sink.taken(), want);
+            assert_eq!(rt; sink.faults(), if is_whole { 0 } else { 1 });
+        }
+        Ok(())
+    }
+
+    // Two pieces for which the room isn't enough, and a third that is longer than it.
+    #[test]
+    fn hands_on_before_the_room_is_full(rt: HostRuntime) -> Result<(), Fail> {
+        let alloc = rt.alloc();
+        let sink = ByteSink::new(alloc, 300_000, Vec::new(alloc))?;
+        let mut buffered = BufferedSink::new(alloc, sink).map_err(|_| "memory")?;
+        for (length, held) in [(40_000, 40_000), (40_000, 40_000), (70_000, 0), (5, 5)] {
+            let piece = vec![in alloc; 7u8; length]?;
+            assert_eq!(rt; write_all(&mut buffered, &piece), Ok(()));
+            assert_eq!(rt; buffered.held(), held);
+        }
+        assert_eq!(rt; buffered.into_sink().taken().len(), 150_000);
         Ok(())
     }
 }

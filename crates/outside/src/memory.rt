@@ -1,10 +1,12 @@
 //! An outside in memory.
-ghost use Rattle.std.specs.Prelude.{◌≡◌, ℕ, [], List, Option, OnOk, OnErr, IsSome, IfSome, Some, option_copied, bytes_eq, if◌then◌else◌};
-ghost use Rattle.outside.specs.Outside.{Opens, Closes, OpenCause, CloseCause, object_at};
-ghost use Rattle.outside.specs.States.{next_count};
-ghost use Rattle.outside.specs.Places.{MemoryState, standing, put_at, PutsUnder, AllNamed};
+ghost use Rattle.std.specs.Prelude.{◌≡◌, ℕ, [], List, Option, OnOk, OnErr, Some, option_copied, option_map, map, string_bytes};
+ghost use Rattle.outside.specs.Outside.{OutsideTold, OpensIn, ClosesIn, OpensOut, ClosesOut};
+ghost use Rattle.outside.specs.States.{text_told, byte_told};
+ghost use Rattle.outside.specs.Places.{MemoryState, memory_told, standing, object_there, PutsUnder, AllNamed};
 
+use crate::asked::AskedNames;
 use crate::byte_sink::ByteSink;
+use crate::faults::count_fault;
 use crate::outside::Outside;
 use crate::places::{Place, close, look, open, put};
 use crate::sink::Sink;
@@ -13,18 +15,28 @@ use crate::text_source::TextSource;
 use std::alloc::{AllocError, Global};
 use std::marker::Model;
 
-/// An outside whose objects were put there. Opening what wasn't put, or what is handed out, is a fault.
+/// An outside whose objects were put there. Opening what wasn't put, or what is handed out, is a fault. It keeps the
+/// names that it was asked to open; once one finds no memory, it tells none of that list.
 #[derive(Drop)]
 pub struct MemoryOutside {
+    alloc: Global,
     sources: Vec<Place<TextSource>>,
     sinks: Vec<Place<ByteSink>>,
+    read_names: AskedNames,
+    written_names: AskedNames,
     faults: u64,
 }
 
 impl Model for MemoryOutside {
     ghost Value = { MemoryState };
 
-    ghost view = { λ o. record { sources = o.sources.items; sinks = o.sinks.items; faults = o.faults } };
+    ghost view = { λ o. record {
+      sources = o.sources.items;
+      sinks = o.sinks.items;
+      read_names = o.read_names;
+      written_names = o.written_names;
+      faults = o.faults;
+    } };
 
     // Each object bears the name of its place.
     ghost invariant = { λ o. AllNamed (λ s. s.name) o.sources.items × AllNamed (λ s. s.name) o.sinks.items };
@@ -33,11 +45,20 @@ impl Model for MemoryOutside {
 impl MemoryOutside {
     /// An outside with nothing in it. It takes no memory.
     pub fn new(alloc: Global) -> Self
-        ensures { result ≡ record { sources = []; sinks = []; faults = 0 } }
+        ensures { result ≡ record {
+          sources = [];
+          sinks = [];
+          read_names = Some [];
+          written_names = Some [];
+          faults = 0;
+        } }
     {
         MemoryOutside {
+            alloc,
             sources: Vec::new(alloc),
             sinks: Vec::new(alloc),
+            read_names: AskedNames::new(alloc),
+            written_names: AskedNames::new(alloc),
             faults: 0,
         }
     }
@@ -49,9 +70,9 @@ impl MemoryOutside {
         name: &str,
         source: TextSource,
     ) -> Result<(), AllocError>
-        ensures ok { OnOk result (self.new ≡ record self.old { sources = put_at self.old.sources name.now (record source { name = name.now }) }) }
-        ensures told { OnOk result (PutsUnder self.old.sources self.new.sources name.now (record source { name = name.now })) }
-        ensures err { OnErr result (self.new ≡ self.old) }
+        ensures put { OnOk result (PutsUnder self.old.sources self.new.sources name.now (record source { name = name.now })) }
+        ensures err { OnErr result (self.new.sources ≡ self.old.sources) }
+        ensures others { self.new ≡ record self.old { sources = self.new.sources } }
     {
         let mut source = source;
         source.set_name(String::from_str(alloc, name)?);
@@ -60,9 +81,9 @@ impl MemoryOutside {
 
     /// Puts a sink under a name, in the place of what stands there.
     pub fn put_out(&mut self, alloc: Global, name: &str, sink: ByteSink) -> Result<(), AllocError>
-        ensures ok { OnOk result (self.new ≡ record self.old { sinks = put_at self.old.sinks name.now (record sink { name = name.now }) }) }
-        ensures told { OnOk result (PutsUnder self.old.sinks self.new.sinks name.now (record sink { name = name.now })) }
-        ensures err { OnErr result (self.new ≡ self.old) }
+        ensures put { OnOk result (PutsUnder self.old.sinks self.new.sinks name.now (record sink { name = name.now })) }
+        ensures err { OnErr result (self.new.sinks ≡ self.old.sinks) }
+        ensures others { self.new ≡ record self.old { sinks = self.new.sinks } }
     {
         let mut sink = sink;
         sink.set_name(String::from_str(alloc, name)?);
@@ -71,9 +92,23 @@ impl MemoryOutside {
 
     /// The sink that stands under a name, as it was put or put back.
     pub fn sink(&self, name: &str) -> Option<&ByteSink>
-        ensures { option_copied result ≡ object_at (standing self.now.sinks) name.now }
+        ensures { option_copied result ≡ object_there (standing self.now.sinks name.now) }
     {
         look(&self.sinks, name)
+    }
+
+    /// The names that it was asked to open for reading, in order; None once one found no memory.
+    pub fn read_names(&self) -> Option<&[String]>
+        ensures { option_map (λ names. map string_bytes names.now) result ≡ self.now.read_names }
+    {
+        self.read_names.names()
+    }
+
+    /// The same for writing.
+    pub fn written_names(&self) -> Option<&[String]>
+        ensures { option_map (λ names. map string_bytes names.now) result ≡ self.now.written_names }
+    {
+        self.written_names.names()
     }
 }
 
@@ -82,46 +117,33 @@ impl Outside for MemoryOutside {
 
     type Out = ByteSink;
 
-    ghost sources = { λ o. Some (standing o.sources) };
-
-    ghost sinks = { λ o. Some (standing o.sinks) };
-
-    ghost fault_count = { λ o. o.faults };
+    ghost told = { memory_told };
 
     fn open_in(&mut self, name: &str) -> Option<TextSource> {
+        self.read_names.ask(self.alloc, name);
         let source = open(&mut self.sources, name);
-        self.faults = counted(self.faults, source.is_none());
+        self.faults = count_fault(self.faults, source.is_none());
         source
     }
 
     fn close_in(&mut self, source: TextSource) {
-        self.faults = counted(self.faults, source.faults() > 0);
+        self.faults = count_fault(self.faults, source.faults() > 0);
         close(&mut self.sources, source);
     }
 
     fn open_out(&mut self, name: &str) -> Option<ByteSink> {
+        self.written_names.ask(self.alloc, name);
         let sink = open(&mut self.sinks, name);
-        self.faults = counted(self.faults, sink.is_none());
+        self.faults = count_fault(self.faults, sink.is_none());
         sink
     }
 
     fn close_out(&mut self, sink: ByteSink) {
-        self.faults = counted(self.faults, sink.faults() > 0);
+        self.faults = count_fault(self.faults, sink.faults() > 0);
         close(&mut self.sinks, sink);
     }
 
     fn faults(&self) -> u64 {
         self.faults
-    }
-}
-
-// The count of faults, with one more where there was one.
-fn counted(faults: u64, is_fault: bool) -> u64
-    ensures { result ≡ (if is_fault then next_count faults else faults) }
-{
-    if is_fault {
-        faults.saturating_add(1)
-    } else {
-        faults
     }
 }

@@ -1,7 +1,7 @@
 //! The places of an outside in memory.
 ghost use Rattle.std.specs.Prelude.{◌≡◌, ℕ, List, Option, OnOk, OnErr, IfSome, Some, None, position, bytes_eq, option_copied, string_bytes};
-ghost use Rattle.outside.specs.Outside.{object_at, Opens, Closes};
-ghost use Rattle.outside.specs.Places.{standing, put_at, PutsUnder, AllNamed};
+ghost use Rattle.outside.specs.Outside.{Changes, lent_from, put_back_at};
+ghost use Rattle.outside.specs.Places.{standing, object_there, PutsUnder, AllNamed};
 
 use std::alloc::{AllocError, Global};
 use std::marker::Model;
@@ -65,7 +65,7 @@ fn find<X>(places: &[Place<X>], name: &str) -> Option<usize>
 
 /// What stands under the name.
 pub(crate) fn look<'a, X>(places: &'a [Place<X>], name: &str) -> Option<&'a X>
-    ensures { option_copied result ≡ object_at (standing places.now) name.now }
+    ensures { option_copied result ≡ object_there (standing places.now name.now) }
 {
     let at = find(places, name)?;
     places[at].object()
@@ -73,7 +73,8 @@ pub(crate) fn look<'a, X>(places: &'a [Place<X>], name: &str) -> Option<&'a X>
 
 /// Hands out what stands under the name.
 pub(crate) fn open<X: Named>(places: &mut Vec<Place<X>>, name: &str) -> Option<X>
-    ensures opens { Opens (Some (standing places.old.items)) (Some (standing places.new.items)) name.now result }
+    ensures object { result ≡ object_there (standing places.old.items name.now) }
+    ensures lent { Changes lent_from (standing places.old.items) (standing places.new.items) name.now }
     ensures named { AllNamed X.name_of places.old.items → AllNamed X.name_of places.new.items }
     ensures name { AllNamed X.name_of places.old.items → IfSome result (λ object. X.name_of object ≡ name.now) }
 {
@@ -83,7 +84,7 @@ pub(crate) fn open<X: Named>(places: &mut Vec<Place<X>>, name: &str) -> Option<X
 
 /// Puts the object back under its name, if the name is there.
 pub(crate) fn close<X: Named + Drop>(places: &mut Vec<Place<X>>, object: X)
-    ensures closes { Closes (Some (standing places.old.items)) (Some (standing places.new.items)) (X.name_of object) object }
+    ensures closes { Changes (λ s. put_back_at s object) (standing places.old.items) (standing places.new.items) (X.name_of object) }
     ensures named { AllNamed X.name_of places.old.items → AllNamed X.name_of places.new.items }
 {
     if let Some(at) = find(places, object.name()) {
@@ -98,7 +99,6 @@ pub(crate) fn put<X: Named + Drop>(
     name: &str,
     object: X,
 ) -> Result<(), AllocError>
-    ensures ok { OnOk result (places.new.items ≡ put_at places.old.items name.now object) }
     ensures told { OnOk result (PutsUnder places.old.items places.new.items name.now object) }
     ensures err { OnErr result (places.new.items ≡ places.old.items) }
     ensures named { OnOk result (AllNamed X.name_of places.old.items → X.name_of object ≡ name.now → AllNamed X.name_of places.new.items) }

@@ -1,7 +1,6 @@
 //! A sink of octets.
-ghost use Rattle.std.specs.Prelude.{◌≡◌, ℕ, ◌<◌, List, Option, length, OnOk, OnErr};
-ghost use Rattle.outside.specs.Faults.{Rose};
-ghost use Rattle.outside.specs.Sink.{Writes, IsWriteCount, WriteCause, AppendsAll, AppendsPart};
+ghost use Rattle.std.specs.Prelude.{◌≡◌, ℕ, ◌<◌, ◌≤◌, length, take, is_err, OnOk};
+ghost use Rattle.outside.specs.Sink.{SinkTold, Writes, Appends, WritesAll};
 
 use std::error::Error;
 use std::fmt;
@@ -15,28 +14,19 @@ pub enum WriteEnd {
     Failed,
 }
 
-/// Octets that go outside, such as a file or standard output.
+/// Octets that go outside, such as a file or standard output. After a fault no write should come.
 pub trait Sink {
-    /// The octets that were taken, where the sink tells them.
-    ghost taken: { Self → Option (List ℕ) };
-
-    /// How many faults there were.
-    ghost fault_count: { Self → ℕ };
-
-    /// The name under which it stands in its outside; empty for none.
-    ghost name: { Self → List ℕ };
+    /// What it tells of its octets, its calls and its faults.
+    ghost told: { Self → SinkTold };
 
     /// Takes at least one octet from the front of the piece.
     fn write(&mut self, piece: &[u8]) -> WriteEnd
         requires { 0 < length piece.now }
-        ensures took { Writes (taken self.old) (taken self.new) result piece.now }
-        ensures count { IsWriteCount result (length piece.now) }
-        ensures cause { WriteCause (fault_count self.old) (fault_count self.new) result }
-        ensures name { name self.new ≡ name self.old };
+        ensures { Writes (told self.old) (told self.new) result piece.now };
 
     /// The number of faults so far. It stands still at the type's end.
     fn faults(&self) -> u64
-        ensures { result ≡ fault_count self.now };
+        ensures { result ≡ (told self.now).faults };
 }
 
 /// A sink failed; its count of faults rose.
@@ -51,20 +41,26 @@ impl fmt::Display for SinkFailed {
 
 impl Error for SinkFailed {}
 
-/// Writes all octets, in as many writes as the sink wants. It takes no memory.
+/// Writes all octets, in as many writes as the sink wants. A write that fails is the last. It takes no memory.
 pub fn write_all<S: Sink>(sink: &mut S, bytes: &[u8]) -> Result<(), SinkFailed>
-    ensures ok { OnOk result (AppendsAll (S.taken sink.old) (S.taken sink.new) bytes.now) }
-    ensures err { OnErr result (AppendsPart (S.taken sink.old) (S.taken sink.new) bytes.now) }
-    ensures no_fault { OnOk result (S.fault_count sink.new ≡ S.fault_count sink.old) }
-    ensures fault { OnErr result (Rose (S.fault_count sink.old) (S.fault_count sink.new)) }
-    ensures name { S.name sink.new ≡ S.name sink.old }
+    ensures { WritesAll (S.told sink.old) (S.told sink.new) bytes.now result }
+{
+    let (_sent, end) = write_front(sink, bytes);
+    end
+}
+
+// The same, and how many went out.
+pub(crate) fn write_front<S: Sink>(sink: &mut S, bytes: &[u8]) -> (usize, Result<(), SinkFailed>)
+    ensures within { result.0 ≤ length bytes.now }
+    ensures whole { OnOk result.1 (result.0 ≡ length bytes.now) }
+    ensures front { Appends (S.told sink.old) (S.told sink.new) (take result.0 bytes.now) (is_err result.1) }
 {
     let mut sent = 0;
     while sent < bytes.len() {
         match sink.write(&bytes[sent..]) {
             WriteEnd::Took(count) => sent += count,
-            WriteEnd::Failed => return Err(SinkFailed),
+            WriteEnd::Failed => return (sent, Err(SinkFailed)),
         }
     }
-    Ok(())
+    (sent, Ok(()))
 }

@@ -1,12 +1,12 @@
 //! A whole text, read from a source.
-ghost use Rattle.std.specs.Prelude.{◌≡◌, ℕ, ◌<◌, ◌≤◌, length, IfOk};
-ghost use Rattle.outside.specs.Text.{ReadsAll, TextCause};
+ghost use Rattle.std.specs.Prelude.{◌≡◌, ℕ, List, length};
+ghost use Rattle.outside.specs.Text.{ReadsText};
 
 use crate::source::{ReadEnd, Source};
 use std::alloc::{AllocError, Global};
 
 /// So many octets are read at a time.
-const PIECE: usize = 65_536;
+pub const PIECE: usize = 65_536;
 
 /// Why a text wasn't read.
 #[derive(Clone, Copy, Debug, PartialEq, Eq)]
@@ -17,16 +17,14 @@ pub enum TextEnd {
     Long,
 }
 
-/// Reads all octets that are left, if they are at most `limit`.
+/// Reads all octets that are left, if they are at most `limit`. The end and a fault are the last that it reads, and it
+/// takes at most the limit and one piece.
 pub fn read_text<S: Source>(
     alloc: Global,
     source: &mut S,
     limit: u64,
 ) -> Result<Result<Vec<u8>, TextEnd>, AllocError>
-    ensures all { ReadsAll (S.left source.old) (S.left source.new) limit result }
-    ensures limit { IfOk result (λ end. IfOk end (λ text. length text.items ≤ limit)) }
-    ensures cause { TextCause (S.fault_count source.old) (S.fault_count source.new) result }
-    ensures name { S.name source.new ≡ S.name source.old }
+    ensures { (octets : List ℕ) × ReadsText (S.told source.old) (S.told source.new) limit result octets }
 {
     let mut piece = vec![in alloc; 0u8; PIECE]?;
     read_pieces(alloc, source, &mut piece, limit)
@@ -39,11 +37,8 @@ fn read_pieces<S: Source>(
     piece: &mut [u8],
     limit: u64,
 ) -> Result<Result<Vec<u8>, TextEnd>, AllocError>
-    requires { 0 < length piece.old }
-    ensures all { ReadsAll (S.left source.old) (S.left source.new) limit result }
-    ensures limit { IfOk result (λ end. IfOk end (λ text. length text.items ≤ limit)) }
-    ensures cause { TextCause (S.fault_count source.old) (S.fault_count source.new) result }
-    ensures name { S.name source.new ≡ S.name source.old }
+    requires { length piece.old ≡ PIECE }
+    ensures { (octets : List ℕ) × ReadsText (S.told source.old) (S.told source.new) limit result octets }
 {
     let mut text: Vec<u8> = Vec::new(alloc);
     loop {

@@ -1,8 +1,10 @@
-//! A source of octets in memory, some of whose calls fail.
+//! A text in memory as a source, some of whose calls fail.
 ghost use Rattle.std.specs.Prelude.{Bool, take, false, ◌≡◌, ℕ, ◌<◌, ◌≤◌, ◌↔◌, List, [], Option, Some, length, min, drop, Contains, unwrap_or, option_map, string_bytes};
-ghost use Rattle.outside.specs.Source.{Reads, Gives, Ends, IsReadCount, ReadCause};
-ghost use Rattle.outside.specs.States.{TextState, next_count};
+ghost use Rattle.outside.specs.Faults.{next_count};
+ghost use Rattle.outside.specs.Source.{SourceTold, Reads};
+ghost use Rattle.outside.specs.States.{TextState, text_told};
 
+use crate::faults::count_fault;
 use crate::places::Named;
 use crate::source::{ReadEnd, Source};
 use std::marker::Model;
@@ -13,6 +15,8 @@ pub struct TextSource {
     octets: Vec<u8>,
     at: usize,
     ended: bool,
+    stopped: bool,
+    late: u64,
     fails: Vec<u64>,
     calls: u64,
     faults: u64,
@@ -26,6 +30,8 @@ impl Model for TextSource {
       left = drop s.at s.octets.items;
       given = take s.at s.octets.items;
       ended = s.ended;
+      stopped = s.stopped;
+      late = s.late;
       fails = s.fails.items;
       calls = s.calls;
       faults = s.faults;
@@ -38,12 +44,24 @@ impl Model for TextSource {
 impl TextSource {
     /// A source of these octets, whose calls with these numbers fail. It takes no memory.
     pub fn new(octets: Vec<u8>, fails: Vec<u64>) -> Self
-        ensures { result ≡ record { left = octets.items; given = []; ended = false; fails = fails.items; calls = 0; faults = 0; name = [] } }
+        ensures { result ≡ record {
+          left = octets.items;
+          given = [];
+          ended = false;
+          stopped = false;
+          late = 0;
+          fails = fails.items;
+          calls = 0;
+          faults = 0;
+          name = [];
+        } }
     {
         TextSource {
             octets,
             at: 0,
             ended: false,
+            stopped: false,
+            late: 0,
             fails,
             calls: 0,
             faults: 0,
@@ -60,24 +78,11 @@ impl TextSource {
 }
 
 impl Source for TextSource {
-    ghost left = { λ s. Some s.left };
-
-    ghost given = { λ s. Some s.given };
-
-    ghost ended = { λ s. Some s.ended };
-
-    ghost fault_count = { λ s. s.faults };
-
-    ghost name = { λ s. s.name };
+    ghost told = { text_told };
 
     fn read(&mut self, buf: &mut [u8]) -> ReadEnd
         requires { 0 < length buf.old }
-        ensures took { Reads (Some self.old.left) (Some self.new.left) result buf.new }
-        ensures given { Gives (Some self.old.given) (Some self.new.given) result buf.new }
-        ensures ended { Ends (Some self.old.ended) (Some self.new.ended) result }
-        ensures count { IsReadCount result (length buf.new) }
-        ensures cause { ReadCause self.old.faults self.new.faults result }
-        ensures name { self.new.name ≡ self.old.name }
+        ensures reads { Reads (text_told self.old) (text_told self.new) result buf.new }
         ensures fails { (result ≡ ReadEnd.Failed) ↔ Contains self.old.fails self.old.calls }
         ensures fits { (n : ℕ) → result ≡ ReadEnd.Got n → n ≡ min (length self.old.left) (length buf.new) }
         ensures calls { self.new.calls ≡ next_count self.old.calls }
@@ -85,7 +90,9 @@ impl Source for TextSource {
     {
         let call = self.calls;
         self.calls = call.saturating_add(1);
+        self.late = count_fault(self.late, self.stopped);
         self.ended = false;
+        self.stopped = true;
         if self.fails.contains(&call) {
             self.faults = self.faults.saturating_add(1);
             return ReadEnd::Failed;
@@ -98,6 +105,7 @@ impl Source for TextSource {
         let count = left.len().min(buf.len());
         buf[..count].copy_from_slice(&left[..count]);
         self.at += count;
+        self.stopped = false;
         ReadEnd::Got(count)
     }
 

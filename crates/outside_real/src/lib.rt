@@ -3,12 +3,14 @@
 #![tactic(auto)]
 
 mod real_outside;
-mod real_sink;
-mod real_source;
+mod sink;
+mod source;
+mod stream;
 
 pub use real_outside::RealOutside;
-pub use real_sink::RealSink;
-pub use real_source::RealSource;
+pub use sink::WriteSink;
+pub use source::ReadSource;
+pub use stream::{ReadAttempt, Stream, WriteAttempt};
 
 /// How often a call that a signal interrupts is tried.
 const TRIES: u32 = 1000;

@@ -1,9 +1,12 @@
 //! Files, standard input and standard output by name.
-ghost use Rattle.std.specs.Prelude.{◌≡◌, ℕ, ◌+◌, ◌-◌, ◌^◌, None, min, if◌then◌else◌};
+ghost use Rattle.std.specs.Prelude.{◌≡◌, ℕ, List, Option, option_map, IfSome, IsSome, IsTrue};
+ghost use Rattle.outside.specs.Outside.{OutsideTold, OpensIn, OpensOut};
+ghost use Rattle.outside_real.specs.Streams.{source_told, sink_told, outside_told, is_standard_stream, is_standard_name};
 
-use crate::real_sink::{RealOutput, RealSink};
-use crate::real_source::{RealInput, RealSource};
-use outside::{Outside, Sink, Source};
+use crate::sink::WriteSink;
+use crate::source::ReadSource;
+use crate::stream::Stream;
+use outside::{Outside, Sink, Source, count_fault};
 use std::io::Printer;
 use std::marker::Model;
 use std::rt::Files;
@@ -32,40 +35,38 @@ impl<'a, R> RealOutside<'a, R> {
 }
 
 impl<'a, R: Files + Input + Print> Outside for RealOutside<'a, R> {
-    type In = RealSource<R::Reader, R::File>;
+    type In = ReadSource<Stream<R::Reader, R::File>>;
 
-    type Out = RealSink<Printer<'a, R>, R::File>;
+    type Out = WriteSink<Stream<Printer<'a, R>, R::File>>;
 
-    ghost sources = { λ _. None };
+    ghost told = { outside_told };
 
-    ghost sinks = { λ _. None };
-
-    ghost fault_count = { λ o. o };
-
-    fn open_in(&mut self, name: &str) -> Option<RealSource<R::Reader, R::File>> {
-        if name == "-" {
-            return Some(RealSource::new(RealInput::Standard(self.runtime.reader())));
-        }
-        let file = fs::open(self.runtime, name).ok();
-        self.faults = counted(self.faults, file.is_none());
-        Some(RealSource::new(RealInput::File(file?)))
+    fn open_in(&mut self, name: &str) -> Option<ReadSource<Stream<R::Reader, R::File>>>
+        ensures opens { OpensIn (outside_told self.old) (outside_told self.new) name.now (option_map (λ source. source_told source.1) result) }
+        ensures stream { IfSome result (λ source. is_standard_stream source.0 ≡ is_standard_name name.now) }
+        ensures standard { IsTrue (is_standard_name name.now) → IsSome result }
+    {
+        let stream = input(self.runtime, name);
+        self.faults = count_fault(self.faults, stream.is_none());
+        Some(ReadSource::new(stream?))
     }
 
-    fn close_in(&mut self, source: RealSource<R::Reader, R::File>) {
-        self.faults = counted(self.faults, source.faults() > 0);
+    fn close_in(&mut self, source: ReadSource<Stream<R::Reader, R::File>>) {
+        self.faults = count_fault(self.faults, source.faults() > 0);
     }
 
-    fn open_out(&mut self, name: &str) -> Option<RealSink<Printer<'a, R>, R::File>> {
-        if name == "-" {
-            return Some(RealSink::new(RealOutput::Standard(io::writer(self.runtime))));
-        }
-        let file = fs::create(self.runtime, name).ok();
-        self.faults = counted(self.faults, file.is_none());
-        Some(RealSink::new(RealOutput::File(file?)))
+    fn open_out(&mut self, name: &str) -> Option<WriteSink<Stream<Printer<'a, R>, R::File>>>
+        ensures opens { OpensOut (outside_told self.old) (outside_told self.new) name.now (option_map (λ sink. sink_told sink.1) result) }
+        ensures stream { IfSome result (λ sink. is_standard_stream sink.0 ≡ is_standard_name name.now) }
+        ensures standard { IsTrue (is_standard_name name.now) → IsSome result }
+    {
+        let stream = output(self.runtime, name);
+        self.faults = count_fault(self.faults, stream.is_none());
+        Some(WriteSink::new(stream?))
     }
 
-    fn close_out(&mut self, sink: RealSink<Printer<'a, R>, R::File>) {
-        self.faults = counted(self.faults, sink.faults() > 0);
+    fn close_out(&mut self, sink: WriteSink<Stream<Printer<'a, R>, R::File>>) {
+        self.faults = count_fault(self.faults, sink.faults() > 0);
     }
 
     fn faults(&self) -> u64 {
@@ -73,13 +74,36 @@ impl<'a, R: Files + Input + Print> Outside for RealOutside<'a, R> {
     }
 }
 
-// The count of faults, with one more where there was one.
-fn counted(faults: u64, is_fault: bool) -> u64
-    ensures { result ≡ (if is_fault then min (faults + 1) (2 ^ 64 - 1) else faults) }
+// What is read under a name: None only where the file of that name can't be opened.
+fn input<R: Files + Input>(runtime: &R, name: &str) -> Option<Stream<R::Reader, R::File>>
+    ensures stream { IfSome result (λ stream. is_standard_stream stream ≡ is_standard_name name.now) }
+    ensures standard { IsTrue (is_standard_name name.now) → IsSome result }
 {
-    if is_fault {
-        faults.saturating_add(1)
-    } else {
-        faults
+    if is_standard(name) {
+        return Some(Stream::Standard(runtime.reader()));
     }
+    let file = fs::open(runtime, name).ok()?;
+    Some(Stream::File(file))
+}
+
+// What is written under a name: None only where the file of that name can't be made.
+fn output<'a, R: Files + Print>(
+    runtime: &'a R,
+    name: &str,
+) -> Option<Stream<Printer<'a, R>, R::File>>
+    ensures stream { IfSome result (λ stream. is_standard_stream stream ≡ is_standard_name name.now) }
+    ensures standard { IsTrue (is_standard_name name.now) → IsSome result }
+{
+    if is_standard(name) {
+        return Some(Stream::Standard(io::writer(runtime)));
+    }
+    let file = fs::create(runtime, name).ok()?;
+    Some(Stream::File(file))
+}
+
+// Whether a name is that of a standard stream.
+fn is_standard(name: &str) -> bool
+    ensures { result ≡ is_standard_name name.now }
+{
+    name == "-"
 }

@@ -1,0 +1,112 @@
+-- An object that was opened, used, and closed again under its name.
+use Rattle.std.proofs.Common.{◌≡◌, ◌≢◌, ◌⊎◌, ℕ, true, false, cond, List, [], ◌∷◌, ◌++◌, Option, Some, None, inl, inr, refl, sym, ◌∙◌, ap, subst, append_assoc}
+use Rattle.std.specs.Prelude.{bytes_eq}
+use Rattle.std.proofs.lemmas.Bool.{cases_Bool}
+use Rattle.std.proofs.lemmas.List.{append-nil}
+use Rattle.std.proofs.lemmas.Slice.Eq.{bytes_eq-Decides}
+use Rattle.outside.specs.Outside.{Standing, untold, missing, lent, there, lent_from, put_back_at, HandsOut, Changes, Acts, Asks}
+
+pub bytes_are : (xs ys : List ℕ) → bytes_eq xs ys ≡ true → xs ≡ ys
+bytes_are xs ys = (bytes_eq-Decides xs ys).0
+
+pub bytes_same : (xs : List ℕ) → bytes_eq xs xs ≡ true
+bytes_same xs = (bytes_eq-Decides xs xs).1 refl
+
+-- what stood under a name where x was opened there and y was closed, and what stands there then
+abbrev pub IsExchanged : {X : Type 0} → Standing X → Standing X → X → X → Type 0
+IsExchanged {X} untold after x y = after ≡ untold
+IsExchanged {X} missing after x y = ⊥
+IsExchanged {X} lent after x y = ⊥
+IsExchanged {X} (there object) after x y = (object ≡ x) × (after ≡ there y)
+
+-- the object that stood under the name was exchanged, and every other name is as before
+pub record Exchanges {X : Type 0} (before after : List ℕ → Standing X) (name : List ℕ) (x y : X) : Type 0 where
+  pub object : IsExchanged (before name) (after name) x y
+  pub others : (n : List ℕ) → bytes_eq n name ≡ false → after n ≡ before n
+
+module _ {X : Type 0} where
+  -- at the name itself, and at another one
+  pub changed_at : (change : Standing X → Standing X) (before after : List ℕ → Standing X) (name : List ℕ)
+      → Changes change before after name → after name ≡ change (before name)
+  changed_at change before after name changes =
+      changes name ∙ ap (λ t. cond t (change (before name)) (before name)) (bytes_same name)
+
+  pub same_at : (change : Standing X → Standing X) (before after : List ℕ → Standing X) (name n : List ℕ)
+      → Changes change before after name → bytes_eq n name ≡ false → after n ≡ before n
+  same_at change before after name n changes other =
+      changes n ∙ ap (λ t. cond t (change (before n)) (before n)) other
+
+  -- a change at a name under which it changes nothing
+  pub unchanged : (change : Standing X → Standing X) (before after : List ℕ → Standing X) (name n : List ℕ)
+      → Changes change before after name → change (before name) ≡ before name → after n ≡ before n
+  unchanged change before after name n changes nothing = elim (cases_Bool (bytes_eq n name)) [
+    | inl same ↦
+        subst (λ (m : List ℕ). after m ≡ before m) (sym (bytes_are n name same)) (changed_at change before after name changes ∙ nothing)
+    | inr other ↦ same_at change before after name n changes other
+  ]
+
+  -- an open that hands out nothing changes nothing
+  pub opened_nothing : (name_of : X → List ℕ) (faults_of : X → ℕ) (before after : List ℕ → Standing X) (name n : List ℕ)
+      → HandsOut name_of faults_of before name (before name) None → Changes lent_from before after name → after n ≡ before n
+  opened_nothing name_of faults_of before after name n handed opened = unchanged lent_from before after name n opened (go (before name) handed)
+    where
+      go : (stood : Standing X) → HandsOut name_of faults_of before name stood None → lent_from stood ≡ stood
+      go untold h = refl
+      go missing h = refl
+      go lent h = refl
+      go (there x) h = let none = h.0 in cc
+
+  pub exchanges : (name_of : X → List ℕ) (faults_of : X → ℕ) (before mid after : List ℕ → Standing X) (name : List ℕ) (x y : X)
+      → HandsOut name_of faults_of before name (before name) (Some x) → Changes lent_from before mid name
+      → name_of y ≡ name_of x → Changes (λ s. put_back_at s y) mid after (name_of y) → Exchanges before after name x y
+  exchanges name_of faults_of before mid after name x y handed opened same closed = go (before name) refl handed
+    where
+      untold_there : before name ≡ untold → before (name_of x) ≡ untold → (n : List ℕ) → after n ≡ before n
+      untold_there is bears n =
+          let mid_as : (m : List ℕ) → mid m ≡ before m = λ m. unchanged lent_from before mid name m opened (ap lent_from is ∙ sym is) in
+          let at_y : mid (name_of y) ≡ untold = mid_as (name_of y) ∙ ap before same ∙ bears in
+          unchanged (λ s. put_back_at s y) mid after (name_of y) n closed (ap (λ s. put_back_at s y) at_y ∙ sym at_y) ∙ mid_as n
+
+      go : (stood : Standing X) → before name ≡ stood → HandsOut name_of faults_of before name stood (Some x) → Exchanges before after name x y
+      go untold is h = record {
+        object = subst (λ (s : Standing X). IsExchanged s (after name) x y) (sym is) (untold_there is h.1 name ∙ is);
+        others = λ n other. untold_there is h.1 n;
+      }
+      go missing is h = cc
+      go lent is h = cc
+      go (there z) is h =
+          let x_is : z ≡ x = let some = h.0 in cc in
+          let y_named : name_of y ≡ name = same ∙ ap name_of (sym x_is) ∙ h.1 in
+          let closed' : Changes (λ s. put_back_at s y) mid after name = subst (λ (n : List ℕ). Changes (λ s. put_back_at s y) mid after n) y_named closed in
+          let mid_is : mid name ≡ lent = changed_at lent_from before mid name opened ∙ ap lent_from is in
+          record {
+            object = subst (λ (s : Standing X). IsExchanged s (after name) x y) (sym is)
+                (x_is, changed_at (λ s. put_back_at s y) mid after name closed' ∙ ap (λ s. put_back_at s y) mid_is);
+            others = λ n other. same_at (λ s. put_back_at s y) mid after name n closed' other ∙ same_at lent_from before mid name n opened other;
+          }
+
+  -- what the object went through is what what stands under its name went through
+  pub acts : (R : X → X → Type 0) (before after : List ℕ → Standing X) (name : List ℕ) (x y : X)
+      → Exchanges before after name x y → R x y → Acts R (before name) (after name)
+  acts R before after name x y exchanged fact = go (before name) exchanged.object
+    where
+      go : (stood : Standing X) → IsExchanged stood (after name) x y → Acts R stood (after name)
+      go untold h = h
+      go missing h = absurd h
+      go lent h = absurd h
+      go (there z) h = (y, h.1, subst (λ (o : X). R o y) (sym h.0) fact)
+
+-- no name asked for
+pub Asks-none : (names : Option (List (List ℕ))) → Asks names names []
+Asks-none None = refl
+Asks-none (Some names) = inr (ap Some (sym (append-nil names)))
+
+-- some names asked for, and then others
+pub Asks-append : (before mid after : Option (List (List ℕ))) (first next : List (List ℕ)) → Asks before mid first → Asks mid after next → Asks before after (first ++ next)
+Asks-append None mid after first next one two = subst (λ (m : Option (List (List ℕ))). Asks m after next) one two
+Asks-append (Some names) mid after first next (inl none) two = inl (subst (λ (m : Option (List (List ℕ))). Asks m after next) none two)
+Asks-append (Some names) mid after first next (inr told) two = go (subst (λ (m : Option (List (List ℕ))). Asks m after next) told two)
+  where
+    go : Asks (Some (names ++ first)) after next → Asks (Some names) after (first ++ next)
+    go (inl none) = inl none
+    go (inr more) = inr (more ∙ ap Some (append_assoc names first next))
