@@ -8,3 +8,4 @@ pub mod Written
 pub mod Elements
 pub mod Windows
 pub mod Shortest
+pub mod DottedOctets

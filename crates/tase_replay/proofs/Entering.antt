@@ -1,9 +1,9 @@
 -- What one line leaves: where its event is taken, where it is refused, and where nothing was done.
-use Rattle.std.proofs.Common.{◌≡◌, ℕ, Bool, false, List, [], ◌∷◌, ◌++◌, Option, Some, None, Ok, refl, sym, ap, ◌∙◌, subst, arith}
+use Rattle.std.proofs.Common.{◌≡◌, ℕ, Bool, true, false, List, [], ◌∷◌, ◌++◌, Option, Some, None, Ok, refl, sym, ap, ◌∙◌, subst, arith}
 use Rattle.std.specs.Prelude.{if◌then◌else◌, Result, Err, IfOk}
 use Rattle.std.proofs.lemmas.List.{append-nil}
 use Rattle.plain_text.specs.Lines.{is_skipped}
-use Rattle.outside.specs.Sink.{AppendsAll, AppendsPart}
+use Rattle.outside.specs.Sink.{SinkTold, AppendsAll, AppendsPart}
 use Rattle.tase_views.specs.declared.event.Entry.{Entry}
 use Rattle.tase_views.specs.declared.fault.StepFault.{StepFault}
 use Rattle.tase_views.specs.declared.fault.StepFault.TheVariants as faults
@@ -19,21 +19,21 @@ use Rattle.tase_replay.specs.Ends.{IsPlayed, IsShown, entry_or_end, end_of_refus
 use Rattle.tase_replay.proofs.Taking.{TakesAll-none, TakesPart-none}
 
 -- a bad line leaves all as it was
-pub IsPlayed-bad : (line : List ℕ) (number : ℕ) (past : Past) (meaning : Meaning) (history : List Entry) (sink : Option (List ℕ)) → meaning ≡ bad
+pub IsPlayed-bad : (line : List ℕ) (number : ℕ) (past : Past) (meaning : Meaning) (history : List Entry) (sink : SinkTold) → meaning ≡ bad
     → IsPlayed (play_line line number past meaning ends_there) history history sink sink (BadLine number)
 IsPlayed-bad line number past meaning history sink is = rw is (refl, TakesAll-none history sink)
 
 -- so does a line at which memory ran out at once
-pub IsPlayed-none : (line : List ℕ) (number : ℕ) (past : Past) (meaning : Meaning) (history : List Entry) (sink : Option (List ℕ))
+pub IsPlayed-none : (line : List ℕ) (number : ℕ) (past : Past) (meaning : Meaning) (history : List Entry) (sink : SinkTold)
     → IsPlayed (play_line line number past meaning ends_there) history history sink sink Memory
 IsPlayed-none line number past meaning history sink = TakesPart-none (steps_of (play_line line number past meaning ends_there)) history sink
 
 -- and a line that is skipped
-pub IsPlayed-skipped : (line : List ℕ) (number : ℕ) (past : Past) (history : List Entry) (sink : Option (List ℕ))
+pub IsPlayed-skipped : (line : List ℕ) (number : ℕ) (past : Past) (history : List Entry) (sink : SinkTold)
     → IsPlayed (play_line line number past (gives []) ends_there) history history sink sink Done
 IsPlayed-skipped line number past history sink = (refl, TakesAll-none history sink)
 
-IsPlayed-shown : (line : List ℕ) (number : ℕ) (past : Past) (step : Step) (history now : List Entry) (before after : Option (List ℕ)) (end : ReplayEnd)
+IsPlayed-shown : (line : List ℕ) (number : ℕ) (past : Past) (step : Step) (history now : List Entry) (before after : SinkTold) (end : ReplayEnd)
     → now ≡ history ++ step.entry ∷ [] → IsShown step.printed before after end
     → IsPlayed (play_line line number past (gives (step ∷ [])) ends_there) history now before after end
 IsPlayed-shown line number past step history now before after Done grown shown =
@@ -44,18 +44,18 @@ IsPlayed-shown line number past step history now before after SinkFault grown sh
       count = 1;
       within = omega arith;
       entries = grown;
-      shown = subst (λ (text : List ℕ). AppendsPart before after text) (sym (append-nil step.printed)) shown;
+      shown = subst (λ (t : List ℕ). AppendsPart before after t true) (sym (append-nil step.printed)) shown;
     }
 IsPlayed-shown line number past step history now before after Memory grown shown =
     record {
       count = 1;
       within = omega arith;
       entries = grown;
-      shown = subst (λ (text : List ℕ). AppendsPart before after text) (sym (append-nil step.printed)) shown;
+      shown = subst (λ (t : List ℕ). AppendsPart before after t false) (sym (append-nil step.printed)) shown;
     }
 
 -- an event that was taken, and its answer printed
-pub IsPlayed-taken : (setup : Setup) (line : List ℕ) (number : ℕ) (past : Past) (entry : Entry) (answer : Answer) (history now : List Entry) (before after : Option (List ℕ)) (end : ReplayEnd)
+pub IsPlayed-taken : (setup : Setup) (line : List ℕ) (number : ℕ) (past : Past) (entry : Entry) (answer : Answer) (history now : List Entry) (before after : SinkTold) (end : ReplayEnd)
     → refusal_of setup past entry.who entry.event ≡ None → answer ≡ answer_of setup past entry.who entry.event
     → now ≡ history ++ entry ∷ [] → IsShown (printed_of entry.who answer) before after end
     → IsPlayed (play_line line number past (accepted setup past (Some entry)) ends_there) history now before after end
@@ -64,7 +64,7 @@ IsPlayed-taken setup line number past entry answer history now before after end 
     (subst (λ (a : Answer). IsShown (printed_of entry.who a) before after end) is shown))
 
 -- an event that was refused
-pub IsPlayed-refused : (setup : Setup) (line : List ℕ) (number : ℕ) (past : Past) (entry : Entry) (fault : StepFault) (history : List Entry) (sink : Option (List ℕ))
+pub IsPlayed-refused : (setup : Setup) (line : List ℕ) (number : ℕ) (past : Past) (entry : Entry) (fault : StepFault) (history : List Entry) (sink : SinkTold)
     → IsRefusal (refusal_of setup past entry.who entry.event) fault
     → IsPlayed (play_line line number past (accepted setup past (Some entry)) ends_there) history history sink sink (end_of_refusal number fault)
 IsPlayed-refused setup line number past entry faults.Memory history sink refused =
@@ -92,7 +92,7 @@ entry_read number (Err none) wanted entry read is = absurd cc
 
 -- a line whose entry was read
 pub IsPlayed-read : {E : Type 0} (setup : Setup) (line : List ℕ) (number : ℕ) (past : Past) (read : Result (Option Entry) E) (entry : Entry)
-    (history now : List Entry) (before after : Option (List ℕ)) (end : ReplayEnd)
+    (history now : List Entry) (before after : SinkTold) (end : ReplayEnd)
     → is_skipped line ≡ false → IfOk read (λ found. found ≡ entry_in setup.centre line) → Ok entry ≡ entry_or_end number read
     → IsPlayed (play_line line number past (accepted setup past (Some entry)) ends_there) history now before after end
     → IsPlayed (play_alone setup line past number) history now before after end
@@ -106,7 +106,7 @@ end_there (Err end) = end
 
 -- a line of which no entry was read
 pub IsPlayed-unread : {E : Type 0} (setup : Setup) (line : List ℕ) (number : ℕ) (past : Past) (read : Result (Option Entry) E)
-    (history : List Entry) (sink : Option (List ℕ)) (end : ReplayEnd)
+    (history : List Entry) (sink : SinkTold) (end : ReplayEnd)
     → is_skipped line ≡ false → IfOk read (λ found. found ≡ entry_in setup.centre line) → Err end ≡ entry_or_end number read
     → IsPlayed (play_alone setup line past number) history history sink sink end
 IsPlayed-unread setup line number past (Ok (Some found)) history sink end words reads is = absurd cc

@@ -1,4 +1,3 @@
-pub mod Shown
 pub mod Taking
 pub mod Reached
 pub mod Entering

@@ -1,8 +1,9 @@
 -- How far a play has come, and how a line takes it further or ends it.
-use Rattle.std.proofs.Common.{◌≡◌, ℕ, List, [], ◌∷◌, ◌++◌, reverse, Option, refl, sym, ap, ◌∙◌, subst, append_assoc}
+use Rattle.std.proofs.Common.{◌≡◌, ℕ, Bool, true, false, List, [], ◌∷◌, ◌++◌, reverse, Option, refl, sym, ap, ◌∙◌, subst, append_assoc}
 use Rattle.std.specs.List.{flat_map}
 use Rattle.std.proofs.lemmas.List.{append-nil}
 use Rattle.std.proofs.lemmas.Grind.{flat_map-append}
+use Rattle.outside.specs.Sink.{SinkTold}
 use Rattle.tase_views.specs.declared.event.Entry.{Entry}
 use Rattle.tase_views.specs.History.{Past}
 use Rattle.tase_replay.specs.declared.playing.ReplayEnd.{ReplayEnd}
@@ -20,12 +21,12 @@ abbrev pub continued : List Taken → Played → Played
 continued lines rest = record { taken = lines ++ rest.taken; end = rest.end }
 
 -- the lines taken so far, and then those of the rest, are all
-pub record Reached (all rest : Played) (history now : List Entry) (before after : Option (List ℕ)) : Type 0 where
+pub record Reached (all rest : Played) (history now : List Entry) (before after : SinkTold) : Type 0 where
   pub lines : List Taken
   pub whole : all ≡ continued lines rest
   pub takes : TakesAll (steps_in lines) history now before after
 
-pub Reached-none : (all : Played) (history : List Entry) (sink : Option (List ℕ)) → Reached all all history history sink sink
+pub Reached-none : (all : Played) (history : List Entry) (sink : SinkTold) → Reached all all history history sink sink
 Reached-none all history sink = record { lines = []; whole = refl; takes = TakesAll-none history sink }
 
 steps_of-continued : (all rest : Played) (lines : List Taken) → all ≡ continued lines rest → steps_of all ≡ steps_in lines ++ steps_of rest
@@ -33,7 +34,7 @@ steps_of-continued all rest lines whole =
     ap (λ (played : Played). steps_of played) whole ∙ flat_map-append (λ (taken : Taken). taken.steps) lines rest.taken
 
 -- at the end of the lines
-pub Reached-end : (all : Played) (past : Past) (history now : List Entry) (before after : Option (List ℕ)) → Reached all (ends_there past) history now before after
+pub Reached-end : (all : Played) (past : Past) (history now : List Entry) (before after : SinkTold) → Reached all (ends_there past) history now before after
     → IsPlayed all history now before after Done
 Reached-end all past history now before after reached =
     let same : steps_of all ≡ steps_in reached.lines = steps_of-continued all (ends_there past) reached.lines reached.whole ∙ append-nil (steps_in reached.lines) in (
@@ -49,7 +50,7 @@ past_after-reverse (step ∷ steps) history =
     ∙ ap reverse (append_assoc history (step.entry ∷ []) (entries_in steps))
 
 -- after a line that was taken the rest comes
-pub Reached-more : (line : List ℕ) (number : ℕ) (meaning : Meaning) (rest : Past → Played) (all : Played) (history now later : List Entry) (before after next : Option (List ℕ))
+pub Reached-more : (line : List ℕ) (number : ℕ) (meaning : Meaning) (rest : Past → Played) (all : Played) (history now later : List Entry) (before after next : SinkTold)
     → Reached all (play_line line number (reverse now) meaning rest) history now before after
     → IsPlayed (play_line line number (reverse now) meaning ends_there) now later after next Done
     → Reached all (rest (reverse later)) history later before next
@@ -79,21 +80,21 @@ steps_of-line line number past bad rest = ([], refl)
 steps_of-line line number past (gives steps) rest =
     (steps_of (rest (past_after past steps)), ap (λ (these : List Step). these ++ steps_of (rest (past_after past steps))) (sym (append-nil steps)))
 
-Reached-part : (line : List ℕ) (number : ℕ) (meaning : Meaning) (rest : Past → Played) (all : Played) (history now later : List Entry) (before after next : Option (List ℕ))
+Reached-part : (line : List ℕ) (number : ℕ) (meaning : Meaning) (rest : Past → Played) (all : Played) (history now later : List Entry) (before after next : SinkTold) (failed : Bool)
     → Reached all (play_line line number (reverse now) meaning rest) history now before after
-    → TakesPart (steps_of (play_line line number (reverse now) meaning ends_there)) now later after next
-    → TakesPart (steps_of all) history later before next
-Reached-part line number meaning rest all history now later before after next reached part =
+    → TakesPart (steps_of (play_line line number (reverse now) meaning ends_there)) now later after next failed
+    → TakesPart (steps_of all) history later before next failed
+Reached-part line number meaning rest all history now later before after next failed reached part =
     let alone : List Step = steps_of (play_line line number (reverse now) meaning ends_there) in
     let first = steps_of-line line number (reverse now) meaning rest in
     let same : steps_of all ≡ steps_in reached.lines ++ (alone ++ first.0) =
     steps_of-continued all (play_line line number (reverse now) meaning rest) reached.lines reached.whole ∙ ap (λ (these : List Step). steps_in reached.lines ++ these) first.1 in
-    subst (λ (these : List Step). TakesPart these history later before next) (sym same)
-    (TakesPart-append (steps_in reached.lines) (alone ++ first.0) history now later before after next reached.takes
-    (TakesPart-front alone first.0 now later after next part))
+    subst (λ (these : List Step). TakesPart these history later before next failed) (sym same)
+    (TakesPart-append (steps_in reached.lines) (alone ++ first.0) history now later before after next failed reached.takes
+    (TakesPart-front alone first.0 now later after next failed part))
 
 -- a bad line is the last
-Reached-bad : (line : List ℕ) (number : ℕ) (meaning : Meaning) (rest : Past → Played) (all : Played) (history now later : List Entry) (before after next : Option (List ℕ)) (at : ℕ)
+Reached-bad : (line : List ℕ) (number : ℕ) (meaning : Meaning) (rest : Past → Played) (all : Played) (history now later : List Entry) (before after next : SinkTold) (at : ℕ)
     → Reached all (play_line line number (reverse now) meaning rest) history now before after
     → IsPlayed (play_line line number (reverse now) meaning ends_there) now later after next (BadLine at)
     → IsPlayed all history later before next (BadLine at)
@@ -110,7 +111,7 @@ Reached-bad line number (gives steps) rest all history now later before after ne
     done_or_bad e = absurd cc
 
 -- a line that ends the play ends all so
-pub Reached-last : (line : List ℕ) (number : ℕ) (meaning : Meaning) (rest : Past → Played) (all : Played) (history now later : List Entry) (before after next : Option (List ℕ)) (end : ReplayEnd)
+pub Reached-last : (line : List ℕ) (number : ℕ) (meaning : Meaning) (rest : Past → Played) (all : Played) (history now later : List Entry) (before after next : SinkTold) (end : ReplayEnd)
     → (end ≡ Done → ⊥) → Reached all (play_line line number (reverse now) meaning rest) history now before after
     → IsPlayed (play_line line number (reverse now) meaning ends_there) now later after next end
     → IsPlayed all history later before next end
@@ -118,6 +119,6 @@ Reached-last line number meaning rest all history now later before after next Do
 Reached-last line number meaning rest all history now later before after next (BadLine at) other reached played =
     Reached-bad line number meaning rest all history now later before after next at reached played
 Reached-last line number meaning rest all history now later before after next SinkFault other reached played =
-    Reached-part line number meaning rest all history now later before after next reached played
+    Reached-part line number meaning rest all history now later before after next true reached played
 Reached-last line number meaning rest all history now later before after next Memory other reached played =
-    Reached-part line number meaning rest all history now later before after next reached played
+    Reached-part line number meaning rest all history now later before after next false reached played

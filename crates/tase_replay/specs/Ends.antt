@@ -1,7 +1,6 @@
 -- What a replay leaves, by how it ended.
-use Rattle.std.specs.Prelude.{◌≡◌, ℕ, ◌≤◌, List, ◌++◌, length, take, Option, Some, None, Result, Ok, Err}
-use Rattle.outside.specs.Faults.{Rose}
-use Rattle.outside.specs.Sink.{AppendsAll, AppendsPart}
+use Rattle.std.specs.Prelude.{◌≡◌, ℕ, ◌≤◌, Bool, true, false, List, ◌++◌, length, take, Option, Some, None, Result, Ok, Err}
+use Rattle.outside.specs.Sink.{SinkTold, AppendsAll, AppendsPart}
 use Rattle.tase_views.specs.declared.event.Entry.{Entry}
 use Rattle.tase_views.specs.declared.fault.StepFault.{StepFault}
 use Rattle.tase_views.specs.declared.fault.StepFault.TheVariants as faults
@@ -9,40 +8,38 @@ use Rattle.tase_replay.specs.declared.playing.ReplayEnd.{ReplayEnd}
 use Rattle.tase_replay.specs.declared.playing.ReplayEnd.TheVariants.{Done, BadLine, SinkFault, Memory}
 use Rattle.tase_replay.specs.Play.{Step, Played, done, bad_line, steps_of, entries_in, printed_in}
 
--- all these steps were taken: the history has their entries behind what it had, and the sink took what they print
-pub record TakesAll (steps : List Step) (history now : List Entry) (before after : Option (List ℕ)) : Type 0 where
+-- all these steps were taken, and no write failed
+pub record TakesAll (steps : List Step) (history now : List Entry) (before after : SinkTold) : Type 0 where
+  -- the history has their entries behind those that it had
   pub entries : now ≡ history ++ entries_in steps
+  -- the sink took what they print
   pub shown : AppendsAll before after (printed_in steps)
 
--- the first so many of these steps were taken, and the sink took a front part of what they print
-pub record TakesPart (steps : List Step) (history now : List Entry) (before after : Option (List ℕ)) : Type 0 where
+-- some of these steps were taken, from the first on, and the last write may have failed
+pub record TakesPart (steps : List Step) (history now : List Entry) (before after : SinkTold) (failed : Bool) : Type 0 where
+  -- how many
   pub count : ℕ
   pub within : count ≤ length steps
+  -- the history has their entries behind those that it had
   pub entries : now ≡ history ++ entries_in (take count steps)
-  pub shown : AppendsPart before after (printed_in (take count steps))
+  -- the sink took a front part of what they print
+  pub shown : AppendsPart before after (printed_in (take count steps)) failed
 
 -- Done and a bad line come exactly where the scenario has none and has this one, with all before it taken and shown;
--- after a fault of the sink and want of memory a front part is.
-abbrev pub IsPlayed : Played → List Entry → List Entry → Option (List ℕ) → Option (List ℕ) → ReplayEnd → Type 0
+-- a fault of the sink comes only where a write failed, which was the last.
+abbrev pub IsPlayed : Played → List Entry → List Entry → SinkTold → SinkTold → ReplayEnd → Type 0
 IsPlayed played history now before after Done = (played.end ≡ done) × TakesAll (steps_of played) history now before after
 IsPlayed played history now before after (BadLine line) =
     (played.end ≡ bad_line line) × TakesAll (steps_of played) history now before after
-IsPlayed played history now before after SinkFault = TakesPart (steps_of played) history now before after
-IsPlayed played history now before after Memory = TakesPart (steps_of played) history now before after
+IsPlayed played history now before after SinkFault = TakesPart (steps_of played) history now before after true
+IsPlayed played history now before after Memory = TakesPart (steps_of played) history now before after false
 
 -- a text was shown, whole where nothing stopped it
-abbrev pub IsShown : List ℕ → Option (List ℕ) → Option (List ℕ) → ReplayEnd → Type 0
+abbrev pub IsShown : List ℕ → SinkTold → SinkTold → ReplayEnd → Type 0
 IsShown text before after Done = AppendsAll before after text
 IsShown text before after (BadLine line) = ⊥
-IsShown text before after SinkFault = AppendsPart before after text
-IsShown text before after Memory = AppendsPart before after text
-
--- a fault of the sink comes only where its count rose, which nothing else lets rise
-abbrev pub HasSinkCause : ℕ → ℕ → ReplayEnd → Type 0
-HasSinkCause before now Done = now ≡ before
-HasSinkCause before now (BadLine line) = now ≡ before
-HasSinkCause before now SinkFault = Rose before now
-HasSinkCause before now Memory = now ≡ before
+IsShown text before after SinkFault = AppendsPart before after text true
+IsShown text before after Memory = AppendsPart before after text false
 
 -- the entry of the line with this number, by what was read of it; or how the line ends
 abbrev pub entry_or_end : {E : Type 0} → ℕ → Result (Option Entry) E → Result Entry ReplayEnd

@@ -1,7 +1,7 @@
 ghost use Rattle.std.specs.Prelude.{◌≡◌, ℕ, List, reverse, Some};
 ghost use Rattle.std.specs.Str.Lines.{lines};
 ghost use Rattle.tase_replay.specs.Play.{play, play_alone, play_line, accepted, printed_of, ends_there};
-ghost use Rattle.tase_replay.specs.Ends.{IsPlayed, IsShown, HasSinkCause, entry_or_end, end_of_refusal};
+ghost use Rattle.tase_replay.specs.Ends.{IsPlayed, IsShown, entry_or_end, end_of_refusal};
 
 use crate::entries::read_entry;
 use crate::printing::print_reply;
@@ -28,10 +28,8 @@ pub enum ReplayEnd {
 /// At the first bad line it stops; what was printed before stands.
 pub fn replay<K: Sink>(alloc: Global, node: &mut Node, scenario: &[u8], sink: &mut K) -> ReplayEnd
     ensures played { IsPlayed (play node.old.setup (lines scenario.now) (reverse node.old.history) 1)
-        node.old.history node.new.history (K.taken sink.old) (K.taken sink.new) result }
+        node.old.history node.new.history (K.told sink.old) (K.told sink.new) result }
     ensures setup { node.new.setup ≡ node.old.setup }
-    ensures cause { HasSinkCause (K.fault_count sink.old) (K.fault_count sink.new) result }
-    ensures name { K.name sink.new ≡ K.name sink.old }
 {
     let mut text = Vec::new(alloc);
     let mut rest = scenario;
@@ -57,10 +55,8 @@ fn play_line<K: Sink>(
     text: &mut Vec<u8>,
 ) -> ReplayEnd
     ensures played { IsPlayed (play_alone node.old.setup line.now (reverse node.old.history) number)
-        node.old.history node.new.history (K.taken sink.old) (K.taken sink.new) result }
+        node.old.history node.new.history (K.told sink.old) (K.told sink.new) result }
     ensures setup { node.new.setup ≡ node.old.setup }
-    ensures cause { HasSinkCause (K.fault_count sink.old) (K.fault_count sink.new) result }
-    ensures name { K.name sink.new ≡ K.name sink.old }
 {
     if is_skipped(line) {
         return ReplayEnd::Done;
@@ -95,10 +91,8 @@ fn play_entry<K: Sink>(
     ensures played { (line : List ℕ) → IsPlayed
         (play_line line number (reverse node.old.history)
             (accepted node.old.setup (reverse node.old.history) (Some entry)) ends_there)
-        node.old.history node.new.history (K.taken sink.old) (K.taken sink.new) result }
+        node.old.history node.new.history (K.told sink.old) (K.told sink.new) result }
     ensures setup { node.new.setup ≡ node.old.setup }
-    ensures cause { HasSinkCause (K.fault_count sink.old) (K.fault_count sink.new) result }
-    ensures name { K.name sink.new ≡ K.name sink.old }
 {
     let Entry { who, event } = entry;
     match node.step(alloc, who, event) {
@@ -126,9 +120,7 @@ fn print_answer<K: Sink>(
     sink: &mut K,
     text: &mut Vec<u8>,
 ) -> ReplayEnd
-    ensures shown { IsShown (printed_of who answer.now) (K.taken sink.old) (K.taken sink.new) result }
-    ensures cause { HasSinkCause (K.fault_count sink.old) (K.fault_count sink.new) result }
-    ensures name { K.name sink.new ≡ K.name sink.old }
+    ensures { IsShown (printed_of who answer.now) (K.told sink.old) (K.told sink.new) result }
 {
     match answer {
         Answer::Reply(reply) => print_reply(who, reply, sink, text),

@@ -1,6 +1,6 @@
 ghost use Rattle.std.specs.Prelude.{◌≡◌, OnOk};
 ghost use Rattle.tase_replay.specs.Play.{line_of_reply};
-ghost use Rattle.tase_replay.specs.Ends.{IsShown, HasSinkCause, end_of_write};
+ghost use Rattle.tase_replay.specs.Ends.{IsShown, end_of_write};
 
 use crate::playing::ReplayEnd;
 use outside::{Sink, SinkFailed, write_all};
@@ -15,9 +15,7 @@ pub(crate) fn print_reply<K: Sink>(
     sink: &mut K,
     text: &mut Vec<u8>,
 ) -> ReplayEnd
-    ensures shown { IsShown (line_of_reply who reply.now) (K.taken sink.old) (K.taken sink.new) result }
-    ensures cause { HasSinkCause (K.fault_count sink.old) (K.fault_count sink.new) result }
-    ensures name { K.name sink.new ≡ K.name sink.old }
+    ensures { IsShown (line_of_reply who reply.now) (K.told sink.old) (K.told sink.new) result }
 {
     if spell_line(text, who, reply).is_err() {
         return ReplayEnd::Memory;

@@ -15,11 +15,9 @@ returns-in_default-play_line g c =
       played = Reached-last c.in-Some.line.now c.loop-line.number (line_in node.setup (reverse node.history) c.in-Some.line.now) rest
           (play first.setup (lines c.args.scenario.now) (reverse first.history) 1)
           first.history node.history c.play_line.new.node.history
-          (g.K.Sink.taken c.args.sink.now) (g.K.Sink.taken c.loop-line.sink) (g.K.Sink.taken c.play_line.new.sink) c.play_line.result
+          (g.K.Sink.told c.args.sink.now) (g.K.Sink.told c.loop-line.sink) (g.K.Sink.told c.play_line.new.sink) c.play_line.result
           c.in_default-play_line.not-Done reached c.play_line.ensures.played;
       setup = c.play_line.ensures.setup ∙ c.loop-line.invariant.1;
-      cause = rw (sym c.loop-line.invariant.2) c.play_line.ensures.cause;
-      name = c.play_line.ensures.name ∙ c.loop-line.invariant.3;
     }
 
 pub loop-line-preserved : goal.loop-line-preserved
@@ -31,11 +29,9 @@ loop-line-preserved g c =
     let further = Reached-more c.in-Some.line.now c.loop-line.number (line_in node.setup (reverse node.history) c.in-Some.line.now) rest
     (play first.setup (lines c.args.scenario.now) (reverse first.history) 1)
     first.history node.history c.play_line.new.node.history
-    (g.K.Sink.taken c.args.sink.now) (g.K.Sink.taken c.loop-line.sink) (g.K.Sink.taken c.play_line.new.sink)
+    (g.K.Sink.told c.args.sink.now) (g.K.Sink.told c.loop-line.sink) (g.K.Sink.told c.play_line.new.sink)
     reached c.in-Done.ensures.played in (
       rw c.in-Done.ensures.setup further,
       c.in-Done.ensures.setup ∙ c.loop-line.invariant.1,
-      c.in-Done.ensures.cause ∙ c.loop-line.invariant.2,
-      c.in-Done.ensures.name ∙ c.loop-line.invariant.3,
       omega (arith, c.in-Some.ensures.shorter),
     )
