@@ -39,5 +39,5 @@ fn is_found_in(domain: &Visible, scope: &Scope, vmd: bool) -> bool
 pub fn is_known(centre: &Centre, point: u32, value: &PointValue) -> bool
     ensures known { result ≡ is_known centre.now point value.now }
 {
-    point < centre.points() && value.body().kind() == centre.point(point).kind
+    point < centre.points() && value.body().kind().is_same(centre.point(point).kind)
 }

@@ -1,4 +1,5 @@
-pub mod Pasts
-pub mod Shown
+pub mod Taking
 pub mod Reached
+pub mod Entering
+pub mod Isolation
 mod Worked

@@ -1,34 +1,60 @@
 -- What a replay leaves, by how it ended.
-use Rattle.std.specs.Prelude.{◌≡◌, ℕ, List, ◌++◌, Option, Some, None}
-use Rattle.outside.specs.Faults.{Rose}
-use Rattle.outside.specs.Sink.{AppendsAll, AppendsPart}
-use Rattle.tase_views.specs.History.{Past}
+use Rattle.std.specs.Prelude.{◌≡◌, ℕ, ◌≤◌, Bool, true, false, List, ◌++◌, length, take, Option, Some, None, Result, Ok, Err}
+use Rattle.outside.specs.Sink.{SinkTold, AppendsAll, AppendsPart}
+use Rattle.tase_views.specs.declared.event.Entry.{Entry}
+use Rattle.tase_views.specs.declared.fault.StepFault.{StepFault}
+use Rattle.tase_views.specs.declared.fault.StepFault.TheVariants as faults
 use Rattle.tase_replay.specs.declared.playing.ReplayEnd.{ReplayEnd}
 use Rattle.tase_replay.specs.declared.playing.ReplayEnd.TheVariants.{Done, BadLine, SinkFault, Memory}
-use Rattle.tase_replay.specs.Play.{Played}
+use Rattle.tase_replay.specs.Play.{Step, Played, done, bad_line, steps_of, entries_in, printed_in}
 
--- the node has taken the entries of some of the lines, from the first on
-abbrev pub IsOnTheWay : Past → Past → Type 0
-IsOnTheWay all past = (later : Past) × (all ≡ later ++ past)
+-- all these steps were taken, and no write failed
+pub record TakesAll (steps : List Step) (history now : List Entry) (before after : SinkTold) : Type 0 where
+  -- the history has their entries behind those that it had
+  pub entries : now ≡ history ++ entries_in steps
+  -- the sink took what they print
+  pub shown : AppendsAll before after (printed_in steps)
+
+-- some of these steps were taken, from the first on, and the last write may have failed
+pub record TakesPart (steps : List Step) (history now : List Entry) (before after : SinkTold) (failed : Bool) : Type 0 where
+  -- how many
+  pub count : ℕ
+  pub within : count ≤ length steps
+  -- the history has their entries behind those that it had
+  pub entries : now ≡ history ++ entries_in (take count steps)
+  -- the sink took a front part of what they print
+  pub shown : AppendsPart before after (printed_in (take count steps)) failed
 
 -- Done and a bad line come exactly where the scenario has none and has this one, with all before it taken and shown;
--- after a fault of the sink and want of memory a front part is.
-abbrev pub IsPlayed : Played → Past → Option (List ℕ) → Option (List ℕ) → ReplayEnd → Type 0
-IsPlayed played past before after Done = (played.bad ≡ None) × (past ≡ played.past) × AppendsAll before after played.shown
-IsPlayed played past before after (BadLine line) = (played.bad ≡ Some line) × (past ≡ played.past) × AppendsAll before after played.shown
-IsPlayed played past before after SinkFault = IsOnTheWay played.past past × AppendsPart before after played.shown
-IsPlayed played past before after Memory = IsOnTheWay played.past past × AppendsPart before after played.shown
+-- a fault of the sink comes only where a write failed, which was the last.
+abbrev pub IsPlayed : Played → List Entry → List Entry → SinkTold → SinkTold → ReplayEnd → Type 0
+IsPlayed played history now before after Done = (played.end ≡ done) × TakesAll (steps_of played) history now before after
+IsPlayed played history now before after (BadLine line) =
+    (played.end ≡ bad_line line) × TakesAll (steps_of played) history now before after
+IsPlayed played history now before after SinkFault = TakesPart (steps_of played) history now before after true
+IsPlayed played history now before after Memory = TakesPart (steps_of played) history now before after false
 
 -- a text was shown, whole where nothing stopped it
-abbrev pub IsShown : List ℕ → Option (List ℕ) → Option (List ℕ) → ReplayEnd → Type 0
+abbrev pub IsShown : List ℕ → SinkTold → SinkTold → ReplayEnd → Type 0
 IsShown text before after Done = AppendsAll before after text
 IsShown text before after (BadLine line) = ⊥
-IsShown text before after SinkFault = AppendsPart before after text
-IsShown text before after Memory = AppendsPart before after text
+IsShown text before after SinkFault = AppendsPart before after text true
+IsShown text before after Memory = AppendsPart before after text false
 
--- a fault of the sink comes only where its count rose, which nothing else lets rise
-abbrev pub HasSinkCause : ℕ → ℕ → ReplayEnd → Type 0
-HasSinkCause before now Done = now ≡ before
-HasSinkCause before now (BadLine line) = now ≡ before
-HasSinkCause before now SinkFault = Rose before now
-HasSinkCause before now Memory = now ≡ before
+-- the entry of the line with this number, by what was read of it; or how the line ends
+abbrev pub entry_or_end : {E : Type 0} → ℕ → Result (Option Entry) E → Result Entry ReplayEnd
+entry_or_end number (Ok (Some entry)) = Ok entry
+entry_or_end number (Ok None) = Err (BadLine number)
+entry_or_end number (Err none) = Err Memory
+
+-- how the line with this number ends whose event was refused
+abbrev pub end_of_refusal : ℕ → StepFault → ReplayEnd
+end_of_refusal number faults.Memory = Memory
+end_of_refusal number faults.NoAssociation = BadLine number
+end_of_refusal number faults.Already = BadLine number
+end_of_refusal number faults.UnknownName = BadLine number
+
+-- how a line ends whose text was written so
+abbrev pub end_of_write : {E : Type 0} → Result (Unit {0}) E → ReplayEnd
+end_of_write (Ok written) = Done
+end_of_write (Err failed) = SinkFault

@@ -4,33 +4,35 @@ use Rattle.plain_text.specs.Numbers.{if_passes, number_up_to, integer_within, he
 use Rattle.plain_text.specs.Words.{words_in}
 use Rattle.tase_points.specs.declared.body.Body.{Body}
 use Rattle.tase_points.specs.declared.body.Body.TheVariants.{State, Discrete, Real}
+use Rattle.tase_points.specs.declared.value.TheConstants.{STATE_LIMIT, FLAGS_LIMIT, SECONDS_LIMIT, MILLIS_LIMIT}
 use Rattle.tase_points.specs.Sample.{Sample}
 use Rattle.bilateral.specs.Rows.{CentreRows, place_of_point, place_of_peer}
 use Rattle.tase_views.specs.declared.event.EventKind.TheVariants.{Open, Request, Update}
 use Rattle.tase_views.specs.declared.event.Entry.{Entry}
 use Rattle.tase_views.specs.Texts.{call_in}
+use Rattle.tase_replay.specs.declared.values.TheConstants.{SEAT_LIMIT}
 
 -- a peer's seat, from 1 on
 abbrev pub seat_in : List ℕ → Option ℕ
-seat_in word = option_and_then (if_passes (λ n. nat_le 1 n)) (number_up_to 4294967295 word)
+seat_in word = option_and_then (if_passes (λ n. nat_le 1 n)) (number_up_to SEAT_LIMIT word)
 
 -- a body: `s` and a state, `d` and a discrete value, `r` and the eight digits of a real one
 abbrev pub body_in : List ℕ → Option Body
 body_in [] = None
 body_in (letter ∷ rest) =
-    if letter == 115 then option_map State (number_up_to 3 rest)
+    if letter == 115 then option_map State (number_up_to STATE_LIMIT rest)
     else (if letter == 100 then option_map Discrete (integer_within (negsuc 2147483647) (pos 2147483647) rest)
     else (if letter == 114 then option_map Real (hex_octets 4 rest) else None))
 
 -- six bits of flags as two digits
 abbrev pub flags_in : List ℕ → Option ℕ
-flags_in word = option_and_then (if_passes (λ n. nat_le n 63)) (hex_octet word)
+flags_in word = option_and_then (if_passes (λ n. nat_le n FLAGS_LIMIT)) (hex_octet word)
 
 -- a value: body, flags, seconds and milliseconds
 abbrev pub value_in : List ℕ → List ℕ → List ℕ → List ℕ → Option Sample
 value_in body flags seconds millis =
     option_and_then (λ b. option_and_then (λ f. option_and_then (λ s. option_map (λ m. record { body = b; flags = f; seconds = s; millis = m })
-    (number_up_to 999 millis)) (number_up_to 2147483647 seconds)) (flags_in flags)) (body_in body)
+    (number_up_to MILLIS_LIMIT millis)) (number_up_to SECONDS_LIMIT seconds)) (flags_in flags)) (body_in body)
 
 -- `open W KEY`, less its first word
 abbrev pub open_in : CentreRows → List (List ℕ) → Option Entry

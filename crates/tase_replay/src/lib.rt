@@ -9,10 +9,12 @@
 #![tactic(auto)]
 
 mod entries;
+mod laws;
 mod playing;
 mod printing;
 mod values;
 
+pub use laws::peers_are_isolated;
 pub use playing::{ReplayEnd, replay};
 
 #[cfg(test)]

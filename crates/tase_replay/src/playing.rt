@@ -1,14 +1,14 @@
-ghost use Rattle.std.specs.Prelude.{◌≡◌, reverse, Some};
+ghost use Rattle.std.specs.Prelude.{◌≡◌, ℕ, List, reverse, Some};
 ghost use Rattle.std.specs.Str.Lines.{lines};
-ghost use Rattle.tase_replay.specs.Play.{play, play_alone, line_in, accepted};
-ghost use Rattle.tase_replay.specs.Ends.{IsPlayed, HasSinkCause};
+ghost use Rattle.tase_replay.specs.Play.{play, play_alone, play_line, accepted, printed_of, ends_there};
+ghost use Rattle.tase_replay.specs.Ends.{IsPlayed, IsShown, entry_or_end, end_of_refusal};
 
 use crate::entries::read_entry;
 use crate::printing::print_reply;
 use node_core::Node;
 use outside::Sink;
 use plain_text::{is_skipped, next_line};
-use std::alloc::Global;
+use std::alloc::{AllocError, Global};
 use tase_views::{Answer, Entry, StepFault};
 
 /// How the play of a scenario ended.
@@ -27,11 +27,9 @@ pub enum ReplayEnd {
 /// Plays a scenario on a node: takes each line's event after those before it, and prints the reply to each request.
 /// At the first bad line it stops; what was printed before stands.
 pub fn replay<K: Sink>(alloc: Global, node: &mut Node, scenario: &[u8], sink: &mut K) -> ReplayEnd
-    ensures played { IsPlayed (play node.old.centre (lines scenario.now) (reverse node.old.history) 1)
-        (reverse node.new.history) (K.taken sink.old) (K.taken sink.new) result }
-    ensures centre { node.new.centre ≡ node.old.centre }
-    ensures cause { HasSinkCause (K.fault_count sink.old) (K.fault_count sink.new) result }
-    ensures name { K.name sink.new ≡ K.name sink.old }
+    ensures played { IsPlayed (play node.old.setup (lines scenario.now) (reverse node.old.history) 1)
+        node.old.history node.new.history (K.told sink.old) (K.told sink.new) result }
+    ensures setup { node.new.setup ≡ node.old.setup }
 {
     let mut text = Vec::new(alloc);
     let mut rest = scenario;
@@ -56,20 +54,28 @@ fn play_line<K: Sink>(
     sink: &mut K,
     text: &mut Vec<u8>,
 ) -> ReplayEnd
-    ensures played { IsPlayed (play_alone node.old.centre (reverse node.old.history) number
-        (line_in node.old.centre (reverse node.old.history) line.now))
-        (reverse node.new.history) (K.taken sink.old) (K.taken sink.new) result }
-    ensures centre { node.new.centre ≡ node.old.centre }
-    ensures cause { HasSinkCause (K.fault_count sink.old) (K.fault_count sink.new) result }
-    ensures name { K.name sink.new ≡ K.name sink.old }
+    ensures played { IsPlayed (play_alone node.old.setup line.now (reverse node.old.history) number)
+        node.old.history node.new.history (K.told sink.old) (K.told sink.new) result }
+    ensures setup { node.new.setup ≡ node.old.setup }
 {
     if is_skipped(line) {
         return ReplayEnd::Done;
     }
-    match read_entry(alloc, node.centre(), line) {
-        Ok(Some(entry)) => play_entry(alloc, node, entry, number, sink, text),
-        Ok(None) => ReplayEnd::BadLine { line: number },
-        Err(_) => ReplayEnd::Memory,
+    let read = read_entry(alloc, node.centre(), line);
+    match entry_read(read, number) {
+        Ok(entry) => play_entry(alloc, node, entry, number, sink, text),
+        Err(end) => end,
+    }
+}
+
+/// The entry of the line with this number, by what was read of it; else how the line ends.
+fn entry_read(read: Result<Option<Entry>, AllocError>, number: u64) -> Result<Entry, ReplayEnd>
+    ensures { result ≡ entry_or_end number read }
+{
+    match read {
+        Ok(Some(entry)) => Ok(entry),
+        Ok(None) => Err(ReplayEnd::BadLine { line: number }),
+        Err(_) => Err(ReplayEnd::Memory),
     }
 }
 
@@ -82,20 +88,42 @@ fn play_entry<K: Sink>(
     sink: &mut K,
     text: &mut Vec<u8>,
 ) -> ReplayEnd
-    ensures played { IsPlayed (play_alone node.old.centre (reverse node.old.history) number
-        (accepted node.old.centre (reverse node.old.history) (Some entry)))
-        (reverse node.new.history) (K.taken sink.old) (K.taken sink.new) result }
-    ensures centre { node.new.centre ≡ node.old.centre }
-    ensures cause { HasSinkCause (K.fault_count sink.old) (K.fault_count sink.new) result }
-    ensures name { K.name sink.new ≡ K.name sink.old }
+    ensures played { (line : List ℕ) → IsPlayed
+        (play_line line number (reverse node.old.history)
+            (accepted node.old.setup (reverse node.old.history) (Some entry)) ends_there)
+        node.old.history node.new.history (K.told sink.old) (K.told sink.new) result }
+    ensures setup { node.new.setup ≡ node.old.setup }
 {
     let Entry { who, event } = entry;
     match node.step(alloc, who, event) {
-        Ok(Answer::Reply(reply)) => print_reply(who, &reply, sink, text),
-        Ok(Answer::Opened { .. } | Answer::Noted) => ReplayEnd::Done,
-        Err(StepFault::Memory) => ReplayEnd::Memory,
-        Err(StepFault::NoAssociation | StepFault::Already | StepFault::UnknownName) => {
+        Ok(answer) => print_answer(who, &answer, sink, text),
+        Err(fault) => refused(fault, number),
+    }
+}
+
+/// How the line with this number ends whose event was refused.
+fn refused(fault: StepFault, number: u64) -> ReplayEnd
+    ensures { result ≡ end_of_refusal number fault }
+{
+    match fault {
+        StepFault::Memory => ReplayEnd::Memory,
+        StepFault::NoAssociation | StepFault::Already | StepFault::UnknownName => {
             ReplayEnd::BadLine { line: number }
         }
+    }
+}
+
+/// Prints what is printed of an answer to a seat.
+fn print_answer<K: Sink>(
+    who: u64,
+    answer: &Answer,
+    sink: &mut K,
+    text: &mut Vec<u8>,
+) -> ReplayEnd
+    ensures { IsShown (printed_of who answer.now) (K.told sink.old) (K.told sink.new) result }
+{
+    match answer {
+        Answer::Reply(reply) => print_reply(who, reply, sink, text),
+        Answer::Opened { .. } | Answer::Noted => ReplayEnd::Done,
     }
 }

@@ -1,9 +1,9 @@
 ghost use Rattle.std.specs.Prelude.{◌≡◌, OnOk};
 ghost use Rattle.tase_replay.specs.Play.{line_of_reply};
-ghost use Rattle.tase_replay.specs.Ends.{IsShown, HasSinkCause};
+ghost use Rattle.tase_replay.specs.Ends.{IsShown, end_of_write};
 
 use crate::playing::ReplayEnd;
-use outside::{Sink, write_all};
+use outside::{Sink, SinkFailed, write_all};
 use plain_text::push_decimal;
 use std::alloc::AllocError;
 use tase_views::{Reply, spell_reply};
@@ -15,14 +15,20 @@ pub(crate) fn print_reply<K: Sink>(
     sink: &mut K,
     text: &mut Vec<u8>,
 ) -> ReplayEnd
-    ensures shown { IsShown (line_of_reply who reply.now) (K.taken sink.old) (K.taken sink.new) result }
-    ensures cause { HasSinkCause (K.fault_count sink.old) (K.fault_count sink.new) result }
-    ensures name { K.name sink.new ≡ K.name sink.old }
+    ensures { IsShown (line_of_reply who reply.now) (K.told sink.old) (K.told sink.new) result }
 {
     if spell_line(text, who, reply).is_err() {
         return ReplayEnd::Memory;
     }
-    match write_all(sink, text.as_slice()) {
+    let end = write_all(sink, text.as_slice());
+    written(end)
+}
+
+/// How a line ends whose text was written so.
+fn written(end: Result<(), SinkFailed>) -> ReplayEnd
+    ensures { result ≡ end_of_write end }
+{
+    match end {
         Ok(()) => ReplayEnd::Done,
         Err(_) => ReplayEnd::SinkFault,
     }

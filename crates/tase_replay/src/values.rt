@@ -4,13 +4,16 @@ ghost use Rattle.tase_points.specs.Points.{state_of};
 ghost use Rattle.tase_replay.specs.Lines.{seat_in, body_in, flags_in, value_in};
 
 use plain_text::{read_hex_four, read_hex_octet, read_integer, read_number};
-use tase_points::{Body, PointValue};
+use tase_points::{Body, FLAGS_LIMIT, MILLIS_LIMIT, PointValue, SECONDS_LIMIT, STATE_LIMIT};
+
+/// The highest number of a peer's seat.
+const SEAT_LIMIT: u64 = 4_294_967_295;
 
 /// The seat of a peer that a word is, from 1 on.
 pub(crate) fn read_seat(word: &[u8]) -> Option<u64>
     ensures { result ≡ seat_in word.now }
 {
-    let seat = read_number(word, 4_294_967_295)?;
+    let seat = read_number(word, SEAT_LIMIT)?;
     if seat >= 1 { Some(seat) } else { None }
 }
 
@@ -25,10 +28,10 @@ fn read_small(word: &[u8], limit: u32) -> Option<u32>
 /// The body that a word is: `s` and a state, `d` and a discrete value, or `r` and the eight digits of a real one.
 fn read_body(word: &[u8]) -> Option<Body>
     ensures value { result ≡ body_in word.now }
-    ensures lawful { IfSome result (λ body. state_of body ≤ 3) }
+    ensures lawful { IfSome result (λ body. state_of body ≤ STATE_LIMIT) }
 {
     match word {
-        [b's', rest @ ..] => Some(Body::State(read_small(rest, 3)? as u8)),
+        [b's', rest @ ..] => Some(Body::State(read_small(rest, u32::from(STATE_LIMIT))? as u8)),
         [b'd', rest @ ..] => Some(Body::Discrete(read_discrete(rest)?)),
         [b'r', rest @ ..] => Some(Body::Real(read_hex_four(rest)?)),
         _ => None,
@@ -45,10 +48,10 @@ fn read_discrete(word: &[u8]) -> Option<i32>
 /// The six bits of flags that a word of two hexadecimal digits is.
 fn read_flags(word: &[u8]) -> Option<u8>
     ensures value { result ≡ flags_in word.now }
-    ensures lawful { IfSome result (λ flags. flags ≤ 63) }
+    ensures lawful { IfSome result (λ flags. flags ≤ FLAGS_LIMIT) }
 {
     let flags = read_hex_octet(word)?;
-    if flags <= 63 { Some(flags) } else { None }
+    if flags <= FLAGS_LIMIT { Some(flags) } else { None }
 }
 
 /// The value that the words of its body, its flags, its seconds and its milliseconds are.
@@ -62,7 +65,7 @@ pub(crate) fn read_value(
 {
     let body = read_body(body)?;
     let flags = read_flags(flags)?;
-    let seconds = read_small(seconds, 2_147_483_647)?;
-    let millis = read_small(millis, 999)?;
+    let seconds = read_small(seconds, SECONDS_LIMIT)?;
+    let millis = read_small(millis, u32::from(MILLIS_LIMIT))?;
     Some(PointValue::new(body, flags, seconds, millis as u16))
 }

@@ -1,7 +1,6 @@
 -- When a node may answer an event so: each refusal exactly where its cause holds, and the right answer elsewhere.
-use Rattle.std.specs.Prelude.{◌≡◌, ℕ, Bool, ◌&&◌, ◌==◌, nat_lt, if◌then◌else◌, length, Option, Some, None, is_some, Result, Ok, Err}
-use Rattle.tase_points.specs.declared.kind.Kind.{Kind}
-use Rattle.tase_points.specs.declared.kind.Kind.TheVariants.{State, Discrete, Real}
+use Rattle.std.specs.Prelude.{◌≡◌, ℕ, Bool, ◌&&◌, nat_lt, if◌then◌else◌, length, Option, Some, None, is_some, Result, Ok, Err}
+use Rattle.tase_points.specs.Same.{same_kind}
 use Rattle.tase_points.specs.Points.{kind_of}
 use Rattle.tase_points.specs.Sample.{Sample}
 use Rattle.bilateral.specs.Rows.{CentreRows, point_of}
@@ -18,16 +17,10 @@ use Rattle.tase_views.specs.OwnTable.{own_table}
 use Rattle.tase_views.specs.View.{view_of}
 use Rattle.tase_views.specs.Answers.{answer_to}
 
--- kinds as numbers, by which a test compares them
-abbrev pub kind_number : Kind → ℕ
-kind_number State = 0
-kind_number Discrete = 1
-kind_number Real = 2
-
 -- a point of the centre, and a value of its kind
 abbrev pub is_known : CentreRows → ℕ → Sample → Bool
 is_known rows point value =
-    nat_lt point (length rows.points) && (kind_number (kind_of value.body) == kind_number (point_of rows point).kind)
+    nat_lt point (length rows.points) && same_kind (kind_of value.body) (point_of rows point).kind
 
 -- why an event of a seat is refused after this past, if it is
 abbrev pub refusal_of : Setup → Past → ℕ → EventKind → Option StepFault

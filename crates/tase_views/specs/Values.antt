@@ -1,6 +1,7 @@
 -- What a view has of a point.
 use Rattle.std.specs.Prelude.{ℕ, ◌+◌, ◌%◌, if◌then◌else◌, List, [], ◌∷◌, Option, Some, None, filter_map, bytes_eq}
 use Rattle.tase_points.specs.declared.kind.Kind.{Kind}
+use Rattle.tase_points.specs.declared.layout.TheConstants.{COV_MODULUS}
 use Rattle.tase_points.specs.Sample.{Sample}
 use Rattle.tase_points.specs.Values.{unknown_sample, is_change}
 use Rattle.tase_views.specs.View.{Seen, own, updated, View}
@@ -26,4 +27,4 @@ changes_of kind (value ∷ values) = (if is_change (last_of kind values) value t
 
 -- the count of changes that a peer is shown
 abbrev pub change_count_of : Kind → List Sample → ℕ
-change_count_of kind values = changes_of kind values % 65536
+change_count_of kind values = changes_of kind values % COV_MODULUS

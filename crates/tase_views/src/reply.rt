@@ -1,61 +1,15 @@
-ghost use Rattle.std.specs.Prelude.{◌≡◌, [], ◌∷◌, ◌++◌, length, OnOk, OnErr};
+ghost use Rattle.std.specs.Prelude.{◌≡◌};
 
+use item_list::ItemList;
 use mms_data::Outcome;
 use sbo_device::Key;
-use std::alloc::{AllocError, Global};
 use std::marker::Model;
 
 /// The reason of a read that a name doesn't exist (ISO 9506-2, `DataAccessError`: object-non-existent).
 pub const OBJECT_NON_EXISTENT: u8 = 10;
 
 /// The outcomes of the variables of a read, in order.
-#[derive(Drop)]
-pub struct Results {
-    items: Vec<Outcome>,
-}
-
-impl Model for Results {
-    ghost use Rattle.std.specs.Prelude.{List};
-    ghost use Rattle.mms_data.specs.declared.outcome.Outcome.{Outcome};
-    ghost use Rattle.std.specs.Coded.{coded_list};
-    ghost use Rattle.tase_views.specs.Codes.{outcome_code};
-
-    ghost Value = { List Outcome };
-
-    ghost coded = { coded_list outcome_code };
-
-    ghost view = { λ r. r.items.items };
-}
-
-impl Results {
-    pub fn new(alloc: Global) -> Results
-        ensures { result ≡ [] }
-    {
-        Results {
-            items: Vec::new(alloc),
-        }
-    }
-
-    pub fn push(&mut self, outcome: Outcome) -> Result<(), AllocError>
-        ensures ok { OnOk result (self.new ≡ self.old ++ outcome ∷ []) }
-        ensures err { OnErr result (self.new ≡ self.old) }
-    {
-        self.items.push(outcome)?;
-        Ok(())
-    }
-
-    pub fn len(&self) -> usize
-        ensures { result ≡ length self.now }
-    {
-        self.items.len()
-    }
-
-    pub fn as_slice(&self) -> &[Outcome]
-        ensures { result.now ≡ self.now }
-    {
-        self.items.as_slice()
-    }
-}
+pub type Results = ItemList<Outcome>;
 
 /// What a call is answered.
 #[derive(Drop)]
