@@ -1,3 +1,2 @@
-mod Exchanged
-mod Saids
-mod Refusals
+mod Duties
+mod Playing

@@ -1,4 +1,4 @@
 pub mod Words
 pub mod Saying
-pub mod Runs
-pub mod Inputs
+pub mod Tables
+pub mod Starting

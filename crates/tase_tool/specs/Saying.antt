@@ -1,75 +1,94 @@
--- What a command says: its status and what it prints, from the octets of its inputs.
-use Rattle.std.specs.Prelude.{ℕ, nat_lt, if◌then◌else◌, List, [], ◌∷◌, ◌++◌, length, Option, Some, None, Result, Ok, Err, codes, decimal, bytes_eq}
+-- What each command says, and which inputs it opens, from the octets of its inputs.
+use Rattle.std.specs.Prelude.{ℕ, Bool, true, false, nat_lt, if◌then◌else◌, List, [], ◌∷◌, ◌++◌, length}
+use Rattle.std.specs.Prelude.{Option, Some, None, Result, Ok, Err, codes, bytes_eq}
+use Rattle.command_io.specs.declared.status.Status.TheVariants.{Done, Usage, Input, Outside}
+use Rattle.command_io.specs.declared.input.Refusal.{Refusal}
+use Rattle.command_io.specs.declared.input.Refusal.TheVariants.{Long, BadLine}
+use Rattle.command_io.specs.declared.input.TheConstants.{TEXT_LIMIT}
+use Rattle.command_io.specs.Saying.{Said, prints, refusal_text, Text, untold, missing, told, emptied, Duty}
 use Rattle.bilateral.specs.Rows.{CentreRows}
 use Rattle.bilateral.specs.Reading.{centre_in}
 use Rattle.bilateral.specs.declared.fault.TableFault.{TableFault}
-use Rattle.tase_replay.specs.Play.{scenario_of}
-use Rattle.tase_tool.specs.declared.status.Status.{Status}
-use Rattle.tase_tool.specs.declared.status.Status.TheVariants.{Done, Usage, Input, Outside}
-
--- a status, and the octets that standard output takes
-pub record Said : Type 0 where
-  pub status : Status
-  pub text : List ℕ
-
--- the most octets of a text
-abbrev pub text_limit : ℕ
-text_limit = 67108864
+use Rattle.tase_views.specs.Setup.{Setup}
+use Rattle.tase_replay.specs.Play.{Played, End, done, bad_line, shown_of, scenario_of}
+use Rattle.tase_tool.specs.declared.running.TheConstants.{HISTORY_LIMIT}
+use Rattle.tase_tool.specs.Words.{Asked, replays}
 
 abbrev pub usage : Said
-usage = record { status = Usage; text = codes "usage" ++ 10 ∷ [] }
+usage = prints Usage (codes "usage" ++ 10 ∷ [])
 
--- an input that is too long
-abbrev pub long_line : List ℕ → List ℕ
-long_line input = codes "input " ++ input ++ codes " long" ++ 10 ∷ []
-
--- an input's first bad line
-abbrev pub bad_line : List ℕ → ℕ → List ℕ
-bad_line input line = codes "input " ++ input ++ codes " line " ++ decimal line ++ 10 ∷ []
+-- what is said of a refused input
+abbrev pub refused : List ℕ → Refusal → Said
+refused input refusal = prints Input (refusal_text input refusal)
 
 -- the centre that a text of tables spells, or why it is refused
-abbrev pub refused_tables : Result CentreRows TableFault → Result CentreRows (List ℕ)
-refused_tables (Ok rows) = Ok rows
-refused_tables (Err fault) = Err (bad_line (codes "tables") fault.line)
+abbrev pub centre_or_refusal : Result CentreRows TableFault → Result CentreRows Refusal
+centre_or_refusal (Ok rows) = Ok rows
+centre_or_refusal (Err fault) = Err (BadLine fault.line)
 
-abbrev pub tables_said : List ℕ → Result CentreRows (List ℕ)
-tables_said text = if nat_lt text_limit (length text) then Err (long_line (codes "tables")) else refused_tables (centre_in text)
+abbrev pub tables_read : List ℕ → Result CentreRows Refusal
+tables_read text =
+    if nat_lt TEXT_LIMIT (length text) then Err Long else centre_or_refusal (centre_in text)
 
--- all that a scenario shows; at its first bad line what the lines before it show, and then the refusal
-abbrev pub played_said : List ℕ → Option ℕ → Said
-played_said shown None = record { status = Done; text = shown }
-played_said shown (Some line) = record { status = Input; text = shown ++ bad_line (codes "scenario") line }
+-- all that a scenario shows; at its first bad line what the lines before it show, and the refusal
+abbrev pub said_at : List ℕ → End → Said
+said_at shown done = prints Done shown
+said_at shown (bad_line line) =
+    prints Input (shown ++ refusal_text (codes "scenario") (BadLine line))
+
+abbrev pub played_said : Played → Said
+played_said played = said_at (shown_of played) played.end
+
+-- the setup of the node that a scenario is played on
+abbrev pub setup_of : CentreRows → Setup
+setup_of rows = record { centre = rows; limit = HISTORY_LIMIT }
 
 abbrev pub scenario_said : CentreRows → List ℕ → Said
 scenario_said rows text =
-    if nat_lt text_limit (length text) then record { status = Input; text = long_line (codes "scenario") }
-    else played_said (scenario_of rows text).shown (scenario_of rows text).bad
+    if nat_lt TEXT_LIMIT (length text) then refused (codes "scenario") Long
+    else played_said (scenario_of (setup_of rows) text)
 
--- what is told of an input: nothing, that it isn't there, or its octets
-pub data Text : Type 0 where
-  untold : Text
-  missing : Text
-  told : List ℕ → Text
-
--- the text when its octets were read
-abbrev pub emptied : Text → Text
-emptied untold = untold
-emptied missing = missing
-emptied (told octets) = told []
-
--- what is said of an input's octets, where they are told; without the input a fault outside, and nothing is printed
+-- what is said of an input's octets, where they are told; without the input a fault outside, and
+-- nothing is printed
 abbrev pub said_of : (List ℕ → Option Said) → Text → Option Said
 said_of say untold = None
-said_of say missing = Some (record { status = Outside; text = [] })
+said_of say missing = Some (prints Outside [])
 said_of say (told octets) = say octets
 
--- over these tables
-abbrev pub said_over : Result CentreRows (List ℕ) → Text → Option Said
-said_over (Err refusal) scenario = Some (record { status = Input; text = refusal })
-said_over (Ok rows) scenario = said_of (λ octets. Some (scenario_said rows octets)) scenario
+-- the duty to play the text under a name over these tables
+abbrev pub scenario_duty : CentreRows → List ℕ → Text → Duty
+scenario_duty rows name text = record {
+  is_command = true;
+  says = said_of (λ octets. Some (scenario_said rows octets)) text;
+  inputs = name ∷ [];
+}
 
--- what the command of these words says: `texts` is what is told under the first name, and then under the second
-abbrev pub said_by : Option (List ℕ × List ℕ) → (List ℕ → Text) → Option Said
-said_by None texts = Some usage
-said_by (Some names) texts =
-    said_of (λ octets. said_over (tables_said octets) (if bytes_eq names.0 names.1 then emptied (texts names.0) else texts names.1)) (texts names.0)
+-- over tables that are read, and with refused ones
+abbrev pub duty_over : Result CentreRows Refusal → List ℕ → Text → Duty
+duty_over (Ok rows) name text = scenario_duty rows name text
+duty_over (Err refusal) name text =
+    record { is_command = true; says = Some (refused (codes "tables") refusal); inputs = [] }
+
+-- the duty to read tables and then to play the text under a name; where nothing is told of the
+-- tables, nothing is said of the rest
+abbrev pub duty_after : Text → List ℕ → Text → Duty
+duty_after untold name text = record { is_command = true; says = None; inputs = name ∷ [] }
+duty_after missing name text =
+    record { is_command = true; says = Some (prints Outside []); inputs = [] }
+duty_after (told octets) name text = duty_over (tables_read octets) name text
+
+-- one more input before the others
+abbrev pub opening : List ℕ → Duty → Duty
+opening name duty =
+    record { is_command = duty.is_command; says = duty.says; inputs = name ∷ duty.inputs }
+
+-- what is told of a second input: one under the first one's name is what the first left
+abbrev pub second_text : (List ℕ → Text) → List ℕ → List ℕ → Text
+second_text texts first second =
+    if bytes_eq second first then emptied (texts first) else texts second
+
+-- what a run of these words owes, by what is told under each name
+abbrev pub duty_of : Option Asked → (List ℕ → Text) → Duty
+duty_of None texts = record { is_command = false; says = Some usage; inputs = [] }
+duty_of (Some (replays tables scenario)) texts =
+    opening tables (duty_after (texts tables) scenario (second_text texts tables scenario))

@@ -1,26 +1,24 @@
 //! The commands.
-ghost use Rattle.std.specs.Prelude.{◌≡◌, ◌≢◌, ◌⊎◌, [], ◌∷◌, map, reverse, string_bytes, IfSome, IfOk, codes};
+ghost use Rattle.std.specs.Prelude.{◌≡◌, [], map, reverse, string_bytes, Some, IfOk, true};
 ghost use Rattle.std.specs.Str.Lines.{lines};
-ghost use Rattle.outside.specs.Faults.{Rose};
+ghost use Rattle.command_io.specs.Saying.{texts_of, text_of, duty_to_say};
+ghost use Rattle.command_io.specs.Runs.{IsRun, Tells};
 ghost use Rattle.tase_replay.specs.Play.{play};
-ghost use Rattle.tase_tool.specs.Words.{replay_in};
-ghost use Rattle.tase_tool.specs.Saying.{said_by, said_of, scenario_said, played_said, bad_line};
-ghost use Rattle.tase_tool.specs.Inputs.{refused_as};
-ghost use Rattle.tase_tool.specs.Runs.{text_under, octets_under, IsPutBack, HasReason, HasReasonOf, IsSaid, HasCause, OnOutside, OnWhole, IsThere, MatchesWords, IsComplete};
+ghost use Rattle.tase_tool.specs.Words.{asked_in, replays};
+ghost use Rattle.tase_tool.specs.Saying.{setup_of, played_said, scenario_duty, duty_of, refused};
 
-use crate::inputs::{read_input, read_tables};
-use crate::printing::{OUTPUT, bad_line, end_without, print};
-use crate::status::Status;
-use crate::words::replay_names;
+use crate::tables::read_tables;
+use crate::words::{Command, read_command};
 use bilateral::Centre;
+use command_io::{InputEnd, OUTPUT, Refusal, Status, print, read_input, refuse, tell_refusal};
 use node_core::Node;
-use outside::{Outside, Sink, SinkFailed, write_all};
+use outside::{BufferedSink, Outside, Sink, SinkFailed};
 use std::alloc::{AllocError, Global};
 use std::sync::Arc;
 use tase_replay::{ReplayEnd, replay};
 
 /// The limit on the weight of a history, in octets.
-const HISTORY_LIMIT: u64 = 134_217_728;
+pub(crate) const HISTORY_LIMIT: u64 = 134_217_728;
 
 /// Runs the command of these words: `replay TABLES SCENARIO` plays a scenario over tables and prints the replies on
 /// standard output, which is `-` of the outside's sinks.
@@ -29,60 +27,27 @@ const HISTORY_LIMIT: u64 = 134_217_728;
 /// the tables that the first text spells, and over them what the scenario shows, each reply from the asking peer's own
 /// table and its view of the history.
 pub fn run<O: Outside>(alloc: Global, words: &[String], outside: &mut O) -> Status
-    ensures words { MatchesWords (replay_in (map string_bytes words.now)) result }
-    ensures said { IfSome (said_by (replay_in (map string_bytes words.now)) (text_under O.In.left (O.sources outside.old)))
-        (IsSaid result (octets_under O.Out.taken (O.sinks outside.old) (codes "-")) (octets_under O.Out.taken (O.sinks outside.new) (codes "-"))) }
-    ensures output { OnWhole result (IsThere (O.sinks outside.old) (codes "-")) }
-    ensures cause { HasCause (O.fault_count outside.old) (O.fault_count outside.new) result }
-    ensures reason { OnOutside result (HasReasonOf (replay_in (map string_bytes words.now))
-        (HasReason O.In.fault_count (O.sources outside.old) (O.sources outside.new))
-        (HasReason O.Out.fault_count (O.sinks outside.old) (O.sinks outside.new) (codes "-"))) }
-    ensures inputs_closed { IsPutBack (O.sources outside.old) (O.sources outside.new) }
-    ensures output_closed { IsPutBack (O.sinks outside.old) (O.sinks outside.new) }
-    ensures complete { IfSome (said_by (replay_in (map string_bytes words.now)) (text_under O.In.left (O.sources outside.old)))
-        (IsComplete (O.fault_count outside.old) (O.fault_count outside.new) result) }
+    ensures { let told = O.told outside.old in
+        IsRun (duty_of (asked_in (map string_bytes words.now)) (texts_of told))
+        told (O.told outside.new) result }
 {
-    run_words(alloc, words, outside)
-}
-
-// The same, without the last clause, which follows from the others.
-fn run_words<O: Outside>(alloc: Global, words: &[String], outside: &mut O) -> Status
-    ensures words { MatchesWords (replay_in (map string_bytes words.now)) result }
-    ensures said { IfSome (said_by (replay_in (map string_bytes words.now)) (text_under O.In.left (O.sources outside.old)))
-        (IsSaid result (octets_under O.Out.taken (O.sinks outside.old) (codes "-")) (octets_under O.Out.taken (O.sinks outside.new) (codes "-"))) }
-    ensures output { OnWhole result (IsThere (O.sinks outside.old) (codes "-")) }
-    ensures cause { HasCause (O.fault_count outside.old) (O.fault_count outside.new) result }
-    ensures reason { OnOutside result (HasReasonOf (replay_in (map string_bytes words.now))
-        (HasReason O.In.fault_count (O.sources outside.old) (O.sources outside.new))
-        (HasReason O.Out.fault_count (O.sinks outside.old) (O.sinks outside.new) (codes "-"))) }
-    ensures inputs_closed { IsPutBack (O.sources outside.old) (O.sources outside.new) }
-    ensures output_closed { IsPutBack (O.sinks outside.old) (O.sinks outside.new) }
-{
-    match replay_names(words) {
-        Some((tables, scenario)) => run_replay(alloc, outside, tables, scenario),
-        None => match print(outside, b"usage\n") {
-            Ok(()) => Status::Usage,
-            Err(SinkFailed) => Status::Outside,
-        },
+    match read_command(words) {
+        Some(Command::Replay { tables, scenario }) => run_replay(alloc, outside, tables, scenario),
+        None => print(outside, Status::Usage, b"usage\n"),
     }
 }
 
 // Reads the tables, and runs the scenario over them.
 fn run_replay<O: Outside>(alloc: Global, outside: &mut O, tables: &str, scenario: &str) -> Status
-    ensures words { result ≢ Status.Usage }
-    ensures said { IfSome (said_by (Some (tables.now, scenario.now)) (text_under O.In.left (O.sources outside.old)))
-        (IsSaid result (octets_under O.Out.taken (O.sinks outside.old) (codes "-")) (octets_under O.Out.taken (O.sinks outside.new) (codes "-"))) }
-    ensures output { OnWhole result (IsThere (O.sinks outside.old) (codes "-")) }
-    ensures cause { HasCause (O.fault_count outside.old) (O.fault_count outside.new) result }
-    ensures reason { OnOutside result (HasReasonOf (Some (tables.now, scenario.now))
-        (HasReason O.In.fault_count (O.sources outside.old) (O.sources outside.new))
-        (HasReason O.Out.fault_count (O.sinks outside.old) (O.sinks outside.new) (codes "-"))) }
-    ensures inputs_closed { IsPutBack (O.sources outside.old) (O.sources outside.new) }
-    ensures output_closed { IsPutBack (O.sinks outside.old) (O.sinks outside.new) }
+    ensures { let told = O.told outside.old in
+        IsRun (duty_of (Some (replays tables.now scenario.now)) (texts_of told))
+        told (O.told outside.new) result }
 {
     match read_tables(alloc, outside, tables) {
         Ok(centre) => run_scenario(alloc, outside, centre, scenario),
-        Err(end) => end_without(alloc, outside, "tables", end),
+        Err(InputEnd::Refused(refusal)) => refuse(alloc, outside, "tables", refusal),
+        Err(InputEnd::Outside) => Status::Outside,
+        Err(InputEnd::Memory) => Status::Memory,
     }
 }
 
@@ -93,79 +58,85 @@ fn run_scenario<O: Outside>(
     centre: Centre,
     scenario: &str,
 ) -> Status
-    ensures words { result ≢ Status.Usage }
-    ensures said { IfSome (said_of (λ octets. Some (scenario_said centre octets)) (text_under O.In.left (O.sources outside.old) scenario.now))
-        (IsSaid result (octets_under O.Out.taken (O.sinks outside.old) (codes "-")) (octets_under O.Out.taken (O.sinks outside.new) (codes "-"))) }
-    ensures output { OnWhole result (IsThere (O.sinks outside.old) (codes "-")) }
-    ensures cause { HasCause (O.fault_count outside.old) (O.fault_count outside.new) result }
-    ensures reason { OnOutside result (HasReason O.In.fault_count (O.sources outside.old) (O.sources outside.new) scenario.now
-        ⊎ HasReason O.Out.fault_count (O.sinks outside.old) (O.sinks outside.new) (codes "-")) }
-    ensures inputs_closed { IsPutBack (O.sources outside.old) (O.sources outside.new) }
-    ensures output_closed { IsPutBack (O.sinks outside.old) (O.sinks outside.new) }
+    ensures { let told = O.told outside.old in
+        IsRun (scenario_duty centre scenario.now (texts_of told scenario.now))
+        told (O.told outside.new) result }
 {
     match read_input(alloc, outside, scenario) {
-        Ok(text) => match new_node(alloc, centre) {
-            Ok(node) => play_on_output(alloc, outside, node, &text),
-            Err(AllocError) => Status::Memory,
-        },
-        Err(end) => end_without(alloc, outside, "scenario", end),
+        Ok(text) => play_scenario(alloc, outside, centre, &text),
+        Err(InputEnd::Refused(refusal)) => refuse(alloc, outside, "scenario", refusal),
+        Err(InputEnd::Outside) => Status::Outside,
+        Err(InputEnd::Memory) => Status::Memory,
     }
 }
 
 // A node of this centre, with an empty history.
 fn new_node(alloc: Global, centre: Centre) -> Result<Node, AllocError>
-    ensures { IfOk result (λ node. node ≡ record { centre = centre; limit = 134217728; history = [] }) }
+    ensures { IfOk result (λ node. node ≡ record { setup = setup_of centre; history = [] }) }
 {
     Node::new(alloc, Arc::new(alloc, centre)?, HISTORY_LIMIT)
 }
 
+// Plays a scenario on a new node of this centre, on standard output.
+fn play_scenario<O: Outside>(
+    alloc: Global,
+    outside: &mut O,
+    centre: Centre,
+    scenario: &[u8],
+) -> Status
+    ensures { IsRun (duty_to_say true (played_said (play (setup_of centre) (lines scenario.now) [] 1)))
+        (O.told outside.old) (O.told outside.new) result }
+{
+    match new_node(alloc, centre) {
+        Ok(node) => play_on_output(alloc, outside, node, scenario),
+        Err(AllocError) => Status::Memory,
+    }
+}
+
 // Opens standard output, plays a scenario on a node, and closes it.
 fn play_on_output<O: Outside>(alloc: Global, outside: &mut O, node: Node, scenario: &[u8]) -> Status
-    ensures words { result ≢ Status.Usage }
-    ensures said { let played = play node.centre (lines scenario.now) (reverse node.history) 1 in
-        IsSaid result (octets_under O.Out.taken (O.sinks outside.old) (codes "-")) (octets_under O.Out.taken (O.sinks outside.new) (codes "-")) (played_said played.shown played.bad) }
-    ensures output { OnWhole result (IsThere (O.sinks outside.old) (codes "-")) }
-    ensures cause { OnOutside result (Rose (O.fault_count outside.old) (O.fault_count outside.new)) }
-    ensures reason { OnOutside result (HasReason O.Out.fault_count (O.sinks outside.old) (O.sinks outside.new) (codes "-")) }
-    ensures sources { O.sources outside.new ≡ O.sources outside.old }
-    ensures put_back { IsPutBack (O.sinks outside.old) (O.sinks outside.new) }
+    ensures { let played = play node.setup (lines scenario.now) (reverse node.history) 1 in
+        IsRun (duty_to_say true (played_said played)) (O.told outside.old) (O.told outside.new) result }
 {
-    let Some(mut sink) = outside.open_out(OUTPUT) else {
+    let Some(sink) = outside.open_out(OUTPUT) else {
         return Status::Outside;
     };
-    let status = play_on(alloc, node, scenario, &mut sink);
+    let (sink, status) = play_gathered(alloc, node, scenario, sink);
     outside.close_out(sink);
     status
 }
 
-// Plays a scenario on a node, and prints the refusal of a bad line after what the lines before it show.
-fn play_on<K: Sink>(alloc: Global, mut node: Node, scenario: &[u8], sink: &mut K) -> Status
-    ensures words { result ≢ Status.Usage }
-    ensures said { let played = play node.centre (lines scenario.now) (reverse node.history) 1 in
-        IsSaid result (K.taken sink.old) (K.taken sink.new) (played_said played.shown played.bad) }
-    ensures fault { OnOutside result (Rose (K.fault_count sink.old) (K.fault_count sink.new)) }
-    ensures name { K.name sink.new ≡ K.name sink.old }
+// Plays a scenario on a node; what it shows is gathered, and goes out in large pieces.
+fn play_gathered<K: Sink + Drop>(alloc: Global, node: Node, scenario: &[u8], sink: K) -> (K, Status)
+    requires { (K.told sink).held ≡ 0 }
+    ensures { let played = play node.setup (lines scenario.now) (reverse node.history) 1 in
+        Tells (played_said played) (K.told sink) (K.told result.0) result.1 }
 {
-    match replay(alloc, &mut node, scenario, sink) {
-        ReplayEnd::Done => Status::Done,
-        ReplayEnd::BadLine { line } => refuse_line(alloc, sink, line),
-        ReplayEnd::SinkFault => Status::Outside,
-        ReplayEnd::Memory => Status::Memory,
+    let mut gathering = match BufferedSink::new(alloc, sink) {
+        Ok(gathering) => gathering,
+        Err(sink) => return (sink, Status::Memory),
+    };
+    match play_on(alloc, node, scenario, &mut gathering) {
+        Status::Outside => (gathering.into_sink(), Status::Outside),
+        status => match gathering.finish() {
+            (sink, Ok(())) => (sink, status),
+            (sink, Err(SinkFailed)) => (sink, Status::Outside),
+        },
     }
 }
 
-// Prints the refusal of a scenario's bad line.
-fn refuse_line<K: Sink>(alloc: Global, sink: &mut K, line: u64) -> Status
-    ensures words { result ≢ Status.Usage }
-    ensures said { IsSaid result (K.taken sink.old) (K.taken sink.new) (refused_as (bad_line (codes "scenario") line)) }
-    ensures fault { OnOutside result (Rose (K.fault_count sink.old) (K.fault_count sink.new)) }
-    ensures name { K.name sink.new ≡ K.name sink.old }
+// Plays a scenario on a node, and prints the refusal of a bad line after what the lines before it show.
+fn play_on<K: Sink>(alloc: Global, node: Node, scenario: &[u8], sink: &mut K) -> Status
+    ensures { let played = play node.setup (lines scenario.now) (reverse node.history) 1 in
+        Tells (played_said played) (K.told sink.old) (K.told sink.new) result }
 {
-    let Ok(refusal) = bad_line(alloc, "scenario", line) else {
-        return Status::Memory;
-    };
-    match write_all(sink, refusal.as_bytes()) {
-        Ok(()) => Status::Input,
-        Err(SinkFailed) => Status::Outside,
+    let mut node = node;
+    match replay(alloc, &mut node, scenario, sink) {
+        ReplayEnd::Done => Status::Done,
+        ReplayEnd::BadLine { line } => {
+            tell_refusal(alloc, sink, "scenario", Refusal::BadLine(line))
+        }
+        ReplayEnd::SinkFault => Status::Outside,
+        ReplayEnd::Memory => Status::Memory,
     }
 }

@@ -3,6 +3,7 @@ mod lines;
 mod tables;
 
 use super::*;
+use command_io::Status;
 use outside::{ByteSink, MemoryOutside, TextSource};
 use std::alloc::{AllocError, Global};
 use std::test::Fail;

@@ -1,5 +1,6 @@
 use super::{LAWFUL, TABLES, outside_of, printed, source_of, words_of};
-use crate::{Status, run};
+use crate::run;
+use command_io::Status;
 use outside::ByteSink;
 use std::process::Abort;
 use std::test::Fail;

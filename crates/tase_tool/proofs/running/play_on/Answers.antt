@@ -1,25 +1,27 @@
-use Rattle.std.proofs.Common.{sym, subst, reverse, codes}
+use Rattle.std.proofs.Common.{true, false, sym, subst, reverse, codes}
 use Rattle.std.specs.Str.Lines.{lines}
-use Rattle.tase_replay.specs.Play.{play}
-use Rattle.tase_tool.specs.Saying.{played_said, bad_line}
-use Rattle.tase_tool.specs.Runs.{IsSaid}
-use Rattle.tase_tool.proofs.Saids.{IsSaid-after, AppendsPart-played}
+use Rattle.command_io.specs.Saying.{refusal_text}
+use Rattle.command_io.specs.Runs.{Tells}
+use Rattle.command_io.specs.declared.input.Refusal.TheVariants.{BadLine}
+use Rattle.tase_replay.specs.Play.{play, shown_of}
+use Rattle.tase_tool.specs.Saying.{said_at}
+use Rattle.tase_tool.proofs.Playing.{Tells-after, AppendsPart-played}
 use Rattle.tase_tool.proofs.running.play_on.Goals as goal
 
-pub returns-in-BadLine-clause-said : goal.returns-in-BadLine-clause-said
-returns-in-BadLine-clause-said g c =
-    let played = play c.args.node.centre (lines c.args.scenario.now) (reverse c.args.node.history) 1 in
-    subst (λ b. IsSaid c.refuse_line.result (g.K.Sink.taken c.args.sink.now) (g.K.Sink.taken c.refuse_line.new.sink) (played_said played.shown b))
+pub returns-in-BadLine : goal.returns-in-BadLine
+returns-in-BadLine g c =
+    let played = play c.args.node.setup (lines c.args.scenario.now) (reverse c.args.node.history) 1 in
+    subst (λ e. Tells (said_at (shown_of played) e) (g.K.Sink.told c.args.sink.now) (g.K.Sink.told c.tell_refusal.new.sink) c.tell_refusal.result)
     (sym c.in-BadLine.ensures.played.0)
-    (IsSaid-after c.refuse_line.result (g.K.Sink.taken c.args.sink.now) (g.K.Sink.taken c.replay.new.sink) (g.K.Sink.taken c.refuse_line.new.sink)
-    played.shown (bad_line (codes "scenario") c.in-BadLine.line) c.in-BadLine.ensures.played.2 c.refuse_line.ensures.said)
+    (Tells-after (g.K.Sink.told c.args.sink.now) (g.K.Sink.told c.replay.new.sink) (g.K.Sink.told c.tell_refusal.new.sink)
+    (shown_of played) (refusal_text (codes "scenario") (BadLine c.in-BadLine.line)) c.tell_refusal.result c.in-BadLine.ensures.played.1.shown c.tell_refusal.ensures)
 
-pub returns-in-SinkFault-clause-said : goal.returns-in-SinkFault-clause-said
-returns-in-SinkFault-clause-said g c =
-    let played = play c.args.node.centre (lines c.args.scenario.now) (reverse c.args.node.history) 1 in
-    AppendsPart-played played.bad (g.K.Sink.taken c.args.sink.now) (g.K.Sink.taken c.replay.new.sink) played.shown c.in-SinkFault.ensures.played.1
+pub returns-in-SinkFault : goal.returns-in-SinkFault
+returns-in-SinkFault g c =
+    let played = play c.args.node.setup (lines c.args.scenario.now) (reverse c.args.node.history) 1 in
+    AppendsPart-played (g.K.Sink.told c.args.sink.now) (g.K.Sink.told c.replay.new.sink) played c.in-SinkFault.ensures.played.count true c.in-SinkFault.ensures.played.shown
 
-pub returns-clause-said : goal.returns-clause-said
-returns-clause-said g c =
-    let played = play c.args.node.centre (lines c.args.scenario.now) (reverse c.args.node.history) 1 in
-    AppendsPart-played played.bad (g.K.Sink.taken c.args.sink.now) (g.K.Sink.taken c.replay.new.sink) played.shown c.in-Memory.ensures.played.1
+pub returns : goal.returns
+returns g c =
+    let played = play c.args.node.setup (lines c.args.scenario.now) (reverse c.args.node.history) 1 in
+    AppendsPart-played (g.K.Sink.told c.args.sink.now) (g.K.Sink.told c.replay.new.sink) played c.in-Memory.ensures.played.count false c.in-Memory.ensures.played.shown

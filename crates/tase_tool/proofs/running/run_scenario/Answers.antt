@@ -1,28 +1,30 @@
-use Rattle.std.proofs.Common.{ℕ, Some, sym, subst, codes}
-use Rattle.std.specs.Prelude.{Vec, IfSome}
-use Rattle.std.specs.declared.alloc.Global.{Global}
-use Rattle.tase_tool.specs.Runs.{text_under, octets_under, IsSaid}
-use Rattle.tase_tool.specs.Saying.{Said, said_of, scenario_said}
-use Rattle.tase_tool.specs.Inputs.{IsRefusal}
-use Rattle.tase_tool.specs.declared.status.Status.TheVariants.{Memory}
-use Rattle.tase_tool.proofs.Saids.{HasCause-after}
-use Rattle.tase_tool.proofs.Refusals.{nothing_said, scenario_refused}
+use Rattle.std.proofs.Common.{true, subst}
+use Rattle.command_io.specs.Runs.{IsRun}
+use Rattle.command_io.specs.Saying.{duty_to_say}
+use Rattle.tase_replay.specs.Play.{scenario_of}
+use Rattle.tase_tool.specs.Saying.{setup_of, played_said}
+use Rattle.tase_tool.proofs.Duties.{IsRun-scenario, IsRun-refused_scenario, IsRun-scenario_outside, IsRun-scenario_memory}
 use Rattle.tase_tool.proofs.running.run_scenario.Goals as goal
 
-pub returns-clause-said : goal.returns-clause-said
-returns-clause-said g c =
-    scenario_refused c.args.centre c.in-Err.end c.end_without.result (text_under g.O.In.Source.left (g.O.Outside.sources c.args.outside.now) c.args.scenario.now)
-    (octets_under g.O.Out.Sink.taken (g.O.Outside.sinks c.args.outside.now) (codes "-")) (octets_under g.O.Out.Sink.taken (g.O.Outside.sinks c.end_without.new.outside) (codes "-"))
-    c.in-Err.ensures.text (subst (λ t. (said : Said) → IsRefusal (codes "scenario") c.in-Err.end said → IsSaid c.end_without.result (octets_under g.O.Out.Sink.taken t (codes "-")) (octets_under g.O.Out.Sink.taken (g.O.Outside.sinks c.end_without.new.outside) (codes "-")) said) c.in-Err.ensures.sinks c.end_without.ensures.said)
+pub returns-in-Ok : goal.returns-in-Ok
+returns-in-Ok g c =
+    IsRun-scenario (g.O.Outside.told c.args.outside.now) (g.O.Outside.told c.read_input.new.outside) (g.O.Outside.told c.play_scenario.new.outside)
+    c.args.centre c.args.scenario.now c.in-Ok.text c.play_scenario.result c.in-Ok.ensures
+    (subst (λ octets. IsRun (duty_to_say true (played_said (scenario_of (setup_of c.args.centre) octets)))
+    (g.O.Outside.told c.read_input.new.outside) (g.O.Outside.told c.play_scenario.new.outside) c.play_scenario.result)
+    c.deref.ensures.value c.play_scenario.ensures)
 
-pub returns-clause-cause : goal.returns-clause-cause
-returns-clause-cause g c =
-    HasCause-after c.end_without.result c.in-Err.end (Vec ℕ Global) (g.O.Outside.fault_count c.args.outside.now) (g.O.Outside.fault_count c.read_input.new.outside)
-    (g.O.Outside.fault_count c.end_without.new.outside) c.in-Err.ensures.cause c.end_without.ensures.low c.end_without.ensures.cause
+pub returns-in-Err-Refused : goal.returns-in-Err-Refused
+returns-in-Err-Refused g c =
+    IsRun-refused_scenario (g.O.Outside.told c.args.outside.now) (g.O.Outside.told c.read_input.new.outside) (g.O.Outside.told c.refuse.new.outside)
+    c.args.centre c.args.scenario.now c.in-Err-Refused.refusal c.refuse.result (rw c.in-Err-Refused.field-0-is at c.in-Err-Refused.ensures) (rw c.in-Err-Refused.refusal-is at c.refuse.ensures)
 
-pub returns-in-Ok-clause-said : goal.returns-in-Ok-clause-said
-returns-in-Ok-clause-said g c =
-    let output = octets_under g.O.Out.Sink.taken (g.O.Outside.sinks c.args.outside.now) (codes "-") in
-    subst (λ t. IfSome (said_of (λ octets. Some (scenario_said c.args.centre octets)) (text_under g.O.In.Source.left (g.O.Outside.sources c.args.outside.now) c.args.scenario.now))
-    (IsSaid Memory output (octets_under g.O.Out.Sink.taken t (codes "-"))))
-    (sym c.in-Ok.ensures.sinks) (nothing_said _ output)
+pub returns-in-Err-Outside : goal.returns-in-Err-Outside
+returns-in-Err-Outside g c =
+    IsRun-scenario_outside (g.O.Outside.told c.args.outside.now) (g.O.Outside.told c.read_input.new.outside) (g.O.Outside.told c.read_input.new.outside)
+    c.args.centre c.args.scenario.now (rw c.in-Err-Outside.field-0-is at c.in-Err-Outside.ensures)
+
+pub returns : goal.returns
+returns g c =
+    IsRun-scenario_memory (g.O.Outside.told c.args.outside.now) (g.O.Outside.told c.read_input.new.outside) (g.O.Outside.told c.read_input.new.outside)
+    c.args.centre c.args.scenario.now (rw c.in-Err-Memory.field-0-is at c.in-Err-Memory.ensures)

@@ -1,0 +1,35 @@
+-- How the program starts: its words as the system gives them, and the run of these.
+use Rattle.std.specs.Prelude.{◌≡◌, ◌≢◌, ℕ, List, [], drop, map, string_bytes, String}
+use Rattle.std.specs.Prelude.{Result, Ok, Err, Vec, IsErr, IsOkAnd, IfOk}
+use Rattle.std.specs.declared.alloc.AllocError.{AllocError}
+use Rattle.std.specs.declared.alloc.Global.{Global}
+use Rattle.std.specs.declared.io.Error.{Error}
+use Rattle.std.specs.declared.io.ErrorKind.TheVariants.{InvalidData}
+use Rattle.std.specs.IoError.{error_kind}
+use Rattle.std.specs.declared.vec.IntoIter.{IntoIter}
+use Rattle.std.specs.Vec.Iter.{into_iter_items}
+use Rattle.outside.specs.Outside.{OutsideTold}
+use Rattle.command_io.specs.declared.status.Status.{Status}
+use Rattle.command_io.specs.declared.status.Status.TheVariants.{Memory}
+use Rattle.command_io.specs.Saying.{texts_of}
+use Rattle.command_io.specs.Runs.{IsRun}
+use Rattle.tase_tool.specs.Words.{asked_in}
+use Rattle.tase_tool.specs.Saying.{duty_of}
+
+-- words in memory
+abbrev pub Words : Type 0
+Words = Vec (String Global) Global
+
+-- none where one of the words isn't text; where there is no error, those after the first, which is
+-- the program's name; every other error is want of memory
+abbrev pub IsWordsFrom : Result (IntoIter (String Global) Global) Error → Result Words AllocError → Type 0
+IsWordsFrom (Ok args) result = IfOk result (λ words. words.items ≡ drop 1 (into_iter_items args))
+IsWordsFrom (Err error) result =
+    (error_kind error ≡ InvalidData → IsOkAnd result (λ words. words.items ≡ []))
+    × (error_kind error ≢ InvalidData → IsErr result)
+
+-- words that are there are run; without memory for them nothing is done
+abbrev pub IsStart : Result Words AllocError → OutsideTold → OutsideTold → Status → Type 0
+IsStart (Ok words) before after status =
+    IsRun (duty_of (asked_in (map string_bytes words.items)) (texts_of before)) before after status
+IsStart (Err memory) before after status = (status ≡ Memory) × (after ≡ before)

@@ -1,0 +1,39 @@
+-- The tables of a command: what they are read to.
+use Rattle.std.specs.Prelude.{◌≡◌, ℕ, List, Result, Ok, Err, OnOk, IsErrAnd}
+use Rattle.outside.specs.Outside.{OutsideTold}
+use Rattle.command_io.specs.declared.input.Refusal.TheVariants.{Long, BadLine}
+use Rattle.command_io.specs.declared.input.InputEnd.{InputEnd}
+use Rattle.command_io.specs.declared.input.InputEnd.TheVariants.{Refused, Outside, Memory}
+use Rattle.command_io.specs.Saying.{Text, untold, missing, told, emptied, text_of}
+use Rattle.command_io.specs.Inputs.{is_lost, OpensInput}
+use Rattle.bilateral.specs.Rows.{CentreRows}
+use Rattle.bilateral.specs.declared.fault.TableFault.{TableFault}
+use Rattle.tase_tool.specs.Saying.{tables_read}
+
+-- the centre that a text spells, or its first bad line
+abbrev pub IsCentreFrom : Result CentreRows InputEnd → Result CentreRows TableFault → Type 0
+IsCentreFrom (Ok rows) read = read ≡ Ok rows
+IsCentreFrom (Err (Refused Long)) read = ⊥
+IsCentreFrom (Err (Refused (BadLine line))) read = IsErrAnd read (λ fault. fault.line ≡ line)
+IsCentreFrom (Err Outside) read = ⊥
+IsCentreFrom (Err Memory) read = Unit {0}
+
+-- the centre that the tables spell, or why they are refused
+abbrev pub IsRead : Result CentreRows InputEnd → List ℕ → Type 0
+IsRead (Ok rows) octets = tables_read octets ≡ Ok rows
+IsRead (Err (Refused refusal)) octets = tables_read octets ≡ Err refusal
+IsRead (Err Outside) octets = Unit {0}
+IsRead (Err Memory) octets = Unit {0}
+
+-- the same of what is told of their text
+abbrev pub IsTables : Result CentreRows InputEnd → Text → Type 0
+IsTables result untold = Unit {0}
+IsTables result missing = result ≡ Err Outside
+IsTables result (told octets) = IsRead result octets
+
+-- what tables leave outside that were opened, read and closed again, and what they are read to
+pub record ReadsTables (before after : OutsideTold) (name : List ℕ) (result : Result CentreRows InputEnd) : Type 0 where
+  pub tables : IsTables result (text_of (before.sources name))
+  -- nothing is left of a text that was read
+  pub spent : OnOk result (text_of (after.sources name) ≡ emptied (text_of (before.sources name)))
+  pub opens : OpensInput before after name (is_lost result)
