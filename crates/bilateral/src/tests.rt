@@ -31,7 +31,11 @@ fn reads_tables(rt: HostRuntime) -> Result<(), Fail> {
 fn finds_the_first_bad_line(rt: HostRuntime) -> Result<(), Fail> {
     for (text, line, why) in [
         ("point A state\npoint A real", 2, TableWhy::Again),
-        ("point A state\npeer K * D T\nsee A vmd value,value,odd", 3, TableWhy::Word),
+        (
+            "point A state\npeer K * D T\nsee A vmd value,value,odd",
+            3,
+            TableWhy::Word,
+        ),
     ] {
         let fault = read_centre(rt.alloc(), text.as_bytes())?.err().ok_or(text)?;
         assert_eq!(rt; fault.line, line, "{text}");
