@@ -18,7 +18,8 @@ buffered_told sink gathered = record {
 -- what was gathered went out, or a front part of it before a write that failed
 abbrev pub HandsOn : SinkTold → SinkTold → List ℕ → List ℕ → Result (Unit {0}) SinkFailed → Type 0
 HandsOn before after gathered rest (Ok done) = AppendsAll before after gathered × (rest ≡ [])
-HandsOn before after gathered rest (Err failed) = (front : List ℕ) × (gathered ≡ front ++ rest) × Appends before after front true
+HandsOn before after gathered rest (Err failed) =
+    (front : List ℕ) × (gathered ≡ front ++ rest) × Appends before after front true
 
 -- the same, where what didn't go out is lost
 abbrev pub Finishes : SinkTold → SinkTold → List ℕ → Result (Unit {0}) SinkFailed → Type 0

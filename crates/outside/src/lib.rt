@@ -1,5 +1,6 @@
-//! What lies outside the program: sources and sinks of octets, the outside that opens them by name, and doubles of
-//! them in memory. Each object counts its faults; no call fails in silence, and none claims a fault that wasn't.
+//! What lies outside the program: sources and sinks of octets, the outside that opens them by name,
+//! and doubles of them in memory. Each object counts its faults; no call fails in silence, and none
+//! claims a fault that wasn't.
 #![tactic(auto)]
 
 mod asked;
