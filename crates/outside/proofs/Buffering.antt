@@ -1,14 +1,14 @@
 -- What a sink with a buffer took, and what the sink behind it took.
-use Rattle.std.proofs.Common.{◌≡◌, ◌⊎◌, ℕ, ◌+◌, ◌-◌, ◌≤◌, min, Bool, true, false, List, [], ◌++◌, length, take, drop, Option, Some, None, refl, sym, ◌∙◌, ap, subst, arith, append_assoc, length-append, length-take, length-drop, take-append-drop}
-use Rattle.std.specs.Prelude.{option_map, Result, Ok, Err}
+use Rattle.std.proofs.Common.{◌≡◌, ℕ, ◌+◌, ◌-◌, ◌≤◌, Bool, true, false, List, [], ◌++◌, length, take, Option, Some, None, refl, sym, ◌∙◌, ap, subst, arith, append_assoc, length-append, length-take}
+use Rattle.std.specs.Prelude.{option_map, Ok, Err}
 use Rattle.std.proofs.lemmas.List.{append-nil}
 use Rattle.std.proofs.Math.Seq.{take-append_seam, take-append-add}
 use Rattle.outside.specs.declared.sink.SinkFailed.{SinkFailed}
 use Rattle.outside.specs.Octets.{Adds}
 use Rattle.outside.specs.Sink.{SinkTold, Appends, AppendsAll, AppendsPart}
-use Rattle.outside.specs.Buffered.{buffered_told, HandsOn, Finishes}
+use Rattle.outside.specs.Buffered.{buffered_told, HandsOn}
 use Rattle.outside.proofs.Calling.{GoesOn-none}
-use Rattle.outside.proofs.Writing.{Adds-none, Adds-append, Appends-none, Appends-append, Appends-as}
+use Rattle.outside.proofs.Writing.{Appends-append, Appends-as}
 
 -- octets that were gathered
 pub buffered_gathers : (sink : SinkTold) (gathered piece : List ℕ)

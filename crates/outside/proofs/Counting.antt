@@ -1,6 +1,6 @@
 -- Counts of faults that rise.
-use Rattle.std.proofs.Common.{◌≡◌, ℕ, ◌≤◌, Bool, true, false, refl, sym, subst, arith}
-use Rattle.outside.specs.Faults.{next_count, counted, Rose}
+use Rattle.std.proofs.Common.{◌≡◌, ℕ, ◌≤◌, Bool, true, false, refl, arith}
+use Rattle.outside.specs.Faults.{counted, Rose}
 
 -- no count falls
 pub counted_grows : (is_fault : Bool) (before : ℕ) → before ≤ counted is_fault before

@@ -4,7 +4,7 @@ use Rattle.std.specs.Prelude.{option_map}
 use Rattle.std.proofs.lemmas.List.{append-nil, take_min, take-append-le, take_all}
 use Rattle.std.proofs.Math.Seq.{take-add, take-append-add}
 use Rattle.outside.specs.Octets.{Adds}
-use Rattle.outside.specs.Sink.{SinkTold, Appends, AppendsAll, AppendsPart}
+use Rattle.outside.specs.Sink.{SinkTold, Appends, AppendsPart}
 use Rattle.outside.proofs.Calling.{GoesOn-none, GoesOn-then}
 
 -- no octets

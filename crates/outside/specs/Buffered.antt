@@ -1,9 +1,6 @@
 -- What a sink with a buffer tells: what the sink behind it took and what is gathered for that.
-use Rattle.std.specs.Prelude.{Bool, true, false, ◌≡◌, ℕ, ◌+◌, ◌≤◌, List, [], ◌++◌, length, Option, option_map, Result, Ok, Err}
+use Rattle.std.specs.Prelude.{true, ◌≡◌, ℕ, ◌+◌, List, [], ◌++◌, length, option_map, Result, Ok, Err}
 use Rattle.outside.specs.declared.sink.SinkFailed.{SinkFailed}
-use Rattle.outside.specs.Calls.{GoesOn}
-use Rattle.outside.specs.Faults.{counted}
-use Rattle.outside.specs.Octets.{Adds}
 use Rattle.outside.specs.Sink.{SinkTold, Appends, AppendsAll}
 
 abbrev pub buffered_told : SinkTold → List ℕ → SinkTold

@@ -1,5 +1,5 @@
 -- The places of an outside in memory: a name each, with the object that stands there.
-use Rattle.std.specs.Prelude.{◌≡◌, ℕ, List, [], ◌∷◌, ◌++◌, Option, Some, None, bytes_eq, if◌then◌else◌}
+use Rattle.std.specs.Prelude.{◌≡◌, ℕ, List, [], ◌∷◌, Option, Some, None, bytes_eq, if◌then◌else◌}
 use Rattle.std.specs.Option.{IfSome}
 use Rattle.outside.specs.Outside.{Standing, untold, missing, lent, there, OutsideTold}
 use Rattle.outside.specs.States.{TextState, ByteState, text_told, byte_told}

@@ -1,4 +1,4 @@
-use Rattle.std.proofs.Common.{◌++◌, take, length, ap, arith, ◌∙◌}
+use Rattle.std.proofs.Common.{◌++◌, take, arith}
 use Rattle.std.proofs.lemmas.Result.{err_from_is_err_and}
 use Rattle.outside.proofs.Reading.{reads_long, reads_no_memory}
 use Rattle.outside.proofs.text.read_pieces.Goals as goal
