@@ -4,7 +4,7 @@ use Rattle.std.specs.Prelude.{option_map}
 use Rattle.std.proofs.lemmas.List.{append-nil, take_min, take-append-le, take_all}
 use Rattle.std.proofs.Math.Seq.{take-add, take-append-add}
 use Rattle.outside.specs.Octets.{Adds}
-use Rattle.outside.specs.Sink.{SinkTold, Appends, AppendsAll, AppendsPart}
+use Rattle.outside.specs.Sink.{SinkTold, Appends, AppendsPart}
 use Rattle.outside.proofs.Calling.{GoesOn-none, GoesOn-then}
 
 -- no octets
@@ -13,10 +13,14 @@ Adds-none None = refl
 Adds-none (Some octets) = ap Some (sym (append-nil octets))
 
 -- some, and then others
-pub Adds-append : (before mid after : Option (List ℕ)) (first next : List ℕ) → Adds before mid first → Adds mid after next → Adds before after (first ++ next)
-Adds-append before mid after first next one two = two ∙ ap (option_map (λ told. told ++ next)) one ∙ both before
+pub Adds-append : (before mid after : Option (List ℕ)) (first next : List ℕ)
+    → Adds before mid first → Adds mid after next → Adds before after (first ++ next)
+Adds-append before mid after first next one two =
+    two ∙ ap (option_map (λ told. told ++ next)) one ∙ both before
   where
-    both : (told : Option (List ℕ)) → option_map (λ told. told ++ next) (option_map (λ told. told ++ first) told) ≡ option_map (λ told. told ++ (first ++ next)) told
+    both : (told : Option (List ℕ)) → option_map (λ told. told ++ next)
+        (option_map (λ told. told ++ first) told)
+        ≡ option_map (λ told. told ++ (first ++ next)) told
     both None = refl
     both (Some octets) = ap Some (append_assoc octets first next)
 
@@ -32,7 +36,8 @@ Appends-none sink = record {
 
 -- some octets, and then others
 pub Appends-append : (before mid after : SinkTold) (first next : List ℕ) (failed : Bool)
-    → Appends before mid first false → Appends mid after next failed → Appends before after (first ++ next) failed
+    → Appends before mid first false → Appends mid after next failed
+    → Appends before after (first ++ next) failed
 Appends-append before mid after first next failed one two = record {
   taken = Adds-append before.taken mid.taken after.taken first next one.taken two.taken;
   held = omega (arith, one.held, two.held, length-append first next);
@@ -42,27 +47,37 @@ Appends-append before mid after first next failed one two = record {
 }
 
 -- the same octets, spelled otherwise
-pub Appends-as : (before after : SinkTold) (first next : List ℕ) (failed : Bool) → first ≡ next → Appends before after first failed → Appends before after next failed
-Appends-as before after first next failed same appends = subst (λ (octets : List ℕ). Appends before after octets failed) same appends
+pub Appends-as : (before after : SinkTold) (first next : List ℕ) (failed : Bool) → first ≡ next
+    → Appends before after first failed → Appends before after next failed
+Appends-as before after first next failed same appends =
+    subst (λ (octets : List ℕ). Appends before after octets failed) same appends
 
 -- some octets, and then a write that failed
 pub Appends-failed : (before mid after : SinkTold) (octets : List ℕ)
     → Appends before mid octets false → Appends mid after [] true → Appends before after octets true
 Appends-failed before mid after octets one two =
-    Appends-as before after (octets ++ []) octets true (append-nil octets) (Appends-append before mid after octets [] true one two)
+    Appends-as before after (octets ++ []) octets true (append-nil octets)
+    (Appends-append before mid after octets [] true one two)
 
 -- one more write of the octets that are left
 pub Appends-more : (before mid after : SinkTold) (octets : List ℕ) (sent count : ℕ)
-    → Appends before mid (take sent octets) false → Appends mid after (take count (drop sent octets)) false
+    → Appends before mid (take sent octets) false
+    → Appends mid after (take count (drop sent octets)) false
     → Appends before after (take (sent + count) octets) false
 Appends-more before mid after octets sent count one two =
-    Appends-as before after (take sent octets ++ take count (drop sent octets)) (take (sent + count) octets) false (sym (take-add sent count octets))
-    (Appends-append before mid after (take sent octets) (take count (drop sent octets)) false one two)
+    Appends-as before after (take sent octets ++ take count (drop sent octets))
+    (take (sent + count) octets) false (sym (take-add sent count octets))
+    (Appends-append before mid after (take sent octets)
+    (take count (drop sent octets)) false one two)
 
 -- all of them are a front part
-pub AppendsPart-all : (before after : SinkTold) (octets : List ℕ) (failed : Bool) → Appends before after octets failed → AppendsPart before after octets failed
-AppendsPart-all before after octets failed all =
-    (length octets, Appends-as before after octets (take (length octets) octets) failed (sym (take_all (length octets) octets (omega arith))) all)
+pub AppendsPart-all : (before after : SinkTold) (octets : List ℕ) (failed : Bool)
+    → Appends before after octets failed → AppendsPart before after octets failed
+AppendsPart-all before after octets failed all = (
+  length octets,
+  Appends-as before after octets (take (length octets) octets) failed
+      (sym (take_all (length octets) octets (omega arith))) all,
+)
 
 -- a sink to which nothing was written took a front part
 pub AppendsPart-none : (sink : SinkTold) (octets : List ℕ) → AppendsPart sink sink octets false
@@ -70,14 +85,18 @@ AppendsPart-none sink octets = (0, Appends-none sink)
 
 -- octets, and then a front part of others
 pub AppendsPart-append : (before mid after : SinkTold) (first next : List ℕ) (failed : Bool)
-    → Appends before mid first false → AppendsPart mid after next failed → AppendsPart before after (first ++ next) failed
+    → Appends before mid first false → AppendsPart mid after next failed
+    → AppendsPart before after (first ++ next) failed
 AppendsPart-append before mid after first next failed all part = (
   length first + part.0,
-  Appends-as before after (first ++ take part.0 next) (take (length first + part.0) (first ++ next)) failed (sym (take-append-add first next part.0))
+  Appends-as before after (first ++ take part.0 next)
+      (take (length first + part.0) (first ++ next)) failed
+      (sym (take-append-add first next part.0))
       (Appends-append before mid after first (take part.0 next) failed all part.1),
 )
 
-take-front : (count : ℕ) (first next : List ℕ) → take (min count (length first)) (first ++ next) ≡ take count first
+take-front : (count : ℕ) (first next : List ℕ)
+    → take (min count (length first)) (first ++ next) ≡ take count first
 take-front count first next =
     let within : min count (length first) ≤ length first = omega arith in
     take-append-le (min count (length first)) first next within ∙ take_min count first
@@ -87,5 +106,6 @@ pub AppendsPart-front : (before after : SinkTold) (first next : List ℕ) (faile
     → AppendsPart before after first failed → AppendsPart before after (first ++ next) failed
 AppendsPart-front before after first next failed part = (
   min part.0 (length first),
-  Appends-as before after (take part.0 first) (take (min part.0 (length first)) (first ++ next)) failed (sym (take-front part.0 first next)) part.1,
+  Appends-as before after (take part.0 first) (take (min part.0 (length first)) (first ++ next))
+      failed (sym (take-front part.0 first next)) part.1,
 )

@@ -1,9 +1,6 @@
 -- What a sink with a buffer tells: what the sink behind it took and what is gathered for that.
-use Rattle.std.specs.Prelude.{Bool, true, false, ◌≡◌, ℕ, ◌+◌, ◌≤◌, List, [], ◌++◌, length, Option, option_map, Result, Ok, Err}
+use Rattle.std.specs.Prelude.{true, ◌≡◌, ℕ, ◌+◌, List, [], ◌++◌, length, option_map, Result, Ok, Err}
 use Rattle.outside.specs.declared.sink.SinkFailed.{SinkFailed}
-use Rattle.outside.specs.Calls.{GoesOn}
-use Rattle.outside.specs.Faults.{counted}
-use Rattle.outside.specs.Octets.{Adds}
 use Rattle.outside.specs.Sink.{SinkTold, Appends, AppendsAll}
 
 abbrev pub buffered_told : SinkTold → List ℕ → SinkTold
@@ -18,7 +15,8 @@ buffered_told sink gathered = record {
 -- what was gathered went out, or a front part of it before a write that failed
 abbrev pub HandsOn : SinkTold → SinkTold → List ℕ → List ℕ → Result (Unit {0}) SinkFailed → Type 0
 HandsOn before after gathered rest (Ok done) = AppendsAll before after gathered × (rest ≡ [])
-HandsOn before after gathered rest (Err failed) = (front : List ℕ) × (gathered ≡ front ++ rest) × Appends before after front true
+HandsOn before after gathered rest (Err failed) =
+    (front : List ℕ) × (gathered ≡ front ++ rest) × Appends before after front true
 
 -- the same, where what didn't go out is lost
 abbrev pub Finishes : SinkTold → SinkTold → List ℕ → Result (Unit {0}) SinkFailed → Type 0

@@ -1,4 +1,5 @@
--- The calls of an object outside. After a call that says that nothing is left, or that failed, none should come.
+-- The calls of an object outside. After a call that says that nothing is left, or that failed, none
+-- should come.
 use Rattle.std.specs.Prelude.{◌≡◌, ◌⊎◌, ℕ, Bool, true, false, Option, option_map}
 use Rattle.outside.specs.Faults.{counted}
 
@@ -13,7 +14,8 @@ pub record Calls : Type 0 where
 abbrev pub called : Bool → Calls → Calls
 called stops calls = record { stopped = stops; late = counted calls.stopped calls.late }
 
--- calls of which none came late but the first, where one had stopped before; whether the last of them stopped
+-- calls of which none came late but the first, where one had stopped before; whether the last of
+-- them stopped
 abbrev pub GoesOn : Option Calls → Option Calls → Bool → Type 0
 GoesOn before after false = (after ≡ before) ⊎ (after ≡ option_map (called false) before)
 GoesOn before after true = after ≡ option_map (called true) before

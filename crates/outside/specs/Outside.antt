@@ -4,7 +4,8 @@ use Rattle.outside.specs.Faults.{counted}
 use Rattle.outside.specs.Source.{SourceTold}
 use Rattle.outside.specs.Sink.{SinkTold}
 
--- what is told of a name: nothing; that it isn't there; that its object is handed out; that this object stands there
+-- what is told of a name: nothing; that it isn't there; that its object is handed out; that this
+-- object stands there
 pub data Standing (X : Type 0) : Type 0 where
   untold : Standing X
   missing : Standing X
@@ -17,7 +18,8 @@ pub record OutsideTold : Type 0 where
   pub sources : List ℕ → Standing SourceTold
   -- what stands under each name of a sink
   pub sinks : List ℕ → Standing SinkTold
-  -- the names that it was asked to open for reading, in order, also those that it found nothing under
+  -- the names that it was asked to open for reading, in order, also those that it found nothing
+  -- under
   pub read_names : Option (List (List ℕ))
   -- the names that it was asked to open for writing
   pub written_names : Option (List (List ℕ))
@@ -37,34 +39,43 @@ put_back_at {X} missing object = missing
 put_back_at {X} lent object = there object
 put_back_at {X} (there other) object = there object
 
--- what an open hands out: exactly what stands under the name, and it bears that name. Where nothing is told of the
--- name, a new object, which has no faults, or nothing; of the name that such an object bears nothing is told either
-abbrev pub HandsOut : {X : Type 0} → (X → List ℕ) → (X → ℕ) → (List ℕ → Standing X) → List ℕ → Standing X → Option X → Type 0
+-- what an open hands out: exactly what stands under the name, and it bears that name. Where nothing
+-- is told of the name, a new object, which has no faults, or nothing; of the name that such an
+-- object bears nothing is told either
+abbrev pub HandsOut : {X : Type 0} → (X → List ℕ) → (X → ℕ) → (List ℕ → Standing X) → List ℕ
+    → Standing X → Option X → Type 0
 HandsOut {X} name_of faults_of before name untold result =
     IfSome result (λ object. (faults_of object ≡ 0) × (before (name_of object) ≡ untold))
 HandsOut {X} name_of faults_of before name missing result = result ≡ None
 HandsOut {X} name_of faults_of before name lent result = result ≡ None
-HandsOut {X} name_of faults_of before name (there object) result = (result ≡ Some object) × (name_of object ≡ name)
+HandsOut {X} name_of faults_of before name (there object) result =
+    (result ≡ Some object) × (name_of object ≡ name)
 
 -- this change at the name; every other name is as before
-abbrev pub Changes : {X : Type 0} → (Standing X → Standing X) → (List ℕ → Standing X) → (List ℕ → Standing X) → List ℕ → Type 0
-Changes change before after name = (n : List ℕ) → after n ≡ (if bytes_eq n name then change (before n) else before n)
+abbrev pub Changes : {X : Type 0} → (Standing X → Standing X) → (List ℕ → Standing X)
+    → (List ℕ → Standing X) → List ℕ → Type 0
+Changes change before after name =
+    (n : List ℕ) → after n ≡ (if bytes_eq n name then change (before n) else before n)
 
--- what the object under a name went through between these two, where it is told; what isn't there stays so
+-- what the object under a name went through between these two, where it is told; what isn't there
+-- stays so
 abbrev pub Acts : {X : Type 0} → (X → X → Type 0) → Standing X → Standing X → Type 0
 Acts {X} R untold after = after ≡ untold
 Acts {X} R missing after = after ≡ missing
 Acts {X} R lent after = after ≡ lent
 Acts {X} R (there object) after = (now : X) × (after ≡ there now) × R object now
 
--- the names asked for were more by these; an outside that tells none goes on so, and one that tells them may stop
+-- the names asked for were more by these; an outside that tells none goes on so, and one that tells
+-- them may stop
 abbrev pub Asks : Option (List (List ℕ)) → Option (List (List ℕ)) → List (List ℕ) → Type 0
 Asks None after names = after ≡ None
 Asks (Some before) after names = (after ≡ None) ⊎ (after ≡ Some (before ++ names))
 
-pub record OpensIn (before after : OutsideTold) (name : List ℕ) (result : Option SourceTold) : Type 0 where
+pub record OpensIn (before after : OutsideTold) (name : List ℕ)
+    (result : Option SourceTold) : Type 0 where
   -- it hands out what stood there
-  pub source : HandsOut (λ source. source.name) (λ source. source.faults) before.sources name (before.sources name) result
+  pub source : HandsOut (λ source. source.name) (λ source. source.faults) before.sources name
+      (before.sources name) result
   -- which is handed out now
   pub sources : Changes lent_from before.sources after.sources name
   pub sinks : after.sinks ≡ before.sinks
@@ -75,16 +86,19 @@ pub record OpensIn (before after : OutsideTold) (name : List ℕ) (result : Opti
 
 pub record ClosesIn (before after : OutsideTold) (source : SourceTold) : Type 0 where
   -- the source stands under its name again
-  pub sources : Changes (λ standing. put_back_at standing source) before.sources after.sources source.name
+  pub sources : Changes (λ standing. put_back_at standing source) before.sources after.sources
+      source.name
   pub sinks : after.sinks ≡ before.sinks
   pub read_names : after.read_names ≡ before.read_names
   pub written_names : after.written_names ≡ before.written_names
   -- the count rises by one exactly where the source had faults
   pub faults : after.faults ≡ counted (nat_lt 0 source.faults) before.faults
 
-pub record OpensOut (before after : OutsideTold) (name : List ℕ) (result : Option SinkTold) : Type 0 where
+pub record OpensOut (before after : OutsideTold) (name : List ℕ)
+    (result : Option SinkTold) : Type 0 where
   -- it hands out what stood there
-  pub sink : HandsOut (λ sink. sink.name) (λ sink. sink.faults) before.sinks name (before.sinks name) result
+  pub sink : HandsOut (λ sink. sink.name) (λ sink. sink.faults) before.sinks name
+      (before.sinks name) result
   -- and it holds nothing back
   pub held : IfSome result (λ sink. sink.held ≡ 0)
   -- which is handed out now

@@ -1,5 +1,5 @@
 -- The places of an outside in memory: a name each, with the object that stands there.
-use Rattle.std.specs.Prelude.{◌≡◌, ℕ, List, [], ◌∷◌, ◌++◌, Option, Some, None, bytes_eq, if◌then◌else◌}
+use Rattle.std.specs.Prelude.{◌≡◌, ℕ, List, [], ◌∷◌, Option, Some, None, bytes_eq, if◌then◌else◌}
 use Rattle.std.specs.Option.{IfSome}
 use Rattle.outside.specs.Outside.{Standing, untold, missing, lent, there, OutsideTold}
 use Rattle.outside.specs.States.{TextState, ByteState, text_told, byte_told}
@@ -12,7 +12,8 @@ at_place {X} (Some object) = there object
 -- what stands under a name
 abbrev pub standing : {X : Type 0} → List (List ℕ × Option X) → List ℕ → Standing X
 standing [] name = missing
-standing (place ∷ places) name = if bytes_eq name place.0 then at_place place.1 else standing places name
+standing (place ∷ places) name =
+    if bytes_eq name place.0 then at_place place.1 else standing places name
 
 -- the object that stands there
 abbrev pub object_there : {X : Type 0} → Standing X → Option X
@@ -29,13 +30,16 @@ told_there {X} {Y} told lent = lent
 told_there {X} {Y} told (there object) = there (told object)
 
 -- the object stands under the name now, and what stands under any other name is as before
-abbrev pub PutsUnder : {X : Type 0} → List (List ℕ × Option X) → List (List ℕ × Option X) → List ℕ → X → Type 0
-PutsUnder before after name object = (n : List ℕ) → standing after n ≡ (if bytes_eq n name then there object else standing before n)
+abbrev pub PutsUnder : {X : Type 0} → List (List ℕ × Option X) → List (List ℕ × Option X) → List ℕ
+    → X → Type 0
+PutsUnder before after name object =
+    (n : List ℕ) → standing after n ≡ (if bytes_eq n name then there object else standing before n)
 
 -- each object bears the name of its place
 abbrev pub AllNamed : {X : Type 0} → (X → List ℕ) → List (List ℕ × Option X) → Type 0
 AllNamed name_of [] = Unit {0}
-AllNamed name_of (place ∷ places) = IfSome place.1 (λ object. name_of object ≡ place.0) × AllNamed name_of places
+AllNamed name_of (place ∷ places) =
+    IfSome place.1 (λ object. name_of object ≡ place.0) × AllNamed name_of places
 
 -- an outside in memory, with the names that it was asked to open
 pub record MemoryState : Type 0 where

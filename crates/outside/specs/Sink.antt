@@ -37,7 +37,8 @@ AppendsAll before after octets = Appends before after octets false
 
 -- a front part of them was taken
 abbrev pub AppendsPart : SinkTold → SinkTold → List ℕ → Bool → Type 0
-AppendsPart before after octets failed = (count : ℕ) × Appends before after (take count octets) failed
+AppendsPart before after octets failed =
+    (count : ℕ) × Appends before after (take count octets) failed
 
 -- the octets that a write took, of its piece
 abbrev pub octets_taken : WriteEnd → List ℕ → List ℕ

@@ -16,7 +16,8 @@ TextResult = Result (Result (Vec ℕ Global) TextEnd) AllocError
 
 -- the text is all that was left, within the limit; too long exactly where more than the limit came
 abbrev pub IsTextOf : List ℕ → Option (List ℕ) → ℕ → TextResult → Type 0
-IsTextOf octets left limit (Ok (Ok text)) = (octets ≡ text.items) × (length octets ≤ limit) × IsSpent left
+IsTextOf octets left limit (Ok (Ok text)) =
+    (octets ≡ text.items) × (length octets ≤ limit) × IsSpent left
 IsTextOf octets left limit (Ok (Err Failed)) = length octets ≤ limit
 IsTextOf octets left limit (Ok (Err Long)) = limit < length octets
 IsTextOf octets left limit (Err out_of_memory) = Unit {0}
@@ -26,7 +27,8 @@ abbrev pub TextEnded : Option Bool → Option Bool → TextResult → Type 0
 TextEnded before after (Ok (Ok text)) = after ≡ option_map (λ _. true) before
 TextEnded before after (Ok (Err Failed)) = after ≡ option_map (λ _. false) before
 TextEnded before after (Ok (Err Long)) = after ≡ option_map (λ _. false) before
-TextEnded before after (Err out_of_memory) = (after ≡ before) ⊎ (after ≡ option_map (λ _. false) before)
+TextEnded before after (Err out_of_memory) =
+    (after ≡ before) ⊎ (after ≡ option_map (λ _. false) before)
 
 -- no read came after the end or a failed read; it isn't said how many came before
 abbrev pub TextCalls : Option Calls → Option Calls → TextResult → Type 0
@@ -43,7 +45,8 @@ is_failed_text (Ok (Err Long)) = false
 is_failed_text (Err out_of_memory) = false
 
 -- what reading a text leaves of a source that gave these octets to it
-pub record ReadsText (before after : SourceTold) (limit : ℕ) (result : TextResult) (octets : List ℕ) : Type 0 where
+pub record ReadsText (before after : SourceTold) (limit : ℕ) (result : TextResult)
+    (octets : List ℕ) : Type 0 where
   -- they came from the front of those left
   pub took : Takes before.left after.left octets
   -- they were added to those given so far

@@ -11,7 +11,8 @@ use std::marker::Model;
 /// So many octets are gathered at most.
 pub const ROOM: usize = 65_536;
 
-/// A sink that gathers what is written to it, and hands it on to its own sink in pieces of up to 65,536 octets.
+/// A sink that gathers what is written to it, and hands it on to its own sink in pieces of up to
+/// 65,536 octets.
 #[derive(Drop)]
 pub struct BufferedSink<K> {
     sink: K,
@@ -75,7 +76,8 @@ impl<K: Sink> BufferedSink<K> {
         end
     }
 
-    /// Hands on all that is gathered, and gives back the sink behind it. What didn't go out after a fault is lost.
+    /// Hands on all that is gathered, and gives back the sink behind it. What didn't go out after a
+    /// fault is lost.
     pub fn finish(self) -> (K, Result<(), SinkFailed>)
         ensures { Finishes (K.told self.0) (K.told result.0) self.1 result.1 }
     {
@@ -88,7 +90,8 @@ impl<K: Sink> BufferedSink<K> {
     fn write_first(&mut self, piece: &[u8]) -> WriteEnd
         requires piece { 0 < length piece.now }
         requires empty { self.old.1 ≡ [] }
-        ensures { Writes (buffered_told (K.told self.old.0) self.old.1) (buffered_told (K.told self.new.0) self.new.1) result piece.now }
+        ensures { Writes (buffered_told (K.told self.old.0) self.old.1)
+            (buffered_told (K.told self.new.0) self.new.1) result piece.now }
     {
         if piece.len() > ROOM {
             return self.sink.write(piece);
@@ -103,8 +106,10 @@ impl<K: Sink> Sink for BufferedSink<K> {
 
     fn write(&mut self, piece: &[u8]) -> WriteEnd
         requires { 0 < length piece.now }
-        ensures writes { Writes (buffered_told (K.told self.old.0) self.old.1) (buffered_told (K.told self.new.0) self.new.1) result piece.now }
-        ensures gathers { length self.old.1 + length piece.now ≤ ROOM → self.new ≡ (self.old.0, self.old.1 ++ piece.now) }
+        ensures writes { Writes (buffered_told (K.told self.old.0) self.old.1)
+            (buffered_told (K.told self.new.0) self.new.1) result piece.now }
+        ensures gathers { length self.old.1 + length piece.now ≤ ROOM
+            → self.new ≡ (self.old.0, self.old.1 ++ piece.now) }
     {
         if piece.len() <= ROOM - self.held() {
             self.gather(piece);

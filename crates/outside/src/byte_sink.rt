@@ -10,7 +10,8 @@ use crate::sink::{Sink, WriteEnd};
 use std::alloc::{AllocError, Global};
 use std::marker::Model;
 
-/// A sink that takes octets as far as its room goes. Its calls are numbered from 0, and some of them fail.
+/// A sink that takes octets as far as its room goes. Its calls are numbered from 0, and some of
+/// them fail.
 #[derive(Drop)]
 pub struct ByteSink {
     taken: Vec<u8>,
@@ -42,7 +43,8 @@ impl Model for ByteSink {
 }
 
 impl ByteSink {
-    /// A sink with room for so many octets, whose calls with these numbers fail. The room is taken here.
+    /// A sink with room for so many octets, whose calls with these numbers fail. The room is taken
+    /// here.
     pub fn new(alloc: Global, room: usize, fails: Vec<u64>) -> Result<Self, AllocError>
         ensures { IfOk result (λ sink. sink ≡ record {
           taken = [];
@@ -88,8 +90,10 @@ impl Sink for ByteSink {
     fn write(&mut self, piece: &[u8]) -> WriteEnd
         requires { 0 < length piece.now }
         ensures writes { Writes (byte_told self.old) (byte_told self.new) result piece.now }
-        ensures fails { (result ≡ WriteEnd.Failed) ↔ (Contains self.old.fails self.old.calls ⊎ (self.old.room ≡ 0)) }
-        ensures fits { (n : ℕ) → result ≡ WriteEnd.Took n → n ≡ min (length piece.now) self.old.room }
+        ensures fails { (result ≡ WriteEnd.Failed)
+            ↔ (Contains self.old.fails self.old.calls ⊎ (self.old.room ≡ 0)) }
+        ensures fits { (n : ℕ) → result ≡ WriteEnd.Took n
+            → n ≡ min (length piece.now) self.old.room }
         ensures room { (n : ℕ) → result ≡ WriteEnd.Took n → self.new.room ≡ self.old.room - n }
         ensures no_room { result ≡ WriteEnd.Failed → self.new.room ≡ self.old.room }
         ensures calls { self.new.calls ≡ next_count self.old.calls }

@@ -15,8 +15,9 @@ use crate::text_source::TextSource;
 use std::alloc::{AllocError, Global};
 use std::marker::Model;
 
-/// An outside whose objects were put there. Opening what wasn't put, or what is handed out, is a fault. It keeps the
-/// names that it was asked to open; once one finds no memory, it tells none of that list.
+/// An outside whose objects were put there. Opening what wasn't put, or what is handed out, is a
+/// fault. It keeps the names that it was asked to open; once one finds no memory, it tells none of
+/// that list.
 #[derive(Drop)]
 pub struct MemoryOutside {
     alloc: Global,
@@ -70,7 +71,8 @@ impl MemoryOutside {
         name: &str,
         source: TextSource,
     ) -> Result<(), AllocError>
-        ensures put { OnOk result (PutsUnder self.old.sources self.new.sources name.now (record source { name = name.now })) }
+        ensures put { OnOk result (PutsUnder self.old.sources self.new.sources name.now
+            (record source { name = name.now })) }
         ensures err { OnErr result (self.new.sources ≡ self.old.sources) }
         ensures others { self.new ≡ record self.old { sources = self.new.sources } }
     {
@@ -81,7 +83,8 @@ impl MemoryOutside {
 
     /// Puts a sink under a name, in the place of what stands there.
     pub fn put_out(&mut self, alloc: Global, name: &str, sink: ByteSink) -> Result<(), AllocError>
-        ensures put { OnOk result (PutsUnder self.old.sinks self.new.sinks name.now (record sink { name = name.now })) }
+        ensures put { OnOk result (PutsUnder self.old.sinks self.new.sinks name.now
+            (record sink { name = name.now })) }
         ensures err { OnErr result (self.new.sinks ≡ self.old.sinks) }
         ensures others { self.new ≡ record self.old { sinks = self.new.sinks } }
     {

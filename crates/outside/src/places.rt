@@ -74,9 +74,11 @@ pub(crate) fn look<'a, X>(places: &'a [Place<X>], name: &str) -> Option<&'a X>
 /// Hands out what stands under the name.
 pub(crate) fn open<X: Named>(places: &mut Vec<Place<X>>, name: &str) -> Option<X>
     ensures object { result ≡ object_there (standing places.old.items name.now) }
-    ensures lent { Changes lent_from (standing places.old.items) (standing places.new.items) name.now }
+    ensures lent { Changes lent_from (standing places.old.items)
+        (standing places.new.items) name.now }
     ensures named { AllNamed X.name_of places.old.items → AllNamed X.name_of places.new.items }
-    ensures name { AllNamed X.name_of places.old.items → IfSome result (λ object. X.name_of object ≡ name.now) }
+    ensures name { AllNamed X.name_of places.old.items
+        → IfSome result (λ object. X.name_of object ≡ name.now) }
 {
     let at = find(places, name)?;
     places[at].hand_out()
@@ -84,7 +86,8 @@ pub(crate) fn open<X: Named>(places: &mut Vec<Place<X>>, name: &str) -> Option<X
 
 /// Puts the object back under its name, if the name is there.
 pub(crate) fn close<X: Named + Drop>(places: &mut Vec<Place<X>>, object: X)
-    ensures closes { Changes (λ s. put_back_at s object) (standing places.old.items) (standing places.new.items) (X.name_of object) }
+    ensures closes { Changes (λ s. put_back_at s object) (standing places.old.items)
+        (standing places.new.items) (X.name_of object) }
     ensures named { AllNamed X.name_of places.old.items → AllNamed X.name_of places.new.items }
 {
     if let Some(at) = find(places, object.name()) {
@@ -101,7 +104,8 @@ pub(crate) fn put<X: Named + Drop>(
 ) -> Result<(), AllocError>
     ensures told { OnOk result (PutsUnder places.old.items places.new.items name.now object) }
     ensures err { OnErr result (places.new.items ≡ places.old.items) }
-    ensures named { OnOk result (AllNamed X.name_of places.old.items → X.name_of object ≡ name.now → AllNamed X.name_of places.new.items) }
+    ensures named { OnOk result (AllNamed X.name_of places.old.items → X.name_of object ≡ name.now
+        → AllNamed X.name_of places.new.items) }
 {
     match find(places, name) {
         Some(at) => places[at].put_back(object),

@@ -41,7 +41,8 @@ impl fmt::Display for SinkFailed {
 
 impl Error for SinkFailed {}
 
-/// Writes all octets, in as many writes as the sink wants. A write that fails is the last. It takes no memory.
+/// Writes all octets, in as many writes as the sink wants. A write that fails is the last. It takes
+/// no memory.
 pub fn write_all<S: Sink>(sink: &mut S, bytes: &[u8]) -> Result<(), SinkFailed>
     ensures { WritesAll (S.told sink.old) (S.told sink.new) bytes.now result }
 {
@@ -53,7 +54,8 @@ pub fn write_all<S: Sink>(sink: &mut S, bytes: &[u8]) -> Result<(), SinkFailed>
 pub(crate) fn write_front<S: Sink>(sink: &mut S, bytes: &[u8]) -> (usize, Result<(), SinkFailed>)
     ensures within { result.0 ≤ length bytes.now }
     ensures whole { OnOk result.1 (result.0 ≡ length bytes.now) }
-    ensures front { Appends (S.told sink.old) (S.told sink.new) (take result.0 bytes.now) (is_err result.1) }
+    ensures front { Appends (S.told sink.old) (S.told sink.new) (take result.0 bytes.now)
+        (is_err result.1) }
 {
     let mut sent = 0;
     while sent < bytes.len() {

@@ -13,7 +13,8 @@ pub enum ReadEnd {
     Failed,
 }
 
-/// Octets that come from outside, such as a file or standard input. After the end and after a fault no read should come.
+/// Octets that come from outside, such as a file or standard input. After the end and after a fault
+/// no read should come.
 pub trait Source {
     /// What it tells of its octets, its calls and its faults.
     ghost told: { Self → SourceTold };

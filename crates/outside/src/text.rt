@@ -17,14 +17,15 @@ pub enum TextEnd {
     Long,
 }
 
-/// Reads all octets that are left, if they are at most `limit`. The end and a fault are the last that it reads, and it
-/// takes at most the limit and one piece.
+/// Reads all octets that are left, if they are at most `limit`. The end and a fault are the last
+/// that it reads, and it takes at most the limit and one piece.
 pub fn read_text<S: Source>(
     alloc: Global,
     source: &mut S,
     limit: u64,
 ) -> Result<Result<Vec<u8>, TextEnd>, AllocError>
-    ensures { (octets : List ℕ) × ReadsText (S.told source.old) (S.told source.new) limit result octets }
+    ensures { (octets : List ℕ) × ReadsText (S.told source.old)
+        (S.told source.new) limit result octets }
 {
     let mut piece = vec![in alloc; 0u8; PIECE]?;
     read_pieces(alloc, source, &mut piece, limit)
@@ -38,7 +39,8 @@ fn read_pieces<S: Source>(
     limit: u64,
 ) -> Result<Result<Vec<u8>, TextEnd>, AllocError>
     requires { length piece.old ≡ PIECE }
-    ensures { (octets : List ℕ) × ReadsText (S.told source.old) (S.told source.new) limit result octets }
+    ensures { (octets : List ℕ) × ReadsText (S.told source.old)
+        (S.told source.new) limit result octets }
 {
     let mut text: Vec<u8> = Vec::new(alloc);
     loop {

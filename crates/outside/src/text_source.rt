@@ -9,7 +9,8 @@ use crate::places::Named;
 use crate::source::{ReadEnd, Source};
 use std::marker::Model;
 
-/// A source that gives its octets as far as they fit. Its calls are numbered from 0, and some of them fail.
+/// A source that gives its octets as far as they fit. Its calls are numbered from 0, and some of
+/// them fail.
 #[derive(Drop)]
 pub struct TextSource {
     octets: Vec<u8>,
@@ -84,7 +85,8 @@ impl Source for TextSource {
         requires { 0 < length buf.old }
         ensures reads { Reads (text_told self.old) (text_told self.new) result buf.new }
         ensures fails { (result ≡ ReadEnd.Failed) ↔ Contains self.old.fails self.old.calls }
-        ensures fits { (n : ℕ) → result ≡ ReadEnd.Got n → n ≡ min (length self.old.left) (length buf.new) }
+        ensures fits { (n : ℕ) → result ≡ ReadEnd.Got n
+            → n ≡ min (length self.old.left) (length buf.new) }
         ensures calls { self.new.calls ≡ next_count self.old.calls }
         ensures script { self.new.fails ≡ self.old.fails }
     {

@@ -10,7 +10,8 @@ use Rattle.outside_real.specs.declared.stream.Stream.{Stream}
 use Rattle.outside_real.specs.declared.stream.Stream.TheVariants.{Standard, File}
 
 abbrev pub source_told : ℕ → SourceTold
-source_told faults = record { left = None; given = None; ended = None; calls = None; faults = faults; name = [] }
+source_told faults =
+    record { left = None; given = None; ended = None; calls = None; faults = faults; name = [] }
 
 abbrev pub sink_told : ℕ → SinkTold
 sink_told faults = record { taken = None; held = 0; calls = None; faults = faults; name = [] }
@@ -34,7 +35,8 @@ abbrev pub is_standard_name : List ℕ → Bool
 is_standard_name name = bytes_eq name (codes "-")
 
 -- an attempt at reading is one at the stream or the file that it is, of which std says this
-abbrev pub reads_stream : {S F : Type 0} → (S → Option (List ℕ)) → (F → Option (List ℕ)) → Stream S F → Stream S F → Result ℕ Error → List ℕ → Type 0
+abbrev pub reads_stream : {S F : Type 0} → (S → Option (List ℕ)) → (F → Option (List ℕ))
+    → Stream S F → Stream S F → Result ℕ Error → List ℕ → Type 0
 reads_stream {S} {F} stream_left file_left (Standard before) (Standard after) outcome buf =
     ReadsAtMost outcome buf × ReadConsumes (stream_left before) (stream_left after) outcome buf
 reads_stream {S} {F} stream_left file_left (File before) (File after) outcome buf =
@@ -43,9 +45,11 @@ reads_stream {S} {F} stream_left file_left (Standard before) (File after) outcom
 reads_stream {S} {F} stream_left file_left (File before) (Standard after) outcome buf = ⊥
 
 -- the same of writing
-abbrev pub writes_stream : {S F : Type 0} → (S → Option (List ℕ)) → (F → Option (List ℕ)) → Stream S F → Stream S F → Result ℕ Error → List ℕ → Type 0
+abbrev pub writes_stream : {S F : Type 0} → (S → Option (List ℕ)) → (F → Option (List ℕ))
+    → Stream S F → Stream S F → Result ℕ Error → List ℕ → Type 0
 writes_stream {S} {F} stream_holds file_holds (Standard before) (Standard after) outcome piece =
-    WritesAtMost outcome piece × WriteAppends (stream_holds before) (stream_holds after) outcome piece
+    WritesAtMost outcome piece × WriteAppends (stream_holds before)
+    (stream_holds after) outcome piece
 writes_stream {S} {F} stream_holds file_holds (File before) (File after) outcome piece =
     WritesAtMost outcome piece × WriteAppends (file_holds before) (file_holds after) outcome piece
 writes_stream {S} {F} stream_holds file_holds (Standard before) (File after) outcome piece = ⊥

@@ -1,5 +1,5 @@
-//! The real outside: files, standard input and standard output. It tells nothing of what they carry; each object
-//! counts its faults.
+//! The real outside: files, standard input and standard output. It tells nothing of what they
+//! carry; each object counts its faults.
 #![tactic(auto)]
 
 mod real_outside;

@@ -12,7 +12,8 @@ use std::marker::Model;
 use std::rt::Files;
 use std::{fs, io};
 
-/// Opens files by their paths. `-` is standard input or standard output. An output file is made, or emptied.
+/// Opens files by their paths. `-` is standard input or standard output. An output file is made, or
+/// emptied.
 #[derive(Drop)]
 pub struct RealOutside<'a, R> {
     runtime: &'a R,
@@ -42,8 +43,10 @@ impl<'a, R: Files + Input + Print> Outside for RealOutside<'a, R> {
     ghost told = { outside_told };
 
     fn open_in(&mut self, name: &str) -> Option<ReadSource<Stream<R::Reader, R::File>>>
-        ensures opens { OpensIn (outside_told self.old) (outside_told self.new) name.now (option_map (λ source. source_told source.1) result) }
-        ensures stream { IfSome result (λ source. is_standard_stream source.0 ≡ is_standard_name name.now) }
+        ensures opens { OpensIn (outside_told self.old) (outside_told self.new) name.now
+            (option_map (λ source. source_told source.1) result) }
+        ensures stream { IfSome result (λ source. is_standard_stream source.0
+            ≡ is_standard_name name.now) }
         ensures standard { IsTrue (is_standard_name name.now) → IsSome result }
     {
         let stream = input(self.runtime, name);
@@ -56,8 +59,10 @@ impl<'a, R: Files + Input + Print> Outside for RealOutside<'a, R> {
     }
 
     fn open_out(&mut self, name: &str) -> Option<WriteSink<Stream<Printer<'a, R>, R::File>>>
-        ensures opens { OpensOut (outside_told self.old) (outside_told self.new) name.now (option_map (λ sink. sink_told sink.1) result) }
-        ensures stream { IfSome result (λ sink. is_standard_stream sink.0 ≡ is_standard_name name.now) }
+        ensures opens { OpensOut (outside_told self.old) (outside_told self.new) name.now
+            (option_map (λ sink. sink_told sink.1) result) }
+        ensures stream { IfSome result (λ sink. is_standard_stream sink.0
+            ≡ is_standard_name name.now) }
         ensures standard { IsTrue (is_standard_name name.now) → IsSome result }
     {
         let stream = output(self.runtime, name);
@@ -76,7 +81,8 @@ impl<'a, R: Files + Input + Print> Outside for RealOutside<'a, R> {
 
 // What is read under a name: None only where the file of that name can't be opened.
 fn input<R: Files + Input>(runtime: &R, name: &str) -> Option<Stream<R::Reader, R::File>>
-    ensures stream { IfSome result (λ stream. is_standard_stream stream ≡ is_standard_name name.now) }
+    ensures stream { IfSome result (λ stream. is_standard_stream stream
+        ≡ is_standard_name name.now) }
     ensures standard { IsTrue (is_standard_name name.now) → IsSome result }
 {
     if is_standard(name) {
@@ -91,7 +97,8 @@ fn output<'a, R: Files + Print>(
     runtime: &'a R,
     name: &str,
 ) -> Option<Stream<Printer<'a, R>, R::File>>
-    ensures stream { IfSome result (λ stream. is_standard_stream stream ≡ is_standard_name name.now) }
+    ensures stream { IfSome result (λ stream. is_standard_stream stream
+        ≡ is_standard_name name.now) }
     ensures standard { IsTrue (is_standard_name name.now) → IsSome result }
 {
     if is_standard(name) {

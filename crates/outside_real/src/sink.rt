@@ -9,8 +9,8 @@ use crate::stream::{WriteAttempt, is_interrupted};
 use outside::{Sink, WriteEnd};
 use std::marker::Model;
 
-/// A sink that tells its faults alone. Each write goes straight out. One that fails, that takes nothing, or that signals
-/// interrupt too often, is a fault.
+/// A sink that tells its faults alone. Each write goes straight out. One that fails, that takes
+/// nothing, or that signals interrupt too often, is a fault.
 #[derive(Drop)]
 pub struct WriteSink<T> {
     output: T,

@@ -9,7 +9,8 @@ use crate::stream::{ReadAttempt, is_interrupted};
 use outside::{ReadEnd, Source};
 use std::marker::Model;
 
-/// A source that tells its faults alone. A read that fails, or that signals interrupt too often, is a fault.
+/// A source that tells its faults alone. A read that fails, or that signals interrupt too often, is
+/// a fault.
 #[derive(Drop)]
 pub struct ReadSource<T> {
     input: T,
@@ -38,7 +39,8 @@ impl<T: ReadAttempt> Source for ReadSource<T> {
     fn read(&mut self, buf: &mut [u8]) -> ReadEnd
         requires { 0 < length buf.old }
         ensures reads { Reads (source_told self.old.1) (source_told self.new.1) result buf.new }
-        ensures attempts { ReadAttempted T.attempt (self.old.0, buf.old) (self.new.0, buf.new) result }
+        ensures attempts { ReadAttempted T.attempt (self.old.0, buf.old)
+            (self.new.0, buf.new) result }
     {
         match try_read(&mut self.input, buf) {
             Some(0) => ReadEnd::End,

@@ -5,13 +5,15 @@ use Rattle.outside.proofs.places.put.Goals as goal
 pub returns-in-Some-clause-told : goal.returns-in-Some-clause-told
 returns-in-Some-clause-told g c =
     let found = rw c.deref.ensures.value at (sym c.find.ensures ∙ c.in-Some.is) in
-    puts_found c.args.name.now c.args.places.now.items c.in-Some.at c.index_mut.result.now c.put_back.new.self c.args.object found
+    puts_found c.args.name.now c.args.places.now.items c.in-Some.at c.index_mut.result.now
+    c.put_back.new.self c.args.object found
     c.index_mut.ensures.value c.put_back.ensures
 
 pub returns-in-Some-clause-named : goal.returns-in-Some-clause-named
 returns-in-Some-clause-named g c =
     λ named bears. let found = rw c.deref.ensures.value at (sym c.find.ensures ∙ c.in-Some.is) in
-    named_found c.args.name.now g.X.Named.name_of c.args.places.now.items c.in-Some.at c.index_mut.result.now c.put_back.new.self
+    named_found c.args.name.now g.X.Named.name_of c.args.places.now.items c.in-Some.at
+    c.index_mut.result.now c.put_back.new.self
     (Some c.args.object) found c.index_mut.ensures.value c.put_back.ensures bears named
 
 pub returns-in_ok-push-in-None-clause-told : goal.returns-in_ok-push-in-None-clause-told
@@ -23,4 +25,5 @@ returns-in_ok-push-in-None-clause-told g c =
 pub returns-in_ok-push-in-None-clause-named : goal.returns-in_ok-push-in-None-clause-named
 returns-in_ok-push-in-None-clause-named g c =
     λ named bears. rw (rw c.in_ok-from_str-in-None.ensures.ok at c.in_ok-push-in-None.ensures.items)
-    (AllNamed-push c.args.name.now g.X.Named.name_of c.args.places.now.items c.args.object named bears)
+    (AllNamed-push c.args.name.now g.X.Named.name_of c.args.places.now.items c.args.object named
+    bears)

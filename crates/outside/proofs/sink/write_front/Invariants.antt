@@ -5,7 +5,8 @@ use Rattle.outside.proofs.sink.write_front.Given as goal
 abbrev pub invariant-loop-sent : goal.invariant-loop-sent
 invariant-loop-sent g l = record {
   in_range : l.sent ≤ length l.bytes;
-  so_far : Appends (g.S.Sink.told l.initial.sink) (g.S.Sink.told l.sink) (take l.sent l.bytes) false;
+  so_far : Appends (g.S.Sink.told l.initial.sink) (g.S.Sink.told l.sink)
+      (take l.sent l.bytes) false;
 }
 
 abbrev pub decreases-loop-sent : goal.decreases-loop-sent

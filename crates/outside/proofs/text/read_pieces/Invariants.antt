@@ -1,6 +1,5 @@
-use Rattle.std.proofs.Common.{◌≡◌, ◌≤◌, ◌-◌, length}
+use Rattle.std.proofs.Common.{◌≤◌, ◌-◌, length}
 use Rattle.outside.proofs.Reading.{HasRead}
-use Rattle.outside.specs.declared.text.TheConstants.{PIECE}
 use Rattle.outside.proofs.text.read_pieces.Given as goal
 
 abbrev pub invariant-loop-count : goal.invariant-loop-count

@@ -2,4 +2,5 @@ use Rattle.outside_real.specs.Attempts.{AreInterrupted}
 use Rattle.outside_real.proofs.sink.try_write.Given as goal
 
 abbrev pub invariant-loop-round : goal.invariant-loop-round
-invariant-loop-round g l = AreInterrupted (g.T.WriteAttempt.attempt l.piece) l._round l.initial.to l.to
+invariant-loop-round g l =
+    AreInterrupted (g.T.WriteAttempt.attempt l.piece) l._round l.initial.to l.to

@@ -9,7 +9,8 @@ returns-in_default-clause-attempts g c =
     elim c.in_default.branch [
       | in_default-via-in-Some+else-count-gt0 w ↦
           inr (
-          attempted_as (g.T.WriteAttempt.attempt c.args.piece.now) c.self.inside.output c.try_write.new.to w.in-Some.count 0
+          attempted_as (g.T.WriteAttempt.attempt c.args.piece.now) c.self.inside.output
+          c.try_write.new.to w.in-Some.count 0
           (omega arith) w.in-Some.ensures.attempts
           )
       | in_default-via-in_default w ↦ inl w.in_default.ensures.attempts

@@ -4,7 +4,8 @@ use Rattle.outside_real.proofs.source.ReadSourceSource.read.Goals as goal
 pub returns-in-Some-eq0-clause-attempts : goal.returns-in-Some-eq0-clause-attempts
 returns-in-Some-eq0-clause-attempts g c =
     rw (← c.self.view_is) (
-    attempted_as g.T.ReadAttempt.attempt (c.self.inside.input, c.args.buf.now) (c.try_read.new.from, c.try_read.new.buf)
+    attempted_as g.T.ReadAttempt.attempt (c.self.inside.input, c.args.buf.now)
+    (c.try_read.new.from, c.try_read.new.buf)
     c.in-Some-eq0.field-0 0 c.in-Some-eq0.field-0-test c.in-Some-eq0.ensures.attempts
     )
 
