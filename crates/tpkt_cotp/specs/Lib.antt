@@ -9,3 +9,5 @@ pub mod Seen
 pub mod Lines
 pub mod Steps
 pub mod Written
+pub mod Runs
+pub mod Faults

@@ -1,5 +1,4 @@
 -- A message as contracts see it.
-use Rattle.std.specs.Prelude.{ℕ, List}
 use Rattle.tpkt_cotp.specs.declared.message.TransportIn.{TransportIn}
 use Rattle.tpkt_cotp.specs.declared.message.TransportIn.TheVariants as inputs
 use Rattle.tpkt_cotp.specs.Streams.{Message, asks, confirms, gone, tsdu}

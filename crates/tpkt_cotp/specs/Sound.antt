@@ -1,5 +1,5 @@
 -- Selectors that are read have their length.
-use Rattle.std.specs.Prelude.{ℕ, IfSome}
+use Rattle.std.specs.Prelude.{IfSome}
 use Rattle.tpkt_cotp.specs.declared.tpdu.Parameters.{Parameters}
 use Rattle.tpkt_cotp.specs.Selectors.{IsSelector}
 use Rattle.tpkt_cotp.specs.Tpdus.{Tpdu, request, confirm, disconnect, part}

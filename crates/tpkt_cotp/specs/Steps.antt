@@ -1,10 +1,10 @@
 -- One TPKT more.
-use Rattle.std.specs.Prelude.{◌≡◌, ℕ, ◌+◌, ◌≤◌, ◌<◌, List, [], ◌∷◌, ◌++◌, length, drop, Option, Some, None, Result, Ok, Err}
+use Rattle.std.specs.Prelude.{◌≡◌, ◌+◌, ◌≤◌, [], length, drop, Some, None, Ok, Err}
 use Rattle.tpkt_cotp.specs.declared.fault.CotpFault.{CotpFault}
 use Rattle.tpkt_cotp.specs.declared.transport.Step.{Step}
 use Rattle.tpkt_cotp.specs.declared.transport.Step.TheVariants as steps
 use Rattle.tpkt_cotp.specs.declared.turn.Turn.TheVariants as turns
-use Rattle.tpkt_cotp.specs.Tpdus.{Tpdu, Tpkt}
+use Rattle.tpkt_cotp.specs.Tpdus.{Tpkt}
 use Rattle.tpkt_cotp.specs.Readings.{tpkt_in}
 use Rattle.tpkt_cotp.specs.Streams.{Message, capped, message_of, part_after}
 use Rattle.tpkt_cotp.specs.Seen.{message_seen}
@@ -12,10 +12,21 @@ use Rattle.tpkt_cotp.specs.Lines.{Line}
 
 -- where the line stands behind a TPKT
 abbrev pub behind_part : Line → Tpkt → Line
-behind_part t p = record t { turn = turns.Transfer; place = capped (t.place + p.size); held = part_after t.held p.tpdu; unread = drop p.size t.unread }
+behind_part t p = record t {
+  turn = turns.Transfer;
+  place = capped (t.place + p.size);
+  held = part_after t.held p.tpdu;
+  unread = drop p.size t.unread;
+}
 
 abbrev pub behind_message : Line → Tpkt → Line
-behind_message t p = record t { turn = turns.Transfer; place = capped (t.place + p.size); start = capped (t.place + p.size); held = []; unread = drop p.size t.unread }
+behind_message t p = record t {
+  turn = turns.Transfer;
+  place = capped (t.place + p.size);
+  start = capped (t.place + p.size);
+  held = [];
+  unread = drop p.size t.unread;
+}
 
 pub record StepsPart (old new : Line) : Type 0 where
   pub tpkt : Tpkt

@@ -1,5 +1,6 @@
 -- What a stream says, and where it stops: messages as they stand in TPKTs, one after another.
-use Rattle.std.specs.Prelude.{◌≡◌, ℕ, ◌+◌, ◌-◌, ◌^◌, ◌<◌, ◌≤◌, Bool, true, false, List, [], ◌∷◌, ◌++◌, length, flat_map, Option, Some, None, Ok, Err, min}
+use Rattle.std.specs.Prelude.{◌≡◌, ℕ, ◌+◌, ◌-◌, ◌^◌, ◌<◌, ◌≤◌, true, false, List, [], ◌∷◌, ◌++◌}
+use Rattle.std.specs.Prelude.{length, flat_map, Option, Some, None, min}
 use Rattle.std.specs.List.{AllByRecursion}
 use Rattle.tpkt_cotp.specs.declared.fault.CotpFault.{CotpFault}
 use Rattle.tpkt_cotp.specs.declared.limits.TheConstants.{TSDU_LIMIT}
@@ -10,7 +11,7 @@ use Rattle.tpkt_cotp.specs.declared.turn.Turn.{Turn}
 use Rattle.tpkt_cotp.specs.declared.turn.Turn.TheVariants as turns
 use Rattle.tpkt_cotp.specs.Turns.{may_come}
 use Rattle.tpkt_cotp.specs.Tpdus.{Tpdu, request, confirm, disconnect, part, kind, SpellsTpkt}
-use Rattle.tpkt_cotp.specs.Readings.{tpkt_in}
+use Rattle.tpkt_cotp.specs.Faults.{TpktFault}
 
 pub data Message : Type 0 where
   asks : ConnectRequest → Message
@@ -45,9 +46,11 @@ pub record Opens (turn : Turn) (sections : List Section) (octets rest : List ℕ
   pub within : length (held_of sections) ≤ TSDU_LIMIT
   pub is : octets ≡ octets_of sections ++ rest
 
--- a TPDU may come after so many octets of a TSDU: a part may not pass the limit, nor end an empty TSDU
+-- a TPDU may come after so many octets of a TSDU: a part may not pass the limit, nor end an empty
+-- TSDU
 abbrev pub Fits : ℕ → Tpdu → Type 0
-Fits total (part last held) = (total + length held ≤ TSDU_LIMIT) × (last ≡ true → 0 < total + length held)
+Fits total (part last held) = (total + length held ≤ TSDU_LIMIT)
+    × (last ≡ true → 0 < total + length held)
 Fits total _ = Unit {0}
 
 pub record Comes (turn : Turn) (total : ℕ) (tpdu : Tpdu) : Type 0 where
@@ -83,12 +86,16 @@ pub record BreaksRule (turn : Turn) (at : ℕ) (octets : List ℕ) (f : CotpFaul
   pub rest : List ℕ
   pub opens : Opens turn sections octets rest
   pub broken : CotpFault
-  pub breaks : tpkt_in turn (length (held_of sections)) rest ≡ Err broken
-  pub is : f ≡ record { place = capped (at + length (octets_of sections) + broken.place); why = broken.why }
+  pub breaks : TpktFault turn (length (held_of sections)) rest broken
+  pub is : f ≡ record {
+    place = capped (at + length (octets_of sections) + broken.place);
+    why = broken.why;
+  }
 
 -- no whole message stands at the front, and no rule is broken so far
 pub record IsRest (turn : Turn) (at : ℕ) (octets : List ℕ) : Type 0 where
-  pub no_message : (message : Message) (first more : List ℕ) → octets ≡ first ++ more → SpellsMessage turn at message first → ⊥
+  pub no_message : (message : Message) (first more : List ℕ) → octets ≡ first ++ more
+      → SpellsMessage turn at message first → ⊥
   pub no_fault : (f : CotpFault) → BreaksRule turn at octets f → ⊥
 
 -- what comes after these messages
@@ -99,19 +106,23 @@ turn_after turn (_ ∷ _) = turns.Transfer
 -- the octets from a place on are these messages, one after another
 abbrev pub SpellsMessages : Turn → ℕ → List Message → List ℕ → Type 0
 SpellsMessages turn at [] octets = octets ≡ []
-SpellsMessages turn at (m ∷ ms) octets = (first : List ℕ) × (more : List ℕ) × (octets ≡ first ++ more) × SpellsMessage turn at m first × SpellsMessages turns.Transfer (at + length first) ms more
+SpellsMessages turn at (m ∷ ms) octets = (first : List ℕ) × (more : List ℕ)
+    × (octets ≡ first ++ more) × SpellsMessage turn at m first
+    × SpellsMessages turns.Transfer (at + length first) ms more
 
 -- the stream so far is these messages, and then a rest that isn't whole and breaks no rule
-pub record Says (role : Role) (octets : List ℕ) (messages : List Message) (rest : List ℕ) : Type 0 where
-  pub whole : List ℕ
-  pub is : octets ≡ whole ++ rest
-  pub spelled : SpellsMessages (turns.Opening role) 0 messages whole
-  pub remains : IsRest (turn_after (turns.Opening role) messages) (length whole) rest
+pub record Says (role : Role) (octets : List ℕ) (messages : List Message) (rest : List ℕ) : Type 0
+  where
+    pub whole : List ℕ
+    pub is : octets ≡ whole ++ rest
+    pub spelled : SpellsMessages (turns.Opening role) 0 messages whole
+    pub remains : IsRest (turn_after (turns.Opening role) messages) (length whole) rest
 
 -- the stream so far is these messages, and then breaks a rule
-pub record Stops (role : Role) (octets : List ℕ) (messages : List Message) (f : CotpFault) : Type 0 where
-  pub whole : List ℕ
-  pub rest : List ℕ
-  pub is : octets ≡ whole ++ rest
-  pub spelled : SpellsMessages (turns.Opening role) 0 messages whole
-  pub breaks : BreaksRule (turn_after (turns.Opening role) messages) (length whole) rest f
+pub record Stops (role : Role) (octets : List ℕ) (messages : List Message) (f : CotpFault) : Type 0
+  where
+    pub whole : List ℕ
+    pub rest : List ℕ
+    pub is : octets ≡ whole ++ rest
+    pub spelled : SpellsMessages (turns.Opening role) 0 messages whole
+    pub breaks : BreaksRule (turn_after (turns.Opening role) messages) (length whole) rest f

@@ -8,9 +8,13 @@ use Rattle.tpkt_cotp.specs.declared.turn.Kind.TheVariants as kinds
 
 -- E0 CR, D0 CC, 80 DR, F0 DT
 abbrev pub kind_of : ℕ → Option Kind
-kind_of code = if code == 224 then Some kinds.Request else (if code == 208 then Some kinds.Confirm else (if code == 128 then Some kinds.Disconnect else (if code == 240 then Some kinds.Part else None)))
+kind_of code = if code == 224 then Some kinds.Request else
+    (if code == 208 then Some kinds.Confirm else
+    (if code == 128 then Some kinds.Disconnect else
+    (if code == 240 then Some kinds.Part else None)))
 
--- the called end takes one CR; the calling end one CC or DR; a reader of either end one CR or CC; then come DTs and DRs
+-- the called end takes one CR; the calling end one CC or DR; a reader of either end one CR or CC;
+-- then come DTs and DRs
 abbrev pub may_come : Turn → Kind → Bool
 may_come (turns.Opening roles.Called) kinds.Request = true
 may_come (turns.Opening roles.Calling) kinds.Confirm = true

@@ -1,12 +1,14 @@
 -- What the writers write (RFC 1006, section 6; ISO 8073, 13).
-use Rattle.std.specs.Prelude.{◌≡◌, ℕ, ◌+◌, ◌-◌, ◌*◌, ◌/◌, ◌%◌, ◌<◌, ◌≤◌, Bool, true, false, List, [], ◌∷◌, ◌++◌, length, flat_map, Option, Some, None, min, if◌then◌else◌}
+use Rattle.std.specs.Prelude.{◌≡◌, ℕ, ◌+◌, ◌-◌, ◌/◌, ◌%◌, ◌<◌, ◌≤◌, Bool, true, false, List, []}
+use Rattle.std.specs.Prelude.{◌∷◌, ◌++◌, length, flat_map, Option, Some, None, min, if◌then◌else◌}
 use Rattle.std.specs.List.{AllByRecursion}
 use Rattle.tpkt_cotp.specs.declared.tpdu.Parameters.{Parameters}
 use Rattle.tpkt_cotp.specs.declared.tpdu.ConnectRequest.{ConnectRequest}
 
 -- TPDUs of 1,024 octets, this calling selector, and the called selector 00 01
 abbrev pub request_octets : ℕ → List ℕ
-request_octets calling = 3 ∷ 0 ∷ 0 ∷ 22 ∷ 17 ∷ 224 ∷ 0 ∷ 0 ∷ 0 ∷ 1 ∷ 0 ∷ 192 ∷ 1 ∷ 10 ∷ 193 ∷ 2 ∷ calling / 256 ∷ calling % 256 ∷ 194 ∷ 2 ∷ 0 ∷ 1 ∷ []
+request_octets calling = 3 ∷ 0 ∷ 0 ∷ 22 ∷ 17 ∷ 224 ∷ 0 ∷ 0 ∷ 0 ∷ 1 ∷ 0 ∷ 192 ∷ 1 ∷ 10 ∷ 193 ∷ 2
+    ∷ calling / 256 ∷ calling % 256 ∷ 194 ∷ 2 ∷ 0 ∷ 1 ∷ []
 
 -- TPDUs of at most 1,024 octets
 abbrev pub size_octets : Option ℕ → List ℕ
@@ -18,7 +20,8 @@ selector_octets code None = []
 selector_octets code (Some octets) = code ∷ length octets ∷ octets
 
 abbrev pub answer_octets : Parameters → List ℕ
-answer_octets p = size_octets p.size ++ selector_octets 193 p.calling ++ selector_octets 194 p.called
+answer_octets p = size_octets p.size ++ selector_octets 193 p.calling ++ selector_octets 194
+    p.called
 
 -- the answer to an offer, so long with its parameters
 abbrev pub confirm_head : ℕ → ℕ → List ℕ
@@ -26,7 +29,8 @@ confirm_head source n = 3 ∷ 0 ∷ 0 ∷ n ∷ (n - 5) ∷ 208 ∷ source / 256
 
 -- the offer's source as target, the source 1, class 0, and its parameters as far as they are taken
 abbrev pub confirm_octets : ConnectRequest → List ℕ
-confirm_octets offer = confirm_head offer.source (11 + length (answer_octets offer.parameters)) ++ answer_octets offer.parameters
+confirm_octets offer = confirm_head offer.source (11 + length (answer_octets offer.parameters)) ++
+    answer_octets offer.parameters
 
 -- a part of a TSDU in a DT
 abbrev pub part_head : Bool → ℕ → List ℕ

@@ -1,5 +1,5 @@
 //! The transport over a stream that comes in any pieces: octets in, whole messages out.
-ghost use Rattle.std.specs.Prelude.{◌≡◌, ℕ, ◌+◌, ◌≤◌, ◌<◌, List, [], ◌++◌, length, IfOk, OnOk, OnErr};
+ghost use Rattle.std.specs.Prelude.{◌≡◌, ℕ, ◌+◌, ◌≤◌, ◌<◌, List, [], ◌++◌, length, IfOk, OnOk, OnErr, OnSome};
 ghost use Rattle.tpkt_cotp.specs.declared.turn.Role.{Role};
 ghost use Rattle.tpkt_cotp.specs.Streams.{Message, capped};
 ghost use Rattle.tpkt_cotp.specs.Lines.{Line, IsSettled, HoldsFew, Stands, Answers, fed};
@@ -142,6 +142,8 @@ impl Transport {
         // Nothing is lost: it still stands where it stood.
         ensures err { (role : Role) (heard : List ℕ) (given : List Message) → Stands role heard given self.old
             → OnErr result (Stands role heard given self.new) }
+        ensures shorter { IfOk result (λ answer. IfOk answer (λ message. OnSome message
+            (length self.new.unread < length self.old.unread))) }
     {
         if let Some(fault) = self.fault {
             return Ok(Err(fault));
