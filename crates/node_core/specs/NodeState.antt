@@ -11,4 +11,7 @@ pub record NodeState : Type 0 where
 
 -- the node with one more entry in its history
 abbrev pub with_entry : NodeState → ℕ → EventKind → NodeState
-with_entry node who event = record node { history = node.history ++ record { who = who; event = event } ∷ [] }
+with_entry node who event = record node {
+  history = node.history
+      ++ record { who = who; event = event } ∷ [];
+}

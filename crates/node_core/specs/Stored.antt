@@ -8,18 +8,22 @@ use Rattle.tase_views.specs.History.{Past, opens_in, association_in}
 use Rattle.node_core.specs.declared.store.Store.{Store}
 use Rattle.node_core.specs.LastValues.{last_value, change_total}
 
--- the centre is lawful; each point's value and count of changes, each peer's count of opens, and each seat's association are those of this past
-pub record IsStored (rows : CentreRows) (past : Past) (values : List Sample) (counts opens : List ℕ) (found : ℕ → Option Key) : Type 0 where
+-- the centre is lawful; each point's value and count of changes, each peer's count of opens, and
+-- each seat's association are those of this past
+pub record IsStored (rows : CentreRows) (past : Past) (values : List Sample) (counts opens : List ℕ)
+    (found : ℕ → Option Key) : Type 0 where
   pub lawful : IsCentre rows
   pub value_count : length values ≡ length rows.points
   pub count_count : length counts ≡ length rows.points
   pub open_count : length opens ≡ length rows.tables
   pub last : (p : ℕ) → p < length rows.points → slice_get values p ≡ Some (last_value rows past p)
-  pub changed : (p : ℕ) → p < length rows.points → slice_get counts p ≡ Some (change_total rows past p % 65536)
+  pub changed : (p : ℕ) → p < length rows.points
+      → slice_get counts p ≡ Some (change_total rows past p % 65536)
   pub opened : (p : ℕ) → p < length rows.tables → slice_get opens p ≡ Some (opens_in past p)
   pub seated : (who : ℕ) → found who ≡ association_in past who
   pub known : (who : ℕ) (key : Key) → found who ≡ Some key → key.peer < length rows.tables
 
 -- what the store of a node with this past holds
 abbrev pub Keeps : CentreRows → Past → Store → Type 0
-Keeps rows past store = IsStored rows past store.values.items store.counts.items store.opens.items (get nat_eq store.associations)
+Keeps rows past store = IsStored rows past store.values.items store.counts.items store.opens.items
+    (get nat_eq store.associations)

@@ -1,7 +1,9 @@
-ghost use Rattle.std.specs.Prelude.{◌≡◌, ◌<◌, ◌≤◌, ◌^◌, [], length, reverse, slice_get, None, IfOk, IfErr, OnOk, OnErr};
+ghost use Rattle.std.specs.Prelude.{◌≡◌, ◌<◌, ◌≤◌, ◌^◌, [], length, reverse, slice_get, None, IfOk};
+ghost use Rattle.std.specs.Prelude.{IfErr, OnOk, OnErr};
 ghost use Rattle.std.specs.Arc.{arc_value};
 ghost use Rattle.tase_views.specs.declared.call.CallKind.{CallKind as AnyCall};
 ghost use Rattle.tase_views.specs.declared.event.EventKind.TheVariants.{Request, Update, Open};
+ghost use Rattle.tase_views.specs.Setup.{Setup};
 ghost use Rattle.tase_views.specs.OwnTable.{own_table};
 ghost use Rattle.tase_views.specs.View.{view_of};
 ghost use Rattle.tase_views.specs.Answers.{outcome_of, outcomes_of};
@@ -19,11 +21,12 @@ use std::marker::Model;
 use std::sync::Arc;
 use tase_points::PointValue;
 use tase_views::{
-    Answer, Call, CallKind, Entry, Event, EventKind, OBJECT_NON_EXISTENT, Reply, ReplyKind, Results,
-    StepFault,
+    Answer, Call, CallKind, Entry, Event, EventKind, OBJECT_NON_EXISTENT, Reply, ReplyKind,
+    Results, StepFault,
 };
 
-/// A TASE.2 node without input and output: its centre's tables and the history of its accepted events.
+/// A TASE.2 node without input and output: its centre's tables and the history of its accepted
+/// events.
 #[derive(Drop)]
 pub struct Node {
     centre: Arc<Centre>,
@@ -40,18 +43,21 @@ impl Model for Node {
 
     ghost Value = { NodeState };
 
-    ghost view = { λ n. record { setup = record { centre = arc_value n.centre; limit = n.limit }; history = n.history.items } };
+    ghost view = { λ n. record {
+      setup = record { centre = arc_value n.centre; limit = n.limit };
+      history = n.history.items;
+    } };
 
     ghost invariant = { λ n. Keeps (arc_value n.centre) (reverse n.history.items) n.store };
 }
 
 impl Node {
-    /// A node of this centre with an empty history. The limit on the history's weight is kept, and refuses
-    /// nothing yet.
+    /// A node of this centre with an empty history. The limit on the history's weight is kept, and
+    /// refuses nothing yet.
     pub fn new(alloc: Global, centre: Arc<Centre>, limit: u64) -> Result<Node, AllocError>
         requires { limit ≤ 2 ^ 31 }
-        ensures { IfOk result (λ node. node
-            ≡ record { setup = record { centre = arc_value centre; limit = limit }; history = [] }) }
+        ensures { let setup : Setup = record { centre = arc_value centre; limit = limit } in
+            IfOk result (λ node. node ≡ record { setup = setup; history = [] }) }
     {
         let store = Store::new(alloc, &centre)?;
         Ok(Node {
@@ -62,7 +68,8 @@ impl Node {
         })
     }
 
-    /// Takes one event of a seat. An answer adds exactly this entry to the history; a fault changes nothing.
+    /// Takes one event of a seat. An answer adds exactly this entry to the history; a fault changes
+    /// nothing.
     pub fn step(&mut self, alloc: Global, who: u64, event: Event) -> Result<Answer, StepFault>
         ensures right { IsRightOutcome self.old.setup (reverse self.old.history) who event result }
         ensures ok { OnOk result (self.new ≡ with_entry self.old who event) }
@@ -160,7 +167,8 @@ impl Node {
     fn reply_to(&self, alloc: Global, who: u64, call: &Call) -> Result<Reply, StepFault>
         ensures ok { IfOk result (λ reply.
             (refusal_of self.now.setup (reverse self.now.history) who (Request call.now) ≡ None)
-            × IsAnswer self.now.setup (reverse self.now.history) who (Request call.now) (Answer.Reply reply)) }
+            × IsAnswer self.now.setup (reverse self.now.history) who (Request call.now)
+            (Answer.Reply reply)) }
         ensures err { IfErr result (IsRefusal
             (refusal_of self.now.setup (reverse self.now.history) who (Request call.now))) }
     {
@@ -179,7 +187,8 @@ impl Node {
     fn read(&self, alloc: Global, key: Key, names: &Names) -> Result<Results, AllocError>
         requires { key.peer < length self.now.setup.centre.tables }
         ensures { let rows = self.now.setup.centre in IfOk result (λ results. results
-            ≡ outcomes_of (own_table rows key.peer) (view_of rows key.peer (reverse self.now.history))
+            ≡ outcomes_of (own_table rows key.peer)
+            (view_of rows key.peer (reverse self.now.history))
             key.ordinal names.now) }
     {
         let mut results = Results::new(alloc);
@@ -193,7 +202,8 @@ impl Node {
     fn read_one(&self, alloc: Global, key: Key, name: &Name) -> Result<Outcome, AllocError>
         requires { key.peer < length self.now.setup.centre.tables }
         ensures { let rows = self.now.setup.centre in IfOk result (λ outcome. outcome
-            ≡ outcome_of (own_table rows key.peer) (view_of rows key.peer (reverse self.now.history))
+            ≡ outcome_of (own_table rows key.peer)
+            (view_of rows key.peer (reverse self.now.history))
             key.ordinal name.now) }
     {
         let Some(see) = find_named(&self.centre, key.peer, name) else {

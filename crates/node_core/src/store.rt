@@ -1,4 +1,5 @@
-ghost use Rattle.std.specs.Prelude.{if◌then◌else◌, ◌≡◌, ◌+◌, ◌%◌, ◌^◌, ◌<◌, [], ◌∷◌, map, slice_get, slice_index, IfOk, OnErr, vec_len};
+ghost use Rattle.std.specs.Prelude.{if◌then◌else◌, ◌≡◌, ◌+◌, ◌%◌, ◌^◌, ◌<◌, [], ◌∷◌, map};
+ghost use Rattle.std.specs.Prelude.{slice_get, slice_index, IfOk, OnErr, vec_len};
 ghost use Rattle.tase_points.specs.Values.{is_change, unknown_sample};
 ghost use Rattle.bilateral.specs.Rows.{CentreRows};
 ghost use Rattle.tase_views.specs.declared.event.EventKind.TheVariants.{Open, Update};
@@ -41,7 +42,8 @@ impl Store {
 
     /// The open association of a seat.
     pub fn association(&self, who: u64) -> Option<Key>
-        ensures { (rows : CentreRows) (past : Past) → Keeps rows past self.now → result ≡ association_in past who }
+        ensures { (rows : CentreRows) (past : Past) → Keeps rows past self.now
+            → result ≡ association_in past who }
     {
         self.associations.get(&who).copied()
     }
@@ -66,10 +68,13 @@ impl Store {
     pub fn open(&mut self, who: u64, peer: u32) -> Result<Key, AllocError>
         requires known { peer < vec_len self.old.opens }
         requires room { slice_index self.old.opens.items peer + 1 < 2 ^ 64 }
-        ensures ok { IfOk result (λ key. (rows : CentreRows) (past : Past) → Keeps rows past self.old
+        ensures ok { IfOk result (λ key. (rows : CentreRows) (past : Past)
+            → Keeps rows past self.old
             → Keeps rows (record { who = who; event = Open peer } ∷ past) self.new) }
-        ensures key { IfOk result (λ key. key ≡ record { peer = peer; ordinal = slice_index self.old.opens.items peer }) }
-        ensures err { OnErr result ((rows : CentreRows) (past : Past) → Keeps rows past self.old → Keeps rows past self.new) }
+        ensures key { IfOk result (λ key. key
+            ≡ record { peer = peer; ordinal = slice_index self.old.opens.items peer }) }
+        ensures err { OnErr result ((rows : CentreRows) (past : Past) → Keeps rows past self.old
+            → Keeps rows past self.new) }
     {
         let place = peer as usize;
         let key = Key {
@@ -95,7 +100,8 @@ impl Store {
 }
 
 fn unknown_values(alloc: Global, centre: &Centre) -> Result<Vec<PointValue>, AllocError>
-    ensures { IfOk result (λ values. values.items ≡ map (λ row. unknown_sample row.kind) centre.now.points) }
+    ensures { IfOk result (λ values. values.items
+        ≡ map (λ row. unknown_sample row.kind) centre.now.points) }
 {
     let mut values = Vec::new(alloc);
     for point in 0..centre.points() {

@@ -5,10 +5,16 @@ use std::alloc::Global;
 use std::sync::Arc;
 use std::test::Fail;
 use tase_points::{Body, PointValue};
-use tase_views::{Answer, Event, EventKind, StepFault, read_call, spell_reply};
+use tase_views::{Answer, Event, EventKind, read_call, spell_reply};
 
-const TABLES: &str =
-    "point BUS1 state\npoint LOAD1 discrete\npeer A 1.1.999.1 DOMA TBLA\nsee BUS1 domain value\npeer B 1.1.999.2 DOMB TBLB\nsee BUS1 vmd value,cov\nsee LOAD1 domain value,flags\n";
+const TABLES: &str = "point BUS1 state
+point LOAD1 discrete
+peer A 1.1.999.1 DOMA TBLA
+see BUS1 domain value
+peer B 1.1.999.2 DOMB TBLB
+see BUS1 vmd value,cov
+see LOAD1 domain value,flags
+";
 
 fn new_node(alloc: Global) -> Result<Node, Fail> {
     let centre = read_centre(alloc, TABLES.as_bytes())?.map_err(|_| "bad tables")?;
@@ -51,34 +57,5 @@ fn two_peers_read_one_point(rt: HostRuntime) -> Result<(), Fail> {
     assert_eq!(rt; node.history_len(), 5);
     assert!(rt; node.entry(4)?.is_some());
     assert_eq!(rt; node.centre().peers(), 2);
-    Ok(())
-}
-
-#[test]
-fn events_are_refused(rt: HostRuntime) -> Result<(), Fail> {
-    let alloc = rt.alloc();
-    let mut node = new_node(alloc)?;
-    node.step(alloc, 1, Event::new(EventKind::Open { peer: 0 }))?;
-    let value = PointValue::new(Body::Discrete(5), 0, 0, 0);
-    for (who, kind, fault) in [
-        (1, EventKind::Open { peer: 1 }, StepFault::Already),
-        (2, EventKind::Open { peer: 2 }, StepFault::UnknownName),
-        (
-            0,
-            EventKind::Update { point: 2, value },
-            StepFault::UnknownName,
-        ),
-        (
-            0,
-            EventKind::Update { point: 0, value },
-            StepFault::UnknownName,
-        ),
-    ] {
-        match node.step(alloc, who, Event::new(kind)) {
-            Err(found) => assert_eq!(rt; found, fault),
-            Ok(_) => return Err(Fail::from("not refused")),
-        }
-    }
-    assert_eq!(rt; node.history_len(), 1);
     Ok(())
 }

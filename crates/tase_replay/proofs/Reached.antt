@@ -1,5 +1,6 @@
 -- How far a play has come, and how a line takes it further or ends it.
-use Rattle.std.proofs.Common.{◌≡◌, ℕ, Bool, true, false, List, [], ◌∷◌, ◌++◌, reverse, Option, refl, sym, ap, ◌∙◌, subst, append_assoc}
+use Rattle.std.proofs.Common.{◌≡◌, ℕ, Bool, true, false, List, [], ◌∷◌, ◌++◌, reverse, refl}
+use Rattle.std.proofs.Common.{sym, ap, ◌∙◌, subst, append_assoc}
 use Rattle.std.specs.List.{flat_map}
 use Rattle.std.proofs.lemmas.List.{append-nil}
 use Rattle.std.proofs.lemmas.Grind.{flat_map-append}
@@ -7,10 +8,13 @@ use Rattle.outside.specs.Sink.{SinkTold}
 use Rattle.tase_views.specs.declared.event.Entry.{Entry}
 use Rattle.tase_views.specs.History.{Past}
 use Rattle.tase_replay.specs.declared.playing.ReplayEnd.{ReplayEnd}
-use Rattle.tase_replay.specs.declared.playing.ReplayEnd.TheVariants.{Done, BadLine, SinkFault, Memory}
-use Rattle.tase_replay.specs.Play.{Step, Meaning, bad, gives, Taken, done, bad_line, Played, past_after, play_line, ends_there, steps_of, entries_in}
+use Rattle.tase_replay.specs.declared.playing.ReplayEnd.TheVariants.{Done, BadLine, SinkFault}
+use Rattle.tase_replay.specs.declared.playing.ReplayEnd.TheVariants.{Memory}
+use Rattle.tase_replay.specs.Play.{Step, Meaning, bad, gives, Taken, done, bad_line, Played}
+use Rattle.tase_replay.specs.Play.{past_after, play_line, ends_there, steps_of, entries_in}
 use Rattle.tase_replay.specs.Ends.{TakesAll, TakesPart, IsPlayed}
-use Rattle.tase_replay.proofs.Taking.{TakesAll-none, TakesAll-append, TakesPart-append, TakesPart-front}
+use Rattle.tase_replay.proofs.Taking.{TakesAll-none, TakesAll-append, TakesPart-append}
+use Rattle.tase_replay.proofs.Taking.{TakesPart-front}
 use Rattle.node_core.proofs.Outcomes.{reverse_push}
 
 abbrev pub steps_in : List Taken → List Step
@@ -21,28 +25,42 @@ abbrev pub continued : List Taken → Played → Played
 continued lines rest = record { taken = lines ++ rest.taken; end = rest.end }
 
 -- the lines taken so far, and then those of the rest, are all
-pub record Reached (all rest : Played) (history now : List Entry) (before after : SinkTold) : Type 0 where
+pub record Reached (all rest : Played) (history now : List Entry)
+    (before after : SinkTold) : Type 0 where
   pub lines : List Taken
   pub whole : all ≡ continued lines rest
   pub takes : TakesAll (steps_in lines) history now before after
 
-pub Reached-none : (all : Played) (history : List Entry) (sink : SinkTold) → Reached all all history history sink sink
-Reached-none all history sink = record { lines = []; whole = refl; takes = TakesAll-none history sink }
+pub Reached-none : (all : Played) (history : List Entry) (sink : SinkTold)
+    → Reached all all history history sink sink
+Reached-none all history sink = record {
+  lines = [];
+  whole = refl;
+  takes =
+      TakesAll-none history sink;
+}
 
-steps_of-continued : (all rest : Played) (lines : List Taken) → all ≡ continued lines rest → steps_of all ≡ steps_in lines ++ steps_of rest
+steps_of-continued : (all rest : Played) (lines : List Taken) → all ≡ continued lines rest
+    → steps_of all ≡ steps_in lines ++ steps_of rest
 steps_of-continued all rest lines whole =
-    ap (λ (played : Played). steps_of played) whole ∙ flat_map-append (λ (taken : Taken). taken.steps) lines rest.taken
+    ap (λ (played : Played). steps_of played) whole
+    ∙ flat_map-append (λ (taken : Taken). taken.steps) lines rest.taken
 
 -- at the end of the lines
-pub Reached-end : (all : Played) (past : Past) (history now : List Entry) (before after : SinkTold) → Reached all (ends_there past) history now before after
+pub Reached-end : (all : Played) (past : Past) (history now : List Entry) (before after : SinkTold)
+    → Reached all (ends_there past) history now before after
     → IsPlayed all history now before after Done
 Reached-end all past history now before after reached =
-    let same : steps_of all ≡ steps_in reached.lines = steps_of-continued all (ends_there past) reached.lines reached.whole ∙ append-nil (steps_in reached.lines) in (
+    let same : steps_of all ≡ steps_in reached.lines =
+    steps_of-continued all (ends_there past) reached.lines reached.whole
+    ∙ append-nil (steps_in reached.lines) in (
       ap (λ (played : Played). played.end) reached.whole,
-      subst (λ (steps : List Step). TakesAll steps history now before after) (sym same) reached.takes,
+      subst (λ (steps : List Step). TakesAll steps history now before after)
+          (sym same) reached.takes,
     )
 
-past_after-reverse : (steps : List Step) (history : List Entry) → past_after (reverse history) steps ≡ reverse (history ++ entries_in steps)
+past_after-reverse : (steps : List Step) (history : List Entry)
+    → past_after (reverse history) steps ≡ reverse (history ++ entries_in steps)
 past_after-reverse [] history = ap reverse (sym (append-nil history))
 past_after-reverse (step ∷ steps) history =
     ap (λ (past : Past). past_after past steps) (sym (reverse_push history step.entry))
@@ -50,75 +68,102 @@ past_after-reverse (step ∷ steps) history =
     ∙ ap reverse (append_assoc history (step.entry ∷ []) (entries_in steps))
 
 -- after a line that was taken the rest comes
-pub Reached-more : (line : List ℕ) (number : ℕ) (meaning : Meaning) (rest : Past → Played) (all : Played) (history now later : List Entry) (before after next : SinkTold)
+pub Reached-more : (line : List ℕ) (number : ℕ) (meaning : Meaning) (rest : Past → Played)
+    (all : Played) (history now later : List Entry) (before after next : SinkTold)
     → Reached all (play_line line number (reverse now) meaning rest) history now before after
     → IsPlayed (play_line line number (reverse now) meaning ends_there) now later after next Done
     → Reached all (rest (reverse later)) history later before next
-Reached-more line number bad rest all history now later before after next reached played = absurd (done_or_bad played.0)
+Reached-more line number bad rest all history now later before after next reached played =
+    absurd (done_or_bad played.0)
   where
     done_or_bad : bad_line number ≡ done → ⊥
     done_or_bad e = absurd cc
 Reached-more line number (gives steps) rest all history now later before after next reached played =
     let taken : Taken = record { line = line; steps = steps } in
     let past : past_after (reverse now) steps ≡ reverse later =
-    past_after-reverse steps now ∙ ap reverse (sym (played.1.entries ∙ ap (λ (these : List Step). now ++ entries_in these) (append-nil steps))) in
+    past_after-reverse steps now ∙ ap reverse
+    (sym (played.1.entries ∙ ap (λ (these : List Step). now ++ entries_in these)
+    (append-nil steps))) in
     record {
       lines = reached.lines ++ taken ∷ [];
       whole = reached.whole
           ∙ ap (λ (p : Past). continued (reached.lines) (continued (taken ∷ []) (rest p))) past
-          ∙ ap (λ (lines : List Taken). let p : Played = record { taken = lines; end = (rest (reverse later)).end } in p)
+          ∙ ap (λ (lines : List Taken). let p : Played =
+          record { taken = lines; end = (rest (reverse later)).end } in p)
           (sym (append_assoc reached.lines (taken ∷ []) (rest (reverse later)).taken));
       takes = subst (λ (these : List Step). TakesAll these history later before next)
           (sym (flat_map-append (λ (t : Taken). t.steps) reached.lines (taken ∷ [])))
-          (TakesAll-append (steps_in reached.lines) (steps ++ []) history now later before after next reached.takes played.1);
+          (TakesAll-append (steps_in reached.lines)
+          (steps ++ []) history now later before after next reached.takes played.1);
     }
 
 -- what a line gives alone comes first
-steps_of-line : (line : List ℕ) (number : ℕ) (past : Past) (meaning : Meaning) (rest : Past → Played) → (more : List Step)
-    × (steps_of (play_line line number past meaning rest) ≡ steps_of (play_line line number past meaning ends_there) ++ more)
+steps_of-line : (line : List ℕ) (number : ℕ) (past : Past) (meaning : Meaning) (rest : Past
+    → Played) → (more : List Step)
+    × (steps_of (play_line line number past meaning rest)
+    ≡ steps_of (play_line line number past meaning ends_there) ++ more)
 steps_of-line line number past bad rest = ([], refl)
-steps_of-line line number past (gives steps) rest =
-    (steps_of (rest (past_after past steps)), ap (λ (these : List Step). these ++ steps_of (rest (past_after past steps))) (sym (append-nil steps)))
+steps_of-line line number past (gives steps) rest = (
+  steps_of (rest (past_after past steps)),
+  ap (λ (these : List Step). these ++ steps_of (rest (past_after past steps)))
+      (sym (append-nil steps)),
+)
 
-Reached-part : (line : List ℕ) (number : ℕ) (meaning : Meaning) (rest : Past → Played) (all : Played) (history now later : List Entry) (before after next : SinkTold) (failed : Bool)
+Reached-part : (line : List ℕ) (number : ℕ) (meaning : Meaning) (rest : Past → Played)
+    (all : Played) (history now later : List Entry) (before after next : SinkTold) (failed : Bool)
     → Reached all (play_line line number (reverse now) meaning rest) history now before after
-    → TakesPart (steps_of (play_line line number (reverse now) meaning ends_there)) now later after next failed
+    → TakesPart (steps_of (play_line line number (reverse now) meaning ends_there)) now later after
+    next failed
     → TakesPart (steps_of all) history later before next failed
 Reached-part line number meaning rest all history now later before after next failed reached part =
     let alone : List Step = steps_of (play_line line number (reverse now) meaning ends_there) in
     let first = steps_of-line line number (reverse now) meaning rest in
     let same : steps_of all ≡ steps_in reached.lines ++ (alone ++ first.0) =
-    steps_of-continued all (play_line line number (reverse now) meaning rest) reached.lines reached.whole ∙ ap (λ (these : List Step). steps_in reached.lines ++ these) first.1 in
+    steps_of-continued all (play_line line number (reverse now) meaning rest) reached.lines
+    reached.whole ∙ ap (λ (these : List Step). steps_in reached.lines ++ these) first.1 in
     subst (λ (these : List Step). TakesPart these history later before next failed) (sym same)
-    (TakesPart-append (steps_in reached.lines) (alone ++ first.0) history now later before after next failed reached.takes
+    (TakesPart-append (steps_in reached.lines) (alone ++ first.0) history now later before after
+    next failed reached.takes
     (TakesPart-front alone first.0 now later after next failed part))
 
 -- a bad line is the last
-Reached-bad : (line : List ℕ) (number : ℕ) (meaning : Meaning) (rest : Past → Played) (all : Played) (history now later : List Entry) (before after next : SinkTold) (at : ℕ)
+Reached-bad : (line : List ℕ) (number : ℕ) (meaning : Meaning) (rest : Past → Played) (all : Played)
+    (history now later : List Entry) (before after next : SinkTold) (at : ℕ)
     → Reached all (play_line line number (reverse now) meaning rest) history now before after
-    → IsPlayed (play_line line number (reverse now) meaning ends_there) now later after next (BadLine at)
+    → IsPlayed (play_line line number (reverse now) meaning ends_there) now later after next
+    (BadLine at)
     → IsPlayed all history later before next (BadLine at)
-Reached-bad line number bad rest all history now later before after next at reached played =
-    (
-      ap (λ (p : Played). p.end) reached.whole ∙ played.0,
-      subst (λ (these : List Step). TakesAll these history later before next)
-      (sym (steps_of-continued all (play_line line number (reverse now) bad rest) reached.lines reached.whole))
-      (TakesAll-append (steps_in reached.lines) [] history now later before after next reached.takes played.1),
-    )
-Reached-bad line number (gives steps) rest all history now later before after next at reached played = absurd (done_or_bad played.0)
+Reached-bad line number bad rest all history now later before after next at reached played = (
+  ap (λ (p : Played). p.end) reached.whole ∙ played.0,
+  subst (λ (these : List Step). TakesAll these history later before next)
+      (sym (steps_of-continued all (play_line line number (reverse now) bad rest) reached.lines
+      reached.whole))
+      (TakesAll-append (steps_in reached.lines) [] history now later before after next reached.takes
+      played.1),
+)
+Reached-bad line number (gives steps) rest all history now later before after next at reached
+    played = absurd (done_or_bad played.0)
   where
     done_or_bad : done ≡ bad_line at → ⊥
     done_or_bad e = absurd cc
 
 -- a line that ends the play ends all so
-pub Reached-last : (line : List ℕ) (number : ℕ) (meaning : Meaning) (rest : Past → Played) (all : Played) (history now later : List Entry) (before after next : SinkTold) (end : ReplayEnd)
-    → (end ≡ Done → ⊥) → Reached all (play_line line number (reverse now) meaning rest) history now before after
+pub Reached-last : (line : List ℕ) (number : ℕ) (meaning : Meaning) (rest : Past → Played)
+    (all : Played) (history now later : List Entry) (before after next : SinkTold) (end : ReplayEnd)
+    → (end ≡ Done → ⊥) → Reached all (play_line line number (reverse now) meaning rest) history now
+    before after
     → IsPlayed (play_line line number (reverse now) meaning ends_there) now later after next end
     → IsPlayed all history later before next end
-Reached-last line number meaning rest all history now later before after next Done other reached played = absurd (other refl)
-Reached-last line number meaning rest all history now later before after next (BadLine at) other reached played =
+Reached-last line number meaning rest all history now later before after next Done other reached
+    played = absurd (other refl)
+Reached-last line number meaning rest all history now later before after next
+    (BadLine at) other reached played =
     Reached-bad line number meaning rest all history now later before after next at reached played
-Reached-last line number meaning rest all history now later before after next SinkFault other reached played =
-    Reached-part line number meaning rest all history now later before after next true reached played
-Reached-last line number meaning rest all history now later before after next Memory other reached played =
-    Reached-part line number meaning rest all history now later before after next false reached played
+Reached-last line number meaning rest all history now later before after next SinkFault other
+    reached played =
+    Reached-part line number meaning rest all history now later before after next true reached
+    played
+Reached-last line number meaning rest all history now later before after next Memory other reached
+    played =
+    Reached-part line number meaning rest all history now later before after next false reached
+    played

@@ -1,63 +1,94 @@
 -- Steps that were taken, and then further ones.
-use Rattle.std.proofs.Common.{◌≡◌, Bool, false, ℕ, ◌+◌, List, [], ◌++◌, length, take, Option, sym, ap, ◌∙◌, subst, append_assoc, arith}
+use Rattle.std.proofs.Common.{◌≡◌, Bool, false, ℕ, ◌+◌, List, [], ◌++◌, length, take, sym}
+use Rattle.std.proofs.Common.{ap, ◌∙◌, subst, append_assoc, arith}
 use Rattle.std.proofs.lemmas.List.{append-nil, map-append, length-append, take-append-le}
 use Rattle.std.proofs.lemmas.Grind.{flat_map-append}
 use Rattle.std.proofs.Math.Seq.{take-append-add}
 use Rattle.outside.specs.Sink.{SinkTold, AppendsAll, AppendsPart}
-use Rattle.outside.proofs.Writing.{Appends-none, Appends-append, AppendsPart-none, AppendsPart-append}
+use Rattle.outside.proofs.Writing.{Appends-none, Appends-append, AppendsPart-none}
+use Rattle.outside.proofs.Writing.{AppendsPart-append}
 use Rattle.tase_views.specs.declared.event.Entry.{Entry}
 use Rattle.tase_replay.specs.Play.{Step, entries_in, printed_in}
 use Rattle.tase_replay.specs.Ends.{TakesAll, TakesPart}
 
-entries_in-append : (first next : List Step) → entries_in (first ++ next) ≡ entries_in first ++ entries_in next
+entries_in-append : (first next : List Step) → entries_in (first ++ next) ≡ entries_in first
+    ++ entries_in next
 entries_in-append first next = map-append (λ (step : Step). step.entry) first next
 
-printed_in-append : (first next : List Step) → printed_in (first ++ next) ≡ printed_in first ++ printed_in next
+printed_in-append : (first next : List Step) → printed_in (first ++ next) ≡ printed_in first
+    ++ printed_in next
 printed_in-append first next = flat_map-append (λ (step : Step). step.printed) first next
 
 -- nothing was taken
 pub TakesAll-none : (history : List Entry) (sink : SinkTold) → TakesAll [] history history sink sink
-TakesAll-none history sink = record { entries = sym (append-nil history); shown = Appends-none sink }
+TakesAll-none history sink = record {
+  entries = sym (append-nil history);
+  shown =
+      Appends-none sink;
+}
 
-pub TakesPart-none : (steps : List Step) (history : List Entry) (sink : SinkTold) → TakesPart steps history history sink sink false
+pub TakesPart-none : (steps : List Step) (history : List Entry) (sink : SinkTold)
+    → TakesPart steps history history sink sink false
 TakesPart-none steps history sink =
-    record { count = 0; within = omega arith; entries = sym (append-nil history); shown = AppendsPart-none sink [] }
+    record {
+      count = 0;
+      within = omega arith;
+      entries = sym (append-nil history);
+      shown =
+          AppendsPart-none sink [];
+    }
 
-pub TakesAll-append : (first next : List Step) (history middle now : List Entry) (before between after : SinkTold)
-    → TakesAll first history middle before between → TakesAll next middle now between after → TakesAll (first ++ next) history now before after
+pub TakesAll-append : (first next : List Step) (history middle now : List Entry)
+    (before between after : SinkTold)
+    → TakesAll first history middle before between → TakesAll next middle now between after
+    → TakesAll (first ++ next) history now before after
 TakesAll-append first next history middle now before between after one two =
     record {
       entries = two.entries ∙ ap (λ (h : List Entry). h ++ entries_in next) one.entries
-          ∙ append_assoc history (entries_in first) (entries_in next) ∙ ap (λ (e : List Entry). history ++ e) (sym (entries_in-append first next));
-      shown = subst (λ (text : List ℕ). AppendsAll before after text) (sym (printed_in-append first next))
-          (Appends-append before between after (printed_in first) (printed_in next) false one.shown two.shown);
+          ∙ append_assoc history (entries_in first) (entries_in next)
+          ∙ ap (λ (e : List Entry). history ++ e) (sym (entries_in-append first next));
+      shown = subst (λ (text : List ℕ). AppendsAll before after text)
+          (sym (printed_in-append first next))
+          (Appends-append before between after (printed_in first)
+          (printed_in next) false one.shown two.shown);
     }
 
-pub TakesPart-append : (first next : List Step) (history middle now : List Entry) (before between after : SinkTold) (failed : Bool)
+pub TakesPart-append : (first next : List Step) (history middle now : List Entry)
+    (before between after : SinkTold) (failed : Bool)
     → TakesAll first history middle before between → TakesPart next middle now between after failed
     → TakesPart (first ++ next) history now before after failed
 TakesPart-append first next history middle now before between after failed one two =
-    let front : take (length first + two.count) (first ++ next) ≡ first ++ take two.count next = take-append-add first next two.count in
+    let front : take (length first + two.count) (first ++ next) ≡ first ++ take two.count next =
+    take-append-add first next two.count in
     record {
       count = length first + two.count;
       within = omega (arith, length-append first next, two.within);
-      entries = two.entries ∙ ap (λ (h : List Entry). h ++ entries_in (take two.count next)) one.entries
+      entries = two.entries ∙ ap (λ (h : List Entry). h ++ entries_in (take two.count next))
+          one.entries
           ∙ append_assoc history (entries_in first) (entries_in (take two.count next))
-          ∙ ap (λ (e : List Entry). history ++ e) (sym (entries_in-append first (take two.count next)))
+          ∙ ap (λ (e : List Entry). history ++ e)
+          (sym (entries_in-append first (take two.count next)))
           ∙ ap (λ (steps : List Step). history ++ entries_in steps) (sym front);
-      shown = subst (λ (steps : List Step). AppendsPart before after (printed_in steps) failed) (sym front)
-          (subst (λ (text : List ℕ). AppendsPart before after text failed) (sym (printed_in-append first (take two.count next)))
-          (AppendsPart-append before between after (printed_in first) (printed_in (take two.count next)) failed one.shown two.shown));
+      shown = subst (λ (steps : List Step). AppendsPart before after (printed_in steps) failed)
+          (sym front)
+          (subst (λ (text : List ℕ). AppendsPart before after text failed)
+          (sym (printed_in-append first (take two.count next)))
+          (AppendsPart-append before between after (printed_in first)
+          (printed_in (take two.count next)) failed one.shown two.shown));
     }
 
 -- a front part of steps is one of these with others behind them
-pub TakesPart-front : (steps more : List Step) (history now : List Entry) (before after : SinkTold) (failed : Bool)
-    → TakesPart steps history now before after failed → TakesPart (steps ++ more) history now before after failed
+pub TakesPart-front : (steps more : List Step) (history now : List Entry) (before after : SinkTold)
+    (failed : Bool)
+    → TakesPart steps history now before after failed
+    → TakesPart (steps ++ more) history now before after failed
 TakesPart-front steps more history now before after failed part =
-    let front : take part.count (steps ++ more) ≡ take part.count steps = take-append-le part.count steps more part.within in
+    let front : take part.count (steps ++ more) ≡ take part.count steps =
+    take-append-le part.count steps more part.within in
     record {
       count = part.count;
       within = omega (arith, length-append steps more, part.within);
       entries = part.entries ∙ ap (λ (these : List Step). history ++ entries_in these) (sym front);
-      shown = subst (λ (these : List Step). AppendsPart before after (printed_in these) failed) (sym front) part.shown;
+      shown = subst (λ (these : List Step). AppendsPart before after (printed_in these) failed)
+          (sym front) part.shown;
     }

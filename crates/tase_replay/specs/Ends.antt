@@ -1,22 +1,26 @@
 -- What a replay leaves, by how it ended.
-use Rattle.std.specs.Prelude.{◌≡◌, ℕ, ◌≤◌, Bool, true, false, List, ◌++◌, length, take, Option, Some, None, Result, Ok, Err}
+use Rattle.std.specs.Prelude.{◌≡◌, ℕ, ◌≤◌, Bool, true, false, List, ◌++◌, length, take, Option}
+use Rattle.std.specs.Prelude.{Some, None, Result, Ok, Err}
 use Rattle.outside.specs.Sink.{SinkTold, AppendsAll, AppendsPart}
 use Rattle.tase_views.specs.declared.event.Entry.{Entry}
 use Rattle.tase_views.specs.declared.fault.StepFault.{StepFault}
 use Rattle.tase_views.specs.declared.fault.StepFault.TheVariants as faults
 use Rattle.tase_replay.specs.declared.playing.ReplayEnd.{ReplayEnd}
-use Rattle.tase_replay.specs.declared.playing.ReplayEnd.TheVariants.{Done, BadLine, SinkFault, Memory}
+use Rattle.tase_replay.specs.declared.playing.ReplayEnd.TheVariants.{Done, BadLine, SinkFault}
+use Rattle.tase_replay.specs.declared.playing.ReplayEnd.TheVariants.{Memory}
 use Rattle.tase_replay.specs.Play.{Step, Played, done, bad_line, steps_of, entries_in, printed_in}
 
 -- all these steps were taken, and no write failed
-pub record TakesAll (steps : List Step) (history now : List Entry) (before after : SinkTold) : Type 0 where
+pub record TakesAll (steps : List Step) (history now : List Entry)
+    (before after : SinkTold) : Type 0 where
   -- the history has their entries behind those that it had
   pub entries : now ≡ history ++ entries_in steps
   -- the sink took what they print
   pub shown : AppendsAll before after (printed_in steps)
 
 -- some of these steps were taken, from the first on, and the last write may have failed
-pub record TakesPart (steps : List Step) (history now : List Entry) (before after : SinkTold) (failed : Bool) : Type 0 where
+pub record TakesPart (steps : List Step) (history now : List Entry) (before after : SinkTold)
+    (failed : Bool) : Type 0 where
   -- how many
   pub count : ℕ
   pub within : count ≤ length steps
@@ -25,14 +29,18 @@ pub record TakesPart (steps : List Step) (history now : List Entry) (before afte
   -- the sink took a front part of what they print
   pub shown : AppendsPart before after (printed_in (take count steps)) failed
 
--- Done and a bad line come exactly where the scenario has none and has this one, with all before it taken and shown;
+-- Done and a bad line come exactly where the scenario has none and has this one, with all before it
+-- taken and shown;
 -- a fault of the sink comes only where a write failed, which was the last.
 abbrev pub IsPlayed : Played → List Entry → List Entry → SinkTold → SinkTold → ReplayEnd → Type 0
-IsPlayed played history now before after Done = (played.end ≡ done) × TakesAll (steps_of played) history now before after
+IsPlayed played history now before after Done =
+    (played.end ≡ done) × TakesAll (steps_of played) history now before after
 IsPlayed played history now before after (BadLine line) =
     (played.end ≡ bad_line line) × TakesAll (steps_of played) history now before after
-IsPlayed played history now before after SinkFault = TakesPart (steps_of played) history now before after true
-IsPlayed played history now before after Memory = TakesPart (steps_of played) history now before after false
+IsPlayed played history now before after SinkFault =
+    TakesPart (steps_of played) history now before after true
+IsPlayed played history now before after Memory =
+    TakesPart (steps_of played) history now before after false
 
 -- a text was shown, whole where nothing stopped it
 abbrev pub IsShown : List ℕ → SinkTold → SinkTold → ReplayEnd → Type 0

@@ -8,17 +8,21 @@ use Rattle.tase_replay.specs.Play.{Step, Played, done, steps_of, printed_in, pla
 -- whether all these entries concern a peer
 abbrev pub all_concern : CentreRows → ℕ → List Step → Bool
 all_concern rows peer [] = true
-all_concern rows peer (step ∷ steps) = concerns rows peer step.entry.event step.key && all_concern rows peer steps
+all_concern rows peer (step ∷ steps) =
+    concerns rows peer step.entry.event step.key && all_concern rows peer steps
 
--- the lines that concern a peer: all but those of other peers, and the updates of points that its table doesn't name
+-- the lines that concern a peer: all but those of other peers, and the updates of points that its
+-- table doesn't name
 abbrev pub lines_of : CentreRows → ℕ → Played → List (List ℕ)
-lines_of rows peer played = map (λ taken. taken.line) (filter (λ taken. all_concern rows peer taken.steps) played.taken)
+lines_of rows peer played =
+    map (λ taken. taken.line) (filter (λ taken. all_concern rows peer taken.steps) played.taken)
 
 -- what is printed at the events of a peer's associations
 abbrev pub replies_to : ℕ → Played → List ℕ
 replies_to peer played = printed_in (filter (λ step. is_of peer step.key) (steps_of played))
 
--- the replies to a peer are those of the scenario of the lines alone that concern it, none of which is bad there
+-- the replies to a peer are those of the scenario of the lines alone that concern it, none of which
+-- is bad there
 abbrev pub IsIsolated : Setup → ℕ → List (List ℕ) → Type 0
 IsIsolated setup peer scenario =
     let all : Played = played_of setup scenario in

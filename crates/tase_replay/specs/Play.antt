@@ -1,5 +1,7 @@
--- What a scenario gives: the lines that are taken, their entries and what is printed at each, and how it ends.
-use Rattle.std.specs.Prelude.{ℕ, ◌+◌, if◌then◌else◌, List, [], ◌∷◌, ◌++◌, map, flat_map, Option, Some, None, is_some, codes, decimal}
+-- What a scenario gives: the lines that are taken, their entries and what is printed at each, and
+-- how it ends.
+use Rattle.std.specs.Prelude.{ℕ, ◌+◌, if◌then◌else◌, List, [], ◌∷◌, ◌++◌, map, flat_map, Option}
+use Rattle.std.specs.Prelude.{Some, None, is_some, codes, decimal}
 use Rattle.std.specs.Str.Lines.{lines}
 use Rattle.plain_text.specs.Lines.{is_skipped}
 use Rattle.sbo_device.specs.declared.key.Key.{Key}
@@ -46,10 +48,12 @@ pub data Meaning : Type 0 where
 abbrev pub accepted : Setup → Past → Option Entry → Meaning
 accepted setup past None = bad
 accepted setup past (Some entry) =
-    if is_some (refusal_of setup past entry.who entry.event) then bad else gives (step_of setup past entry ∷ [])
+    if is_some (refusal_of setup past entry.who entry.event) then bad
+    else gives (step_of setup past entry ∷ [])
 
 abbrev pub line_in : Setup → Past → List ℕ → Meaning
-line_in setup past line = if is_skipped line then gives [] else accepted setup past (entry_in setup.centre line)
+line_in setup past line =
+    if is_skipped line then gives [] else accepted setup past (entry_in setup.centre line)
 
 -- a line that was taken, and what it gave
 pub record Taken : Type 0 where
@@ -81,7 +85,8 @@ play_line line number past (gives steps) rest =
 abbrev pub play : Setup → List (List ℕ) → Past → ℕ → Played
 play setup [] past number = record { taken = []; end = done }
 play setup (line ∷ more) past number =
-    play_line line number past (line_in setup past line) (λ after. play setup more after (number + 1))
+    play_line line number past (line_in setup past line)
+    (λ after. play setup more after (number + 1))
 
 -- nothing more
 abbrev pub ends_there : Past → Played

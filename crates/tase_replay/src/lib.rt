@@ -1,11 +1,15 @@
-//! Scenarios: a text whose lines are the events of a node, played in order, with the replies printed.
+//! Scenarios: a text whose lines are the events of a node, played in order, with the replies
+//! printed.
 //!
-//! Words are separated by spaces; empty lines and lines that begin with `#` are skipped. A line is one of
+//! Words are separated by spaces; empty lines and lines that begin with `#` are skipped. A line is
+//! one of
 //!
-//! - `open W KEY`: the peer with this key opens an association at seat W, a number from 1 to 4,294,967,295;
+//! - `open W KEY`: the peer with this key opens an association at seat W, a number from 1 to
+//!   4,294,967,295;
 //! - `say W CALL`: the peer of seat W asks something, and `reply W REPLY` is printed;
-//! - `update NAME BODY FLAGS SECONDS MILLIS`: the centre's own systems give a point a value. BODY is `s` and a state,
-//!   `d` and a discrete value or `r` and the eight hexadecimal digits of a real one; FLAGS are two such digits.
+//! - `update NAME BODY FLAGS SECONDS MILLIS`: the centre's own systems give a point a value. BODY
+//!   is `s` and a state, `d` and a discrete value or `r` and the eight hexadecimal digits of a real
+//!   one; FLAGS are two such digits.
 #![tactic(auto)]
 
 mod entries;
@@ -16,6 +20,3 @@ mod values;
 
 pub use laws::peers_are_isolated;
 pub use playing::{ReplayEnd, replay};
-
-#[cfg(test)]
-mod tests;

@@ -1,6 +1,7 @@
 ghost use Rattle.std.specs.Prelude.{◌≡◌, ℕ, List, reverse, Some};
 ghost use Rattle.std.specs.Str.Lines.{lines};
-ghost use Rattle.tase_replay.specs.Play.{play, play_alone, play_line, accepted, printed_of, ends_there};
+ghost use Rattle.tase_replay.specs.Play.{play, play_alone, play_line, accepted, printed_of};
+ghost use Rattle.tase_replay.specs.Play.{ends_there};
 ghost use Rattle.tase_replay.specs.Ends.{IsPlayed, IsShown, entry_or_end, end_of_refusal};
 
 use crate::entries::read_entry;
@@ -16,7 +17,8 @@ use tase_views::{Answer, Entry, StepFault};
 pub enum ReplayEnd {
     /// All lines were taken.
     Done,
-    /// The first line that isn't in the grammar or whose event the node refuses. Lines count from 1.
+    /// The first line that isn't in the grammar or whose event the node refuses. Lines count from
+    /// 1.
     BadLine { line: u64 },
     /// The sink failed.
     SinkFault,
@@ -24,10 +26,11 @@ pub enum ReplayEnd {
     Memory,
 }
 
-/// Plays a scenario on a node: takes each line's event after those before it, and prints the reply to each request.
-/// At the first bad line it stops; what was printed before stands.
+/// Plays a scenario on a node: takes each line's event after those before it, and prints the reply
+/// to each request. At the first bad line it stops; what was printed before stands.
 pub fn replay<K: Sink>(alloc: Global, node: &mut Node, scenario: &[u8], sink: &mut K) -> ReplayEnd
-    ensures played { IsPlayed (play node.old.setup (lines scenario.now) (reverse node.old.history) 1)
+    ensures played { IsPlayed (play node.old.setup (lines scenario.now)
+        (reverse node.old.history) 1)
         node.old.history node.new.history (K.told sink.old) (K.told sink.new) result }
     ensures setup { node.new.setup ≡ node.old.setup }
 {
@@ -90,7 +93,7 @@ fn play_entry<K: Sink>(
 ) -> ReplayEnd
     ensures played { (line : List ℕ) → IsPlayed
         (play_line line number (reverse node.old.history)
-            (accepted node.old.setup (reverse node.old.history) (Some entry)) ends_there)
+        (accepted node.old.setup (reverse node.old.history) (Some entry)) ends_there)
         node.old.history node.new.history (K.told sink.old) (K.told sink.new) result }
     ensures setup { node.new.setup ≡ node.old.setup }
 {
@@ -114,12 +117,7 @@ fn refused(fault: StepFault, number: u64) -> ReplayEnd
 }
 
 /// Prints what is printed of an answer to a seat.
-fn print_answer<K: Sink>(
-    who: u64,
-    answer: &Answer,
-    sink: &mut K,
-    text: &mut Vec<u8>,
-) -> ReplayEnd
+fn print_answer<K: Sink>(who: u64, answer: &Answer, sink: &mut K, text: &mut Vec<u8>) -> ReplayEnd
     ensures { IsShown (printed_of who answer.now) (K.told sink.old) (K.told sink.new) result }
 {
     match answer {

@@ -8,7 +8,8 @@ use plain_text::push_decimal;
 use std::alloc::AllocError;
 use tase_views::{Reply, spell_reply};
 
-/// Prints a reply to a seat as a line. `text` is where the line is put together; what it held is gone.
+/// Prints a reply to a seat as a line. `text` is where the line is put together; what it held is
+/// gone.
 pub(crate) fn print_reply<K: Sink>(
     who: u64,
     reply: &Reply,

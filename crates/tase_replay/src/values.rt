@@ -25,7 +25,8 @@ fn read_small(word: &[u8], limit: u32) -> Option<u32>
     Some(read_number(word, u64::from(limit))? as u32)
 }
 
-/// The body that a word is: `s` and a state, `d` and a discrete value, or `r` and the eight digits of a real one.
+/// The body that a word is: `s` and a state, `d` and a discrete value, or `r` and the eight digits
+/// of a real one.
 fn read_body(word: &[u8]) -> Option<Body>
     ensures value { result ≡ body_in word.now }
     ensures lawful { IfSome result (λ body. state_of body ≤ STATE_LIMIT) }
@@ -51,7 +52,11 @@ fn read_flags(word: &[u8]) -> Option<u8>
     ensures lawful { IfSome result (λ flags. flags ≤ FLAGS_LIMIT) }
 {
     let flags = read_hex_octet(word)?;
-    if flags <= FLAGS_LIMIT { Some(flags) } else { None }
+    if flags <= FLAGS_LIMIT {
+        Some(flags)
+    } else {
+        None
+    }
 }
 
 /// The value that the words of its body, its flags, its seconds and its milliseconds are.

@@ -4,7 +4,8 @@ use Rattle.std.proofs.lemmas.Bool.{cases_eq, eq-eqb, ne_eqb}
 use Rattle.sbo_device.specs.declared.key.Key.{Key}
 use Rattle.tase_views.specs.declared.event.EventKind.{EventKind}
 use Rattle.tase_views.specs.declared.event.EventKind.TheVariants.{Open, Request, Update}
-use Rattle.tase_views.specs.History.{Past, counts_open, opens_in, association_after, association_in, key_at}
+use Rattle.tase_views.specs.History.{Past, counts_open, opens_in, association_after, association_in}
+use Rattle.tase_views.specs.History.{key_at}
 use Rattle.tase_views.specs.View.{moves_in}
 use Rattle.tase_views.specs.Concerns.{reseated, IsInjective}
 
@@ -15,9 +16,11 @@ same_seat seat apart a b =
     (λ other. ne_eqb (seat a) (seat b) (λ e. other (apart a b e)) ∙ sym (ne_eqb a b other))
     (cases_eq a b)
 
-opens_in-reseated : (seat : ℕ → ℕ) (past : Past) (peer : ℕ) → opens_in (reseated seat past) peer ≡ opens_in past peer
+opens_in-reseated : (seat : ℕ → ℕ) (past : Past) (peer : ℕ)
+    → opens_in (reseated seat past) peer ≡ opens_in past peer
 opens_in-reseated seat [] peer = refl
-opens_in-reseated seat (entry ∷ past) peer = ap (λ n. counts_open entry.event peer + n) (opens_in-reseated seat past peer)
+opens_in-reseated seat (entry ∷ past) peer =
+    ap (λ n. counts_open entry.event peer + n) (opens_in-reseated seat past peer)
 
 after-reseated : (seat : ℕ → ℕ) (past : Past) (event : EventKind) (before : Option Key)
     → association_after event (reseated seat past) before ≡ association_after event past before
@@ -29,15 +32,22 @@ association_in-reseated : (seat : ℕ → ℕ) → IsInjective seat → (past : 
     → association_in (reseated seat past) (seat who) ≡ association_in past who
 association_in-reseated seat apart [] who = refl
 association_in-reseated seat apart (entry ∷ past) who =
-    rw (same_seat seat apart entry.who who, association_in-reseated seat apart past who, after-reseated seat past entry.event (association_in past who)) refl
+    rw (
+      same_seat seat apart entry.who who,
+      association_in-reseated seat apart past who,
+      after-reseated seat past entry.event (association_in past who),
+    ) refl
 
 key_at-reseated : (seat : ℕ → ℕ) → IsInjective seat → (past : Past) (who : ℕ) (event : EventKind)
     → key_at event (reseated seat past) (seat who) ≡ key_at event past who
 key_at-reseated seat apart past who (Open peer) = rw (opens_in-reseated seat past peer) refl
 key_at-reseated seat apart past who (Request call) = association_in-reseated seat apart past who
-key_at-reseated seat apart past who (Update point value) = association_in-reseated seat apart past who
+key_at-reseated seat apart past who (Update point value) =
+    association_in-reseated seat apart past who
 
-pub moves_in-reseated : (seat : ℕ → ℕ) → IsInjective seat → (past : Past) → moves_in (reseated seat past) ≡ moves_in past
+pub moves_in-reseated : (seat : ℕ → ℕ) → IsInjective seat → (past : Past)
+    → moves_in (reseated seat past) ≡ moves_in past
 moves_in-reseated seat apart [] = refl
 moves_in-reseated seat apart (entry ∷ past) =
-    rw (key_at-reseated seat apart past entry.who entry.event, moves_in-reseated seat apart past) refl
+    rw (key_at-reseated seat apart past entry.who entry.event, moves_in-reseated seat apart past)
+    refl

@@ -1,4 +1,5 @@
--- The answer to an event: from the peer's own table and its view of the history, and from nothing else.
+-- The answer to an event: from the peer's own table and its view of the history, and from nothing
+-- else.
 use Rattle.std.specs.Prelude.{ℕ, List, [], ◌∷◌, Option, Some, None}
 use Rattle.mms_data.specs.ObjectName.{ObjectName}
 use Rattle.mms_data.specs.declared.outcome.Outcome.{Outcome}
@@ -22,7 +23,8 @@ use Rattle.tase_views.specs.Values.{values_in, last_of, change_count_of}
 abbrev pub outcome_of_point : View → Option OwnPoint → Outcome
 outcome_of_point view None = Fail OBJECT_NON_EXISTENT
 outcome_of_point view (Some point) =
-    Good (shown_as (last_of point.kind (values_in view point.name)) (change_count_of point.kind (values_in view point.name)) point.layout)
+    Good (shown_as (last_of point.kind (values_in view point.name))
+    (change_count_of point.kind (values_in view point.name)) point.layout)
 
 -- what one variable of a read by the peer's association with this ordinal gives
 abbrev pub outcome_of : OwnTable → View → ℕ → ObjectName → Outcome
@@ -32,7 +34,8 @@ outcome_of table view ordinal name = outcome_of_point view (point_named table na
 abbrev pub outcomes_of : OwnTable → View → ℕ → List ObjectName → List Outcome
 outcomes_of table view ordinal [] = []
 outcomes_of table view ordinal (name ∷ names) =
-    outcome_of table view ordinal name ∷ outcomes_of table (own ordinal (reads name) ∷ view) ordinal names
+    outcome_of table view ordinal name
+    ∷ outcomes_of table (own ordinal (reads name) ∷ view) ordinal names
 
 -- the reply to a call of the peer's association with this ordinal
 abbrev pub reply_to : OwnTable → View → ℕ → CallKind → ReplyKind

@@ -20,4 +20,5 @@ outcome_from-parts (Good d) = refl
 outcome_from-parts (Fail error) = refl
 
 abbrev pub outcome_code : Coded Outcome
-outcome_code = code_by (Datum ⊎ ℕ) (coded⊎ datum_code coded_ℕ) outcome_parts outcome_from outcome_from-parts
+outcome_code = code_by (Datum ⊎ ℕ) (coded⊎ datum_code coded_ℕ) outcome_parts outcome_from
+    outcome_from-parts

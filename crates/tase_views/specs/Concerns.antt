@@ -1,5 +1,6 @@
 -- Which entries of a history concern a peer, and a history with other seats.
-use Rattle.std.specs.Prelude.{◌≡◌, ℕ, ◌==◌, if◌then◌else◌, Bool, false, [], ◌∷◌, map, Option, Some, None, is_some}
+use Rattle.std.specs.Prelude.{◌≡◌, ℕ, ◌==◌, if◌then◌else◌, Bool, false, [], ◌∷◌, map, Option, Some}
+use Rattle.std.specs.Prelude.{None, is_some}
 use Rattle.bilateral.specs.Rows.{CentreRows, table_of, place_of_see}
 use Rattle.sbo_device.specs.declared.key.Key.{Key}
 use Rattle.tase_views.specs.declared.event.EventKind.{EventKind}
@@ -11,7 +12,8 @@ abbrev pub is_of : ℕ → Option Key → Bool
 is_of peer None = false
 is_of peer (Some key) = key.peer == peer
 
--- whether an event of this association is the peer's own, or an update of a point that the peer's table names
+-- whether an event of this association is the peer's own, or an update of a point that the peer's
+-- table names
 abbrev pub concerns : CentreRows → ℕ → EventKind → Option Key → Bool
 concerns rows peer (Open opener) key = is_of peer key
 concerns rows peer (Request call) key = is_of peer key
@@ -21,7 +23,8 @@ concerns rows peer (Update point value) key = is_some (place_of_see (table_of ro
 abbrev pub entries_for : CentreRows → ℕ → Past → Past
 entries_for rows peer [] = []
 entries_for rows peer (entry ∷ past) =
-    if concerns rows peer entry.event (key_at entry.event past entry.who) then entry ∷ entries_for rows peer past
+    if concerns rows peer entry.event (key_at entry.event past entry.who)
+    then entry ∷ entries_for rows peer past
     else entries_for rows peer past
 
 -- a history in which each seat has another number

@@ -1,5 +1,6 @@
 -- The history of a node, and the associations of its seats.
-use Rattle.std.specs.Prelude.{ℕ, ◌+◌, ◌==◌, ◌&&◌, if◌then◌else◌, Bool, false, List, [], ◌∷◌, Option, Some, None}
+use Rattle.std.specs.Prelude.{ℕ, ◌+◌, ◌==◌, ◌&&◌, if◌then◌else◌, Bool, false, List, [], ◌∷◌, Option}
+use Rattle.std.specs.Prelude.{Some, None}
 use Rattle.sbo_device.specs.declared.key.Key.{Key}
 use Rattle.tase_views.specs.declared.event.EventKind.{EventKind}
 use Rattle.tase_views.specs.declared.event.EventKind.TheVariants.{Open, Request, Update}
@@ -20,7 +21,8 @@ abbrev pub opens_in : Past → ℕ → ℕ
 opens_in [] peer = 0
 opens_in (entry ∷ past) peer = counts_open entry.event peer + opens_in past peer
 
--- the association that an open by this peer opens: the peer, and how many associations it had opened before
+-- the association that an open by this peer opens: the peer, and how many associations it had
+-- opened before
 abbrev pub next_key : Past → ℕ → Key
 next_key past peer = record { peer = peer; ordinal = opens_in past peer }
 
@@ -34,7 +36,8 @@ association_after (Update point value) past before = before
 abbrev pub association_in : Past → ℕ → Option Key
 association_in [] who = None
 association_in (entry ∷ past) who =
-    if entry.who == who then association_after entry.event past (association_in past who) else association_in past who
+    if entry.who == who then association_after entry.event past (association_in past who)
+    else association_in past who
 
 -- the association that an event of a seat is of: that which it opens, or else the seat's before it
 abbrev pub key_at : EventKind → Past → ℕ → Option Key
@@ -47,8 +50,10 @@ abbrev pub is_key : Key → Option Key → Bool
 is_key key None = false
 is_key key (Some other) = (other.peer == key.peer) && (other.ordinal == key.ordinal)
 
--- the entries of an association, the newest first: its open, and the others of its seat for as long as it is open there
+-- the entries of an association, the newest first: its open, and the others of its seat for as long
+-- as it is open there
 abbrev pub entries_of : Key → Past → Past
 entries_of key [] = []
 entries_of key (entry ∷ past) =
-    if is_key key (key_at entry.event past entry.who) then entry ∷ entries_of key past else entries_of key past
+    if is_key key (key_at entry.event past entry.who) then entry ∷ entries_of key past
+    else entries_of key past

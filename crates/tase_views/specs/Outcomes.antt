@@ -1,5 +1,7 @@
--- When a node may answer an event so: each refusal exactly where its cause holds, and the right answer elsewhere.
-use Rattle.std.specs.Prelude.{◌≡◌, ℕ, Bool, ◌&&◌, nat_lt, if◌then◌else◌, length, Option, Some, None, is_some, Result, Ok, Err}
+-- When a node may answer an event so: each refusal exactly where its cause holds, and the right
+-- answer elsewhere.
+use Rattle.std.specs.Prelude.{◌≡◌, ℕ, Bool, ◌&&◌, nat_lt, if◌then◌else◌, length, Option, Some, None}
+use Rattle.std.specs.Prelude.{is_some, Result, Ok, Err}
 use Rattle.tase_points.specs.Same.{same_kind}
 use Rattle.tase_points.specs.Points.{kind_of}
 use Rattle.tase_points.specs.Sample.{Sample}
@@ -10,7 +12,8 @@ use Rattle.tase_views.specs.declared.event.EventKind.TheVariants.{Open, Request,
 use Rattle.tase_views.specs.declared.reply.Answer.{Answer}
 use Rattle.tase_views.specs.declared.reply.Answer.TheVariants.{Noted}
 use Rattle.tase_views.specs.declared.fault.StepFault.{StepFault}
-use Rattle.tase_views.specs.declared.fault.StepFault.TheVariants.{Memory, NoAssociation, Already, UnknownName}
+use Rattle.tase_views.specs.declared.fault.StepFault.TheVariants.{Memory, NoAssociation, Already}
+use Rattle.tase_views.specs.declared.fault.StepFault.TheVariants.{UnknownName}
 use Rattle.tase_views.specs.Setup.{Setup}
 use Rattle.tase_views.specs.History.{Past, association_in, key_at}
 use Rattle.tase_views.specs.OwnTable.{own_table}
@@ -27,13 +30,16 @@ abbrev pub refusal_of : Setup → Past → ℕ → EventKind → Option StepFaul
 refusal_of setup past who (Open peer) =
     if is_some (association_in past who) then Some Already
     else (if nat_lt peer (length setup.centre.tables) then None else Some UnknownName)
-refusal_of setup past who (Request call) = if is_some (association_in past who) then None else Some NoAssociation
-refusal_of setup past who (Update point value) = if is_known setup.centre point value then None else Some UnknownName
+refusal_of setup past who (Request call) =
+    if is_some (association_in past who) then None else Some NoAssociation
+refusal_of setup past who (Update point value) =
+    if is_known setup.centre point value then None else Some UnknownName
 
 -- the answer to an event of this association, from nothing but the peer's own table and its view
 abbrev pub answer_by : CentreRows → Past → EventKind → Option Key → Answer
 answer_by rows past event None = Noted
-answer_by rows past event (Some key) = answer_to (own_table rows key.peer) (view_of rows key.peer past) key event
+answer_by rows past event (Some key) =
+    answer_to (own_table rows key.peer) (view_of rows key.peer past) key event
 
 -- the answer to an event of a seat that isn't refused
 abbrev pub answer_of : Setup → Past → ℕ → EventKind → Answer

@@ -21,11 +21,22 @@ pub record OwnTable : Type 0 where
   pub points : List OwnPoint
 
 abbrev pub own_point : CentreRows → See → OwnPoint
-own_point rows see = record { name = (point_of rows see.point).name; kind = (point_of rows see.point).kind; vmd = see.vmd; layout = see.layout }
+own_point rows see =
+    record {
+      name = (point_of rows see.point).name;
+      kind = (point_of rows see.point).kind;
+      vmd = see.vmd;
+      layout = see.layout;
+    }
 
 -- the table of the peer with this number
 abbrev pub own_table : CentreRows → ℕ → OwnTable
-own_table rows peer = record { domain = (table_of rows peer).domain; id = (table_of rows peer).id; points = map (own_point rows) (table_of rows peer).sees }
+own_table rows peer =
+    record {
+      domain = (table_of rows peer).domain;
+      id = (table_of rows peer).id;
+      points = map (own_point rows) (table_of rows peer).sees;
+    }
 
 -- whether a scope is where the point is found: the whole device, or the table's domain
 abbrev pub is_scope_of : OwnTable → Scope → Bool → Bool
@@ -35,4 +46,6 @@ is_scope_of table Association vmd = false
 
 -- the point of the table that a name stands for
 abbrev pub point_named : OwnTable → ObjectName → Option OwnPoint
-point_named table name = find (λ point. is_scope_of table name.scope point.vmd && bytes_eq point.name name.item) table.points
+point_named table name =
+    find (λ point. is_scope_of table name.scope point.vmd && bytes_eq point.name name.item)
+    table.points

@@ -1,5 +1,6 @@
 -- What a view has of a point.
-use Rattle.std.specs.Prelude.{ℕ, ◌+◌, ◌%◌, if◌then◌else◌, List, [], ◌∷◌, Option, Some, None, filter_map, bytes_eq}
+use Rattle.std.specs.Prelude.{ℕ, ◌+◌, ◌%◌, if◌then◌else◌, List, [], ◌∷◌, Option, Some, None}
+use Rattle.std.specs.Prelude.{filter_map, bytes_eq}
 use Rattle.tase_points.specs.declared.kind.Kind.{Kind}
 use Rattle.tase_points.specs.declared.layout.TheConstants.{COV_MODULUS}
 use Rattle.tase_points.specs.Sample.{Sample}
@@ -23,7 +24,8 @@ last_of kind (value ∷ values) = value
 -- how often a point has changed, by the values that it was given
 abbrev pub changes_of : Kind → List Sample → ℕ
 changes_of kind [] = 0
-changes_of kind (value ∷ values) = (if is_change (last_of kind values) value then 1 else 0) + changes_of kind values
+changes_of kind (value ∷ values) =
+    (if is_change (last_of kind values) value then 1 else 0) + changes_of kind values
 
 -- the count of changes that a peer is shown
 abbrev pub change_count_of : Kind → List Sample → ℕ

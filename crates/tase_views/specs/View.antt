@@ -1,5 +1,6 @@
 -- The moves of a history, and what a peer sees of them.
-use Rattle.std.specs.Prelude.{ℕ, ◌==◌, if◌then◌else◌, List, [], ◌∷◌, ◌++◌, map, reverse, Option, Some, None, is_some, filter_map}
+use Rattle.std.specs.Prelude.{ℕ, ◌==◌, if◌then◌else◌, List, [], ◌∷◌, ◌++◌, map, reverse, Option}
+use Rattle.std.specs.Prelude.{Some, None, is_some, filter_map}
 use Rattle.tase_points.specs.Sample.{Sample}
 use Rattle.mms_data.specs.ObjectName.{ObjectName}
 use Rattle.bilateral.specs.Rows.{CentreRows, table_of, point_of, place_of_see}
@@ -38,9 +39,11 @@ moves_of_event (Update point value) key = updates point value ∷ []
 -- the moves of a history, the newest first
 abbrev pub moves_in : Past → List Move
 moves_in [] = []
-moves_in (entry ∷ past) = moves_of_event entry.event (key_at entry.event past entry.who) ++ moves_in past
+moves_in (entry ∷ past) =
+    moves_of_event entry.event (key_at entry.event past entry.who) ++ moves_in past
 
--- A move as a peer sees it: an act of its own association with this ordinal, or a new value of a point, by its name.
+-- A move as a peer sees it: an act of its own association with this ordinal, or a new value of a
+-- point, by its name.
 pub data Seen : Type 0 where
   own : ℕ → Act → Seen
   updated : List ℕ → Sample → Seen
@@ -49,7 +52,8 @@ pub data Seen : Type 0 where
 abbrev pub seen_by : CentreRows → ℕ → Move → Option Seen
 seen_by rows peer (acts key act) = if key.peer == peer then Some (own key.ordinal act) else None
 seen_by rows peer (updates point value) =
-    if is_some (place_of_see (table_of rows peer) point) then Some (updated (point_of rows point).name value) else None
+    if is_some (place_of_see (table_of rows peer) point)
+    then Some (updated (point_of rows point).name value) else None
 
 -- what a peer sees of a history, the newest first
 abbrev pub View : Type 0

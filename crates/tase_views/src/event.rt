@@ -62,8 +62,8 @@ impl Clone for Event {
     }
 }
 
-/// An event of the history with the seat that it is of. A peer's seat is the number of its connection;
-/// the centre's own updates are of seat 0.
+/// An event of the history with the seat that it is of. A peer's seat is the number of its
+/// connection; the centre's own updates are of seat 0.
 #[derive(Debug, Drop)]
 pub struct Entry {
     pub who: u64,

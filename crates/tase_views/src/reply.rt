@@ -5,7 +5,8 @@ use mms_data::Outcome;
 use sbo_device::Key;
 use std::marker::Model;
 
-/// The reason of a read that a name doesn't exist (ISO 9506-2, `DataAccessError`: object-non-existent).
+/// The reason of a read that a name doesn't exist (ISO 9506-2, `DataAccessError`:
+/// object-non-existent).
 pub const OBJECT_NON_EXISTENT: u8 = 10;
 
 /// The outcomes of the variables of a read, in order.

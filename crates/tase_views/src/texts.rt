@@ -9,8 +9,8 @@ use mms_data::{Names, Outcome, read_name, spell_outcome};
 use plain_text::next_word;
 use std::alloc::{AllocError, Global};
 
-/// Appends the text of a reply: `read` and the outcomes, with one space before each.
-/// After want of memory `out` is as before.
+/// Appends the text of a reply: `read` and the outcomes, with one space before each. After want of
+/// memory `out` is as before.
 pub fn spell_reply(out: &mut Vec<u8>, reply: &Reply) -> Result<(), AllocError>
     ensures ok { OnOk result (out.new.items ≡ out.old.items ++ reply_text reply.now) }
     ensures err { OnErr result (out.new.items ≡ out.old.items) }
@@ -22,7 +22,8 @@ pub fn spell_reply(out: &mut Vec<u8>, reply: &Reply) -> Result<(), AllocError>
 
 /// Appends `read` and the outcomes.
 fn spell_read(out: &mut Vec<u8>, outcomes: &[Outcome]) -> Result<(), AllocError>
-    ensures ok { OnOk result (out.new.items ≡ out.old.items ++ reply_text (ReplyKind.Results outcomes.now)) }
+    ensures ok { OnOk result (out.new.items ≡ out.old.items
+        ++ reply_text (ReplyKind.Results outcomes.now)) }
     ensures err { OnErr result (out.new.items ≡ out.old.items) }
 {
     let start = out.len();
@@ -63,7 +64,8 @@ fn spell_result(out: &mut Vec<u8>, outcome: &Outcome) -> Result<(), AllocError>
     spelled
 }
 
-/// The call that the words of a text spell: `read` and at least one name. None where they spell none.
+/// The call that the words of a text spell: `read` and at least one name. None where they spell
+/// none.
 pub fn read_call(alloc: Global, text: &[u8]) -> Result<Option<Call>, AllocError>
     ensures { IfOk result (λ call. call ≡ call_in (words text.now)) }
 {

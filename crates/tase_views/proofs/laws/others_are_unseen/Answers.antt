@@ -8,12 +8,15 @@ use Rattle.tase_views.proofs.laws.others_are_unseen.Goals as goal
 
 pub returns-clause-open : goal.returns-clause-open
 returns-clause-open c = λ rows past peer other who apart.
-    view_of-unseen rows peer past (record { who = who; event = Open other }) (ne_eqb other peer apart)
+    view_of-unseen rows peer past (record { who = who; event = Open other })
+    (ne_eqb other peer apart)
 
 pub returns-clause-request : goal.returns-clause-request
 returns-clause-request c = λ rows past peer who key call is apart.
-    view_of-unseen rows peer past (record { who = who; event = Request call }) (ap (λ (k : Option Key). is_of peer k) is ∙ ne_eqb key.peer peer apart)
+    view_of-unseen rows peer past (record { who = who; event = Request call })
+    (ap (λ (k : Option Key). is_of peer k) is ∙ ne_eqb key.peer peer apart)
 
 pub returns-clause-update : goal.returns-clause-update
 returns-clause-update c = λ rows past peer who point value unnamed.
-    view_of-unseen rows peer past (record { who = who; event = Update point value }) (ap is_some unnamed)
+    view_of-unseen rows peer past (record { who = who; event = Update point value })
+    (ap is_some unnamed)

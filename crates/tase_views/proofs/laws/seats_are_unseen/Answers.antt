@@ -6,4 +6,5 @@ use Rattle.tase_views.proofs.laws.seats_are_unseen.Goals as goal
 
 pub returns : goal.returns
 returns c = λ rows past peer seat apart.
-    ap (λ (moves : List Move). filter_map (seen_by rows peer) moves) (moves_in-reseated seat apart past)
+    ap (λ (moves : List Move). filter_map (seen_by rows peer) moves)
+    (moves_in-reseated seat apart past)

@@ -4,4 +4,5 @@ use Rattle.node_core.proofs.Steps.{IsStored-new}
 use Rattle.node_core.proofs.store.Store.new.Goals as goal
 
 pub returns : goal.returns
-returns c = IsStored-new _ _ _ _ _ c.points-points.ensures.lawful c.in_ok-unknown_values.ensures (grind (arith, common_steps)) (grind (arith, common_steps)) (λ who. grind (arith, common_steps))
+returns c = IsStored-new _ _ _ _ _ c.points-points.ensures.lawful c.in_ok-unknown_values.ensures
+    (grind (arith, common_steps)) (grind (arith, common_steps)) (λ who. grind (arith, common_steps))

@@ -5,5 +5,7 @@ use Rattle.node_core.proofs.store.Store.update.Goals as goal
 pub returns : goal.returns
 returns c = λ rows past s.
     rw c.next_count.ensures
-    (IsStored-update rows past c.args.self.now.values.items c.args.self.now.counts.items _ _ c.args.who c.args.point c.args.value c.index-2.result.now c.index.result.now
-    (omega (arith, c.requires.values, c.args.self.now.values.ok)) c.index-2.ensures c.index.ensures s)
+    (IsStored-update rows past c.args.self.now.values.items c.args.self.now.counts.items _ _
+    c.args.who c.args.point c.args.value c.index-2.result.now c.index.result.now
+    (omega (arith, c.requires.values, c.args.self.now.values.ok)) c.index-2.ensures c.index.ensures
+    s)
