@@ -66,6 +66,7 @@ never : true ≡ false → ⊥
 never e = false≢true (sym e)
 
 pub integer_reads : (head : Head) (octets : List ℕ) → IsReading ℤ (λ v. SpellsInteger v octets) (IntegerFault head octets) (integer_in head octets)
+unfolding integer_in
 integer_reads head octets =
     contents_read ℤ (λ v. SpellsInteger v octets) (HasLength 1 8 octets) ⊥ (has_length 1 8 octets) true (twos_complement octets) head
     (record { length_kept = length_kept 1 8 octets; length_test = length_test 1 8 octets; spelled = λ a k. (length_kept 1 8 octets a, refl); broken = λ a k. absurd (never k); from_spelled = λ x s. (length_test 1 8 octets s.0, refl, s.1); from_broken = λ b. absurd b })
@@ -88,6 +89,7 @@ unsigned_is (pos n) x e lt = let same : x ≡ n = cc in (lt-ltb n (2 ^ 32) (omeg
 unsigned_is (negsuc n) x e lt = absurd cc
 
 pub unsigned_reads : (head : Head) (octets : List ℕ) → IsReading ℕ (λ v. SpellsUnsigned v octets) (UnsignedFault head octets) (unsigned_in head octets)
+unfolding unsigned_in
 unsigned_reads head octets =
     let z = twos_complement octets in
     contents_read ℕ (λ v. SpellsUnsigned v octets) (HasLength 1 8 octets) ((z <ℤ pos 0) ⊎ (pos (2 ^ 32) ≤ℤ z)) (has_length 1 8 octets) (is_unsigned z) (unsigned_of z) head
@@ -106,6 +108,7 @@ one_octet (x ∷ []) e = refl
 one_octet (x ∷ y ∷ octets) e = let p = length_kept 1 1 (x ∷ y ∷ octets) e in absurd (omega (arith, p.1))
 
 pub boolean_reads : (head : Head) (octets : List ℕ) → IsReading Bool (λ v. SpellsBoolean v octets) (BooleanFault head octets) (boolean_in head octets)
+unfolding boolean_in
 boolean_reads head octets =
     contents_read Bool (λ v. SpellsBoolean v octets) (HasLength 1 1 octets) ⊥ (has_length 1 1 octets) true (not (eqb (get_or octets 0 0) 0)) head
     (record {
@@ -161,11 +164,13 @@ from_broken_bits [] b = elim b [ ]
 from_broken_bits (unused ∷ octets) b = breaks_to unused octets b
 
 pub bits_read : (head : Head) (octets : List ℕ) → IsReading Bits (λ v. SpellsBits v octets) (BitsFault head octets) (bits_in head octets)
+unfolding bits_in
 bits_read head octets =
     contents_read Bits (λ v. SpellsBits v octets) (0 < length octets) (BreaksBits octets) (ltb 0 (length octets)) (keeps_bits (get_or octets 0 0) (drop 1 octets)) (bits_with (get_or octets 0 0) (drop 1 octets)) head
     (record { length_kept = ltb-true 0 (length octets); length_test = lt-ltb 0 (length octets); spelled = bits_spelled octets; broken = bits_broken octets; from_spelled = from_bits octets; from_broken = from_broken_bits octets })
 
 pub oid_reads : (head : Head) (octets : List ℕ) → IsReading (List ℕ) (λ v. SpellsOid v octets) (OidFault head octets) (oid_in head octets)
+unfolding oid_in
 oid_reads head octets =
     contents_read (List ℕ) (λ v. SpellsOid v octets) (HasLength 1 32 octets) ⊥ (has_length 1 32 octets) true octets head
     (record {
@@ -178,6 +183,7 @@ oid_reads head octets =
     })
 
 pub visible_reads : (head : Head) (octets : List ℕ) → IsReading (List ℕ) (λ v. SpellsVisible v octets) (VisibleFault head octets) (visible_in head octets)
+unfolding visible_in
 visible_reads head octets =
     contents_read (List ℕ) (λ v. SpellsVisible v octets) (length octets ≤ 64) (list_all is_visible_octet octets ≡ false) (leb (length octets) 64) (list_all is_visible_octet octets) octets head
     (record {

@@ -16,7 +16,7 @@ SpellsInteger value octets = HasLength 1 8 octets × (value ≡ twos_complement 
 abbrev pub IntegerFault : Head → List ℕ → BerFault → Type 0
 IntegerFault head octets = ContentsFault (HasLength 1 8 octets) ⊥ head
 
-abbrev pub integer_in : Head → List ℕ → Result ℤ BerFault
+unfoldable pub integer_in : Head → List ℕ → Result ℤ BerFault
 integer_in head octets = contents_in (has_length 1 8 octets) true (twos_complement octets) head
 
 -- an integer from 0 to 2^32 - 1
@@ -35,5 +35,5 @@ abbrev pub unsigned_of : ℤ → ℕ
 unsigned_of (pos n) = n
 unsigned_of (negsuc n) = 0
 
-abbrev pub unsigned_in : Head → List ℕ → Result ℕ BerFault
+unfoldable pub unsigned_in : Head → List ℕ → Result ℕ BerFault
 unsigned_in head octets = contents_in (has_length 1 8 octets) (is_unsigned (twos_complement octets)) (unsigned_of (twos_complement octets)) head

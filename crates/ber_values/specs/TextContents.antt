@@ -14,7 +14,7 @@ SpellsOid oid octets = IsOid octets × (oid ≡ octets)
 abbrev pub OidFault : Head → List ℕ → BerFault → Type 0
 OidFault head octets = ContentsFault (HasLength 1 32 octets) ⊥ head
 
-abbrev pub oid_in : Head → List ℕ → Result (List ℕ) BerFault
+unfoldable pub oid_in : Head → List ℕ → Result (List ℕ) BerFault
 oid_in head octets = contents_in (has_length 1 32 octets) true octets head
 
 -- visible text is its contents octets
@@ -25,5 +25,5 @@ SpellsVisible text octets = IsVisible octets × (text ≡ octets)
 abbrev pub VisibleFault : Head → List ℕ → BerFault → Type 0
 VisibleFault head octets = ContentsFault (length octets ≤ 64) (list_all is_visible_octet octets ≡ false) head
 
-abbrev pub visible_in : Head → List ℕ → Result (List ℕ) BerFault
+unfoldable pub visible_in : Head → List ℕ → Result (List ℕ) BerFault
 visible_in head octets = contents_in (nat_le (length octets) 64) (list_all is_visible_octet octets) octets head

@@ -1,5 +1,5 @@
 //! Bit strings as contents octets (ISO 8825-1, 8.6): the number of unused bits, then the octets.
-ghost use Rattle.std.specs.Prelude.{◌≡◌, ◌≢◌, ◌<◌, ◌≤◌, ◌-◌, ◌*◌, ◌^◌, ◌%◌, ◌↔◌, [], ◌++◌, take, length, IfOk, OnOk, OnErr};
+ghost use Rattle.std.specs.Prelude.{◌≡◌, ◌≢◌, ◌+◌, ◌<◌, ◌≤◌, ◌-◌, ◌*◌, ◌^◌, ◌%◌, ◌↔◌, [], ◌++◌, take, length, IfOk, OnOk, OnErr};
 ghost use Rattle.ber_values.specs.declared.fault.BerFault.{BerFault};
 ghost use Rattle.ber_values.specs.Bits.{Bits};
 ghost use Rattle.ber_values.specs.Contents.{contents_of, IsContents};
@@ -25,7 +25,7 @@ fn zeroed(alloc: Global, unused: u8, octets: &[u8]) -> Result<Vec<u8>, AllocErro
     Ok(held)
 }
 
-fn bits_from(alloc: Global, unused: u8, octets: &[u8]) -> Result<BitString, AllocError>
+fn bits_with_unused(alloc: Global, unused: u8, octets: &[u8]) -> Result<BitString, AllocError>
     requires few { unused < 8 }
     requires some { octets.now ≡ [] → unused ≡ 0 }
     requires fits { length octets.now < 2 ^ 32 }
@@ -35,18 +35,20 @@ fn bits_from(alloc: Global, unused: u8, octets: &[u8]) -> Result<BitString, Allo
     Ok(BitString::new(8 * octets.len() - usize::from(unused), held))
 }
 
-fn bits_at(
+/// The bit string that these contents are.
+#[tactic(auto, unfolding(crate::specs::BitContents::bits_in))]
+pub(crate) fn bits_from(
     alloc: Global,
-    bytes: &[u8],
+    contents: &[u8],
     head: &Head,
 ) -> Result<Result<BitString, BerFault>, AllocError>
-    requires { IsContents bytes.now head.now }
-    ensures { IfOk result (λ read. read ≡ bits_in head.now (contents_of bytes.now head.now)) }
+    requires { length contents.now < 2 ^ 32 }
+    ensures { IfOk result (λ read. read ≡ bits_in head.now contents.now) }
 {
-    match &bytes[head.body..head.end] {
+    match contents {
         [] => Ok(Err(length_fault(head))),
         [unused, octets @ ..] if *unused < 8 && (*unused == 0 || !octets.is_empty()) => {
-            Ok(Ok(bits_from(alloc, *unused, octets)?))
+            Ok(Ok(bits_with_unused(alloc, *unused, octets)?))
         }
         _ => Ok(Err(value_fault(head))),
     }
@@ -54,18 +56,20 @@ fn bits_at(
 
 /// The bit string in the contents of the element with this head. Its unused bits may be set, and
 /// are read as zero.
+#[tactic(auto, unfolding(crate::specs::BitContents::bits_in))]
 pub fn read_bits(
     alloc: Global,
     bytes: &[u8],
     head: &Head,
 ) -> Result<Result<BitString, BerFault>, AllocError>
-    requires { IsContents bytes.now head.now }
+    requires within { IsContents bytes.now head.now }
+    requires bounded { head.now.end < head.now.body + 2 ^ 32 }
     ensures found { IfOk result (λ read. IfOk read (λ bits. SpellsBits bits (contents_of bytes.now head.now))) }
     ensures only { (bits : Bits) → SpellsBits bits (contents_of bytes.now head.now) → IfOk result (λ read. read ≡ Ok bits) }
     ensures fault { (fault : BerFault) → IfOk result (λ read. (read ≡ Err fault) ↔ BitsFault head.now (contents_of bytes.now head.now) fault) }
     ensures exact { IfOk result (λ read. read ≡ bits_in head.now (contents_of bytes.now head.now)) }
 {
-    bits_at(alloc, bytes, head)
+    bits_from(alloc, &bytes[head.body..head.end], head)
 }
 
 fn put_bits(out: &mut Vec<u8>, tag: u8, value: &BitString) -> Result<(), AllocError>

@@ -27,11 +27,11 @@ fn signed_number(octets: &[u8]) -> i64
     }
 }
 
-fn integer_from(bytes: &[u8], head: &Head) -> Result<i64, BerFault>
-    requires { IsContents bytes.now head.now }
-    ensures { result ≡ integer_in head.now (contents_of bytes.now head.now) }
+/// The integer that these contents are.
+#[tactic(auto, unfolding(crate::specs::Numbers::integer_in))]
+pub(crate) fn integer_from(contents: &[u8], head: &Head) -> Result<i64, BerFault>
+    ensures { result ≡ integer_in head.now contents.now }
 {
-    let contents = &bytes[head.body..head.end];
     match contents.len() {
         1..=8 => Ok(signed_number(contents)),
         _ => Err(length_fault(head)),
@@ -40,6 +40,7 @@ fn integer_from(bytes: &[u8], head: &Head) -> Result<i64, BerFault>
 
 /// The integer in the contents of the element with this head, which `read_head` gave: one to
 /// eight octets.
+#[tactic(auto, unfolding(crate::specs::Numbers::integer_in))]
 pub fn read_integer(bytes: &[u8], head: &Head) -> Result<i64, BerFault>
     requires { IsContents bytes.now head.now }
     ensures found { IfOk result (λ value. SpellsInteger value (contents_of bytes.now head.now)) }
@@ -47,14 +48,15 @@ pub fn read_integer(bytes: &[u8], head: &Head) -> Result<i64, BerFault>
     ensures fault { (fault : BerFault) → (result ≡ Err fault) ↔ IntegerFault head.now (contents_of bytes.now head.now) fault }
     ensures exact { result ≡ integer_in head.now (contents_of bytes.now head.now) }
 {
-    integer_from(bytes, head)
+    integer_from(&bytes[head.body..head.end], head)
 }
 
-fn unsigned_from(bytes: &[u8], head: &Head) -> Result<u32, BerFault>
-    requires { IsContents bytes.now head.now }
-    ensures { result ≡ unsigned_in head.now (contents_of bytes.now head.now) }
+/// The unsigned number that these contents are.
+#[tactic(auto, unfolding(crate::specs::Numbers::integer_in, crate::specs::Numbers::unsigned_in))]
+pub(crate) fn unsigned_from(contents: &[u8], head: &Head) -> Result<u32, BerFault>
+    ensures { result ≡ unsigned_in head.now contents.now }
 {
-    let value = integer_from(bytes, head)?;
+    let value = integer_from(contents, head)?;
     if 0 <= value && value <= 0xFFFF_FFFF {
         Ok(value as u32)
     } else {
@@ -63,6 +65,7 @@ fn unsigned_from(bytes: &[u8], head: &Head) -> Result<u32, BerFault>
 }
 
 /// The integer in the contents of the element with this head, where it is from 0 to 2^32 - 1.
+#[tactic(auto, unfolding(crate::specs::Numbers::unsigned_in))]
 pub fn read_unsigned(bytes: &[u8], head: &Head) -> Result<u32, BerFault>
     requires { IsContents bytes.now head.now }
     ensures found { IfOk result (λ value. SpellsUnsigned value (contents_of bytes.now head.now)) }
@@ -70,7 +73,7 @@ pub fn read_unsigned(bytes: &[u8], head: &Head) -> Result<u32, BerFault>
     ensures fault { (fault : BerFault) → (result ≡ Err fault) ↔ UnsignedFault head.now (contents_of bytes.now head.now) fault }
     ensures exact { result ≡ unsigned_in head.now (contents_of bytes.now head.now) }
 {
-    unsigned_from(bytes, head)
+    unsigned_from(&bytes[head.body..head.end], head)
 }
 
 fn size_of_number(number: u64) -> usize
@@ -88,7 +91,8 @@ fn size_of_number(number: u64) -> usize
     }
 }
 
-fn size_of_integer(value: i64) -> usize
+/// How many octets the shortest form of an integer has.
+pub(crate) fn size_of_integer(value: i64) -> usize
     ensures { result ≡ integer_size value }
 {
     if value < 0 {

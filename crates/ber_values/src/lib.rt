@@ -9,8 +9,12 @@ mod fault;
 mod head;
 mod integer;
 mod laws;
+mod lengths;
 mod number;
 mod object_identifier;
+mod part;
+mod part_values;
+mod stop;
 mod tag;
 mod texts;
 mod visible_string;
@@ -23,9 +27,13 @@ pub use fault::{BerFault, Span, Why};
 pub use head::{Head, read_head, write_head};
 pub use integer::{read_integer, read_unsigned, write_integer};
 pub use laws::{one_reading, written_is_read, written_is_shortest};
+pub use lengths::{MOST_LENGTH, add_len, integer_len, part_len};
 pub use object_identifier::Oid;
+pub use part::{Part, has_tag, take_end, take_part};
+pub use stop::{Stop, settle};
 pub use texts::{read_oid, read_visible, write_oid, write_visible};
 pub use visible_string::{Visible, is_visible};
+pub use writing::write_octets;
 
 #[cfg(test)]
 mod tests;

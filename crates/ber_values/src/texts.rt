@@ -13,11 +13,15 @@ use crate::visible_string::{Visible, is_visible};
 use crate::writing::{or_undo, put_element};
 use std::alloc::{AllocError, Global};
 
-fn oid_at(alloc: Global, bytes: &[u8], head: &Head) -> Result<Result<Oid, BerFault>, AllocError>
-    requires { IsContents bytes.now head.now }
-    ensures { IfOk result (λ read. read ≡ oid_in head.now (contents_of bytes.now head.now)) }
+/// The object identifier that these contents are.
+#[tactic(auto, unfolding(crate::specs::TextContents::oid_in))]
+pub(crate) fn oid_from(
+    alloc: Global,
+    contents: &[u8],
+    head: &Head,
+) -> Result<Result<Oid, BerFault>, AllocError>
+    ensures { IfOk result (λ read. read ≡ oid_in head.now contents.now) }
 {
-    let contents = &bytes[head.body..head.end];
     match contents.len() {
         1..=32 => Ok(Ok(Oid::new(Vec::from_slice(alloc, contents)?))),
         _ => Ok(Err(length_fault(head))),
@@ -25,6 +29,7 @@ fn oid_at(alloc: Global, bytes: &[u8], head: &Head) -> Result<Result<Oid, BerFau
 }
 
 /// The object identifier in the contents of the element with this head: one to 32 octets.
+#[tactic(auto, unfolding(crate::specs::TextContents::oid_in))]
 pub fn read_oid(
     alloc: Global,
     bytes: &[u8],
@@ -36,7 +41,7 @@ pub fn read_oid(
     ensures fault { (fault : BerFault) → IfOk result (λ read. (read ≡ Err fault) ↔ OidFault head.now (contents_of bytes.now head.now) fault) }
     ensures exact { IfOk result (λ read. read ≡ oid_in head.now (contents_of bytes.now head.now)) }
 {
-    oid_at(alloc, bytes, head)
+    oid_from(alloc, &bytes[head.body..head.end], head)
 }
 
 fn put_oid(out: &mut Vec<u8>, tag: u8, value: &Oid) -> Result<(), AllocError>
@@ -57,15 +62,15 @@ pub fn write_oid(out: &mut Vec<u8>, tag: u8, value: &Oid) -> Result<(), AllocErr
     or_undo(out, mark, done)
 }
 
-fn visible_at(
+/// The visible text that these contents are.
+#[tactic(auto, unfolding(crate::specs::TextContents::visible_in))]
+pub(crate) fn visible_from(
     alloc: Global,
-    bytes: &[u8],
+    contents: &[u8],
     head: &Head,
 ) -> Result<Result<Visible, BerFault>, AllocError>
-    requires { IsContents bytes.now head.now }
-    ensures { IfOk result (λ read. read ≡ visible_in head.now (contents_of bytes.now head.now)) }
+    ensures { IfOk result (λ read. read ≡ visible_in head.now contents.now) }
 {
-    let contents = &bytes[head.body..head.end];
     if 64 < contents.len() {
         return Ok(Err(length_fault(head)));
     }
@@ -76,6 +81,7 @@ fn visible_at(
 }
 
 /// The visible text in the contents of the element with this head: at most 64 octets of 32 to 126.
+#[tactic(auto, unfolding(crate::specs::TextContents::visible_in))]
 pub fn read_visible(
     alloc: Global,
     bytes: &[u8],
@@ -87,7 +93,7 @@ pub fn read_visible(
     ensures fault { (fault : BerFault) → IfOk result (λ read. (read ≡ Err fault) ↔ VisibleFault head.now (contents_of bytes.now head.now) fault) }
     ensures exact { IfOk result (λ read. read ≡ visible_in head.now (contents_of bytes.now head.now)) }
 {
-    visible_at(alloc, bytes, head)
+    visible_from(alloc, &bytes[head.body..head.end], head)
 }
 
 fn put_visible(out: &mut Vec<u8>, tag: u8, value: &Visible) -> Result<(), AllocError>

@@ -35,7 +35,8 @@ pub fn is_visible(octets: &[u8]) -> bool
     octets.len() <= LIMIT && all_visible(octets)
 }
 
-fn all_visible(octets: &[u8]) -> bool
+/// Whether each octet is a space or a printing character of ASCII.
+pub(crate) fn all_visible(octets: &[u8]) -> bool
     ensures { result ≡ list_all is_visible_octet octets.now }
 {
     octets.iter().all(|octet| 32 <= *octet && *octet <= 126)

@@ -33,7 +33,8 @@ pub(crate) fn put_number(out: &mut Vec<u8>, number: u64, count: usize) -> Result
     Ok(())
 }
 
-fn size_of_length(len: usize) -> u8
+/// How many octets follow the first one of a length from 128 on.
+pub(crate) fn size_of_length(len: usize) -> u8
     requires { len < 2 ^ 32 }
     ensures value { result ≡ length_size len }
     ensures few { result ≤ 4 }
@@ -81,4 +82,16 @@ pub(crate) fn put_element(out: &mut Vec<u8>, tag: u8, contents: &[u8]) -> Result
 {
     put_head(out, tag, contents.len())?;
     out.extend_from_slice(contents)
+}
+
+/// Appends an element of these contents. After want of memory `out` is as before.
+pub fn write_octets(out: &mut Vec<u8>, tag: u8, contents: &[u8]) -> Result<(), AllocError>
+    requires single { tag % 32 ≢ 31 }
+    requires bounded { length contents.now < 2 ^ 32 }
+    ensures ok { OnOk result (out.new.items ≡ out.old.items ++ written tag contents.now) }
+    ensures err { OnErr result (out.new.items ≡ out.old.items) }
+{
+    let mark = out.len();
+    let done = put_element(out, tag, contents);
+    or_undo(out, mark, done)
 }

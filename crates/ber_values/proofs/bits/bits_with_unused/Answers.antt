@@ -1,6 +1,6 @@
 use Rattle.std.proofs.Common.{arith}
 use Rattle.ber_values.proofs.BitsLemmas.{IsBits-bits_with}
-use Rattle.ber_values.proofs.bits.bits_from.Goals as goal
+use Rattle.ber_values.proofs.bits.bits_with_unused.Goals as goal
 
 pub new-requires : goal.new-requires
 new-requires c =
