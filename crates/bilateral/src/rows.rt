@@ -1,9 +1,5 @@
-ghost use Rattle.std.specs.Prelude.{◌≡◌, [], ◌∷◌, ◌++◌, length, slice_get, OnOk, OnErr};
-ghost use Rattle.std.specs.Option.{option_copied};
-
 use ber_values::{Oid, Visible};
-use std::alloc::{AllocError, Global};
-use std::marker::Model;
+use item_list::ItemList;
 use tase_points::{Kind, Layout};
 
 /// A point of the centre.
@@ -26,49 +22,7 @@ pub struct See {
 }
 
 /// The points of one table, in the order of the file.
-#[derive(Debug, Drop)]
-pub struct Sees {
-    items: Vec<See>,
-}
-
-impl Model for Sees {
-    ghost use Rattle.std.specs.Prelude.{List};
-    ghost use Rattle.bilateral.specs.declared.rows.See.{See};
-
-    ghost Value = { List See };
-
-    ghost view = { λ s. s.items.items };
-}
-
-impl Sees {
-    pub fn new(alloc: Global) -> Sees
-        ensures { result ≡ [] }
-    {
-        Sees {
-            items: Vec::new(alloc),
-        }
-    }
-
-    pub fn push(&mut self, see: See) -> Result<(), AllocError>
-        ensures ok { OnOk result (self.new ≡ self.old ++ see ∷ []) }
-        ensures err { OnErr result (self.new ≡ self.old) }
-    {
-        self.items.push(see)?;
-        Ok(())
-    }
-
-    pub fn len(&self) -> usize
-        ensures { result ≡ length self.now }
-    {
-        self.items.len()
-    }
-
-    pub fn as_slice(&self) -> &[See]
-        ensures { result.now ≡ self.now }
-    {
-        self.items.as_slice()
-    }
-}
+pub type Sees = ItemList<See>;
 
 /// The bilateral table of one peer.
 #[derive(Debug, Drop)]

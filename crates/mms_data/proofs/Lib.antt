@@ -1,4 +1,2 @@
 pub mod Spelled
-pub mod Unescape
-pub mod EscapedText
 pub mod ReadName

@@ -1,9 +1,11 @@
 -- A datum as a list of marks, which gives it back: by it a proof tells data apart.
 use Rattle.std.specs.Prelude.{◌≡◌, ◌⊎◌, ℕ, ℤ, Bool, true, false, List, [], ◌∷◌, ◌++◌}
-use Rattle.std.specs.Coded.{Coded, code_by, coded×, coded⊎, coded_ℕ, coded_ℤ, coded_bool, coded_list}
+use Rattle.std.specs.Coded.{Coded, code_by, coded×, coded⊎, coded_ℕ, coded_ℤ, coded_bool}
+use Rattle.std.specs.Coded.{coded_list}
 use base.Stored.{coded_unit}
 use Rattle.std.proofs.Common.{refl, sym, ap, ◌∙◌, append_assoc, append-nil, inl, inr}
-use Rattle.mms_data.specs.Datum.{Datum, boolean, integer, unsigned, bits, real, octets, text, structure, array, Data, no_data, datum}
+use Rattle.mms_data.specs.Datum.{Datum, boolean, integer, unsigned, bits, real, octets, text}
+use Rattle.mms_data.specs.Datum.{structure, array, Data, no_data, datum}
 
 -- what a datum without members holds
 abbrev pub Leaf : Type 0
@@ -18,7 +20,13 @@ Mark = Leaf ⊎ Bracket
 
 abbrev pub mark_code : Coded Mark
 mark_code =
-    coded⊎ (coded⊎ coded_bool (coded⊎ coded_ℤ (coded⊎ coded_ℕ (coded⊎ (coded× coded_ℕ (coded_list coded_ℕ)) (coded⊎ (coded_list coded_ℕ) (coded⊎ (coded_list coded_ℕ) (coded_list coded_ℕ))))))) (coded⊎ coded_bool coded_unit)
+    coded⊎ (coded⊎ coded_bool
+    (coded⊎ coded_ℤ
+    (coded⊎ coded_ℕ
+    (coded⊎ (coded× coded_ℕ (coded_list coded_ℕ))
+    (coded⊎ (coded_list coded_ℕ)
+    (coded⊎ (coded_list coded_ℕ) (coded_list coded_ℕ)))))))
+    (coded⊎ coded_bool coded_unit)
 
 abbrev pub end_mark : Mark
 end_mark = inr (inr tt)
@@ -79,7 +87,8 @@ abbrev pub datum_from : List Mark → Datum
 datum_from ms = first (frames ms).0
 
 mutual
-  pub frames-marks : (d : Datum) (rest : List Mark) → frames (marks d ++ rest) ≡ (datum d (frames rest).0, (frames rest).1)
+  pub frames-marks : (d : Datum) (rest : List Mark)
+      → frames (marks d ++ rest) ≡ (datum d (frames rest).0, (frames rest).1)
   frames-marks (boolean b) rest = refl
   frames-marks (integer z) rest = refl
   frames-marks (unsigned n) rest = refl
@@ -88,17 +97,25 @@ mutual
   frames-marks (octets o) rest = refl
   frames-marks (text o) rest = refl
   frames-marks (structure ds) rest =
-      ap (λ ms. step (inr (inl true)) (frames ms)) (append_assoc (marks_of_data ds) (end_mark ∷ []) rest) ∙ ap (step (inr (inl true))) (frames-marks_of_data ds rest)
+      ap (λ ms. step (inr (inl true)) (frames ms))
+      (append_assoc (marks_of_data ds) (end_mark ∷ []) rest)
+      ∙ ap (step (inr (inl true))) (frames-marks_of_data ds rest)
   frames-marks (array ds) rest =
-      ap (λ ms. step (inr (inl false)) (frames ms)) (append_assoc (marks_of_data ds) (end_mark ∷ []) rest) ∙ ap (step (inr (inl false))) (frames-marks_of_data ds rest)
+      ap (λ ms. step (inr (inl false)) (frames ms))
+      (append_assoc (marks_of_data ds) (end_mark ∷ []) rest)
+      ∙ ap (step (inr (inl false))) (frames-marks_of_data ds rest)
 
-  pub frames-marks_of_data : (ds : Data) (rest : List Mark) → frames (marks_of_data ds ++ end_mark ∷ rest) ≡ (ds, (frames rest).0 ∷ (frames rest).1)
+  pub frames-marks_of_data : (ds : Data) (rest : List Mark)
+      → frames (marks_of_data ds ++ end_mark ∷ rest) ≡ (ds, (frames rest).0 ∷ (frames rest).1)
   frames-marks_of_data no_data rest = refl
   frames-marks_of_data (datum d ds) rest =
-      ap frames (append_assoc (marks d) (marks_of_data ds) (end_mark ∷ rest)) ∙ frames-marks d (marks_of_data ds ++ end_mark ∷ rest) ∙ ap (λ f. (datum d f.0, f.1)) (frames-marks_of_data ds rest)
+      ap frames (append_assoc (marks d) (marks_of_data ds) (end_mark ∷ rest))
+      ∙ frames-marks d (marks_of_data ds ++ end_mark ∷ rest)
+      ∙ ap (λ f. (datum d f.0, f.1)) (frames-marks_of_data ds rest)
 
 pub datum_from-marks : (d : Datum) → datum_from (marks d) ≡ d
-datum_from-marks d = ap (λ ms. first (frames ms).0) (sym (append-nil (marks d))) ∙ ap (λ f. first f.0) (frames-marks d [])
+datum_from-marks d = ap (λ ms. first (frames ms).0) (sym (append-nil (marks d)))
+    ∙ ap (λ f. first f.0) (frames-marks d [])
 
 -- the code of data
 abbrev pub datum_code : Coded Datum

@@ -1,7 +1,9 @@
 -- What an `MmsData` is seen as.
 use Rattle.mms_data.specs.declared.data.DataKind.{DataKind}
-use Rattle.mms_data.specs.declared.data.DataKind.TheVariants.{Boolean, Integer, Unsigned, Bits, Real, Octets, Text, Structure, Array}
-use Rattle.mms_data.specs.Datum.{Datum, boolean, integer, unsigned, bits, real, octets, text, structure, array, data_of}
+use Rattle.mms_data.specs.declared.data.DataKind.TheVariants.{Boolean, Integer, Unsigned, Bits}
+use Rattle.mms_data.specs.declared.data.DataKind.TheVariants.{Real, Octets, Text, Structure, Array}
+use Rattle.mms_data.specs.Datum.{Datum, boolean, integer, unsigned, bits, real, octets, text}
+use Rattle.mms_data.specs.Datum.{structure, array, data_of}
 
 -- the datum of a value
 abbrev pub datum_of : DataKind → Datum

@@ -2,7 +2,8 @@
 use Rattle.std.specs.Prelude.{◌*◌, ◌≤◌, max}
 use Rattle.std.proofs.Common.{arith}
 use Rattle.mms_data.specs.declared.data.DataKind.{DataKind}
-use Rattle.mms_data.specs.declared.data.DataKind.TheVariants.{Boolean, Integer, Unsigned, Bits, Real, Octets, Text, Structure, Array}
+use Rattle.mms_data.specs.declared.data.DataKind.TheVariants.{Boolean, Integer, Unsigned, Bits}
+use Rattle.mms_data.specs.declared.data.DataKind.TheVariants.{Real, Octets, Text, Structure, Array}
 use Rattle.mms_data.specs.declared.data.DataList.TheDeep.{deep-DataKind}
 use Rattle.mms_data.specs.Datum.{depth}
 use Rattle.mms_data.specs.DatumOf.{datum_of}

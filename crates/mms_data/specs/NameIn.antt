@@ -1,47 +1,21 @@
 -- The name that a text stands for.
-use Rattle.std.specs.Prelude.{ℕ, ◌+◌, Bool, ◌&&◌, ◌||◌, ◌==◌, nat_lt, nat_le, if◌then◌else◌, List, [], ◌∷◌, length, slice_index, codes, Option, Some, None, option_map, option_and_then}
+use Rattle.std.specs.Prelude.{ℕ, ◌+◌, Bool, ◌&&◌, ◌||◌, ◌==◌, nat_lt, nat_le, if◌then◌else◌, List}
+use Rattle.std.specs.Prelude.{[], ◌∷◌, length, slice_index, codes, Option, Some, None, option_map}
+use Rattle.std.specs.Prelude.{option_and_then}
 use Rattle.std.proofs.Common.{take, drop}
 use Rattle.std.specs.List.{list_all, position}
 use Rattle.std.specs.Str.{bytes_eq}
-use Rattle.plain_text.specs.Octets.{is_plain}
-use Rattle.plain_text.specs.Numbers.{hex_pair_value}
+use Rattle.plain_text.specs.Escaped.{unescaped}
 use Rattle.ber_values.specs.Visible.{is_visible_octet}
 use Rattle.mms_data.specs.declared.object_name.Scope.{Scope}
 use Rattle.mms_data.specs.declared.object_name.Scope.TheVariants.{Vmd, Domain, Association}
 use Rattle.mms_data.specs.ObjectName.{ObjectName}
 
--- an octet, unless it stands for itself
-abbrev pub if_escaped : ℕ → Option ℕ
-if_escaped octet = if is_plain octet then None else Some octet
-
--- the octet of two digits, unless it stands for itself
-abbrev pub escaped_value : ℕ → ℕ → Option ℕ
-escaped_value high low = option_and_then if_escaped (hex_pair_value high low)
-
--- an octet, before others
-abbrev pub before_octets : ℕ → Option (List ℕ) → Option (List ℕ)
-before_octets octet rest = option_map (λ octets. octet ∷ octets) rest
-
-abbrev mutual
-  -- the octets that an escaped text stands for
-  pub unescaped : List ℕ → Option (List ℕ)
-  unescaped [] = Some []
-  unescaped (c ∷ cs) = if is_plain c then before_octets c (unescaped cs) else (if c == 37 then unescaped_high cs else None)
-
-  -- the same behind a `%`
-  pub unescaped_high : List ℕ → Option (List ℕ)
-  unescaped_high [] = None
-  unescaped_high (h ∷ cs) = unescaped_low cs h
-
-  -- the same behind a `%` and a digit
-  pub unescaped_low : List ℕ → ℕ → Option (List ℕ)
-  unescaped_low [] h = None
-  unescaped_low (l ∷ cs) h = option_and_then (λ octet. before_octets octet (unescaped cs)) (escaped_value h l)
-
 -- octets that an item or a domain may have
 abbrev pub if_identifier : List ℕ → Option (List ℕ)
 if_identifier octets =
-    if nat_lt 0 (length octets) && nat_le (length octets) 64 && list_all is_visible_octet octets then Some octets else None
+    if nat_lt 0 (length octets) && nat_le (length octets) 64 && list_all is_visible_octet octets
+    then Some octets else None
 
 -- the item or the domain that an escaped text stands for
 abbrev pub identifier_in : List ℕ → Option (List ℕ)
@@ -55,16 +29,19 @@ is_separator octet = (octet == 58) || (octet == 47)
 abbrev pub scope_in : List ℕ → ℕ → Option Scope
 scope_in before separator =
     if separator == 47 then option_map Domain (identifier_in before)
-    else (if bytes_eq before (codes "vmd") then Some Vmd else (if bytes_eq before (codes "aa") then Some Association else None))
+    else (if bytes_eq before (codes "vmd") then Some Vmd
+    else (if bytes_eq before (codes "aa") then Some Association else None))
 
 -- the name of a scope, a separator and an item
 abbrev pub name_of_parts : List ℕ → ℕ → List ℕ → Option ObjectName
 name_of_parts before separator after =
-    option_and_then (λ scope. option_map (λ item. record { scope = scope; item = item }) (identifier_in after))
+    option_and_then
+    (λ scope. option_map (λ item. record { scope = scope; item = item }) (identifier_in after))
     (scope_in before separator)
 
 -- the name whose text this is: a scope up to the first separator, and an item
 abbrev pub name_in : List ℕ → Option ObjectName
 name_in name =
-    option_and_then (λ place. name_of_parts (take place name) (slice_index name place) (drop (place + 1) name))
+    option_and_then
+    (λ place. name_of_parts (take place name) (slice_index name place) (drop (place + 1) name))
     (position is_separator name)

@@ -4,6 +4,7 @@ use Rattle.std.specs.Bool.{Decides}
 use Rattle.std.specs.Cmp.{IsEquivalence}
 use Rattle.std.specs.Str.{bytes_eq}
 use Rattle.std.proofs.Common.{refl, ap, sym}
+use Rattle.std.proofs.lemmas.Bool.{and_parts}
 use Rattle.std.proofs.lemmas.Slice.Eq.{bytes_eq-Decides}
 use Rattle.mms_data.specs.declared.object_name.Scope.{Scope}
 use Rattle.mms_data.specs.declared.object_name.Scope.TheVariants.{Vmd, Domain, Association}
@@ -14,27 +15,25 @@ same_scope-Decides Vmd Vmd = (λ _. refl, λ _. refl)
 same_scope-Decides Vmd (Domain b) = (λ e. cc, λ e. cc)
 same_scope-Decides Vmd Association = (λ e. cc, λ e. cc)
 same_scope-Decides (Domain a) Vmd = (λ e. cc, λ e. cc)
-same_scope-Decides (Domain a) (Domain b) = (λ e. ap Domain ((bytes_eq-Decides a b).0 e), λ e. (bytes_eq-Decides a b).1 cc)
+same_scope-Decides (Domain a) (Domain b) =
+    (λ e. ap Domain ((bytes_eq-Decides a b).0 e), λ e. (bytes_eq-Decides a b).1 cc)
 same_scope-Decides (Domain a) Association = (λ e. cc, λ e. cc)
 same_scope-Decides Association Vmd = (λ e. cc, λ e. cc)
 same_scope-Decides Association (Domain b) = (λ e. cc, λ e. cc)
 same_scope-Decides Association Association = (λ _. refl, λ _. refl)
 
-both : (a b : Bool) → a && b ≡ true → (a ≡ true) × (b ≡ true)
-both true true e = (refl, refl)
-both true false e = (refl, e)
-both false b e = (e, absurd cc)
-
 pub same_name-Decides : (a b : ObjectName) → Decides (same_name a b) (a ≡ b)
 same_name-Decides a b = (
   λ e.
-      let parts = both (same_scope a.scope b.scope) (bytes_eq a.item b.item) e in
+      let parts = and_parts (same_scope a.scope b.scope) (bytes_eq a.item b.item) e in
       let scopes : a.scope ≡ b.scope = (same_scope-Decides a.scope b.scope).0 parts.0 in
       let items : a.item ≡ b.item = (bytes_eq-Decides a.item b.item).0 parts.1 in
       λ i. record { scope = scopes i; item = items i },
   λ e.
-      let scopes : same_scope a.scope b.scope ≡ true = (same_scope-Decides a.scope b.scope).1 (ap (λ (n : ObjectName). n.scope) e) in
-      let items : bytes_eq a.item b.item ≡ true = (bytes_eq-Decides a.item b.item).1 (ap (λ (n : ObjectName). n.item) e) in
+      let scopes : same_scope a.scope b.scope
+      ≡ true = (same_scope-Decides a.scope b.scope).1 (ap (λ (n : ObjectName). n.scope) e) in
+      let items : bytes_eq a.item b.item
+      ≡ true = (bytes_eq-Decides a.item b.item).1 (ap (λ (n : ObjectName). n.item) e) in
       rw (scopes, items) refl,
 )
 
@@ -45,11 +44,14 @@ same_truth false true f g = g refl
 same_truth false false f g = refl
 
 -- a test that decides whether two things are one is an equivalence
-pub IsEquivalence-Decides : {K : Type 0} (same : K → K → Bool) → ((a b : K) → Decides (same a b) (a ≡ b)) → IsEquivalence same
+pub IsEquivalence-Decides : {K : Type 0} (same : K → K → Bool)
+    → ((a b : K) → Decides (same a b) (a ≡ b)) → IsEquivalence same
 IsEquivalence-Decides same decides =
     record {
       refl = λ x. (decides x x).1 refl;
-      symm = λ x y. same_truth (same x y) (same y x) (λ e. (decides y x).1 (sym ((decides x y).0 e))) (λ e. (decides x y).1 (sym ((decides y x).0 e)));
+      symm = λ x y. same_truth (same x y) (same y x)
+          (λ e. (decides y x).1 (sym ((decides x y).0 e)))
+          (λ e. (decides x y).1 (sym ((decides y x).0 e)));
       congr = λ x y z e. ap (λ k. same k z) ((decides x y).0 e);
     }
 

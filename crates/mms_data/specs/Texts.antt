@@ -2,16 +2,19 @@
 use Rattle.std.specs.Prelude.{ℕ, if◌then◌else◌, List, [], ◌++◌, map, codes, decimal}
 use Rattle.std.specs.Fmt.{signed_decimal}
 use Rattle.std.specs.List.{join_with_byte}
-use Rattle.plain_text.specs.Octets.{hex_text, escaped_text}
+use Rattle.plain_text.specs.Octets.{hex_text}
+use Rattle.plain_text.specs.Escaped.{escaped_text}
 use Rattle.mms_data.specs.declared.object_name.Scope.{Scope}
 use Rattle.mms_data.specs.declared.object_name.Scope.TheVariants.{Vmd, Domain, Association}
 use Rattle.mms_data.specs.declared.outcome.Outcome.{Outcome}
 use Rattle.mms_data.specs.declared.outcome.Outcome.TheVariants.{Good, Fail}
-use Rattle.mms_data.specs.Datum.{Datum, boolean, integer, unsigned, bits, real, octets, text, structure, array, Data, no_data, datum}
+use Rattle.mms_data.specs.Datum.{Datum, boolean, integer, unsigned, bits, real, octets, text}
+use Rattle.mms_data.specs.Datum.{structure, array, Data, no_data, datum}
 use Rattle.mms_data.specs.ObjectName.{ObjectName}
 
 abbrev mutual
-  -- a letter for the kind of a datum, then its value; members stand in brackets, a comma between each two
+  -- a letter for the kind of a datum, then its value; members stand in brackets, a comma between
+  -- each two
   pub data_text : Datum → List ℕ
   data_text (boolean b) = if b then codes "T" else codes "F"
   data_text (integer z) = codes "i" ++ signed_decimal z

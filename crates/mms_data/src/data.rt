@@ -4,11 +4,14 @@ ghost use Rattle.std.specs.Option.{option_copied};
 
 mod spelling;
 
-use crate::octets::OctetList;
 use ber_values::{BitString, Visible};
+use item_list::ItemList;
 pub use spelling::spell_data;
 use std::alloc::{AllocError, Global};
 use std::marker::Model;
+
+/// Octets of any number.
+pub type OctetList = ItemList<u8>;
 
 /// A value: a [`DataKind`] that contracts see as a datum.
 #[cycle(tree)]

@@ -2,19 +2,14 @@
 #![tactic(auto)]
 
 mod data;
-mod escaped;
 mod name_text;
-mod names;
 mod object_name;
-mod octets;
 mod outcome;
 mod outcome_text;
 
-pub use data::{DataKind, DataList, MmsData, spell_data};
+pub use data::{DataKind, DataList, MmsData, OctetList, spell_data};
 pub use name_text::{read_name, spell_name};
-pub use names::Names;
-pub use object_name::{Name, Scope};
-pub use octets::OctetList;
+pub use object_name::{Name, Names, Scope};
 pub use outcome::Outcome;
 pub use outcome_text::spell_outcome;
 

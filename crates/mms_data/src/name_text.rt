@@ -1,15 +1,15 @@
 //! Names as text: `vmd:ITEM`, `DOMAIN/ITEM` or `aa:ITEM`, with the domain and the item escaped.
 ghost use Rattle.std.specs.Prelude.{◌≡◌, ◌++◌, List, ℕ, Some, IfOk, IfSome, OnOk, OnErr};
 ghost use Rattle.std.specs.List.{position};
-ghost use Rattle.mms_data.specs.Extends.{Extends};
-ghost use Rattle.mms_data.specs.NameIn.{name_in, name_of_parts, is_separator, scope_in, identifier_in};
+ghost use Rattle.plain_text.specs.Extends.{Extends};
+ghost use Rattle.mms_data.specs.NameIn.{name_in, name_of_parts, is_separator, scope_in};
+ghost use Rattle.mms_data.specs.NameIn.{identifier_in};
 ghost use Rattle.mms_data.specs.ObjectName.{ObjectName, IsName, IsScope, IsIdentifier};
 ghost use Rattle.mms_data.specs.Texts.{name_text, scope_text};
 
-use crate::escaped::unescape;
 use crate::object_name::{Name, Scope};
 use ber_values::{Visible, is_visible};
-use plain_text::push_escaped;
+use plain_text::{push_escaped, read_escaped};
 use std::alloc::{AllocError, Global};
 
 /// The name whose text this is, or nothing where it is no name's text.
@@ -70,7 +70,7 @@ fn read_identifier(alloc: Global, text: &[u8]) -> Result<Option<Visible>, AllocE
     ensures exact { IfOk result (λ octets. octets ≡ identifier_in text.now) }
     ensures named { IfOk result (λ octets. IfSome octets IsIdentifier) }
 {
-    let Some(octets) = unescape(alloc, text)? else {
+    let Some(octets) = read_escaped(alloc, text)? else {
         return Ok(None);
     };
     if octets.is_empty() || !is_visible(&octets) {

@@ -3,6 +3,7 @@ ghost use Rattle.std.specs.Prelude.{◌≡◌, ◌↔◌, IsTrue};
 ghost use Rattle.mms_data.specs.ObjectName.{same_scope, same_name};
 
 use ber_values::Visible;
+use item_list::ItemList;
 use std::alloc::AllocError;
 use std::marker::Model;
 
@@ -16,6 +17,9 @@ pub enum Scope {
     /// In one association.
     Association,
 }
+
+/// Names in order.
+pub type Names = ItemList<Name>;
 
 /// An item and where its name means something. The item and a domain have one to 64 octets.
 #[derive(Debug, Drop)]

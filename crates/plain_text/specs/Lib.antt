@@ -1,4 +1,6 @@
 pub mod Octets
 pub mod Numbers
+pub mod Escaped
+pub mod Extends
 pub mod Lines
 pub mod Words

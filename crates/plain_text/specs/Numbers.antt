@@ -1,5 +1,7 @@
 -- Numbers in plain text: decimal numbers, and hexadecimal octets.
-use Rattle.std.specs.Prelude.{ℕ, zero, suc, ◌+◌, ◌-◌, ◌*◌, Bool, false, ◌&&◌, ◌==◌, nat_le, List, [], ◌∷◌, length, Option, Some, None, ℤ, pos, negsuc, int_le, option_and_then, if◌then◌else◌}
+use Rattle.std.specs.Prelude.{ℕ, zero, suc, ◌+◌, ◌-◌, ◌*◌, Bool, false, ◌&&◌, ◌==◌, nat_le, List}
+use Rattle.std.specs.Prelude.{[], ◌∷◌, length, Option, Some, None, ℤ, pos, negsuc, int_le}
+use Rattle.std.specs.Prelude.{option_and_then, if◌then◌else◌}
 use Rattle.std.specs.Option.{option_map}
 use Rattle.std.specs.Int.{is_in_range}
 use Rattle.std.specs.Char.{is_ascii_digit}
@@ -32,25 +34,33 @@ negative (suc n) = Some (negsuc n)
 -- the signed number that a word is
 abbrev pub integer_in : List ℕ → Option ℤ
 integer_in [] = None
-integer_in (first ∷ more) = if first == 45 then option_and_then negative (number_in more) else option_map pos (number_in (first ∷ more))
+integer_in (first ∷ more) =
+    if first == 45 then option_and_then negative (number_in more)
+    else option_map pos (number_in (first ∷ more))
 
 -- the signed number that a word is, where it is from `low` to `high`
 abbrev pub integer_within : ℤ → ℤ → List ℕ → Option ℤ
-integer_within low high word = option_and_then (if_passes (λ z. int_le low z && int_le z high)) (integer_in word)
+integer_within low high word =
+    option_and_then (if_passes (λ z. int_le low z && int_le z high)) (integer_in word)
 
 -- the value of a lower-case hexadecimal digit
 abbrev pub hex_value : ℕ → Option ℕ
-hex_value digit = if is_in_range 48 57 digit then Some (digit - 48) else (if is_in_range 97 102 digit then Some (digit - 87) else None)
+hex_value digit =
+    if is_in_range 48 57 digit then Some (digit - 48)
+    else (if is_in_range 97 102 digit then Some (digit - 87) else None)
 
 -- the octet that two digits are
 abbrev pub hex_pair_value : ℕ → ℕ → Option ℕ
-hex_pair_value high low = option_and_then (λ h. option_map (λ l. h * 16 + l) (hex_value low)) (hex_value high)
+hex_pair_value high low =
+    option_and_then (λ h. option_map (λ l. h * 16 + l) (hex_value low)) (hex_value high)
 
 -- the octets that a word of pairs of lower-case digits is
 abbrev pub hex_in : List ℕ → Option (List ℕ)
 hex_in [] = Some []
 hex_in (high ∷ []) = None
-hex_in (high ∷ low ∷ more) = option_and_then (λ octet. option_map (λ octets. octet ∷ octets) (hex_in more)) (hex_pair_value high low)
+hex_in (high ∷ low ∷ more) =
+    option_and_then (λ octet. option_map (λ octets. octet ∷ octets) (hex_in more))
+    (hex_pair_value high low)
 
 -- the octets that a word is, where they are `count`
 abbrev pub hex_octets : ℕ → List ℕ → Option (List ℕ)

@@ -1,5 +1,6 @@
 -- The words of a line.
-use Rattle.std.specs.Prelude.{ℕ, Bool, true, false, not, ◌&&◌, ◌==◌, List, [], ◌∷◌, length, filter, slice_index, ◌-◌, Option, Some, None, if◌then◌else◌}
+use Rattle.std.specs.Prelude.{ℕ, Bool, true, false, not, ◌&&◌, ◌==◌, List, [], ◌∷◌, length, filter}
+use Rattle.std.specs.Prelude.{slice_index, ◌-◌, Option, Some, None, if◌then◌else◌}
 use Rattle.std.specs.List.{slice_split, list_any}
 
 -- not empty
@@ -13,7 +14,9 @@ words line = filter is_word (slice_split (λ octet. octet == 32) line)
 
 -- a line has no tab, and neither begins nor ends with a space
 abbrev pub is_spaced : List ℕ → Bool
-is_spaced line = not (list_any (λ octet. octet == 9) line) && not (slice_index line 0 == 32) && not (slice_index line (length line - 1) == 32)
+is_spaced line =
+    not (list_any (λ octet. octet == 9) line) && not (slice_index line 0 == 32)
+    && not (slice_index line (length line - 1) == 32)
 
 -- the words of a line that is well spaced
 abbrev pub words_in : List ℕ → Option (List (List ℕ))

@@ -28,7 +28,8 @@ pub fn three_words(text: &[u8]) -> Option<(&[u8], &[u8], &[u8])>
 
 /// The words of a text that has exactly four.
 pub fn four_words(text: &[u8]) -> Option<(&[u8], &[u8], &[u8], &[u8])>
-    ensures some { IfSome result (λ w. words text.now ≡ w.0.now ∷ w.1.now ∷ w.2.now ∷ w.3.now ∷ []) }
+    ensures some { IfSome result
+        (λ w. words text.now ≡ w.0.now ∷ w.1.now ∷ w.2.now ∷ w.3.now ∷ []) }
     ensures none { IfNone result (length (words text.now) ≢ 4) }
 {
     let (first, rest) = next_word(text)?;

@@ -1,11 +1,12 @@
-ghost use Rattle.std.specs.Prelude.{◌≡◌, ◌&&◌, ◌^◌, ◌<◌, ◌≤◌, int_le, IfOk, IfSome};
-ghost use Rattle.std.specs.Option.{option_map};
-ghost use Rattle.plain_text.specs.Numbers.{number_up_to, if_passes, negative, integer_within, hex_pair_value, hex_octet, hex_octets, hex_in};
-ghost use Rattle.plain_text.specs.Numbers as own;
+//! Decimal numbers, read and written.
+ghost use Rattle.std.specs.Prelude.{◌≡◌, ◌&&◌, ◌^◌, ◌≤◌, ◌++◌, int_le, OnOk, OnErr, decimal};
+ghost use Rattle.std.specs.Fmt.{signed_decimal};
+ghost use Rattle.plain_text.specs.Numbers.{number_up_to, if_passes, negative, integer_within};
 
-use std::alloc::{AllocError, Global};
+use std::alloc::AllocError;
 
-/// The decimal number that a word is, where it is at most `limit`. Leading zeros and signs are refused.
+/// The decimal number that a word is, where it is at most `limit`. Leading zeros and signs are
+/// refused.
 pub fn read_number(word: &[u8], limit: u64) -> Option<u64>
     ensures { result ≡ number_up_to limit word.now }
 {
@@ -58,62 +59,21 @@ pub fn read_integer(word: &[u8], low: i64, high: i64) -> Option<i64>
     }
 }
 
-/// The value of a lower-case hexadecimal digit.
-fn hex_value(digit: u8) -> Option<u8>
-    ensures value { result ≡ own.hex_value digit }
-    ensures small { IfSome result (λ value. value < 16) }
+/// Appends a number in decimal digits, without leading zeros. After want of memory `out` is as
+/// before.
+pub fn push_decimal(out: &mut Vec<u8>, number: u64) -> Result<(), AllocError>
+    ensures ok { OnOk result (out.new.items ≡ out.old.items ++ decimal number) }
+    ensures err { OnErr result (out.new.items ≡ out.old.items) }
 {
-    match digit {
-        b'0'..=b'9' => Some(digit - b'0'),
-        b'a'..=b'f' => Some(digit - b'a' + 10),
-        _ => None,
-    }
+    let text = number.to_string(*out.allocator())?;
+    out.extend_from_slice(text.as_bytes())
 }
 
-/// The octet that two lower-case hexadecimal digits are.
-fn hex_pair(high: u8, low: u8) -> Option<u8>
-    ensures { result ≡ hex_pair_value high low }
+/// Appends a number in decimal digits, with a `-` before a negative one.
+pub fn push_signed_decimal(out: &mut Vec<u8>, number: i64) -> Result<(), AllocError>
+    ensures ok { OnOk result (out.new.items ≡ out.old.items ++ signed_decimal number) }
+    ensures err { OnErr result (out.new.items ≡ out.old.items) }
 {
-    Some(hex_value(high)? * 16 + hex_value(low)?)
-}
-
-/// The octet that a word of exactly two lower-case hexadecimal digits is.
-pub fn read_hex_octet(word: &[u8]) -> Option<u8>
-    ensures { result ≡ hex_octet word.now }
-{
-    match word {
-        [high, low] => hex_pair(*high, *low),
-        _ => None,
-    }
-}
-
-/// The four octets that a word of exactly eight lower-case hexadecimal digits is.
-pub fn read_hex_four(word: &[u8]) -> Option<[u8; 4]>
-    ensures { result ≡ hex_octets 4 word.now }
-{
-    match word {
-        [a, b, c, d, e, f, g, h] => Some([
-            hex_pair(*a, *b)?,
-            hex_pair(*c, *d)?,
-            hex_pair(*e, *f)?,
-            hex_pair(*g, *h)?,
-        ]),
-        _ => None,
-    }
-}
-
-/// The octets that a word of pairs of lower-case hexadecimal digits is.
-pub fn read_hex(alloc: Global, word: &[u8]) -> Result<Option<Vec<u8>>, AllocError>
-    ensures { IfOk result (λ octets. option_map (λ o. o.items) octets ≡ hex_in word.now) }
-{
-    let mut octets = Vec::new(alloc);
-    let mut rest = word;
-    while let [high, low, more @ ..] = rest {
-        let Some(octet) = hex_pair(*high, *low) else {
-            return Ok(None);
-        };
-        octets.push(octet)?;
-        rest = more;
-    }
-    Ok(if rest.is_empty() { Some(octets) } else { None })
+    let text = number.to_string(*out.allocator())?;
+    out.extend_from_slice(text.as_bytes())
 }

@@ -1,4 +1,5 @@
-ghost use Rattle.std.specs.Prelude.{◌≡◌, ◌≢◌, ◌==◌, ◌<◌, ◌≤◌, [], ◌∷◌, length, slice_index, IfSome, IfNone};
+ghost use Rattle.std.specs.Prelude.{◌≡◌, ◌≢◌, ◌==◌, ◌<◌, ◌≤◌, [], ◌∷◌, length, slice_index, IfSome};
+ghost use Rattle.std.specs.Prelude.{IfNone};
 ghost use Rattle.std.specs.Option.{option_copied};
 ghost use Rattle.std.specs.List.{slice_split};
 ghost use Rattle.plain_text.specs.Words as own;
@@ -43,7 +44,8 @@ fn without_spaces(text: &[u8]) -> &[u8]
 
 /// A text up to its first separator, and what comes after that where there is one.
 pub fn next_part(text: &[u8], separator: u8) -> (&[u8], Option<&[u8]>)
-    ensures parts { slice_split (λ octet. octet == separator) text.now ≡ result.0.now ∷ own.parts_after separator (option_copied result.1) }
+    ensures parts { slice_split (λ octet. octet == separator) text.now
+        ≡ result.0.now ∷ own.parts_after separator (option_copied result.1) }
     ensures shorter { IfSome result.1 (λ rest. length rest.now < length text.now) }
 {
     match find_octet(text, separator) {

@@ -3,7 +3,7 @@ ghost use Rattle.std.specs.Prelude.{◌≡◌, ◌∷◌, ◌++◌, OnOk, OnErr}
 ghost use Rattle.plain_text.specs.Octets.{hex_text};
 ghost use Rattle.mms_data.specs.Datum.{Datum, data_of};
 ghost use Rattle.mms_data.specs.Texts.{data_text, members_text};
-ghost use Rattle.mms_data.specs.Extends.{Extends};
+ghost use Rattle.plain_text.specs.Extends.{Extends};
 
 use super::{DataKind, DataList, MmsData};
 use ber_values::BitString;
@@ -84,7 +84,8 @@ fn spell_integer(out: &mut Vec<u8>, integer: i64) -> Result<(), AllocError>
 }
 
 fn spell_unsigned(out: &mut Vec<u8>, unsigned: u64) -> Result<(), AllocError>
-    ensures ok { OnOk result (out.new.items ≡ out.old.items ++ data_text (Datum.unsigned unsigned)) }
+    ensures ok { OnOk result
+        (out.new.items ≡ out.old.items ++ data_text (Datum.unsigned unsigned)) }
     ensures err { OnErr result (Extends out.old.items out.new.items) }
 {
     out.push(b'u')?;

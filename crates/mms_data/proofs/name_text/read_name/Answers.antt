@@ -7,12 +7,14 @@ use Rattle.mms_data.proofs.name_text.read_name.Goals as goal
 
 pub returns-in-Some-clause-found : goal.returns-in-Some-clause-found
 returns-in-Some-clause-found c =
-    let exact : IfOk c.read_parts.result (λ name. name ≡ name_in c.args.text.now) = grind (arith, common_steps) in
+    let exact : IfOk c.read_parts.result
+    (λ name. name ≡ name_in c.args.text.now) = grind (arith, common_steps) in
     found_from_exact c.read_parts.result c.args.text.now exact
 
 pub returns-in-Some-clause-only : goal.returns-in-Some-clause-only
 returns-in-Some-clause-only c =
-    let exact : IfOk c.read_parts.result (λ name. name ≡ name_in c.args.text.now) = grind (arith, common_steps) in
+    let exact : IfOk c.read_parts.result
+    (λ name. name ≡ name_in c.args.text.now) = grind (arith, common_steps) in
     only_from_exact c.read_parts.result c.args.text.now exact
 
 pub returns-in-None-clause-only : goal.returns-in-None-clause-only

@@ -1,0 +1,9 @@
+//! Lists of items.
+#![tactic(auto)]
+
+mod list;
+
+pub use list::ItemList;
+
+#[cfg(test)]
+mod tests;
