@@ -1,6 +1,7 @@
 -- The pieces of grammars are exact where those that they are made of are.
-use Rattle.std.proofs.Common.{◌≡◌, ◌≢◌, ℕ, zero, suc, Bool, true, false, cond, eqb, ltb, List, [], ◌∷◌, length, Result, Ok, Err, refl, sym, ap, ◌∙◌, inl, inr, ◌⊎◌, Option, Some, None, ◌≤◌, ◌<◌, ◌-◌, ◌+◌, drop}
+use Rattle.std.proofs.Common.{◌≡◌, ◌≢◌, ℕ, zero, suc, Bool, true, false, cond, eqb, ltb, List, [], ◌∷◌, length, Result, Ok, Err, refl, sym, ap, subst, ◌∙◌, inl, inr, ◌⊎◌, Option, Some, None, ◌≤◌, ◌<◌, ◌-◌, ◌+◌, ◌++◌, drop, arith}
 use Rattle.std.proofs.lemmas.Bool.{ltb-true, ltb-false, lt-ltb, le-ltb, eqb-true, eqb-false, eq-eqb, ne_eqb, false≢true, cond-true, cond-false}
+use Rattle.std.proofs.lemmas.List.{drop-drop, drop_at}
 use Rattle.ber_values.specs.declared.fault.BerFault.{BerFault}
 use Rattle.ber_values.specs.declared.fault.Why.TheVariants as whys
 use Rattle.ber_values.specs.declared.head.Head.{Head}
@@ -194,3 +195,24 @@ unfolding all_in
 all_reads {X} g one head octets =
     IsReading-then (Taken X) X (g.begins head.body octets) (g.fault head.body octets) (g.reading head.body octets) (λ t x. (t.rest ≡ []) × (x ≡ t.value)) (λ t f. (t.rest ≢ []) × (f ≡ fault_at t.next whys.Tag)) (λ t. end_in t.next t.rest >>= λ u. Ok t.value)
     (one head.body octets) (λ t s. end_reads t.value t.next t.rest)
+
+-- ---- places of elements
+
+rest_of : (tag at next value : ℕ) (octets after_tag spelling rest : List ℕ) → octets ≡ tag ∷ after_tag → after_tag ≡ spelling ++ rest → next ≡ at + 1 + length spelling → drop value rest ≡ drop (next + value - at) octets
+rest_of tag at next value octets after_tag spelling rest tagged parts place =
+    let count : next + value - at ≡ suc (length spelling + value) = omega (arith, place) in
+    let whole : octets ≡ tag ∷ (spelling ++ rest) = tagged ∙ ap (λ (os : List ℕ). tag ∷ os) parts in
+    let inner : drop value (drop (length spelling) (spelling ++ rest)) ≡ drop (length spelling + value) (spelling ++ rest) = drop-drop value (length spelling) (spelling ++ rest) in
+    ap (drop value) (sym (drop_at spelling rest (length spelling) refl))
+    ∙ inner
+    ∙ ap (λ (k : ℕ). drop k (tag ∷ (spelling ++ rest))) (sym count)
+    ∙ ap (drop (next + value - at)) (sym whole)
+
+-- the octets after an element are those from its next place on
+pub part-rest : (tag at : ℕ) (octets : List ℕ) (part : Parted) → BeginsPart tag at octets part → part.rest ≡ drop (part.head.next - at) octets
+part-rest tag at octets part h =
+    subst (λ (p : Parted). p.rest ≡ drop (p.head.next - at) octets) (sym h.is)
+    (rest_of tag at h.size.next h.size.value octets h.after_tag h.sized.spelling h.size.rest h.tagged h.sized.parts h.sized.place)
+
+pub part_rest-read : (tag at : ℕ) (octets : List ℕ) (part : Parted) → parted_in tag at octets ≡ Ok part → part.rest ≡ drop (part.head.next - at) octets
+part_rest-read tag at octets part e = part-rest tag at octets part ((parted_reads tag at octets).found part e)

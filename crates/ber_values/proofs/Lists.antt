@@ -1,5 +1,5 @@
 -- Contents that are elements are read exactly, where their elements are.
-use Rattle.std.proofs.Common.{◌≡◌, ◌≢◌, ℕ, zero, suc, ◌+◌, ◌≤◌, ◌<◌, Bool, true, false, cond, ltb, List, [], ◌∷◌, ◌++◌, length, Result, Ok, Err, refl, sym, ap, subst, ◌∙◌, inl, inr, ◌⊎◌, append_assoc, append-nil, arith}
+use Rattle.std.proofs.Common.{◌≡◌, ◌≢◌, ℕ, zero, suc, ◌+◌, ◌-◌, ◌≤◌, ◌<◌, Bool, true, false, cond, ltb, List, [], ◌∷◌, ◌++◌, length, Result, Ok, Err, refl, sym, ap, subst, ◌∙◌, inl, inr, ◌⊎◌, append_assoc, append-nil, arith}
 use Rattle.std.proofs.lemmas.Bool.{ltb-true, ltb-false, lt-ltb, le-ltb}
 use Rattle.std.proofs.lemmas.List.{length_push}
 use Rattle.ber_values.specs.declared.fault.BerFault.{BerFault}
@@ -7,7 +7,10 @@ use Rattle.ber_values.specs.declared.fault.Why.TheVariants as whys
 use Rattle.ber_values.specs.declared.head.Head.{Head}
 use Rattle.ber_values.specs.Faults.{fault_at, ◌>>=◌}
 use Rattle.ber_values.specs.Reading.{Taken, IsReading}
-use Rattle.ber_values.specs.Grammars.{Grammar, IsGrammar}
+use Rattle.ber_values.specs.Grammars.{Grammar, IsGrammar, taken}
+use Rattle.ber_values.specs.declared.stop.Stop.{Stop}
+use Rattle.ber_values.specs.declared.stop.Stop.TheVariants as stops
+use Rattle.ber_values.specs.Stops.{Stops}
 use Rattle.ber_values.specs.Parts.{Contents, IsContentsGrammar}
 use Rattle.ber_values.specs.Lists.{BeginsList, SpellsList, BreaksList, ListFault, more_in, count_in, list_in}
 use Rattle.ber_values.proofs.Reading.{IsReading-then, IsReading-as}
@@ -208,3 +211,72 @@ count_reads least most g one head octets = whole_reads g one least most head.bod
 pub list_reads : {X : Type 0} (least : ℕ) (g : Grammar X) → IsGrammar g → IsContentsGrammar (list_in least g)
 unfolding list_in
 list_reads least g one head octets = whole_reads g one least (length octets) head.body octets
+
+-- ---- a loop over elements
+
+-- these elements were read, and what is still read makes the total
+pub record ListSoFar {X : Type 0} (g : Grammar X) (least most : ℕ) (xs : List X) (at : ℕ) (octets : List ℕ) (total : Result (List X) BerFault) : Type 0 where
+  pub reads : more_in g least (most - length xs) xs at octets ≡ total
+
+pub so_far-begins : {X : Type 0} (g : Grammar X) (least most at : ℕ) (octets : List ℕ) → ListSoFar g least most [] at octets (more_in g least most [] at octets)
+so_far-begins g least most at octets = record { reads = ap (λ k. more_in g least k [] at octets) (omega arith) }
+
+more_step : {X : Type 0} (g : Grammar X) (least room : ℕ) (xs : List X) (at : ℕ) (octets : List ℕ) (t : Taken X) → 0 < length octets → g.reading at octets ≡ Ok t → more_in g least (suc room) xs at octets ≡ more_in g least room (xs ++ t.value ∷ []) t.next t.rest
+unfolding more_in
+more_step g least room xs at [] t some read = absurd (omega (arith, some))
+more_step g least room xs at (first ∷ octets) t some read = rw read refl
+
+more_fails : {X : Type 0} (g : Grammar X) (least room : ℕ) (xs : List X) (at : ℕ) (octets : List ℕ) (f : BerFault) → 0 < length octets → g.reading at octets ≡ Err f → more_in g least (suc room) xs at octets ≡ Err f
+unfolding more_in
+more_fails g least room xs at [] f some read = absurd (omega (arith, some))
+more_fails g least room xs at (first ∷ octets) f some read = rw read refl
+
+more_ends : {X : Type 0} (g : Grammar X) (least room : ℕ) (xs : List X) (at : ℕ) (octets : List ℕ) → length octets ≡ 0 → least ≤ length xs → more_in g least room xs at octets ≡ Ok xs
+unfolding more_in
+more_ends g least room xs at [] none enough = rw (le-ltb (length xs) least enough) refl
+more_ends g least room xs at (first ∷ octets) none enough = absurd (omega (arith, none))
+
+more_misses : {X : Type 0} (g : Grammar X) (least room : ℕ) (xs : List X) (at : ℕ) (octets : List ℕ) → length octets ≡ 0 → length xs < least → more_in g least room xs at octets ≡ Err (fault_at at whys.Short)
+unfolding more_in
+more_misses g least room xs at [] none few = rw (lt-ltb (length xs) least few) refl
+more_misses g least room xs at (first ∷ octets) none few = absurd (omega (arith, none))
+
+more_full : {X : Type 0} (g : Grammar X) (least : ℕ) (xs : List X) (at : ℕ) (octets : List ℕ) → 0 < length octets → more_in g least 0 xs at octets ≡ Err (fault_at at whys.Tag)
+unfolding more_in
+more_full g least xs at [] some = absurd (omega (arith, some))
+more_full g least xs at (first ∷ octets) some = refl
+
+-- one element more was read
+pub so_far-more : {X : Type 0} (g : Grammar X) (least most : ℕ) (xs : List X) (at : ℕ) (octets : List ℕ) (total : Result (List X) BerFault) (x : X) (next : ℕ) (rest : List ℕ) → length xs < most → 0 < length octets → g.reading at octets ≡ Ok (taken x next rest)
+    → ListSoFar g least most xs at octets total → ListSoFar g least most (xs ++ x ∷ []) next rest total
+so_far-more g least most xs at octets total x next rest room some read s =
+    let len : length (xs ++ x ∷ []) ≡ length xs + 1 = length_push xs x in
+    let k : most - length xs ≡ suc (most - length (xs ++ x ∷ [])) = omega (arith, len, room) in
+    record { reads = sym (more_step g least (most - length (xs ++ x ∷ [])) xs at octets (taken x next rest) some read) ∙ ap (λ n. more_in g least n xs at octets) (sym k) ∙ s.reads }
+
+-- an element is faulty
+pub so_far-fails : {X : Type 0} (g : Grammar X) (least most : ℕ) (xs : List X) (at : ℕ) (octets : List ℕ) (total : Result (List X) BerFault) (f : BerFault) → length xs < most → 0 < length octets → g.reading at octets ≡ Err f
+    → ListSoFar g least most xs at octets total → total ≡ Err f
+so_far-fails g least most xs at octets total f room some read s =
+    let k : most - length xs ≡ suc (most - length xs - 1) = omega (arith, room) in
+    sym s.reads ∙ ap (λ n. more_in g least n xs at octets) k ∙ more_fails g least (most - length xs - 1) xs at octets f some read
+
+-- reading an element stopped
+pub so_far-stops : {X : Type 0} (g : Grammar X) (least most : ℕ) (xs : List X) (at : ℕ) (octets : List ℕ) (total : Result (List X) BerFault) (stop : Stop) → length xs < most → 0 < length octets → Stops stop (g.reading at octets)
+    → ListSoFar g least most xs at octets total → Stops stop total
+so_far-stops g least most xs at octets total stops.Memory room some read s = tt
+so_far-stops g least most xs at octets total (stops.Fault f) room some read s = so_far-fails g least most xs at octets total f room some read s
+
+-- no octets are left
+pub so_far-ends : {X : Type 0} (g : Grammar X) (least most : ℕ) (xs : List X) (at : ℕ) (octets : List ℕ) (total : Result (List X) BerFault) → length octets ≡ 0 → least ≤ length xs → ListSoFar g least most xs at octets total → total ≡ Ok xs
+so_far-ends g least most xs at octets total none enough s = sym s.reads ∙ more_ends g least (most - length xs) xs at octets none enough
+
+-- none are left, and more elements are wanted
+pub so_far-misses : {X : Type 0} (g : Grammar X) (least most : ℕ) (xs : List X) (at : ℕ) (octets : List ℕ) (total : Result (List X) BerFault) → length octets ≡ 0 → length xs < least → ListSoFar g least most xs at octets total → total ≡ Err (fault_at at whys.Short)
+so_far-misses g least most xs at octets total none few s = sym s.reads ∙ more_misses g least (most - length xs) xs at octets none few
+
+-- octets are left, and no more elements may stand there
+pub so_far-full : {X : Type 0} (g : Grammar X) (least most : ℕ) (xs : List X) (at : ℕ) (octets : List ℕ) (total : Result (List X) BerFault) → 0 < length octets → length xs ≡ most → ListSoFar g least most xs at octets total → total ≡ Err (fault_at at whys.Tag)
+so_far-full g least most xs at octets total some full s =
+    let k : most - length xs ≡ 0 = omega (arith, full) in
+    sym s.reads ∙ ap (λ n. more_in g least n xs at octets) k ∙ more_full g least xs at octets some

@@ -1,5 +1,5 @@
 //! Elements taken from the front of octets, by their tags.
-ghost use Rattle.std.specs.Prelude.{◌≡◌, ◌≢◌, ◌+◌, ◌/◌, ◌%◌, ◌==◌, false, ◌^◌, ◌<◌, ◌≤◌, length, IfOk};
+ghost use Rattle.std.specs.Prelude.{◌≡◌, ◌≢◌, ◌+◌, ◌-◌, ◌/◌, ◌%◌, ◌==◌, false, ◌^◌, ◌<◌, ◌≤◌, length, drop, IfOk};
 ghost use Rattle.ber_values.specs.Faults.{Gives};
 ghost use Rattle.ber_values.specs.Grammars.{has_tag};
 ghost use Rattle.ber_values.specs.Parts.{parted_in, sized_part_in, end_in};
@@ -10,6 +10,7 @@ use crate::head::Head;
 use crate::tag::{make_tag, read_length, short};
 
 /// An element that stood at the front of octets: its head, its contents, and the octets after it.
+#[derive(Clone, Copy, Debug)]
 pub struct Part<'a> {
     pub head: Head,
     pub contents: &'a [u8],
@@ -18,10 +19,19 @@ pub struct Part<'a> {
 
 /// The element of this tag of one octet at the front of octets, of which the first has the place
 /// `at`. Where no octet is left it is missed; where another tag stands there, that is refused.
-#[tactic(auto, unfolding(crate::specs::Parts::parted_in))]
 pub fn take_part(octets: &[u8], at: usize, tag: u8) -> Result<Part<'_>, BerFault>
     requires single { tag % 32 ≢ 31 }
     requires placed { at + length octets.now < 2 ^ 64 }
+    ensures exact { Gives parted_of result (parted_in tag at octets.now) }
+    ensures within { IfOk result (λ part. IsPartWithin at octets.now (parted_of part)) }
+    ensures after { IfOk result (λ part. part.rest.now ≡ drop (part.head.next - at) octets.now) }
+{
+    take_tagged(octets, at, tag)
+}
+
+#[tactic(auto, unfolding(crate::specs::Parts::parted_in))]
+fn take_tagged(octets: &[u8], at: usize, tag: u8) -> Result<Part<'_>, BerFault>
+    requires { at + length octets.now < 2 ^ 64 }
     ensures exact { Gives parted_of result (parted_in tag at octets.now) }
     ensures within { IfOk result (λ part. IsPartWithin at octets.now (parted_of part)) }
 {

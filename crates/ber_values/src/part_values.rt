@@ -1,6 +1,7 @@
 //! The values of elements that were taken.
 ghost use Rattle.std.specs.Prelude.{◌≡◌, ◌+◌, ◌^◌, ◌<◌, ◌≤◌, length};
 ghost use Rattle.ber_values.specs.Leaves.{integer, unsigned, natural, boolean, bits, oid, visible, octet, span, visible_within, unsigned_within};
+ghost use Rattle.ber_values.specs.Faults.{Gives};
 ghost use Rattle.ber_values.specs.Stops.{Answers};
 
 use crate::bit_string::BitString;
@@ -97,6 +98,17 @@ impl Part<'_> {
         ensures { Answers (λ b. b) result (bits.reading self.now.head self.now.contents.now) }
     {
         Ok(bits_from(alloc, self.contents, &self.head)??)
+    }
+
+    /// The octets of the object identifier that the contents are: one to 32.
+    #[tactic(auto, unfolding(crate::specs::Leaves::oid, crate::specs::TextContents::oid_in))]
+    pub fn oid_octets(&self) -> Result<&[u8], BerFault>
+        ensures { Gives (λ o. o.now) result (oid.reading self.now.head self.now.contents.now) }
+    {
+        match self.contents.len() {
+            1..=32 => Ok(self.contents),
+            _ => Err(length_fault(&self.head)),
+        }
     }
 
     /// The object identifier that the contents are: one to 32 octets.
