@@ -1,7 +1,7 @@
 -- The pieces of grammars are exact where those that they are made of are.
-use Rattle.std.proofs.Common.{◌≡◌, ◌≢◌, ℕ, zero, suc, Bool, true, false, cond, eqb, ltb, List, [], ◌∷◌, length, Result, Ok, Err, refl, sym, ap, subst, ◌∙◌, inl, inr, ◌⊎◌, Option, Some, None, ◌≤◌, ◌<◌, ◌-◌, ◌+◌, ◌++◌, drop, arith}
+use Rattle.std.proofs.Common.{◌≡◌, ◌≢◌, ℕ, zero, suc, Bool, true, false, cond, eqb, ltb, List, [], ◌∷◌, length, Result, Ok, Err, refl, sym, ap, subst, ◌∙◌, inl, inr, ◌⊎◌, Option, Some, None, ◌≤◌, ◌<◌, ◌-◌, ◌+◌, ◌++◌, ◌^◌, drop, take, append_assoc, arith}
 use Rattle.std.proofs.lemmas.Bool.{ltb-true, ltb-false, lt-ltb, le-ltb, eqb-true, eqb-false, eq-eqb, ne_eqb, false≢true, cond-true, cond-false}
-use Rattle.std.proofs.lemmas.List.{drop-drop, drop_at}
+use Rattle.std.proofs.lemmas.List.{drop-drop, drop_at, take_at, length-append}
 use Rattle.ber_values.specs.declared.fault.BerFault.{BerFault}
 use Rattle.ber_values.specs.declared.fault.Why.TheVariants as whys
 use Rattle.ber_values.specs.declared.head.Head.{Head}
@@ -14,6 +14,8 @@ use Rattle.ber_values.specs.Parts.{Contents, IsContentsGrammar, Parted, parted, 
 use Rattle.ber_values.proofs.Reading.{IsReading-from, IsReading-then, IsReading-as, Ok_is, Err_is, not_both}
 use Rattle.ber_values.proofs.Tags.{length_reads}
 use Rattle.ber_values.proofs.Heads.{head_reads}
+use Rattle.ber_values.specs.Writing.{length_octets, written}
+use Rattle.ber_values.proofs.Written.{length_spelled}
 
 -- ---- readings
 
@@ -216,3 +218,39 @@ part-rest tag at octets part h =
 
 pub part_rest-read : (tag at : ℕ) (octets : List ℕ) (part : Parted) → parted_in tag at octets ≡ Ok part → part.rest ≡ drop (part.head.next - at) octets
 part_rest-read tag at octets part e = part-rest tag at octets part ((parted_reads tag at octets).found part e)
+
+-- ---- written elements
+
+-- an element that was written begins what follows it, with the value of its contents
+pub part-written : {X : Type 0} (tag : ℕ) (c : Contents X) (at : ℕ) (x : X) (contents rest : List ℕ) → length contents < 2 ^ 32
+    → c.spells (at + 1 + length (length_octets (length contents))) x contents
+    → (part_in tag c).begins at (written tag contents ++ rest) (taken x (at + length (written tag contents)) rest)
+unfolding part_in
+part-written {X} tag c at x contents rest few spelled =
+    let n = length contents in
+    let size : Taken ℕ = taken n (at + 1 + length (length_octets n)) (contents ++ rest) in
+    let after : List ℕ = (length_octets n ++ contents) ++ rest in
+    let front : take n (contents ++ rest) ≡ contents = take_at contents rest n refl in
+    let back : drop n (contents ++ rest) ≡ rest = drop_at contents rest n refl in
+    let ends : at + length (written tag contents) ≡ (at + 1 + length (length_octets n)) + n = omega (arith, length-append (length_octets n) contents) in
+    (parted tag at size, record {
+      after_tag = after;
+      size = size;
+      tagged = refl;
+      sized = record { spelling = length_octets n; spelled = length_spelled n few; parts = append_assoc (length_octets n) contents rest; place = refl };
+      within = omega (arith, length-append contents rest);
+      is = refl;
+    }, (x, subst (c.spells (at + 1 + length (length_octets n)) x) (sym front) spelled,
+      ap (λ (k : ℕ). taken x k rest) ends ∙ ap (λ (os : List ℕ). taken x ((at + 1 + length (length_octets n)) + n) os) (sym back)))
+
+-- the element of a tag is chosen
+pub choose-written : {X : Type 0} (tag : ℕ) (c : Contents X) (other : Grammar X) (at : ℕ) (x : X) (contents rest : List ℕ) → length contents < 2 ^ 32
+    → c.spells (at + 1 + length (length_octets (length contents))) x contents
+    → (choose_in tag c other).begins at (written tag contents ++ rest) (taken x (at + length (written tag contents)) rest)
+unfolding choose_in branch_in
+choose-written tag c other at x contents rest few spelled = inl (eq-eqb tag tag refl, part-written tag c at x contents rest few spelled)
+
+-- what begins with another tag is left to the others
+pub choose-other : {X : Type 0} (tag : ℕ) (c : Contents X) (other : Grammar X) (at : ℕ) (octets : List ℕ) (t : Taken X) → has_tag tag octets ≡ false → other.begins at octets t → (choose_in tag c other).begins at octets t
+unfolding choose_in branch_in
+choose-other tag c other at octets t no_tag begins = inr (no_tag, begins)

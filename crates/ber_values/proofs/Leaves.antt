@@ -1,5 +1,5 @@
 -- Contents that hold no elements are read exactly.
-use Rattle.std.proofs.Common.{◌≡◌, ◌≢◌, ℕ, zero, suc, ◌+◌, ◌<◌, ◌≤◌, Bool, true, false, ◌&&◌, cond, eqb, List, [], ◌∷◌, length, get_or, ℤ, pos, negsuc, ◌<ℤ◌, Option, Result, Ok, Err, refl, sym, ap, ◌∙◌, inl, inr, ◌⊎◌, arith}
+use Rattle.std.proofs.Common.{◌≡◌, ◌≢◌, ℕ, zero, suc, ◌+◌, ◌^◌, ◌<◌, ◌≤◌, Bool, true, false, ◌&&◌, cond, eqb, List, [], ◌∷◌, length, get_or, ℤ, pos, negsuc, ◌<ℤ◌, Option, Result, Ok, Err, refl, sym, ap, ◌∙◌, inl, inr, ◌⊎◌, arith}
 use Rattle.std.specs.Prelude.{int_le, nat_le}
 use Rattle.std.specs.List.{list_all}
 use Rattle.std.proofs.lemmas.Bool.{eqb-true, eqb-false, eq-eqb, ne_eqb, false≢true}
@@ -14,9 +14,9 @@ use Rattle.ber_values.specs.Reading.{IsReading}
 use Rattle.ber_values.specs.Contents.{HasLength, has_length, ContentsFault}
 use Rattle.ber_values.specs.Numbers.{twos_complement, SpellsInteger, unsigned_of}
 use Rattle.ber_values.specs.Parts.{Contents, IsContentsGrammar}
-use Rattle.ber_values.specs.Leaves.{integer, unsigned, boolean, bits, oid, visible, is_natural, SpellsNatural, natural_in, natural, octet_in, octet, raw, span_at, span, SpellsText, text_in, visible_within, integer_within, unsigned_within, selector_of, selector_in, selector, same_from, FirstWrong, fixed}
+use Rattle.ber_values.specs.Leaves.{integer, unsigned, boolean, bits, oid, visible, natural_in, natural, octet_in, octet, raw, span_at, span, SpellsText, text_in, visible_within, integer_within, unsigned_within, selector_of, selector_in, selector, same_from, FirstWrong, fixed}
 use Rattle.ber_values.proofs.Reading.{IsReading-from, IsReading-as}
-use Rattle.ber_values.proofs.Elements.{Tests, contents_read, length_kept, length_test, integer_reads, unsigned_reads, boolean_reads, bits_read, oid_reads, visible_reads}
+use Rattle.ber_values.proofs.Elements.{Tests, contents_read, length_kept, length_test, below_reads, integer_reads, unsigned_reads, boolean_reads, bits_read, oid_reads, visible_reads}
 use Rattle.ber_values.proofs.Grammars.{IsReading-done, IsReading-failed, IsReading-test, where_reads}
 
 pub integer_contents : IsContentsGrammar integer
@@ -46,35 +46,9 @@ visible_contents head octets = visible_reads head octets
 never : true ≡ false → ⊥
 never e = false≢true (sym e)
 
-is_natural-from : (z : ℤ) → is_natural z ≡ true → pos (unsigned_of z) ≡ z
-is_natural-from (pos n) e = refl
-is_natural-from (negsuc n) e = absurd (false≢true e)
-
-not_natural : (z : ℤ) → is_natural z ≡ false → z <ℤ pos 0
-not_natural (pos n) e = absurd (never e)
-not_natural (negsuc n) e = omega (arith, ints)
-
-from_not_natural : (z : ℤ) → z <ℤ pos 0 → is_natural z ≡ false
-from_not_natural (pos n) h = absurd (omega (arith, ints, h))
-from_not_natural (negsuc n) h = refl
-
-natural_is : (z : ℤ) (x : ℕ) → pos x ≡ z → (is_natural z ≡ true) × (x ≡ unsigned_of z)
-natural_is (pos n) x e = (refl, cc)
-natural_is (negsuc n) x e = absurd cc
-
 pub natural_contents : IsContentsGrammar natural
 unfolding natural natural_in
-natural_contents head octets =
-    let z = twos_complement octets in
-    contents_read ℕ (λ v. SpellsNatural v octets) (HasLength 1 8 octets) (z <ℤ pos 0) (has_length 1 8 octets) (is_natural z) (unsigned_of z) head
-    (record {
-      length_kept = length_kept 1 8 octets;
-      length_test = length_test 1 8 octets;
-      spelled = λ a k. (length_kept 1 8 octets a, is_natural-from z k);
-      broken = λ a k. not_natural z k;
-      from_spelled = λ x s. let p = natural_is z x s.1 in (length_test 1 8 octets s.0, p.0, p.1);
-      from_broken = from_not_natural z;
-    })
+natural_contents head octets = below_reads (2 ^ 63) head octets
 
 one_octet : (octets : List ℕ) → has_length 1 1 octets ≡ true → octets ≡ get_or octets 0 0 ∷ []
 one_octet [] e = absurd (false≢true e)

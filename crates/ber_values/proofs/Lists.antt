@@ -1,7 +1,7 @@
 -- Contents that are elements are read exactly, where their elements are.
-use Rattle.std.proofs.Common.{◌≡◌, ◌≢◌, ℕ, zero, suc, ◌+◌, ◌-◌, ◌≤◌, ◌<◌, Bool, true, false, cond, ltb, List, [], ◌∷◌, ◌++◌, length, Result, Ok, Err, refl, sym, ap, subst, ◌∙◌, inl, inr, ◌⊎◌, append_assoc, append-nil, arith}
-use Rattle.std.proofs.lemmas.Bool.{ltb-true, ltb-false, lt-ltb, le-ltb}
-use Rattle.std.proofs.lemmas.List.{length_push}
+use Rattle.std.proofs.Common.{◌≡◌, ◌≢◌, ℕ, zero, suc, ◌+◌, ◌-◌, ◌^◌, ◌≤◌, ◌<◌, drop, Bool, true, false, cond, eqb, ltb, List, [], ◌∷◌, ◌++◌, length, Result, Ok, Err, refl, sym, ap, subst, ◌∙◌, inl, inr, ◌⊎◌, append_assoc, append-nil, arith}
+use Rattle.std.proofs.lemmas.Bool.{ltb-true, ltb-false, lt-ltb, le-ltb, eqb-true, false≢true}
+use Rattle.std.proofs.lemmas.List.{length_push, length-drop}
 use Rattle.ber_values.specs.declared.fault.BerFault.{BerFault}
 use Rattle.ber_values.specs.declared.fault.Why.TheVariants as whys
 use Rattle.ber_values.specs.declared.head.Head.{Head}
@@ -280,3 +280,40 @@ pub so_far-full : {X : Type 0} (g : Grammar X) (least most : ℕ) (xs : List X) 
 so_far-full g least most xs at octets total some full s =
     let k : most - length xs ≡ 0 = omega (arith, full) in
     sym s.reads ∙ ap (λ n. more_in g least n xs at octets) k ∙ more_full g least xs at octets some
+
+-- ---- a loop over all elements of contents
+
+-- what a loop keeps: the elements so far, and the octets that are left
+pub record MembersSoFar {X : Type 0} (g : Grammar X) (least most : ℕ) (xs : List X) (at : ℕ) (octets : List ℕ) (total : Result (List X) BerFault) : Type 0 where
+  pub placed : at + length octets < 2 ^ 64
+  pub fewer : length xs + length octets ≤ most
+  pub reads : ListSoFar g least most xs at octets total
+
+pub members-begin : {X : Type 0} (g : Grammar X) (least : ℕ) (head : Head) (octets : List ℕ) → head.body + length octets < 2 ^ 64 → MembersSoFar g least (length octets) [] head.body octets ((list_in least g).reading head octets)
+unfolding list_in
+members-begin g least head octets placed = record { placed = placed; fewer = omega arith; reads = so_far-begins g least (length octets) head.body octets }
+
+pub members-more : {X : Type 0} (g : Grammar X) (least most : ℕ) (xs : List X) (at : ℕ) (octets : List ℕ) (total : Result (List X) BerFault) (x : X) (next : ℕ) → 0 < length octets → g.reading at octets ≡ Ok (taken x next (drop (next - at) octets)) → at < next → next ≤ at + length octets
+    → MembersSoFar g least most xs at octets total → MembersSoFar g least most (xs ++ x ∷ []) next (drop (next - at) octets) total
+members-more g least most xs at octets total x next some read first last s =
+    let len : length (drop (next - at) octets) ≡ length octets - (next - at) = length-drop (next - at) octets in
+    let more : length (xs ++ x ∷ []) ≡ length xs + 1 = length_push xs x in
+    record {
+      placed = omega (arith, len, first, last, s.placed);
+      fewer = omega (arith, len, more, first, last, s.fewer);
+      reads = so_far-more g least most xs at octets total x next (drop (next - at) octets) (omega (arith, some, s.fewer)) some read s.reads;
+    }
+
+pub members-stop : {X : Type 0} (g : Grammar X) (least most : ℕ) (xs : List X) (at : ℕ) (octets : List ℕ) (total : Result (List X) BerFault) (stop : Stop) → 0 < length octets → Stops stop (g.reading at octets) → MembersSoFar g least most xs at octets total → Stops stop total
+members-stop g least most xs at octets total stop some read s = so_far-stops g least most xs at octets total stop (omega (arith, some, s.fewer)) some read s.reads
+
+pub members-end : {X : Type 0} (g : Grammar X) (least most : ℕ) (xs : List X) (at : ℕ) (octets : List ℕ) (total : Result (List X) BerFault) → length octets ≡ 0 → least ≤ length xs → MembersSoFar g least most xs at octets total → total ≡ Ok xs
+members-end g least most xs at octets total none enough s = so_far-ends g least most xs at octets total none enough s.reads
+
+-- what `is_empty` tells of the octets that are left
+pub some_left : (octets : List ℕ) (empty : Bool) → empty ≡ eqb (length octets) 0 → empty ≡ false → 0 < length octets
+some_left [] empty is e = absurd (false≢true (sym e ∙ is))
+some_left (first ∷ octets) empty is e = omega arith
+
+pub none_left : (octets : List ℕ) (empty : Bool) → empty ≡ eqb (length octets) 0 → empty ≡ true → length octets ≡ 0
+none_left octets empty is e = eqb-true (length octets) 0 (sym is ∙ e)

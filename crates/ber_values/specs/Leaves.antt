@@ -9,7 +9,7 @@ use Rattle.ber_values.specs.Faults.{fault_at, ◌>>=◌}
 use Rattle.ber_values.specs.Bits.{Bits}
 use Rattle.ber_values.specs.Visible.{is_visible_octet}
 use Rattle.ber_values.specs.Contents.{HasLength, has_length, ContentsFault, contents_in}
-use Rattle.ber_values.specs.Numbers.{twos_complement, SpellsInteger, IntegerFault, integer_in, SpellsUnsigned, UnsignedFault, unsigned_in, unsigned_of}
+use Rattle.ber_values.specs.Numbers.{twos_complement, SpellsInteger, IntegerFault, integer_in, SpellsUnsigned, UnsignedFault, unsigned_in, is_below, unsigned_of}
 use Rattle.ber_values.specs.Booleans.{SpellsBoolean, BooleanFault, boolean_in}
 use Rattle.ber_values.specs.BitContents.{SpellsBits, BitsFault, bits_in}
 use Rattle.ber_values.specs.TextContents.{SpellsOid, OidFault, oid_in, SpellsVisible, VisibleFault, visible_in}
@@ -59,20 +59,16 @@ visible = record {
 }
 
 -- an integer from 0 to 2^63 - 1
-abbrev pub is_natural : ℤ → Bool
-is_natural (pos n) = true
-is_natural (negsuc n) = false
-
 abbrev pub SpellsNatural : ℕ → List ℕ → Type 0
-SpellsNatural value octets = SpellsInteger (pos value) octets
+SpellsNatural value octets = SpellsInteger (pos value) octets × (value < 2 ^ 63)
 
 abbrev pub NaturalFault : Head → List ℕ → BerFault → Type 0
-NaturalFault head octets =
-    ContentsFault (HasLength 1 8 octets) (twos_complement octets <ℤ pos 0) head
+NaturalFault head octets = ContentsFault (HasLength 1 8 octets)
+    ((twos_complement octets <ℤ pos 0) ⊎ (pos (2 ^ 63) ≤ℤ twos_complement octets)) head
 
 unfoldable pub natural_in : Head → List ℕ → Result ℕ BerFault
-natural_in head octets = contents_in (has_length 1 8 octets) (is_natural (twos_complement octets))
-    (unsigned_of (twos_complement octets)) head
+natural_in head octets = contents_in (has_length 1 8 octets)
+    (is_below (2 ^ 63) (twos_complement octets)) (unsigned_of (twos_complement octets)) head
 
 unfoldable pub natural : Contents ℕ
 natural = record {

@@ -26,14 +26,14 @@ SpellsUnsigned value octets = SpellsInteger (pos value) octets × (value < 2 ^ 3
 abbrev pub UnsignedFault : Head → List ℕ → BerFault → Type 0
 UnsignedFault head octets = ContentsFault (HasLength 1 8 octets) ((twos_complement octets <ℤ pos 0) ⊎ (pos (2 ^ 32) ≤ℤ twos_complement octets)) head
 
--- whether an integer is in that range, and which number it is then
-abbrev pub is_unsigned : ℤ → Bool
-is_unsigned (pos n) = nat_lt n (2 ^ 32)
-is_unsigned (negsuc n) = false
+-- whether an integer is from 0 up to a limit, and which number it is then
+abbrev pub is_below : ℕ → ℤ → Bool
+is_below limit (pos n) = nat_lt n limit
+is_below limit (negsuc n) = false
 
 abbrev pub unsigned_of : ℤ → ℕ
 unsigned_of (pos n) = n
 unsigned_of (negsuc n) = 0
 
 unfoldable pub unsigned_in : Head → List ℕ → Result ℕ BerFault
-unsigned_in head octets = contents_in (has_length 1 8 octets) (is_unsigned (twos_complement octets)) (unsigned_of (twos_complement octets)) head
+unsigned_in head octets = contents_in (has_length 1 8 octets) (is_below (2 ^ 32) (twos_complement octets)) (unsigned_of (twos_complement octets)) head

@@ -29,7 +29,7 @@ pub use integer::{read_integer, read_unsigned, write_integer};
 pub use laws::{one_reading, written_is_read, written_is_shortest};
 pub use lengths::{MOST_LENGTH, add_len, integer_len, part_len};
 pub use object_identifier::Oid;
-pub use part::{Part, has_tag, take_end, take_part};
+pub use part::{Part, has_tag, octets_from, take_end, take_part};
 pub use stop::{Stop, settle};
 pub use texts::{read_oid, read_visible, write_oid, write_visible};
 pub use visible_string::{Visible, is_visible};

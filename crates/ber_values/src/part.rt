@@ -117,3 +117,12 @@ pub fn take_end(octets: &[u8], at: usize) -> Result<(), BerFault>
         }),
     }
 }
+
+/// The octets from the place `next` on, where the first one has the place `at`.
+pub fn octets_from(octets: &[u8], at: usize, next: usize) -> &[u8]
+    requires order { at ≤ next }
+    requires within { next ≤ at + length octets.now }
+    ensures { result.now ≡ drop (next - at) octets.now }
+{
+    octets.split_at(next - at).1
+}
