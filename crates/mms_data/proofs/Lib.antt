@@ -1,2 +1,5 @@
 pub mod Spelled
 pub mod ReadName
+pub mod FloatingRead
+pub mod DataRead
+pub mod DataLawful

@@ -1,0 +1,190 @@
+//! Data as octets (ISO 9506-2, `Data`).
+ghost use Rattle.std.specs.Prelude.{◌≡◌, ◌+◌, ◌-◌, ◌<◌, ◌≤◌, ◌^◌, length, drop, IfOk};
+ghost use Rattle.ber_values.specs.Faults.{fault_at};
+ghost use Rattle.ber_values.specs.Stops.{Answers};
+ghost use Rattle.ber_values.specs.Grammars.{taken, why_refused};
+ghost use Rattle.ber_values.specs.Parts.{part_in, contents_as};
+ghost use Rattle.ber_values.specs.Lists.{list_in};
+ghost use Rattle.ber_values.specs.Leaves as leaves;
+ghost use Rattle.mms_data.specs.Datum.{Datum};
+ghost use Rattle.mms_data.specs.Floating.{floating};
+ghost use Rattle.mms_data.specs.DataOctets.{plain_datum, array_of, structure_of, datum_within};
+
+use super::{DataKind, DataList, MmsData, OctetList};
+use ber_values::{BerFault, Part, Stop, Why, has_tag, octets_from, take_part};
+use std::alloc::Global;
+
+/// The most levels of data: a value that is neither structure nor array has one.
+pub const MOST_DEPTH: u8 = 5;
+
+/// The value at the front of octets, of at most so many levels, and the place after it.
+#[cycle(levels)]
+#[tactic(auto, unfolding(
+    crate::specs::DataOctets::datum_within,
+    ber_values::specs::Parts::choose_in,
+    ber_values::specs::Grammars::branch_in,
+    ber_values::specs::Grammars::refused
+))]
+fn datum_at(
+    alloc: Global,
+    octets: &[u8],
+    at: usize,
+    levels: u8,
+) -> Result<(MmsData, usize), Stop>
+    requires { at + length octets.now < 2 ^ 64 }
+    ensures exact { Answers (λ x. taken x.0 x.1 (drop (x.1 - at) octets.now)) result ((datum_within levels).reading at octets.now) }
+    ensures within { IfOk result (λ x. (at + 2 ≤ x.1) × (x.1 ≤ at + length octets.now)) }
+{
+    if levels == 0 {
+        return Err(Stop::Fault(refused(octets, at)));
+    }
+    if has_tag(octets, 0xA1) {
+        return array_at(alloc, octets, at, levels - 1);
+    }
+    if has_tag(octets, 0xA2) {
+        return structure_at(alloc, octets, at, levels - 1);
+    }
+    plain_at(alloc, octets, at)
+}
+
+/// The array at the front of octets, whose members have at most so many levels.
+#[cycle(levels)]
+#[tactic(auto, unfolding(
+    ber_values::specs::Parts::part_in,
+    ber_values::specs::Parts::contents_as
+))]
+fn array_at(
+    alloc: Global,
+    octets: &[u8],
+    at: usize,
+    levels: u8,
+) -> Result<(MmsData, usize), Stop>
+    requires { at + length octets.now < 2 ^ 64 }
+    ensures exact { Answers (λ x. taken x.0 x.1 (drop (x.1 - at) octets.now)) result ((part_in 161 (contents_as array_of (list_in 0 (datum_within levels)))).reading at octets.now) }
+    ensures within { IfOk result (λ x. (at + 2 ≤ x.1) × (x.1 ≤ at + length octets.now)) }
+{
+    let part = take_part(octets, at, 0xA1)?;
+    let members = members_of(alloc, &part, levels)?;
+    Ok((MmsData::new(DataKind::Array(members)), part.head.next))
+}
+
+/// The structure at the front of octets, whose members have at most so many levels.
+#[cycle(levels)]
+#[tactic(auto, unfolding(
+    ber_values::specs::Parts::part_in,
+    ber_values::specs::Parts::contents_as
+))]
+fn structure_at(
+    alloc: Global,
+    octets: &[u8],
+    at: usize,
+    levels: u8,
+) -> Result<(MmsData, usize), Stop>
+    requires { at + length octets.now < 2 ^ 64 }
+    ensures exact { Answers (λ x. taken x.0 x.1 (drop (x.1 - at) octets.now)) result ((part_in 162 (contents_as structure_of (list_in 0 (datum_within levels)))).reading at octets.now) }
+    ensures within { IfOk result (λ x. (at + 2 ≤ x.1) × (x.1 ≤ at + length octets.now)) }
+{
+    let part = take_part(octets, at, 0xA2)?;
+    let members = members_of(alloc, &part, levels)?;
+    Ok((MmsData::new(DataKind::Structure(members)), part.head.next))
+}
+
+/// The members that the contents of an element are, each of at most so many levels.
+#[cycle(levels)]
+fn members_of(alloc: Global, part: &Part<'_>, levels: u8) -> Result<DataList, Stop>
+    requires { part.now.head.body + length part.now.contents.now < 2 ^ 64 }
+    ensures { Answers (λ ds. ds) result ((list_in 0 (datum_within levels)).reading part.now.head part.now.contents.now) }
+{
+    let mut members = DataList::new(alloc);
+    let mut at = part.head.body;
+    let mut rest = part.contents;
+    while !rest.is_empty() {
+        let (member, next) = datum_at(alloc, rest, at, levels)?;
+        members.push(member)?;
+        rest = octets_from(rest, at, next);
+        at = next;
+    }
+    Ok(members)
+}
+
+/// The value without members at the front of octets.
+#[tactic(auto, unfolding(
+    crate::specs::DataOctets::plain_datum,
+    ber_values::specs::Leaves::raw,
+    ber_values::specs::Parts::choose_in,
+    ber_values::specs::Parts::part_in,
+    ber_values::specs::Parts::contents_as,
+    ber_values::specs::Grammars::branch_in,
+    ber_values::specs::Grammars::refused
+))]
+fn plain_at(alloc: Global, octets: &[u8], at: usize) -> Result<(MmsData, usize), Stop>
+    requires { at + length octets.now < 2 ^ 64 }
+    ensures exact { Answers (λ x. taken x.0 x.1 (drop (x.1 - at) octets.now)) result (plain_datum.reading at octets.now) }
+    ensures within { IfOk result (λ x. (at + 2 ≤ x.1) × (x.1 ≤ at + length octets.now)) }
+{
+    if has_tag(octets, 0x83) {
+        let part = take_part(octets, at, 0x83)?;
+        return Ok((MmsData::new(DataKind::Boolean(part.boolean()?)), part.head.next));
+    }
+    if has_tag(octets, 0x84) {
+        let part = take_part(octets, at, 0x84)?;
+        return Ok((MmsData::new(DataKind::Bits(part.bits(alloc)?)), part.head.next));
+    }
+    if has_tag(octets, 0x85) {
+        let part = take_part(octets, at, 0x85)?;
+        return Ok((MmsData::new(DataKind::Integer(part.integer()?)), part.head.next));
+    }
+    if has_tag(octets, 0x86) {
+        let part = take_part(octets, at, 0x86)?;
+        return Ok((MmsData::new(DataKind::Unsigned(part.natural()?)), part.head.next));
+    }
+    if has_tag(octets, 0x87) {
+        let part = take_part(octets, at, 0x87)?;
+        return Ok((MmsData::new(DataKind::Real(real_of(&part)?)), part.head.next));
+    }
+    if has_tag(octets, 0x89) {
+        let part = take_part(octets, at, 0x89)?;
+        let list = OctetList::from_vec(Vec::from_slice(alloc, part.contents)?);
+        return Ok((MmsData::new(DataKind::Octets(list)), part.head.next));
+    }
+    if has_tag(octets, 0x8A) {
+        let part = take_part(octets, at, 0x8A)?;
+        return Ok((MmsData::new(DataKind::Text(part.visible(alloc)?)), part.head.next));
+    }
+    Err(Stop::Fault(refused(octets, at)))
+}
+
+/// The four octets of the floating-point number that the contents are.
+#[tactic(auto, unfolding(
+    crate::specs::Floating::floating,
+    crate::specs::Floating::real_in
+))]
+fn real_of(part: &Part<'_>) -> Result<[u8; 4], BerFault>
+    ensures { result ≡ floating.reading part.now.head part.now.contents.now }
+{
+    match part.contents {
+        [8, a, b, c, d] => Ok([*a, *b, *c, *d]),
+        [_, _, _, _, _] => Err(BerFault {
+            place: part.head.body,
+            why: Why::Value,
+        }),
+        _ => Err(BerFault {
+            place: part.head.length_at,
+            why: Why::Length,
+        }),
+    }
+}
+
+/// Why nothing may stand at the front of octets.
+fn refused(octets: &[u8], at: usize) -> BerFault
+    ensures { result ≡ fault_at at (why_refused octets.now) }
+{
+    BerFault {
+        place: at,
+        why: if octets.is_empty() {
+            Why::Short
+        } else {
+            Why::Tag
+        },
+    }
+}
