@@ -3,3 +3,4 @@ pub mod ReadName
 pub mod FloatingRead
 pub mod DataRead
 pub mod DataLawful
+pub mod DataWritten
