@@ -12,3 +12,4 @@ pub mod Grammars
 pub mod Lists
 pub mod Leaves
 pub mod Capped
+pub mod DottedOctets

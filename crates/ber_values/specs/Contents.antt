@@ -1,5 +1,7 @@
--- Contents of an element, and how they can be faulty: a length that their kind doesn't have, or a rule that they break.
-use Rattle.std.specs.Prelude.{◌≡◌, ℕ, ◌+◌, ◌^◌, ◌<◌, ◌≤◌, Bool, ◌&&◌, List, length, ◌⊎◌, Result, Ok, Err, nat_le, if◌then◌else◌}
+-- Contents of an element, and how they can be faulty: a length that their kind doesn't have, or a
+-- rule that they break.
+use Rattle.std.specs.Prelude.{◌≡◌, ℕ, ◌+◌, ◌^◌, ◌<◌, ◌≤◌, Bool, ◌&&◌, List, length, ◌⊎◌, Result, Ok}
+use Rattle.std.specs.Prelude.{Err, nat_le, if◌then◌else◌}
 use Rattle.std.specs.List.{slice_range}
 use Rattle.ber_values.specs.declared.fault.BerFault.{BerFault}
 use Rattle.ber_values.specs.declared.fault.Why.TheVariants as whys
@@ -23,8 +25,12 @@ has_length least most octets = nat_le least (length octets) && nat_le (length oc
 
 -- the first fault of contents: a length that isn't allowed, or else a broken rule
 abbrev pub ContentsFault : Type 0 → Type 0 → Head → BerFault → Type 0
-ContentsFault Allowed Broken head f = ((Allowed → ⊥) × (f ≡ fault_at head.length_at whys.Length)) ⊎ (Allowed × Broken × (f ≡ fault_at head.body whys.Value))
+ContentsFault Allowed Broken head f =
+    ((Allowed → ⊥) × (f ≡ fault_at head.length_at whys.Length))
+    ⊎ (Allowed × Broken × (f ≡ fault_at head.body whys.Value))
 
 -- reading contents: the length, then the rule
 abbrev pub contents_in : {X : Type 0} → Bool → Bool → X → Head → Result X BerFault
-contents_in allowed kept value head = if allowed then (if kept then Ok value else Err (fault_at head.body whys.Value)) else Err (fault_at head.length_at whys.Length)
+contents_in allowed kept value head =
+    if allowed then (if kept then Ok value else Err (fault_at head.body whys.Value))
+    else Err (fault_at head.length_at whys.Length)

@@ -1,5 +1,6 @@
 -- Elements: a head and contents of a kind. What each spells, its first fault, and its written form.
-use Rattle.std.specs.Prelude.{◌≡◌, ℕ, ◌-◌, ◌/◌, ◌%◌, ◌^◌, ◌<◌, Bool, false, ◌==◌, List, length, ℤ, pos, ◌⊎◌}
+use Rattle.std.specs.Prelude.{◌≡◌, ℕ, ◌-◌, ◌/◌, ◌%◌, ◌^◌, ◌<◌, Bool, false, ◌==◌, List, length, ℤ}
+use Rattle.std.specs.Prelude.{pos, ◌⊎◌}
 use Rattle.std.specs.Int.{w64}
 use Rattle.std.specs.Int.RustNames.{FitsSigned}
 use Rattle.std.specs.List.{slice_range}
@@ -61,7 +62,9 @@ pub record Element (kind : Kind) : Type 0 where
 
 -- the octets from a place on begin with an element of a kind
 abbrev pub SpellsElement : (kind : Kind) → ℕ → List ℕ → Element kind → Type 0
-SpellsElement kind at octets element = SpellsHead at octets element.head × SpellsContents kind element.value (contents_from at octets element.head)
+SpellsElement kind at octets element =
+    SpellsHead at octets element.head
+    × SpellsContents kind element.value (contents_from at octets element.head)
 
 -- a head is spelled, and its contents break a rule
 pub record FaultInContents (kind : Kind) (at : ℕ) (octets : List ℕ) (f : BerFault) : Type 0 where
@@ -92,7 +95,8 @@ IsWritable oid value = IsOid value
 IsWritable visible value = IsVisible value
 
 -- the octets from a place on begin with an element of this value and tag, which ends at this place
-pub record WrittenAt (kind : Kind) (value : Value kind) (tag at : ℕ) (octets : List ℕ) (end : ℕ) : Type 0 where
+pub record WrittenAt (kind : Kind) (value : Value kind) (tag at : ℕ) (octets : List ℕ) (end : ℕ)
+    : Type 0 where
   pub head : Head
   pub spelled : SpellsElement kind at octets (record { head = head; value = value })
   pub class : head.class ≡ tag / 64

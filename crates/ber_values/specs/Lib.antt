@@ -1,6 +1,7 @@
 pub mod Visible
 pub mod Bits
 pub mod Oid
+pub mod Dotted
 pub mod Faults
 pub mod Octets
 pub mod Reading

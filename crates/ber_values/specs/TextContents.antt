@@ -3,6 +3,8 @@ use Rattle.std.specs.Prelude.{◌≡◌, ℕ, ◌≤◌, true, false, List, leng
 use Rattle.std.specs.List.{list_all}
 use Rattle.ber_values.specs.declared.fault.BerFault.{BerFault}
 use Rattle.ber_values.specs.declared.head.Head.{Head}
+use Rattle.ber_values.specs.declared.object_identifier.TheConstants.{OID_LIMIT}
+use Rattle.ber_values.specs.declared.visible_string.TheConstants.{VISIBLE_LIMIT}
 use Rattle.ber_values.specs.Oid.{IsOid}
 use Rattle.ber_values.specs.Visible.{is_visible_octet, IsVisible}
 use Rattle.ber_values.specs.Contents.{HasLength, has_length, ContentsFault, contents_in}
@@ -12,10 +14,10 @@ abbrev pub SpellsOid : List ℕ → List ℕ → Type 0
 SpellsOid oid octets = IsOid octets × (oid ≡ octets)
 
 abbrev pub OidFault : Head → List ℕ → BerFault → Type 0
-OidFault head octets = ContentsFault (HasLength 1 32 octets) ⊥ head
+OidFault head octets = ContentsFault (HasLength 1 OID_LIMIT octets) ⊥ head
 
 unfoldable pub oid_in : Head → List ℕ → Result (List ℕ) BerFault
-oid_in head octets = contents_in (has_length 1 32 octets) true octets head
+oid_in head octets = contents_in (has_length 1 OID_LIMIT octets) true octets head
 
 -- visible text is its contents octets
 abbrev pub SpellsVisible : List ℕ → List ℕ → Type 0
@@ -23,7 +25,10 @@ SpellsVisible text octets = IsVisible octets × (text ≡ octets)
 
 -- some octet isn't visible
 abbrev pub VisibleFault : Head → List ℕ → BerFault → Type 0
-VisibleFault head octets = ContentsFault (length octets ≤ 64) (list_all is_visible_octet octets ≡ false) head
+VisibleFault head octets =
+    ContentsFault (length octets ≤ VISIBLE_LIMIT) (list_all is_visible_octet octets ≡ false) head
 
 unfoldable pub visible_in : Head → List ℕ → Result (List ℕ) BerFault
-visible_in head octets = contents_in (nat_le (length octets) 64) (list_all is_visible_octet octets) octets head
+visible_in head octets =
+    contents_in (nat_le (length octets) VISIBLE_LIMIT) (list_all is_visible_octet octets)
+    octets head

@@ -1,5 +1,7 @@
--- The written form of a value: the shortest length, the shortest integer, true as 255, unused bits zero.
-use Rattle.std.specs.Prelude.{ℕ, zero, suc, ◌+◌, ◌-◌, ◌*◌, ◌/◌, ◌%◌, ◌^◌, Bool, List, [], ◌∷◌, ◌++◌, length, ℤ, pos, negsuc, nat_lt, if◌then◌else◌}
+-- The written form of a value: the shortest length, the shortest integer, true as 255, unused bits
+-- zero.
+use Rattle.std.specs.Prelude.{ℕ, zero, suc, ◌+◌, ◌-◌, ◌*◌, ◌/◌, ◌%◌, ◌^◌, Bool, List, [], ◌∷◌, ◌++◌}
+use Rattle.std.specs.Prelude.{length, ℤ, pos, negsuc, nat_lt, if◌then◌else◌}
 use Rattle.std.specs.Int.{w64, cast_unsigned}
 use Rattle.ber_values.specs.Bits.{Bits}
 
@@ -10,11 +12,14 @@ octets_of (suc count) number = octets_of count (number / 256) ++ number % 256 �
 
 -- how many octets a length needs
 abbrev pub length_size : ℕ → ℕ
-length_size n = if nat_lt n (2 ^ 8) then 1 else (if nat_lt n (2 ^ 16) then 2 else (if nat_lt n (2 ^ 24) then 3 else 4))
+length_size n =
+    if nat_lt n (2 ^ 8) then 1
+    else (if nat_lt n (2 ^ 16) then 2 else (if nat_lt n (2 ^ 24) then 3 else 4))
 
 -- the shortest length
 unfoldable pub length_octets : ℕ → List ℕ
-length_octets n = if nat_lt n 128 then n ∷ [] else (128 + length_size n) ∷ octets_of (length_size n) n
+length_octets n =
+    if nat_lt n 128 then n ∷ [] else (128 + length_size n) ∷ octets_of (length_size n) n
 
 -- a tag of one octet, and a length
 abbrev pub head_octets : ℕ → ℕ → List ℕ
@@ -26,7 +31,14 @@ written tag contents = head_octets tag (length contents) ++ contents
 
 -- how many octets a number needs, with a bit to spare for the sign
 abbrev pub number_size : ℕ → ℕ
-number_size n = if nat_lt n (2 ^ 7) then 1 else (if nat_lt n (2 ^ 15) then 2 else (if nat_lt n (2 ^ 23) then 3 else (if nat_lt n (2 ^ 31) then 4 else (if nat_lt n (2 ^ 39) then 5 else (if nat_lt n (2 ^ 47) then 6 else (if nat_lt n (2 ^ 55) then 7 else 8))))))
+number_size n =
+    if nat_lt n (2 ^ 7) then 1
+    else (if nat_lt n (2 ^ 15) then 2
+    else (if nat_lt n (2 ^ 23) then 3
+    else (if nat_lt n (2 ^ 31) then 4
+    else (if nat_lt n (2 ^ 39) then 5
+    else (if nat_lt n (2 ^ 47) then 6
+    else (if nat_lt n (2 ^ 55) then 7 else 8))))))
 
 -- a number below zero needs as many as its complement
 abbrev pub integer_size : ℤ → ℕ

@@ -1,5 +1,7 @@
 //! Booleans, ASN.1's `BOOLEAN` (ISO 8825-1, 8.2).
-ghost use Rattle.std.specs.Prelude.{◌≡◌, ◌≢◌, ◌%◌, ◌++◌, Bool, ◌↔◌, take, length, IfOk, OnOk, OnErr};
+ghost use Rattle.std.specs.Prelude.{◌≡◌, ◌≢◌, ◌%◌, ◌++◌, Bool, ◌↔◌, IfOk, OnOk};
+ghost use Rattle.std.specs.Prelude.{OnErr};
+ghost use Rattle.plain_text.specs.Extends.{Extends};
 ghost use Rattle.ber_values.specs.declared.fault.BerFault.{BerFault};
 ghost use Rattle.ber_values.specs.Contents.{contents_of, IsContents};
 ghost use Rattle.ber_values.specs.Booleans.{SpellsBoolean, BooleanFault, boolean_in};
@@ -27,8 +29,10 @@ pub(crate) fn boolean_from(contents: &[u8], head: &Head) -> Result<bool, BerFaul
 pub fn read_boolean(bytes: &[u8], head: &Head) -> Result<bool, BerFault>
     requires { IsContents bytes.now head.now }
     ensures found { IfOk result (λ value. SpellsBoolean value (contents_of bytes.now head.now)) }
-    ensures only { (value : Bool) → SpellsBoolean value (contents_of bytes.now head.now) → result ≡ Ok value }
-    ensures fault { (fault : BerFault) → (result ≡ Err fault) ↔ BooleanFault head.now (contents_of bytes.now head.now) fault }
+    ensures only { (value : Bool) → SpellsBoolean value (contents_of bytes.now head.now)
+        → result ≡ Ok value }
+    ensures fault { (fault : BerFault)
+        → (result ≡ Err fault) ↔ BooleanFault head.now (contents_of bytes.now head.now) fault }
     ensures exact { result ≡ boolean_in head.now (contents_of bytes.now head.now) }
 {
     boolean_from(&bytes[head.body..head.end], head)
@@ -36,7 +40,7 @@ pub fn read_boolean(bytes: &[u8], head: &Head) -> Result<bool, BerFault>
 
 fn put_boolean(out: &mut Vec<u8>, tag: u8, value: bool) -> Result<(), AllocError>
     ensures ok { OnOk result (out.new.items ≡ out.old.items ++ written tag (boolean_octets value)) }
-    ensures err { OnErr result (take (length out.old.items) out.new.items ≡ out.old.items) }
+    ensures err { OnErr result (Extends out.old.items out.new.items) }
 {
     put_head(out, tag, 1)?;
     out.push(if value { 0xFF } else { 0 })?;

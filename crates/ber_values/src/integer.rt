@@ -1,7 +1,10 @@
 //! Integers, ASN.1's `INTEGER` (ISO 8825-1, 8.3).
-ghost use Rattle.std.specs.Prelude.{◌≡◌, ◌≢◌, ℕ, ℤ, ◌%◌, ◌≤◌, ◌<◌, ◌↔◌, ◌++◌, take, length, IfOk, OnOk, OnErr};
+ghost use Rattle.std.specs.Prelude.{◌≡◌, ◌≢◌, ℕ, ℤ, ◌%◌, ◌≤◌, ◌<◌, ◌↔◌, ◌++◌, length, IfOk};
+ghost use Rattle.std.specs.Prelude.{OnOk, OnErr};
+ghost use Rattle.plain_text.specs.Extends.{Extends};
 ghost use Rattle.ber_values.specs.declared.fault.BerFault.{BerFault};
-ghost use Rattle.ber_values.specs.Numbers.{twos_complement, SpellsInteger, IntegerFault, integer_in, SpellsUnsigned, UnsignedFault, unsigned_in};
+ghost use Rattle.ber_values.specs.Numbers.{twos_complement, SpellsInteger, IntegerFault};
+ghost use Rattle.ber_values.specs.Numbers.{integer_in, SpellsUnsigned, UnsignedFault, unsigned_in};
 ghost use Rattle.ber_values.specs.Contents.{contents_of, IsContents};
 ghost use Rattle.ber_values.specs.Writing.{number_size, integer_size, integer_octets, written};
 
@@ -44,8 +47,10 @@ pub(crate) fn integer_from(contents: &[u8], head: &Head) -> Result<i64, BerFault
 pub fn read_integer(bytes: &[u8], head: &Head) -> Result<i64, BerFault>
     requires { IsContents bytes.now head.now }
     ensures found { IfOk result (λ value. SpellsInteger value (contents_of bytes.now head.now)) }
-    ensures only { (value : ℤ) → SpellsInteger value (contents_of bytes.now head.now) → result ≡ Ok value }
-    ensures fault { (fault : BerFault) → (result ≡ Err fault) ↔ IntegerFault head.now (contents_of bytes.now head.now) fault }
+    ensures only { (value : ℤ) → SpellsInteger value (contents_of bytes.now head.now)
+        → result ≡ Ok value }
+    ensures fault { (fault : BerFault)
+        → (result ≡ Err fault) ↔ IntegerFault head.now (contents_of bytes.now head.now) fault }
     ensures exact { result ≡ integer_in head.now (contents_of bytes.now head.now) }
 {
     integer_from(&bytes[head.body..head.end], head)
@@ -69,8 +74,10 @@ pub(crate) fn unsigned_from(contents: &[u8], head: &Head) -> Result<u32, BerFaul
 pub fn read_unsigned(bytes: &[u8], head: &Head) -> Result<u32, BerFault>
     requires { IsContents bytes.now head.now }
     ensures found { IfOk result (λ value. SpellsUnsigned value (contents_of bytes.now head.now)) }
-    ensures only { (value : ℕ) → SpellsUnsigned value (contents_of bytes.now head.now) → result ≡ Ok value }
-    ensures fault { (fault : BerFault) → (result ≡ Err fault) ↔ UnsignedFault head.now (contents_of bytes.now head.now) fault }
+    ensures only { (value : ℕ) → SpellsUnsigned value (contents_of bytes.now head.now)
+        → result ≡ Ok value }
+    ensures fault { (fault : BerFault)
+        → (result ≡ Err fault) ↔ UnsignedFault head.now (contents_of bytes.now head.now) fault }
     ensures exact { result ≡ unsigned_in head.now (contents_of bytes.now head.now) }
 {
     unsigned_from(&bytes[head.body..head.end], head)
@@ -104,7 +111,7 @@ pub(crate) fn size_of_integer(value: i64) -> usize
 
 fn put_integer(out: &mut Vec<u8>, tag: u8, value: i64) -> Result<(), AllocError>
     ensures ok { OnOk result (out.new.items ≡ out.old.items ++ written tag (integer_octets value)) }
-    ensures err { OnErr result (take (length out.old.items) out.new.items ≡ out.old.items) }
+    ensures err { OnErr result (Extends out.old.items out.new.items) }
 {
     let size = size_of_integer(value);
     put_head(out, tag, size)?;

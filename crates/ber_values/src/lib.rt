@@ -2,7 +2,6 @@
 #![tactic(auto)]
 
 mod bit_string;
-mod bits;
 mod boolean;
 mod contents;
 mod fault;
@@ -16,23 +15,20 @@ mod part;
 mod part_values;
 mod stop;
 mod tag;
-mod texts;
 mod visible_string;
 mod writing;
 
-pub use bit_string::BitString;
-pub use bits::{read_bits, write_bits};
+pub use bit_string::{BitString, read_bits, write_bits};
 pub use boolean::{read_boolean, write_boolean};
 pub use fault::{BerFault, Span, Why};
 pub use head::{Head, read_head, write_head};
 pub use integer::{read_integer, read_unsigned, write_integer};
 pub use laws::{one_reading, written_is_read, written_is_shortest};
 pub use lengths::{MOST_LENGTH, add_len, integer_len, part_len};
-pub use object_identifier::Oid;
+pub use object_identifier::{ARC_LIMIT, OID_LIMIT, Oid, read_dotted, read_oid, write_oid};
 pub use part::{Part, has_tag, octets_from, take_end, take_part};
 pub use stop::{Stop, settle};
-pub use texts::{read_oid, read_visible, write_oid, write_visible};
-pub use visible_string::{Visible, is_visible};
+pub use visible_string::{VISIBLE_LIMIT, Visible, is_visible, read_visible, write_visible};
 pub use writing::write_octets;
 
 #[cfg(test)]

@@ -4,17 +4,15 @@ ghost use Rattle.ber_values.specs.Leaves.{integer, unsigned, natural, boolean, b
 ghost use Rattle.ber_values.specs.Faults.{Gives};
 ghost use Rattle.ber_values.specs.Stops.{Answers};
 
-use crate::bit_string::BitString;
-use crate::bits::bits_from;
+use crate::bit_string::{BitString, bits_from};
 use crate::boolean::boolean_from;
 use crate::contents::{length_fault, value_fault};
 use crate::fault::{BerFault, Span};
 use crate::integer::{integer_from, unsigned_from};
-use crate::object_identifier::Oid;
+use crate::object_identifier::{OID_LIMIT, Oid, oid_from};
 use crate::part::Part;
 use crate::stop::Stop;
-use crate::texts::{oid_from, visible_from};
-use crate::visible_string::{Visible, all_visible};
+use crate::visible_string::{Visible, all_visible, visible_from};
 use std::alloc::Global;
 
 impl Part<'_> {
@@ -106,7 +104,7 @@ impl Part<'_> {
         ensures { Gives (λ o. o.now) result (oid.reading self.now.head self.now.contents.now) }
     {
         match self.contents.len() {
-            1..=32 => Ok(self.contents),
+            1..=OID_LIMIT => Ok(self.contents),
             _ => Err(length_fault(&self.head)),
         }
     }

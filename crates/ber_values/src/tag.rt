@@ -2,7 +2,8 @@
 ghost use Rattle.std.specs.Prelude.{◌≡◌, ◌+◌, ◌<◌, ◌≤◌, ◌^◌, length, IfOk};
 ghost use Rattle.ber_values.specs.Faults.{fault_at, Gives};
 ghost use Rattle.ber_values.specs.Reading.{IsAfter};
-ghost use Rattle.ber_values.specs.Tags.{tag_with, tag_in, second_tag_octet_in, third_tag_octet_in, length_in, more_length_in};
+ghost use Rattle.ber_values.specs.Tags.{tag_with, tag_in, second_tag_octet_in, third_tag_octet_in};
+ghost use Rattle.ber_values.specs.Tags.{length_in, more_length_in};
 
 use crate::fault::{BerFault, Why};
 use crate::number::unsigned_number;
@@ -41,7 +42,8 @@ pub(crate) fn short(place: usize) -> BerFault
 #[tactic(auto, unfolding(crate::specs::Tags::tag_in))]
 pub(crate) fn read_tag(octets: &[u8], at: usize) -> Result<(Tag, usize, &[u8]), BerFault>
     requires { at + length octets.now < 2 ^ 64 }
-    ensures exact { Gives (λ x. record { value = x.0; next = x.1; rest = x.2.now }) result (tag_in at octets.now) }
+    ensures exact { Gives (λ x. record { value = x.0; next = x.1; rest = x.2.now }) result
+        (tag_in at octets.now) }
     ensures places { IfOk result (λ x. IsAfter at octets.now x.1 x.2.now) }
 {
     match octets {
@@ -57,7 +59,8 @@ pub(crate) fn read_tag(octets: &[u8], at: usize) -> Result<(Tag, usize, &[u8]), 
 /// The rest of a tag that has further octets.
 fn read_second(first: u8, octets: &[u8], at: usize) -> Result<(Tag, usize, &[u8]), BerFault>
     requires { at + 1 + length octets.now < 2 ^ 64 }
-    ensures exact { Gives (λ x. record { value = x.0; next = x.1; rest = x.2.now }) result (second_tag_octet_in at first octets.now) }
+    ensures exact { Gives (λ x. record { value = x.0; next = x.1; rest = x.2.now }) result
+        (second_tag_octet_in at first octets.now) }
     ensures places { IfOk result (λ x. IsAfter (at + 1) octets.now x.1 x.2.now) }
 {
     match octets {
@@ -79,7 +82,8 @@ fn read_third(
 ) -> Result<(Tag, usize, &[u8]), BerFault>
     requires fits { at + 2 + length octets.now < 2 ^ 64 }
     requires goes_on { 128 ≤ high }
-    ensures exact { Gives (λ x. record { value = x.0; next = x.1; rest = x.2.now }) result (third_tag_octet_in at first high octets.now) }
+    ensures exact { Gives (λ x. record { value = x.0; next = x.1; rest = x.2.now }) result
+        (third_tag_octet_in at first high octets.now) }
     ensures places { IfOk result (λ x. IsAfter (at + 2) octets.now x.1 x.2.now) }
 {
     match octets {
@@ -99,7 +103,8 @@ fn read_third(
 #[tactic(auto, unfolding(crate::specs::Tags::length_in))]
 pub(crate) fn read_length(octets: &[u8], at: usize) -> Result<(usize, usize, &[u8]), BerFault>
     requires { at + length octets.now < 2 ^ 64 }
-    ensures exact { Gives (λ x. record { value = x.0; next = x.1; rest = x.2.now }) result (length_in at octets.now) }
+    ensures exact { Gives (λ x. record { value = x.0; next = x.1; rest = x.2.now }) result
+        (length_in at octets.now) }
     ensures bounded { IfOk result (λ x. x.0 < 2 ^ 32) }
     ensures places { IfOk result (λ x. IsAfter at octets.now x.1 x.2.now) }
 {
@@ -120,9 +125,11 @@ pub(crate) fn read_length(octets: &[u8], at: usize) -> Result<(usize, usize, &[u
 fn read_more(count: usize, octets: &[u8], at: usize) -> Result<(usize, usize, &[u8]), BerFault>
     requires fits { at + 1 + length octets.now < 2 ^ 64 }
     requires few { count ≤ 4 }
-    ensures exact { Gives (λ x. record { value = x.0; next = x.1; rest = x.2.now }) result (more_length_in at count octets.now) }
+    ensures exact { Gives (λ x. record { value = x.0; next = x.1; rest = x.2.now }) result
+        (more_length_in at count octets.now) }
     ensures bounded { IfOk result (λ x. x.0 < 2 ^ 32) }
-    ensures places { IfOk result (λ x. (at < x.1) × (x.1 + length x.2.now ≡ at + 1 + length octets.now)) }
+    ensures places { IfOk result
+        (λ x. (at < x.1) × (x.1 + length x.2.now ≡ at + 1 + length octets.now)) }
 {
     if octets.len() < count {
         return Err(short(at + 1 + octets.len()));

@@ -312,3 +312,12 @@ fn bits_and_identifiers(rt: HostRuntime) -> Result<(), Fail> {
     assert!(rt; oid == oid.clone()?);
     Ok(())
 }
+
+// 999 is 7 * 128 + 103.
+#[test]
+fn dotted_identifiers(rt: HostRuntime) -> Result<(), Fail> {
+    let oid = read_dotted(rt.alloc(), b"1.1.999.1")?.ok_or("no identifier")?;
+    assert_eq!(rt; oid.octets(), [0x29, 0x87, 0x67, 0x01].as_slice());
+    assert!(rt; read_dotted(rt.alloc(), b"1.40")?.is_none());
+    Ok(())
+}

@@ -1,6 +1,9 @@
 //! Steps of the writers.
-ghost use Rattle.std.specs.Prelude.{◌≡◌, ◌≢◌, ◌+◌, ◌%◌, ◌^◌, ◌<◌, ◌≤◌, ◌++◌, take, length, vec_len, OnOk, OnErr};
-ghost use Rattle.ber_values.specs.Writing.{octets_of, length_size, length_octets, head_octets, written};
+ghost use Rattle.std.specs.Prelude.{◌≡◌, ◌≢◌, ◌+◌, ◌%◌, ◌^◌, ◌<◌, ◌≤◌, ◌++◌, take, length};
+ghost use Rattle.std.specs.Prelude.{OnOk, OnErr};
+ghost use Rattle.plain_text.specs.Extends.{Extends};
+ghost use Rattle.ber_values.specs.Writing.{octets_of, length_size, length_octets, head_octets};
+ghost use Rattle.ber_values.specs.Writing.{written};
 
 use std::alloc::AllocError;
 
@@ -23,7 +26,7 @@ pub(crate) fn or_undo(
 /// The last `count` octets of a number.
 pub(crate) fn put_number(out: &mut Vec<u8>, number: u64, count: usize) -> Result<(), AllocError>
     ensures ok { OnOk result (out.new.items ≡ out.old.items ++ octets_of count number) }
-    ensures err { OnErr result (take (length out.old.items) out.new.items ≡ out.old.items) }
+    ensures err { OnErr result (Extends out.old.items out.new.items) }
 {
     if count == 0 {
         return Ok(());
@@ -54,7 +57,7 @@ pub(crate) fn size_of_length(len: usize) -> u8
 fn put_length(out: &mut Vec<u8>, len: usize) -> Result<(), AllocError>
     requires { len < 2 ^ 32 }
     ensures ok { OnOk result (out.new.items ≡ out.old.items ++ length_octets len) }
-    ensures err { OnErr result (take (length out.old.items) out.new.items ≡ out.old.items) }
+    ensures err { OnErr result (Extends out.old.items out.new.items) }
 {
     if len < 128 {
         out.push(len as u8)?;
@@ -68,7 +71,7 @@ fn put_length(out: &mut Vec<u8>, len: usize) -> Result<(), AllocError>
 pub(crate) fn put_head(out: &mut Vec<u8>, tag: u8, len: usize) -> Result<(), AllocError>
     requires { len < 2 ^ 32 }
     ensures ok { OnOk result (out.new.items ≡ out.old.items ++ head_octets tag len) }
-    ensures err { OnErr result (take (length out.old.items) out.new.items ≡ out.old.items) }
+    ensures err { OnErr result (Extends out.old.items out.new.items) }
 {
     out.push(tag)?;
     put_length(out, len)
@@ -78,7 +81,7 @@ pub(crate) fn put_head(out: &mut Vec<u8>, tag: u8, len: usize) -> Result<(), All
 pub(crate) fn put_element(out: &mut Vec<u8>, tag: u8, contents: &[u8]) -> Result<(), AllocError>
     requires { length contents.now < 2 ^ 32 }
     ensures ok { OnOk result (out.new.items ≡ out.old.items ++ written tag contents.now) }
-    ensures err { OnErr result (take (length out.old.items) out.new.items ≡ out.old.items) }
+    ensures err { OnErr result (Extends out.old.items out.new.items) }
 {
     put_head(out, tag, contents.len())?;
     out.extend_from_slice(contents)

@@ -1,5 +1,4 @@
 pub mod Components
-pub mod TitleOctets
 pub mod VisibleWords
 pub mod NameIndexes
 pub mod Positions

@@ -2,7 +2,8 @@
 use Rattle.std.proofs.Common.{◌≡◌, ◌⊎◌, Result, Ok, Err, refl, inl, inr}
 
 -- a value, or an error
-pub cases_of_result : {A E : Type 0} (r : Result A E) → ((a : A) × (r ≡ Ok a)) ⊎ ((e : E) × (r ≡ Err e))
+pub cases_of_result : {A E : Type 0} (r : Result A E)
+    → ((a : A) × (r ≡ Ok a)) ⊎ ((e : E) × (r ≡ Err e))
 cases_of_result (Ok a) = inl (a, refl)
 cases_of_result (Err e) = inr (e, refl)
 

@@ -1,5 +1,6 @@
 -- What it says that a line can be taken: no reason stands against it.
-use Rattle.std.proofs.Common.{◌≡◌, ◌≢◌, ℕ, ◌<◌, Bool, true, false, cond, List, length, Option, Some, None, is_some, refl, arith, bytes_eq}
+use Rattle.std.proofs.Common.{◌≡◌, ◌≢◌, ℕ, ◌<◌, Bool, true, false, cond, List, length, Option, Some}
+use Rattle.std.proofs.Common.{None, is_some, refl, arith, bytes_eq}
 use Rattle.std.specs.Option.{option_eq}
 use Rattle.std.specs.List.{list_any}
 use Rattle.std.proofs.lemmas.Bool.{leb-false, eqb-true, eqb-false, not-false, or_parts}
@@ -8,11 +9,13 @@ use Rattle.bilateral.specs.declared.fault.TableWhy.TheVariants.{Again, Limit, Pl
 use Rattle.bilateral.specs.declared.line.TableLine.TheVariants.{Point, Peer, See}
 use Rattle.bilateral.specs.declared.rows.PointRow.{PointRow}
 use Rattle.bilateral.specs.declared.rows.Table.{Table}
+use Rattle.bilateral.specs.declared.rows.TheConstants.{PEER_LIMIT, POINT_LIMIT, SEE_LIMIT}
 use Rattle.tase_points.specs.declared.layout.Component.{Component}
 use Rattle.bilateral.specs.Rows.{CentreRows, place_of_point, place_of_peer, place_of_see, table_of}
 use Rattle.bilateral.specs.Reading.{row_fault, see_fault, last_peer}
 
-no_reason : (test : Bool) (why : TableWhy) (rest : Option TableWhy) → cond test (Some why) rest ≡ None → (test ≡ false) × (rest ≡ None)
+no_reason : (test : Bool) (why : TableWhy) (rest : Option TableWhy)
+    → cond test (Some why) rest ≡ None → (test ≡ false) × (rest ≡ None)
 no_reason true why rest none = absurd cc
 no_reason false why rest none = (refl, none)
 
@@ -24,9 +27,10 @@ none-from_is_some (Some x) absent = absurd cc
 pub record IsNewPoint (rows : CentreRows) (point : PointRow) : Type 0 where
   pub no_tables : length rows.tables ≡ 0
   pub fresh : place_of_point rows point.name ≡ None
-  pub room : length rows.points < 20000
+  pub room : length rows.points < POINT_LIMIT
 
-pub IsNewPoint-from_no_fault : (rows : CentreRows) (point : PointRow) → row_fault rows (Point point) ≡ None → IsNewPoint rows point
+pub IsNewPoint-from_no_fault : (rows : CentreRows) (point : PointRow)
+    → row_fault rows (Point point) ≡ None → IsNewPoint rows point
 IsNewPoint-from_no_fault rows point none =
     let placed = no_reason _ Place _ none in
     let fresh = no_reason _ Again _ placed.1 in
@@ -34,16 +38,17 @@ IsNewPoint-from_no_fault rows point none =
     record {
       no_tables = eqb-true (length rows.tables) 0 (not-false _ placed.0);
       fresh = none-from_is_some (place_of_point rows point.name) fresh.0;
-      room = leb-false 20000 (length rows.points) room.0;
+      room = leb-false POINT_LIMIT (length rows.points) room.0;
     }
 
 -- what lets a peer in
 pub record IsNewPeer (rows : CentreRows) (table : Table) : Type 0 where
   pub fresh : place_of_peer rows table.key ≡ None
   pub title : list_any (λ other. option_eq bytes_eq other.title table.title) rows.tables ≡ false
-  pub room : length rows.tables < 256
+  pub room : length rows.tables < PEER_LIMIT
 
-pub IsNewPeer-from_no_fault : (rows : CentreRows) (table : Table) → row_fault rows (Peer table) ≡ None → IsNewPeer rows table
+pub IsNewPeer-from_no_fault : (rows : CentreRows) (table : Table)
+    → row_fault rows (Peer table) ≡ None → IsNewPeer rows table
 IsNewPeer-from_no_fault rows table none =
     let fresh = no_reason _ Again _ none in
     let parts = or_parts _ _ fresh.0 in
@@ -51,30 +56,53 @@ IsNewPeer-from_no_fault rows table none =
     record {
       fresh = none-from_is_some (place_of_peer rows table.key) parts.0;
       title = parts.1;
-      room = leb-false 256 (length rows.tables) room.0;
+      room = leb-false PEER_LIMIT (length rows.tables) room.0;
     }
 
 -- what lets a row into a table
-pub record IsNewSee (rows : CentreRows) (name : List ℕ) (layout : Option (List Component)) (point : ℕ) (components : List Component) : Type 0 where
+pub record IsNewSee (rows : CentreRows) (name : List ℕ) (layout : Option (List Component))
+    (point : ℕ) (components : List Component) : Type 0 where
   pub some_table : 0 < length rows.tables
   pub known : place_of_point rows name ≡ Some point
   pub shown : layout ≡ Some components
   pub fresh : place_of_see (table_of rows (last_peer rows)) point ≡ None
-  pub room : length (table_of rows (last_peer rows)).sees < 5000
+  pub room : length (table_of rows (last_peer rows)).sees < SEE_LIMIT
 
-see_taken : (table : Table) (place : Option ℕ) (layout : Option (List Component)) → see_fault table place layout ≡ None
-    → (point : ℕ) × (components : List Component) × (place ≡ Some point) × (layout ≡ Some components) × (place_of_see table point ≡ None) × (length table.sees < 5000)
+see_taken : (table : Table) (place : Option ℕ) (layout : Option (List Component))
+    → see_fault table place layout ≡ None
+    → (point : ℕ) × (components : List Component) × (place ≡ Some point)
+    × (layout ≡ Some components) × (place_of_see table point ≡ None)
+    × (length table.sees < SEE_LIMIT)
 see_taken table None layout none = absurd cc
 see_taken table (Some point) None none = absurd cc
 see_taken table (Some point) (Some components) none =
     let fresh = no_reason _ Again _ none in
-    let room = no_reason _ Limit _ fresh.1 in
-    (point, components, refl, refl, none-from_is_some (place_of_see table point) fresh.0, leb-false 5000 (length table.sees) room.0)
+    let room = no_reason _ Limit _ fresh.1 in (
+      point,
+      components,
+      refl,
+      refl,
+      none-from_is_some (place_of_see table point)
+          fresh.0,
+      leb-false SEE_LIMIT (length table.sees) room.0,
+    )
 
-pub IsNewSee-from_no_fault : (rows : CentreRows) (name : List ℕ) (vmd : Bool) (layout : Option (List Component)) → row_fault rows (See name vmd layout) ≡ None
+pub IsNewSee-from_no_fault : (rows : CentreRows) (name : List ℕ) (vmd : Bool)
+    (layout : Option (List Component)) → row_fault rows (See name vmd layout) ≡ None
     → (point : ℕ) × (components : List Component) × IsNewSee rows name layout point components
 IsNewSee-from_no_fault rows name vmd layout none =
     let placed = no_reason _ Place _ none in
-    let taken = see_taken (table_of rows (last_peer rows)) (place_of_point rows name) layout placed.1 in
-    let ne : length rows.tables ≢ 0 = eqb-false (length rows.tables) 0 placed.0 in
-    (taken.0, taken.1, record { some_table = omega arith; known = taken.2; shown = taken.3; fresh = taken.4; room = taken.5 })
+    let taken = see_taken (table_of rows (last_peer rows)) (place_of_point rows name)
+    layout placed.1 in
+    let ne : length rows.tables ≢ 0 = eqb-false (length rows.tables) 0 placed.0 in (
+      taken.0,
+      taken.1,
+      record {
+        some_table = omega arith;
+        known = taken.2;
+        shown = taken.3;
+        fresh = taken.4;
+        room =
+            taken.5;
+      },
+    )

@@ -1,11 +1,14 @@
 -- What a centre's tables hold, and where its rows stand.
-use Rattle.std.specs.Prelude.{◌≢◌, ◌==◌, ℕ, ◌<◌, ◌≤◌, List, [], length, slice_index_or, All, AllPairs, IsTrue, Option, None, position, bytes_eq}
+use Rattle.std.specs.Prelude.{◌≢◌, ◌==◌, ℕ, ◌<◌, ◌≤◌, List, [], length, slice_index_or, All}
+use Rattle.std.specs.Prelude.{AllPairs, IsTrue, Option, None, position, bytes_eq}
 use Rattle.bilateral.specs.declared.rows.PointRow.{PointRow}
 use Rattle.bilateral.specs.declared.rows.Table.{Table}
+use Rattle.bilateral.specs.declared.rows.TheConstants.{PEER_LIMIT, POINT_LIMIT, SEE_LIMIT}
 use Rattle.tase_points.specs.declared.kind.Kind.TheVariants.{State}
 use Rattle.bilateral.specs.Words.{is_name, is_identifier}
 
--- the points of a centre and its peers' bilateral tables, each numbered from 0 in the order of the file
+-- the points of a centre and its peers' bilateral tables, each numbered from 0 in the order of the
+-- file
 pub record CentreRows : Type 0 where
   pub points : List PointRow
   pub tables : List Table
@@ -26,7 +29,7 @@ place_of_see table point = position (λ see. see.point == point) table.sees
 pub record IsTable (point_count : ℕ) (table : Table) : Type 0 where
   pub known : All (λ see. see.point < point_count) table.sees
   pub once : AllPairs (λ a b. a.point ≢ b.point) table.sees
-  pub limit : length table.sees ≤ 5000
+  pub limit : length table.sees ≤ SEE_LIMIT
   pub key : IsTrue (is_identifier table.key)
   pub domain : IsTrue (is_identifier table.domain)
   pub id : IsTrue (is_identifier table.id)
@@ -38,8 +41,8 @@ pub record IsCentre (rows : CentreRows) : Type 0 where
   pub keys : AllPairs (λ a b. a.key ≢ b.key) rows.tables
   pub titles : AllPairs (λ a b. a.title ≢ b.title) rows.tables
   pub tables : All (IsTable (length rows.points)) rows.tables
-  pub point_limit : length rows.points ≤ 20000
-  pub peer_limit : length rows.tables ≤ 256
+  pub point_limit : length rows.points ≤ POINT_LIMIT
+  pub peer_limit : length rows.tables ≤ PEER_LIMIT
 
 -- a table without anything, where no table stands
 abbrev pub no_table : Table

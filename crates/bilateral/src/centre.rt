@@ -1,11 +1,13 @@
 ghost use Rattle.std.specs.Prelude.{◌≡◌, ◌<◌, length, Some, slice_get};
-ghost use Rattle.bilateral.specs.Rows.{IsCentre, place_of_point, place_of_peer, place_of_see, table_of};
+ghost use Rattle.bilateral.specs.Rows.{IsCentre, place_of_point, place_of_peer, place_of_see};
+ghost use Rattle.bilateral.specs.Rows.{table_of};
 
 use crate::rows::{PointRow, Table};
 use crate::store::Store;
 use std::marker::Model;
 
-/// The points of a centre and its peers' tables. Points and peers are numbered from 0 in the order of the file.
+/// The points of a centre and its peers' tables. Points and peers are numbered from 0 in the order
+/// of the file.
 #[derive(Debug, Drop)]
 pub struct Centre {
     store: Store,

@@ -1,5 +1,6 @@
 //! Indexes beside the rows, so that no search goes over all of them.
-ghost use Rattle.std.specs.Prelude.{◌≡◌, ◌&&◌, ◌==◌, ℕ, List, Some, None, if◌then◌else◌, OnOk, bytes_eq};
+ghost use Rattle.std.specs.Prelude.{◌≡◌, ◌&&◌, ◌==◌, ℕ, List, Some, None, if◌then◌else◌, OnOk};
+ghost use Rattle.std.specs.Prelude.{bytes_eq};
 ghost use Rattle.bilateral.specs.Index.{place_by, row_by};
 
 use std::alloc::{AllocError, Global};
@@ -47,7 +48,9 @@ pub fn note_name(
     place: u32,
 ) -> Result<(), AllocError>
     ensures { OnOk result
-        ((other : List ℕ) → place_by index.new other ≡ (if bytes_eq name.now other then Some place else place_by index.old other)) }
+        ((other : List ℕ)
+        → place_by index.new other
+        ≡ (if bytes_eq name.now other then Some place else place_by index.old other)) }
 {
     let key = name.to_vec(alloc)?;
     index.insert(key, place)?;
@@ -57,7 +60,9 @@ pub fn note_name(
 /// Notes the place of a peer's row of a point.
 pub fn note_row(index: &mut RowIndex, peer: u32, point: u32, place: u32) -> Result<(), AllocError>
     ensures { OnOk result
-        ((p q : ℕ) → row_by index.new p q ≡ (if (peer == p) && (point == q) then Some place else row_by index.old p q)) }
+        ((p q : ℕ)
+        → row_by index.new p q
+        ≡ (if (peer == p) && (point == q) then Some place else row_by index.old p q)) }
 {
     index.insert((peer, point), place)?;
     Ok(())

@@ -5,8 +5,11 @@ ghost use Rattle.bilateral.specs.Reading.{Spells, HasFault};
 
 /// The law of one reading: a text spells exactly one centre, or has exactly one first bad line.
 pub fn one_reading()
-    ensures either { (text : List ℕ) → ((rows : CentreRows) × Spells text rows) ⊎ ((fault : Fault) × HasFault text fault) }
-    ensures not_both { (text : List ℕ) (rows : CentreRows) (fault : Fault) → Spells text rows → HasFault text fault → ⊥ }
-    ensures one_centre { (text : List ℕ) (a b : CentreRows) → Spells text a → Spells text b → a ≡ b }
+    ensures either { (text : List ℕ)
+        → ((rows : CentreRows) × Spells text rows) ⊎ ((fault : Fault) × HasFault text fault) }
+    ensures not_both { (text : List ℕ) (rows : CentreRows) (fault : Fault) → Spells text rows
+        → HasFault text fault → ⊥ }
+    ensures one_centre { (text : List ℕ) (a b : CentreRows) → Spells text a → Spells text b
+        → a ≡ b }
     ensures one_fault { (text : List ℕ) (a b : Fault) → HasFault text a → HasFault text b → a ≡ b }
 {}

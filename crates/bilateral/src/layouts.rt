@@ -1,7 +1,10 @@
+//! Layouts: components joined by commas.
 ghost use Rattle.std.specs.Prelude.{◌≡◌, ◌==◌, ◌<◌, length, IfOk, IfSome};
 ghost use Rattle.std.specs.Option.{option_map};
 ghost use Rattle.std.specs.List.{list_any, slice_split};
-ghost use Rattle.bilateral.specs.Words.{layout_in, component_in, each_in, is_same_component};
+ghost use Rattle.plain_text.specs.Words.{each_in};
+ghost use Rattle.tase_points.specs.Same.{same_component};
+ghost use Rattle.bilateral.specs.Words.{layout_in, component_in};
 ghost use Rattle.bilateral.specs.Words as own;
 
 use crate::words::read_component;
@@ -9,25 +12,34 @@ use plain_text::next_part;
 use std::alloc::{AllocError, Global};
 use tase_points::{Component, Layout};
 
-/// Reads a layout: components joined by commas. `None` where a part names none;
-/// the inner `None` where a component stands twice.
-pub fn read_layout(alloc: Global, word: &[u8]) -> Result<Option<Option<Layout>>, AllocError>
+/// Why a word is no layout.
+#[derive(Clone, Copy, Debug, PartialEq, Eq)]
+pub enum LayoutWhy {
+    /// A part that names no component.
+    Part,
+    /// A component that stands twice.
+    Twice,
+}
+
+/// Reads a layout: components joined by commas.
+pub fn read_layout(alloc: Global, word: &[u8]) -> Result<Result<Layout, LayoutWhy>, AllocError>
     ensures { IfOk result (λ layout. layout ≡ layout_in word.now) }
 {
     let Some(components) = read_components(alloc, word)? else {
-        return Ok(None);
+        return Ok(Err(LayoutWhy::Part));
     };
     if is_distinct(components.as_slice()) {
-        Ok(Some(Some(Layout::new(components))))
+        Ok(Ok(Layout::new(components)))
     } else {
-        Ok(Some(None))
+        Ok(Err(LayoutWhy::Twice))
     }
 }
 
 /// The components that a word is, joined by commas.
 fn read_components(alloc: Global, word: &[u8]) -> Result<Option<Vec<Component>>, AllocError>
     ensures value { IfOk result
-        (λ components. option_map (λ c. c.items) components ≡ each_in component_in (slice_split (λ octet. octet == 44) word.now)) }
+        (λ components. option_map (λ c. c.items) components
+        ≡ each_in component_in (slice_split (λ octet. octet == 44) word.now)) }
     ensures nonempty { IfOk result (λ components. IfSome components (λ c. 0 < length c.items)) }
 {
     let mut components = Vec::new(alloc);
@@ -56,13 +68,7 @@ fn is_distinct(components: &[Component]) -> bool
 }
 
 fn contains(components: &[Component], wanted: Component) -> bool
-    ensures { result ≡ list_any (λ other. is_same_component other wanted) components.now }
+    ensures { result ≡ list_any (λ other. same_component other wanted) components.now }
 {
-    components.iter().any(|other| is_same(*other, wanted))
-}
-
-fn is_same(one: Component, other: Component) -> bool
-    ensures { result ≡ is_same_component one other }
-{
-    one == other
+    components.iter().any(|other| other.is_same(wanted))
 }

@@ -11,7 +11,6 @@ mod line;
 mod reading;
 mod rows;
 mod store;
-mod titles;
 mod words;
 
 pub use centre::Centre;
@@ -19,7 +18,8 @@ pub use fault::{TableFault, TableWhy};
 pub use laws::one_reading;
 pub use line::TableLine;
 pub use reading::read_centre;
-pub use rows::{PointRow, See, Sees, Table};
+pub use rows::{PEER_LIMIT, POINT_LIMIT, PointRow, SEE_LIMIT, See, Sees, Table};
+pub use words::{IDENTIFIER_LIMIT, NAME_LIMIT};
 
 #[cfg(test)]
 mod tests;

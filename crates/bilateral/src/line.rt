@@ -2,10 +2,9 @@ ghost use Rattle.std.specs.Prelude.{◌≡◌, IfOk, IfSome};
 ghost use Rattle.plain_text.specs.Words.{words};
 ghost use Rattle.bilateral.specs.Lines.{line_in, point_line, peer_line, see_line, IsLawful};
 
-use crate::layouts::read_layout;
+use crate::layouts::{LayoutWhy, read_layout};
 use crate::rows::{PointRow, Sees, Table};
-use crate::titles::read_title;
-use crate::words::{is_identifier, is_name, read_kind, read_scope, visible_word};
+use crate::words::{is_identifier, is_name, read_kind, read_scope, read_title, visible_word};
 use ber_values::Visible;
 use plain_text::{four_words, is_spaced, next_word, three_words, two_words};
 use std::alloc::{AllocError, Global};
@@ -104,8 +103,10 @@ fn read_see(alloc: Global, text: &[u8]) -> Result<Option<TableLine>, AllocError>
     let Some(vmd) = read_scope(scope) else {
         return Ok(None);
     };
-    let Some(layout) = read_layout(alloc, layout)? else {
-        return Ok(None);
+    let layout = match read_layout(alloc, layout)? {
+        Ok(layout) => Some(layout),
+        Err(LayoutWhy::Twice) => None,
+        Err(LayoutWhy::Part) => return Ok(None),
     };
     let name = visible_word(alloc, name)?;
     Ok(Some(TableLine::See { name, vmd, layout }))

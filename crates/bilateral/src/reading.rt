@@ -10,7 +10,8 @@ use crate::store::Store;
 use plain_text::{is_skipped, next_line};
 use std::alloc::{AllocError, Global};
 
-/// Reads the text of a centre's tables, or answers its first bad line. Lines count from 1, and the count stands
+/// Reads the text of a centre's tables, or answers its first bad line. Lines count from 1, and the
+/// count stands
 /// still at 2^64 - 1; empty lines and lines that begin with `#` are skipped.
 pub fn read_centre(alloc: Global, text: &[u8]) -> Result<Result<Centre, TableFault>, AllocError>
     ensures value { IfOk result (λ read. read ≡ centre_in text.now) }
@@ -37,7 +38,8 @@ fn take_line(
 ) -> Result<Result<(), TableWhy>, AllocError>
     requires { IsStore store.old }
     ensures value { IfOk result
-        (λ taken. MatchResult taken (λ _. after_line (rows_of store.old) line.now ≡ Ok (rows_of store.new))
+        (λ taken. MatchResult taken
+        (λ _. after_line (rows_of store.old) line.now ≡ Ok (rows_of store.new))
         (λ why. after_line (rows_of store.old) line.now ≡ Err why)) }
     ensures store { IfOk result (λ taken. OnOk taken (IsStore store.new)) }
 {

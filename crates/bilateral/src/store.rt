@@ -4,25 +4,17 @@ ghost use Rattle.std.specs.List.{list_any};
 ghost use Rattle.bilateral.specs.declared.line.TableLine.TheVariants.{Point, Peer, See as SeeLine};
 ghost use Rattle.bilateral.specs.Rows.{place_of_point, place_of_peer, place_of_see, table_of};
 ghost use Rattle.bilateral.specs.Lines.{IsLawful};
-ghost use Rattle.bilateral.specs.Reading.{no_rows, row_fault, last_peer, with_row, limit_fault as own_limit_fault, seen_in_last};
+ghost use Rattle.bilateral.specs.Reading.{no_rows, row_fault, last_peer, with_row};
+ghost use Rattle.bilateral.specs.Reading.{limit_fault as own_limit_fault, seen_in_last};
 ghost use Rattle.bilateral.specs.Store.{rows_of, IsStore};
 
 use crate::fault::TableWhy;
 use crate::index::{self, NameIndex, RowIndex};
 use crate::line::TableLine;
-use crate::rows::{PointRow, See, Table};
+use crate::rows::{PEER_LIMIT, POINT_LIMIT, PointRow, SEE_LIMIT, See, Table};
 use ber_values::{Oid, Visible};
 use std::alloc::{AllocError, Global};
 use tase_points::Layout;
-
-/// The most points of a centre.
-const POINT_LIMIT: usize = 20000;
-
-/// The most peers of a centre.
-const PEER_LIMIT: usize = 256;
-
-/// The most rows of a table.
-const SEE_LIMIT: usize = 5000;
 
 /// The rows of a centre with the indexes beside them.
 #[derive(Debug, Drop)]
@@ -174,7 +166,8 @@ impl Store {
     ) -> Result<(), AllocError>
         requires store { IsStore self.old }
         requires taken { row_fault (rows_of self.old) (SeeLine name vmd layout) ≡ None }
-        ensures rows { OnOk result (rows_of self.new ≡ with_row (rows_of self.old) (SeeLine name vmd layout)) }
+        ensures rows { OnOk result
+            (rows_of self.new ≡ with_row (rows_of self.old) (SeeLine name vmd layout)) }
         ensures store { OnOk result (IsStore self.new) }
     {
         let (Some(point), Some(layout)) = (self.find_point(name.as_slice()), layout) else {
@@ -188,8 +181,10 @@ impl Store {
         requires store { IsStore self.old }
         requires some { 0 < length self.old.tables.items }
         requires known { see.point < length self.old.points.items }
-        requires fresh { place_of_see (table_of (rows_of self.old) (last_peer (rows_of self.old))) see.point ≡ None }
-        requires room { length (table_of (rows_of self.old) (last_peer (rows_of self.old))).sees < 5000 }
+        requires fresh { place_of_see (table_of (rows_of self.old) (last_peer (rows_of self.old)))
+            see.point ≡ None }
+        requires room { length
+            (table_of (rows_of self.old) (last_peer (rows_of self.old))).sees < SEE_LIMIT }
         ensures rows { OnOk result (rows_of self.new ≡ seen_in_last (rows_of self.old) see) }
         ensures store { OnOk result (IsStore self.new) }
     {

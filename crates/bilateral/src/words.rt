@@ -5,9 +5,15 @@ ghost use Rattle.std.specs.Char.{is_ascii_alphanumeric};
 ghost use Rattle.ber_values.specs.Visible.{IsVisible};
 ghost use Rattle.bilateral.specs.Words as own;
 
-use ber_values::Visible;
+use ber_values::{Oid, Visible, read_dotted};
 use std::alloc::{AllocError, Global};
 use tase_points::{Component, Kind};
+
+/// The most octets of a point's name.
+pub const NAME_LIMIT: usize = 24;
+
+/// The most octets of an identifier.
+pub const IDENTIFIER_LIMIT: usize = 32;
 
 /// Whether a name is one that the protocol uses itself.
 fn is_special(name: &[u8]) -> bool
@@ -34,13 +40,16 @@ fn is_reserved(name: &[u8]) -> bool
         || is_special(name)
 }
 
-/// Whether a word is made as names are: letters, digits and `_`, at most 24, the first of them a letter.
+/// Whether a word is made as names are: letters, digits and `_`, up to [`NAME_LIMIT`], the first of
+/// them a letter.
 fn is_plain_name(word: &[u8]) -> bool
     ensures { result ≡ own.is_plain_name word.now }
 {
     match word {
         [] => false,
-        [first, more @ ..] => first.is_ascii_alphabetic() && all_in_names(more) && more.len() <= 23,
+        [first, more @ ..] => {
+            first.is_ascii_alphabetic() && all_in_names(more) && word.len() <= NAME_LIMIT
+        }
     }
 }
 
@@ -59,15 +68,18 @@ pub fn is_name(word: &[u8]) -> bool
     is_plain_name(word) && !is_reserved(word)
 }
 
-/// Whether a word is an identifier: letters, digits, `_` and `$`, 1 to 32 of them.
+/// Whether a word is an identifier: letters, digits, `_` and `$`, one to [`IDENTIFIER_LIMIT`] of
+/// them.
 pub fn is_identifier(word: &[u8]) -> bool
     ensures { result ≡ own.is_identifier word.now }
 {
-    !word.is_empty() && word.len() <= 32 && all_in_identifiers(word)
+    !word.is_empty() && word.len() <= IDENTIFIER_LIMIT && all_in_identifiers(word)
 }
 
 fn all_in_identifiers(octets: &[u8]) -> bool
-    ensures { result ≡ list_all (λ octet. is_ascii_alphanumeric octet || (octet == 95) || (octet == 36)) octets.now }
+    ensures { result
+        ≡ list_all (λ octet. is_ascii_alphanumeric octet || (octet == 95) || (octet == 36))
+        octets.now }
 {
     octets.iter().all(|octet| octet.is_ascii_alphanumeric() || *octet == b'_' || *octet == b'$')
 }
@@ -117,6 +129,16 @@ pub fn read_component(word: &[u8]) -> Option<Component>
     } else {
         None
     }
+}
+
+/// Reads a title, or `*` for none. `None` where the word is neither.
+pub fn read_title(alloc: Global, word: &[u8]) -> Result<Option<Option<Oid>>, AllocError>
+    ensures { IfOk result (λ title. title ≡ own.title_in word.now) }
+{
+    if word == b"*".as_slice() {
+        return Ok(Some(None));
+    }
+    Ok(read_dotted(alloc, word)?.map(Some))
 }
 
 /// A name or an identifier in room of its own.

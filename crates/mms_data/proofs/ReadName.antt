@@ -16,6 +16,7 @@ use Rattle.plain_text.specs.Octets.{hex_digit}
 use Rattle.plain_text.specs.Escaped.{is_octet, is_plain, escaped_octet, escaped_text, unescaped}
 use Rattle.plain_text.proofs.EscapedText.{option_map-found, unescaped-found, unescaped-escaped_text}
 use Rattle.ber_values.specs.Visible.{is_visible_octet}
+use Rattle.ber_values.specs.declared.visible_string.TheConstants.{VISIBLE_LIMIT}
 use Rattle.mms_data.specs.declared.object_name.Scope.{Scope}
 use Rattle.mms_data.specs.declared.object_name.Scope.TheVariants.{Vmd, Domain, Association}
 use Rattle.mms_data.specs.ObjectName.{ObjectName, IsIdentifier, IsScope, IsName}
@@ -44,10 +45,11 @@ identifier_in-found escaped octets e =
     (λ found is_found passes.
     let whole = if_found found octets _ passes in
     let tests = and_parts _ (list_all is_visible_octet found) whole.0 in
-    let lengths = and_parts (nat_lt 0 (length found)) (nat_le (length found) 64) tests.0 in
+    let lengths = and_parts (nat_lt 0 (length found)) (nat_le (length found) VISIBLE_LIMIT)
+    tests.0 in
     let same : octets ≡ found = whole.1 in
     let some : 0 < length found = grind (arith, nat_tests, lengths.0) in
-    let few : length found ≤ 64 = grind (arith, nat_tests, lengths.1) in (
+    let few : length found ≤ VISIBLE_LIMIT = grind (arith, nat_tests, lengths.1) in (
       unescaped-found escaped found is_found
           ∙ ap escaped_text (sym same),
       rw same (some, (few, tests.1)),
@@ -57,7 +59,7 @@ pub identifier_in-escaped_text : (octets : List ℕ) → IsIdentifier octets
     → identifier_in (escaped_text octets) ≡ Some octets
 identifier_in-escaped_text octets h =
     let some : nat_lt 0 (length octets) ≡ true = grind (arith, nat_tests, h.0) in
-    let few : nat_le (length octets) 64 ≡ true = grind (arith, nat_tests, h.1.0) in
+    let few : nat_le (length octets) VISIBLE_LIMIT ≡ true = grind (arith, nat_tests, h.1.0) in
     rw (unescaped-escaped_text octets (octets_from_visible octets h.1.1), some, few, h.1.1) refl
 
 scope_found_word : (before : List ℕ) (scope : Scope) (is_vmd is_aa : Bool)

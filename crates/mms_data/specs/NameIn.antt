@@ -1,12 +1,13 @@
 -- The name that a text stands for.
 use Rattle.std.specs.Prelude.{ℕ, ◌+◌, Bool, ◌&&◌, ◌||◌, ◌==◌, nat_lt, nat_le, if◌then◌else◌, List}
-use Rattle.std.specs.Prelude.{[], ◌∷◌, length, slice_index, codes, Option, Some, None, option_map}
+use Rattle.std.specs.Prelude.{length, slice_index, codes, Option, Some, None, option_map}
 use Rattle.std.specs.Prelude.{option_and_then}
 use Rattle.std.proofs.Common.{take, drop}
 use Rattle.std.specs.List.{list_all, position}
 use Rattle.std.specs.Str.{bytes_eq}
 use Rattle.plain_text.specs.Escaped.{unescaped}
 use Rattle.ber_values.specs.Visible.{is_visible_octet}
+use Rattle.ber_values.specs.declared.visible_string.TheConstants.{VISIBLE_LIMIT}
 use Rattle.mms_data.specs.declared.object_name.Scope.{Scope}
 use Rattle.mms_data.specs.declared.object_name.Scope.TheVariants.{Vmd, Domain, Association}
 use Rattle.mms_data.specs.ObjectName.{ObjectName}
@@ -14,7 +15,8 @@ use Rattle.mms_data.specs.ObjectName.{ObjectName}
 -- octets that an item or a domain may have
 abbrev pub if_identifier : List ℕ → Option (List ℕ)
 if_identifier octets =
-    if nat_lt 0 (length octets) && nat_le (length octets) 64 && list_all is_visible_octet octets
+    if nat_lt 0 (length octets) && nat_le (length octets) VISIBLE_LIMIT
+    && list_all is_visible_octet octets
     then Some octets else None
 
 -- the item or the domain that an escaped text stands for

@@ -1,4 +1,5 @@
--- The words of a line.
+-- The words of a line, and parts between separators.
+use Rattle.std.specs.Prelude.{option_and_then, option_map}
 use Rattle.std.specs.Prelude.{ℕ, Bool, true, false, not, ◌&&◌, ◌==◌, List, [], ◌∷◌, length, filter}
 use Rattle.std.specs.Prelude.{slice_index, ◌-◌, Option, Some, None, if◌then◌else◌}
 use Rattle.std.specs.List.{slice_split, list_any}
@@ -26,3 +27,9 @@ words_in line = if is_spaced line then Some (words line) else None
 abbrev pub parts_after : ℕ → Option (List ℕ) → List (List ℕ)
 parts_after separator None = []
 parts_after separator (Some rest) = slice_split (λ octet. octet == separator) rest
+
+-- what each part stands for, where every part stands for something
+abbrev pub each_in : {A : Type 0} → (List ℕ → Option A) → List (List ℕ) → Option (List A)
+each_in read [] = Some []
+each_in read (part ∷ parts) =
+    option_and_then (λ item. option_map (λ items. item ∷ items) (each_in read parts)) (read part)

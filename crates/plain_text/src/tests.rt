@@ -62,5 +62,8 @@ fn writes(rt: HostRuntime) -> Result<(), Fail> {
     push_hex(&mut out, b"\x00\xff")?;
     push_escaped(&mut out, b"a/$\xe4")?;
     assert_eq!(rt; out.as_slice(), b"1073741824-500ffa%2f$%e4".as_slice());
+    let octets = read_escaped(rt.alloc(), b"a%2f$%e4")?.ok_or("not read")?;
+    assert_eq!(rt; octets.as_slice(), b"a/$\xe4".as_slice());
+    assert!(rt; read_escaped(rt.alloc(), b"a%41")?.is_none());
     Ok(())
 }

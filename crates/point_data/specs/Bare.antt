@@ -18,6 +18,7 @@ FitsBody (Real r) = Unit {0}
 -- what a layout doesn't carry is zero
 pub record IsBare (layout : List Component) (v : Sample) : Type 0 where
   pub body : ¬ Contains layout Value → v.body ≡ zero_body (kind_of v.body)
-  pub flags : ¬ Contains layout Flags → ¬ (Contains layout Value × (kind_of v.body ≡ kinds.State)) → v.flags ≡ 0
+  pub flags : ¬ Contains layout Flags → ¬ (Contains layout Value × (kind_of v.body ≡ kinds.State))
+      → v.flags ≡ 0
   pub time : ¬ Contains layout Time → v.seconds ≡ 0
   pub millis : ¬ Contains layout Millis → v.millis ≡ 0

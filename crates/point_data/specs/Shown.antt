@@ -11,7 +11,8 @@ use Rattle.mms_data.specs.Datum.{Datum, integer, unsigned, bits, real, structure
 abbrev pub octet_bits : ℕ → Datum
 octet_bits octet = bits (record { count = 8; octets = octet ∷ [] })
 
--- a body: a state in the two highest bits of an octet with the flags below it, an integer, or a real value
+-- a body: a state in the two highest bits of an octet with the flags below it, an integer, or a
+-- real value
 abbrev pub shown_body : Body → ℕ → Datum
 shown_body (State s) flags = octet_bits (s * 64 + flags)
 shown_body (Discrete d) flags = integer d

@@ -1,6 +1,7 @@
 //! Whether a datum is what is shown of a value.
 ghost use Rattle.std.specs.Prelude.{◌≡◌, ◌≤◌, ◌↔◌, IsTrue, map};
 ghost use Rattle.mms_data.specs.Datum.{integer, unsigned, real, structure, data_of};
+ghost use Rattle.tase_points.specs.declared.value.TheConstants.{STATE_LIMIT, FLAGS_LIMIT};
 ghost use Rattle.tase_points.specs.Points.{state_of};
 ghost use Rattle.point_data.specs.Shown.{octet_bits, shown_body, shown_component, shown_as};
 
@@ -25,7 +26,8 @@ pub(crate) fn is_shown(
 
 /// Whether a datum is the structure of the components of a value.
 fn is_structure(datum: &MmsData, value: &PointValue, cov: u16, components: &[Component]) -> bool
-    ensures { IsTrue result ↔ (structure (data_of (map (shown_component value.now cov) components.now)) ≡ datum.now) }
+    ensures { IsTrue result
+        ↔ (structure (data_of (map (shown_component value.now cov) components.now)) ≡ datum.now) }
 {
     match datum.kind() {
         DataKind::Structure(members) => are_components(members, value, cov, components),
@@ -69,8 +71,8 @@ fn is_component(datum: &MmsData, value: &PointValue, cov: u16, component: Compon
 
 /// Whether a datum is a body; of a state with its flags.
 fn is_body(datum: &MmsData, body: Body, flags: u8) -> bool
-    requires state { state_of body ≤ 3 }
-    requires flags { flags ≤ 63 }
+    requires state { state_of body ≤ STATE_LIMIT }
+    requires flags { flags ≤ FLAGS_LIMIT }
     ensures { IsTrue result ↔ (shown_body body flags ≡ datum.now) }
 {
     match body {

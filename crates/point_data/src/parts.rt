@@ -1,9 +1,9 @@
 //! Parts of data: the number, the octets or the member that a datum has.
-ghost use Rattle.std.specs.Prelude.{◌≡◌, ℕ, Some, IfSome, IfNone, OnSome};
+ghost use Rattle.std.specs.Prelude.{◌≡◌, ℕ, Some, IfSome, IfNone};
 ghost use Rattle.std.specs.List.{slice_get};
 ghost use Rattle.std.specs.Option.{option_copied};
-ghost use Rattle.mms_data.specs.Datum.{Datum};
-ghost use Rattle.point_data.specs.Parts.{Has, members_in, member_in, integer_in, unsigned_in, real_in, octet_in};
+ghost use Rattle.point_data.specs.Parts.{Has, members_in, member_in, integer_in, unsigned_in};
+ghost use Rattle.point_data.specs.Parts.{real_in, octet_in};
 ghost use Rattle.point_data.specs.Shown.{shown_as, shown_component};
 ghost use Rattle.tase_points.specs.Sample.{Sample};
 
@@ -59,7 +59,7 @@ fn place_of(layout: &[Component], component: Component) -> Option<usize>
     ensures absent { IfNone result (¬ Has layout.now component) }
 {
     for (place, own) in layout.iter().enumerate() {
-        if *own == component {
+        if own.is_same(component) {
             return Some(place);
         }
     }
@@ -93,8 +93,12 @@ pub(crate) fn part<'a>(
     layout: &[Component],
     component: Component,
 ) -> Option<&'a MmsData>
-    ensures shown { IfSome result (λ d. (v : Sample) (cov : ℕ) → shown_as v cov layout.now ≡ value.now → d.now ≡ shown_component v cov component) }
-    ensures missed { IfNone result ((v : Sample) (cov : ℕ) → shown_as v cov layout.now ≡ value.now → ¬ Has layout.now component) }
+    ensures shown { IfSome result
+        (λ d. (v : Sample) (cov : ℕ) → shown_as v cov layout.now ≡ value.now
+        → d.now ≡ shown_component v cov component) }
+    ensures missed { IfNone result
+        ((v : Sample) (cov : ℕ) → shown_as v cov layout.now ≡ value.now
+        → ¬ Has layout.now component) }
     ensures carried { IfSome result (λ _. Has layout.now component) }
 {
     member(value, layout, place_of(layout, component)?)

@@ -1,6 +1,8 @@
 //! Values of points from data.
 ghost use Rattle.std.specs.Prelude.{◌≡◌, ◌≢◌, ℕ, ℤ, ◌+◌, ◌*◌, ◌<◌, ◌≤◌, pos, IfSome, IfNone};
 ghost use Rattle.mms_data.specs.Datum.{integer, unsigned};
+ghost use Rattle.tase_points.specs.declared.layout.TheConstants.{COV_MODULUS};
+ghost use Rattle.tase_points.specs.declared.value.TheConstants.{STATE_LIMIT, FLAGS_LIMIT};
 ghost use Rattle.tase_points.specs.Points.{kind_of, state_of, zero_body};
 ghost use Rattle.tase_points.specs.Sample.{Sample};
 ghost use Rattle.tase_points.specs.Values.{IsSample};
@@ -11,23 +13,35 @@ ghost use Rattle.point_data.specs.Shown.{octet_bits, shown_body, shown_component
 use crate::checking::is_shown;
 use crate::parts::{integer_of, octet_of, part, real_of, unsigned_of};
 use mms_data::MmsData;
-use tase_points::{Body, Component, Kind, Layout, PointValue};
+use tase_points::{
+    Body, COV_MODULUS, Component, Kind, Layout, MILLIS_LIMIT, PointValue, SECONDS_LIMIT,
+};
 
-/// The value of a point of this kind that a datum shows in a layout. What the layout doesn't carry is zero.
-/// None where no value of the kind, with no count of changes, is shown so: where a component has another
+/// The value of a point of this kind that a datum shows in a layout. What the layout doesn't carry
+/// is zero.
+/// None where no value of the kind, with no count of changes, is shown so: where a component has
+/// another
 /// kind of data or lies outside its range, or where the flags stand twice and differ.
 pub fn from_data(value: &MmsData, kind: Kind, layout: &Layout) -> Option<PointValue>
-    ensures shown { IfSome result (λ v. (cov : ℕ) × (cov < 65536) × (shown_as v cov layout.now ≡ value.now)) }
+    ensures shown { IfSome result
+        (λ v. (cov : ℕ) × (cov < COV_MODULUS) × (shown_as v cov layout.now ≡ value.now)) }
     ensures kind { IfSome result (λ v. kind_of v.body ≡ kind) }
     ensures bare { IfSome result (IsBare layout.now) }
-    ensures none { IfNone result ((v : Sample) (cov : ℕ) → IsSample v → FitsBody v.body → kind_of v.body ≡ kind → cov < 65536 → shown_as v cov layout.now ≢ value.now) }
+    ensures none { IfNone result
+        ((v : Sample) (cov : ℕ) → IsSample v → FitsBody v.body → kind_of v.body ≡ kind
+        → cov < COV_MODULUS → shown_as v cov layout.now ≢ value.now) }
 {
     let components = layout.as_slice();
     let candidate = PointValue::new(
         body_in(value, components, kind),
         flags_in(value, components, kind),
-        number_in(value, components, Component::Time, 2147483647),
-        number_in(value, components, Component::Millis, 999) as u16,
+        number_in(value, components, Component::Time, SECONDS_LIMIT),
+        number_in(
+            value,
+            components,
+            Component::Millis,
+            u32::from(MILLIS_LIMIT),
+        ) as u16,
     );
     let cov = count_in(value, components);
     if is_shown(value, &candidate, cov, components) {
@@ -40,8 +54,10 @@ pub fn from_data(value: &MmsData, kind: Kind, layout: &Layout) -> Option<PointVa
 /// The body, where the layout has it and the datum shows it.
 fn body_in(value: &MmsData, components: &[Component], kind: Kind) -> Body
     ensures kind { kind_of result ≡ kind }
-    ensures state { state_of result ≤ 3 }
-    ensures shown { Has components.now Component.Value → (v : Sample) (cov : ℕ) → IsSample v → FitsBody v.body → kind_of v.body ≡ kind → shown_as v cov components.now ≡ value.now → result ≡ v.body }
+    ensures state { state_of result ≤ STATE_LIMIT }
+    ensures shown { Has components.now Component.Value → (v : Sample) (cov : ℕ) → IsSample v
+        → FitsBody v.body → kind_of v.body ≡ kind → shown_as v cov components.now ≡ value.now
+        → result ≡ v.body }
     ensures absent { ¬ Has components.now Component.Value → result ≡ zero_body kind }
 {
     match part(value, components, Component::Value) {
@@ -53,8 +69,9 @@ fn body_in(value: &MmsData, components: &[Component], kind: Kind) -> Body
 /// The body of a kind that a datum is; where it is none, any.
 fn body_of(datum: &MmsData, kind: Kind) -> Body
     ensures kind { kind_of result ≡ kind }
-    ensures state { state_of result ≤ 3 }
-    ensures shown { (v : Sample) → IsSample v → FitsBody v.body → kind_of v.body ≡ kind → datum.now ≡ shown_body v.body v.flags → result ≡ v.body }
+    ensures state { state_of result ≤ STATE_LIMIT }
+    ensures shown { (v : Sample) → IsSample v → FitsBody v.body → kind_of v.body ≡ kind
+        → datum.now ≡ shown_body v.body v.flags → result ≡ v.body }
 {
     match kind {
         Kind::State => Body::State(octet_of(datum).unwrap_or(0) / 64),
@@ -86,8 +103,9 @@ fn zero(kind: Kind) -> Body
 
 /// The flags, where the layout has them and the datum shows them.
 fn flags_in(value: &MmsData, components: &[Component], kind: Kind) -> u8
-    ensures range { result ≤ 63 }
-    ensures shown { CarriesFlags components.now kind → (v : Sample) (cov : ℕ) → IsSample v → kind_of v.body ≡ kind → shown_as v cov components.now ≡ value.now → result ≡ v.flags }
+    ensures range { result ≤ FLAGS_LIMIT }
+    ensures shown { CarriesFlags components.now kind → (v : Sample) (cov : ℕ) → IsSample v
+        → kind_of v.body ≡ kind → shown_as v cov components.now ≡ value.now → result ≡ v.flags }
     ensures absent { ¬ CarriesFlags components.now kind → result ≡ 0 }
 {
     match (part(value, components, Component::Flags), kind) {
@@ -102,8 +120,9 @@ fn flags_in(value: &MmsData, components: &[Component], kind: Kind) -> u8
 
 /// The flags in the six lower bits of an octet.
 fn flags_of(datum: &MmsData) -> u8
-    ensures range { result ≤ 63 }
-    ensures shown { (state : ℕ) (flags : ℕ) → flags ≤ 63 → datum.now ≡ octet_bits (state * 64 + flags) → result ≡ flags }
+    ensures range { result ≤ FLAGS_LIMIT }
+    ensures shown { (state : ℕ) (flags : ℕ) → flags ≤ FLAGS_LIMIT
+        → datum.now ≡ octet_bits (state * 64 + flags) → result ≡ flags }
 {
     octet_of(datum).unwrap_or(0) % 64
 }
@@ -111,7 +130,9 @@ fn flags_of(datum: &MmsData) -> u8
 /// A component that is a number, where the layout has it and the datum shows it.
 fn number_in(value: &MmsData, components: &[Component], component: Component, limit: u32) -> u32
     ensures range { result ≤ limit }
-    ensures shown { Has components.now component → (v : Sample) (cov : ℕ) (n : ℕ) → n ≤ limit → shown_component v cov component ≡ integer (pos n) → shown_as v cov components.now ≡ value.now → result ≡ n }
+    ensures shown { Has components.now component → (v : Sample) (cov : ℕ) (n : ℕ) → n ≤ limit
+        → shown_component v cov component ≡ integer (pos n)
+        → shown_as v cov components.now ≡ value.now → result ≡ n }
     ensures absent { ¬ Has components.now component → result ≡ 0 }
 {
     match part(value, components, component) {
@@ -133,7 +154,8 @@ fn number_of(datum: &MmsData, limit: u32) -> u32
 
 /// The count of changes, where the layout has it and the datum shows it.
 fn count_in(value: &MmsData, components: &[Component]) -> u16
-    ensures { Has components.now Component.Cov → (v : Sample) (cov : ℕ) → cov < 65536 → shown_as v cov components.now ≡ value.now → result ≡ cov }
+    ensures { Has components.now Component.Cov → (v : Sample) (cov : ℕ) → cov < COV_MODULUS
+        → shown_as v cov components.now ≡ value.now → result ≡ cov }
 {
     match part(value, components, Component::Cov) {
         Some(datum) => count_of(datum),
@@ -141,12 +163,12 @@ fn count_in(value: &MmsData, components: &[Component]) -> u16
     }
 }
 
-/// The count below 65,536 that a datum is, else 0.
+/// The count below [`COV_MODULUS`] that a datum is, else 0.
 fn count_of(datum: &MmsData) -> u16
-    ensures { (n : ℕ) → n < 65536 → datum.now ≡ unsigned n → result ≡ n }
+    ensures { (n : ℕ) → n < COV_MODULUS → datum.now ≡ unsigned n → result ≡ n }
 {
     match unsigned_of(datum) {
-        Some(number) if number < 65536 => number as u16,
+        Some(number) if number < u64::from(COV_MODULUS) => number as u16,
         _ => 0,
     }
 }

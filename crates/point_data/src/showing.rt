@@ -1,5 +1,5 @@
-ghost use Rattle.std.specs.Prelude.{◌≡◌, ◌≤◌, ◌<◌, IfOk, length, map};
-ghost use Rattle.mms_data.specs.Datum.{structure, data_of};
+ghost use Rattle.std.specs.Prelude.{◌≡◌, ◌≤◌, ◌<◌, IfOk, map};
+ghost use Rattle.tase_points.specs.declared.value.TheConstants.{STATE_LIMIT, FLAGS_LIMIT};
 ghost use Rattle.tase_points.specs.Points.{state_of};
 ghost use Rattle.point_data.specs.Shown.{octet_bits, shown_body, shown_component, shown_as};
 
@@ -61,8 +61,8 @@ fn component_data(
 
 /// A body; of a state with its flags.
 fn body_data(alloc: Global, body: Body, flags: u8) -> Result<MmsData, AllocError>
-    requires state { state_of body ≤ 3 }
-    requires flags { flags ≤ 63 }
+    requires state { state_of body ≤ STATE_LIMIT }
+    requires flags { flags ≤ FLAGS_LIMIT }
     ensures { IfOk result (λ shown. shown ≡ shown_body body flags) }
 {
     Ok(match body {

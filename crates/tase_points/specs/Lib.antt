@@ -2,3 +2,4 @@ pub mod Points
 pub mod Sample
 pub mod Values
 pub mod Layouts
+pub mod Same

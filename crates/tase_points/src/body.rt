@@ -6,7 +6,8 @@ pub enum Body {
     /// 0 between, 1 off, 2 on, 3 invalid.
     State(u8),
     Discrete(i32),
-    /// The four octets of a floating-point number as they stand on the wire; nothing is computed with them.
+    /// The four octets of a floating-point number as they stand on the wire; nothing is computed
+    /// with them.
     Real([u8; 4]),
 }
 

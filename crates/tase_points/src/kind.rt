@@ -8,3 +8,16 @@ pub enum Kind {
     /// A real value of four octets, which pass through unread.
     Real,
 }
+
+impl Kind {
+    ghost use Rattle.std.specs.Prelude.{◌≡◌, ◌↔◌, IsTrue};
+    ghost use Rattle.tase_points.specs.Same.{same_kind};
+
+    /// Whether two kinds are one.
+    pub fn is_same(self, other: Kind) -> bool
+        ensures value { result ≡ same_kind self other }
+        ensures same { IsTrue result ↔ (self ≡ other) }
+    {
+        self == other
+    }
+}

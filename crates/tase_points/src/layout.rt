@@ -1,9 +1,11 @@
-ghost use Rattle.std.specs.Prelude.{◌≡◌, length, slice_get, IfOk};
-ghost use Rattle.std.specs.Option.{option_copied};
+ghost use Rattle.std.specs.Prelude.{◌≡◌, length, IfOk};
 ghost use Rattle.tase_points.specs.Layouts.{IsLayout};
 
 use std::alloc::AllocError;
 use std::marker::Model;
+
+/// Counts of changes are shown modulo this number.
+pub const COV_MODULUS: u32 = 65536;
 
 /// One part of what a peer is shown of a point.
 #[derive(Clone, Copy, Debug, PartialEq, Eq)]
@@ -15,8 +17,21 @@ pub enum Component {
     /// Milliseconds past the second.
     Millis,
     Flags,
-    /// The count of changes, modulo 65,536.
+    /// The count of changes, modulo [`COV_MODULUS`].
     Cov,
+}
+
+impl Component {
+    ghost use Rattle.std.specs.Prelude.{◌≡◌, ◌↔◌, IsTrue};
+    ghost use Rattle.tase_points.specs.Same.{same_component};
+
+    /// Whether two components are one.
+    pub fn is_same(self, other: Component) -> bool
+        ensures value { result ≡ same_component self other }
+        ensures same { IsTrue result ↔ (self ≡ other) }
+    {
+        self == other
+    }
 }
 
 /// The components in which a point is shown, in order: at least one, none twice.

@@ -1,4 +1,5 @@
-//! Points of a TASE.2 control centre: their kinds, their values, and the layouts in which they are shown
+//! Points of a TASE.2 control centre: their kinds, their values, and the layouts in which they are
+//! shown
 //! (IEC 60870-6-802, indication points).
 #![tactic(auto)]
 
@@ -9,8 +10,10 @@ mod value;
 
 pub use body::Body;
 pub use kind::Kind;
-pub use layout::{Component, Layout};
-pub use value::{PointValue, changes, unknown};
+pub use layout::{COV_MODULUS, Component, Layout};
+pub use value::{
+    FLAGS_LIMIT, MILLIS_LIMIT, PointValue, SECONDS_LIMIT, STATE_LIMIT, changes, unknown,
+};
 
 #[cfg(test)]
 mod tests;

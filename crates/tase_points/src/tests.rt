@@ -15,6 +15,7 @@ fn values_change(rt: HostRuntime) {
     }
     assert_eq!(rt; old.body(), Body::State(2));
     assert_eq!(rt; old.body().kind(), Kind::State);
+    assert!(rt; Kind::Real.is_same(Kind::Real) && !Component::Cov.is_same(Component::Time));
     assert_eq!(rt; old.flags(), 0);
     assert_eq!(rt; old.seconds(), 1700000000);
     assert_eq!(rt; old.millis(), 5);

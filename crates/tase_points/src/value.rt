@@ -4,6 +4,21 @@ ghost use Rattle.tase_points.specs.Values.{IsSample, unknown_sample, is_change};
 use crate::{Body, Kind};
 use std::marker::Model;
 
+/// The largest number of a state.
+pub const STATE_LIMIT: u8 = 3;
+
+/// The largest number that six bits of flags are.
+pub const FLAGS_LIMIT: u8 = 63;
+
+/// The latest second since 1970.
+pub const SECONDS_LIMIT: u32 = 2147483647;
+
+/// The last millisecond of a second.
+pub const MILLIS_LIMIT: u16 = 999;
+
+/// The flags of a value that is not valid.
+const NOT_VALID: u8 = 48;
+
 /// A point's value with its quality flags and its time.
 #[derive(Clone, Copy, Debug, PartialEq, Eq)]
 pub struct PointValue {
@@ -20,20 +35,26 @@ impl Model for PointValue {
 
     ghost use Rattle.tase_points.specs.Values.{IsSample};
 
-    ghost view = { λ v. record { body = v.body; flags = v.flags; seconds = v.seconds; millis = v.millis } };
+    ghost view = { λ v.
+        record { body = v.body; flags = v.flags; seconds = v.seconds; millis = v.millis } };
 
-    ghost invariant = { λ v. IsSample (record { body = v.body; flags = v.flags; seconds = v.seconds; millis = v.millis }) };
+    ghost invariant = { λ v. IsSample
+        (record { body = v.body; flags = v.flags; seconds = v.seconds; millis = v.millis }) };
 
-    ghost inverse = { λ s. record { body = s.body; flags = s.flags; seconds = s.seconds; millis = s.millis } };
+    ghost inverse = { λ s.
+        record { body = s.body; flags = s.flags; seconds = s.seconds; millis = s.millis } };
 }
 
 impl PointValue {
-    /// A state is 0 to 3. Flags are six bits: validity times 16 (0 valid, 1 held, 2 suspect, 3 not valid), source
-    /// times 4 (0 telemetered, 1 calculated, 2 entered, 3 estimated), 2 where the value is not normal, 1 where the
-    /// time is not valid. The time is seconds since 1970, below 2,147,483,648, and 0 to 999 milliseconds.
+    /// A state is 0 to [`STATE_LIMIT`]. Flags are six bits: validity times 16 (0 valid, 1 held,
+    /// 2 suspect, 3 not valid), source times 4 (0 telemetered, 1 calculated, 2 entered,
+    /// 3 estimated), 2 where the value is not normal, 1 where the time is not valid. The time is
+    /// seconds since 1970, up to [`SECONDS_LIMIT`], and milliseconds, up to [`MILLIS_LIMIT`].
     pub fn new(body: Body, flags: u8, seconds: u32, millis: u16) -> PointValue
-        requires { IsSample (record { body = body; flags = flags; seconds = seconds; millis = millis }) }
-        ensures { result ≡ record { body = body; flags = flags; seconds = seconds; millis = millis } }
+        requires { IsSample
+            (record { body = body; flags = flags; seconds = seconds; millis = millis }) }
+        ensures { result
+            ≡ record { body = body; flags = flags; seconds = seconds; millis = millis } }
     {
         PointValue {
             body,
@@ -88,5 +109,5 @@ pub fn unknown(kind: Kind) -> PointValue
         Kind::Discrete => Body::Discrete(0),
         Kind::Real => Body::Real([0; 4]),
     };
-    PointValue::new(body, 48, 0, 0)
+    PointValue::new(body, NOT_VALID, 0, 0)
 }

@@ -6,7 +6,8 @@ pub returns-clause-either : goal.returns-clause-either
 returns-clause-either c = λ text. cases_of_result (centre_in text)
 
 pub returns-clause-not_both : goal.returns-clause-not_both
-returns-clause-not_both c = λ text rows fault first second. not_value_and_error (centre_in text) rows fault first second
+returns-clause-not_both c =
+    λ text rows fault first second. not_value_and_error (centre_in text) rows fault first second
 
 pub returns-clause-one_centre : goal.returns-clause-one_centre
 returns-clause-one_centre c = λ text a b first second. one_value (centre_in text) a b first second

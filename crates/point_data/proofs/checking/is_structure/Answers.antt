@@ -7,7 +7,10 @@ use Rattle.point_data.proofs.checking.is_structure.Goals as goal
 
 pub returns-in-Structure : goal.returns-in-Structure
 returns-in-Structure c =
-    let own : c.args.datum.now ≡ structure (data_of c.in-Structure.members) = c.kind.ensures ∙ ap datum_of c.in-Structure.is in (
+    let own : c.args.datum.now ≡ structure (data_of c.in-Structure.members) = c.kind.ensures
+    ∙ ap datum_of c.in-Structure.is in (
       λ t. ap (λ ds. structure (data_of ds)) (c.are_components.ensures.0 t) ∙ sym own,
-      λ e. c.are_components.ensures.1 (sym (list_of-data_of _) ∙ ap members_in (e ∙ own) ∙ list_of-data_of c.in-Structure.members),
+      λ e. c.are_components.ensures.1
+          (sym (list_of-data_of _) ∙ ap members_in (e ∙ own)
+          ∙ list_of-data_of c.in-Structure.members),
     )

@@ -8,4 +8,6 @@ use Rattle.point_data.proofs.parts.member_of.Goals as goal
 pub returns-in-Structure : goal.returns-in-Structure
 returns-in-Structure c =
     c.get.ensures
-    ∙ ap (λ ds. slice_get ds c.args.place) (sym (ap members_in (c.kind.ensures ∙ ap datum_of c.in-Structure.is) ∙ list_of-data_of c.in-Structure.members))
+    ∙ ap (λ ds. slice_get ds c.args.place)
+    (sym (ap members_in (c.kind.ensures ∙ ap datum_of c.in-Structure.is)
+    ∙ list_of-data_of c.in-Structure.members))

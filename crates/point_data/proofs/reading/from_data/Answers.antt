@@ -24,9 +24,14 @@ returns-else-is_shown-clause-none c =
     let made = c.new-candidate.ensures in
     let shown = ap (shown_as v cov) c.as_slice-components.ensures.value ∙ found in
     let same : false ≡ true = c.if-is_shown.ensures.1
-    (shown_as-agreeing c.as_slice-components.result.now c.args.value.now c.args.kind c.new-candidate.result v c.count_in-cov.result cov shown kind
+    (shown_as-agreeing c.as_slice-components.result.now c.args.value.now c.args.kind
+    c.new-candidate.result v c.count_in-cov.result cov shown kind
     (λ h. ap (λ (s : Sample). s.body) made ∙ c.body_in.ensures.shown h v cov sample fits kind shown)
     (λ h. ap (λ (s : Sample). s.flags) made ∙ c.flags_in.ensures.shown h v cov sample kind shown)
-    (λ h. ap (λ (s : Sample). s.seconds) made ∙ c.number_in.ensures.shown h v cov v.seconds (let e = sample.seconds in omega arith) refl shown)
-    (λ h. ap (λ (s : Sample). s.millis) made ∙ c.number_in-2.ensures.shown h v cov v.millis sample.millis refl shown)
+    (λ h. ap (λ (s : Sample). s.seconds) made
+    ∙ c.number_in.ensures.shown h v cov v.seconds (let e = sample.seconds in omega arith)
+    refl shown)
+    (λ h. ap (λ (s : Sample). s.millis) made
+    ∙ c.number_in-2.ensures.shown h v cov v.millis
+    (let e = sample.millis in omega (arith, c.from.ensures)) refl shown)
     (λ h. c.count_in-cov.ensures h v cov small shown)) in cc
