@@ -57,3 +57,10 @@ unfolding part_size
 length-written tag contents = omega (arith, length-append (length_octets (length contents)) contents)
 
 pub ruleset part_sizes = (part_size-short, part_size-long)
+
+-- the capped length of an element, by that of its contents
+pub capped-written : (tag n : ℕ) (contents : List ℕ) → n ≡ capped (length contents)
+    → capped (part_size n) ≡ capped (length (written tag contents))
+capped-written tag n contents e =
+    ap (λ k. capped (part_size k)) e ∙ capped-part (length contents)
+    ∙ ap capped (sym (length-written tag contents))

@@ -12,4 +12,5 @@ pub mod Grammars
 pub mod Lists
 pub mod Leaves
 pub mod Capped
+pub mod Settled
 pub mod DottedOctets

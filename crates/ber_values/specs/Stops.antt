@@ -20,3 +20,8 @@ abbrev pub settled : {X : Type 0} → Result X Stop → Result (Result X BerFaul
 settled (Ok x) = Ok (Ok x)
 settled (Err stops.Memory) = Err alloc_error
 settled (Err (stops.Fault f)) = Ok (Err f)
+
+-- a function answered this value, seen by view
+abbrev pub AnswersValue : {X Y : Type 0} → (X → Y) → Result X BerFault → Y → Type 0
+AnswersValue view (Ok x) y = view x ≡ y
+AnswersValue view (Err f) y = ⊥

@@ -84,7 +84,8 @@ pub fn read_unsigned(bytes: &[u8], head: &Head) -> Result<u32, BerFault>
 }
 
 fn size_of_number(number: u64) -> usize
-    ensures { result ≡ number_size number }
+    ensures value { result ≡ number_size number }
+    ensures few { result ≤ 8 }
 {
     match number {
         0..0x80 => 1,
@@ -100,7 +101,8 @@ fn size_of_number(number: u64) -> usize
 
 /// How many octets the shortest form of an integer has.
 pub(crate) fn size_of_integer(value: i64) -> usize
-    ensures { result ≡ integer_size value }
+    ensures value { result ≡ integer_size value }
+    ensures few { result ≤ 8 }
 {
     if value < 0 {
         size_of_number((-1 - value) as u64)

@@ -33,7 +33,8 @@ pub fn part_len(contents: usize) -> usize
 
 /// The length of an integer's contents.
 pub fn integer_len(value: i64) -> usize
-    ensures { result ≡ length (integer_octets value) }
+    ensures value { result ≡ length (integer_octets value) }
+    ensures few { result ≤ 8 }
 {
     size_of_integer(value)
 }

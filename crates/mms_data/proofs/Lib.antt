@@ -4,3 +4,4 @@ pub mod FloatingRead
 pub mod DataRead
 pub mod DataLawful
 pub mod DataWritten
+pub mod DataLengths

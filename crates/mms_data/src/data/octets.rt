@@ -1,21 +1,85 @@
 //! Data as octets (ISO 9506-2, `Data`).
-ghost use Rattle.std.specs.Prelude.{◌≡◌, ◌+◌, ◌-◌, ◌<◌, ◌≤◌, ◌^◌, length, drop, IfOk};
+ghost use Rattle.std.specs.Prelude.{◌≡◌, ◌+◌, ◌-◌, ◌*◌, ◌<◌, ◌≤◌, ◌^◌, ◌++◌, ◌∷◌, ◌↔◌, length, drop};
+ghost use Rattle.std.specs.Prelude.{IfOk, OnOk, OnErr, Err};
+ghost use Rattle.std.specs.List.{slice_range};
+ghost use Rattle.plain_text.specs.Extends.{Extends};
+ghost use Rattle.ber_values.specs.declared.fault.BerFault.{BerFault};
+ghost use Rattle.ber_values.specs.Faults.{Gives};
+ghost use Rattle.ber_values.specs.Lengths.{capped, part_size};
+ghost use Rattle.ber_values.specs.Reading.{Taken};
+ghost use Rattle.ber_values.specs.Writing.{written};
 ghost use Rattle.ber_values.specs.Faults.{fault_at};
-ghost use Rattle.ber_values.specs.Stops.{Answers};
+ghost use Rattle.ber_values.specs.Stops.{Answers, AnswersValue};
 ghost use Rattle.ber_values.specs.Grammars.{taken, why_refused};
 ghost use Rattle.ber_values.specs.Parts.{part_in, contents_as};
 ghost use Rattle.ber_values.specs.Lists.{list_in};
 ghost use Rattle.ber_values.specs.Leaves as leaves;
-ghost use Rattle.mms_data.specs.Datum.{Datum};
+ghost use Rattle.mms_data.specs.Datum.{Datum, data_of};
+ghost use Rattle.mms_data.specs.DataWritten.{datum_octets, members_octets, datum_len};
+ghost use Rattle.mms_data.specs.Lawful.{IsLawful, KeepsUnsigned, KeepUnsigned};
 ghost use Rattle.mms_data.specs.Floating.{floating};
 ghost use Rattle.mms_data.specs.DataOctets.{plain_datum, array_of, structure_of, datum_within};
+ghost use Rattle.mms_data.specs.DataOctets.{one_datum};
 
 use super::{DataKind, DataList, MmsData, OctetList};
-use ber_values::{BerFault, Part, Stop, Why, has_tag, octets_from, take_part};
-use std::alloc::Global;
+use ber_values::{BerFault, Part, Stop, Why, has_tag, octets_from, settle, take_part};
+use std::alloc::{AllocError, Global};
 
 /// The most levels of data: a value that is neither structure nor array has one.
 pub const MOST_DEPTH: u8 = 5;
+
+/// The value that begins at `at` in octets that end at `end`, and the place after it.
+pub fn read_data(
+    alloc: Global,
+    bytes: &[u8],
+    at: usize,
+    end: usize,
+) -> Result<Result<(MmsData, usize), BerFault>, AllocError>
+    requires start { at ≤ end }
+    requires stop { end ≤ length bytes.now }
+    // A value is read only where the octets begin with it,
+    ensures found { IfOk result (λ read. IfOk read
+        (λ x. one_datum.begins at (slice_range bytes.now at end)
+        (taken x.0 x.1 (drop (x.1 - at) (slice_range bytes.now at end))))) }
+    // and wherever they begin with one, it is read.
+    ensures only { (t : Taken Datum) → one_datum.begins at (slice_range bytes.now at end) t
+        → IfOk result (λ read. AnswersValue
+        (λ x. taken x.0 x.1 (drop (x.1 - at) (slice_range bytes.now at end))) read t) }
+    // A fault is the first one from the left.
+    ensures fault { (fault : BerFault) → IfOk result
+        (λ read. (read ≡ Err fault) ↔ one_datum.fault at (slice_range bytes.now at end) fault) }
+    ensures lawful { IfOk result (λ read. IfOk read (λ x. IsLawful x.0)) }
+    ensures within { IfOk result (λ read. IfOk read (λ x. (at < x.1) × (x.1 ≤ end))) }
+    ensures exact { IfOk result (λ read. Gives
+        (λ x. taken x.0 x.1 (drop (x.1 - at) (slice_range bytes.now at end))) read
+        (one_datum.reading at (slice_range bytes.now at end))) }
+{
+    read_from(alloc, &bytes[at..end], at)
+}
+
+fn read_from(
+    alloc: Global,
+    octets: &[u8],
+    at: usize,
+) -> Result<Result<(MmsData, usize), BerFault>, AllocError>
+    requires { at + length octets.now < 2 ^ 64 }
+    ensures exact { IfOk result (λ read. Gives
+        (λ x. taken x.0 x.1 (drop (x.1 - at) octets.now)) read (one_datum.reading at octets.now)) }
+    ensures within { IfOk result (λ read. IfOk read
+        (λ x. (at + 2 ≤ x.1) × (x.1 ≤ at + length octets.now))) }
+{
+    settle(data_from(alloc, octets, at))
+}
+
+#[tactic(auto, unfolding(crate::specs::DataOctets::one_datum))]
+fn data_from(alloc: Global, octets: &[u8], at: usize) -> Result<(MmsData, usize), Stop>
+    requires { at + length octets.now < 2 ^ 64 }
+    ensures exact { Answers (λ x. taken x.0 x.1 (drop (x.1 - at) octets.now)) result
+        (one_datum.reading at octets.now) }
+    ensures within { IfOk result (λ x. (at + 2 ≤ x.1) × (x.1 ≤ at + length octets.now)) }
+{
+    datum_at(alloc, octets, at, MOST_DEPTH)
+}
 
 /// The value at the front of octets, of at most so many levels, and the place after it.
 #[cycle(levels)]

@@ -6,7 +6,7 @@ use Rattle.ber_values.specs.Writing.{integer_size}
 use Rattle.ber_values.proofs.Written.{length-integer_octets}
 use Rattle.ber_values.proofs.lengths.integer_len.Goals as goal
 
-pub returns : goal.returns
-returns c =
+pub returns-clause-value : goal.returns-clause-value
+returns-clause-value c =
     let same : to_z w64 (cast_unsigned w64 c.args.value) ≡ c.args.value = to_z-of_z w64 c.args.value c.ranges.value in
-    c.size_of_integer.ensures ∙ ap integer_size same ∙ sym (length-integer_octets c.args.value)
+    c.size_of_integer.ensures.value ∙ ap integer_size same ∙ sym (length-integer_octets c.args.value)
