@@ -64,3 +64,10 @@ pub capped-written : (tag n : ℕ) (contents : List ℕ) → n ≡ capped (lengt
 capped-written tag n contents e =
     ap (λ k. capped (part_size k)) e ∙ capped-part (length contents)
     ∙ ap capped (sym (length-written tag contents))
+
+-- the same, where a length was capped before
+pub capped-element : (n len : ℕ) → n ≡ min MOST_LENGTH len
+    → capped (part_size n) ≡ capped (part_size len)
+capped-element n len e =
+    let same : n ≡ capped len = omega (arith, e) in
+    ap (λ k. capped (part_size k)) same ∙ capped-part len

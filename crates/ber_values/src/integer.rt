@@ -1,5 +1,5 @@
 //! Integers, ASN.1's `INTEGER` (ISO 8825-1, 8.3).
-ghost use Rattle.std.specs.Prelude.{◌≡◌, ◌≢◌, ℕ, ℤ, ◌%◌, ◌≤◌, ◌<◌, ◌↔◌, ◌++◌, length, IfOk};
+ghost use Rattle.std.specs.Prelude.{◌≡◌, ◌≢◌, ℕ, ℤ, pos, ◌%◌, ◌≤◌, ◌<◌, ◌↔◌, ◌++◌, length, IfOk};
 ghost use Rattle.std.specs.Prelude.{OnOk, OnErr};
 ghost use Rattle.plain_text.specs.Extends.{Extends};
 ghost use Rattle.ber_values.specs.declared.fault.BerFault.{BerFault};
@@ -83,7 +83,8 @@ pub fn read_unsigned(bytes: &[u8], head: &Head) -> Result<u32, BerFault>
     unsigned_from(&bytes[head.body..head.end], head)
 }
 
-fn size_of_number(number: u64) -> usize
+/// How many octets the shortest form of an integer that isn't negative has.
+pub(crate) fn size_of_number(number: u64) -> usize
     ensures value { result ≡ number_size number }
     ensures few { result ≤ 8 }
 {
@@ -128,5 +129,27 @@ pub fn write_integer(out: &mut Vec<u8>, tag: u8, value: i64) -> Result<(), Alloc
 {
     let mark = out.len();
     let done = put_integer(out, tag, value);
+    or_undo(out, mark, done)
+}
+
+fn put_natural(out: &mut Vec<u8>, tag: u8, value: u64) -> Result<(), AllocError>
+    ensures ok { OnOk result
+        (out.new.items ≡ out.old.items ++ written tag (integer_octets (pos value))) }
+    ensures err { OnErr result (Extends out.old.items out.new.items) }
+{
+    let size = size_of_number(value);
+    put_head(out, tag, size)?;
+    put_number(out, value, size)
+}
+
+/// Appends an integer that isn't negative in the shortest form.
+pub fn write_natural(out: &mut Vec<u8>, tag: u8, value: u64) -> Result<(), AllocError>
+    requires { tag % 32 ≢ 31 }
+    ensures ok { OnOk result
+        (out.new.items ≡ out.old.items ++ written tag (integer_octets (pos value))) }
+    ensures err { OnErr result (out.new.items ≡ out.old.items) }
+{
+    let mark = out.len();
+    let done = put_natural(out, tag, value);
     or_undo(out, mark, done)
 }

@@ -1,9 +1,9 @@
 //! Lengths of what is written, capped so that their sums don't wrap.
-ghost use Rattle.std.specs.Prelude.{◌≡◌, ◌+◌, ◌≤◌, length};
+ghost use Rattle.std.specs.Prelude.{◌≡◌, ◌+◌, ◌≤◌, length, pos};
 ghost use Rattle.ber_values.specs.Lengths.{capped, part_size};
 ghost use Rattle.ber_values.specs.Writing.{integer_octets};
 
-use crate::integer::size_of_integer;
+use crate::integer::{size_of_integer, size_of_number};
 use crate::writing::size_of_length;
 
 /// The most that a length is said to be: what is that long or longer has this length.
@@ -37,4 +37,12 @@ pub fn integer_len(value: i64) -> usize
     ensures few { result ≤ 8 }
 {
     size_of_integer(value)
+}
+
+/// The length of the contents of an integer that isn't negative.
+pub fn natural_len(value: u64) -> usize
+    ensures value { result ≡ length (integer_octets (pos value)) }
+    ensures few { result ≤ 8 }
+{
+    size_of_number(value)
 }
