@@ -2,10 +2,10 @@
 use Rattle.std.proofs.Common.{◌≡◌, ℕ, zero, suc, ◌+◌, ◌<◌, ◌≤◌, List, [], ◌∷◌, ◌++◌, length, take, get_or, sym, ap, ◌∙◌, append_assoc, append-nil, arith}
 use Rattle.std.proofs.lemmas.List.{length-append, take_more}
 use Rattle.ber_values.specs.Lengths.{capped, part_size}
-use Rattle.ber_values.proofs.Capped.{capped-sum, capped-written}
+use Rattle.ber_values.specs.Writing.{written}
+use Rattle.ber_values.proofs.Capped.{capped-sum, length-written}
 use Rattle.mms_data.specs.Datum.{Datum, data_of}
 use Rattle.mms_data.specs.DataWritten.{datum_octets, members_octets}
-use Rattle.mms_data.specs.Lawful.{KeepsUnsigned, KeepUnsigned}
 
 -- one member more
 pub members_octets-push : (ds : List Datum) (d : Datum) → members_octets (data_of (ds ++ d ∷ [])) ≡ members_octets (data_of ds) ++ datum_octets d
@@ -23,9 +23,10 @@ capped-member ds i d lt =
     capped-sum (length (members_octets (data_of (take i ds)))) (length (datum_octets (get_or ds i d)))
     ∙ ap capped (sym (ap length (members_octets-take ds i d lt) ∙ length-append (members_octets (data_of (take i ds))) (datum_octets (get_or ds i d))))
 
-pub keeps_at : (ds : List Datum) (i : ℕ) (d : Datum) → i < length ds → KeepUnsigned (data_of ds) → KeepsUnsigned (get_or ds i d)
-keeps_at [] i d lt keep = absurd (omega (arith, lt))
-keeps_at (x ∷ xs) zero d lt keep = keep.0
-keeps_at (x ∷ xs) (suc i) d lt keep = keeps_at xs i d (omega (arith, lt)) keep.1
+-- the capped length of an element of these contents
+pub element-written : (tag n r : ℕ) (contents : List ℕ) → n ≡ length contents
+    → r ≡ capped (part_size n) → r ≡ capped (length (written tag contents))
+element-written tag n r contents e is =
+    is ∙ ap (λ k. capped (part_size k)) e ∙ ap capped (sym (length-written tag contents))
 
-pub ruleset lengths = (capped-written, capped-member, keeps_at)
+pub ruleset lengths = (capped-member)

@@ -21,8 +21,12 @@ ghost use Rattle.mms_data.specs.Floating.{floating};
 ghost use Rattle.mms_data.specs.DataOctets.{plain_datum, array_of, structure_of, datum_within};
 ghost use Rattle.mms_data.specs.DataOctets.{one_datum};
 
+use ber_values::BitString;
 use super::{DataKind, DataList, MmsData, OctetList};
-use ber_values::{BerFault, Part, Stop, Why, has_tag, octets_from, settle, take_part};
+use ber_values::{
+    BerFault, MOST_LENGTH, Part, Stop, Why, add_len, has_tag, integer_len, natural_len, octets_from, part_len, settle,
+    take_part,
+};
 use std::alloc::{AllocError, Global};
 
 /// The most levels of data: a value that is neither structure nor array has one.
@@ -251,4 +255,90 @@ fn refused(octets: &[u8], at: usize) -> BerFault
             Why::Tag
         },
     }
+}
+
+/// How many octets [`write_data`] appends, or 4,294,967,295 where they would be as many or more.
+pub fn data_len(value: &MmsData) -> usize
+    requires { IsLawful value.now }
+    ensures { result ≡ datum_len value.now }
+{
+    len_of(value)
+}
+
+#[cycle(lengths)]
+fn len_of(value: &MmsData) -> usize
+    ensures { result ≡ datum_len value.now }
+{
+    match &value.kind {
+        DataKind::Boolean(boolean) => boolean_element_len(*boolean),
+        DataKind::Integer(integer) => integer_element_len(*integer),
+        DataKind::Unsigned(unsigned) => unsigned_element_len(*unsigned),
+        DataKind::Bits(bits) => bits_element_len(bits),
+        DataKind::Real(real) => real_element_len(real),
+        DataKind::Octets(octets) => octets_element_len(octets.as_slice()),
+        DataKind::Text(text) => text_element_len(text.as_slice()),
+        DataKind::Structure(members) => part_len(len_of_members(members)),
+        DataKind::Array(members) => part_len(len_of_members(members)),
+    }
+}
+
+#[cycle(lengths)]
+#[tactic(auto, using(crate::proofs::DataLengths::lengths))]
+fn len_of_members(members: &DataList) -> usize
+    ensures { result ≡ capped (length (members_octets (data_of members.now))) }
+{
+    let mut len = 0;
+    for member in &members.items {
+        len = add_len(len, len_of(member));
+    }
+    len
+}
+
+/// The length of an element of so many contents octets.
+fn element_len(len: usize) -> usize
+    ensures { result ≡ capped (part_size len) }
+{
+    part_len(MOST_LENGTH.min(len))
+}
+
+fn boolean_element_len(boolean: bool) -> usize
+    ensures { result ≡ datum_len (Datum.boolean boolean) }
+{
+    element_len(1)
+}
+
+fn integer_element_len(integer: i64) -> usize
+    ensures { result ≡ datum_len (Datum.integer integer) }
+{
+    element_len(integer_len(integer))
+}
+
+fn unsigned_element_len(unsigned: u64) -> usize
+    ensures { result ≡ datum_len (Datum.unsigned unsigned) }
+{
+    element_len(natural_len(unsigned))
+}
+
+fn bits_element_len(bits: &BitString) -> usize
+    ensures { result ≡ datum_len (Datum.bits bits.now) }
+{
+    element_len(1 + bits.octets().len())
+}
+
+fn real_element_len(real: &[u8]) -> usize
+    ensures { result ≡ datum_len (Datum.real real.now) }
+{
+    element_len(1 + real.len())
+}
+
+fn octets_element_len(octets: &[u8]) -> usize
+    ensures { result ≡ datum_len (Datum.octets octets.now) }
+{
+    element_len(octets.len())
+}
+
+fn text_element_len(text: &[u8]) -> usize
+    ensures { result ≡ datum_len (Datum.text text.now) }
+{
+    element_len(text.len())
 }
