@@ -12,7 +12,7 @@ use Rattle.ber_values.specs.Bits.{Bits}
 use Rattle.ber_values.specs.Visible.{is_visible_octet}
 use Rattle.ber_values.specs.Reading.{IsReading, HasOneReading}
 use Rattle.ber_values.specs.Contents.{HasLength, has_length, ContentsFault, contents_in}
-use Rattle.ber_values.specs.Numbers.{twos_complement, SpellsInteger, IntegerFault, integer_in, SpellsUnsigned, UnsignedFault, is_unsigned, unsigned_of, unsigned_in}
+use Rattle.ber_values.specs.Numbers.{twos_complement, SpellsInteger, IntegerFault, integer_in, SpellsUnsigned, UnsignedFault, is_below, unsigned_of, unsigned_in}
 use Rattle.ber_values.specs.Booleans.{SpellsBoolean, BooleanFault, boolean_in}
 use Rattle.ber_values.specs.BitContents.{bits_with, SpellsBits, BreaksBits, BitsFault, keeps_bits, bits_in}
 use Rattle.ber_values.specs.TextContents.{SpellsOid, OidFault, oid_in, SpellsVisible, VisibleFault, visible_in}
@@ -66,39 +66,51 @@ never : true ≡ false → ⊥
 never e = false≢true (sym e)
 
 pub integer_reads : (head : Head) (octets : List ℕ) → IsReading ℤ (λ v. SpellsInteger v octets) (IntegerFault head octets) (integer_in head octets)
+unfolding integer_in
 integer_reads head octets =
     contents_read ℤ (λ v. SpellsInteger v octets) (HasLength 1 8 octets) ⊥ (has_length 1 8 octets) true (twos_complement octets) head
     (record { length_kept = length_kept 1 8 octets; length_test = length_test 1 8 octets; spelled = λ a k. (length_kept 1 8 octets a, refl); broken = λ a k. absurd (never k); from_spelled = λ x s. (length_test 1 8 octets s.0, refl, s.1); from_broken = λ b. absurd b })
 
-is_unsigned-from : (z : ℤ) → is_unsigned z ≡ true → (pos (unsigned_of z) ≡ z) × (unsigned_of z < 2 ^ 32)
-is_unsigned-from (pos n) e = (refl, ltb-true n (2 ^ 32) e)
-is_unsigned-from (negsuc n) e = absurd (false≢true e)
+is_below-from : (limit : ℕ) (z : ℤ) → is_below limit z ≡ true
+    → (pos (unsigned_of z) ≡ z) × (unsigned_of z < limit)
+is_below-from limit (pos n) e = (refl, ltb-true n limit e)
+is_below-from limit (negsuc n) e = absurd (false≢true e)
 
-not_unsigned : (z : ℤ) → is_unsigned z ≡ false → (z <ℤ pos 0) ⊎ (pos (2 ^ 32) ≤ℤ z)
-not_unsigned (pos n) e = let le : 2 ^ 32 ≤ n = ltb-false n (2 ^ 32) e in inr (omega (arith, ints))
-not_unsigned (negsuc n) e = inl (omega (arith, ints))
+not_below : (limit : ℕ) (z : ℤ) → is_below limit z ≡ false → (z <ℤ pos 0) ⊎ (pos limit ≤ℤ z)
+not_below limit (pos n) e = let le : limit ≤ n = ltb-false n limit e in inr (omega (arith, ints))
+not_below limit (negsuc n) e = inl (omega (arith, ints))
 
-from_not_unsigned : (z : ℤ) → (z <ℤ pos 0) ⊎ (pos (2 ^ 32) ≤ℤ z) → is_unsigned z ≡ false
-from_not_unsigned (pos n) (inl below) = absurd (omega (arith, ints, below))
-from_not_unsigned (pos n) (inr above) = le-ltb n (2 ^ 32) (omega (arith, ints, above))
-from_not_unsigned (negsuc n) h = refl
+from_not_below : (limit : ℕ) (z : ℤ) → (z <ℤ pos 0) ⊎ (pos limit ≤ℤ z) → is_below limit z ≡ false
+from_not_below limit (pos n) (inl below) = absurd (omega (arith, ints, below))
+from_not_below limit (pos n) (inr above) = le-ltb n limit (omega (arith, ints, above))
+from_not_below limit (negsuc n) h = refl
 
-unsigned_is : (z : ℤ) (x : ℕ) → pos x ≡ z → x < 2 ^ 32 → (is_unsigned z ≡ true) × (x ≡ unsigned_of z)
-unsigned_is (pos n) x e lt = let same : x ≡ n = cc in (lt-ltb n (2 ^ 32) (omega arith), same)
-unsigned_is (negsuc n) x e lt = absurd cc
+below_is : (limit : ℕ) (z : ℤ) (x : ℕ) → pos x ≡ z → x < limit
+    → (is_below limit z ≡ true) × (x ≡ unsigned_of z)
+below_is limit (pos n) x e lt =
+    let same : x ≡ n = cc in (lt-ltb n limit (omega (arith, same, lt)), same)
+below_is limit (negsuc n) x e lt = absurd cc
 
-pub unsigned_reads : (head : Head) (octets : List ℕ) → IsReading ℕ (λ v. SpellsUnsigned v octets) (UnsignedFault head octets) (unsigned_in head octets)
-unsigned_reads head octets =
+-- reading an integer from 0 up to a limit is exact
+pub below_reads : (limit : ℕ) (head : Head) (octets : List ℕ)
+    → IsReading ℕ (λ v. SpellsInteger (pos v) octets × (v < limit))
+    (ContentsFault (HasLength 1 8 octets) ((twos_complement octets <ℤ pos 0) ⊎ (pos limit ≤ℤ twos_complement octets)) head)
+    (contents_in (has_length 1 8 octets) (is_below limit (twos_complement octets)) (unsigned_of (twos_complement octets)) head)
+below_reads limit head octets =
     let z = twos_complement octets in
-    contents_read ℕ (λ v. SpellsUnsigned v octets) (HasLength 1 8 octets) ((z <ℤ pos 0) ⊎ (pos (2 ^ 32) ≤ℤ z)) (has_length 1 8 octets) (is_unsigned z) (unsigned_of z) head
+    contents_read ℕ (λ v. SpellsInteger (pos v) octets × (v < limit)) (HasLength 1 8 octets) ((z <ℤ pos 0) ⊎ (pos limit ≤ℤ z)) (has_length 1 8 octets) (is_below limit z) (unsigned_of z) head
     (record {
       length_kept = length_kept 1 8 octets;
       length_test = length_test 1 8 octets;
-      spelled = λ a k. let p = is_unsigned-from z k in ((length_kept 1 8 octets a, p.0), p.1);
-      broken = λ a k. not_unsigned z k;
-      from_spelled = λ x s. let p = unsigned_is z x s.0.1 s.1 in (length_test 1 8 octets s.0.0, p.0, p.1);
-      from_broken = from_not_unsigned z;
+      spelled = λ a k. let p = is_below-from limit z k in ((length_kept 1 8 octets a, p.0), p.1);
+      broken = λ a k. not_below limit z k;
+      from_spelled = λ x s. let p = below_is limit z x s.0.1 s.1 in (length_test 1 8 octets s.0.0, p.0, p.1);
+      from_broken = from_not_below limit z;
     })
+
+pub unsigned_reads : (head : Head) (octets : List ℕ) → IsReading ℕ (λ v. SpellsUnsigned v octets) (UnsignedFault head octets) (unsigned_in head octets)
+unfolding unsigned_in
+unsigned_reads head octets = below_reads (2 ^ 32) head octets
 
 one_octet : (octets : List ℕ) → has_length 1 1 octets ≡ true → octets ≡ get_or octets 0 0 ∷ []
 one_octet [] e = absurd (false≢true e)
@@ -106,6 +118,7 @@ one_octet (x ∷ []) e = refl
 one_octet (x ∷ y ∷ octets) e = let p = length_kept 1 1 (x ∷ y ∷ octets) e in absurd (omega (arith, p.1))
 
 pub boolean_reads : (head : Head) (octets : List ℕ) → IsReading Bool (λ v. SpellsBoolean v octets) (BooleanFault head octets) (boolean_in head octets)
+unfolding boolean_in
 boolean_reads head octets =
     contents_read Bool (λ v. SpellsBoolean v octets) (HasLength 1 1 octets) ⊥ (has_length 1 1 octets) true (not (eqb (get_or octets 0 0) 0)) head
     (record {
@@ -161,11 +174,13 @@ from_broken_bits [] b = elim b [ ]
 from_broken_bits (unused ∷ octets) b = breaks_to unused octets b
 
 pub bits_read : (head : Head) (octets : List ℕ) → IsReading Bits (λ v. SpellsBits v octets) (BitsFault head octets) (bits_in head octets)
+unfolding bits_in
 bits_read head octets =
     contents_read Bits (λ v. SpellsBits v octets) (0 < length octets) (BreaksBits octets) (ltb 0 (length octets)) (keeps_bits (get_or octets 0 0) (drop 1 octets)) (bits_with (get_or octets 0 0) (drop 1 octets)) head
     (record { length_kept = ltb-true 0 (length octets); length_test = lt-ltb 0 (length octets); spelled = bits_spelled octets; broken = bits_broken octets; from_spelled = from_bits octets; from_broken = from_broken_bits octets })
 
 pub oid_reads : (head : Head) (octets : List ℕ) → IsReading (List ℕ) (λ v. SpellsOid v octets) (OidFault head octets) (oid_in head octets)
+unfolding oid_in
 oid_reads head octets =
     contents_read (List ℕ) (λ v. SpellsOid v octets) (HasLength 1 32 octets) ⊥ (has_length 1 32 octets) true octets head
     (record {
@@ -178,6 +193,7 @@ oid_reads head octets =
     })
 
 pub visible_reads : (head : Head) (octets : List ℕ) → IsReading (List ℕ) (λ v. SpellsVisible v octets) (VisibleFault head octets) (visible_in head octets)
+unfolding visible_in
 visible_reads head octets =
     contents_read (List ℕ) (λ v. SpellsVisible v octets) (length octets ≤ 64) (list_all is_visible_octet octets ≡ false) (leb (length octets) 64) (list_all is_visible_octet octets) octets head
     (record {

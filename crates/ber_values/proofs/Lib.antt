@@ -8,4 +8,9 @@ pub mod Written
 pub mod Elements
 pub mod Windows
 pub mod Shortest
+pub mod Grammars
+pub mod Lists
+pub mod Leaves
+pub mod Capped
+pub mod Settled
 pub mod DottedOctets

@@ -34,7 +34,7 @@ BitsFault head octets = ContentsFault (0 < length octets) (BreaksBits octets) he
 abbrev pub keeps_bits : ℕ → List ℕ → Bool
 keeps_bits unused octets = nat_lt unused 8 && (unused == 0 || not (length octets == 0))
 
-abbrev pub bits_in : Head → List ℕ → Result Bits BerFault
+unfoldable pub bits_in : Head → List ℕ → Result Bits BerFault
 bits_in head octets =
     contents_in (nat_lt 0 (length octets)) (keeps_bits (slice_index octets 0) (drop 1 octets))
     (bits_with (slice_index octets 0) (drop 1 octets)) head

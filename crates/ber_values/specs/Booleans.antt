@@ -11,6 +11,6 @@ SpellsBoolean value octets = (octet : ℕ) × (octets ≡ octet ∷ []) × (valu
 abbrev pub BooleanFault : Head → List ℕ → BerFault → Type 0
 BooleanFault head octets = ContentsFault (HasLength 1 1 octets) ⊥ head
 
-abbrev pub boolean_in : Head → List ℕ → Result Bool BerFault
+unfoldable pub boolean_in : Head → List ℕ → Result Bool BerFault
 boolean_in head octets =
     contents_in (has_length 1 1 octets) true (not (slice_index octets 0 == 0)) head

@@ -10,8 +10,7 @@ use Rattle.ber_values.specs.Faults.{fault_at}
 
 -- the contents of a head lie in the octets, as those of every head that was read from them do
 abbrev pub IsContents : List ℕ → Head → Type 0
-IsContents bytes head =
-    (head.body ≤ head.end) × (head.end ≤ length bytes) × (head.end < head.body + 2 ^ 32)
+IsContents bytes head = (head.body ≤ head.end) × (head.end ≤ length bytes)
 
 -- the contents octets of a head
 abbrev pub contents_of : List ℕ → Head → List ℕ

@@ -10,7 +10,7 @@ use Rattle.ber_values.specs.Tags.{SpellsTag, TagFault, SpellsLength, LengthFault
 
 -- the head of a tag and a length
 abbrev pub head_of : Taken Tag → Taken ℕ → Head
-head_of tag size = record { class = tag.value.class; constructed = tag.value.constructed; number = tag.value.number; long_form = tag.value.long_form; length_at = tag.next; body = size.next; end = size.next + size.value }
+head_of tag size = record { class = tag.value.class; constructed = tag.value.constructed; number = tag.value.number; long_form = tag.value.long_form; length_at = tag.next; body = size.next; end = size.next + size.value; next = size.next + size.value }
 
 -- the octets from a place on begin with a head, and go on for as long as it says
 pub record SpellsHead (at : ℕ) (octets : List ℕ) (head : Head) : Type 0 where
@@ -44,6 +44,7 @@ pub record IsHeadWithin (at end : ℕ) (head : Head) : Type 0 where
   pub after_length : head.length_at < head.body
   pub order : head.body ≤ head.end
   pub stop : head.end ≤ end
+  pub next : head.next ≡ head.end
   pub bounded : head.end < head.body + 2 ^ 32
 
 -- reading a head from the left

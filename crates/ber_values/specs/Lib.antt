@@ -14,3 +14,10 @@ pub mod BitContents
 pub mod TextContents
 pub mod Writing
 pub mod Elements
+pub mod Grammars
+pub mod Parts
+pub mod Lists
+pub mod Leaves
+pub mod Stops
+pub mod PartOf
+pub mod Lengths

@@ -20,7 +20,7 @@ SpellsInteger value octets = HasLength 1 8 octets × (value ≡ twos_complement 
 abbrev pub IntegerFault : Head → List ℕ → BerFault → Type 0
 IntegerFault head octets = ContentsFault (HasLength 1 8 octets) ⊥ head
 
-abbrev pub integer_in : Head → List ℕ → Result ℤ BerFault
+unfoldable pub integer_in : Head → List ℕ → Result ℤ BerFault
 integer_in head octets = contents_in (has_length 1 8 octets) true (twos_complement octets) head
 
 -- an integer from 0 to 2^32 - 1
@@ -32,16 +32,16 @@ UnsignedFault head octets =
     ContentsFault (HasLength 1 8 octets)
     ((twos_complement octets <ℤ pos 0) ⊎ (pos (2 ^ 32) ≤ℤ twos_complement octets)) head
 
--- whether an integer is in that range, and which number it is then
-abbrev pub is_unsigned : ℤ → Bool
-is_unsigned (pos n) = nat_lt n (2 ^ 32)
-is_unsigned (negsuc n) = false
+-- whether an integer is from 0 up to a limit, and which number it is then
+abbrev pub is_below : ℕ → ℤ → Bool
+is_below limit (pos n) = nat_lt n limit
+is_below limit (negsuc n) = false
 
 abbrev pub unsigned_of : ℤ → ℕ
 unsigned_of (pos n) = n
 unsigned_of (negsuc n) = 0
 
-abbrev pub unsigned_in : Head → List ℕ → Result ℕ BerFault
+unfoldable pub unsigned_in : Head → List ℕ → Result ℕ BerFault
 unsigned_in head octets =
-    contents_in (has_length 1 8 octets) (is_unsigned (twos_complement octets))
+    contents_in (has_length 1 8 octets) (is_below (2 ^ 32) (twos_complement octets))
     (unsigned_of (twos_complement octets)) head

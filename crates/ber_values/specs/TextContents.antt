@@ -16,7 +16,7 @@ SpellsOid oid octets = IsOid octets × (oid ≡ octets)
 abbrev pub OidFault : Head → List ℕ → BerFault → Type 0
 OidFault head octets = ContentsFault (HasLength 1 OID_LIMIT octets) ⊥ head
 
-abbrev pub oid_in : Head → List ℕ → Result (List ℕ) BerFault
+unfoldable pub oid_in : Head → List ℕ → Result (List ℕ) BerFault
 oid_in head octets = contents_in (has_length 1 OID_LIMIT octets) true octets head
 
 -- visible text is its contents octets
@@ -28,7 +28,7 @@ abbrev pub VisibleFault : Head → List ℕ → BerFault → Type 0
 VisibleFault head octets =
     ContentsFault (length octets ≤ VISIBLE_LIMIT) (list_all is_visible_octet octets ≡ false) head
 
-abbrev pub visible_in : Head → List ℕ → Result (List ℕ) BerFault
+unfoldable pub visible_in : Head → List ℕ → Result (List ℕ) BerFault
 visible_in head octets =
     contents_in (nat_le (length octets) VISIBLE_LIMIT) (list_all is_visible_octet octets)
     octets head

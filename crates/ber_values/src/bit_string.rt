@@ -1,6 +1,6 @@
 //! Bit strings, ASN.1's `BIT STRING`. Their contents octets (ISO 8825-1, 8.6) are the number of
 //! unused bits, then the octets that hold the bits.
-ghost use Rattle.std.specs.Prelude.{◌≡◌, ◌≢◌, ◌<◌, ◌-◌, ◌*◌, ◌^◌, ◌%◌, ◌↔◌, ◌&&◌, ◌==◌, []};
+ghost use Rattle.std.specs.Prelude.{◌≡◌, ◌≢◌, ◌+◌, ◌<◌, ◌-◌, ◌*◌, ◌^◌, ◌%◌, ◌↔◌, ◌&&◌, ◌==◌, []};
 ghost use Rattle.std.specs.Prelude.{◌++◌, length, IsTrue, bytes_eq, IfOk, OnOk, OnErr};
 ghost use Rattle.std.specs.Cmp.Rules.{comparing};
 ghost use Rattle.std.proofs.Common.{rules};
@@ -106,7 +106,7 @@ fn zeroed(alloc: Global, unused: u8, octets: &[u8]) -> Result<Vec<u8>, AllocErro
     Ok(held)
 }
 
-fn bits_from(alloc: Global, unused: u8, octets: &[u8]) -> Result<BitString, AllocError>
+fn bits_with_unused(alloc: Global, unused: u8, octets: &[u8]) -> Result<BitString, AllocError>
     requires few { unused < 8 }
     requires some { octets.now ≡ [] → unused ≡ 0 }
     requires fits { length octets.now < 2 ^ 32 }
@@ -116,18 +116,20 @@ fn bits_from(alloc: Global, unused: u8, octets: &[u8]) -> Result<BitString, Allo
     Ok(BitString::new(8 * octets.len() - usize::from(unused), held))
 }
 
-fn bits_at(
+/// The bit string that these contents are.
+#[tactic(auto, unfolding(crate::specs::BitContents::bits_in))]
+pub(crate) fn bits_from(
     alloc: Global,
-    bytes: &[u8],
+    contents: &[u8],
     head: &Head,
 ) -> Result<Result<BitString, BerFault>, AllocError>
-    requires { IsContents bytes.now head.now }
-    ensures { IfOk result (λ read. read ≡ bits_in head.now (contents_of bytes.now head.now)) }
+    requires { length contents.now < 2 ^ 32 }
+    ensures { IfOk result (λ read. read ≡ bits_in head.now contents.now) }
 {
-    match &bytes[head.body..head.end] {
+    match contents {
         [] => Ok(Err(length_fault(head))),
         [unused, octets @ ..] if *unused < 8 && (*unused == 0 || !octets.is_empty()) => {
-            Ok(Ok(bits_from(alloc, *unused, octets)?))
+            Ok(Ok(bits_with_unused(alloc, *unused, octets)?))
         }
         _ => Ok(Err(value_fault(head))),
     }
@@ -135,12 +137,14 @@ fn bits_at(
 
 /// The bit string in the contents of the element with this head. Its unused bits may be set, and
 /// are read as zero.
+#[tactic(auto, unfolding(crate::specs::BitContents::bits_in))]
 pub fn read_bits(
     alloc: Global,
     bytes: &[u8],
     head: &Head,
 ) -> Result<Result<BitString, BerFault>, AllocError>
-    requires { IsContents bytes.now head.now }
+    requires within { IsContents bytes.now head.now }
+    requires bounded { head.now.end < head.now.body + 2 ^ 32 }
     ensures found { IfOk result
         (λ read. IfOk read (λ bits. SpellsBits bits (contents_of bytes.now head.now))) }
     ensures only { (bits : Bits) → SpellsBits bits (contents_of bytes.now head.now)
@@ -151,7 +155,7 @@ pub fn read_bits(
         ↔ BitsFault head.now (contents_of bytes.now head.now) fault) }
     ensures exact { IfOk result (λ read. read ≡ bits_in head.now (contents_of bytes.now head.now)) }
 {
-    bits_at(alloc, bytes, head)
+    bits_from(alloc, &bytes[head.body..head.end], head)
 }
 
 fn put_bits(out: &mut Vec<u8>, tag: u8, value: &BitString) -> Result<(), AllocError>

@@ -13,17 +13,19 @@ use crate::head::Head;
 use crate::writing::{or_undo, put_head};
 use std::alloc::AllocError;
 
-fn boolean_from(bytes: &[u8], head: &Head) -> Result<bool, BerFault>
-    requires { IsContents bytes.now head.now }
-    ensures { result ≡ boolean_in head.now (contents_of bytes.now head.now) }
+/// The boolean that these contents are.
+#[tactic(auto, unfolding(crate::specs::Booleans::boolean_in))]
+pub(crate) fn boolean_from(contents: &[u8], head: &Head) -> Result<bool, BerFault>
+    ensures { result ≡ boolean_in head.now contents.now }
 {
-    match &bytes[head.body..head.end] {
+    match contents {
         [octet] => Ok(*octet != 0),
         _ => Err(length_fault(head)),
     }
 }
 
 /// The boolean in the contents of the element with this head: one octet, where any but 00 is true.
+#[tactic(auto, unfolding(crate::specs::Booleans::boolean_in))]
 pub fn read_boolean(bytes: &[u8], head: &Head) -> Result<bool, BerFault>
     requires { IsContents bytes.now head.now }
     ensures found { IfOk result (λ value. SpellsBoolean value (contents_of bytes.now head.now)) }
@@ -33,7 +35,7 @@ pub fn read_boolean(bytes: &[u8], head: &Head) -> Result<bool, BerFault>
         → (result ≡ Err fault) ↔ BooleanFault head.now (contents_of bytes.now head.now) fault }
     ensures exact { result ≡ boolean_in head.now (contents_of bytes.now head.now) }
 {
-    boolean_from(bytes, head)
+    boolean_from(&bytes[head.body..head.end], head)
 }
 
 fn put_boolean(out: &mut Vec<u8>, tag: u8, value: bool) -> Result<(), AllocError>

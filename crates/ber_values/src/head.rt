@@ -26,6 +26,8 @@ pub struct Head {
     pub body: usize,
     /// The place after the last contents octet.
     pub end: usize,
+    /// The place after the element. It is `end` in every length that says how many octets follow.
+    pub next: usize,
 }
 
 #[tactic(auto, unfolding(crate::specs::Heads::head_in))]
@@ -51,6 +53,7 @@ fn head_from(bytes: &[u8], at: usize, end: usize) -> Result<Head, BerFault>
         length_at,
         body,
         end: body + length,
+        next: body + length,
     })
 }
 

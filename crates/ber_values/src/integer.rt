@@ -1,5 +1,5 @@
 //! Integers, ASN.1's `INTEGER` (ISO 8825-1, 8.3).
-ghost use Rattle.std.specs.Prelude.{◌≡◌, ◌≢◌, ℕ, ℤ, ◌%◌, ◌≤◌, ◌<◌, ◌↔◌, ◌++◌, length, IfOk};
+ghost use Rattle.std.specs.Prelude.{◌≡◌, ◌≢◌, ℕ, ℤ, pos, ◌%◌, ◌≤◌, ◌<◌, ◌↔◌, ◌++◌, length, IfOk};
 ghost use Rattle.std.specs.Prelude.{OnOk, OnErr};
 ghost use Rattle.plain_text.specs.Extends.{Extends};
 ghost use Rattle.ber_values.specs.declared.fault.BerFault.{BerFault};
@@ -30,11 +30,11 @@ fn signed_number(octets: &[u8]) -> i64
     }
 }
 
-fn integer_from(bytes: &[u8], head: &Head) -> Result<i64, BerFault>
-    requires { IsContents bytes.now head.now }
-    ensures { result ≡ integer_in head.now (contents_of bytes.now head.now) }
+/// The integer that these contents are.
+#[tactic(auto, unfolding(crate::specs::Numbers::integer_in))]
+pub(crate) fn integer_from(contents: &[u8], head: &Head) -> Result<i64, BerFault>
+    ensures { result ≡ integer_in head.now contents.now }
 {
-    let contents = &bytes[head.body..head.end];
     match contents.len() {
         1..=8 => Ok(signed_number(contents)),
         _ => Err(length_fault(head)),
@@ -43,6 +43,7 @@ fn integer_from(bytes: &[u8], head: &Head) -> Result<i64, BerFault>
 
 /// The integer in the contents of the element with this head, which `read_head` gave: one to
 /// eight octets.
+#[tactic(auto, unfolding(crate::specs::Numbers::integer_in))]
 pub fn read_integer(bytes: &[u8], head: &Head) -> Result<i64, BerFault>
     requires { IsContents bytes.now head.now }
     ensures found { IfOk result (λ value. SpellsInteger value (contents_of bytes.now head.now)) }
@@ -52,14 +53,15 @@ pub fn read_integer(bytes: &[u8], head: &Head) -> Result<i64, BerFault>
         → (result ≡ Err fault) ↔ IntegerFault head.now (contents_of bytes.now head.now) fault }
     ensures exact { result ≡ integer_in head.now (contents_of bytes.now head.now) }
 {
-    integer_from(bytes, head)
+    integer_from(&bytes[head.body..head.end], head)
 }
 
-fn unsigned_from(bytes: &[u8], head: &Head) -> Result<u32, BerFault>
-    requires { IsContents bytes.now head.now }
-    ensures { result ≡ unsigned_in head.now (contents_of bytes.now head.now) }
+/// The unsigned number that these contents are.
+#[tactic(auto, unfolding(crate::specs::Numbers::integer_in, crate::specs::Numbers::unsigned_in))]
+pub(crate) fn unsigned_from(contents: &[u8], head: &Head) -> Result<u32, BerFault>
+    ensures { result ≡ unsigned_in head.now contents.now }
 {
-    let value = integer_from(bytes, head)?;
+    let value = integer_from(contents, head)?;
     if 0 <= value && value <= 0xFFFF_FFFF {
         Ok(value as u32)
     } else {
@@ -68,6 +70,7 @@ fn unsigned_from(bytes: &[u8], head: &Head) -> Result<u32, BerFault>
 }
 
 /// The integer in the contents of the element with this head, where it is from 0 to 2^32 - 1.
+#[tactic(auto, unfolding(crate::specs::Numbers::unsigned_in))]
 pub fn read_unsigned(bytes: &[u8], head: &Head) -> Result<u32, BerFault>
     requires { IsContents bytes.now head.now }
     ensures found { IfOk result (λ value. SpellsUnsigned value (contents_of bytes.now head.now)) }
@@ -77,11 +80,13 @@ pub fn read_unsigned(bytes: &[u8], head: &Head) -> Result<u32, BerFault>
         → (result ≡ Err fault) ↔ UnsignedFault head.now (contents_of bytes.now head.now) fault }
     ensures exact { result ≡ unsigned_in head.now (contents_of bytes.now head.now) }
 {
-    unsigned_from(bytes, head)
+    unsigned_from(&bytes[head.body..head.end], head)
 }
 
-fn size_of_number(number: u64) -> usize
-    ensures { result ≡ number_size number }
+/// How many octets the shortest form of an integer that isn't negative has.
+pub(crate) fn size_of_number(number: u64) -> usize
+    ensures value { result ≡ number_size number }
+    ensures few { result ≤ 8 }
 {
     match number {
         0..0x80 => 1,
@@ -95,8 +100,10 @@ fn size_of_number(number: u64) -> usize
     }
 }
 
-fn size_of_integer(value: i64) -> usize
-    ensures { result ≡ integer_size value }
+/// How many octets the shortest form of an integer has.
+pub(crate) fn size_of_integer(value: i64) -> usize
+    ensures value { result ≡ integer_size value }
+    ensures few { result ≤ 8 }
 {
     if value < 0 {
         size_of_number((-1 - value) as u64)
@@ -122,5 +129,27 @@ pub fn write_integer(out: &mut Vec<u8>, tag: u8, value: i64) -> Result<(), Alloc
 {
     let mark = out.len();
     let done = put_integer(out, tag, value);
+    or_undo(out, mark, done)
+}
+
+fn put_natural(out: &mut Vec<u8>, tag: u8, value: u64) -> Result<(), AllocError>
+    ensures ok { OnOk result
+        (out.new.items ≡ out.old.items ++ written tag (integer_octets (pos value))) }
+    ensures err { OnErr result (Extends out.old.items out.new.items) }
+{
+    let size = size_of_number(value);
+    put_head(out, tag, size)?;
+    put_number(out, value, size)
+}
+
+/// Appends an integer that isn't negative in the shortest form.
+pub fn write_natural(out: &mut Vec<u8>, tag: u8, value: u64) -> Result<(), AllocError>
+    requires { tag % 32 ≢ 31 }
+    ensures ok { OnOk result
+        (out.new.items ≡ out.old.items ++ written tag (integer_octets (pos value))) }
+    ensures err { OnErr result (out.new.items ≡ out.old.items) }
+{
+    let mark = out.len();
+    let done = put_natural(out, tag, value);
     or_undo(out, mark, done)
 }

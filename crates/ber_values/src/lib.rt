@@ -8,8 +8,12 @@ mod fault;
 mod head;
 mod integer;
 mod laws;
+mod lengths;
 mod number;
 mod object_identifier;
+mod part;
+mod part_values;
+mod stop;
 mod tag;
 mod visible_string;
 mod writing;
@@ -18,10 +22,14 @@ pub use bit_string::{BitString, read_bits, write_bits};
 pub use boolean::{read_boolean, write_boolean};
 pub use fault::{BerFault, Span, Why};
 pub use head::{Head, read_head, write_head};
-pub use integer::{read_integer, read_unsigned, write_integer};
+pub use integer::{read_integer, read_unsigned, write_integer, write_natural};
 pub use laws::{one_reading, written_is_read, written_is_shortest};
+pub use lengths::{MOST_LENGTH, add_len, integer_len, natural_len, part_len};
 pub use object_identifier::{ARC_LIMIT, OID_LIMIT, Oid, read_dotted, read_oid, write_oid};
+pub use part::{Part, has_tag, octets_from, take_end, take_part};
+pub use stop::{Stop, settle};
 pub use visible_string::{VISIBLE_LIMIT, Visible, is_visible, read_visible, write_visible};
+pub use writing::write_octets;
 
 #[cfg(test)]
 mod tests;

@@ -190,11 +190,15 @@ fn push_front(out: &mut Vec<u8>, front: u32) -> Result<(), AllocError>
     Ok(())
 }
 
-fn oid_at(alloc: Global, bytes: &[u8], head: &Head) -> Result<Result<Oid, BerFault>, AllocError>
-    requires { IsContents bytes.now head.now }
-    ensures { IfOk result (λ read. read ≡ oid_in head.now (contents_of bytes.now head.now)) }
+/// The object identifier that these contents are.
+#[tactic(auto, unfolding(crate::specs::TextContents::oid_in))]
+pub(crate) fn oid_from(
+    alloc: Global,
+    contents: &[u8],
+    head: &Head,
+) -> Result<Result<Oid, BerFault>, AllocError>
+    ensures { IfOk result (λ read. read ≡ oid_in head.now contents.now) }
 {
-    let contents = &bytes[head.body..head.end];
     match contents.len() {
         1..=OID_LIMIT => Ok(Ok(Oid::new(Vec::from_slice(alloc, contents)?))),
         _ => Ok(Err(length_fault(head))),
@@ -202,6 +206,7 @@ fn oid_at(alloc: Global, bytes: &[u8], head: &Head) -> Result<Result<Oid, BerFau
 }
 
 /// The object identifier in the contents of the element with this head: one to 32 octets.
+#[tactic(auto, unfolding(crate::specs::TextContents::oid_in))]
 pub fn read_oid(
     alloc: Global,
     bytes: &[u8],
@@ -217,7 +222,7 @@ pub fn read_oid(
         (λ read. (read ≡ Err fault) ↔ OidFault head.now (contents_of bytes.now head.now) fault) }
     ensures exact { IfOk result (λ read. read ≡ oid_in head.now (contents_of bytes.now head.now)) }
 {
-    oid_at(alloc, bytes, head)
+    oid_from(alloc, &bytes[head.body..head.end], head)
 }
 
 fn put_oid(out: &mut Vec<u8>, tag: u8, value: &Oid) -> Result<(), AllocError>

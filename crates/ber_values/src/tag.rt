@@ -17,7 +17,7 @@ pub(crate) struct Tag {
     pub(crate) long_form: bool,
 }
 
-fn make_tag(first: u8, number: u32, long_form: bool) -> Tag
+pub(crate) fn make_tag(first: u8, number: u32, long_form: bool) -> Tag
     ensures { result ≡ tag_with first number long_form }
 {
     Tag {
@@ -28,7 +28,7 @@ fn make_tag(first: u8, number: u32, long_form: bool) -> Tag
     }
 }
 
-fn short(place: usize) -> BerFault
+pub(crate) fn short(place: usize) -> BerFault
     ensures { result ≡ fault_at place Why.Short }
 {
     BerFault {

@@ -111,6 +111,7 @@ fn heads(rt: HostRuntime) -> Result<(), Fail> {
         length_at: 3,
         body: 4,
         end: 7,
+        next: 7,
     };
     assert_eq!(rt; head, want);
     assert_eq!(rt; read_head(&octets, 0, 6), Err(at(3, Why::Length)));

@@ -45,7 +45,8 @@ pub fn is_visible(octets: &[u8]) -> bool
     octets.len() <= VISIBLE_LIMIT && all_visible(octets)
 }
 
-fn all_visible(octets: &[u8]) -> bool
+/// Whether each octet is a space or a printing character of ASCII.
+pub(crate) fn all_visible(octets: &[u8]) -> bool
     ensures { result ≡ list_all is_visible_octet octets.now }
 {
     octets.iter().all(|octet| 32 <= *octet && *octet <= 126)
@@ -110,15 +111,15 @@ impl Eq for Visible {
     ghost laws = { nat_list_eq_equiv };
 }
 
-fn visible_at(
+/// The visible text that these contents are.
+#[tactic(auto, unfolding(crate::specs::TextContents::visible_in))]
+pub(crate) fn visible_from(
     alloc: Global,
-    bytes: &[u8],
+    contents: &[u8],
     head: &Head,
 ) -> Result<Result<Visible, BerFault>, AllocError>
-    requires { IsContents bytes.now head.now }
-    ensures { IfOk result (λ read. read ≡ visible_in head.now (contents_of bytes.now head.now)) }
+    ensures { IfOk result (λ read. read ≡ visible_in head.now contents.now) }
 {
-    let contents = &bytes[head.body..head.end];
     if VISIBLE_LIMIT < contents.len() {
         return Ok(Err(length_fault(head)));
     }
@@ -129,6 +130,7 @@ fn visible_at(
 }
 
 /// The visible text in the contents of the element with this head: at most 64 octets of 32 to 126.
+#[tactic(auto, unfolding(crate::specs::TextContents::visible_in))]
 pub fn read_visible(
     alloc: Global,
     bytes: &[u8],
@@ -146,7 +148,7 @@ pub fn read_visible(
     ensures exact { IfOk result
         (λ read. read ≡ visible_in head.now (contents_of bytes.now head.now)) }
 {
-    visible_at(alloc, bytes, head)
+    visible_from(alloc, &bytes[head.body..head.end], head)
 }
 
 fn put_visible(out: &mut Vec<u8>, tag: u8, value: &Visible) -> Result<(), AllocError>

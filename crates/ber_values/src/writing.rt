@@ -1,5 +1,5 @@
 //! Steps of the writers.
-ghost use Rattle.std.specs.Prelude.{◌≡◌, ◌+◌, ◌%◌, ◌^◌, ◌<◌, ◌≤◌, ◌++◌, take, length};
+ghost use Rattle.std.specs.Prelude.{◌≡◌, ◌≢◌, ◌+◌, ◌%◌, ◌^◌, ◌<◌, ◌≤◌, ◌++◌, take, length};
 ghost use Rattle.std.specs.Prelude.{OnOk, OnErr};
 ghost use Rattle.plain_text.specs.Extends.{Extends};
 ghost use Rattle.ber_values.specs.Writing.{octets_of, length_size, length_octets, head_octets};
@@ -36,7 +36,8 @@ pub(crate) fn put_number(out: &mut Vec<u8>, number: u64, count: usize) -> Result
     Ok(())
 }
 
-fn size_of_length(len: usize) -> u8
+/// How many octets follow the first one of a length from 128 on.
+pub(crate) fn size_of_length(len: usize) -> u8
     requires { len < 2 ^ 32 }
     ensures value { result ≡ length_size len }
     ensures few { result ≤ 4 }
@@ -84,4 +85,16 @@ pub(crate) fn put_element(out: &mut Vec<u8>, tag: u8, contents: &[u8]) -> Result
 {
     put_head(out, tag, contents.len())?;
     out.extend_from_slice(contents)
+}
+
+/// Appends an element of these contents. After want of memory `out` is as before.
+pub fn write_octets(out: &mut Vec<u8>, tag: u8, contents: &[u8]) -> Result<(), AllocError>
+    requires single { tag % 32 ≢ 31 }
+    requires bounded { length contents.now < 2 ^ 32 }
+    ensures ok { OnOk result (out.new.items ≡ out.old.items ++ written tag contents.now) }
+    ensures err { OnErr result (out.new.items ≡ out.old.items) }
+{
+    let mark = out.len();
+    let done = put_element(out, tag, contents);
+    or_undo(out, mark, done)
 }

@@ -1,2 +1,7 @@
 pub mod Spelled
 pub mod ReadName
+pub mod FloatingRead
+pub mod DataRead
+pub mod DataLawful
+pub mod DataWritten
+pub mod DataLengths

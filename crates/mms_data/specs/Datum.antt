@@ -24,15 +24,15 @@ data_of [] = no_data
 data_of (d ∷ ds) = datum d (data_of ds)
 
 abbrev mutual
-  -- how many structures and arrays stand around the innermost value
+  -- how many levels a datum has: one without members, and one more than its deepest member
   pub depth : Datum → ℕ
-  depth (boolean b) = 0
-  depth (integer z) = 0
-  depth (unsigned n) = 0
-  depth (bits b) = 0
-  depth (real o) = 0
-  depth (octets o) = 0
-  depth (text o) = 0
+  depth (boolean b) = 1
+  depth (integer z) = 1
+  depth (unsigned n) = 1
+  depth (bits b) = 1
+  depth (real o) = 1
+  depth (octets o) = 1
+  depth (text o) = 1
   depth (structure ds) = deepest ds + 1
   depth (array ds) = deepest ds + 1
 

@@ -6,8 +6,11 @@ ghost use Rattle.plain_text.specs.Octets.{hex_text};
 ghost use Rattle.mms_data.specs.Datum.{Datum, data_of};
 ghost use Rattle.mms_data.specs.Texts.{data_text, members_text};
 
+mod octets;
+
 use ber_values::{BitString, Visible};
 use item_list::ItemList;
+pub use octets::{MOST_DEPTH, data_len, read_data};
 use plain_text::{push_decimal, push_escaped, push_hex, push_signed_decimal};
 use std::alloc::{AllocError, Global};
 use std::marker::Model;

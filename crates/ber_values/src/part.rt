@@ -1,0 +1,128 @@
+//! Elements taken from the front of octets, by their tags.
+ghost use Rattle.std.specs.Prelude.{◌≡◌, ◌≢◌, ◌+◌, ◌-◌, ◌/◌, ◌%◌, ◌==◌, false, ◌^◌, ◌<◌, ◌≤◌, length, drop, IfOk};
+ghost use Rattle.ber_values.specs.Faults.{Gives};
+ghost use Rattle.ber_values.specs.Grammars.{has_tag};
+ghost use Rattle.ber_values.specs.Parts.{parted_in, sized_part_in, end_in};
+ghost use Rattle.ber_values.specs.PartOf.{parted_of, IsPartWithin};
+
+use crate::fault::{BerFault, Why};
+use crate::head::Head;
+use crate::tag::{make_tag, read_length, short};
+
+/// An element that stood at the front of octets: its head, its contents, and the octets after it.
+#[derive(Clone, Copy, Debug)]
+pub struct Part<'a> {
+    pub head: Head,
+    pub contents: &'a [u8],
+    pub rest: &'a [u8],
+}
+
+/// The element of this tag of one octet at the front of octets, of which the first has the place
+/// `at`. Where no octet is left it is missed; where another tag stands there, that is refused.
+pub fn take_part(octets: &[u8], at: usize, tag: u8) -> Result<Part<'_>, BerFault>
+    requires single { tag % 32 ≢ 31 }
+    requires placed { at + length octets.now < 2 ^ 64 }
+    ensures exact { Gives parted_of result (parted_in tag at octets.now) }
+    ensures within { IfOk result (λ part. IsPartWithin at octets.now (parted_of part)) }
+    ensures after { IfOk result (λ part. part.rest.now ≡ drop (part.head.next - at) octets.now) }
+{
+    take_tagged(octets, at, tag)
+}
+
+#[tactic(auto, unfolding(crate::specs::Parts::parted_in))]
+fn take_tagged(octets: &[u8], at: usize, tag: u8) -> Result<Part<'_>, BerFault>
+    requires { at + length octets.now < 2 ^ 64 }
+    ensures exact { Gives parted_of result (parted_in tag at octets.now) }
+    ensures within { IfOk result (λ part. IsPartWithin at octets.now (parted_of part)) }
+{
+    match octets {
+        [] => Err(short(at)),
+        [first, rest @ ..] if *first == tag => take_sized(rest, at, tag),
+        _ => Err(BerFault {
+            place: at,
+            why: Why::Tag,
+        }),
+    }
+}
+
+/// The element of a tag that was taken, from its length on.
+#[tactic(auto, unfolding(crate::specs::Parts::sized_part_in))]
+fn take_sized(octets: &[u8], at: usize, tag: u8) -> Result<Part<'_>, BerFault>
+    requires { at + 1 + length octets.now < 2 ^ 64 }
+    ensures exact { Gives parted_of result (sized_part_in tag at octets.now) }
+    ensures within { IfOk result (λ part. (at + 2 ≤ part.head.body)
+        × (part.head.end ≡ part.head.body + length part.contents.now)
+        × (part.head.next ≡ part.head.end)
+        × (part.head.next + length part.rest.now ≡ at + 1 + length octets.now)
+        × (length part.contents.now < 2 ^ 32)) }
+{
+    let (length, body, rest) = read_length(octets, at + 1)?;
+    if rest.len() < length {
+        return Err(BerFault {
+            place: at + 1,
+            why: Why::Length,
+        });
+    }
+    let (contents, rest) = rest.split_at(length);
+    Ok(Part {
+        head: part_head(tag, at + 1, body, length),
+        contents,
+        rest,
+    })
+}
+
+/// The head of an element of this tag, whose length begins at `length_at`.
+fn part_head(tag: u8, length_at: usize, body: usize, length: usize) -> Head
+    requires { body + length < 2 ^ 64 }
+    ensures { result ≡ record {
+      class = tag / 64;
+      constructed = tag / 32 % 2 == 1;
+      number = tag % 32;
+      long_form = false;
+      length_at = length_at;
+      body = body;
+      end = body + length;
+      next = body + length;
+    } }
+{
+    let tag = make_tag(tag, u32::from(tag % 32), false);
+    Head {
+        class: tag.class,
+        constructed: tag.constructed,
+        number: tag.number,
+        long_form: tag.long_form,
+        length_at,
+        body,
+        end: body + length,
+        next: body + length,
+    }
+}
+
+/// Whether the first octet is this tag.
+pub fn has_tag(octets: &[u8], tag: u8) -> bool
+    ensures { result ≡ has_tag tag octets.now }
+{
+    matches!(octets, [first, ..] if *first == tag)
+}
+
+/// The octets have come to their end.
+pub fn take_end(octets: &[u8], at: usize) -> Result<(), BerFault>
+    ensures { Gives (λ u. tt) result (end_in at octets.now) }
+{
+    match octets {
+        [] => Ok(()),
+        _ => Err(BerFault {
+            place: at,
+            why: Why::Tag,
+        }),
+    }
+}
+
+/// The octets from the place `next` on, where the first one has the place `at`.
+pub fn octets_from(octets: &[u8], at: usize, next: usize) -> &[u8]
+    requires order { at ≤ next }
+    requires within { next ≤ at + length octets.now }
+    ensures { result.now ≡ drop (next - at) octets.now }
+{
+    octets.split_at(next - at).1
+}

@@ -1,0 +1,142 @@
+//! The values of elements that were taken.
+ghost use Rattle.std.specs.Prelude.{◌≡◌, ◌+◌, ◌^◌, ◌<◌, ◌≤◌, length};
+ghost use Rattle.ber_values.specs.Leaves.{integer, unsigned, natural, boolean, bits, oid, visible, octet, span, visible_within, unsigned_within};
+ghost use Rattle.ber_values.specs.Faults.{Gives};
+ghost use Rattle.ber_values.specs.Stops.{Answers};
+
+use crate::bit_string::{BitString, bits_from};
+use crate::boolean::boolean_from;
+use crate::contents::{length_fault, value_fault};
+use crate::fault::{BerFault, Span};
+use crate::integer::{integer_from, unsigned_from};
+use crate::object_identifier::{OID_LIMIT, Oid, oid_from};
+use crate::part::Part;
+use crate::stop::Stop;
+use crate::visible_string::{Visible, all_visible, visible_from};
+use std::alloc::Global;
+
+impl Part<'_> {
+    /// The integer that the contents are: one to eight octets.
+    #[tactic(auto, unfolding(crate::specs::Leaves::integer))]
+    pub fn integer(&self) -> Result<i64, BerFault>
+        ensures { result ≡ integer.reading self.now.head self.now.contents.now }
+    {
+        integer_from(self.contents, &self.head)
+    }
+
+    /// The integer that the contents are, where it is from 0 to 2^32 - 1.
+    #[tactic(auto, unfolding(crate::specs::Leaves::unsigned))]
+    pub fn unsigned(&self) -> Result<u32, BerFault>
+        ensures { result ≡ unsigned.reading self.now.head self.now.contents.now }
+    {
+        unsigned_from(self.contents, &self.head)
+    }
+
+    /// The integer that the contents are, where it is from `low` to `high`.
+    #[tactic(auto, unfolding(crate::specs::Leaves::unsigned, crate::specs::Leaves::unsigned_within, crate::specs::Parts::contents_where))]
+    pub fn unsigned_within(&self, low: u32, high: u32) -> Result<u32, BerFault>
+        ensures { result ≡ (unsigned_within low high).reading self.now.head self.now.contents.now }
+    {
+        let value = unsigned_from(self.contents, &self.head)?;
+        if low <= value && value <= high {
+            Ok(value)
+        } else {
+            Err(value_fault(&self.head))
+        }
+    }
+
+    /// The integer that the contents are, where it is from 0 to 2^63 - 1.
+    #[tactic(auto, unfolding(crate::specs::Leaves::natural, crate::specs::Leaves::natural_in, crate::specs::Numbers::integer_in))]
+    pub fn natural(&self) -> Result<u64, BerFault>
+        ensures { result ≡ natural.reading self.now.head self.now.contents.now }
+    {
+        let value = integer_from(self.contents, &self.head)?;
+        if 0 <= value {
+            Ok(value as u64)
+        } else {
+            Err(value_fault(&self.head))
+        }
+    }
+
+    /// The boolean that the contents are: one octet, where any but 00 is true.
+    #[tactic(auto, unfolding(crate::specs::Leaves::boolean))]
+    pub fn boolean(&self) -> Result<bool, BerFault>
+        ensures { result ≡ boolean.reading self.now.head self.now.contents.now }
+    {
+        boolean_from(self.contents, &self.head)
+    }
+
+    /// The one octet that the contents are.
+    #[tactic(auto, unfolding(crate::specs::Leaves::octet, crate::specs::Leaves::octet_in))]
+    pub fn octet(&self) -> Result<u8, BerFault>
+        ensures { result ≡ octet.reading self.now.head self.now.contents.now }
+    {
+        match self.contents {
+            [octet] => Ok(*octet),
+            _ => Err(length_fault(&self.head)),
+        }
+    }
+
+    /// Where the contents stand.
+    #[tactic(auto, unfolding(crate::specs::Leaves::span))]
+    pub fn span(&self) -> Result<Span, BerFault>
+        requires { self.now.head.body + length self.now.contents.now < 2 ^ 64 }
+        ensures { result ≡ span.reading self.now.head self.now.contents.now }
+    {
+        Ok(Span {
+            from: self.head.body,
+            to: self.head.body + self.contents.len(),
+        })
+    }
+
+    /// The bit string that the contents are, its unused bits read as zero.
+    #[tactic(auto, unfolding(crate::specs::Leaves::bits))]
+    pub fn bits(&self, alloc: Global) -> Result<BitString, Stop>
+        requires { length self.now.contents.now < 2 ^ 32 }
+        ensures { Answers (λ b. b) result (bits.reading self.now.head self.now.contents.now) }
+    {
+        Ok(bits_from(alloc, self.contents, &self.head)??)
+    }
+
+    /// The octets of the object identifier that the contents are: one to 32.
+    #[tactic(auto, unfolding(crate::specs::Leaves::oid, crate::specs::TextContents::oid_in))]
+    pub fn oid_octets(&self) -> Result<&[u8], BerFault>
+        ensures { Gives (λ o. o.now) result (oid.reading self.now.head self.now.contents.now) }
+    {
+        match self.contents.len() {
+            1..=OID_LIMIT => Ok(self.contents),
+            _ => Err(length_fault(&self.head)),
+        }
+    }
+
+    /// The object identifier that the contents are: one to 32 octets.
+    #[tactic(auto, unfolding(crate::specs::Leaves::oid))]
+    pub fn oid(&self, alloc: Global) -> Result<Oid, Stop>
+        ensures { Answers (λ o. o) result (oid.reading self.now.head self.now.contents.now) }
+    {
+        Ok(oid_from(alloc, self.contents, &self.head)??)
+    }
+
+    /// The visible text that the contents are: at most 64 octets of 32 to 126.
+    #[tactic(auto, unfolding(crate::specs::Leaves::visible))]
+    pub fn visible(&self, alloc: Global) -> Result<Visible, Stop>
+        ensures { Answers (λ t. t) result (visible.reading self.now.head self.now.contents.now) }
+    {
+        Ok(visible_from(alloc, self.contents, &self.head)??)
+    }
+
+    /// The visible text that the contents are, of at least and at most so many octets.
+    #[tactic(auto, unfolding(crate::specs::Leaves::visible_within, crate::specs::Leaves::text_in))]
+    pub fn visible_within(&self, alloc: Global, least: usize, most: usize) -> Result<Visible, Stop>
+        requires { most ≤ 64 }
+        ensures { Answers (λ t. t) result ((visible_within least most).reading self.now.head self.now.contents.now) }
+    {
+        if self.contents.len() < least || most < self.contents.len() {
+            return Err(Stop::Fault(length_fault(&self.head)));
+        }
+        if !all_visible(self.contents) {
+            return Err(Stop::Fault(value_fault(&self.head)));
+        }
+        Ok(Visible::new(Vec::from_slice(alloc, self.contents)?))
+    }
+}

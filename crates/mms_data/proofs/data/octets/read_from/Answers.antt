@@ -1,0 +1,19 @@
+use Rattle.std.proofs.Common.{◌≤◌, ◌+◌, ◌-◌, length, drop}
+use Rattle.ber_values.specs.Grammars.{taken}
+use Rattle.ber_values.proofs.Settled.{settled_gives, settled_holds}
+use Rattle.mms_data.specs.DataOctets.{one_datum}
+use Rattle.mms_data.proofs.data.octets.read_from.Goals as goal
+
+pub returns-clause-exact : goal.returns-clause-exact
+returns-clause-exact c =
+    let at = c.args.at in
+    let octets = c.args.octets.now in
+    rw c.settle.ensures (settled_gives (λ x. taken x.0 x.1 (drop (x.1 - at) octets))
+        c.data_from.result (one_datum.reading at octets) c.data_from.ensures.exact)
+
+pub returns-clause-within : goal.returns-clause-within
+returns-clause-within c =
+    let at = c.args.at in
+    rw c.settle.ensures (settled_holds
+        (λ x. (at + 2 ≤ x.1) × (x.1 ≤ at + length c.args.octets.now))
+        c.data_from.result c.data_from.ensures.within)
