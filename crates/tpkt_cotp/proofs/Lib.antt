@@ -1,0 +1,16 @@
+pub mod Passing
+pub mod Exact
+pub mod ExactConnect
+pub mod ExactTpkt
+pub mod Again
+pub mod Cuts
+pub mod ReadTpkt
+pub mod LineLemmas
+pub mod Standing
+pub mod Stays
+pub mod OneReading
+pub mod Answering
+pub mod Kept
+pub mod Cutting
+pub mod OneStream
+pub mod Always

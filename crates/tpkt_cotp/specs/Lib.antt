@@ -1,0 +1,11 @@
+pub mod Selectors
+pub mod Turns
+pub mod Tpdus
+pub mod Readings
+pub mod Found
+pub mod Streams
+pub mod Sound
+pub mod Seen
+pub mod Lines
+pub mod Steps
+pub mod Written

@@ -1,0 +1,6 @@
+-- Selectors of the transport.
+use Rattle.std.specs.Prelude.{ℕ, ◌<◌, ◌≤◌, List, length}
+
+-- one to 32 octets
+abbrev pub IsSelector : List ℕ → Type 0
+IsSelector octets = (0 < length octets) × (length octets ≤ 32)

@@ -1,0 +1,47 @@
+//! What holds of all streams.
+ghost use Rattle.std.specs.Prelude.{◌≡◌, ℕ, ◌+◌, ◌<◌, ◌≤◌, List, ◌++◌, length, ◌⊎◌};
+ghost use Rattle.tpkt_cotp.specs.declared.fault.CotpFault.{CotpFault};
+ghost use Rattle.tpkt_cotp.specs.declared.turn.Role.{Role};
+ghost use Rattle.tpkt_cotp.specs.declared.turn.Turn.{Turn};
+ghost use Rattle.tpkt_cotp.specs.declared.turn.Turn.TheVariants.{Transfer};
+ghost use Rattle.tpkt_cotp.specs.declared.tpdu.ConnectRequest.{ConnectRequest};
+ghost use Rattle.tpkt_cotp.specs.Streams.{Message, tsdu, capped, SpellsMessage, Says, Stops};
+ghost use Rattle.tpkt_cotp.specs.Written.{IsCut};
+
+/// Octets say messages and a rest, or stop at a fault: one of the two, and in one way.
+pub fn one_reading()
+    ensures always { (role : Role) (octets : List ℕ)
+        → ((messages : List Message) × (rest : List ℕ) × Says role octets messages rest)
+        ⊎ ((messages : List Message) × (f : CotpFault) × Stops role octets messages f) }
+    ensures says { (role : Role) (octets : List ℕ) (messages others : List Message) (rest other : List ℕ)
+        → Says role octets messages rest → Says role octets others other → (messages ≡ others) × (rest ≡ other) }
+    ensures stops { (role : Role) (octets : List ℕ) (messages others : List Message) (f g : CotpFault)
+        → Stops role octets messages f → Stops role octets others g → (messages ≡ others) × (f ≡ g) }
+    ensures never_both { (role : Role) (octets : List ℕ) (messages others : List Message) (rest : List ℕ) (f : CotpFault)
+        → Says role octets messages rest → Stops role octets others f → ⊥ }
+{}
+
+/// No message begins another.
+pub fn no_message_begins_another()
+    ensures { (turn : Turn) (at : ℕ) (m n : Message) (first second more rest : List ℕ)
+        → SpellsMessage turn at m first → SpellsMessage turn at n second
+        → first ++ more ≡ second ++ rest → (first ≡ second) × (m ≡ n) }
+{}
+
+/// What was said stays said, and a fault stays, whatever follows.
+pub fn what_was_said_stays()
+    ensures said { (role : Role) (octets more : List ℕ) (messages later : List Message) (rest left : List ℕ)
+        → Says role octets messages rest → Says role (octets ++ more) later left
+        → (others : List Message) × (later ≡ messages ++ others) }
+    ensures stopped { (role : Role) (octets more : List ℕ) (messages later : List Message) (rest : List ℕ) (f : CotpFault)
+        → Says role octets messages rest → Stops role (octets ++ more) later f
+        → (others : List Message) × (later ≡ messages ++ others) }
+    ensures broken { (role : Role) (octets more : List ℕ) (messages : List Message) (f : CotpFault)
+        → Stops role octets messages f → Stops role (octets ++ more) messages f }
+{}
+
+/// What is written for a TSDU says exactly this TSDU, wherever it stands after the first TPDU.
+pub fn written_is_said()
+    ensures { (size at : ℕ) (octets written : List ℕ) → IsCut size octets written → length octets ≤ 65531
+        → SpellsMessage Transfer at (tsdu (capped at) octets) written }
+{}

@@ -1,0 +1,166 @@
+//! The transport over a stream that comes in any pieces: octets in, whole messages out.
+ghost use Rattle.std.specs.Prelude.{◌≡◌, ℕ, ◌+◌, ◌≤◌, ◌<◌, List, [], ◌++◌, length, IfOk, OnOk, OnErr};
+ghost use Rattle.tpkt_cotp.specs.declared.turn.Role.{Role};
+ghost use Rattle.tpkt_cotp.specs.Streams.{Message, capped};
+ghost use Rattle.tpkt_cotp.specs.Lines.{Line, IsSettled, HoldsFew, Stands, Answers, fed};
+ghost use Rattle.tpkt_cotp.specs.Steps.{Steps};
+
+use crate::fault::CotpFault;
+use crate::message::{TransportIn, take_tpdu};
+use crate::tpkt::read_tpkt;
+use crate::turn::{Role, Turn};
+use bytes::BytesMut;
+use std::alloc::{AllocError, Global};
+use std::marker::Model;
+
+/// The reader of one stream. It holds at most one TSDU, one TPKT and one piece.
+#[derive(Drop)]
+pub struct Transport {
+    alloc: Global,
+    turn: Turn,
+    place: u64,
+    start: u64,
+    part: Vec<u8>,
+    unread: BytesMut,
+    fault: Option<CotpFault>,
+}
+
+impl Model for Transport {
+    ghost use Rattle.std.specs.Prelude.{◌≤◌, ◌+◌, length};
+    ghost use Rattle.tpkt_cotp.specs.Lines.{Line};
+
+    ghost Value = { Line };
+
+    ghost view = { λ t. record { turn = t.turn; place = t.place; start = t.start; held = t.part.items; unread = t.unread.items; fault = t.fault } };
+
+    ghost invariant = { λ t. (length t.part.items ≤ 65531) × (length t.unread.items ≤ 65534 + 65536) };
+}
+
+/// What one TPKT led to.
+#[derive(Drop)]
+pub(crate) enum Step {
+    /// A part of a TSDU.
+    Part,
+    Message(TransportIn),
+    /// No whole TPKT is left.
+    Rest,
+    Broken(CotpFault),
+}
+
+fn shifted(place: u64, by: u64) -> u64
+    ensures { result ≡ capped (place + by) }
+{
+    place.saturating_add(by)
+}
+
+impl Transport {
+    /// A reader at the start of a stream.
+    pub fn new(alloc: Global, role: Role) -> Transport
+        ensures stands { Stands role [] [] result }
+        ensures settled { IsSettled result }
+        ensures few { HoldsFew result }
+    {
+        Transport {
+            alloc,
+            turn: Turn::Opening(role),
+            place: 0,
+            start: 0,
+            part: Vec::new(alloc),
+            unread: BytesMut::new(alloc),
+            fault: None,
+        }
+    }
+
+    /// Looks at the TPKT at the front.
+    fn step(&mut self) -> Result<Step, AllocError>
+        ensures ok { IfOk result (λ step. Steps self.old step self.new) }
+        ensures err { OnErr result (self.new ≡ self.old) }
+    {
+        let (message, size) = match read_tpkt(
+            self.turn,
+            self.part.as_slice().len(),
+            self.unread.as_slice(),
+        ) {
+            Err(fault) => {
+                let fault = CotpFault {
+                    place: shifted(self.place, fault.place),
+                    why: fault.why,
+                };
+                self.unread.clear();
+                self.fault = Some(fault);
+                return Ok(Step::Broken(fault));
+            }
+            Ok(None) => return Ok(Step::Rest),
+            Ok(Some(tpkt)) => {
+                let message = take_tpdu(self.alloc, self.start, &mut self.part, tpkt.tpdu)?;
+                (message, tpkt.size)
+            }
+        };
+        self.unread.advance(size);
+        self.turn = Turn::Transfer;
+        self.place = shifted(self.place, size as u64);
+        match message {
+            None => Ok(Step::Part),
+            Some(message) => {
+                self.start = self.place;
+                Ok(Step::Message(message))
+            }
+        }
+    }
+
+    fn take_in(&mut self, piece: &[u8]) -> Result<(), AllocError>
+        requires small { length piece.now ≤ 65536 }
+        requires few { length self.old.unread ≤ 65534 }
+        ensures ok { OnOk result (self.new ≡ fed self.old piece.now) }
+        ensures err { OnErr result (self.new ≡ self.old) }
+    {
+        if self.fault.is_none() {
+            self.unread.extend_from_slice(piece)?;
+        }
+        Ok(())
+    }
+
+    /// Takes the next piece of the stream, at most 65,536 octets, once `next` has answered that
+    /// no whole message is left, or a fault. After a fault the octets are dropped.
+    pub fn feed(&mut self, piece: &[u8]) -> Result<(), AllocError>
+        requires small { length piece.now ≤ 65536 }
+        requires settled { IsSettled self.old }
+        // The stream goes on by the piece.
+        ensures ok { (role : Role) (heard : List ℕ) (given : List Message) → Stands role heard given self.old
+            → OnOk result (Stands role (heard ++ piece.now) given self.new) }
+        ensures err { OnErr result (self.new ≡ self.old) }
+    {
+        self.take_in(piece)
+    }
+
+    /// The next whole message of the stream so far; none where no whole one is left; or the first
+    /// rule that the stream breaks, once the messages before it were handed out, and then again
+    /// and again.
+    pub fn next(&mut self) -> Result<Result<Option<TransportIn>, CotpFault>, AllocError>
+        ensures ok { (role : Role) (heard : List ℕ) (given : List Message) → Stands role heard given self.old
+            → IfOk result (λ answer. Answers role heard given answer self.new) }
+        // Nothing is lost: it still stands where it stood.
+        ensures err { (role : Role) (heard : List ℕ) (given : List Message) → Stands role heard given self.old
+            → OnErr result (Stands role heard given self.new) }
+    {
+        if let Some(fault) = self.fault {
+            return Ok(Err(fault));
+        }
+        loop {
+            match self.step()? {
+                Step::Part => {}
+                Step::Message(message) => return Ok(Ok(Some(message))),
+                Step::Rest => return Ok(Ok(None)),
+                Step::Broken(fault) => return Ok(Err(fault)),
+            }
+        }
+    }
+
+    /// What it holds: at most one TSDU, and a TPKT that isn't whole and a piece.
+    pub fn held(&self) -> usize
+        ensures count { result ≡ length self.now.held + length self.now.unread }
+        ensures few { HoldsFew self.now }
+    {
+        self.part.as_slice().len() + self.unread.len()
+    }
+}
