@@ -1,0 +1,7 @@
+mod Worked
+pub mod Lengths
+pub mod Parameters
+pub mod Rules
+pub mod Connections
+pub mod Spdus
+pub mod Written

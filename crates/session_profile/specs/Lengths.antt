@@ -1,0 +1,42 @@
+-- Lengths (ISO 8327-1, length indicator): how each is spelled, and the first fault of octets that
+-- don't begin with one.
+use Rattle.std.specs.Prelude.{◌≡◌, ◌≢◌, ℕ, ◌+◌, ◌*◌, ◌<◌, List, [], ◌∷◌, length, Result, Ok, Err, ◌⊎◌, ◌==◌, if◌then◌else◌}
+use Rattle.ber_values.specs.declared.fault.BerFault.{BerFault}
+use Rattle.ber_values.specs.declared.fault.Why.TheVariants as whys
+use Rattle.ber_values.specs.Faults.{fault_at}
+use Rattle.ber_values.specs.Reading.{Taken, Begins}
+use Rattle.ber_values.specs.Grammars.{taken}
+
+-- one octet that isn't 255; or 255 and two octets, also for a number that one octet could spell
+abbrev pub SpellsLength : ℕ → List ℕ → Type 0
+SpellsLength n (one ∷ []) = (one ≢ 255) × (n ≡ one)
+SpellsLength n (first ∷ high ∷ low ∷ []) = (first ≡ 255) × (n ≡ high * 256 + low)
+SpellsLength n _ = ⊥
+
+-- the octets end before their length does
+abbrev pub IsLengthFront : List ℕ → Type 0
+IsLengthFront [] = Unit {0}
+IsLengthFront (first ∷ []) = first ≡ 255
+IsLengthFront (first ∷ high ∷ []) = first ≡ 255
+IsLengthFront _ = ⊥
+
+abbrev pub LengthFault : ℕ → List ℕ → BerFault → Type 0
+LengthFault at octets f = IsLengthFront octets × (f ≡ fault_at (at + length octets) whys.Short)
+
+-- fewer octets follow a length than it says
+pub record IsPastEnd (at : ℕ) (octets : List ℕ) (f : BerFault) : Type 0 where
+  pub size : Taken ℕ
+  pub spelled : Begins ℕ SpellsLength at octets size
+  pub past : length size.rest < size.value
+  pub is : f ≡ fault_at at whys.Length
+
+-- the two octets after 255
+abbrev pub long_length_in : ℕ → List ℕ → Result (Taken ℕ) BerFault
+long_length_in at (high ∷ low ∷ rest) = Ok (taken (high * 256 + low) (at + 2) rest)
+long_length_in at octets = Err (fault_at (at + length octets) whys.Short)
+
+-- reading a length from the left
+unfoldable pub length_in : ℕ → List ℕ → Result (Taken ℕ) BerFault
+length_in at [] = Err (fault_at at whys.Short)
+length_in at (first ∷ rest) =
+    if first == 255 then long_length_in (at + 1) rest else Ok (taken first (at + 1) rest)

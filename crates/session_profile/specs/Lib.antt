@@ -1,0 +1,8 @@
+pub mod Lengths
+pub mod Parameters
+pub mod Rules
+pub mod Connections
+pub mod Seen
+pub mod Spdus
+pub mod Writing
+pub mod Answers

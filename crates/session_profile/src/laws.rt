@@ -1,0 +1,28 @@
+//! What holds of all octets and values.
+ghost use Rattle.std.specs.Prelude.{ℕ, List, ◌≤◌, length};
+ghost use Rattle.ber_values.specs.Reading.{HasOneReading};
+ghost use Rattle.session_profile.specs.declared.spdu.Spdu.{Spdu};
+ghost use Rattle.session_profile.specs.declared.spdu.TheConstants.{MOST_BODY};
+ghost use Rattle.session_profile.specs.Spdus.{SpellsSpdu, SpduFault};
+ghost use Rattle.session_profile.specs.Writing.{written_form, as_written, IsWritable};
+ghost use Rattle.session_profile.specs.Answers.{FinishIsWritten, ReleaseIsWritten, AbortIsWritten, RefusalIsWritten};
+
+/// Octets have one reading: exactly one holds, they spell exactly one SPDU, or they have exactly
+/// one first fault.
+pub fn one_reading()
+    ensures { (tsdu : List ℕ) → HasOneReading Spdu (λ spdu. SpellsSpdu spdu tsdu) (SpduFault tsdu) }
+{}
+
+/// What is written is read back as the same SPDU, whose body is the octets that were given.
+pub fn written_is_read()
+    ensures { (spdu : Spdu) (body : List ℕ) → IsWritable spdu → length body ≤ MOST_BODY
+        → SpellsSpdu (as_written spdu body) (written_form spdu body) }
+{}
+
+/// The fixed answers of ACSE, with ids of one to three octets, are written so.
+pub fn fixed_answers()
+    ensures finish { FinishIsWritten }
+    ensures release { ReleaseIsWritten }
+    ensures abort { AbortIsWritten }
+    ensures refusal { RefusalIsWritten }
+{}

@@ -1,0 +1,16 @@
+//! The session layer (ISO 8327-1, version 2, the kernel and duplex): one SPDU in each TSDU.
+#![tactic(auto)]
+
+mod connection;
+mod fault;
+mod laws;
+mod length;
+mod parameter;
+mod spdu;
+
+pub use fault::SessionFault;
+pub use laws::{fixed_answers, one_reading, written_is_read};
+pub use spdu::{MOST_BODY, Spdu, read_spdu, write_spdu};
+
+#[cfg(test)]
+mod tests;

@@ -1,0 +1,396 @@
+//! SPDUs (ISO 8327-1, 8.3).
+ghost use Rattle.std.specs.Prelude.{◌≡◌, ◌≢◌, ◌+◌, ◌^◌, ◌<◌, ◌≤◌, ◌↔◌, ◌-◌, ◌++◌, ◌∷◌, [], Ok, Err, length, take, option_copied, IfOk, OnOk, OnErr, IfSome};
+ghost use Rattle.ber_values.specs.Faults.{fault_at, Gives};
+ghost use Rattle.ber_values.specs.Leaves.{span_at};
+ghost use Rattle.ber_values.specs.Stops.{Answers};
+ghost use Rattle.session_profile.specs.declared.fault.SessionFault.{SessionFault};
+ghost use Rattle.session_profile.specs.declared.spdu.Spdu.{Spdu};
+ghost use Rattle.session_profile.specs.Connections.{called_of};
+ghost use Rattle.session_profile.specs.Seen.{parameter_of, fault_of, session_fault_of};
+ghost use Rattle.session_profile.specs.Writing.{called_octets, calling, called_and_data, front_octets, released, connect_octets, accept_octets, refuse_octets, release_octets, abort_octets, carry_octets, written_form, as_written, HasSelector, IsWritable};
+ghost use Rattle.session_profile.specs.Spdus.{SpellsSpdu, SpduFault, is_code, octet_in, front_in, carried, plain_in, coded_in, whole_in, spdu_in};
+
+use crate::connection::read_connection;
+use crate::fault::SessionFault;
+use crate::length::fault;
+use crate::parameter::{Parameter, element_len, put_element, put_head, read_end, read_parameter};
+use ber_values::{BerFault, Span, Stop, Why, settle};
+use std::alloc::{AllocError, Global};
+use tpkt_cotp::Selector;
+
+/// The most octets of a body that are written.
+pub const MOST_BODY: usize = 65_400;
+
+const FINISH: u8 = 0x09;
+
+const DISCONNECT: u8 = 0x0A;
+
+const REFUSE: u8 = 0x0C;
+
+const CONNECT: u8 = 0x0D;
+
+const ACCEPT: u8 = 0x0E;
+
+const ABORT: u8 = 0x19;
+
+const ABORT_ACCEPT: u8 = 0x1A;
+/// GIVE TOKENS without parameters, then DATA TRANSFER without parameters.
+const CARRY: [u8; 4] = [1, 0, 1, 0];
+
+/// A session protocol data unit. A body is where its octets stand in the TSDU that was read.
+#[derive(Debug, Drop, PartialEq, Eq)]
+pub enum Spdu {
+    /// CONNECT: asks for an association.
+    Connect {
+        called: Option<Selector>,
+        body: Span,
+    },
+    /// ACCEPT: answers a connect.
+    Accept {
+        called: Option<Selector>,
+        body: Span,
+    },
+    /// REFUSE: turns a connect down.
+    Refuse,
+    /// DATA TRANSFER, after GIVE TOKENS.
+    Carry {
+        body: Span,
+    },
+    /// FINISH: asks for the release.
+    Finish,
+    /// DISCONNECT: answers a finish.
+    Disconnect,
+    /// ABORT: ends the association at once.
+    Abort,
+    /// ABORT ACCEPT: answers an abort.
+    AbortAccept,
+}
+
+/// The octets after this one, which has the place `at`.
+fn read_octet(octets: &[u8], at: usize, want: u8) -> Result<&[u8], BerFault>
+    ensures exact { Gives (λ rest. rest.now) result (octet_in at want octets.now) }
+    ensures rest { IfOk result (λ rest. length rest.now < length octets.now) }
+{
+    match octets {
+        [] => Err(fault(at, Why::Short)),
+        [first, rest @ ..] if *first == want => Ok(rest),
+        _ => Err(fault(at, Why::Value)),
+    }
+}
+
+/// The SPDU after the first octet of a data transfer.
+fn read_carry(octets: &[u8]) -> Result<Spdu, BerFault>
+    requires { 4 + length octets.now < 2 ^ 64 }
+    ensures { result ≡ front_in 1 (0 ∷ 1 ∷ 0 ∷ []) octets.now carried }
+{
+    let rest = read_octet(octets, 1, CARRY[1])?;
+    let rest = read_octet(rest, 2, CARRY[2])?;
+    let body = read_octet(rest, 3, CARRY[3])?;
+    Ok(Spdu::Carry {
+        body: Span {
+            from: 4,
+            to: 4 + body.len(),
+        },
+    })
+}
+
+/// The selector that was called; an empty one is none.
+fn selector_from(alloc: Global, octets: Option<&[u8]>) -> Result<Option<Selector>, AllocError>
+    requires { IfSome octets (λ octets. length octets.now ≤ 32) }
+    ensures { IfOk result (λ selector. selector ≡ called_of (option_copied octets.entry)) }
+{
+    match octets {
+        Some(octets) if !octets.is_empty() => {
+            Ok(Some(Selector::new(Vec::from_slice(alloc, octets)?)))
+        }
+        _ => Ok(None),
+    }
+}
+
+/// The SPDU of a code whose contents aren't looked at.
+fn read_plain(code: u8) -> Result<Spdu, BerFault>
+    ensures { result ≡ plain_in code }
+{
+    match code {
+        REFUSE => Ok(Spdu::Refuse),
+        FINISH => Ok(Spdu::Finish),
+        DISCONNECT => Ok(Spdu::Disconnect),
+        ABORT => Ok(Spdu::Abort),
+        ABORT_ACCEPT => Ok(Spdu::AbortAccept),
+        _ => Err(fault(0, Why::Tag)),
+    }
+}
+
+fn is_code(code: u8) -> bool
+    ensures { result ≡ is_code code }
+{
+    matches!(
+        code,
+        CONNECT | ACCEPT | REFUSE | FINISH | DISCONNECT | ABORT | ABORT_ACCEPT
+    )
+}
+
+/// The SPDU with this code and contents.
+#[tactic(auto, unfolding(crate::specs::Spdus::coded_in))]
+fn read_coded(alloc: Global, whole: &Parameter<'_>) -> Result<Spdu, Stop>
+    requires { whole.now.body + length whole.now.contents.now < 2 ^ 64 }
+    ensures { Answers (λ spdu. spdu) result (coded_in (parameter_of whole.now)) }
+{
+    match whole.identifier {
+        CONNECT => {
+            let connection = read_connection(whole.contents, whole.body)?;
+            Ok(Spdu::Connect {
+                called: selector_from(alloc, connection.called)?,
+                body: connection.body,
+            })
+        }
+        ACCEPT => {
+            let connection = read_connection(whole.contents, whole.body)?;
+            Ok(Spdu::Accept {
+                called: selector_from(alloc, connection.called)?,
+                body: connection.body,
+            })
+        }
+        code => Ok(read_plain(code)?),
+    }
+}
+
+/// An SPDU that fills the TSDU.
+#[tactic(auto, unfolding(crate::specs::Spdus::whole_in))]
+fn read_whole(alloc: Global, tsdu: &[u8]) -> Result<Spdu, Stop>
+    requires { length tsdu.now < 2 ^ 63 }
+    ensures { Answers (λ spdu. spdu) result (whole_in tsdu.now) }
+{
+    let whole = read_parameter(tsdu, 0)?;
+    let spdu = read_coded(alloc, &whole)?;
+    read_end(whole.rest, whole.next)?;
+    Ok(spdu)
+}
+
+#[tactic(auto, unfolding(crate::specs::Spdus::spdu_in))]
+fn read_any(alloc: Global, tsdu: &[u8]) -> Result<Spdu, Stop>
+    ensures { Answers (λ spdu. spdu) result (spdu_in tsdu.now) }
+{
+    match tsdu {
+        [] => Err(Stop::Fault(fault(0, Why::Short))),
+        [code, octets @ ..] if *code == CARRY[0] => Ok(read_carry(octets)?),
+        [code, ..] if is_code(*code) => read_whole(alloc, tsdu),
+        _ => Err(Stop::Fault(fault(0, Why::Tag))),
+    }
+}
+
+fn read_exactly(alloc: Global, tsdu: &[u8]) -> Result<Result<Spdu, BerFault>, AllocError>
+    ensures { IfOk result (λ read. read ≡ spdu_in tsdu.now) }
+{
+    settle(read_any(alloc, tsdu))
+}
+
+/// A fault in the words of this layer.
+fn session_fault(fault: BerFault) -> SessionFault
+    ensures { result ≡ session_fault_of fault }
+{
+    SessionFault {
+        place: fault.place,
+        why: fault.why,
+    }
+}
+
+/// The SPDU that a TSDU is.
+pub fn read_spdu(alloc: Global, tsdu: &[u8]) -> Result<Result<Spdu, SessionFault>, AllocError>
+    // An SPDU is read only where the octets spell it,
+    ensures found { IfOk result (λ read. IfOk read (λ spdu. SpellsSpdu spdu tsdu.now)) }
+    // and wherever they spell one, it is read, unless memory runs out.
+    ensures only { (spdu : Spdu) → SpellsSpdu spdu tsdu.now → IfOk result (λ read. read ≡ Ok spdu) }
+    // A fault is the first one from the left.
+    ensures fault { (fault : SessionFault) → IfOk result (λ read.
+        (read ≡ Err fault) ↔ SpduFault tsdu.now (fault_of fault)) }
+{
+    match read_exactly(alloc, tsdu)? {
+        Ok(spdu) => Ok(Ok(spdu)),
+        Err(fault) => Ok(Err(session_fault(fault))),
+    }
+}
+
+/// The connect/accept item with protocol options 0 and version 2; user requirements: duplex.
+const FRONT: [u8; 12] = [5, 6, 19, 1, 0, 22, 1, 2, 20, 2, 0, 2];
+/// The calling selector 00 01.
+const CALLING: [u8; 4] = [51, 2, 0, 1];
+
+const CALLED: u8 = 52;
+
+const USER_DATA: u8 = 193;
+/// The reason code of a refusal: 2, by the session user, with its data.
+const REASON: u8 = 50;
+
+const BY_USER: u8 = 2;
+/// The transport disconnect of an abort: released, by the user, no reason.
+const RELEASED: [u8; 3] = [17, 1, 11];
+
+fn put_called(out: &mut Vec<u8>, called: &Option<Selector>) -> Result<(), AllocError>
+    ensures ok { OnOk result (out.new.items ≡ out.old.items ++ called_octets called.now) }
+    ensures err { OnErr result (take (length out.old.items) out.new.items ≡ out.old.items) }
+{
+    match called {
+        Some(selector) => put_element(out, CALLED, selector.octets()),
+        None => Ok(()),
+    }
+}
+
+fn called_len(called: &Option<Selector>) -> usize
+    ensures exact { result ≡ length (called_octets called.now) }
+    ensures small { result ≤ 36 }
+    ensures selector { HasSelector called.now }
+{
+    match called {
+        Some(selector) => element_len(selector.octets().len()),
+        None => 0,
+    }
+}
+
+/// The called selector, if there is one, and the user data.
+fn put_called_and_data(
+    out: &mut Vec<u8>,
+    called: &Option<Selector>,
+    body: &[u8],
+) -> Result<(), AllocError>
+    requires { length body.now ≤ MOST_BODY }
+    ensures ok { OnOk result (out.new.items ≡ out.old.items ++ called_and_data called.now body.now) }
+    ensures err { OnErr result (take (length out.old.items) out.new.items ≡ out.old.items) }
+{
+    put_called(out, called)?;
+    put_element(out, USER_DATA, body)
+}
+
+/// What a connect has after the item and the requirements.
+fn put_selectors_and_data(
+    out: &mut Vec<u8>,
+    called: &Option<Selector>,
+    body: &[u8],
+) -> Result<(), AllocError>
+    requires { length body.now ≤ MOST_BODY }
+    ensures ok { OnOk result (out.new.items ≡ out.old.items ++ (calling ++ called_and_data called.now body.now)) }
+    ensures err { OnErr result (take (length out.old.items) out.new.items ≡ out.old.items) }
+{
+    out.extend_from_slice(&CALLING)?;
+    put_called_and_data(out, called, body)
+}
+
+/// The code, the length, the item and the requirements of a connect or an accept; `len` octets
+/// follow.
+fn put_front(out: &mut Vec<u8>, code: u8, len: usize) -> Result<(), AllocError>
+    requires { len < 2 ^ 16 - 12 }
+    ensures ok { OnOk result (out.new.items ≡ out.old.items ++ front_octets code len) }
+    ensures err { OnErr result (take (length out.old.items) out.new.items ≡ out.old.items) }
+{
+    put_head(out, code, FRONT.len() + len)?;
+    out.extend_from_slice(&FRONT)
+}
+
+fn put_connect(out: &mut Vec<u8>, called: &Option<Selector>, body: &[u8]) -> Result<(), AllocError>
+    requires { length body.now ≤ MOST_BODY }
+    ensures ok { OnOk result (out.new.items ≡ out.old.items ++ connect_octets called.now body.now) }
+    ensures selector { HasSelector called.now }
+    ensures err { OnErr result (take (length out.old.items) out.new.items ≡ out.old.items) }
+{
+    let len = CALLING.len() + called_len(called) + element_len(body.len());
+    put_front(out, CONNECT, len)?;
+    put_selectors_and_data(out, called, body)
+}
+
+fn put_accept(out: &mut Vec<u8>, called: &Option<Selector>, body: &[u8]) -> Result<(), AllocError>
+    requires { length body.now ≤ MOST_BODY }
+    ensures ok { OnOk result (out.new.items ≡ out.old.items ++ accept_octets called.now body.now) }
+    ensures selector { HasSelector called.now }
+    ensures err { OnErr result (take (length out.old.items) out.new.items ≡ out.old.items) }
+{
+    let len = called_len(called) + element_len(body.len());
+    put_front(out, ACCEPT, len)?;
+    put_called_and_data(out, called, body)
+}
+
+/// A refuse, whose contents are the reason code with the body.
+fn put_refuse(out: &mut Vec<u8>, body: &[u8]) -> Result<(), AllocError>
+    requires { length body.now ≤ MOST_BODY }
+    ensures ok { OnOk result (out.new.items ≡ out.old.items ++ refuse_octets body.now) }
+    ensures err { OnErr result (take (length out.old.items) out.new.items ≡ out.old.items) }
+{
+    let len = 1 + body.len();
+    put_head(out, REFUSE, element_len(len))?;
+    put_head(out, REASON, len)?;
+    out.push(BY_USER)?;
+    out.extend_from_slice(body)
+}
+
+/// An SPDU of this code, whose contents are the user data.
+fn put_release(out: &mut Vec<u8>, code: u8, body: &[u8]) -> Result<(), AllocError>
+    requires { length body.now ≤ MOST_BODY }
+    ensures ok { OnOk result (out.new.items ≡ out.old.items ++ release_octets code body.now) }
+    ensures err { OnErr result (take (length out.old.items) out.new.items ≡ out.old.items) }
+{
+    put_head(out, code, element_len(body.len()))?;
+    put_element(out, USER_DATA, body)
+}
+
+/// What an abort has: the transport disconnect and the user data.
+fn put_released(out: &mut Vec<u8>, body: &[u8]) -> Result<(), AllocError>
+    requires { length body.now ≤ MOST_BODY }
+    ensures ok { OnOk result (out.new.items ≡ out.old.items ++ released body.now) }
+    ensures err { OnErr result (take (length out.old.items) out.new.items ≡ out.old.items) }
+{
+    out.extend_from_slice(&RELEASED)?;
+    put_element(out, USER_DATA, body)
+}
+
+fn put_abort(out: &mut Vec<u8>, body: &[u8]) -> Result<(), AllocError>
+    requires { length body.now ≤ MOST_BODY }
+    ensures ok { OnOk result (out.new.items ≡ out.old.items ++ abort_octets body.now) }
+    ensures err { OnErr result (take (length out.old.items) out.new.items ≡ out.old.items) }
+{
+    put_head(out, ABORT, RELEASED.len() + element_len(body.len()))?;
+    put_released(out, body)
+}
+
+fn put_carry(out: &mut Vec<u8>, body: &[u8]) -> Result<(), AllocError>
+    ensures ok { OnOk result (out.new.items ≡ out.old.items ++ carry_octets body.now) }
+    ensures err { OnErr result (take (length out.old.items) out.new.items ≡ out.old.items) }
+{
+    out.extend_from_slice(&CARRY)?;
+    out.extend_from_slice(body)
+}
+
+fn put_spdu(out: &mut Vec<u8>, spdu: &Spdu, body: &[u8]) -> Result<(), AllocError>
+    requires written { spdu.now ≢ Spdu.AbortAccept }
+    requires fits { length body.now ≤ MOST_BODY }
+    ensures writable { IsWritable spdu.now }
+    ensures ok { OnOk result (out.new.items ≡ out.old.items ++ written_form spdu.now body.now) }
+    ensures err { OnErr result (take (length out.old.items) out.new.items ≡ out.old.items) }
+{
+    match spdu {
+        Spdu::Connect { called, .. } => put_connect(out, called, body),
+        Spdu::Accept { called, .. } => put_accept(out, called, body),
+        Spdu::Refuse => put_refuse(out, body),
+        Spdu::Carry { .. } => put_carry(out, body),
+        Spdu::Finish => put_release(out, FINISH, body),
+        Spdu::Disconnect => put_release(out, DISCONNECT, body),
+        Spdu::Abort => put_abort(out, body),
+        Spdu::AbortAccept => Ok(()),
+    }
+}
+
+/// Appends an SPDU with these octets as its body; the place of a body in `spdu` isn't used. After
+/// want of memory `out` is as before.
+pub fn write_spdu(out: &mut Vec<u8>, spdu: &Spdu, body: &[u8]) -> Result<(), AllocError>
+    requires written { spdu.now ≢ Spdu.AbortAccept }
+    requires fits { length body.now ≤ MOST_BODY }
+    ensures ok { OnOk result (out.new.items ≡ out.old.items ++ written_form spdu.now body.now) }
+    ensures err { OnErr result (out.new.items ≡ out.old.items) }
+    // It is read back as the same value, whose body is these octets.
+    ensures spelled { SpellsSpdu (as_written spdu.now body.now) (written_form spdu.now body.now) }
+{
+    let mark = out.len();
+    let done = put_spdu(out, spdu, body);
+    if done.is_err() {
+        out.truncate(mark);
+    }
+    done
+}
