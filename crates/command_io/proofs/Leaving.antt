@@ -1,16 +1,19 @@
 -- What a call leaves of an outside, one part of it after another.
-use Rattle.std.proofs.Common.{◌≡◌, ◌⊎◌, ℕ, zero, suc, zero-add, suc-add, Bool, true, false, ◌<◌, ◌≤◌, ◌||◌, List, [], ◌∷◌, ◌++◌, take, length, ◌+◌}
-use Rattle.std.proofs.Common.{Option, Some, None, refl, sym, ◌∙◌, ap, subst, inl, inr, arith, append_assoc}
+use Rattle.std.proofs.Common.{◌≡◌, ◌⊎◌, ℕ, zero, suc, zero-add, suc-add, Bool, true, false, ◌<◌}
+use Rattle.std.proofs.Common.{◌||◌, List, [], ◌∷◌, ◌++◌, take, length, ◌+◌}
+use Rattle.std.proofs.Common.{Option, Some, None, refl, sym, ◌∙◌, ap, subst, inl, inr, arith}
+use Rattle.std.proofs.Common.{append_assoc}
 use Rattle.std.specs.Prelude.{bytes_eq}
 use Rattle.std.proofs.lemmas.List.Folds.{list_any-append}
 use Rattle.std.proofs.lemmas.List.{append-nil}
 use Rattle.std.proofs.Math.Seq.{take-append-add}
 use Rattle.outside.specs.Faults.{next_count}
-use Rattle.outside.specs.Source.{SourceTold}
 use Rattle.outside.specs.Sink.{SinkTold}
 use Rattle.outside.specs.Outside.{Standing, untold, missing, lent, there, OutsideTold, Asks}
-use Rattle.command_io.specs.Leaves.{is_among, SomeOf, EachOf, StandsAgain, FailedAt, FaultyAt, CleanAt, Keeps}
-use Rattle.command_io.specs.Leaves.{source_faults, sink_faults, AsksFront, raised, Grows, Rises, HasReason, HasFaulty}
+use Rattle.command_io.specs.Leaves.{is_among, SomeOf, EachOf, StandsAgain, FailedAt, FaultyAt}
+use Rattle.command_io.specs.Leaves.{CleanAt, Keeps}
+use Rattle.command_io.specs.Leaves.{source_faults, sink_faults, AsksFront, raised, Grows, Rises}
+use Rattle.command_io.specs.Leaves.{HasReason, HasFaulty}
 use Rattle.command_io.specs.Leaves.{IsClean, IsCounted, Uses}
 
 pub raised-more : (more few count : ℕ) → raised more (raised few count) ≡ raised (more + few) count
@@ -18,17 +21,22 @@ raised-more zero few count = rw zero-add refl
 raised-more (suc more) few count = rw suc-add (ap next_count (raised-more more few count))
 
 pub Grows-then : (b m a : ℕ) → Grows b m → Grows m a → Grows b a
-Grows-then b m a first then = (then.0 + first.0, then.1 ∙ ap (raised then.0) first.1 ∙ raised-more then.0 first.0 b)
+Grows-then b m a first then =
+    (then.0 + first.0, then.1 ∙ ap (raised then.0) first.1 ∙ raised-more then.0 first.0 b)
 
 pub Rises-after : (b m a : ℕ) → Grows b m → Rises m a → Rises b a
-Rises-after b m a first then =
-    (then.0 + first.0, then.1 ∙ ap next_count (ap (raised then.0) first.1 ∙ raised-more then.0 first.0 b))
+Rises-after b m a first then = (
+  then.0 + first.0,
+  then.1
+      ∙ ap next_count (ap (raised then.0) first.1 ∙ raised-more then.0 first.0 b),
+)
 
 pub Rises-before : (b m a : ℕ) → Rises b m → Grows m a → Rises b a
 Rises-before b m a first then = (
   then.0 + first.0,
   then.1 ∙ ap (raised then.0) first.1 ∙ raised-more then.0 (suc first.0) b
-      ∙ ap (λ n. raised n b) (let e : then.0 + suc first.0 ≡ suc (then.0 + first.0) = omega arith in e),
+      ∙ ap (λ n. raised n b)
+      (let e : then.0 + suc first.0 ≡ suc (then.0 + first.0) = omega arith in e),
 )
 
 pub raised-positive : (more count : ℕ) → 0 < count → 0 < raised more count
@@ -36,7 +44,8 @@ raised-positive zero count positive = positive
 raised-positive (suc more) count positive = grind arith
 
 pub Grows-positive : (before now : ℕ) → Grows before now → 0 < before → 0 < now
-Grows-positive before now grown positive = subst (λ n. 0 < n) (sym grown.1) (raised-positive grown.0 before positive)
+Grows-positive before now grown positive =
+    subst (λ n. 0 < n) (sym grown.1) (raised-positive grown.0 before positive)
 
 pub Rises-positive : (before now : ℕ) → Rises before now → 0 < now
 Rises-positive before now risen = subst (λ n. 0 < n) (sym risen.1) (grind arith)
@@ -55,13 +64,15 @@ pub or-true : (f g : Bool) → (f || g) ≡ true → (f ≡ true) ⊎ (g ≡ tru
 or-true false g h = inr h
 or-true true g h = inl refl
 
-pub SomeOf-map : (names : List (List ℕ)) (P Q : List ℕ → Type 0) → ((name : List ℕ) → P name → Q name)
+pub SomeOf-map : (names : List (List ℕ)) (P Q : List ℕ → Type 0)
+    → ((name : List ℕ) → P name → Q name)
     → SomeOf names P → SomeOf names Q
 SomeOf-map [] P Q f h = h
 SomeOf-map (name ∷ names) P Q f (inl h) = inl (f name h)
 SomeOf-map (name ∷ names) P Q f (inr h) = inr (SomeOf-map names P Q f h)
 
-pub EachOf-map : (names : List (List ℕ)) (P Q : List ℕ → Type 0) → ((name : List ℕ) → P name → Q name)
+pub EachOf-map : (names : List (List ℕ)) (P Q : List ℕ → Type 0)
+    → ((name : List ℕ) → P name → Q name)
     → EachOf names P → EachOf names Q
 EachOf-map [] P Q f h = tt
 EachOf-map (name ∷ names) P Q f h = (f name h.0, EachOf-map names P Q f h.1)
@@ -73,54 +84,65 @@ module _ {X : Type 0} (faults : X → ℕ) where
   StandsAgain-refl failed lent = refl
   StandsAgain-refl failed (there x) = (x, refl, (0, refl), λ none. refl)
 
-  pub StandsAgain-then : (f g : Bool) (b m a : Standing X) → StandsAgain faults f b m → StandsAgain faults g m a
+  pub StandsAgain-then : (f g : Bool) (b m a : Standing X) → StandsAgain faults f b m
+      → StandsAgain faults g m a
       → StandsAgain faults (f || g) b a
   StandsAgain-then f g untold m a first second = subst (λ s. StandsAgain faults g s a) first second
   StandsAgain-then f g missing m a first second = subst (λ s. StandsAgain faults g s a) first second
   StandsAgain-then f g lent m a first second = subst (λ s. StandsAgain faults g s a) first second
   StandsAgain-then f g (there x) m a first second =
-      let then : StandsAgain faults g (there first.0) a = subst (λ s. StandsAgain faults g s a) first.1 second in (
+      let then : StandsAgain faults g (there first.0) a = subst (λ s. StandsAgain faults g s a)
+      first.1 second in (
         then.0,
         then.1,
         Grows-then _ _ _ first.2 then.2,
         λ none. then.3 (or-false f g none).1 ∙ first.3 (or-false f g none).0,
       )
 
-  pub FailedAt-before : (f : Bool) (b m a : Standing X) → StandsAgain faults f b m → FailedAt faults m a → FailedAt faults b a
+  pub FailedAt-before : (f : Bool) (b m a : Standing X) → StandsAgain faults f b m
+      → FailedAt faults m a → FailedAt faults b a
   FailedAt-before f untold m a first second = tt
   FailedAt-before f missing m a first second = tt
   FailedAt-before f lent m a first second = tt
   FailedAt-before f (there x) m a first second =
-      let then : FailedAt faults (there first.0) a = subst (λ s. FailedAt faults s a) first.1 second in
+      let then : FailedAt faults (there first.0) a = subst (λ s. FailedAt faults s a)
+      first.1 second in
       (then.0, then.1, Rises-after (faults x) (faults first.0) (faults then.0) first.2 then.2)
 
-  pub FailedAt-after : (f : Bool) (b m a : Standing X) → FailedAt faults b m → StandsAgain faults f m a → FailedAt faults b a
+  pub FailedAt-after : (f : Bool) (b m a : Standing X) → FailedAt faults b m
+      → StandsAgain faults f m a → FailedAt faults b a
   FailedAt-after f untold m a first second = tt
   FailedAt-after f missing m a first second = tt
   FailedAt-after f lent m a first second = tt
   FailedAt-after f (there x) m a first second =
-      let then : StandsAgain faults f (there first.0) a = subst (λ s. StandsAgain faults f s a) first.1 second in
+      let then : StandsAgain faults f (there first.0) a = subst (λ s. StandsAgain faults f s a)
+      first.1 second in
       (then.0, then.1, Rises-before (faults x) (faults first.0) (faults then.0) first.2 then.2)
 
-  pub FaultyAt-before : (f : Bool) (b m a : Standing X) → StandsAgain faults f b m → FaultyAt faults m a → FaultyAt faults b a
+  pub FaultyAt-before : (f : Bool) (b m a : Standing X) → StandsAgain faults f b m
+      → FaultyAt faults m a → FaultyAt faults b a
   FaultyAt-before f untold m a first second = tt
   FaultyAt-before f missing m a first second = tt
   FaultyAt-before f lent m a first second = tt
   FaultyAt-before f (there x) m a first second = subst (λ s. FaultyAt faults s a) first.1 second
 
-  pub FaultyAt-after : (f : Bool) (b m a : Standing X) → FaultyAt faults b m → StandsAgain faults f m a → FaultyAt faults b a
+  pub FaultyAt-after : (f : Bool) (b m a : Standing X) → FaultyAt faults b m
+      → StandsAgain faults f m a → FaultyAt faults b a
   FaultyAt-after f untold m a first second = tt
   FaultyAt-after f missing m a first second = tt
   FaultyAt-after f lent m a first second = tt
   FaultyAt-after f (there x) m a first second =
-      let then : StandsAgain faults f (there first.0) a = subst (λ s. StandsAgain faults f s a) first.1 second in
+      let then : StandsAgain faults f (there first.0) a = subst (λ s. StandsAgain faults f s a)
+      first.1 second in
       (then.0, then.1, Grows-positive (faults first.0) (faults then.0) then.2 first.2)
 
-  pub CleanAt-after : (b m : Standing X) → StandsAgain faults false b m → CleanAt faults b → CleanAt faults m
+  pub CleanAt-after : (b m : Standing X) → StandsAgain faults false b m → CleanAt faults b
+      → CleanAt faults m
   CleanAt-after untold m first clean = subst (λ s. CleanAt faults s) (sym first) tt
   CleanAt-after missing m first clean = subst (λ s. CleanAt faults s) (sym first) tt
   CleanAt-after lent m first clean = subst (λ s. CleanAt faults s) (sym first) tt
-  CleanAt-after (there x) m first clean = subst (λ s. CleanAt faults s) (sym first.1) (first.3 refl ∙ clean)
+  CleanAt-after (there x) m first clean =
+      subst (λ s. CleanAt faults s) (sym first.1) (first.3 refl ∙ clean)
 
 -- whether a name is among these or those
 pub is_among-append : (first second : List (List ℕ)) (name : List ℕ)
@@ -129,26 +151,33 @@ is_among-append first second name = list_any-append (bytes_eq name) first second
 
 module _ (f g : Bool) (first second : List (List ℕ)) where
   pub Keeps-then : {X : Type 0} (faults : X → ℕ) (p q r : List ℕ → Standing X)
-      → Keeps faults f first p q → Keeps faults g second q r → Keeps faults (f || g) (first ++ second) p r
+      → Keeps faults f first p q → Keeps faults g second q r
+      → Keeps faults (f || g) (first ++ second) p r
   Keeps-then faults p q r kept then = record {
     others = λ name absent.
-        let parts = or-false (is_among first name) (is_among second name) (sym (is_among-append first second name) ∙ absent) in
+        let parts = or-false (is_among first name) (is_among second name)
+        (sym (is_among-append first second name) ∙ absent) in
         then.others name parts.1 ∙ kept.others name parts.0;
-    again = λ name. StandsAgain-then faults f g (p name) (q name) (r name) (kept.again name) (then.again name);
+    again = λ name. StandsAgain-then faults f g (p name) (q name) (r name) (kept.again name)
+        (then.again name);
   }
 
-pub SomeOf-left : (first second : List (List ℕ)) (P : List ℕ → Type 0) → SomeOf first P → SomeOf (first ++ second) P
+pub SomeOf-left : (first second : List (List ℕ)) (P : List ℕ → Type 0) → SomeOf first P
+    → SomeOf (first ++ second) P
 SomeOf-left [] second P h = absurd h
 SomeOf-left (name ∷ first) second P (inl h) = inl h
 SomeOf-left (name ∷ first) second P (inr h) = inr (SomeOf-left first second P h)
 
-pub SomeOf-right : (first second : List (List ℕ)) (P : List ℕ → Type 0) → SomeOf second P → SomeOf (first ++ second) P
+pub SomeOf-right : (first second : List (List ℕ)) (P : List ℕ → Type 0) → SomeOf second P
+    → SomeOf (first ++ second) P
 SomeOf-right [] second P h = h
 SomeOf-right (name ∷ first) second P h = inr (SomeOf-right first second P h)
 
-pub EachOf-parts : (first second : List (List ℕ)) (P : List ℕ → Type 0) → EachOf (first ++ second) P → EachOf first P × EachOf second P
+pub EachOf-parts : (first second : List (List ℕ)) (P : List ℕ → Type 0)
+    → EachOf (first ++ second) P → EachOf first P × EachOf second P
 EachOf-parts [] second P h = (tt, h)
-EachOf-parts (name ∷ first) second P h = let parts = EachOf-parts first second P h.1 in ((h.0, parts.0), parts.1)
+EachOf-parts (name ∷ first) second P h =
+    let parts = EachOf-parts first second P h.1 in ((h.0, parts.0), parts.1)
 
 -- names that were asked for, and then some of others
 pub AsksFront-then : (before mid after : Option (List (List ℕ))) (first second : List (List ℕ))
@@ -169,7 +198,8 @@ AsksFront-then (Some names) mid after first second (inr some) then =
 pub Asks-append : (before mid after : Option (List (List ℕ))) (first second : List (List ℕ))
     → Asks before mid first → Asks mid after second → Asks before after (first ++ second)
 Asks-append None mid after first second asked then = subst (λ m. Asks m after second) asked then
-Asks-append (Some names) mid after first second (inl none) then = inl (subst (λ m. Asks m after second) none then)
+Asks-append (Some names) mid after first second (inl none) then =
+    inl (subst (λ m. Asks m after second) none then)
 Asks-append (Some names) mid after first second (inr some) then =
     here (subst (λ m. Asks m after second) some then)
   where
@@ -187,23 +217,33 @@ module _ (f g : Bool) (first second outputs : List (List ℕ)) (b m a : OutsideT
       (sinks : m.sinks ≡ b.sinks) (more_sinks : Keeps sink_faults g outputs m.sinks a.sinks) where
     reason_first : HasReason first [] b m → HasReason (first ++ second) outputs b a
     reason_first (inl some) = inl (SomeOf-left first second _ (SomeOf-map first _ _
-        (λ name h. FailedAt-after source_faults g (b.sources name) (m.sources name) (a.sources name) h (more.again name)) some))
+        (λ name h. FailedAt-after source_faults g (b.sources name) (m.sources name)
+        (a.sources name) h (more.again name)) some))
     reason_first (inr none) = absurd none
 
     reason_second : HasReason second outputs m a → HasReason (first ++ second) outputs b a
     reason_second (inl some) = inl (SomeOf-right first second _ (SomeOf-map second _ _
-        (λ name h. FailedAt-before source_faults f (b.sources name) (m.sources name) (a.sources name) (sources.again name) h) some))
-    reason_second (inr some) = inr (subst (λ (s : List ℕ → Standing SinkTold). SomeOf outputs (λ name. FailedAt sink_faults (s name) (a.sinks name))) sinks some)
+        (λ name h. FailedAt-before source_faults f (b.sources name) (m.sources name)
+        (a.sources name) (sources.again name) h) some))
+    reason_second (inr some) =
+        inr (subst
+        (λ (s : List ℕ → Standing SinkTold). SomeOf outputs
+        (λ name. FailedAt sink_faults (s name) (a.sinks name))) sinks some)
 
     faulty_first : HasFaulty first [] b m → HasFaulty (first ++ second) outputs b a
     faulty_first (inl some) = inl (SomeOf-left first second _ (SomeOf-map first _ _
-        (λ name h. FaultyAt-after source_faults g (b.sources name) (m.sources name) (a.sources name) h (more.again name)) some))
+        (λ name h. FaultyAt-after source_faults g (b.sources name) (m.sources name)
+        (a.sources name) h (more.again name)) some))
     faulty_first (inr none) = absurd none
 
     faulty_second : HasFaulty second outputs m a → HasFaulty (first ++ second) outputs b a
     faulty_second (inl some) = inl (SomeOf-right first second _ (SomeOf-map second _ _
-        (λ name h. FaultyAt-before source_faults f (b.sources name) (m.sources name) (a.sources name) (sources.again name) h) some))
-    faulty_second (inr some) = inr (subst (λ (s : List ℕ → Standing SinkTold). SomeOf outputs (λ name. FaultyAt sink_faults (s name) (a.sinks name))) sinks some)
+        (λ name h. FaultyAt-before source_faults f (b.sources name) (m.sources name)
+        (a.sources name) (sources.again name) h) some))
+    faulty_second (inr some) =
+        inr (subst
+        (λ (s : List ℕ → Standing SinkTold). SomeOf outputs
+        (λ name. FaultyAt sink_faults (s name) (a.sinks name))) sinks some)
 
     IsCounted-then : IsCounted first [] f b m → IsCounted second outputs g m a
         → IsCounted (first ++ second) outputs (f || g) b a
@@ -215,10 +255,12 @@ module _ (f g : Bool) (first second outputs : List (List ℕ)) (b m a : OutsideT
     }
       where
         low : Grows b.faults m.faults
-        low = elim counted.kept [ inl same ↦ Grows-same _ _ same | inr rose ↦ Rises-grows _ _ rose.0 ]
+        low = elim counted.kept
+            [ inl same ↦ Grows-same _ _ same | inr rose ↦ Rises-grows _ _ rose.0 ]
 
         low_then : Grows m.faults a.faults
-        low_then = elim then.kept [ inl same ↦ Grows-same _ _ same | inr rose ↦ Rises-grows _ _ rose.0 ]
+        low_then =
+            elim then.kept [ inl same ↦ Grows-same _ _ same | inr rose ↦ Rises-grows _ _ rose.0 ]
 
         rises : ((f ≡ true) ⊎ (g ≡ true)) → Rises b.faults a.faults
         rises (inl failed) = Rises-before b.faults m.faults a.faults (counted.cause failed) low_then
@@ -230,37 +272,50 @@ module _ (f g : Bool) (first second outputs : List (List ℕ)) (b m a : OutsideT
 
         keeps : ((m.faults ≡ b.faults) ⊎ (Rises b.faults m.faults × HasFaulty first [] b m))
             → ((a.faults ≡ m.faults) ⊎ (Rises m.faults a.faults × HasFaulty second outputs m a))
-            → (a.faults ≡ b.faults) ⊎ (Rises b.faults a.faults × HasFaulty (first ++ second) outputs b a)
+            → (a.faults ≡ b.faults)
+            ⊎ (Rises b.faults a.faults × HasFaulty (first ++ second) outputs b a)
         keeps (inl same) (inl again) = inl (again ∙ same)
-        keeps (inr rose) then_kept = inr (Rises-before b.faults m.faults a.faults rose.0 low_then, faulty_first rose.1)
-        keeps (inl same) (inr rose) = inr (Rises-after b.faults m.faults a.faults low rose.0, faulty_second rose.1)
+        keeps (inr rose) then_kept =
+            inr (Rises-before b.faults m.faults a.faults rose.0 low_then, faulty_first rose.1)
+        keeps (inl same) (inr rose) =
+            inr (Rises-after b.faults m.faults a.faults low rose.0, faulty_second rose.1)
 
-        exact : IsClean (first ++ second) outputs b → (f ≡ false) × (g ≡ false) → a.faults ≡ b.faults
+        exact : IsClean (first ++ second) outputs b → (f ≡ false) × (g ≡ false)
+            → a.faults ≡ b.faults
         exact clean none =
             let parts = EachOf-parts first second _ clean.0 in
             then.exact (
               EachOf-map second _ _
                   (λ name h. CleanAt-after source_faults (b.sources name) (m.sources name)
-                  (subst (λ (t : Bool). StandsAgain source_faults t (b.sources name) (m.sources name)) none.0 (sources.again name)) h) parts.1,
-              subst (λ (s : List ℕ → Standing SinkTold). EachOf outputs (λ name. CleanAt sink_faults (s name))) (sym sinks) clean.1,
+                  (subst (λ (t : Bool). StandsAgain source_faults t (b.sources name)
+                  (m.sources name)) none.0 (sources.again name)) h) parts.1,
+              subst (λ (s : List ℕ → Standing SinkTold). EachOf outputs
+                  (λ name. CleanAt sink_faults (s name))) (sym sinks) clean.1,
             ) none.1
             ∙ counted.exact (parts.0, tt) none.0
 
   -- one part of a call, which opens no sink, and then the rest of it
   pub Uses-then : Uses first [] f b m → Asks b.read_names m.read_names first → m.sinks ≡ b.sinks
-      → m.written_names ≡ b.written_names → Uses second outputs g m a → Uses (first ++ second) outputs (f || g) b a
+      → m.written_names ≡ b.written_names → Uses second outputs g m a
+      → Uses (first ++ second) outputs (f || g) b a
   Uses-then used asked sinks written then = record {
     counted = IsCounted-then used.sources then.sources sinks then.sinks used.counted then.counted;
-    sources = Keeps-then f g first second source_faults b.sources m.sources a.sources used.sources then.sources;
+    sources =
+        Keeps-then f g first second source_faults b.sources m.sources a.sources used.sources
+        then.sources;
     sinks = record {
-      others = λ name absent. then.sinks.others name absent ∙ ap (λ (s : List ℕ → Standing SinkTold). s name) sinks;
+      others = λ name absent. then.sinks.others name absent
+          ∙ ap (λ (s : List ℕ → Standing SinkTold). s name) sinks;
       again = λ name. StandsAgain-more name;
     };
     read = AsksFront-then b.read_names m.read_names a.read_names first second asked then.read;
     written = subst (λ w. AsksFront w a.written_names outputs) written then.written;
   }
     where
-      StandsAgain-more : (name : List ℕ) → StandsAgain sink_faults (f || g) (b.sinks name) (a.sinks name)
-      StandsAgain-more name = StandsAgain-then sink_faults f g (b.sinks name) (b.sinks name) (a.sinks name)
+      StandsAgain-more : (name : List ℕ)
+          → StandsAgain sink_faults (f || g) (b.sinks name) (a.sinks name)
+      StandsAgain-more name =
+          StandsAgain-then sink_faults f g (b.sinks name) (b.sinks name) (a.sinks name)
           (StandsAgain-refl sink_faults f (b.sinks name))
-          (subst (λ (s : List ℕ → Standing SinkTold). StandsAgain sink_faults g (s name) (a.sinks name)) sinks (then.sinks.again name))
+          (subst (λ (s : List ℕ → Standing SinkTold). StandsAgain sink_faults g (s name)
+          (a.sinks name)) sinks (then.sinks.again name))

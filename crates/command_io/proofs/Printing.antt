@@ -1,45 +1,54 @@
 -- Standard output, opened, told something, and closed again.
-use Rattle.std.proofs.Common.{◌≡◌, ◌≢◌, ◌⊎◌, ℕ, zero, suc, Bool, true, false, ◌<◌, List, [], ◌∷◌, Option, Some, None}
+use Rattle.std.proofs.Common.{◌≡◌, ◌⊎◌, ℕ, zero, suc, Bool, true, ◌<◌, List, [], ◌∷◌}
+use Rattle.std.proofs.Common.{Some, None}
 use Rattle.std.proofs.Common.{refl, sym, ◌∙◌, ap, subst, inl, inr, arith}
-use Rattle.std.specs.Prelude.{IfSome, IsTrue, nat_lt}
+use Rattle.std.specs.Prelude.{IsTrue, nat_lt}
 use Rattle.outside.specs.Faults.{counted, next_count}
-use Rattle.outside.specs.Octets.{Adds}
 use Rattle.outside.specs.Sink.{SinkTold}
-use Rattle.outside.specs.Outside.{Standing, untold, missing, lent, there, OutsideTold, Asks, OpensOut, ClosesOut, HandsOut}
+use Rattle.outside.specs.Outside.{OutsideTold, Asks}
+use Rattle.outside.specs.Outside.{OpensOut, ClosesOut}
 use Rattle.command_io.specs.declared.status.Status.{Status}
 use Rattle.command_io.specs.declared.status.Status.TheVariants.{Done, Usage, Input, Outside, Memory}
 use Rattle.command_io.specs.Statuses.{is_outside, is_whole, is_of_command, OnWhole}
-use Rattle.command_io.specs.Leaves.{SomeOf, Rises, Uses, source_faults, sink_faults, FailedAt, FaultyAt, StandsAgain, CleanAt}
-use Rattle.command_io.specs.Saying.{Said, prints, duty_to_say}
-use Rattle.command_io.specs.Runs.{output_name, taken_of, Took, EachFile, IsSaid, MatchesWords, IsThere, IsRun, Tells}
+use Rattle.command_io.specs.Leaves.{SomeOf, Rises, Uses, source_faults, sink_faults, FailedAt}
+use Rattle.command_io.specs.Leaves.{FaultyAt, StandsAgain}
+use Rattle.command_io.specs.Saying.{Said, duty_to_say}
+use Rattle.command_io.specs.Runs.{output_name, taken_of, Took, EachFile, IsSaid, MatchesWords}
+use Rattle.command_io.specs.Runs.{IsThere, IsRun, Tells}
 use Rattle.command_io.proofs.Leaving.{StandsAgain-refl, Asks-none}
-use Rattle.command_io.proofs.Exchanging.{IsExchanged, is_exchanged, Keeps-exchanged, FailedAt-exchanged, FaultyAt-exchanged, faultless_exchanged, faulty_exchanged, nothing_opened}
+use Rattle.command_io.proofs.Exchanging.{IsExchanged, is_exchanged, Keeps-exchanged}
+use Rattle.command_io.proofs.Exchanging.{FailedAt-exchanged, FaultyAt-exchanged}
+use Rattle.command_io.proofs.Exchanging.{faultless_exchanged, faulty_exchanged, nothing_opened}
 use Rattle.command_io.proofs.Reading.{lt-test, Keeps-same}
 use Rattle.command_io.proofs.Running.{OnWhole-all, cut_run, complete_of, Took-untold}
 
 -- what telling leaves of the sink
-Tells-answered : (said : Said) (k l : SinkTold) (status : Status) → Tells said k l status → OnWhole status (said.status ≡ status)
+Tells-answered : (said : Said) (k l : SinkTold) (status : Status) → Tells said k l status
+    → OnWhole status (said.status ≡ status)
 Tells-answered said k l Done tells = tells.0
 Tells-answered said k l Usage tells = tells.0
 Tells-answered said k l Input tells = tells.0
 Tells-answered said k l Outside tells = tt
 Tells-answered said k l Memory tells = tt
 
-Tells-took : (said : Said) (k l : SinkTold) (status : Status) → Tells said k l status → Took status k.taken l.taken said.text
+Tells-took : (said : Said) (k l : SinkTold) (status : Status) → Tells said k l status
+    → Took status k.taken l.taken said.text
 Tells-took said k l Done tells = tells.1.taken
 Tells-took said k l Usage tells = tells.1.taken
 Tells-took said k l Input tells = tells.1.taken
 Tells-took said k l Outside tells = (tells.0, tells.1.taken)
 Tells-took said k l Memory tells = (tells.0, tells.1.taken)
 
-Tells-faults : (said : Said) (k l : SinkTold) (status : Status) → Tells said k l status → l.faults ≡ counted (is_outside status) k.faults
+Tells-faults : (said : Said) (k l : SinkTold) (status : Status) → Tells said k l status
+    → l.faults ≡ counted (is_outside status) k.faults
 Tells-faults said k l Done tells = tells.1.faults
 Tells-faults said k l Usage tells = tells.1.faults
 Tells-faults said k l Input tells = tells.1.faults
 Tells-faults said k l Outside tells = tells.1.faults
 Tells-faults said k l Memory tells = tells.1.faults
 
-Tells-name : (said : Said) (k l : SinkTold) (status : Status) → Tells said k l status → l.name ≡ k.name
+Tells-name : (said : Said) (k l : SinkTold) (status : Status) → Tells said k l status
+    → l.name ≡ k.name
 Tells-name said k l Done tells = tells.1.name
 Tells-name said k l Usage tells = tells.1.name
 Tells-name said k l Input tells = tells.1.name
@@ -47,7 +56,8 @@ Tells-name said k l Outside tells = tells.1.name
 Tells-name said k l Memory tells = tells.1.name
 
 -- a whole status, or a fault outside in its place, answers the words that it is for
-pub answers_words : (answer status : Status) → IsTrue (is_whole answer) → (status ≡ answer) ⊎ (status ≡ Outside)
+pub answers_words : (answer status : Status) → IsTrue (is_whole answer)
+    → (status ≡ answer) ⊎ (status ≡ Outside)
     → MatchesWords (is_of_command answer) status
 answers_words Done status whole (inl same) = λ usage. absurd cc
 answers_words Done status whole (inr lost) = λ usage. absurd cc
@@ -57,85 +67,153 @@ answers_words Input status whole (inr lost) = λ usage. absurd cc
 answers_words Outside status whole either = absurd cc
 answers_words Memory status whole either = absurd cc
 
-module _ (b m a : OutsideTold) (is_command : Bool) (said_now : Said) (alone : said_now.files ≡ []) where
-  -- standard output is there
-  pub IsRun-printed : (k l : SinkTold) (status : Status) → OpensOut b m output_name (Some k) → Tells said_now k l status
-      → ClosesOut m a l → MatchesWords is_command status → IsRun (duty_to_say is_command said_now) b a status
-  IsRun-printed k l status opens tells closes words = record {
-    words = words;
-    said = said;
-    output = output exchanged;
-    uses = uses;
-    opened = OnWhole-all status (subst (λ names. Asks b.read_names names []) (sym (closes.read_names ∙ opens.read_names)) (Asks-none b.read_names));
-    printed = OnWhole-all status asked;
-    complete = complete_of (duty_to_say is_command said_now) b a status said uses;
-  }
-    where
-      exchanged : IsExchanged (λ sink. sink.name) sink_faults output_name b.sinks m.sinks a.sinks k l
-      exchanged = is_exchanged (λ sink. sink.name) sink_faults output_name b.sinks m.sinks a.sinks k l opens.sink opens.sinks (Tells-name said_now k l status tells) closes.sinks
+module _ (b m a : OutsideTold) (is_command : Bool) (said_now : Said) (alone : said_now.files ≡ [])
+  where
+    -- standard output is there
+    pub IsRun-printed : (k l : SinkTold) (status : Status) → OpensOut b m output_name (Some k)
+        → Tells said_now k l status
+        → ClosesOut m a l → MatchesWords is_command status
+        → IsRun (duty_to_say is_command said_now) b a status
+    IsRun-printed k l status opens tells closes words = record {
+      words = words;
+      said = said;
+      output = output exchanged;
+      uses = uses;
+      opened =
+          OnWhole-all status
+          (subst (λ names. Asks b.read_names names [])
+          (sym (closes.read_names ∙ opens.read_names)) (Asks-none b.read_names));
+      printed = OnWhole-all status asked;
+      complete = complete_of (duty_to_say is_command said_now) b a status said uses;
+    }
+      where
+        exchanged : IsExchanged (λ sink. sink.name)
+            sink_faults output_name b.sinks m.sinks a.sinks k l
+        exchanged =
+            is_exchanged (λ sink. sink.name)
+            sink_faults output_name b.sinks m.sinks a.sinks k l opens.sink opens.sinks
+            (Tells-name said_now k l status tells) closes.sinks
 
-      took : IsExchanged (λ sink. sink.name) sink_faults output_name b.sinks m.sinks a.sinks k l
-          → Took status (taken_of (b.sinks output_name)) (taken_of (a.sinks output_name)) said_now.text
-      took (inl nothing) = subst (λ s. Took status (taken_of (b.sinks output_name)) (taken_of s) said_now.text) (sym (nothing.2 output_name))
-          (subst (λ s. Took status (taken_of s) (taken_of s) said_now.text) (sym nothing.0) (Took-untold status said_now.text))
-      took (inr stood) = subst (λ s. Took status (taken_of s) (taken_of (a.sinks output_name)) said_now.text) (sym stood.0)
-          (subst (λ s. Took status k.taken (taken_of s) said_now.text) (sym stood.1) (Tells-took said_now k l status tells))
+        took : IsExchanged (λ sink. sink.name) sink_faults output_name b.sinks m.sinks a.sinks k l
+            → Took status (taken_of (b.sinks output_name)) (taken_of (a.sinks output_name))
+            said_now.text
+        took (inl nothing) =
+            subst (λ s. Took status (taken_of (b.sinks output_name)) (taken_of s) said_now.text)
+            (sym (nothing.2 output_name))
+            (subst (λ s. Took status (taken_of s) (taken_of s) said_now.text) (sym nothing.0)
+            (Took-untold status said_now.text))
+        took (inr stood) =
+            subst (λ s. Took status (taken_of s) (taken_of (a.sinks output_name)) said_now.text)
+            (sym stood.0)
+            (subst (λ s. Took status k.taken (taken_of s) said_now.text) (sym stood.1)
+            (Tells-took said_now k l status tells))
 
-      output : IsExchanged (λ sink. sink.name) sink_faults output_name b.sinks m.sinks a.sinks k l → OnWhole status (IsThere (b.sinks output_name))
-      output (inl nothing) = OnWhole-all status (subst (λ s. IsThere s) (sym nothing.0) tt)
-      output (inr stood) = OnWhole-all status (subst (λ s. IsThere s) (sym stood.0) tt)
+        output : IsExchanged (λ sink. sink.name) sink_faults output_name b.sinks m.sinks a.sinks k l
+            → OnWhole status (IsThere (b.sinks output_name))
+        output (inl nothing) = OnWhole-all status (subst (λ s. IsThere s) (sym nothing.0) tt)
+        output (inr stood) = OnWhole-all status (subst (λ s. IsThere s) (sym stood.0) tt)
 
-      said : IsSaid status b.sinks a.sinks said_now
-      said = record { answered = Tells-answered said_now k l status tells; output = took exchanged; files = subst (λ files. EachFile files (λ name octets. Took status (taken_of (b.sinks name)) (taken_of (a.sinks name)) octets)) (sym alone) tt }
+        said : IsSaid status b.sinks a.sinks said_now
+        said = record {
+          answered = Tells-answered said_now k l status tells;
+          output = took exchanged;
+          files =
+              subst (λ files. EachFile files
+              (λ name octets. Took status (taken_of (b.sinks name)) (taken_of (a.sinks name))
+              octets)) (sym alone) tt;
+        }
 
-      asked : Asks b.written_names a.written_names (output_name ∷ [])
-      asked = subst (λ names. Asks b.written_names names (output_name ∷ [])) (sym closes.written_names) opens.written_names
+        asked : Asks b.written_names a.written_names (output_name ∷ [])
+        asked = subst (λ names. Asks b.written_names names (output_name ∷ []))
+            (sym closes.written_names) opens.written_names
 
-      rises : 0 < l.faults → Rises b.faults a.faults
-      rises faulty = (0, closes.faults ∙ ap (λ x. counted x m.faults) (lt-test l.faults faulty) ∙ ap next_count opens.faults)
+        rises : 0 < l.faults → Rises b.faults a.faults
+        rises faulty = (
+          0,
+          closes.faults ∙ ap (λ x. counted x m.faults) (lt-test l.faults faulty)
+              ∙ ap next_count opens.faults,
+        )
 
-      stays : l.faults ≡ 0 → a.faults ≡ b.faults
-      stays none = closes.faults ∙ ap (λ n. counted (nat_lt 0 n) m.faults) none ∙ opens.faults
+        stays : l.faults ≡ 0 → a.faults ≡ b.faults
+        stays none = closes.faults ∙ ap (λ n. counted (nat_lt 0 n) m.faults) none ∙ opens.faults
 
-      keeps : (n : ℕ) → l.faults ≡ n → (a.faults ≡ b.faults) ⊎ (Rises b.faults a.faults × (⊥ ⊎ SomeOf (output_name ∷ []) (λ name. FaultyAt sink_faults (b.sinks name) (a.sinks name))))
-      keeps zero none = inl (stays none)
-      keeps (suc n) some =
-          let faulty : 0 < l.faults = omega (arith, some) in
-          inr (rises faulty, inr (inl (FaultyAt-exchanged (λ sink. sink.name) sink_faults output_name b.sinks m.sinks a.sinks k l (is_outside status) (Tells-faults said_now k l status tells) exchanged faulty)))
+        keeps : (n : ℕ) → l.faults ≡ n
+            → (a.faults ≡ b.faults)
+            ⊎ (Rises b.faults a.faults
+            × (⊥ ⊎ SomeOf (output_name ∷ [])
+            (λ name. FaultyAt sink_faults (b.sinks name) (a.sinks name))))
+        keeps zero none = inl (stays none)
+        keeps (suc n) some =
+            let faulty : 0 < l.faults = omega (arith, some) in
+            inr (
+              rises faulty,
+              inr
+                  (inl (FaultyAt-exchanged (λ sink. sink.name)
+                  sink_faults output_name b.sinks m.sinks a.sinks k l (is_outside status)
+                  (Tells-faults said_now k l status tells) exchanged faulty)),
+            )
 
-      uses : Uses [] (output_name ∷ []) (is_outside status) b a
-      uses = record {
-        counted = record {
-          cause = λ is. rises (faulty_exchanged (λ sink. sink.name) sink_faults output_name b.sinks m.sinks a.sinks k l (is_outside status) (Tells-faults said_now k l status tells) exchanged is);
-          reason = λ is. inr (inl (FailedAt-exchanged (λ sink. sink.name) sink_faults output_name b.sinks m.sinks a.sinks k l (is_outside status) (Tells-faults said_now k l status tells) exchanged is));
-          kept = keeps l.faults refl;
-          exact = λ clean none. stays (faultless_exchanged (λ sink. sink.name) sink_faults output_name b.sinks m.sinks a.sinks k l (is_outside status) (Tells-faults said_now k l status tells) exchanged clean.1.0 none);
-        };
-        sources = Keeps-same source_faults (is_outside status) [] b.sources a.sources (closes.sources ∙ opens.sources);
-        sinks = Keeps-exchanged (λ sink. sink.name) sink_faults output_name b.sinks m.sinks a.sinks k l (is_outside status) (Tells-faults said_now k l status tells) exchanged;
-        read = (0, subst (λ names. Asks b.read_names names []) (sym (closes.read_names ∙ opens.read_names)) (Asks-none b.read_names));
-        written = (1, asked);
-      }
+        uses : Uses [] (output_name ∷ []) (is_outside status) b a
+        uses = record {
+          counted = record {
+            cause = λ is. rises
+                (faulty_exchanged (λ sink. sink.name)
+                sink_faults output_name b.sinks m.sinks a.sinks k l (is_outside status)
+                (Tells-faults said_now k l status tells) exchanged is);
+            reason =
+                λ is. inr
+                (inl (FailedAt-exchanged (λ sink. sink.name)
+                sink_faults output_name b.sinks m.sinks a.sinks k l (is_outside status)
+                (Tells-faults said_now k l status tells) exchanged is));
+            kept = keeps l.faults refl;
+            exact = λ clean none. stays
+                (faultless_exchanged (λ sink. sink.name)
+                sink_faults output_name b.sinks m.sinks a.sinks k l (is_outside status)
+                (Tells-faults said_now k l status tells) exchanged clean.1.0 none);
+          };
+          sources =
+              Keeps-same source_faults (is_outside status) [] b.sources a.sources
+              (closes.sources ∙ opens.sources);
+          sinks = Keeps-exchanged (λ sink. sink.name)
+              sink_faults output_name b.sinks m.sinks a.sinks k l (is_outside status)
+              (Tells-faults said_now k l status tells) exchanged;
+          read = (
+            0,
+            subst (λ names. Asks b.read_names names [])
+                (sym (closes.read_names ∙ opens.read_names)) (Asks-none b.read_names),
+          );
+          written = (1, asked);
+        }
 
-  -- it isn't there
-  pub IsRun-unprinted : OpensOut b m output_name None → IsRun (duty_to_say is_command said_now) b m Outside
-  IsRun-unprinted opens = cut_run (duty_to_say is_command said_now) b m Outside tt (λ none. refl)
-      (λ name. ap taken_of (nothing.0 name))
-      (record {
-        counted = record {
-          cause = λ is. (0, opens.faults);
-          reason = λ is. inr (inl nothing.1);
-          kept = inr ((0, opens.faults), inr (inl nothing.2));
-          exact = λ clean none. absurd cc;
-        };
-        sources = Keeps-same source_faults true [] b.sources m.sources opens.sources;
-        sinks = record {
-          others = λ n absent. nothing.0 n;
-          again = λ n. subst (λ s. StandsAgain sink_faults true (b.sinks n) s) (sym (nothing.0 n)) (StandsAgain-refl sink_faults true (b.sinks n));
-        };
-        read = (0, subst (λ names. Asks b.read_names names []) (sym opens.read_names) (Asks-none b.read_names));
-        written = (1, opens.written_names);
-      })
-    where
-      nothing : ((n : List ℕ) → m.sinks n ≡ b.sinks n) × FailedAt sink_faults (b.sinks output_name) (m.sinks output_name) × FaultyAt sink_faults (b.sinks output_name) (m.sinks output_name)
-      nothing = nothing_opened (λ sink. sink.name) sink_faults output_name b.sinks m.sinks m.sinks opens.sink opens.sinks
+    -- it isn't there
+    pub IsRun-unprinted : OpensOut b m output_name None
+        → IsRun (duty_to_say is_command said_now) b m Outside
+    IsRun-unprinted opens = cut_run (duty_to_say is_command said_now) b m Outside tt (λ none. refl)
+        (λ name. ap taken_of (nothing.0 name))
+        (record {
+          counted = record {
+            cause = λ is. (0, opens.faults);
+            reason = λ is. inr (inl nothing.1);
+            kept = inr ((0, opens.faults), inr (inl nothing.2));
+            exact = λ clean none. absurd cc;
+          };
+          sources = Keeps-same source_faults true [] b.sources m.sources opens.sources;
+          sinks = record {
+            others = λ n absent. nothing.0 n;
+            again = λ n. subst (λ s. StandsAgain sink_faults true (b.sinks n) s) (sym (nothing.0 n))
+                (StandsAgain-refl sink_faults true (b.sinks n));
+          };
+          read = (
+            0,
+            subst (λ names. Asks b.read_names names []) (sym opens.read_names)
+                (Asks-none b.read_names),
+          );
+          written = (1, opens.written_names);
+        })
+      where
+        nothing : ((n : List ℕ) → m.sinks n ≡ b.sinks n)
+            × FailedAt sink_faults (b.sinks output_name) (m.sinks output_name)
+            × FaultyAt sink_faults (b.sinks output_name) (m.sinks output_name)
+        nothing =
+            nothing_opened (λ sink. sink.name)
+            sink_faults output_name b.sinks m.sinks m.sinks opens.sink opens.sinks

@@ -1,23 +1,27 @@
 -- An input that was opened, read and closed again.
-use Rattle.std.proofs.Common.{◌≡◌, ◌⊎◌, ℕ, zero, suc, Bool, true, false, ◌+◌, ◌<◌, ◌≤◌, List, [], ◌∷◌, ◌++◌, length, Option, Some, None}
-use Rattle.std.proofs.Common.{refl, sym, ◌∙◌, ap, subst, inl, inr, arith, length-append, ltb}
-use Rattle.std.specs.Prelude.{Result, Ok, Err, OnOk, nat_lt, is_none}
+use Rattle.std.proofs.Common.{◌≡◌, ◌⊎◌, ℕ, zero, suc, Bool, true, ◌<◌, ◌≤◌, List, []}
+use Rattle.std.proofs.Common.{◌∷◌, ◌++◌, length, Option, Some, None}
+use Rattle.std.proofs.Common.{refl, sym, ◌∙◌, ap, subst, inl, inr, arith, length-append}
+use Rattle.std.specs.Prelude.{Result, Ok, Err, OnOk, nat_lt}
 use Rattle.std.proofs.lemmas.Bool.Decides.{nat_tests}
 use Rattle.std.proofs.lemmas.List.{append-nil}
 use Rattle.outside.specs.declared.text.TextEnd.TheVariants.{Failed, Long}
 use Rattle.outside.specs.Faults.{counted, next_count}
 use Rattle.outside.specs.Octets.{Takes}
-use Rattle.outside.specs.Source.{SourceTold, IsSpent}
-use Rattle.outside.specs.Sink.{SinkTold}
+use Rattle.outside.specs.Source.{SourceTold}
 use Rattle.outside.specs.Text.{TextResult, IsTextOf, ReadsText, is_failed_text}
-use Rattle.outside.specs.Outside.{Standing, untold as untold_name, missing as missing_name, lent, there, OutsideTold, Asks, OpensIn, ClosesIn, HandsOut, Changes, lent_from, put_back_at}
+use Rattle.outside.specs.Outside.{Standing, untold as untold_name, missing as missing_name, lent}
+use Rattle.outside.specs.Outside.{there, OutsideTold, Asks, OpensIn, ClosesIn, HandsOut}
 use Rattle.command_io.specs.declared.input.TheConstants.{TEXT_LIMIT}
 use Rattle.command_io.specs.declared.input.InputEnd.TheVariants.{Outside}
-use Rattle.command_io.specs.Leaves.{SomeOf, Keeps, Rises, IsCounted, Uses, source_faults, sink_faults, FailedAt, FaultyAt, CleanAt, StandsAgain}
-use Rattle.command_io.specs.Saying.{Text, untold, missing, told, told_by, text_of, emptied}
+use Rattle.command_io.specs.Leaves.{SomeOf, Keeps, Rises, source_faults}
+use Rattle.command_io.specs.Leaves.{sink_faults, FailedAt, FaultyAt, StandsAgain}
+use Rattle.command_io.specs.Saying.{told, told_by, text_of, emptied}
 use Rattle.command_io.specs.Inputs.{input_of, IsInput, is_lost, OpensInput, ReadsInput}
 use Rattle.command_io.proofs.Leaving.{Asks-none, StandsAgain-refl}
-use Rattle.command_io.proofs.Exchanging.{IsExchanged, is_exchanged, Keeps-exchanged, FailedAt-exchanged, FaultyAt-exchanged, faultless_exchanged, faulty_exchanged, nothing_opened}
+use Rattle.command_io.proofs.Exchanging.{IsExchanged, is_exchanged, Keeps-exchanged}
+use Rattle.command_io.proofs.Exchanging.{FailedAt-exchanged, FaultyAt-exchanged}
+use Rattle.command_io.proofs.Exchanging.{faultless_exchanged, faulty_exchanged, nothing_opened}
 
 is_lost-input_of : (result : TextResult) → is_lost (input_of result) ≡ is_failed_text result
 is_lost-input_of (Ok (Ok text)) = refl
@@ -26,22 +30,27 @@ is_lost-input_of (Ok (Err Long)) = refl
 is_lost-input_of (Err out_of_memory) = refl
 
 -- what is read is what was told to be left
-input_taken : (result : TextResult) (left rest : Option (List ℕ)) (octets : List ℕ) → Takes left rest octets
+input_taken : (result : TextResult) (left rest : Option (List ℕ)) (octets : List ℕ)
+    → Takes left rest octets
     → IsTextOf octets rest TEXT_LIMIT result → IsInput (input_of result) (told_by left)
 input_taken result None rest octets took text = tt
 input_taken result (Some all) None octets took text = absurd cc
 input_taken (Ok (Ok read)) (Some all) (Some more) octets took text =
-    let whole : all ≡ octets = (let e : all ≡ octets ++ more = cc in e) ∙ ap (λ (l : List ℕ). octets ++ l) text.2 ∙ append-nil octets in
+    let whole : all ≡ octets = (let e : all ≡ octets ++ more = cc in e)
+    ∙ ap (λ (l : List ℕ). octets ++ l) text.2 ∙ append-nil octets in
     (whole ∙ text.0, subst (λ (l : List ℕ). length l ≤ TEXT_LIMIT) (sym whole) text.1)
 input_taken (Ok (Err Failed)) (Some all) (Some more) octets took text = tt
 input_taken (Ok (Err Long)) (Some all) (Some more) octets took text =
     let whole : all ≡ octets ++ more = cc in
-    subst (λ (l : List ℕ). TEXT_LIMIT < length l) (sym whole) (rw length-append (omega (arith, text)))
+    subst (λ (l : List ℕ). TEXT_LIMIT < length l) (sym whole)
+    (rw length-append (omega (arith, text)))
 input_taken (Err out_of_memory) (Some all) (Some more) octets took text = tt
 
 -- nothing is left of a text that was read
-rest_spent : (result : TextResult) (left rest : Option (List ℕ)) (octets : List ℕ) → Takes left rest octets
-    → IsTextOf octets rest TEXT_LIMIT result → OnOk (input_of result) (told_by rest ≡ emptied (told_by left))
+rest_spent : (result : TextResult) (left rest : Option (List ℕ)) (octets : List ℕ)
+    → Takes left rest octets
+    → IsTextOf octets rest TEXT_LIMIT result
+    → OnOk (input_of result) (told_by rest ≡ emptied (told_by left))
 rest_spent (Ok (Ok read)) None None octets took text = refl
 rest_spent (Ok (Ok read)) None (Some more) octets took text = absurd cc
 rest_spent (Ok (Ok read)) (Some all) None octets took text = absurd cc
@@ -50,11 +59,13 @@ rest_spent (Ok (Err Failed)) left rest octets took text = tt
 rest_spent (Ok (Err Long)) left rest octets took text = tt
 rest_spent (Err out_of_memory) left rest octets took text = tt
 
-OnOk-same : {T E : Type 0} (result : Result T E) {X : Type 0} (x y : X) → x ≡ y → OnOk result (x ≡ y)
+OnOk-same : {T E : Type 0} (result : Result T E) {X : Type 0} (x y : X) → x ≡ y
+    → OnOk result (x ≡ y)
 OnOk-same (Ok value) x y same = same
 OnOk-same (Err error) x y same = tt
 
-OnOk-map : {T E : Type 0} (result : Result T E) {P Q : Type 0} → (P → Q) → OnOk result P → OnOk result Q
+OnOk-map : {T E : Type 0} (result : Result T E) {P Q : Type 0} → (P → Q) → OnOk result P
+    → OnOk result Q
 OnOk-map (Ok value) f h = f h
 OnOk-map (Err error) f h = tt
 
@@ -62,18 +73,26 @@ pub lt-test : (n : ℕ) → 0 < n → nat_lt 0 n ≡ true
 lt-test n h = grind (arith, nat_tests)
 
 -- sinks that are as before
-pub Keeps-same : {X : Type 0} (faults : X → ℕ) (failed : Bool) (names : List (List ℕ)) (before after : List ℕ → Standing X)
+pub Keeps-same : {X : Type 0} (faults : X → ℕ) (failed : Bool) (names : List (List ℕ))
+    (before after : List ℕ → Standing X)
     → after ≡ before → Keeps faults failed names before after
-Keeps-same faults failed names before after same = subst (λ s. Keeps faults failed names before s) (sym same)
-    (record { others = λ name absent. refl; again = λ name. StandsAgain-refl faults failed (before name) })
+Keeps-same faults failed names before after same =
+    subst (λ s. Keeps faults failed names before s) (sym same)
+    (record {
+      others = λ name absent. refl;
+      again =
+          λ name. StandsAgain-refl faults failed (before name);
+    })
 
 module _ (b m a : OutsideTold) (name : List ℕ) where
   source_name : SourceTold → List ℕ
   source_name source = source.name
 
   -- one that is there
-  pub ReadsInput-from : (s t : SourceTold) (result : TextResult) (octets : List ℕ) → OpensIn b m name (Some s)
-      → ReadsText s t TEXT_LIMIT result octets → ClosesIn m a t → ReadsInput b a name (input_of result)
+  pub ReadsInput-from : (s t : SourceTold) (result : TextResult) (octets : List ℕ)
+      → OpensIn b m name (Some s)
+      → ReadsText s t TEXT_LIMIT result octets → ClosesIn m a t
+      → ReadsInput b a name (input_of result)
   ReadsInput-from s t result octets opens reads closes = record {
     text = text exchanged;
     spent = spent exchanged;
@@ -83,15 +102,22 @@ module _ (b m a : OutsideTold) (name : List ℕ) where
       failed : Bool
       failed = is_failed_text result
 
-      exchanged : IsExchanged (λ source. source.name) source_faults name b.sources m.sources a.sources s t
-      exchanged = is_exchanged (λ source. source.name) source_faults name b.sources m.sources a.sources s t opens.source opens.sources reads.name closes.sources
+      exchanged : IsExchanged (λ source. source.name)
+          source_faults name b.sources m.sources a.sources s t
+      exchanged =
+          is_exchanged (λ source. source.name)
+          source_faults name b.sources m.sources a.sources s t opens.source opens.sources
+          reads.name closes.sources
 
-      text : IsExchanged (λ source. source.name) source_faults name b.sources m.sources a.sources s t → IsInput (input_of result) (text_of (b.sources name))
+      text : IsExchanged (λ source. source.name)
+          source_faults name b.sources m.sources a.sources s t
+          → IsInput (input_of result) (text_of (b.sources name))
       text (inl nothing) = subst (λ s. IsInput (input_of result) (text_of s)) (sym nothing.0) tt
       text (inr stood) = subst (λ s. IsInput (input_of result) (text_of s)) (sym stood.0)
           (input_taken result s.left t.left octets reads.took reads.text)
 
-      spent : IsExchanged (λ source. source.name) source_faults name b.sources m.sources a.sources s t
+      spent : IsExchanged (λ source. source.name)
+          source_faults name b.sources m.sources a.sources s t
           → OnOk (input_of result) (text_of (a.sources name) ≡ emptied (text_of (b.sources name)))
       spent (inl nothing) = OnOk-same (input_of result) _ _
           (ap text_of (nothing.2 name ∙ nothing.0) ∙ ap (λ s. emptied (text_of s)) (sym nothing.0))
@@ -103,32 +129,68 @@ module _ (b m a : OutsideTold) (name : List ℕ) where
       opened_count = opens.faults
 
       rises : 0 < t.faults → Rises b.faults a.faults
-      rises faulty = (0, closes.faults ∙ ap (λ x. counted x m.faults) (lt-test t.faults faulty) ∙ ap next_count opened_count)
+      rises faulty = (
+        0,
+        closes.faults ∙ ap (λ x. counted x m.faults) (lt-test t.faults faulty)
+            ∙ ap next_count opened_count,
+      )
 
       stays : t.faults ≡ 0 → a.faults ≡ b.faults
       stays none = closes.faults ∙ ap (λ n. counted (nat_lt 0 n) m.faults) none ∙ opened_count
 
-      keeps : (n : ℕ) → t.faults ≡ n → (a.faults ≡ b.faults) ⊎ (Rises b.faults a.faults × (SomeOf (name ∷ []) (λ name. FaultyAt source_faults (b.sources name) (a.sources name)) ⊎ ⊥))
+      keeps : (n : ℕ) → t.faults ≡ n
+          → (a.faults ≡ b.faults)
+          ⊎ (Rises b.faults a.faults
+          × (SomeOf (name ∷ [])
+          (λ name. FaultyAt source_faults (b.sources name) (a.sources name)) ⊎ ⊥))
       keeps zero none = inl (stays none)
       keeps (suc n) some =
           let faulty : 0 < t.faults = omega (arith, some) in
-          inr (rises faulty, inl (inl (FaultyAt-exchanged (λ source. source.name) source_faults name b.sources m.sources a.sources s t failed reads.faults exchanged faulty)))
+          inr (
+            rises faulty,
+            inl
+                (inl (FaultyAt-exchanged (λ source. source.name)
+                source_faults name b.sources m.sources a.sources s t failed reads.faults
+                exchanged faulty)),
+          )
 
       opened : OpensInput b a name failed
       opened = record {
         uses = record {
           counted = record {
-            cause = λ is. rises (faulty_exchanged (λ source. source.name) source_faults name b.sources m.sources a.sources s t failed reads.faults exchanged is);
-            reason = λ is. inl (inl (FailedAt-exchanged (λ source. source.name) source_faults name b.sources m.sources a.sources s t failed reads.faults exchanged is));
+            cause = λ is. rises
+                (faulty_exchanged (λ source. source.name)
+                source_faults name b.sources m.sources a.sources s t failed reads.faults
+                exchanged is);
+            reason =
+                λ is. inl
+                (inl (FailedAt-exchanged (λ source. source.name)
+                source_faults name b.sources m.sources a.sources s t failed reads.faults
+                exchanged is));
             kept = keeps t.faults refl;
-            exact = λ clean none. stays (faultless_exchanged (λ source. source.name) source_faults name b.sources m.sources a.sources s t failed reads.faults exchanged clean.0.0 none);
+            exact = λ clean none. stays
+                (faultless_exchanged (λ source. source.name)
+                source_faults name b.sources m.sources a.sources s t failed reads.faults
+                exchanged clean.0.0 none);
           };
-          sources = Keeps-exchanged (λ source. source.name) source_faults name b.sources m.sources a.sources s t failed reads.faults exchanged;
+          sources =
+              Keeps-exchanged (λ source. source.name)
+              source_faults name b.sources m.sources a.sources s t failed reads.faults
+              exchanged;
           sinks = Keeps-same sink_faults failed [] b.sinks a.sinks (closes.sinks ∙ opens.sinks);
-          read = (1, subst (λ names. Asks b.read_names names (name ∷ [])) (sym closes.read_names) opens.read_names);
-          written = (0, subst (λ names. Asks b.written_names names []) (sym (closes.written_names ∙ opens.written_names)) (Asks-none b.written_names));
+          read = (
+            1,
+            subst (λ names. Asks b.read_names names (name ∷ [])) (sym closes.read_names)
+                opens.read_names,
+          );
+          written = (
+            0,
+            subst (λ names. Asks b.written_names names [])
+                (sym (closes.written_names ∙ opens.written_names)) (Asks-none b.written_names),
+          );
         };
-        asked = subst (λ names. Asks b.read_names names (name ∷ [])) (sym closes.read_names) opens.read_names;
+        asked = subst (λ names. Asks b.read_names names (name ∷ [])) (sym closes.read_names)
+            opens.read_names;
         sinks = closes.sinks ∙ opens.sinks;
         written = closes.written_names ∙ opens.written_names;
       }
@@ -148,11 +210,16 @@ module _ (b m a : OutsideTold) (name : List ℕ) where
         };
         sources = record {
           others = λ n absent. nothing.0 n;
-          again = λ n. subst (λ s. StandsAgain source_faults true (b.sources n) s) (sym (nothing.0 n)) (StandsAgain-refl source_faults true (b.sources n));
+          again = λ n. subst (λ s. StandsAgain source_faults true (b.sources n) s)
+              (sym (nothing.0 n)) (StandsAgain-refl source_faults true (b.sources n));
         };
         sinks = Keeps-same sink_faults true [] b.sinks m.sinks opens.sinks;
         read = (1, opens.read_names);
-        written = (0, subst (λ names. Asks b.written_names names []) (sym opens.written_names) (Asks-none b.written_names));
+        written = (
+          0,
+          subst (λ names. Asks b.written_names names []) (sym opens.written_names)
+              (Asks-none b.written_names),
+        );
       };
       asked = opens.read_names;
       sinks = opens.sinks;
@@ -160,10 +227,16 @@ module _ (b m a : OutsideTold) (name : List ℕ) where
     };
   }
     where
-      nothing : ((n : List ℕ) → m.sources n ≡ b.sources n) × FailedAt source_faults (b.sources name) (m.sources name) × FaultyAt source_faults (b.sources name) (m.sources name)
-      nothing = nothing_opened (λ source. source.name) source_faults name b.sources m.sources m.sources opens.source opens.sources
+      nothing : ((n : List ℕ) → m.sources n ≡ b.sources n)
+          × FailedAt source_faults (b.sources name) (m.sources name)
+          × FaultyAt source_faults (b.sources name) (m.sources name)
+      nothing =
+          nothing_opened (λ source. source.name)
+          source_faults name b.sources m.sources m.sources opens.source opens.sources
 
-      text : (s : Standing SourceTold) → HandsOut (λ source. source.name) source_faults b.sources name s None → IsInput (Err Outside) (text_of s)
+      text : (s : Standing SourceTold)
+          → HandsOut (λ source. source.name) source_faults b.sources name s None
+          → IsInput (Err Outside) (text_of s)
       text untold_name hands = tt
       text missing_name hands = refl
       text lent hands = refl

@@ -44,7 +44,8 @@ pub record OpensInput (before after : OutsideTold) (name : List ℕ) (failed : B
   pub written : after.written_names ≡ before.written_names
 
 -- what an input leaves outside that was opened, read and closed again, and what it is read to
-pub record ReadsInput (before after : OutsideTold) (name : List ℕ) (result : Result (Vec ℕ Global) InputEnd) : Type 0 where
+pub record ReadsInput (before after : OutsideTold) (name : List ℕ)
+    (result : Result (Vec ℕ Global) InputEnd) : Type 0 where
   pub text : IsInput result (text_of (before.sources name))
   -- nothing is left of a text that was read
   pub spent : OnOk result (text_of (after.sources name) ≡ emptied (text_of (before.sources name)))

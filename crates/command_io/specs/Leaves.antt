@@ -66,7 +66,8 @@ module _ {X : Type 0} (faults : X → ℕ) where
   CleanAt (there x) = faults x ≡ 0
 
   -- what stands under other names is as before, and under these names something stands again
-  pub record Keeps (failed : Bool) (names : List (List ℕ)) (before after : List ℕ → Standing X) : Type 0 where
+  pub record Keeps (failed : Bool) (names : List (List ℕ)) (before after : List ℕ → Standing X)
+      : Type 0 where
     pub others : (name : List ℕ) → is_among names name ≡ false → after name ≡ before name
     pub again : (name : List ℕ) → StandsAgain failed (before name) (after name)
 
@@ -106,7 +107,8 @@ module _ (inputs outputs : List (List ℕ)) where
     -- and only where nothing stood under one of the names, or what stands there failed since
     pub reason : failed ≡ true → HasReason before after
     -- whatever is answered, the count is as before, or it rose and has its reason
-    pub kept : (after.faults ≡ before.faults) ⊎ (Rises before.faults after.faults × HasFaulty before after)
+    pub kept : (after.faults ≡ before.faults)
+        ⊎ (Rises before.faults after.faults × HasFaulty before after)
     -- where no object had a fault before, the count rises only where a failure is answered
     pub exact : IsClean before → failed ≡ false → after.faults ≡ before.faults
 

@@ -1,6 +1,6 @@
 -- What a run leaves outside, by its status.
 use Rattle.std.specs.Prelude.{◌≡◌, ◌≢◌, ◌⊎◌, ℕ, Bool, true, false, List, [], ◌∷◌, take}
-use Rattle.std.specs.Prelude.{Option, Some, None, IfSome, codes}
+use Rattle.std.specs.Prelude.{Option, None, IfSome, codes}
 use Rattle.outside.specs.Octets.{Adds}
 use Rattle.outside.specs.Sink.{SinkTold, AppendsAll, AppendsPart}
 use Rattle.outside.specs.Outside.{Standing, untold, missing, lent, there, OutsideTold, Asks}
@@ -36,10 +36,12 @@ EachFile (file ∷ files) fact = fact file.0 file.1 × EachFile files fact
 
 -- the status and the whole output are those said; after a fault outside and want of memory a front
 -- part of the output went out
-pub record IsSaid (status : Status) (before after : List ℕ → Standing SinkTold) (said : Said) : Type 0 where
+pub record IsSaid (status : Status) (before after : List ℕ → Standing SinkTold) (said : Said)
+    : Type 0 where
   pub answered : OnWhole status (said.status ≡ status)
   pub output : Took status (taken_of (before output_name)) (taken_of (after output_name)) said.text
-  pub files : EachFile said.files (λ name octets. Took status (taken_of (before name)) (taken_of (after name)) octets)
+  pub files : EachFile said.files
+      (λ name octets. Took status (taken_of (before name)) (taken_of (after name)) octets)
 
 -- words that are no command are answered so, or by a fault outside where `usage` can't be printed;
 -- no command is
@@ -71,7 +73,8 @@ pub record IsRun (duty : Duty) (before after : OutsideTold) (status : Status) : 
   -- outside has its cause and its reason
   pub uses : Uses duty.inputs (output_name ∷ []) (is_outside status) before after
   -- where the output is whole, all of the inputs were opened, and standard output
-  pub opened : OnWhole status (IfSome duty.says (λ _. Asks before.read_names after.read_names duty.inputs))
+  pub opened : OnWhole status
+      (IfSome duty.says (λ _. Asks before.read_names after.read_names duty.inputs))
   pub printed : OnWhole status (Asks before.written_names after.written_names (output_name ∷ []))
   -- where nothing outside failed, all is done, but for want of memory
   pub complete : IfSome duty.says (IsComplete before.faults after.faults status)

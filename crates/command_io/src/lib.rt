@@ -1,4 +1,5 @@
-//! What the commands of the program share: how a command ends, its inputs, each opened, read to its end and closed, and
+//! What the commands of the program share: how a command ends, its inputs, each opened, read to its
+//! end and closed, and
 //! what it prints.
 #![tactic(auto)]
 

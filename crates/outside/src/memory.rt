@@ -1,8 +1,10 @@
 //! An outside in memory.
-ghost use Rattle.std.specs.Prelude.{◌≡◌, ℕ, [], List, Option, OnOk, OnErr, Some, option_copied, option_map, map, string_bytes};
+ghost use Rattle.std.specs.Prelude.{◌≡◌, ℕ, [], List, Option, OnOk, OnErr, Some, option_copied};
+ghost use Rattle.std.specs.Prelude.{option_map, map, string_bytes};
 ghost use Rattle.outside.specs.Outside.{OutsideTold, OpensIn, ClosesIn, OpensOut, ClosesOut};
 ghost use Rattle.outside.specs.States.{text_told, byte_told};
-ghost use Rattle.outside.specs.Places.{MemoryState, memory_told, standing, object_there, PutsUnder, AllNamed};
+ghost use Rattle.outside.specs.Places.{MemoryState, memory_told, standing, object_there, PutsUnder};
+ghost use Rattle.outside.specs.Places.{AllNamed};
 
 use crate::asked::AskedNames;
 use crate::byte_sink::ByteSink;
@@ -40,7 +42,8 @@ impl Model for MemoryOutside {
     } };
 
     // Each object bears the name of its place.
-    ghost invariant = { λ o. AllNamed (λ s. s.name) o.sources.items × AllNamed (λ s. s.name) o.sinks.items };
+    ghost invariant = { λ o. AllNamed (λ s. s.name) o.sources.items
+        × AllNamed (λ s. s.name) o.sinks.items };
 }
 
 impl MemoryOutside {

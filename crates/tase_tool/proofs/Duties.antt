@@ -1,5 +1,6 @@
 -- What a run owes, as its inputs are read one after another.
-use Rattle.std.proofs.Common.{◌≡◌, ℕ, Bool, true, false, ◌||◌, ◌<◌, ◌≤◌, cond, List, [], ◌∷◌, length, Option, Some, None}
+use Rattle.std.proofs.Common.{◌≡◌, ℕ, Bool, true, false, ◌||◌, ◌<◌, ◌≤◌, cond, List, [], ◌∷◌}
+use Rattle.std.proofs.Common.{length, Option, Some, None}
 use Rattle.std.proofs.Common.{refl, sym, ◌∙◌, ap, subst, arith}
 use Rattle.std.specs.Prelude.{Result, Ok, Err, Vec, bytes_eq, codes, nat_lt}
 use Rattle.std.specs.declared.alloc.Global.{Global}
@@ -13,7 +14,8 @@ use Rattle.command_io.specs.declared.input.Refusal.TheVariants.{Long, BadLine}
 use Rattle.command_io.specs.declared.input.InputEnd.{InputEnd}
 use Rattle.command_io.specs.declared.input.InputEnd.TheVariants.{Refused, Outside, Memory}
 use Rattle.command_io.specs.declared.input.TheConstants.{TEXT_LIMIT}
-use Rattle.command_io.specs.Saying.{Text, untold, missing, told, emptied, text_of, texts_of, duty_to_say}
+use Rattle.command_io.specs.Saying.{Text, untold, missing, told, emptied, text_of, texts_of}
+use Rattle.command_io.specs.Saying.{duty_to_say}
 use Rattle.command_io.specs.Inputs.{IsInput, ReadsInput}
 use Rattle.command_io.specs.Runs.{IsRun}
 use Rattle.command_io.proofs.Running.{Follows, same_said, nothing_told, IsRun-then, IsRun-unread}
@@ -22,7 +24,9 @@ use Rattle.bilateral.specs.Reading.{centre_in}
 use Rattle.bilateral.specs.declared.fault.TableFault.{TableFault}
 use Rattle.tase_replay.specs.Play.{scenario_of}
 use Rattle.tase_tool.specs.Words.{replays}
-use Rattle.tase_tool.specs.Saying.{refused, centre_or_refusal, tables_read, setup_of, played_said, scenario_said, said_of, scenario_duty, duty_over, duty_after, opening, second_text, duty_of}
+use Rattle.tase_tool.specs.Saying.{refused, centre_or_refusal, tables_read, setup_of, played_said}
+use Rattle.tase_tool.specs.Saying.{scenario_said, said_of, scenario_duty, duty_over, duty_after}
+use Rattle.tase_tool.specs.Saying.{opening, second_text, duty_of}
 use Rattle.tase_tool.specs.Tables.{IsCentreFrom, IsRead, IsTables, ReadsTables}
 
 is_less : (m n : ℕ) → m < n → nat_lt m n ≡ true
@@ -32,39 +36,52 @@ is_within : (m n : ℕ) → n ≤ m → nat_lt m n ≡ false
 is_within m n h = grind (arith, nat_tests)
 
 -- a text within the limit, and one past it
-tables_within : (octets : List ℕ) → length octets ≤ TEXT_LIMIT → tables_read octets ≡ centre_or_refusal (centre_in octets)
-tables_within octets h = ap (λ b. cond b (Err Long) (centre_or_refusal (centre_in octets))) (is_within TEXT_LIMIT (length octets) h)
+tables_within : (octets : List ℕ) → length octets ≤ TEXT_LIMIT
+    → tables_read octets ≡ centre_or_refusal (centre_in octets)
+tables_within octets h =
+    ap (λ b. cond b (Err Long) (centre_or_refusal (centre_in octets)))
+    (is_within TEXT_LIMIT (length octets) h)
 
 tables_past : (octets : List ℕ) → TEXT_LIMIT < length octets → tables_read octets ≡ Err Long
-tables_past octets h = ap (λ b. cond b (Err Long) (centre_or_refusal (centre_in octets))) (is_less TEXT_LIMIT (length octets) h)
+tables_past octets h =
+    ap (λ b. cond b (Err Long) (centre_or_refusal (centre_in octets)))
+    (is_less TEXT_LIMIT (length octets) h)
 
 scenario_within : (rows : CentreRows) (octets : List ℕ) → length octets ≤ TEXT_LIMIT
     → scenario_said rows octets ≡ played_said (scenario_of (setup_of rows) octets)
 scenario_within rows octets h =
-    ap (λ b. cond b (refused (codes "scenario") Long) (played_said (scenario_of (setup_of rows) octets))) (is_within TEXT_LIMIT (length octets) h)
+    ap (λ b. cond b (refused (codes "scenario") Long)
+    (played_said (scenario_of (setup_of rows) octets))) (is_within TEXT_LIMIT (length octets) h)
 
-scenario_past : (rows : CentreRows) (octets : List ℕ) → TEXT_LIMIT < length octets → scenario_said rows octets ≡ refused (codes "scenario") Long
+scenario_past : (rows : CentreRows) (octets : List ℕ) → TEXT_LIMIT < length octets
+    → scenario_said rows octets ≡ refused (codes "scenario") Long
 scenario_past rows octets h =
-    ap (λ b. cond b (refused (codes "scenario") Long) (played_said (scenario_of (setup_of rows) octets))) (is_less TEXT_LIMIT (length octets) h)
+    ap (λ b. cond b (refused (codes "scenario") Long)
+    (played_said (scenario_of (setup_of rows) octets))) (is_less TEXT_LIMIT (length octets) h)
 
-bad_centre : (read : Result CentreRows TableFault) (line : ℕ) → IsCentreFrom (Err (Refused (BadLine line))) read → centre_or_refusal read ≡ Err (BadLine line)
+bad_centre : (read : Result CentreRows TableFault) (line : ℕ)
+    → IsCentreFrom (Err (Refused (BadLine line))) read → centre_or_refusal read ≡ Err (BadLine line)
 bad_centre (Ok rows) line h = absurd h
 bad_centre (Err fault) line h = ap (λ n. Err (BadLine n)) h
 
 -- tables of a text that was read
-centre_read : (result : Result CentreRows InputEnd) (octets : List ℕ) → length octets ≤ TEXT_LIMIT → IsCentreFrom result (centre_in octets) → IsRead result octets
+centre_read : (result : Result CentreRows InputEnd) (octets : List ℕ) → length octets ≤ TEXT_LIMIT
+    → IsCentreFrom result (centre_in octets) → IsRead result octets
 centre_read (Ok rows) octets within from = tables_within octets within ∙ ap centre_or_refusal from
 centre_read (Err (Refused Long)) octets within from = absurd from
-centre_read (Err (Refused (BadLine line))) octets within from = tables_within octets within ∙ bad_centre (centre_in octets) line from
+centre_read (Err (Refused (BadLine line))) octets within from = tables_within octets within
+    ∙ bad_centre (centre_in octets) line from
 centre_read (Err Outside) octets within from = tt
 centre_read (Err Memory) octets within from = tt
 
-tables_told : (result : Result CentreRows InputEnd) (text : Vec ℕ Global) (t : Text) → IsInput (Ok text) t
+tables_told : (result : Result CentreRows InputEnd) (text : Vec ℕ Global) (t : Text)
+    → IsInput (Ok text) t
     → IsCentreFrom result (centre_in text.items) → IsTables result t
 tables_told result text untold input from = tt
 tables_told result text missing input from = absurd cc
 tables_told result text (told octets) input from =
-    centre_read result octets input.1 (subst (λ o. IsCentreFrom result (centre_in o)) (sym input.0) from)
+    centre_read result octets input.1
+    (subst (λ o. IsCentreFrom result (centre_in o)) (sym input.0) from)
 
 tables_missing : (end : InputEnd) → IsInput (Err end) missing → IsTables (Err end) missing
 tables_missing (Refused refusal) input = absurd cc
@@ -81,41 +98,81 @@ tables_untold Memory (told octets) input = tt
 
 module _ (b m : OutsideTold) (name : List ℕ) where
   -- the tables of a text that was read
-  pub ReadsTables-from : (text : Vec ℕ Global) (result : Result CentreRows InputEnd) → ReadsInput b m name (Ok text)
+  pub ReadsTables-from : (text : Vec ℕ Global) (result : Result CentreRows InputEnd)
+      → ReadsInput b m name (Ok text)
       → IsCentreFrom result (centre_in text.items) → ReadsTables b m name result
   ReadsTables-from text (Ok rows) reads from =
-      record { tables = tables_told (Ok rows) text (text_of (b.sources name)) reads.text from; spent = reads.spent; opens = reads.opens }
+      record {
+        tables =
+            tables_told (Ok rows) text (text_of (b.sources name)) reads.text from;
+        spent =
+            reads.spent;
+        opens = reads.opens;
+      }
   ReadsTables-from text (Err (Refused Long)) reads from = absurd from
   ReadsTables-from text (Err (Refused (BadLine line))) reads from =
-      record { tables = tables_told (Err (Refused (BadLine line))) text (text_of (b.sources name)) reads.text from; spent = tt; opens = reads.opens }
+      record {
+        tables =
+            tables_told (Err (Refused (BadLine line))) text (text_of (b.sources name))
+            reads.text from;
+        spent = tt;
+        opens = reads.opens;
+      }
   ReadsTables-from text (Err Outside) reads from = absurd from
   ReadsTables-from text (Err Memory) reads from =
-      record { tables = tables_told (Err Memory) text (text_of (b.sources name)) reads.text from; spent = tt; opens = reads.opens }
+      record {
+        tables =
+            tables_told (Err Memory) text (text_of (b.sources name)) reads.text from;
+        spent =
+            tt;
+        opens = reads.opens;
+      }
 
   -- and of one that isn't there
-  pub ReadsTables-unread : (end : InputEnd) → ReadsInput b m name (Err end) → ReadsTables b m name (Err end)
+  pub ReadsTables-unread : (end : InputEnd) → ReadsInput b m name (Err end)
+      → ReadsTables b m name (Err end)
   ReadsTables-unread (Refused refusal) reads =
-      record { tables = tables_untold (Refused refusal) (text_of (b.sources name)) reads.text; spent = tt; opens = reads.opens }
+      record {
+        tables =
+            tables_untold (Refused refusal) (text_of (b.sources name)) reads.text;
+        spent =
+            tt;
+        opens = reads.opens;
+      }
   ReadsTables-unread Outside reads =
-      record { tables = tables_untold Outside (text_of (b.sources name)) reads.text; spent = tt; opens = reads.opens }
+      record {
+        tables = tables_untold Outside (text_of (b.sources name)) reads.text;
+        spent =
+            tt;
+        opens = reads.opens;
+      }
   ReadsTables-unread Memory reads =
-      record { tables = tables_untold Memory (text_of (b.sources name)) reads.text; spent = tt; opens = reads.opens }
+      record {
+        tables = tables_untold Memory (text_of (b.sources name)) reads.text;
+        spent =
+            tt;
+        opens = reads.opens;
+      }
 
-over_is_command : (read : Result CentreRows Refusal) (name : List ℕ) (text : Text) → (duty_over read name text).is_command ≡ true
+over_is_command : (read : Result CentreRows Refusal) (name : List ℕ) (text : Text)
+    → (duty_over read name text).is_command ≡ true
 over_is_command (Ok rows) name text = refl
 over_is_command (Err refusal) name text = refl
 
-after_is_command : (tables : Text) (name : List ℕ) (text : Text) → (duty_after tables name text).is_command ≡ true
+after_is_command : (tables : Text) (name : List ℕ) (text : Text)
+    → (duty_after tables name text).is_command ≡ true
 after_is_command untold name text = refl
 after_is_command missing name text = refl
 after_is_command (told octets) name text = over_is_command (tables_read octets) name text
 
 module _ (b m a : OutsideTold) (tables scenario : List ℕ) where
   -- the text of the scenario, after the tables were read
-  second_read : (rows : CentreRows) → ReadsTables b m tables (Ok rows) → second_text (texts_of b) tables scenario ≡ texts_of m scenario
+  second_read : (rows : CentreRows) → ReadsTables b m tables (Ok rows)
+      → second_text (texts_of b) tables scenario ≡ texts_of m scenario
   second_read rows reads = here (bytes_eq scenario tables) refl
     where
-      here : (same : Bool) → bytes_eq scenario tables ≡ same → second_text (texts_of b) tables scenario ≡ texts_of m scenario
+      here : (same : Bool) → bytes_eq scenario tables ≡ same
+          → second_text (texts_of b) tables scenario ≡ texts_of m scenario
       here true at =
           ap (λ t. cond t (emptied (texts_of b tables)) (texts_of b scenario)) at ∙ sym reads.spent
           ∙ ap (texts_of m) (sym ((bytes_eq-Decides scenario tables).0 at))
@@ -125,79 +182,120 @@ module _ (b m a : OutsideTold) (tables scenario : List ℕ) where
 
   -- the run over tables that are there
   pub IsRun-tables : (rows : CentreRows) (status : Status) → ReadsTables b m tables (Ok rows)
-      → IsRun (scenario_duty rows scenario (texts_of m scenario)) m a status → IsRun (duty_of (Some (replays tables scenario)) (texts_of b)) b a status
+      → IsRun (scenario_duty rows scenario (texts_of m scenario)) m a status
+      → IsRun (duty_of (Some (replays tables scenario)) (texts_of b)) b a status
   IsRun-tables rows status reads run =
-      IsRun-then (duty_of (Some (replays tables scenario)) (texts_of b)) (scenario_duty rows scenario (texts_of m scenario)) b m a tables status
-      (after_is_command (texts_of b tables) scenario (second_text (texts_of b) tables scenario)) refl (follows (texts_of b tables) reads.tables) reads.opens run
+      IsRun-then (duty_of (Some (replays tables scenario)) (texts_of b))
+      (scenario_duty rows scenario (texts_of m scenario)) b m a tables status
+      (after_is_command (texts_of b tables) scenario (second_text (texts_of b) tables scenario))
+      refl (follows (texts_of b tables) reads.tables) reads.opens run
     where
       follows : (t : Text) → IsTables (Ok rows) t
-          → Follows (opening tables (duty_after t scenario (second_text (texts_of b) tables scenario))) tables (scenario_duty rows scenario (texts_of m scenario))
+          → Follows
+          (opening tables (duty_after t scenario (second_text (texts_of b) tables scenario)))
+          tables (scenario_duty rows scenario (texts_of m scenario))
       follows untold told_tables = nothing_told [] refl refl
       follows missing told_tables = absurd cc
       follows (told octets) told_tables =
-          subst (λ r. Follows (opening tables (duty_over r scenario (second_text (texts_of b) tables scenario))) tables (scenario_duty rows scenario (texts_of m scenario)))
-          (sym told_tables) (same_said (ap (said_of (λ octets. Some (scenario_said rows octets))) (second_read rows reads)) refl)
+          subst (λ r. Follows
+          (opening tables (duty_over r scenario (second_text (texts_of b) tables scenario)))
+          tables (scenario_duty rows scenario (texts_of m scenario)))
+          (sym told_tables)
+          (same_said
+          (ap (said_of (λ octets. Some (scenario_said rows octets)))
+          (second_read rows reads)) refl)
 
   -- with refused tables
-  pub IsRun-refused : (refusal : Refusal) (status : Status) → ReadsTables b m tables (Err (Refused refusal))
-      → IsRun (duty_to_say true (refused (codes "tables") refusal)) m a status → IsRun (duty_of (Some (replays tables scenario)) (texts_of b)) b a status
+  pub IsRun-refused : (refusal : Refusal) (status : Status)
+      → ReadsTables b m tables (Err (Refused refusal))
+      → IsRun (duty_to_say true (refused (codes "tables") refusal)) m a status
+      → IsRun (duty_of (Some (replays tables scenario)) (texts_of b)) b a status
   IsRun-refused refusal status reads run =
-      IsRun-then (duty_of (Some (replays tables scenario)) (texts_of b)) (duty_to_say true (refused (codes "tables") refusal)) b m a tables status
-      (after_is_command (texts_of b tables) scenario (second_text (texts_of b) tables scenario)) refl (follows (texts_of b tables) reads.tables) reads.opens run
+      IsRun-then (duty_of (Some (replays tables scenario)) (texts_of b))
+      (duty_to_say true (refused (codes "tables") refusal)) b m a tables status
+      (after_is_command (texts_of b tables) scenario (second_text (texts_of b) tables scenario))
+      refl (follows (texts_of b tables) reads.tables) reads.opens run
     where
       follows : (t : Text) → IsTables (Err (Refused refusal)) t
-          → Follows (opening tables (duty_after t scenario (second_text (texts_of b) tables scenario))) tables (duty_to_say true (refused (codes "tables") refusal))
+          → Follows
+          (opening tables (duty_after t scenario (second_text (texts_of b) tables scenario)))
+          tables (duty_to_say true (refused (codes "tables") refusal))
       follows untold told_tables = nothing_told (scenario ∷ []) refl refl
       follows missing told_tables = absurd cc
       follows (told octets) told_tables =
-          subst (λ r. Follows (opening tables (duty_over r scenario (second_text (texts_of b) tables scenario))) tables (duty_to_say true (refused (codes "tables") refusal)))
+          subst (λ r. Follows
+          (opening tables (duty_over r scenario (second_text (texts_of b) tables scenario)))
+          tables (duty_to_say true (refused (codes "tables") refusal)))
           (sym told_tables) (same_said refl refl)
 
   -- and without tables
-  pub IsRun-outside : ReadsTables b m tables (Err Outside) → IsRun (duty_of (Some (replays tables scenario)) (texts_of b)) b m statuses.Outside
+  pub IsRun-outside : ReadsTables b m tables (Err Outside)
+      → IsRun (duty_of (Some (replays tables scenario)) (texts_of b)) b m statuses.Outside
   IsRun-outside reads =
       IsRun-unread (duty_of (Some (replays tables scenario)) (texts_of b)) b m tables
-      (duty_after (texts_of b tables) scenario (second_text (texts_of b) tables scenario)).inputs statuses.Outside tt
-      (after_is_command (texts_of b tables) scenario (second_text (texts_of b) tables scenario)) refl reads.opens
+      (duty_after (texts_of b tables) scenario (second_text (texts_of b) tables scenario)).inputs
+      statuses.Outside tt
+      (after_is_command (texts_of b tables) scenario (second_text (texts_of b) tables scenario))
+      refl reads.opens
 
-  pub IsRun-memory : ReadsTables b m tables (Err Memory) → IsRun (duty_of (Some (replays tables scenario)) (texts_of b)) b m statuses.Memory
+  pub IsRun-memory : ReadsTables b m tables (Err Memory)
+      → IsRun (duty_of (Some (replays tables scenario)) (texts_of b)) b m statuses.Memory
   IsRun-memory reads =
       IsRun-unread (duty_of (Some (replays tables scenario)) (texts_of b)) b m tables
-      (duty_after (texts_of b tables) scenario (second_text (texts_of b) tables scenario)).inputs statuses.Memory tt
-      (after_is_command (texts_of b tables) scenario (second_text (texts_of b) tables scenario)) refl reads.opens
+      (duty_after (texts_of b tables) scenario (second_text (texts_of b) tables scenario)).inputs
+      statuses.Memory tt
+      (after_is_command (texts_of b tables) scenario (second_text (texts_of b) tables scenario))
+      refl reads.opens
 
 module _ (b m a : OutsideTold) (rows : CentreRows) (name : List ℕ) where
   -- the run of a scenario that is there
   pub IsRun-scenario : (text : Vec ℕ Global) (status : Status) → ReadsInput b m name (Ok text)
-      → IsRun (duty_to_say true (played_said (scenario_of (setup_of rows) text.items))) m a status → IsRun (scenario_duty rows name (texts_of b name)) b a status
+      → IsRun (duty_to_say true (played_said (scenario_of (setup_of rows) text.items))) m a status
+      → IsRun (scenario_duty rows name (texts_of b name)) b a status
   IsRun-scenario text status reads run =
-      IsRun-then (scenario_duty rows name (texts_of b name)) (duty_to_say true (played_said (scenario_of (setup_of rows) text.items))) b m a name status
+      IsRun-then (scenario_duty rows name (texts_of b name))
+      (duty_to_say true (played_said (scenario_of (setup_of rows) text.items)))
+      b m a name status
       refl refl (follows (texts_of b name) reads.text) reads.opens run
     where
       follows : (t : Text) → IsInput (Ok text) t
-          → Follows (scenario_duty rows name t) name (duty_to_say true (played_said (scenario_of (setup_of rows) text.items)))
+          → Follows (scenario_duty rows name t) name
+          (duty_to_say true (played_said (scenario_of (setup_of rows) text.items)))
       follows untold input = nothing_told [] refl refl
       follows missing input = absurd cc
       follows (told octets) input =
-          same_said (ap Some (scenario_within rows octets input.1 ∙ ap (λ o. played_said (scenario_of (setup_of rows) o)) input.0)) refl
+          same_said
+          (ap Some
+          (scenario_within rows octets input.1
+          ∙ ap (λ o. played_said (scenario_of (setup_of rows) o)) input.0)) refl
 
   -- of a refused one
-  pub IsRun-refused_scenario : (refusal : Refusal) (status : Status) → ReadsInput b m name (Err (Refused refusal))
-      → IsRun (duty_to_say true (refused (codes "scenario") refusal)) m a status → IsRun (scenario_duty rows name (texts_of b name)) b a status
+  pub IsRun-refused_scenario : (refusal : Refusal) (status : Status)
+      → ReadsInput b m name (Err (Refused refusal))
+      → IsRun (duty_to_say true (refused (codes "scenario") refusal)) m a status
+      → IsRun (scenario_duty rows name (texts_of b name)) b a status
   IsRun-refused_scenario refusal status reads run =
-      IsRun-then (scenario_duty rows name (texts_of b name)) (duty_to_say true (refused (codes "scenario") refusal)) b m a name status
+      IsRun-then (scenario_duty rows name (texts_of b name))
+      (duty_to_say true (refused (codes "scenario") refusal)) b m a name status
       refl refl (follows refusal (texts_of b name) reads.text) reads.opens run
     where
       follows : (r : Refusal) (t : Text) → IsInput (Err (Refused r)) t
-          → Follows (scenario_duty rows name t) name (duty_to_say true (refused (codes "scenario") r))
+          → Follows (scenario_duty rows name t) name
+          (duty_to_say true (refused (codes "scenario") r))
       follows r untold input = nothing_told [] refl refl
       follows r missing input = absurd cc
       follows Long (told octets) input = same_said (ap Some (scenario_past rows octets input)) refl
       follows (BadLine line) (told octets) input = absurd input
 
   -- and of one that isn't there
-  pub IsRun-scenario_outside : ReadsInput b m name (Err Outside) → IsRun (scenario_duty rows name (texts_of b name)) b m statuses.Outside
-  IsRun-scenario_outside reads = IsRun-unread (scenario_duty rows name (texts_of b name)) b m name [] statuses.Outside tt refl refl reads.opens
+  pub IsRun-scenario_outside : ReadsInput b m name (Err Outside)
+      → IsRun (scenario_duty rows name (texts_of b name)) b m statuses.Outside
+  IsRun-scenario_outside reads =
+      IsRun-unread (scenario_duty rows name (texts_of b name))
+      b m name [] statuses.Outside tt refl refl reads.opens
 
-  pub IsRun-scenario_memory : ReadsInput b m name (Err Memory) → IsRun (scenario_duty rows name (texts_of b name)) b m statuses.Memory
-  IsRun-scenario_memory reads = IsRun-unread (scenario_duty rows name (texts_of b name)) b m name [] statuses.Memory tt refl refl reads.opens
+  pub IsRun-scenario_memory : ReadsInput b m name (Err Memory)
+      → IsRun (scenario_duty rows name (texts_of b name)) b m statuses.Memory
+  IsRun-scenario_memory reads =
+      IsRun-unread (scenario_duty rows name (texts_of b name))
+      b m name [] statuses.Memory tt refl refl reads.opens

@@ -1,19 +1,22 @@
 -- What a play says, line by line, and through a sink that gathers it.
-use Rattle.std.proofs.Common.{◌≡◌, ◌≢◌, ℕ, Bool, true, false, List, [], ◌∷◌, ◌++◌, length, take, drop, refl, sym, ◌∙◌, ap, subst}
+use Rattle.std.proofs.Common.{◌≡◌, ◌≢◌, ℕ, Bool, true, false, List, [], ◌∷◌, ◌++◌, length, take}
+use Rattle.std.proofs.Common.{drop, refl, sym, ◌∙◌, ap, subst}
 use Rattle.std.specs.Prelude.{Result, Ok, Err, codes, flat_map}
 use Rattle.std.proofs.Common.{take-append-drop}
 use Rattle.std.proofs.lemmas.List.Concat.{flat_map-append}
 use Rattle.outside.specs.declared.sink.SinkFailed.{SinkFailed}
 use Rattle.outside.specs.Sink.{SinkTold, Appends, AppendsAll, AppendsPart}
 use Rattle.outside.specs.Buffered.{buffered_told, Finishes}
-use Rattle.outside.proofs.Writing.{Appends-as, Appends-append, AppendsPart-all, AppendsPart-append, AppendsPart-front}
+use Rattle.outside.proofs.Writing.{Appends-as, Appends-append, AppendsPart-all, AppendsPart-append}
+use Rattle.outside.proofs.Writing.{AppendsPart-front}
 use Rattle.outside.proofs.Buffering.{buffered_empty, unbuffered, handed_all, handed_part}
 use Rattle.command_io.specs.declared.status.Status.{Status}
 use Rattle.command_io.specs.declared.status.Status.TheVariants.{Done, Usage, Input, Outside, Memory}
 use Rattle.command_io.specs.declared.input.Refusal.TheVariants.{BadLine}
 use Rattle.command_io.specs.Saying.{Said, prints, refusal_text}
 use Rattle.command_io.specs.Runs.{Tells}
-use Rattle.tase_replay.specs.Play.{Step, Played, End, done, bad_line, printed_in, shown_of, steps_of}
+use Rattle.tase_replay.specs.Play.{Step, Played, End, done, bad_line, printed_in, shown_of}
+use Rattle.tase_replay.specs.Play.{steps_of}
 use Rattle.tase_tool.specs.Saying.{said_at, played_said}
 
 -- nothing but standard output is written
@@ -22,7 +25,8 @@ plays_alone shown done = refl
 plays_alone shown (bad_line line) = refl
 
 -- a play is no answer to words that are no command
-pub plays_command : (shown : List ℕ) (end : End) (k l : SinkTold) (status : Status) → Tells (said_at shown end) k l status → status ≢ Usage
+pub plays_command : (shown : List ℕ) (end : End) (k l : SinkTold) (status : Status)
+    → Tells (said_at shown end) k l status → status ≢ Usage
 plays_command shown done k l Done tells = λ same. absurd cc
 plays_command shown done k l Usage tells = absurd (let e = tells.0 in cc)
 plays_command shown done k l Input tells = λ same. absurd cc
@@ -35,62 +39,106 @@ plays_command shown (bad_line line) k l Outside tells = λ same. absurd cc
 plays_command shown (bad_line line) k l Memory tells = λ same. absurd cc
 
 -- a refusal after what was shown
-pub Tells-after : (k m l : SinkTold) (shown refusal : List ℕ) (status : Status) → AppendsAll k m shown
+pub Tells-after : (k m l : SinkTold) (shown refusal : List ℕ) (status : Status)
+    → AppendsAll k m shown
     → Tells (prints Input refusal) m l status → Tells (prints Input (shown ++ refusal)) k l status
-Tells-after k m l shown refusal Done all tells = (tells.0, Appends-append k m l shown refusal false all tells.1)
-Tells-after k m l shown refusal Usage all tells = (tells.0, Appends-append k m l shown refusal false all tells.1)
-Tells-after k m l shown refusal Input all tells = (tells.0, Appends-append k m l shown refusal false all tells.1)
-Tells-after k m l shown refusal Outside all tells = AppendsPart-append k m l shown refusal true all tells
-Tells-after k m l shown refusal Memory all tells = AppendsPart-append k m l shown refusal false all tells
+Tells-after k m l shown refusal Done all tells =
+    (tells.0, Appends-append k m l shown refusal false all tells.1)
+Tells-after k m l shown refusal Usage all tells =
+    (tells.0, Appends-append k m l shown refusal false all tells.1)
+Tells-after k m l shown refusal Input all tells =
+    (tells.0, Appends-append k m l shown refusal false all tells.1)
+Tells-after k m l shown refusal Outside all tells =
+    AppendsPart-append k m l shown refusal true all tells
+Tells-after k m l shown refusal Memory all tells =
+    AppendsPart-append k m l shown refusal false all tells
 
 -- a front part of what is shown is one of what is said
-said_front : (k l : SinkTold) (shown : List ℕ) (end : End) (failed : Bool) → AppendsPart k l shown failed → AppendsPart k l (said_at shown end).text failed
+said_front : (k l : SinkTold) (shown : List ℕ) (end : End) (failed : Bool)
+    → AppendsPart k l shown failed → AppendsPart k l (said_at shown end).text failed
 said_front k l shown done failed part = part
-said_front k l shown (bad_line line) failed part = AppendsPart-front k l shown (refusal_text (codes "scenario") (BadLine line)) failed part
+said_front k l shown (bad_line line) failed part =
+    AppendsPart-front k l shown (refusal_text (codes "scenario") (BadLine line)) failed part
 
 -- what the first steps print is a front part of what all print
-steps_front : (steps : List Step) (count : ℕ) → printed_in steps ≡ printed_in (take count steps) ++ printed_in (drop count steps)
+steps_front : (steps : List Step) (count : ℕ)
+    → printed_in steps ≡ printed_in (take count steps) ++ printed_in (drop count steps)
 steps_front steps count =
-    ap printed_in (sym (take-append-drop count steps)) ∙ flat_map-append (λ (step : Step). step.printed) (take count steps) (drop count steps)
+    ap printed_in (sym (take-append-drop count steps))
+    ∙ flat_map-append (λ (step : Step). step.printed) (take count steps) (drop count steps)
 
 pub AppendsPart-played : (k l : SinkTold) (played : Played) (count : ℕ) (failed : Bool)
-    → AppendsPart k l (printed_in (take count (steps_of played))) failed → AppendsPart k l (played_said played).text failed
+    → AppendsPart k l (printed_in (take count (steps_of played))) failed
+    → AppendsPart k l (played_said played).text failed
 AppendsPart-played k l played count failed part =
     said_front k l (shown_of played) played.end failed
-    (subst (λ (octets : List ℕ). AppendsPart k l octets failed) (sym (steps_front (steps_of played) count))
-    (AppendsPart-front k l (printed_in (take count (steps_of played))) (printed_in (drop count (steps_of played))) failed part))
+    (subst (λ (octets : List ℕ). AppendsPart k l octets failed)
+    (sym (steps_front (steps_of played) count))
+    (AppendsPart-front k l (printed_in (take count (steps_of played)))
+    (printed_in (drop count (steps_of played))) failed part))
 
 module _ (k m l : SinkTold) (gathered : List ℕ) (held : k.held ≡ 0) where
   -- from the sink itself
-  from_sink : (octets : List ℕ) (failed : Bool) → Appends (buffered_told k []) (buffered_told m gathered) octets failed → Appends k (buffered_told m gathered) octets failed
-  from_sink octets failed wrote = Appends-append k (buffered_told k []) (buffered_told m gathered) [] octets failed (buffered_empty k) wrote
+  from_sink : (octets : List ℕ) (failed : Bool)
+      → Appends (buffered_told k []) (buffered_told m gathered) octets failed
+      → Appends k (buffered_told m gathered) octets failed
+  from_sink octets failed wrote =
+      Appends-append k (buffered_told k []) (buffered_told m gathered) [] octets failed
+      (buffered_empty k) wrote
 
-  front_of_front : (a b : SinkTold) (count : ℕ) (octets : List ℕ) (failed : Bool) → AppendsPart a b (take count octets) failed → AppendsPart a b octets failed
+  front_of_front : (a b : SinkTold) (count : ℕ) (octets : List ℕ) (failed : Bool)
+      → AppendsPart a b (take count octets) failed → AppendsPart a b octets failed
   front_of_front a b count octets failed part =
       subst (λ (o : List ℕ). AppendsPart a b o failed) (take-append-drop count octets)
       (AppendsPart-front a b (take count octets) (drop count octets) failed part)
 
   -- what was gathered is handed on
-  pub Tells-handed : (said : Said) (status : Status) → status ≢ Outside → Tells said (buffered_told k []) (buffered_told m gathered) status
+  pub Tells-handed : (said : Said) (status : Status) → status ≢ Outside
+      → Tells said (buffered_told k []) (buffered_told m gathered) status
       → Finishes m l gathered (Ok tt) → Tells said k l status
-  Tells-handed said Done other tells handed = (tells.0, handed_all k m l gathered handed.0 said.text tt (from_sink said.text false tells.1) handed.1)
-  Tells-handed said Usage other tells handed = (tells.0, handed_all k m l gathered handed.0 said.text tt (from_sink said.text false tells.1) handed.1)
-  Tells-handed said Input other tells handed = (tells.0, handed_all k m l gathered handed.0 said.text tt (from_sink said.text false tells.1) handed.1)
+  Tells-handed said Done other tells handed = (
+    tells.0,
+    handed_all k m l gathered handed.0 said.text tt (from_sink said.text false tells.1)
+        handed.1,
+  )
+  Tells-handed said Usage other tells handed = (
+    tells.0,
+    handed_all k m l gathered handed.0 said.text tt (from_sink said.text false tells.1)
+        handed.1,
+  )
+  Tells-handed said Input other tells handed = (
+    tells.0,
+    handed_all k m l gathered handed.0 said.text tt (from_sink said.text false tells.1)
+        handed.1,
+  )
   Tells-handed said Outside other tells handed = absurd (other refl)
-  Tells-handed said Memory other tells handed =
-      (tells.0, handed_all k m l gathered handed.0 (take tells.0 said.text) tt (from_sink (take tells.0 said.text) false tells.1) handed.1)
+  Tells-handed said Memory other tells handed = (
+    tells.0,
+    handed_all k m l gathered handed.0 (take tells.0 said.text) tt
+        (from_sink (take tells.0 said.text) false tells.1) handed.1,
+  )
 
   -- not all of it
-  pub Tells-unhanded : (said : Said) (status : Status) (failed : SinkFailed) → status ≢ Outside → Tells said (buffered_told k []) (buffered_told m gathered) status
+  pub Tells-unhanded : (said : Said) (status : Status) (failed : SinkFailed) → status ≢ Outside
+      → Tells said (buffered_told k []) (buffered_told m gathered) status
       → Finishes m l gathered (Err failed) → Tells said k l Outside
-  Tells-unhanded said Done failed other tells handed = handed_part k m l gathered handed.0 said.text failed held (from_sink said.text false tells.1) handed.1
-  Tells-unhanded said Usage failed other tells handed = handed_part k m l gathered handed.0 said.text failed held (from_sink said.text false tells.1) handed.1
-  Tells-unhanded said Input failed other tells handed = handed_part k m l gathered handed.0 said.text failed held (from_sink said.text false tells.1) handed.1
+  Tells-unhanded said Done failed other tells handed =
+      handed_part k m l gathered handed.0 said.text failed held (from_sink said.text false tells.1)
+      handed.1
+  Tells-unhanded said Usage failed other tells handed =
+      handed_part k m l gathered handed.0 said.text failed held (from_sink said.text false tells.1)
+      handed.1
+  Tells-unhanded said Input failed other tells handed =
+      handed_part k m l gathered handed.0 said.text failed held (from_sink said.text false tells.1)
+      handed.1
   Tells-unhanded said Outside failed other tells handed = absurd (other refl)
   Tells-unhanded said Memory failed other tells handed = front_of_front k l tells.0 said.text true
-      (handed_part k m l gathered handed.0 (take tells.0 said.text) failed held (from_sink (take tells.0 said.text) false tells.1) handed.1)
+      (handed_part k m l gathered handed.0 (take tells.0 said.text) failed held
+      (from_sink (take tells.0 said.text) false tells.1) handed.1)
 
   -- a write failed before, and none comes after it
-  pub Tells-failed : (said : Said) → Tells said (buffered_told k []) (buffered_told m gathered) Outside → Tells said k m Outside
+  pub Tells-failed : (said : Said)
+      → Tells said (buffered_told k []) (buffered_told m gathered) Outside → Tells said k m Outside
   Tells-failed said tells = front_of_front k m tells.0 said.text true
-      (unbuffered k m gathered (take tells.0 said.text) true held (from_sink (take tells.0 said.text) true tells.1))
+      (unbuffered k m gathered (take tells.0 said.text) true held
+      (from_sink (take tells.0 said.text) true tells.1))

@@ -1,11 +1,13 @@
 -- What each command says, and which inputs it opens, from the octets of its inputs.
-use Rattle.std.specs.Prelude.{ℕ, Bool, true, false, nat_lt, if◌then◌else◌, List, [], ◌∷◌, ◌++◌, length}
+use Rattle.std.specs.Prelude.{ℕ, Bool, true, false, nat_lt, if◌then◌else◌, List, [], ◌∷◌, ◌++◌}
+use Rattle.std.specs.Prelude.{length}
 use Rattle.std.specs.Prelude.{Option, Some, None, Result, Ok, Err, codes, bytes_eq}
 use Rattle.command_io.specs.declared.status.Status.TheVariants.{Done, Usage, Input, Outside}
 use Rattle.command_io.specs.declared.input.Refusal.{Refusal}
 use Rattle.command_io.specs.declared.input.Refusal.TheVariants.{Long, BadLine}
 use Rattle.command_io.specs.declared.input.TheConstants.{TEXT_LIMIT}
-use Rattle.command_io.specs.Saying.{Said, prints, refusal_text, Text, untold, missing, told, emptied, Duty}
+use Rattle.command_io.specs.Saying.{Said, prints, refusal_text, Text, untold, missing, told}
+use Rattle.command_io.specs.Saying.{emptied, Duty}
 use Rattle.bilateral.specs.Rows.{CentreRows}
 use Rattle.bilateral.specs.Reading.{centre_in}
 use Rattle.bilateral.specs.declared.fault.TableFault.{TableFault}

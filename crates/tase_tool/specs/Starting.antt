@@ -22,7 +22,8 @@ Words = Vec (String Global) Global
 
 -- none where one of the words isn't text; where there is no error, those after the first, which is
 -- the program's name; every other error is want of memory
-abbrev pub IsWordsFrom : Result (IntoIter (String Global) Global) Error → Result Words AllocError → Type 0
+abbrev pub IsWordsFrom : Result (IntoIter (String Global) Global) Error → Result Words AllocError
+    → Type 0
 IsWordsFrom (Ok args) result = IfOk result (λ words. words.items ≡ drop 1 (into_iter_items args))
 IsWordsFrom (Err error) result =
     (error_kind error ≡ InvalidData → IsOkAnd result (λ words. words.items ≡ []))

@@ -32,7 +32,8 @@ IsTables result missing = result ≡ Err Outside
 IsTables result (told octets) = IsRead result octets
 
 -- what tables leave outside that were opened, read and closed again, and what they are read to
-pub record ReadsTables (before after : OutsideTold) (name : List ℕ) (result : Result CentreRows InputEnd) : Type 0 where
+pub record ReadsTables (before after : OutsideTold) (name : List ℕ)
+    (result : Result CentreRows InputEnd) : Type 0 where
   pub tables : IsTables result (text_of (before.sources name))
   -- nothing is left of a text that was read
   pub spent : OnOk result (text_of (after.sources name) ≡ emptied (text_of (before.sources name)))

@@ -1,4 +1,5 @@
-//! The program `tase`: makes the real outside, runs the command of its words, and ends with its status.
+//! The program `tase`: makes the real outside, runs the command of its words, and ends with its
+//! status.
 #![tactic(auto)]
 
 mod running;

@@ -20,11 +20,14 @@ use tase_replay::{ReplayEnd, replay};
 /// The limit on the weight of a history, in octets.
 pub(crate) const HISTORY_LIMIT: u64 = 134_217_728;
 
-/// Runs the command of these words: `replay TABLES SCENARIO` plays a scenario over tables and prints the replies on
+/// Runs the command of these words: `replay TABLES SCENARIO` plays a scenario over tables and
+/// prints the replies on
 /// standard output, which is `-` of the outside's sinks.
 ///
-/// What it answers and prints is, where the outside tells its octets, what the definitions say of those octets alone:
-/// the tables that the first text spells, and over them what the scenario shows, each reply from the asking peer's own
+/// What it answers and prints is, where the outside tells its octets, what the definitions say of
+/// those octets alone:
+/// the tables that the first text spells, and over them what the scenario shows, each reply from
+/// the asking peer's own
 /// table and its view of the history.
 pub fn run<O: Outside>(alloc: Global, words: &[String], outside: &mut O) -> Status
     ensures { let told = O.told outside.old in
@@ -84,7 +87,8 @@ fn play_scenario<O: Outside>(
     centre: Centre,
     scenario: &[u8],
 ) -> Status
-    ensures { IsRun (duty_to_say true (played_said (play (setup_of centre) (lines scenario.now) [] 1)))
+    ensures { IsRun
+        (duty_to_say true (played_said (play (setup_of centre) (lines scenario.now) [] 1)))
         (O.told outside.old) (O.told outside.new) result }
 {
     match new_node(alloc, centre) {
@@ -96,7 +100,8 @@ fn play_scenario<O: Outside>(
 // Opens standard output, plays a scenario on a node, and closes it.
 fn play_on_output<O: Outside>(alloc: Global, outside: &mut O, node: Node, scenario: &[u8]) -> Status
     ensures { let played = play node.setup (lines scenario.now) (reverse node.history) 1 in
-        IsRun (duty_to_say true (played_said played)) (O.told outside.old) (O.told outside.new) result }
+        IsRun (duty_to_say true (played_said played)) (O.told outside.old) (O.told outside.new)
+        result }
 {
     let Some(sink) = outside.open_out(OUTPUT) else {
         return Status::Outside;
@@ -125,7 +130,8 @@ fn play_gathered<K: Sink + Drop>(alloc: Global, node: Node, scenario: &[u8], sin
     }
 }
 
-// Plays a scenario on a node, and prints the refusal of a bad line after what the lines before it show.
+// Plays a scenario on a node, and prints the refusal of a bad line after what the lines before it
+// show.
 fn play_on<K: Sink>(alloc: Global, node: Node, scenario: &[u8], sink: &mut K) -> Status
     ensures { let played = play node.setup (lines scenario.now) (reverse node.history) 1 in
         Tells (played_said played) (K.told sink.old) (K.told sink.new) result }

@@ -10,7 +10,8 @@ use std::alloc::{AllocError, Global};
 use std::env::Args;
 use std::io;
 
-/// The words after the program's name; none where one of them isn't text, since such words are no command.
+/// The words after the program's name; none where one of them isn't text, since such words are no
+/// command.
 pub(crate) fn words_from(alloc: Global, given: io::Result<Args>) -> Result<Vec<String>, AllocError>
     ensures { IsWordsFrom given result }
 {

@@ -10,18 +10,26 @@ use Rattle.tase_tool.proofs.running.play_on.Goals as goal
 
 pub returns-in-BadLine : goal.returns-in-BadLine
 returns-in-BadLine g c =
-    let played = play c.args.node.setup (lines c.args.scenario.now) (reverse c.args.node.history) 1 in
-    subst (λ e. Tells (said_at (shown_of played) e) (g.K.Sink.told c.args.sink.now) (g.K.Sink.told c.tell_refusal.new.sink) c.tell_refusal.result)
+    let played = play c.args.node.setup (lines c.args.scenario.now) (reverse c.args.node.history)
+    1 in
+    subst (λ e. Tells (said_at (shown_of played) e) (g.K.Sink.told c.args.sink.now)
+    (g.K.Sink.told c.tell_refusal.new.sink) c.tell_refusal.result)
     (sym c.in-BadLine.ensures.played.0)
-    (Tells-after (g.K.Sink.told c.args.sink.now) (g.K.Sink.told c.replay.new.sink) (g.K.Sink.told c.tell_refusal.new.sink)
-    (shown_of played) (refusal_text (codes "scenario") (BadLine c.in-BadLine.line)) c.tell_refusal.result c.in-BadLine.ensures.played.1.shown c.tell_refusal.ensures)
+    (Tells-after (g.K.Sink.told c.args.sink.now) (g.K.Sink.told c.replay.new.sink)
+    (g.K.Sink.told c.tell_refusal.new.sink)
+    (shown_of played) (refusal_text (codes "scenario") (BadLine c.in-BadLine.line))
+    c.tell_refusal.result c.in-BadLine.ensures.played.1.shown c.tell_refusal.ensures)
 
 pub returns-in-SinkFault : goal.returns-in-SinkFault
 returns-in-SinkFault g c =
-    let played = play c.args.node.setup (lines c.args.scenario.now) (reverse c.args.node.history) 1 in
-    AppendsPart-played (g.K.Sink.told c.args.sink.now) (g.K.Sink.told c.replay.new.sink) played c.in-SinkFault.ensures.played.count true c.in-SinkFault.ensures.played.shown
+    let played = play c.args.node.setup (lines c.args.scenario.now) (reverse c.args.node.history)
+    1 in
+    AppendsPart-played (g.K.Sink.told c.args.sink.now) (g.K.Sink.told c.replay.new.sink)
+    played c.in-SinkFault.ensures.played.count true c.in-SinkFault.ensures.played.shown
 
 pub returns : goal.returns
 returns g c =
-    let played = play c.args.node.setup (lines c.args.scenario.now) (reverse c.args.node.history) 1 in
-    AppendsPart-played (g.K.Sink.told c.args.sink.now) (g.K.Sink.told c.replay.new.sink) played c.in-Memory.ensures.played.count false c.in-Memory.ensures.played.shown
+    let played = play c.args.node.setup (lines c.args.scenario.now) (reverse c.args.node.history)
+    1 in
+    AppendsPart-played (g.K.Sink.told c.args.sink.now) (g.K.Sink.told c.replay.new.sink)
+    played c.in-Memory.ensures.played.count false c.in-Memory.ensures.played.shown
