@@ -18,3 +18,4 @@ pub mod Pieces
 pub mod FaultReading
 pub mod FaultFirst
 pub mod Worked
+pub mod WrittenTpdus

@@ -1,7 +1,9 @@
 -- A transport as contracts see it, and where it stands in a stream.
 use Rattle.std.specs.Prelude.{◌≡◌, ℕ, ◌+◌, ◌≤◌, List, [], ◌∷◌, ◌++◌, length, Option, Some, None}
 use Rattle.std.specs.Prelude.{MatchOption, Result, Ok, Err}
+use Rattle.std.specs.Prelude.{◌-◌}
 use Rattle.tpkt_cotp.specs.declared.fault.CotpFault.{CotpFault}
+use Rattle.tpkt_cotp.specs.declared.limits.TheConstants.{TSDU_LIMIT, TPKT_LIMIT, PIECE_LIMIT}
 use Rattle.tpkt_cotp.specs.declared.message.TransportIn.{TransportIn}
 use Rattle.tpkt_cotp.specs.declared.turn.Role.{Role}
 use Rattle.tpkt_cotp.specs.declared.turn.Turn.{Turn}
@@ -26,11 +28,11 @@ pub record Line : Type 0 where
 
 -- so many octets of a TSDU at most, and so many unread: less than a TPKT, and a piece
 abbrev pub HoldsFew : Line → Type 0
-HoldsFew t = (length t.held ≤ 65531) × (length t.unread ≤ 65534 + 65536)
+HoldsFew t = (length t.held ≤ TSDU_LIMIT) × (length t.unread ≤ TPKT_LIMIT - 1 + PIECE_LIMIT)
 
 -- no whole TPKT is unread, or the stream has stopped
 abbrev pub IsSettled : Line → Type 0
-IsSettled t = (length t.unread ≤ 65534) × MatchOption t.fault
+IsSettled t = (length t.unread ≤ TPKT_LIMIT - 1) × MatchOption t.fault
     (tpkt_in t.turn (length t.held) t.unread ≡ Ok None) (λ _. t.unread ≡ [])
 
 -- these octets were fed, these messages handed out, and the next one has come so far

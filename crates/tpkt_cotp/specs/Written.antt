@@ -1,6 +1,7 @@
 -- What the writers write (RFC 1006, section 6; ISO 8073, 13).
 use Rattle.std.specs.Prelude.{◌≡◌, ℕ, ◌+◌, ◌-◌, ◌/◌, ◌%◌, ◌<◌, ◌≤◌, Bool, true, false, List, []}
 use Rattle.std.specs.Prelude.{◌∷◌, ◌++◌, length, flat_map, Option, Some, None, min, if◌then◌else◌}
+use Rattle.std.specs.Prelude.{IfSome, option_map}
 use Rattle.std.specs.List.{AllByRecursion}
 use Rattle.tpkt_cotp.specs.declared.tpdu.Parameters.{Parameters}
 use Rattle.tpkt_cotp.specs.declared.tpdu.ConnectRequest.{ConnectRequest}
@@ -55,3 +56,22 @@ pub record IsCut (size : ℕ) (octets written : List ℕ) : Type 0 where
   pub fits : length last ≤ size - 3
   pub are : octets ≡ joined parts ++ last
   pub written_is : written ≡ parts_octets parts ++ part_octets true last
+
+-- the request that is written
+abbrev pub written_request : ℕ → ConnectRequest
+written_request calling = record {
+  source = 1;
+  parameters = record {
+    size = Some 10;
+    calling = Some (calling / 256 ∷ calling % 256 ∷ []);
+    called = Some (0 ∷ 1 ∷ []);
+  };
+}
+
+-- an offer's parameters, as they are answered
+abbrev pub answered : Parameters → Parameters
+answered p = record p { size = option_map (λ size. min size 10) p.size }
+
+-- the size of an offer is 7 to 13, where it is there
+abbrev pub IsOffer : ConnectRequest → Type 0
+IsOffer offer = IfSome offer.parameters.size (λ size. (7 ≤ size) × (size ≤ 13))

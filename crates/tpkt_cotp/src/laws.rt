@@ -6,18 +6,26 @@ ghost use Rattle.tpkt_cotp.specs.declared.turn.Turn.{Turn};
 ghost use Rattle.tpkt_cotp.specs.declared.turn.Turn.TheVariants.{Transfer};
 ghost use Rattle.tpkt_cotp.specs.declared.tpdu.ConnectRequest.{ConnectRequest};
 ghost use Rattle.tpkt_cotp.specs.Streams.{Message, tsdu, capped, SpellsMessage, Says, Stops};
-ghost use Rattle.tpkt_cotp.specs.Written.{IsCut};
+ghost use Rattle.tpkt_cotp.specs.Written.{IsCut, IsOffer, request_octets, written_request};
+ghost use Rattle.tpkt_cotp.specs.Written.{confirm_octets, answered};
+ghost use Rattle.tpkt_cotp.specs.Sound.{AreSelectors};
+ghost use Rattle.tpkt_cotp.specs.Tpdus.{request, confirm, SpellsTpkt};
 
 /// Octets say messages and a rest, or stop at a fault: one of the two, and in one way.
 pub fn one_reading()
     ensures always { (role : Role) (octets : List ℕ)
         → ((messages : List Message) × (rest : List ℕ) × Says role octets messages rest)
         ⊎ ((messages : List Message) × (f : CotpFault) × Stops role octets messages f) }
-    ensures says { (role : Role) (octets : List ℕ) (messages others : List Message) (rest other : List ℕ)
-        → Says role octets messages rest → Says role octets others other → (messages ≡ others) × (rest ≡ other) }
-    ensures stops { (role : Role) (octets : List ℕ) (messages others : List Message) (f g : CotpFault)
-        → Stops role octets messages f → Stops role octets others g → (messages ≡ others) × (f ≡ g) }
-    ensures never_both { (role : Role) (octets : List ℕ) (messages others : List Message) (rest : List ℕ) (f : CotpFault)
+    ensures says { (role : Role) (octets : List ℕ) (messages others : List Message)
+        (rest other : List ℕ)
+        → Says role octets messages rest → Says role octets others other → (messages ≡ others)
+        × (rest ≡ other) }
+    ensures stops { (role : Role) (octets : List ℕ) (messages others : List Message)
+        (f g : CotpFault)
+        → Stops role octets messages f → Stops role octets others g → (messages ≡ others)
+        × (f ≡ g) }
+    ensures never_both { (role : Role) (octets : List ℕ) (messages others : List Message)
+        (rest : List ℕ) (f : CotpFault)
         → Says role octets messages rest → Stops role octets others f → ⊥ }
 {}
 
@@ -30,10 +38,12 @@ pub fn no_message_begins_another()
 
 /// What was said stays said, and a fault stays, whatever follows.
 pub fn what_was_said_stays()
-    ensures said { (role : Role) (octets more : List ℕ) (messages later : List Message) (rest left : List ℕ)
+    ensures said { (role : Role) (octets more : List ℕ) (messages later : List Message)
+        (rest left : List ℕ)
         → Says role octets messages rest → Says role (octets ++ more) later left
         → (others : List Message) × (later ≡ messages ++ others) }
-    ensures stopped { (role : Role) (octets more : List ℕ) (messages later : List Message) (rest : List ℕ) (f : CotpFault)
+    ensures stopped { (role : Role) (octets more : List ℕ) (messages later : List Message)
+        (rest : List ℕ) (f : CotpFault)
         → Says role octets messages rest → Stops role (octets ++ more) later f
         → (others : List Message) × (later ≡ messages ++ others) }
     ensures broken { (role : Role) (octets more : List ℕ) (messages : List Message) (f : CotpFault)
@@ -42,6 +52,20 @@ pub fn what_was_said_stays()
 
 /// What is written for a TSDU says exactly this TSDU, wherever it stands after the first TPDU.
 pub fn written_is_said()
-    ensures { (size at : ℕ) (octets written : List ℕ) → IsCut size octets written → length octets ≤ 65531
+    ensures { (size at : ℕ) (octets written : List ℕ) → IsCut size octets written
+        → length octets ≤ 65531
         → SpellsMessage Transfer at (tsdu (capped at) octets) written }
+{}
+
+/// What is written for a request and for the answer to an offer is spelled so.
+pub fn written_is_spelled()
+    ensures request { (calling : ℕ) → SpellsTpkt (request (written_request calling))
+        (request_octets calling) }
+    ensures confirm { (offer : ConnectRequest) → IsOffer offer → AreSelectors offer.parameters
+        → SpellsTpkt (confirm (record {
+          target = offer.source;
+          source = 1;
+          parameters = answered offer.parameters;
+        }))
+        (confirm_octets offer) }
 {}

@@ -16,8 +16,11 @@ mod turn;
 mod writing;
 
 pub use fault::CotpFault;
-pub use laws::{no_message_begins_another, one_reading, what_was_said_stays, written_is_said};
-pub use limits::TSDU_LIMIT;
+pub use laws::{
+    no_message_begins_another, one_reading, what_was_said_stays, written_is_said,
+    written_is_spelled,
+};
+pub use limits::{PIECE_LIMIT, TPKT_LIMIT, TSDU_LIMIT};
 pub use message::TransportIn;
 pub use run::{Heard, read_stream};
 pub use selector::Selector;
@@ -25,3 +28,6 @@ pub use tpdu::{ConnectConfirm, ConnectRequest, Parameters};
 pub use transport::Transport;
 pub use turn::Role;
 pub use writing::{write_cc, write_cr, write_tsdu};
+
+#[cfg(test)]
+mod tests;

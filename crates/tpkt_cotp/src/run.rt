@@ -1,5 +1,6 @@
 //! A whole stream that comes in pieces.
-ghost use Rattle.std.specs.Prelude.{◌≡◌, ℕ, ◌≤◌, List, ◌++◌, length, map, flat_map, All, IfOk, OnErr, MatchOption, vec_len};
+ghost use Rattle.std.specs.Prelude.{◌≡◌, ℕ, ◌≤◌, List, ◌++◌, length, map, flat_map, All, IfOk};
+ghost use Rattle.std.specs.Prelude.{OnErr, MatchOption, vec_len};
 ghost use Rattle.tpkt_cotp.specs.declared.turn.Role.{Role};
 ghost use Rattle.tpkt_cotp.specs.Streams.{Message, Says, Stops};
 ghost use Rattle.tpkt_cotp.specs.Seen.{message_seen};
@@ -26,7 +27,8 @@ fn take_all(
 ) -> Result<Option<CotpFault>, AllocError>
     ensures ok { (role : Role) (heard : List ℕ)
         → Stands role heard (map message_seen messages.old.items) transport.old
-        → IfOk result (λ fault. Ends role heard (map message_seen messages.new.items) fault transport.new) }
+        → IfOk result (λ fault. Ends role heard (map message_seen messages.new.items) fault
+        transport.new) }
 {
     loop {
         match transport.next()? {
@@ -42,8 +44,10 @@ fn take_all(
 pub fn read_stream(alloc: Global, role: Role, pieces: &[Vec<u8>]) -> Result<Heard, AllocError>
     requires { All (λ piece. length piece.items ≤ 65536) pieces.now }
     ensures { IfOk result (λ heard. MatchOption heard.fault
-        ((rest : List ℕ) × Says role (flat_map (λ piece. piece.items) pieces.now) (map message_seen heard.messages.items) rest)
-        (λ fault. Stops role (flat_map (λ piece. piece.items) pieces.now) (map message_seen heard.messages.items) fault)) }
+        ((rest : List ℕ) × Says role (flat_map (λ piece. piece.items) pieces.now)
+        (map message_seen heard.messages.items) rest)
+        (λ fault. Stops role (flat_map (λ piece. piece.items) pieces.now)
+        (map message_seen heard.messages.items) fault)) }
 {
     let mut transport = Transport::new(alloc, role);
     let mut messages = Vec::new(alloc);

@@ -1,6 +1,8 @@
 //! A TPKT and its TPDU at the front of the octets (RFC 1006, section 6; ISO 8073, 13).
 ghost use Rattle.std.specs.Prelude.{◌≡◌, ◌+◌, ◌-◌, ◌<◌, ◌≤◌, ◌^◌, length, IfOk, IfSome, IfNone};
-ghost use Rattle.tpkt_cotp.specs.Readings.{Gives, tpkt_in, sized_in, tpdu_in, body_in, connect_in, part_in, disconnect_in, marked_in, connect_with, parameters_in, known_in};
+ghost use Rattle.tpkt_cotp.specs.Readings.{Gives, tpkt_in, sized_in, tpdu_in, body_in, connect_in};
+ghost use Rattle.tpkt_cotp.specs.Readings.{part_in, disconnect_in, marked_in, connect_with};
+ghost use Rattle.tpkt_cotp.specs.Readings.{parameters_in, known_in};
 ghost use Rattle.tpkt_cotp.specs.Tpdus.{no_parameters};
 ghost use Rattle.tpkt_cotp.specs.Sound.{IsSoundTpdu};
 ghost use Rattle.tpkt_cotp.specs.Streams.{Fits};

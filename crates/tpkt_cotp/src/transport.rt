@@ -1,11 +1,13 @@
 //! The transport over a stream that comes in any pieces: octets in, whole messages out.
-ghost use Rattle.std.specs.Prelude.{◌≡◌, ℕ, ◌+◌, ◌≤◌, ◌<◌, List, [], ◌++◌, length, IfOk, OnOk, OnErr, OnSome};
+ghost use Rattle.std.specs.Prelude.{◌≡◌, ℕ, ◌+◌, ◌-◌, ◌≤◌, ◌<◌, List, [], ◌++◌, length, IfOk, OnOk};
+ghost use Rattle.std.specs.Prelude.{OnErr, OnSome};
 ghost use Rattle.tpkt_cotp.specs.declared.turn.Role.{Role};
 ghost use Rattle.tpkt_cotp.specs.Streams.{Message, capped};
 ghost use Rattle.tpkt_cotp.specs.Lines.{Line, IsSettled, HoldsFew, Stands, Answers, fed};
 ghost use Rattle.tpkt_cotp.specs.Steps.{Steps};
 
 use crate::fault::CotpFault;
+use crate::limits::{PIECE_LIMIT, TPKT_LIMIT};
 use crate::message::{TransportIn, take_tpdu};
 use crate::tpkt::read_tpkt;
 use crate::turn::{Role, Turn};
@@ -26,14 +28,24 @@ pub struct Transport {
 }
 
 impl Model for Transport {
-    ghost use Rattle.std.specs.Prelude.{◌≤◌, ◌+◌, length};
+    ghost use Rattle.std.specs.Prelude.{◌≤◌, ◌+◌, ◌-◌, length};
+    ghost use Rattle.tpkt_cotp.specs.declared.limits.TheConstants.{TSDU_LIMIT};
+    ghost use Rattle.tpkt_cotp.specs.declared.limits.TheConstants.{TPKT_LIMIT, PIECE_LIMIT};
     ghost use Rattle.tpkt_cotp.specs.Lines.{Line};
 
     ghost Value = { Line };
 
-    ghost view = { λ t. record { turn = t.turn; place = t.place; start = t.start; held = t.part.items; unread = t.unread.items; fault = t.fault } };
+    ghost view = { λ t. record {
+      turn = t.turn;
+      place = t.place;
+      start = t.start;
+      held = t.part.items;
+      unread = t.unread.items;
+      fault = t.fault;
+    } };
 
-    ghost invariant = { λ t. (length t.part.items ≤ 65531) × (length t.unread.items ≤ 65534 + 65536) };
+    ghost invariant = { λ t. (length t.part.items ≤ TSDU_LIMIT)
+        × (length t.unread.items ≤ TPKT_LIMIT - 1 + PIECE_LIMIT) };
 }
 
 /// What one TPKT led to.
@@ -109,8 +121,8 @@ impl Transport {
     }
 
     fn take_in(&mut self, piece: &[u8]) -> Result<(), AllocError>
-        requires small { length piece.now ≤ 65536 }
-        requires few { length self.old.unread ≤ 65534 }
+        requires small { length piece.now ≤ PIECE_LIMIT }
+        requires few { length self.old.unread ≤ TPKT_LIMIT - 1 }
         ensures ok { OnOk result (self.new ≡ fed self.old piece.now) }
         ensures err { OnErr result (self.new ≡ self.old) }
     {
@@ -123,10 +135,11 @@ impl Transport {
     /// Takes the next piece of the stream, at most 65,536 octets, once `next` has answered that
     /// no whole message is left, or a fault. After a fault the octets are dropped.
     pub fn feed(&mut self, piece: &[u8]) -> Result<(), AllocError>
-        requires small { length piece.now ≤ 65536 }
+        requires small { length piece.now ≤ PIECE_LIMIT }
         requires settled { IsSettled self.old }
         // The stream goes on by the piece.
-        ensures ok { (role : Role) (heard : List ℕ) (given : List Message) → Stands role heard given self.old
+        ensures ok { (role : Role) (heard : List ℕ) (given : List Message)
+            → Stands role heard given self.old
             → OnOk result (Stands role (heard ++ piece.now) given self.new) }
         ensures err { OnErr result (self.new ≡ self.old) }
     {
@@ -137,10 +150,12 @@ impl Transport {
     /// rule that the stream breaks, once the messages before it were handed out, and then again
     /// and again.
     pub fn next(&mut self) -> Result<Result<Option<TransportIn>, CotpFault>, AllocError>
-        ensures ok { (role : Role) (heard : List ℕ) (given : List Message) → Stands role heard given self.old
+        ensures ok { (role : Role) (heard : List ℕ) (given : List Message)
+            → Stands role heard given self.old
             → IfOk result (λ answer. Answers role heard given answer self.new) }
         // Nothing is lost: it still stands where it stood.
-        ensures err { (role : Role) (heard : List ℕ) (given : List Message) → Stands role heard given self.old
+        ensures err { (role : Role) (heard : List ℕ) (given : List Message)
+            → Stands role heard given self.old
             → OnErr result (Stands role heard given self.new) }
         ensures shorter { IfOk result (λ answer. IfOk answer (λ message. OnSome message
             (length self.new.unread < length self.old.unread))) }

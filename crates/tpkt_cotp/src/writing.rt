@@ -1,7 +1,10 @@
 //! Connect requests, their answers and TSDUs, written.
-ghost use Rattle.std.specs.Prelude.{◌≡◌, ℕ, ◌+◌, ◌-◌, ◌<◌, ◌≤◌, List, ◌++◌, take, length, IfSome, OnOk, OnErr, option_copied};
+ghost use Rattle.std.specs.Prelude.{◌≡◌, ℕ, ◌+◌, ◌-◌, ◌<◌, ◌≤◌, List, ◌++◌, take, length, IfSome};
+ghost use Rattle.std.specs.Prelude.{OnOk, OnErr, option_copied};
 ghost use Rattle.tpkt_cotp.specs.Selectors.{IsSelector};
-ghost use Rattle.tpkt_cotp.specs.Written.{request_octets, size_octets, selector_octets, answer_octets, confirm_head, confirm_octets, part_octets, IsCut};
+ghost use Rattle.tpkt_cotp.specs.Written.{request_octets, size_octets, selector_octets};
+ghost use Rattle.tpkt_cotp.specs.Written.{answer_octets, confirm_head, confirm_octets, part_octets};
+ghost use Rattle.tpkt_cotp.specs.Written.{IsCut, IsOffer};
 
 use crate::selector::Selector;
 use crate::tpdu::{ConnectRequest, Parameters};
@@ -45,7 +48,8 @@ fn put_size(out: &mut Vec<u8>, size: Option<u8>) -> Result<(), AllocError>
 
 fn begin_selector(out: &mut Vec<u8>, code: u8, selector: Option<&[u8]>) -> Result<(), AllocError>
     requires { IfSome (option_copied selector) IsSelector }
-    ensures ok { OnOk result (out.new.items ≡ out.old.items ++ selector_octets code (option_copied selector.entry)) }
+    ensures ok { OnOk result (out.new.items ≡ out.old.items ++ selector_octets code
+        (option_copied selector.entry)) }
     ensures err { OnErr result (take (length out.old.items) out.new.items ≡ out.old.items) }
 {
     match selector {
@@ -59,7 +63,8 @@ fn begin_selector(out: &mut Vec<u8>, code: u8, selector: Option<&[u8]>) -> Resul
 
 fn put_selector(out: &mut Vec<u8>, code: u8, selector: Option<&[u8]>) -> Result<(), AllocError>
     requires { IfSome (option_copied selector) IsSelector }
-    ensures ok { OnOk result (out.new.items ≡ out.old.items ++ selector_octets code (option_copied selector.entry)) }
+    ensures ok { OnOk result (out.new.items ≡ out.old.items ++ selector_octets code
+        (option_copied selector.entry)) }
     ensures err { OnErr result (out.new.items ≡ out.old.items) }
 {
     let mark = out.len();
@@ -74,7 +79,8 @@ fn put_selectors(
 ) -> Result<(), AllocError>
     requires calling { IfSome (option_copied calling) IsSelector }
     requires called { IfSome (option_copied called) IsSelector }
-    ensures ok { OnOk result (out.new.items ≡ out.old.items ++ (selector_octets 193 (option_copied calling.entry)
+    ensures ok { OnOk result (out.new.items ≡ out.old.items ++
+        (selector_octets 193 (option_copied calling.entry)
         ++ selector_octets 194 (option_copied called.entry))) }
     ensures err { OnErr result (take (length out.old.items) out.new.items ≡ out.old.items) }
 {
@@ -91,7 +97,8 @@ fn put_answer(
     requires calling { IfSome (option_copied calling) IsSelector }
     requires called { IfSome (option_copied called) IsSelector }
     ensures ok { OnOk result (out.new.items ≡ out.old.items ++ (size_octets size
-        ++ selector_octets 193 (option_copied calling.entry) ++ selector_octets 194 (option_copied called.entry))) }
+        ++ selector_octets 193 (option_copied calling.entry) ++ selector_octets 194
+        (option_copied called.entry))) }
     ensures err { OnErr result (take (length out.old.items) out.new.items ≡ out.old.items) }
 {
     put_size(out, size)?;
@@ -148,7 +155,7 @@ fn put_confirm(out: &mut Vec<u8>, offer: &ConnectRequest) -> Result<(), AllocErr
 /// Appends the answer to an offer: its source as the target, the source 1, the offered size but at
 /// most 1,024 octets, and its selectors.
 pub fn write_cc(out: &mut Vec<u8>, offer: &ConnectRequest) -> Result<(), AllocError>
-    requires { IfSome offer.now.parameters.size (λ size. (7 ≤ size) × (size ≤ 13)) }
+    requires { IsOffer offer.now }
     ensures ok { OnOk result (out.new.items ≡ out.old.items ++ confirm_octets offer.now) }
     ensures err { OnErr result (out.new.items ≡ out.old.items) }
 {
@@ -179,7 +186,8 @@ fn put_part(out: &mut Vec<u8>, last: bool, held: &[u8]) -> Result<(), AllocError
 fn put_tsdu(out: &mut Vec<u8>, size: u16, octets: &[u8]) -> Result<(), AllocError>
     requires sized { (128 ≤ size) × (size ≤ 1024) }
     requires some { 0 < length octets.now }
-    ensures ok { OnOk result ((written : List ℕ) × IsCut size octets.now written × (out.new.items ≡ out.old.items ++ written)) }
+    ensures ok { OnOk result ((written : List ℕ) × IsCut size octets.now written
+        × (out.new.items ≡ out.old.items ++ written)) }
     ensures err { OnErr result (take (length out.old.items) out.new.items ≡ out.old.items) }
 {
     let full = usize::from(size) - 3;
@@ -196,7 +204,8 @@ fn put_tsdu(out: &mut Vec<u8>, size: u16, octets: &[u8]) -> Result<(), AllocErro
 pub fn write_tsdu(out: &mut Vec<u8>, size: u16, octets: &[u8]) -> Result<(), AllocError>
     requires sized { (128 ≤ size) × (size ≤ 1024) }
     requires some { (1 ≤ length octets.now) × (length octets.now ≤ 65531) }
-    ensures ok { OnOk result ((written : List ℕ) × IsCut size octets.now written × (out.new.items ≡ out.old.items ++ written)) }
+    ensures ok { OnOk result ((written : List ℕ) × IsCut size octets.now written
+        × (out.new.items ≡ out.old.items ++ written)) }
     ensures err { OnErr result (out.new.items ≡ out.old.items) }
 {
     let mark = out.len();
