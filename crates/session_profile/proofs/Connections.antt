@@ -18,7 +18,7 @@ last_cond : (here : Bool) (q : Parameter) (there : Bool) (p : Parameter) (o : Op
 last_cond here q true p o = refl
 last_cond here q false p o = refl
 
-found_push : (identifier : ℕ) (ps : List Parameter) (p : Parameter) → found identifier (ps ++ p ∷ []) ≡ cond (eqb p.identifier identifier) (Some p) (found identifier ps)
+pub found_push : (identifier : ℕ) (ps : List Parameter) (p : Parameter) → found identifier (ps ++ p ∷ []) ≡ cond (eqb p.identifier identifier) (Some p) (found identifier ps)
 found_push identifier [] p = refl
 found_push identifier (q ∷ qs) p =
     ap (last_of (eqb q.identifier identifier) q) (found_push identifier qs p) ∙ last_cond (eqb q.identifier identifier) q (eqb p.identifier identifier) p (found identifier qs)
@@ -54,7 +54,7 @@ is_false : (b : Bool) → (b ≡ true → ⊥) → b ≡ false
 is_false true never = absurd (never refl)
 is_false false never = refl
 
-decide : (b : Bool) → (b ≡ true) ⊎ (b ≡ false)
+pub decide : (b : Bool) → (b ≡ true) ⊎ (b ≡ false)
 decide true = inl refl
 decide false = inr refl
 
