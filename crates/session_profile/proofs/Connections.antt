@@ -1,7 +1,6 @@
 -- The rules of connect and accept are followed by reading.
-use Rattle.std.proofs.Common.{◌≡◌, ◌≢◌, ℕ, ◌+◌, ◌<◌, ◌≤◌, Bool, true, false, ◌||◌, cond, eqb, leb, List, [], ◌∷◌, ◌++◌, length, get_or, Option, Some, None, is_some, Result, Ok, Err, refl, sym, ap, ◌∙◌, inl, inr, ◌⊎◌, arith}
+use Rattle.std.proofs.Common.{◌≡◌, ◌≢◌, ℕ, ◌+◌, ◌<◌, ◌≤◌, Bool, true, false, ◌||◌, cond, eqb, leb, List, [], ◌∷◌, ◌++◌, length, get_or, Option, Some, None, is_some, Ok, Err, refl, sym, ap, ◌∙◌, inl, inr, ◌⊎◌, arith}
 use Rattle.std.proofs.lemmas.Bool.{eqb-true, eqb-false, eq-eqb, ne_eqb, leb-true, le-leb, false≢true}
-use Rattle.ber_values.specs.declared.fault.BerFault.{BerFault}
 use Rattle.ber_values.specs.declared.fault.Why.TheVariants as whys
 use Rattle.ber_values.specs.Faults.{fault_at}
 use Rattle.ber_values.specs.Leaves.{span_at}
@@ -19,7 +18,7 @@ last_cond : (here : Bool) (q : Parameter) (there : Bool) (p : Parameter) (o : Op
 last_cond here q true p o = refl
 last_cond here q false p o = refl
 
-found_push : (identifier : ℕ) (ps : List Parameter) (p : Parameter) → found identifier (ps ++ p ∷ []) ≡ cond (eqb p.identifier identifier) (Some p) (found identifier ps)
+pub found_push : (identifier : ℕ) (ps : List Parameter) (p : Parameter) → found identifier (ps ++ p ∷ []) ≡ cond (eqb p.identifier identifier) (Some p) (found identifier ps)
 found_push identifier [] p = refl
 found_push identifier (q ∷ qs) p =
     ap (last_of (eqb q.identifier identifier) q) (found_push identifier qs p) ∙ last_cond (eqb q.identifier identifier) q (eqb p.identifier identifier) p (found identifier qs)
@@ -55,7 +54,7 @@ is_false : (b : Bool) → (b ≡ true → ⊥) → b ≡ false
 is_false true never = absurd (never refl)
 is_false false never = refl
 
-decide : (b : Bool) → (b ≡ true) ⊎ (b ≡ false)
+pub decide : (b : Bool) → (b ≡ true) ⊎ (b ≡ false)
 decide true = inl refl
 decide false = inr refl
 

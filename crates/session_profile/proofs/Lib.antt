@@ -5,3 +5,4 @@ pub mod Rules
 pub mod Connections
 pub mod Spdus
 pub mod Written
+pub mod Counts

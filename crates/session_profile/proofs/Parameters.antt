@@ -1,15 +1,15 @@
 -- Reading a parameter is exact.
-use Rattle.std.proofs.Common.{◌≡◌, ◌≢◌, ℕ, ◌+◌, ◌<◌, ◌≤◌, ltb, cond, List, [], ◌∷◌, ◌++◌, length, take, drop, Result, Ok, Err, MatchResult, refl, sym, ap, subst, ◌∙◌, inl, inr, ◌⊎◌, arith}
-use Rattle.std.proofs.lemmas.Bool.{cond_both, ltb-true, ltb-false, lt-ltb, le-ltb}
+use Rattle.std.proofs.Common.{◌≡◌, ℕ, ◌+◌, ◌<◌, ◌≤◌, ltb, List, [], ◌∷◌, ◌++◌, length, take, drop, Ok, Err, refl, sym, ap, subst, ◌∙◌, inl, inr, arith}
+use Rattle.std.proofs.lemmas.Bool.{ltb-true, ltb-false, lt-ltb, le-ltb}
 use Rattle.std.proofs.lemmas.List.{take_at, drop_at, take-append-drop, length-append, length-take}
 use Rattle.ber_values.specs.declared.fault.BerFault.{BerFault}
 use Rattle.ber_values.specs.declared.fault.Why.TheVariants as whys
-use Rattle.ber_values.specs.Faults.{fault_at, ◌>>=◌}
+use Rattle.ber_values.specs.Faults.{fault_at}
 use Rattle.ber_values.specs.Reading.{Taken, Begins, IsReading}
 use Rattle.ber_values.specs.Grammars.{taken}
 use Rattle.ber_values.proofs.Reading.{IsReading-then, IsReading-as}
 use Rattle.ber_values.proofs.Grammars.{IsReading-done, IsReading-failed, IsReading-test}
-use Rattle.session_profile.specs.Lengths.{SpellsLength, LengthFault, IsPastEnd, length_in}
+use Rattle.session_profile.specs.Lengths.{SpellsLength, LengthFault, length_in}
 use Rattle.session_profile.specs.Parameters.{Parameter, BeginsParameter, ParameterFault, parameter, sized_in, parameter_in}
 use Rattle.session_profile.proofs.Lengths.{length_reads}
 

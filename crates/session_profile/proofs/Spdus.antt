@@ -1,5 +1,5 @@
 -- Reading an SPDU is exact.
-use Rattle.std.proofs.Common.{◌≡◌, ◌≢◌, ℕ, ◌+◌, Bool, true, false, cond, eqb, List, [], ◌∷◌, ◌++◌, Result, Ok, Err, MatchResult, refl, sym, ap, subst, ◌∙◌, inl, inr, ◌⊎◌, arith}
+use Rattle.std.proofs.Common.{◌≡◌, ◌≢◌, ℕ, ◌+◌, true, false, cond, eqb, List, [], ◌∷◌, ◌++◌, Result, Ok, Err, MatchResult, refl, sym, ap, subst, ◌∙◌, inl, inr, ◌⊎◌}
 use Rattle.std.proofs.lemmas.Bool.{cond_both, eqb-true, eqb-false, eq-eqb, ne_eqb, false≢true}
 use Rattle.ber_values.specs.declared.fault.BerFault.{BerFault}
 use Rattle.ber_values.specs.declared.fault.Span.{Span}
@@ -13,7 +13,7 @@ use Rattle.session_profile.specs.declared.spdu.Spdu.TheVariants.{Connect, Accept
 use Rattle.session_profile.specs.Parameters.{Parameter, BeginsParameter, ParameterFault, parameter_in, end_in}
 use Rattle.session_profile.specs.Rules.{SpellsAll, FaultAmong, all_in}
 use Rattle.session_profile.specs.Connections.{Connection, connection}
-use Rattle.session_profile.specs.Spdus.{IsCoded, IsWhole, IsData, SpellsSpdu, OctetFault, FrontFault, is_code, CodedFault, WholeFault, SpduFault, octet_in, front_in, carried, connected, accepted, plain_in, coded_in, whole_in, spdu_in}
+use Rattle.session_profile.specs.Spdus.{IsCoded, IsWhole, SpellsSpdu, OctetFault, FrontFault, is_code, CodedFault, WholeFault, SpduFault, octet_in, front_in, carried, connected, accepted, plain_in, coded_in, whole_in, spdu_in}
 use Rattle.session_profile.proofs.Parameters.{parameter_reads, identifier_is}
 use Rattle.session_profile.proofs.Rules.{all_reads}
 use Rattle.session_profile.proofs.Connections.{connection_rules}

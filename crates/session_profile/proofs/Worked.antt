@@ -1,11 +1,10 @@
 -- The definitions computed on rows that were worked out by hand.
-use Rattle.std.proofs.Common.{◌≡◌, ℕ, List, [], ◌∷◌, ◌++◌, Ok, Err, Some, None, Result, refl}
-use Rattle.ber_values.specs.declared.fault.BerFault.{BerFault}
+use Rattle.std.proofs.Common.{◌≡◌, ℕ, List, [], ◌∷◌, Ok, Err, Some, None, refl}
 use Rattle.ber_values.specs.declared.fault.Why.{Why}
 use Rattle.ber_values.specs.declared.fault.Why.TheVariants as whys
 use Rattle.ber_values.specs.Faults.{fault_at}
 use Rattle.session_profile.specs.declared.spdu.Spdu.{Spdu}
-use Rattle.session_profile.specs.declared.spdu.Spdu.TheVariants.{Connect, Accept, Refuse, Carry, Finish, Disconnect, Abort, AbortAccept}
+use Rattle.session_profile.specs.declared.spdu.Spdu.TheVariants.{Connect, Accept, Carry}
 use Rattle.session_profile.specs.Lengths.{length_in}
 use Rattle.session_profile.specs.Parameters.{parameter_in}
 use Rattle.session_profile.specs.Rules.{rest_in, all_in}

@@ -1,23 +1,22 @@
 -- What is written is spelled.
-use Rattle.std.proofs.Common.{◌≡◌, ◌≢◌, ℕ, suc, ◌+◌, ◌-◌, ◌*◌, ◌/◌, ◌%◌, ◌^◌, ◌<◌, ◌≤◌, Bool, true, false, cond, eqb, ltb, List, [], ◌∷◌, ◌++◌, length, take, Option, Some, None, Result, Ok, Err, refl, sym, ap, subst, ◌∙◌, arith, append_assoc, append-nil}
-use Rattle.std.proofs.lemmas.Bool.{cond_both, ltb-true, ltb-false, le-leb}
+use Rattle.std.proofs.Common.{◌≡◌, ℕ, ◌+◌, ◌-◌, ◌/◌, ◌%◌, ◌^◌, ◌<◌, ◌≤◌, true, false, ltb, List, [], ◌∷◌, ◌++◌, length, Option, Some, None, Result, Ok, refl, ap, subst, ◌∙◌, arith, append_assoc, append-nil}
+use Rattle.std.proofs.lemmas.Bool.{cond_both, ltb-true, le-leb}
 use Rattle.std.proofs.lemmas.List.{length-append}
 use Rattle.ber_values.specs.declared.fault.BerFault.{BerFault}
 use Rattle.ber_values.specs.Faults.{◌>>=◌}
 use Rattle.session_profile.specs.declared.spdu.TheConstants.{MOST_BODY}
 use Rattle.ber_values.specs.declared.fault.Span.{Span}
 use Rattle.ber_values.specs.Grammars.{taken}
-use Rattle.ber_values.specs.Leaves.{span_at, selector_of}
+use Rattle.ber_values.specs.Leaves.{selector_of}
 use Rattle.ber_values.specs.Reading.{Taken}
-use Rattle.tpkt_cotp.specs.Selectors.{IsSelector}
 use Rattle.session_profile.specs.declared.spdu.Spdu.{Spdu}
 use Rattle.session_profile.specs.declared.spdu.Spdu.TheVariants.{Connect, Accept, Refuse, Carry, Finish, Disconnect, Abort, AbortAccept}
 use Rattle.session_profile.specs.Lengths.{SpellsLength, length_in}
-use Rattle.session_profile.specs.Parameters.{Parameter, BeginsParameter, BeginsParameters, parameter_in}
+use Rattle.session_profile.specs.Parameters.{Parameter, BeginsParameter, parameter_in}
 use Rattle.session_profile.specs.Rules.{SpellsAll, next_in, rest_in, all_in}
 use Rattle.session_profile.specs.Connections.{Connection, Seen, called_of, may_follow, judged, with_one, item, connection}
 use Rattle.session_profile.specs.Spdus.{IsWhole, IsCoded, SpellsSpdu}
-use Rattle.session_profile.specs.Writing.{length_octets, element, front, calling, called_octets, user_data, written_form, last_span, with_body, as_written, HasSelector, IsWritable}
+use Rattle.session_profile.specs.Writing.{length_octets, element, front, calling, called_octets, user_data, written_form, last_span, as_written, HasSelector, IsWritable}
 use Rattle.session_profile.proofs.Parameters.{parameter_reads}
 use Rattle.session_profile.proofs.Rules.{all_reads, rest_step}
 use Rattle.session_profile.proofs.Connections.{connection_rules}

@@ -52,8 +52,8 @@ AbortIsWritten = (i j k : ℕ)
     ∷ 97 ∷ 12 ∷ 48 ∷ 10 ∷ 2 ∷ 1 ∷ i ∷ 160 ∷ 5 ∷ 100 ∷ 3 ∷ 128 ∷ 1 ∷ 0 ∷ [])
     × (written_form Abort (abort_body (i ∷ j ∷ [])) ≡ 25 ∷ 22 ∷ 17 ∷ 1 ∷ 11 ∷ 193 ∷ 17 ∷ 160 ∷ 15
     ∷ 97 ∷ 13 ∷ 48 ∷ 11 ∷ 2 ∷ 2 ∷ i ∷ j ∷ 160 ∷ 5 ∷ 100 ∷ 3 ∷ 128 ∷ 1 ∷ 0 ∷ [])
-    × (written_form Abort (abort_body (i ∷ j ∷ k ∷ [])) ≡ 25 ∷ 23 ∷ 17 ∷ 1 ∷ 11 ∷ 193 ∷ 18 ∷ 160 ∷ 16
-    ∷ 97 ∷ 14 ∷ 48 ∷ 12 ∷ 2 ∷ 3 ∷ i ∷ j ∷ k ∷ 160 ∷ 5 ∷ 100 ∷ 3 ∷ 128 ∷ 1 ∷ 0 ∷ [])
+    × (written_form Abort (abort_body (i ∷ j ∷ k ∷ [])) ≡ 25 ∷ 23 ∷ 17 ∷ 1 ∷ 11 ∷ 193 ∷ 18
+    ∷ 160 ∷ 16 ∷ 97 ∷ 14 ∷ 48 ∷ 12 ∷ 2 ∷ 3 ∷ i ∷ j ∷ k ∷ 160 ∷ 5 ∷ 100 ∷ 3 ∷ 128 ∷ 1 ∷ 0 ∷ [])
 
 abbrev pub RefusalIsWritten : Type 0
 RefusalIsWritten = (i j k : ℕ)

@@ -1,5 +1,5 @@
 -- Parameters one after another to the end of octets, under rules.
-use Rattle.std.specs.Prelude.{◌≡◌, ℕ, zero, suc, ◌+◌, Bool, true, false, List, [], ◌∷◌, ◌++◌, length, Option, Some, None, Result, Ok, Err, ◌⊎◌, if◌then◌else◌}
+use Rattle.std.specs.Prelude.{◌≡◌, ℕ, zero, suc, Bool, true, false, List, [], ◌∷◌, ◌++◌, length, Option, Some, None, Result, Ok, Err, ◌⊎◌, if◌then◌else◌}
 use Rattle.ber_values.specs.declared.fault.BerFault.{BerFault}
 use Rattle.ber_values.specs.declared.fault.Why.TheVariants as whys
 use Rattle.ber_values.specs.Faults.{fault_at, ◌>>=◌}
@@ -29,15 +29,18 @@ MayFollow r before (p ∷ ps) = (r.may_follow (r.seen before) p.identifier ≡ t
     × r.is_sound p × MayFollow r (before ++ p ∷ []) ps
 
 -- the octets are parameters that keep the rules, and none is missed
-pub record SpellsAll {S V : Type 0} (r : Rules S V) (at : ℕ) (value : V) (octets : List ℕ) : Type 0 where
+pub record SpellsAll {S V : Type 0} (r : Rules S V) (at : ℕ) (value : V) (octets : List ℕ)
+    : Type 0 where
   pub parameters : List Parameter
   pub end : ℕ
   pub spelled : BeginsParameters at octets parameters end []
   pub kept : MayFollow r [] parameters
   pub is : r.value (r.seen parameters) ≡ Some value
 
--- what breaks first after parameters: one is missed, or may not follow, or isn't whole, or isn't sound
-abbrev pub BreaksAfter : {S V : Type 0} → Rules S V → List Parameter → ℕ → List ℕ → BerFault → Type 0
+-- what breaks first after parameters: one is missed, or may not follow, or isn't whole, or isn't
+-- sound
+abbrev pub BreaksAfter : {S V : Type 0} → Rules S V → List Parameter → ℕ → List ℕ → BerFault
+    → Type 0
 BreaksAfter r before at [] f =
     (r.value (r.seen before) ≡ None) × (f ≡ fault_at at whys.Short)
 BreaksAfter r before at (identifier ∷ octets) f =
@@ -47,7 +50,8 @@ BreaksAfter r before at (identifier ∷ octets) f =
     × BeginsParameter at (identifier ∷ octets) t × r.breaks t.value f)))
 
 -- some parameters keep the rules, and what comes next breaks one
-pub record FaultAmong {S V : Type 0} (r : Rules S V) (at : ℕ) (octets : List ℕ) (f : BerFault) : Type 0 where
+pub record FaultAmong {S V : Type 0} (r : Rules S V) (at : ℕ) (octets : List ℕ) (f : BerFault)
+    : Type 0 where
   pub before : List Parameter
   pub next : ℕ
   pub rest : List ℕ

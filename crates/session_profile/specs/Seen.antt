@@ -1,5 +1,5 @@
 -- What the code holds, without where it lies in memory.
-use Rattle.std.specs.Prelude.{◌≡◌, ℕ, ◌+◌, ◌<◌, ◌≤◌, ◌^◌, List, length, option_copied}
+use Rattle.std.specs.Prelude.{◌≡◌, ℕ, ◌+◌, ◌≤◌, List, length, option_copied}
 use Rattle.ber_values.specs.declared.fault.BerFault.{BerFault}
 use Rattle.session_profile.specs.declared.fault.SessionFault.{SessionFault}
 use Rattle.ber_values.specs.Faults.{fault_at}

@@ -13,7 +13,8 @@ use Rattle.session_profile.specs.Parameters.{Parameter, BeginsParameter, Paramet
 use Rattle.session_profile.specs.Rules.{SpellsAll, FaultAmong, all_in}
 use Rattle.session_profile.specs.Connections.{Connection, connection}
 
--- the code and the contents of an SPDU that carries no data; those of the last five aren't looked at
+-- the code and the contents of an SPDU that carries no data; those of the last five aren't looked
+-- at
 abbrev pub IsCoded : Spdu → Parameter → Type 0
 IsCoded (Connect called body) p = (p.identifier ≡ 13)
     × SpellsAll connection p.body (record { called = called; body = body }) p.contents

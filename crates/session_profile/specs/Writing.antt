@@ -1,6 +1,6 @@
 -- The written form of an SPDU: the shortest lengths, and the parameters in the order of the
 -- standard's tables.
-use Rattle.std.specs.Prelude.{◌≡◌, ◌≢◌, ℕ, ◌+◌, ◌-◌, ◌/◌, ◌%◌, ◌≤◌, List, [], ◌∷◌, ◌++◌, length, Option, Some, None, nat_lt, if◌then◌else◌}
+use Rattle.std.specs.Prelude.{ℕ, ◌+◌, ◌-◌, ◌/◌, ◌%◌, List, [], ◌∷◌, ◌++◌, length, Option, Some, None, nat_lt, if◌then◌else◌}
 use Rattle.ber_values.specs.declared.fault.Span.{Span}
 use Rattle.tpkt_cotp.specs.Selectors.{IsSelector}
 use Rattle.session_profile.specs.declared.spdu.Spdu.{Spdu}

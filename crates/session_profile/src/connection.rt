@@ -1,14 +1,27 @@
 //! The parameters of connect and accept (ISO 8327-1, CONNECT SPDU and ACCEPT SPDU).
-ghost use Rattle.std.specs.Prelude.{◌≡◌, ◌+◌, ◌^◌, ◌<◌, ◌≤◌, length, slice_index, IfOk, IfSome, OnOk};
+ghost use Rattle.std.specs.Prelude.{◌≡◌, ◌+◌, ◌-◌, ◌^◌, ◌<◌, ◌≤◌, ◌++◌, length, take, slice_index, IfOk, IfSome, OnOk, OnErr};
 ghost use Rattle.ber_values.specs.Faults.{Gives};
 ghost use Rattle.session_profile.specs.Parameters.{judged_by};
 ghost use Rattle.session_profile.specs.Rules.{all_in, sound_in, next_in, whole_or_short};
 ghost use Rattle.session_profile.specs.Connections.{has_second_bit, version_in, requirements_in, item, judged, may_follow, with_one, connection};
+ghost use Rattle.session_profile.specs.declared.spdu.TheConstants.{MOST_BODY};
+ghost use Rattle.session_profile.specs.Writing.{calling, called_octets, called_and_data, front_octets, connect_octets, accept_octets, HasSelector};
 ghost use Rattle.session_profile.specs.Seen.{parameter_of, taken_of, seen_of, connection_seen, IsWithin};
 
 use crate::length::fault;
-use crate::parameter::{Parameter, read_parameter};
+use crate::parameter::{Parameter, element_len, put_element, put_head, read_parameter};
 use ber_values::{BerFault, Span, Why};
+use std::alloc::AllocError;
+use tpkt_cotp::Selector;
+
+/// The code of a connect.
+pub(crate) const CONNECT: u8 = 0x0D;
+/// The code of an accept.
+pub(crate) const ACCEPT: u8 = 0x0E;
+/// The item with protocol options 0 and version 2; user requirements: duplex.
+const FRONT: [u8; 12] = [5, 6, 19, 1, 0, 22, 1, 2, 20, 2, 0, 2];
+/// The calling selector 00 01.
+const CALLING: [u8; 4] = [51, 2, 0, 1];
 
 /// A group.
 const ITEM: u8 = 5;
@@ -19,7 +32,7 @@ const REQUIREMENTS: u8 = 20;
 
 const CALLED: u8 = 52;
 
-const USER_DATA: u8 = 193;
+pub(crate) const USER_DATA: u8 = 193;
 
 const EXTENDED_USER_DATA: u8 = 194;
 
@@ -149,7 +162,8 @@ fn judge(parameter: &Parameter<'_>) -> Result<(), BerFault>
     requires place { parameter.now.place + 1 < 2 ^ 64 }
     requires body { parameter.now.body + length parameter.now.contents.now < 2 ^ 64 }
     ensures exact { result ≡ judged (parameter_of parameter.now) }
-    ensures called { OnOk result (parameter.now.identifier ≡ 52 → length parameter.now.contents.now ≤ 32) }
+    ensures called { OnOk result
+        (parameter.now.identifier ≡ 52 → length parameter.now.contents.now ≤ 32) }
 {
     match parameter.identifier {
         ITEM => read_item(parameter.contents, parameter.body),
@@ -185,7 +199,8 @@ fn read_next<'a>(seen: &Seen<'_>, octets: &'a [u8], at: usize) -> Result<Paramet
 #[tactic(auto, unfolding(crate::specs::Connections::connection))]
 fn finish<'a>(seen: Seen<'a>, at: usize) -> Result<Connection<'a>, BerFault>
     requires { IfSome seen.called (λ octets. length octets.now ≤ 32) }
-    ensures exact { Gives connection_seen result (whole_or_short (connection.value (seen_of seen.entry)) at) }
+    ensures exact { Gives connection_seen result
+        (whole_or_short (connection.value (seen_of seen.entry)) at) }
     ensures called { IfOk result (λ c. IfSome c.called (λ octets. length octets.now ≤ 32)) }
 {
     match seen.user_data {
@@ -213,4 +228,98 @@ pub(crate) fn read_connection(octets: &[u8], at: usize) -> Result<Connection<'_>
         rest = parameter.rest;
     }
     finish(seen, place)
+}
+
+fn put_called(out: &mut Vec<u8>, called: &Option<Selector>) -> Result<(), AllocError>
+    ensures ok { OnOk result (out.new.items ≡ out.old.items ++ called_octets called.now) }
+    ensures err { OnErr result (take (length out.old.items) out.new.items ≡ out.old.items) }
+{
+    match called {
+        Some(selector) => put_element(out, CALLED, selector.octets()),
+        None => Ok(()),
+    }
+}
+
+fn called_len(called: &Option<Selector>) -> usize
+    ensures exact { result ≡ length (called_octets called.now) }
+    ensures small { result ≤ 36 }
+    ensures selector { HasSelector called.now }
+{
+    match called {
+        Some(selector) => element_len(selector.octets().len()),
+        None => 0,
+    }
+}
+
+/// The called selector, if there is one, and the user data.
+fn put_called_and_data(
+    out: &mut Vec<u8>,
+    called: &Option<Selector>,
+    body: &[u8],
+) -> Result<(), AllocError>
+    requires { length body.now ≤ MOST_BODY }
+    ensures ok { OnOk result
+        (out.new.items ≡ out.old.items ++ called_and_data called.now body.now) }
+    ensures err { OnErr result (take (length out.old.items) out.new.items ≡ out.old.items) }
+{
+    put_called(out, called)?;
+    put_element(out, USER_DATA, body)
+}
+
+/// What a connect has after the item and the requirements.
+fn put_selectors_and_data(
+    out: &mut Vec<u8>,
+    called: &Option<Selector>,
+    body: &[u8],
+) -> Result<(), AllocError>
+    requires { length body.now ≤ MOST_BODY }
+    ensures ok { OnOk result
+        (out.new.items ≡ out.old.items ++ (calling ++ called_and_data called.now body.now)) }
+    ensures err { OnErr result (take (length out.old.items) out.new.items ≡ out.old.items) }
+{
+    out.extend_from_slice(&CALLING)?;
+    put_called_and_data(out, called, body)
+}
+
+/// The code, the length, the item and the requirements of a connect or an accept; `len` octets
+/// follow.
+fn put_front(out: &mut Vec<u8>, code: u8, len: usize) -> Result<(), AllocError>
+    requires { len < 2 ^ 16 - 12 }
+    ensures ok { OnOk result (out.new.items ≡ out.old.items ++ front_octets code len) }
+    ensures err { OnErr result (take (length out.old.items) out.new.items ≡ out.old.items) }
+{
+    put_head(out, code, FRONT.len() + len)?;
+    out.extend_from_slice(&FRONT)
+}
+
+/// Appends a connect.
+pub(crate) fn put_connect(
+    out: &mut Vec<u8>,
+    called: &Option<Selector>,
+    body: &[u8],
+) -> Result<(), AllocError>
+    requires { length body.now ≤ MOST_BODY }
+    ensures ok { OnOk result (out.new.items ≡ out.old.items ++ connect_octets called.now body.now) }
+    ensures selector { HasSelector called.now }
+    ensures err { OnErr result (take (length out.old.items) out.new.items ≡ out.old.items) }
+{
+    let len = CALLING.len() + called_len(called) + element_len(body.len());
+    put_front(out, CONNECT, len)?;
+    put_selectors_and_data(out, called, body)
+}
+
+/// Appends an accept.
+pub(crate) fn put_accept(
+    out: &mut Vec<u8>,
+    called: &Option<Selector>,
+    body: &[u8],
+) -> Result<(), AllocError>
+    requires { length body.now ≤ MOST_BODY }
+    ensures ok { OnOk result (out.new.items ≡ out.old.items ++ accept_octets called.now body.now) }
+    ensures selector { HasSelector called.now }
+    ensures err { OnErr result (take (length out.old.items) out.new.items ≡ out.old.items) }
+{
+    let len = called_len(called) + element_len(body.len());
+    put_front(out, ACCEPT, len)?;
+    put_called_and_data(out, called, body)
 }

@@ -3,6 +3,9 @@ ghost use Rattle.std.specs.Prelude.{ℕ, List, ◌≤◌, length};
 ghost use Rattle.ber_values.specs.Reading.{HasOneReading};
 ghost use Rattle.session_profile.specs.declared.spdu.Spdu.{Spdu};
 ghost use Rattle.session_profile.specs.declared.spdu.TheConstants.{MOST_BODY};
+ghost use Rattle.session_profile.specs.Connections.{Connection, connection};
+ghost use Rattle.session_profile.specs.Counts.{AreOnce, AreSound};
+ghost use Rattle.session_profile.specs.Rules.{SpellsAll};
 ghost use Rattle.session_profile.specs.Spdus.{SpellsSpdu, SpduFault};
 ghost use Rattle.session_profile.specs.Writing.{written_form, as_written, IsWritable};
 ghost use Rattle.session_profile.specs.Answers.{FinishIsWritten, ReleaseIsWritten, AbortIsWritten, RefusalIsWritten};
@@ -11,6 +14,14 @@ ghost use Rattle.session_profile.specs.Answers.{FinishIsWritten, ReleaseIsWritte
 /// one first fault.
 pub fn one_reading()
     ensures { (tsdu : List ℕ) → HasOneReading Spdu (λ spdu. SpellsSpdu spdu tsdu) (SpduFault tsdu) }
+{}
+
+/// In a connect or an accept the parameters stand in any order: the item and the user data once,
+/// the requirements and the called selector once at most, no extended user data, and the contents
+/// of each keep their rules.
+pub fn parameters_once()
+    ensures { (at : ℕ) (c : Connection) (octets : List ℕ) (s : SpellsAll connection at c octets)
+        → AreOnce s.parameters × AreSound s.parameters }
 {}
 
 /// What is written is read back as the same SPDU, whose body is the octets that were given.

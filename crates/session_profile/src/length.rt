@@ -1,6 +1,7 @@
 //! Lengths (ISO 8327-1, length indicator).
 ghost use Rattle.std.specs.Prelude.{◌≡◌, ◌+◌, ◌^◌, ◌<◌, ◌≤◌, ◌++◌, length, take, IfOk, OnOk, OnErr};
 ghost use Rattle.ber_values.specs.Faults.{fault_at, Gives};
+ghost use Rattle.ber_values.specs.Grammars.{taken};
 ghost use Rattle.ber_values.specs.Reading.{IsAfter};
 ghost use Rattle.session_profile.specs.Lengths.{length_in, long_length_in};
 ghost use Rattle.session_profile.specs.Writing.{length_octets};
@@ -21,7 +22,7 @@ pub(crate) fn fault(place: usize, why: Why) -> BerFault
 #[tactic(auto, unfolding(crate::specs::Lengths::length_in))]
 pub(crate) fn read_length(octets: &[u8], at: usize) -> Result<(usize, usize, &[u8]), BerFault>
     requires { at + length octets.now < 2 ^ 64 }
-    ensures exact { Gives (λ x. record { value = x.0; next = x.1; rest = x.2.now }) result (length_in at octets.now) }
+    ensures exact { Gives (λ x. taken x.0 x.1 x.2.now) result (length_in at octets.now) }
     ensures bounded { IfOk result (λ x. x.0 < 2 ^ 16) }
     ensures places { IfOk result (λ x. IsAfter at octets.now x.1 x.2.now) }
 {
@@ -35,7 +36,7 @@ pub(crate) fn read_length(octets: &[u8], at: usize) -> Result<(usize, usize, &[u
 /// The two octets after the first one of a long length.
 fn read_long(octets: &[u8], at: usize) -> Result<(usize, usize, &[u8]), BerFault>
     requires { at + length octets.now < 2 ^ 64 }
-    ensures exact { Gives (λ x. record { value = x.0; next = x.1; rest = x.2.now }) result (long_length_in at octets.now) }
+    ensures exact { Gives (λ x. taken x.0 x.1 x.2.now) result (long_length_in at octets.now) }
     ensures bounded { IfOk result (λ x. x.0 < 2 ^ 16) }
     ensures places { IfOk result (λ x. IsAfter at octets.now x.1 x.2.now) }
 {

@@ -7,10 +7,10 @@ ghost use Rattle.session_profile.specs.declared.fault.SessionFault.{SessionFault
 ghost use Rattle.session_profile.specs.declared.spdu.Spdu.{Spdu};
 ghost use Rattle.session_profile.specs.Connections.{called_of};
 ghost use Rattle.session_profile.specs.Seen.{parameter_of, fault_of, session_fault_of};
-ghost use Rattle.session_profile.specs.Writing.{called_octets, calling, called_and_data, front_octets, released, connect_octets, accept_octets, refuse_octets, release_octets, abort_octets, carry_octets, written_form, as_written, HasSelector, IsWritable};
+ghost use Rattle.session_profile.specs.Writing.{released, refuse_octets, release_octets, abort_octets, carry_octets, written_form, as_written, IsWritable};
 ghost use Rattle.session_profile.specs.Spdus.{SpellsSpdu, SpduFault, is_code, octet_in, front_in, carried, plain_in, coded_in, whole_in, spdu_in};
 
-use crate::connection::read_connection;
+use crate::connection::{ACCEPT, CONNECT, USER_DATA, put_accept, put_connect, read_connection};
 use crate::fault::SessionFault;
 use crate::length::fault;
 use crate::parameter::{Parameter, element_len, put_element, put_head, read_end, read_parameter};
@@ -26,10 +26,6 @@ const FINISH: u8 = 0x09;
 const DISCONNECT: u8 = 0x0A;
 
 const REFUSE: u8 = 0x0C;
-
-const CONNECT: u8 = 0x0D;
-
-const ACCEPT: u8 = 0x0E;
 
 const ABORT: u8 = 0x19;
 
@@ -211,102 +207,12 @@ pub fn read_spdu(alloc: Global, tsdu: &[u8]) -> Result<Result<Spdu, SessionFault
     }
 }
 
-/// The connect/accept item with protocol options 0 and version 2; user requirements: duplex.
-const FRONT: [u8; 12] = [5, 6, 19, 1, 0, 22, 1, 2, 20, 2, 0, 2];
-/// The calling selector 00 01.
-const CALLING: [u8; 4] = [51, 2, 0, 1];
-
-const CALLED: u8 = 52;
-
-const USER_DATA: u8 = 193;
 /// The reason code of a refusal: 2, by the session user, with its data.
 const REASON: u8 = 50;
 
 const BY_USER: u8 = 2;
 /// The transport disconnect of an abort: released, by the user, no reason.
 const RELEASED: [u8; 3] = [17, 1, 11];
-
-fn put_called(out: &mut Vec<u8>, called: &Option<Selector>) -> Result<(), AllocError>
-    ensures ok { OnOk result (out.new.items ≡ out.old.items ++ called_octets called.now) }
-    ensures err { OnErr result (take (length out.old.items) out.new.items ≡ out.old.items) }
-{
-    match called {
-        Some(selector) => put_element(out, CALLED, selector.octets()),
-        None => Ok(()),
-    }
-}
-
-fn called_len(called: &Option<Selector>) -> usize
-    ensures exact { result ≡ length (called_octets called.now) }
-    ensures small { result ≤ 36 }
-    ensures selector { HasSelector called.now }
-{
-    match called {
-        Some(selector) => element_len(selector.octets().len()),
-        None => 0,
-    }
-}
-
-/// The called selector, if there is one, and the user data.
-fn put_called_and_data(
-    out: &mut Vec<u8>,
-    called: &Option<Selector>,
-    body: &[u8],
-) -> Result<(), AllocError>
-    requires { length body.now ≤ MOST_BODY }
-    ensures ok { OnOk result (out.new.items ≡ out.old.items ++ called_and_data called.now body.now) }
-    ensures err { OnErr result (take (length out.old.items) out.new.items ≡ out.old.items) }
-{
-    put_called(out, called)?;
-    put_element(out, USER_DATA, body)
-}
-
-/// What a connect has after the item and the requirements.
-fn put_selectors_and_data(
-    out: &mut Vec<u8>,
-    called: &Option<Selector>,
-    body: &[u8],
-) -> Result<(), AllocError>
-    requires { length body.now ≤ MOST_BODY }
-    ensures ok { OnOk result (out.new.items ≡ out.old.items ++ (calling ++ called_and_data called.now body.now)) }
-    ensures err { OnErr result (take (length out.old.items) out.new.items ≡ out.old.items) }
-{
-    out.extend_from_slice(&CALLING)?;
-    put_called_and_data(out, called, body)
-}
-
-/// The code, the length, the item and the requirements of a connect or an accept; `len` octets
-/// follow.
-fn put_front(out: &mut Vec<u8>, code: u8, len: usize) -> Result<(), AllocError>
-    requires { len < 2 ^ 16 - 12 }
-    ensures ok { OnOk result (out.new.items ≡ out.old.items ++ front_octets code len) }
-    ensures err { OnErr result (take (length out.old.items) out.new.items ≡ out.old.items) }
-{
-    put_head(out, code, FRONT.len() + len)?;
-    out.extend_from_slice(&FRONT)
-}
-
-fn put_connect(out: &mut Vec<u8>, called: &Option<Selector>, body: &[u8]) -> Result<(), AllocError>
-    requires { length body.now ≤ MOST_BODY }
-    ensures ok { OnOk result (out.new.items ≡ out.old.items ++ connect_octets called.now body.now) }
-    ensures selector { HasSelector called.now }
-    ensures err { OnErr result (take (length out.old.items) out.new.items ≡ out.old.items) }
-{
-    let len = CALLING.len() + called_len(called) + element_len(body.len());
-    put_front(out, CONNECT, len)?;
-    put_selectors_and_data(out, called, body)
-}
-
-fn put_accept(out: &mut Vec<u8>, called: &Option<Selector>, body: &[u8]) -> Result<(), AllocError>
-    requires { length body.now ≤ MOST_BODY }
-    ensures ok { OnOk result (out.new.items ≡ out.old.items ++ accept_octets called.now body.now) }
-    ensures selector { HasSelector called.now }
-    ensures err { OnErr result (take (length out.old.items) out.new.items ≡ out.old.items) }
-{
-    let len = called_len(called) + element_len(body.len());
-    put_front(out, ACCEPT, len)?;
-    put_called_and_data(out, called, body)
-}
 
 /// A refuse, whose contents are the reason code with the body.
 fn put_refuse(out: &mut Vec<u8>, body: &[u8]) -> Result<(), AllocError>

@@ -490,23 +490,23 @@ fn each_octet_changed(rt: HostRuntime) -> Result<(), Fail> {
 
 #[test]
 fn long_lengths(rt: HostRuntime) -> Result<(), Fail> {
-    let mut body = Vec::new(rt.alloc());
-    for _ in 0..300 {
-        body.push(0xAA)?;
-    }
+    let body = [0xAA; 300];
+    let front = [
+        0x0D, 0xFF, 0x01, 0x40, 5, 6, 19, 1, 0, 22, 1, 2, 20, 2, 0, 2, 51, 2, 0, 1, 0xC1, 0xFF,
+        0x01, 0x2C,
+    ];
+    let mut want = Vec::from_slice(rt.alloc(), &front)?;
+    want.extend_from_slice(&body)?;
+    let unused = Span { from: 0, to: 0 };
     let spdu = Spdu::Connect {
         called: None,
-        body: Span { from: 0, to: 0 },
+        body: unused,
     };
     let mut out = Vec::new(rt.alloc());
     write_spdu(&mut out, &spdu, &body)?;
-    assert_eq!(rt; out.len(), 324);
-    assert_eq!(rt; &out[..4], [0x0D, 0xFF, 0x01, 0x40].as_slice());
-    assert_eq!(rt; &out[20..24], [0xC1, 0xFF, 0x01, 0x2C].as_slice());
+    assert_eq!(rt; out, want);
     let body = Span { from: 24, to: 324 };
-    assert_eq!(rt;
-        read_spdu(rt.alloc(), &out)?,
-        Ok(Spdu::Connect { called: None, body })
-    );
+    let spdu = Spdu::Connect { called: None, body };
+    assert_eq!(rt; read_spdu(rt.alloc(), &out)?, Ok(spdu));
     Ok(())
 }

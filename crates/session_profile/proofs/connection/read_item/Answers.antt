@@ -1,8 +1,8 @@
-use Rattle.std.proofs.Common.{◌≡◌, ◌∙◌, ◌<◌, ◌+◌, Err, ap, sym, refl, length, arith}
+use Rattle.std.proofs.Common.{◌∙◌, ◌<◌, Err, ap, sym, refl, length, arith}
 use Rattle.std.proofs.lemmas.Bool.{eqb-true, eqb-false}
 use Rattle.std.proofs.lemmas.Result.{err_from_is_err_and}
 use Rattle.ber_values.specs.declared.fault.BerFault.{BerFault}
-use Rattle.session_profile.specs.Rules.{rest_in, all_in}
+use Rattle.session_profile.specs.Rules.{all_in}
 use Rattle.session_profile.specs.Connections.{item}
 use Rattle.session_profile.specs.Seen.{taken_of}
 use Rattle.session_profile.proofs.Connections.{item_next}

@@ -1,10 +1,9 @@
-use Rattle.std.proofs.Common.{◌≡◌, ◌∙◌, Result, Ok, Err, ap, sym, refl, subst}
-use Rattle.ber_values.specs.declared.fault.BerFault.{BerFault}
+use Rattle.std.proofs.Common.{◌≡◌, ◌∙◌, Ok, Err, ap, sym, subst}
 use Rattle.ber_values.proofs.Reading.{Ok_is, Err_is, not_both}
 use Rattle.session_profile.specs.declared.fault.SessionFault.{SessionFault}
 use Rattle.session_profile.specs.declared.spdu.Spdu.{Spdu}
 use Rattle.session_profile.specs.Seen.{fault_of, session_fault_of}
-use Rattle.session_profile.specs.Spdus.{SpduFault, spdu_in}
+use Rattle.session_profile.specs.Spdus.{SpduFault}
 use Rattle.session_profile.proofs.Spdus.{spdu_reads}
 use Rattle.session_profile.proofs.spdu.read_spdu.Goals as goal
 
