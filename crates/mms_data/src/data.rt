@@ -10,7 +10,7 @@ mod octets;
 
 use ber_values::{BitString, Visible};
 use item_list::ItemList;
-pub use octets::{MOST_DEPTH, data_len, read_data};
+pub use octets::{MOST_DEPTH, data_len, read_data, write_data};
 use plain_text::{push_decimal, push_escaped, push_hex, push_signed_decimal};
 use std::alloc::{AllocError, Global};
 use std::marker::Model;

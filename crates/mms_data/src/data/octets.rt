@@ -21,11 +21,12 @@ ghost use Rattle.mms_data.specs.Floating.{floating};
 ghost use Rattle.mms_data.specs.DataOctets.{plain_datum, array_of, structure_of, datum_within};
 ghost use Rattle.mms_data.specs.DataOctets.{one_datum};
 
-use ber_values::BitString;
+use ber_values::{BitString, Visible};
 use super::{DataKind, DataList, MmsData, OctetList};
 use ber_values::{
     BerFault, MOST_LENGTH, Part, Stop, Why, add_len, has_tag, integer_len, natural_len, octets_from, part_len, settle,
-    take_part,
+    take_part, write_bits, write_boolean, write_head, write_integer, write_natural, write_octets,
+    write_visible,
 };
 use std::alloc::{AllocError, Global};
 
@@ -341,4 +342,118 @@ fn text_element_len(text: &[u8]) -> usize
     ensures { result ≡ datum_len (Datum.text text.now) }
 {
     element_len(text.len())
+}
+
+/// Appends a value, which is shorter than 4,294,967,295 octets. After want of memory `out` is as
+/// before.
+pub fn write_data(out: &mut Vec<u8>, value: &MmsData) -> Result<(), AllocError>
+    requires lawful { IsLawful value.now }
+    requires bounded { datum_len value.now < MOST_LENGTH }
+    ensures ok { OnOk result (out.new.items ≡ out.old.items ++ datum_octets value.now) }
+    ensures err { OnErr result (out.new.items ≡ out.old.items) }
+{
+    let before = out.len();
+    let written = put_data(out, value);
+    if written.is_err() {
+        out.truncate(before);
+    }
+    written
+}
+
+#[cycle(writing)]
+fn put_data(out: &mut Vec<u8>, value: &MmsData) -> Result<(), AllocError>
+    requires { length (datum_octets value.now) < MOST_LENGTH }
+    ensures ok { OnOk result (out.new.items ≡ out.old.items ++ datum_octets value.now) }
+    ensures err { OnErr result (Extends out.old.items out.new.items) }
+{
+    match &value.kind {
+        DataKind::Boolean(boolean) => put_boolean(out, *boolean),
+        DataKind::Integer(integer) => put_integer(out, *integer),
+        DataKind::Unsigned(unsigned) => put_unsigned(out, *unsigned),
+        DataKind::Bits(bits) => put_bits(out, bits),
+        DataKind::Real(real) => put_real(out, real),
+        DataKind::Octets(octets) => put_octets(out, octets.as_slice()),
+        DataKind::Text(text) => put_text(out, text),
+        DataKind::Structure(members) => {
+            write_head(out, 0xA2, len_of_members(members))?;
+            put_members(out, members)
+        }
+        DataKind::Array(members) => {
+            write_head(out, 0xA1, len_of_members(members))?;
+            put_members(out, members)
+        }
+    }
+}
+
+#[cycle(writing)]
+#[tactic(auto, using(crate::proofs::DataLengths::written_members))]
+fn put_members(out: &mut Vec<u8>, members: &DataList) -> Result<(), AllocError>
+    requires { length (members_octets (data_of members.now)) < MOST_LENGTH }
+    ensures ok { OnOk result
+        (out.new.items ≡ out.old.items ++ members_octets (data_of members.now)) }
+    ensures err { OnErr result (Extends out.old.items out.new.items) }
+{
+    for member in &members.items {
+        put_data(out, member)?;
+    }
+    Ok(())
+}
+
+fn put_boolean(out: &mut Vec<u8>, boolean: bool) -> Result<(), AllocError>
+    ensures ok { OnOk result
+        (out.new.items ≡ out.old.items ++ datum_octets (Datum.boolean boolean)) }
+    ensures err { OnErr result (Extends out.old.items out.new.items) }
+{
+    write_boolean(out, 0x83, boolean)
+}
+
+fn put_integer(out: &mut Vec<u8>, integer: i64) -> Result<(), AllocError>
+    ensures ok { OnOk result
+        (out.new.items ≡ out.old.items ++ datum_octets (Datum.integer integer)) }
+    ensures err { OnErr result (Extends out.old.items out.new.items) }
+{
+    write_integer(out, 0x85, integer)
+}
+
+fn put_unsigned(out: &mut Vec<u8>, unsigned: u64) -> Result<(), AllocError>
+    ensures ok { OnOk result
+        (out.new.items ≡ out.old.items ++ datum_octets (Datum.unsigned unsigned)) }
+    ensures err { OnErr result (Extends out.old.items out.new.items) }
+{
+    write_natural(out, 0x86, unsigned)
+}
+
+fn put_bits(out: &mut Vec<u8>, bits: &BitString) -> Result<(), AllocError>
+    requires { length (datum_octets (Datum.bits bits.now)) < MOST_LENGTH }
+    ensures ok { OnOk result
+        (out.new.items ≡ out.old.items ++ datum_octets (Datum.bits bits.now)) }
+    ensures err { OnErr result (Extends out.old.items out.new.items) }
+{
+    write_bits(out, 0x84, bits)
+}
+
+fn put_real(out: &mut Vec<u8>, real: &[u8; 4]) -> Result<(), AllocError>
+    ensures ok { OnOk result
+        (out.new.items ≡ out.old.items ++ datum_octets (Datum.real real.now)) }
+    ensures err { OnErr result (Extends out.old.items out.new.items) }
+{
+    let [a, b, c, d] = *real;
+    write_octets(out, 0x87, &[8, a, b, c, d])
+}
+
+fn put_octets(out: &mut Vec<u8>, octets: &[u8]) -> Result<(), AllocError>
+    requires { length (datum_octets (Datum.octets octets.now)) < MOST_LENGTH }
+    ensures ok { OnOk result
+        (out.new.items ≡ out.old.items ++ datum_octets (Datum.octets octets.now)) }
+    ensures err { OnErr result (Extends out.old.items out.new.items) }
+{
+    write_octets(out, 0x89, octets)
+}
+
+fn put_text(out: &mut Vec<u8>, text: &Visible) -> Result<(), AllocError>
+    ensures ok { OnOk result
+        (out.new.items ≡ out.old.items ++ datum_octets (Datum.text text.now)) }
+    ensures err { OnErr result (Extends out.old.items out.new.items) }
+{
+    write_visible(out, 0x8A, text)
 }
