@@ -232,16 +232,22 @@ part-written {X} tag c at x contents rest few spelled =
     let after : List ℕ = (length_octets n ++ contents) ++ rest in
     let front : take n (contents ++ rest) ≡ contents = take_at contents rest n refl in
     let back : drop n (contents ++ rest) ≡ rest = drop_at contents rest n refl in
-    let ends : at + length (written tag contents) ≡ (at + 1 + length (length_octets n)) + n = omega (arith, length-append (length_octets n) contents) in
-    (parted tag at size, record {
-      after_tag = after;
-      size = size;
-      tagged = refl;
-      sized = record { spelling = length_octets n; spelled = length_spelled n few; parts = append_assoc (length_octets n) contents rest; place = refl };
-      within = omega (arith, length-append contents rest);
-      is = refl;
-    }, (x, subst (c.spells (at + 1 + length (length_octets n)) x) (sym front) spelled,
-      ap (λ (k : ℕ). taken x k rest) ends ∙ ap (λ (os : List ℕ). taken x ((at + 1 + length (length_octets n)) + n) os) (sym back)))
+    let ends : at + length (written tag contents) ≡ (at + 1 + length (length_octets n)) + n = omega (arith, length-append (length_octets n) contents) in (
+      parted tag at size,
+      record {
+        after_tag = after;
+        size = size;
+        tagged = refl;
+        sized = record { spelling = length_octets n; spelled = length_spelled n few; parts = append_assoc (length_octets n) contents rest; place = refl };
+        within = omega (arith, length-append contents rest);
+        is = refl;
+      },
+      (
+        x,
+        subst (c.spells (at + 1 + length (length_octets n)) x) (sym front) spelled,
+        ap (λ (k : ℕ). taken x k rest) ends ∙ ap (λ (os : List ℕ). taken x ((at + 1 + length (length_octets n)) + n) os) (sym back),
+      ),
+    )
 
 -- the element of a tag is chosen
 pub choose-written : {X : Type 0} (tag : ℕ) (c : Contents X) (other : Grammar X) (at : ℕ) (x : X) (contents rest : List ℕ) → length contents < 2 ^ 32

@@ -1,6 +1,8 @@
 -- Grammars of octets: which octets begin with which value, the first fault of those that begin
 -- with none, and the reading from the left that tells both. Productions are composed of these.
-use Rattle.std.specs.Prelude.{◌≡◌, ◌≢◌, ℕ, zero, suc, Bool, true, false, List, [], ◌∷◌, length, drop, ◌-◌, Option, Some, None, ◌⊎◌, Result, Ok, Err, ◌==◌, if◌then◌else◌}
+use Rattle.std.specs.Prelude.{◌≡◌, ◌≢◌, ℕ, zero, suc, Bool, true, false, List, [], ◌∷◌, length}
+use Rattle.std.specs.Prelude.{drop, ◌-◌, Option, Some, None, ◌⊎◌, Result, Ok, Err, ◌==◌}
+use Rattle.std.specs.Prelude.{if◌then◌else◌}
 use Rattle.ber_values.specs.declared.fault.BerFault.{BerFault}
 use Rattle.ber_values.specs.declared.fault.Why.{Why}
 use Rattle.ber_values.specs.declared.fault.Why.TheVariants as whys

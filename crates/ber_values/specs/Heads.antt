@@ -1,5 +1,6 @@
 -- Heads: a tag, a length, and at least as many octets after them.
-use Rattle.std.specs.Prelude.{◌≡◌, ℕ, ◌+◌, ◌^◌, ◌<◌, ◌≤◌, List, length, ◌⊎◌, Result, Ok, Err, nat_lt, if◌then◌else◌}
+use Rattle.std.specs.Prelude.{◌≡◌, ℕ, ◌+◌, ◌^◌, ◌<◌, ◌≤◌, List, length, ◌⊎◌, Result, Ok, Err}
+use Rattle.std.specs.Prelude.{nat_lt, if◌then◌else◌}
 use Rattle.ber_values.specs.declared.fault.BerFault.{BerFault}
 use Rattle.ber_values.specs.declared.fault.Why.TheVariants as whys
 use Rattle.ber_values.specs.declared.tag.Tag.{Tag}
@@ -10,7 +11,19 @@ use Rattle.ber_values.specs.Tags.{SpellsTag, TagFault, SpellsLength, LengthFault
 
 -- the head of a tag and a length
 abbrev pub head_of : Taken Tag → Taken ℕ → Head
-head_of tag size = record { class = tag.value.class; constructed = tag.value.constructed; number = tag.value.number; long_form = tag.value.long_form; length_at = tag.next; body = size.next; end = size.next + size.value; next = size.next + size.value }
+head_of tag size =
+    record {
+      class = tag.value.class;
+      constructed = tag.value.constructed;
+      number =
+          tag.value.number;
+      long_form = tag.value.long_form;
+      length_at = tag.next;
+      body =
+          size.next;
+      end = size.next + size.value;
+      next = size.next + size.value;
+    }
 
 -- the octets from a place on begin with a head, and go on for as long as it says
 pub record SpellsHead (at : ℕ) (octets : List ℕ) (head : Head) : Type 0 where
@@ -52,4 +65,5 @@ unfoldable pub head_in : ℕ → List ℕ → Result Head BerFault
 head_in at octets = do
   tag ← tag_in at octets
   size ← length_in tag.next tag.rest
-  if nat_lt (length size.rest) size.value then Err (fault_at tag.next whys.Length) else Ok (head_of tag size)
+  if nat_lt (length size.rest) size.value then Err (fault_at tag.next whys.Length)
+      else Ok (head_of tag size)

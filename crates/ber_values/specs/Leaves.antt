@@ -1,5 +1,8 @@
 -- Contents that hold no elements.
-use Rattle.std.specs.Prelude.{◌≡◌, ◌≢◌, ℕ, zero, suc, ◌+◌, ◌^◌, ◌<◌, ◌≤◌, Bool, true, false, ◌&&◌, List, [], ◌∷◌, ◌++◌, length, slice_index, ℤ, pos, negsuc, ◌<ℤ◌, ◌≤ℤ◌, int_le, Option, Some, None, ◌⊎◌, Result, Ok, Err, nat_lt, nat_le, ◌==◌, if◌then◌else◌}
+use Rattle.std.specs.Prelude.{◌≡◌, ◌≢◌, ℕ, zero, suc, ◌+◌, ◌^◌, ◌<◌, ◌≤◌, Bool, true, false, ◌&&◌}
+use Rattle.std.specs.Prelude.{List, [], ◌∷◌, ◌++◌, length, slice_index, ℤ, pos, negsuc, ◌<ℤ◌, ◌≤ℤ◌}
+use Rattle.std.specs.Prelude.{int_le, Option, Some, None, ◌⊎◌, Result, Ok, Err, nat_lt, nat_le}
+use Rattle.std.specs.Prelude.{◌==◌, if◌then◌else◌}
 use Rattle.std.specs.List.{list_all}
 use Rattle.ber_values.specs.declared.fault.BerFault.{BerFault}
 use Rattle.ber_values.specs.declared.fault.Span.{Span}
@@ -9,10 +12,13 @@ use Rattle.ber_values.specs.Faults.{fault_at, ◌>>=◌}
 use Rattle.ber_values.specs.Bits.{Bits}
 use Rattle.ber_values.specs.Visible.{is_visible_octet}
 use Rattle.ber_values.specs.Contents.{HasLength, has_length, ContentsFault, contents_in}
-use Rattle.ber_values.specs.Numbers.{twos_complement, SpellsInteger, IntegerFault, integer_in, SpellsUnsigned, UnsignedFault, unsigned_in, is_below, unsigned_of}
+use Rattle.ber_values.specs.Numbers.{twos_complement, SpellsInteger, IntegerFault, integer_in}
+use Rattle.ber_values.specs.Numbers.{SpellsUnsigned, UnsignedFault, unsigned_in, is_below}
+use Rattle.ber_values.specs.Numbers.{unsigned_of}
 use Rattle.ber_values.specs.Booleans.{SpellsBoolean, BooleanFault, boolean_in}
 use Rattle.ber_values.specs.BitContents.{SpellsBits, BitsFault, bits_in}
-use Rattle.ber_values.specs.TextContents.{SpellsOid, OidFault, oid_in, SpellsVisible, VisibleFault, visible_in}
+use Rattle.ber_values.specs.TextContents.{SpellsOid, OidFault, oid_in, SpellsVisible, VisibleFault}
+use Rattle.ber_values.specs.TextContents.{visible_in}
 use Rattle.ber_values.specs.Parts.{Contents, contents_where}
 
 unfoldable pub integer : Contents ℤ

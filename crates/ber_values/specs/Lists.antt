@@ -1,5 +1,6 @@
 -- Contents that are elements, one after another.
-use Rattle.std.specs.Prelude.{◌≡◌, ◌≢◌, ℕ, zero, suc, ◌+◌, ◌<◌, ◌≤◌, List, [], ◌∷◌, ◌++◌, length, ◌⊎◌, Result, Ok, Err, nat_lt, if◌then◌else◌}
+use Rattle.std.specs.Prelude.{◌≡◌, ◌≢◌, ℕ, zero, suc, ◌+◌, ◌<◌, ◌≤◌, List, [], ◌∷◌, ◌++◌, length}
+use Rattle.std.specs.Prelude.{◌⊎◌, Result, Ok, Err, nat_lt, if◌then◌else◌}
 use Rattle.ber_values.specs.declared.fault.BerFault.{BerFault}
 use Rattle.ber_values.specs.declared.fault.Why.TheVariants as whys
 use Rattle.ber_values.specs.declared.head.Head.{Head}
@@ -15,7 +16,8 @@ BeginsList {X} g at octets (x ∷ xs) next rest = (t : Taken X) × (octets ≢ [
     × g.begins at octets t × (x ≡ t.value) × BeginsList g t.next t.rest xs next rest
 
 -- the octets are such elements, at least and at most so many
-pub record SpellsList {X : Type 0} (g : Grammar X) (least most at : ℕ) (xs : List X) (octets : List ℕ) : Type 0 where
+pub record SpellsList {X : Type 0} (g : Grammar X) (least most at : ℕ) (xs : List X)
+    (octets : List ℕ) : Type 0 where
   pub end : ℕ
   pub spelled : BeginsList g at octets xs end []
   pub enough : least ≤ length xs
@@ -29,7 +31,8 @@ BreaksList g least most count at octets f =
     ⊎ ((octets ≢ []) × (count ≡ most) × (f ≡ fault_at at whys.Tag)))
 
 -- after some elements the octets break
-pub record ListFault {X : Type 0} (g : Grammar X) (least most at : ℕ) (octets : List ℕ) (f : BerFault) : Type 0 where
+pub record ListFault {X : Type 0} (g : Grammar X) (least most at : ℕ) (octets : List ℕ)
+    (f : BerFault) : Type 0 where
   pub before : List X
   pub next : ℕ
   pub rest : List ℕ
@@ -38,8 +41,10 @@ pub record ListFault {X : Type 0} (g : Grammar X) (least most at : ℕ) (octets 
   pub breaks : BreaksList g least most (length before) next rest f
 
 -- the elements so far, and as many more as there is room for
-unfoldable pub more_in : {X : Type 0} → Grammar X → ℕ → ℕ → List X → ℕ → List ℕ → Result (List X) BerFault
-more_in g least room xs at [] = if nat_lt (length xs) least then Err (fault_at at whys.Short) else Ok xs
+unfoldable pub more_in : {X : Type 0} → Grammar X → ℕ → ℕ → List X → ℕ → List ℕ
+    → Result (List X) BerFault
+more_in g least room xs at [] =
+    if nat_lt (length xs) least then Err (fault_at at whys.Short) else Ok xs
 more_in g least zero xs at (first ∷ rest) = Err (fault_at at whys.Tag)
 more_in g least (suc room) xs at (first ∷ rest) = do
   t ← g.reading at (first ∷ rest)

@@ -1,5 +1,7 @@
 -- Elements with a tag of one octet, and grammars of their contents.
-use Rattle.std.specs.Prelude.{◌≡◌, ◌≢◌, ℕ, zero, suc, ◌+◌, ◌-◌, ◌/◌, ◌%◌, ◌<◌, ◌≤◌, Bool, true, false, List, [], ◌∷◌, ◌++◌, length, take, drop, Option, Some, None, ◌⊎◌, Result, Ok, Err, nat_lt, ◌==◌, if◌then◌else◌}
+use Rattle.std.specs.Prelude.{◌≡◌, ◌≢◌, ℕ, zero, suc, ◌+◌, ◌-◌, ◌/◌, ◌%◌, ◌<◌, ◌≤◌, Bool, true}
+use Rattle.std.specs.Prelude.{false, List, [], ◌∷◌, ◌++◌, length, take, drop, Option, Some, None}
+use Rattle.std.specs.Prelude.{◌⊎◌, Result, Ok, Err, nat_lt, ◌==◌, if◌then◌else◌}
 use Rattle.ber_values.specs.declared.fault.BerFault.{BerFault}
 use Rattle.ber_values.specs.declared.fault.Why.TheVariants as whys
 use Rattle.ber_values.specs.declared.head.Head.{Head}
@@ -56,12 +58,14 @@ PartFault tag at (first ∷ octets) f = ((first ≢ tag) × (f ≡ fault_at at w
 unfoldable pub sized_part_in : ℕ → ℕ → List ℕ → Result Parted BerFault
 sized_part_in tag at octets = do
   size ← length_in (at + 1) octets
-  if nat_lt (length size.rest) size.value then Err (fault_at (at + 1) whys.Length) else Ok (parted tag at size)
+  if nat_lt (length size.rest) size.value then Err (fault_at (at + 1) whys.Length)
+      else Ok (parted tag at size)
 
 -- an element of this tag
 unfoldable pub parted_in : ℕ → ℕ → List ℕ → Result Parted BerFault
 parted_in tag at [] = Err (fault_at at whys.Short)
-parted_in tag at (first ∷ octets) = if first == tag then sized_part_in tag at octets else Err (fault_at at whys.Tag)
+parted_in tag at (first ∷ octets) =
+    if first == tag then sized_part_in tag at octets else Err (fault_at at whys.Tag)
 
 -- an element of this tag, with such contents
 unfoldable pub part_in : {X : Type 0} → ℕ → Contents X → Grammar X

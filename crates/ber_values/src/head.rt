@@ -1,5 +1,6 @@
 //! The head of an element: its tag and its length (ISO 8825-1, 8.1.2 and 8.1.3).
-ghost use Rattle.std.specs.Prelude.{◌≡◌, ◌≢◌, ◌%◌, ◌^◌, ◌≤◌, ◌<◌, ◌↔◌, ◌++◌, length, IfOk, OnOk, OnErr};
+ghost use Rattle.std.specs.Prelude.{◌≡◌, ◌≢◌, ◌%◌, ◌^◌, ◌≤◌, ◌<◌, ◌↔◌, ◌++◌, length, IfOk, OnOk};
+ghost use Rattle.std.specs.Prelude.{OnErr};
 ghost use Rattle.std.specs.List.{slice_range};
 ghost use Rattle.ber_values.specs.declared.fault.BerFault.{BerFault};
 ghost use Rattle.ber_values.specs.declared.head.Head.{Head};
@@ -64,9 +65,11 @@ pub fn read_head(bytes: &[u8], at: usize, end: usize) -> Result<Head, BerFault>
     // A head is read only where the octets spell it,
     ensures found { IfOk result (λ head. SpellsHead at (slice_range bytes.now at end) head) }
     // and wherever they spell one, it is read.
-    ensures only { (head : Head) → SpellsHead at (slice_range bytes.now at end) head → result ≡ Ok head }
+    ensures only { (head : Head) → SpellsHead at (slice_range bytes.now at end) head
+        → result ≡ Ok head }
     // A fault is the first one from the left.
-    ensures fault { (fault : BerFault) → (result ≡ Err fault) ↔ HeadFault at (slice_range bytes.now at end) fault }
+    ensures fault { (fault : BerFault)
+        → (result ≡ Err fault) ↔ HeadFault at (slice_range bytes.now at end) fault }
     ensures within { IfOk result (λ head. IsHeadWithin at end head) }
     ensures exact { result ≡ head_in at (slice_range bytes.now at end) }
 {

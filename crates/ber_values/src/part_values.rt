@@ -1,6 +1,7 @@
 //! The values of elements that were taken.
 ghost use Rattle.std.specs.Prelude.{◌≡◌, ◌+◌, ◌^◌, ◌<◌, ◌≤◌, length};
-ghost use Rattle.ber_values.specs.Leaves.{integer, unsigned, natural, boolean, bits, oid, visible, octet, span, visible_within, unsigned_within};
+ghost use Rattle.ber_values.specs.Leaves.{integer, unsigned, natural, boolean, bits, oid, visible};
+ghost use Rattle.ber_values.specs.Leaves.{octet, span, visible_within, unsigned_within};
 ghost use Rattle.ber_values.specs.Faults.{Gives};
 ghost use Rattle.ber_values.specs.Stops.{Answers};
 
@@ -129,7 +130,8 @@ impl Part<'_> {
     #[tactic(auto, unfolding(crate::specs::Leaves::visible_within, crate::specs::Leaves::text_in))]
     pub fn visible_within(&self, alloc: Global, least: usize, most: usize) -> Result<Visible, Stop>
         requires { most ≤ 64 }
-        ensures { Answers (λ t. t) result ((visible_within least most).reading self.now.head self.now.contents.now) }
+        ensures { Answers (λ t. t) result
+            ((visible_within least most).reading self.now.head self.now.contents.now) }
     {
         if self.contents.len() < least || most < self.contents.len() {
             return Err(Stop::Fault(length_fault(&self.head)));

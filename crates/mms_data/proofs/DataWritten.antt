@@ -75,9 +75,13 @@ unfolding list_of
 members_begin n at no_data each = (omega arith, refl)
 members_begin n at (datum d ds) each =
     let next = at + length (datum_octets d) in
-    let ends : next + length (members_octets ds) ≡ at + length (datum_octets d ++ members_octets ds) = omega (arith, length-append (datum_octets d) (members_octets ds)) in
-    (taken d next (members_octets ds), some_first (datum_octets d) (members_octets ds) (some_octets d), each.0 at (members_octets ds), refl,
-      subst (λ (k : ℕ). BeginsList (datum_within n) next (members_octets ds) (list_of ds) k []) ends (members_begin n next ds each.1))
+    let ends : next + length (members_octets ds) ≡ at + length (datum_octets d ++ members_octets ds) = omega (arith, length-append (datum_octets d) (members_octets ds)) in (
+      taken d next (members_octets ds),
+      some_first (datum_octets d) (members_octets ds) (some_octets d),
+      each.0 at (members_octets ds),
+      refl,
+      subst (λ (k : ℕ). BeginsList (datum_within n) next (members_octets ds) (list_of ds) k []) ends (members_begin n next ds each.1),
+    )
 
 members_few : (ds : Data) → length (list_of ds) ≤ length (members_octets ds)
 unfolding list_of
@@ -101,6 +105,7 @@ fits_natural n lt = omega (arith, ints, lt)
 
 mutual
   unfolding datum_within plain_datum contents_as floating leaves.boolean leaves.bits leaves.integer leaves.natural leaves.raw leaves.visible
+
   pub datum_begins : (n : ℕ) (d : Datum) → depth d ≤ n → KeepsUnsigned d → IsHeld d → length (datum_octets d) < 2 ^ 32 → (at : ℕ) (rest : List ℕ) → (datum_within n).begins at (datum_octets d ++ rest) (taken d (at + length (datum_octets d)) rest)
   datum_begins zero d shallow numbers held few at rest = absurd (omega (arith, shallow, some_depth d))
   datum_begins (suc n) (boolean b) shallow numbers held few at rest =

@@ -2,7 +2,8 @@
 use Rattle.std.specs.Prelude.{◌≡◌, ℕ, List, [], ◌∷◌, ◌++◌, length, pos}
 use Rattle.ber_values.specs.Writing.{written, boolean_octets, bits_octets, integer_octets}
 use Rattle.ber_values.specs.Lengths.{capped}
-use Rattle.mms_data.specs.Datum.{Datum, boolean, integer, unsigned, bits, real, octets, text, structure, array, Data, no_data, datum}
+use Rattle.mms_data.specs.Datum.{Datum, boolean, integer, unsigned, bits, real, octets, text}
+use Rattle.mms_data.specs.Datum.{structure, array, Data, no_data, datum}
 
 abbrev mutual
   pub datum_octets : Datum → List ℕ

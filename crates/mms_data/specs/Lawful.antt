@@ -5,7 +5,8 @@ use Rattle.std.specs.Int.RustNames.{FitsSigned}
 use Rattle.ber_values.specs.Bits.{IsBits}
 use Rattle.ber_values.specs.Visible.{IsVisible}
 use Rattle.mms_data.specs.declared.data.octets.TheConstants.{MOST_DEPTH}
-use Rattle.mms_data.specs.Datum.{Datum, boolean, integer, unsigned, bits, real, octets, text, structure, array, Data, no_data, datum, depth}
+use Rattle.mms_data.specs.Datum.{Datum, boolean, integer, unsigned, bits, real, octets, text}
+use Rattle.mms_data.specs.Datum.{structure, array, Data, no_data, datum, depth}
 
 abbrev mutual
   -- each unsigned number is at most 2^63 - 1

@@ -6,15 +6,14 @@ mod laws;
 mod object_name;
 mod outcome;
 
-pub use data::{DataKind, DataList, MOST_DEPTH, MmsData, OctetList, data_len, read_data, spell_data,
-    write_data,
+pub use data::{
+    DataKind, DataList, MOST_DEPTH, MmsData, OctetList, data_len, read_data, spell_data, write_data,
 };
 pub use laws::{data_have_one_reading, written_data_are_read};
 pub use object_name::{Name, Names, Scope, read_name, spell_name};
 pub use outcome::{Outcome, spell_outcome};
 
 #[cfg(test)]
-mod tests;
-
-#[cfg(test)]
 mod octet_tests;
+#[cfg(test)]
+mod tests;

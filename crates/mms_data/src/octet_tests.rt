@@ -3,10 +3,7 @@ use ber_values::{BerFault, MOST_LENGTH, Why};
 use std::test::Fail;
 
 /// The value in these octets as text, its written form and the length that it is said to have.
-fn again(
-    rt: &HostRuntime,
-    octets: &[u8],
-) -> Result<Option<(Vec<u8>, Vec<u8>, usize)>, Fail> {
+fn again(rt: &HostRuntime, octets: &[u8]) -> Result<Option<(Vec<u8>, Vec<u8>, usize)>, Fail> {
     let Ok((value, next)) = read_data(rt.alloc(), octets, 0, octets.len())? else {
         return Ok(None);
     };
@@ -38,7 +35,10 @@ fn data_in_octets(rt: HostRuntime) -> Result<(), Fail> {
         (&[0x83, 1, 0xFF], "T"),
         (&[0x85, 1, 0x80], "i-128"),
         (&[0x86, 2, 0, 0x80], "u128"),
-        (&[0x84, 7, 4, 0x0A, 0x3B, 0x5F, 0x29, 0x1C, 0xD0], "b44.0a3b5f291cd0"),
+        (
+            &[0x84, 7, 4, 0x0A, 0x3B, 0x5F, 0x29, 0x1C, 0xD0],
+            "b44.0a3b5f291cd0",
+        ),
         (&[0x87, 5, 8, 0x41, 0x20, 0, 0], "f41200000"),
         (&[0x89, 2, 0, 0xFF], "o00ff"),
         (&[0x8A, 5, 0x4A, 0x6F, 0x6E, 0x65, 0x73], "vJones"),
@@ -54,10 +54,20 @@ fn data_in_octets(rt: HostRuntime) -> Result<(), Fail> {
         assert_eq!(rt; len, octets.len(), "{text}");
         for kept in 0..octets.len() {
             let want = match kept {
-                0 | 1 => BerFault { place: kept, why: Why::Short },
-                _ => BerFault { place: 1, why: Why::Length },
+                0 | 1 => BerFault {
+                    place: kept,
+                    why: Why::Short,
+                },
+                _ => BerFault {
+                    place: 1,
+                    why: Why::Length,
+                },
             };
-            assert_eq!(rt; fault_of(&rt, &octets[..kept])?, Some(want), "{text} {kept}");
+            assert_eq!(rt;
+                fault_of(&rt, &octets[..kept])?,
+                Some(want),
+                "{text} {kept}"
+            );
         }
     }
     Ok(())
@@ -74,8 +84,16 @@ fn faults_of_data(rt: HostRuntime) -> Result<(), Fail> {
         (&[0x8A, 1, 0x7F], 2, Why::Value),
         (&[0xA2, 4, 0x83, 1, 0xFF, 5], 5, Why::Tag),
         // a sixth level: a structure, and a value without members
-        (&[0xA2, 10, 0xA2, 8, 0xA2, 6, 0xA2, 4, 0xA2, 2, 0xA2, 0], 10, Why::Tag),
-        (&[0xA2, 11, 0xA2, 9, 0xA2, 7, 0xA2, 5, 0xA2, 3, 0x83, 1, 0xFF], 10, Why::Tag),
+        (
+            &[0xA2, 10, 0xA2, 8, 0xA2, 6, 0xA2, 4, 0xA2, 2, 0xA2, 0],
+            10,
+            Why::Tag,
+        ),
+        (
+            &[0xA2, 11, 0xA2, 9, 0xA2, 7, 0xA2, 5, 0xA2, 3, 0x83, 1, 0xFF],
+            10,
+            Why::Tag,
+        ),
     ];
     for (octets, place, why) in rows {
         assert_eq!(rt; fault_of(&rt, octets)?, Some(BerFault { place, why }));

@@ -1,7 +1,9 @@
 -- The parameters of connect and accept (ISO 8327-1, CONNECT and ACCEPT SPDU): 5 the connect/accept
 -- item, a group with 22 the version; 20 the user requirements; 52 the called selector;
 -- 193 the user data; 194 the extended user data.
-use Rattle.std.specs.Prelude.{◌≡◌, ℕ, ◌/◌, ◌%◌, ◌≤◌, Bool, true, false, not, ◌&&◌, ◌||◌, List, length, slice_index, Option, Some, None, is_some, Result, Ok, ◌⊎◌, nat_le, ◌==◌, if◌then◌else◌}
+use Rattle.std.specs.Prelude.{◌≡◌, ℕ, ◌/◌, ◌%◌, ◌≤◌, Bool, true, false, not, ◌&&◌, ◌||◌, List}
+use Rattle.std.specs.Prelude.{length, slice_index, Option, Some, None, is_some, Result, Ok, ◌⊎◌}
+use Rattle.std.specs.Prelude.{nat_le, ◌==◌, if◌then◌else◌}
 use Rattle.ber_values.specs.declared.fault.BerFault.{BerFault}
 use Rattle.ber_values.specs.declared.fault.Span.{Span}
 use Rattle.ber_values.specs.Leaves.{span_at, selector_of}

@@ -6,7 +6,8 @@ use Rattle.session_profile.specs.Connections.{IsSound}
 -- how many parameters of an identifier stand
 abbrev pub count_of : ℕ → List Parameter → ℕ
 count_of identifier [] = 0
-count_of identifier (p ∷ ps) = (if p.identifier == identifier then 1 else 0) + count_of identifier ps
+count_of identifier (p ∷ ps) =
+    (if p.identifier == identifier then 1 else 0) + count_of identifier ps
 
 -- in any order: the item and the user data once, the user requirements and the called selector
 -- once at most, and no extended user data

@@ -1,6 +1,7 @@
 -- Lengths (ISO 8327-1, length indicator): how each is spelled, and the first fault of octets that
 -- don't begin with one.
-use Rattle.std.specs.Prelude.{◌≡◌, ◌≢◌, ℕ, ◌+◌, ◌*◌, ◌<◌, List, [], ◌∷◌, length, Result, Ok, Err, ◌==◌, if◌then◌else◌}
+use Rattle.std.specs.Prelude.{◌≡◌, ◌≢◌, ℕ, ◌+◌, ◌*◌, ◌<◌, List, [], ◌∷◌, length, Result, Ok, Err}
+use Rattle.std.specs.Prelude.{◌==◌, if◌then◌else◌}
 use Rattle.ber_values.specs.declared.fault.BerFault.{BerFault}
 use Rattle.ber_values.specs.declared.fault.Why.TheVariants as whys
 use Rattle.ber_values.specs.Faults.{fault_at}

@@ -1,10 +1,12 @@
 -- Parameters one after another to the end of octets, under rules.
-use Rattle.std.specs.Prelude.{◌≡◌, ℕ, zero, suc, Bool, true, false, List, [], ◌∷◌, ◌++◌, length, Option, Some, None, Result, Ok, Err, ◌⊎◌, if◌then◌else◌}
+use Rattle.std.specs.Prelude.{◌≡◌, ℕ, zero, suc, Bool, true, false, List, [], ◌∷◌, ◌++◌, length}
+use Rattle.std.specs.Prelude.{Option, Some, None, Result, Ok, Err, ◌⊎◌, if◌then◌else◌}
 use Rattle.ber_values.specs.declared.fault.BerFault.{BerFault}
 use Rattle.ber_values.specs.declared.fault.Why.TheVariants as whys
 use Rattle.ber_values.specs.Faults.{fault_at, ◌>>=◌}
 use Rattle.ber_values.specs.Reading.{Taken}
-use Rattle.session_profile.specs.Parameters.{Parameter, BeginsParameter, ParameterFault, BeginsParameters, parameter_in}
+use Rattle.session_profile.specs.Parameters.{Parameter, BeginsParameter, ParameterFault}
+use Rattle.session_profile.specs.Parameters.{BeginsParameters, parameter_in}
 
 -- what parameters have to keep, and the value that they are
 pub record Rules (S V : Type 0) : Type 1 where

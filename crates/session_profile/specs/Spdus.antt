@@ -1,6 +1,7 @@
 -- SPDUs (ISO 8327-1, 8.3): which octets spell which, the first fault of those that spell none, and
 -- the reading from the left that tells both.
-use Rattle.std.specs.Prelude.{◌≡◌, ◌≢◌, ℕ, ◌+◌, Bool, true, false, ◌||◌, List, [], ◌∷◌, Result, Ok, Err, ◌⊎◌, ◌==◌, if◌then◌else◌}
+use Rattle.std.specs.Prelude.{◌≡◌, ◌≢◌, ℕ, ◌+◌, Bool, true, false, ◌||◌, List, [], ◌∷◌, Result, Ok}
+use Rattle.std.specs.Prelude.{Err, ◌⊎◌, ◌==◌, if◌then◌else◌}
 use Rattle.ber_values.specs.declared.fault.BerFault.{BerFault}
 use Rattle.ber_values.specs.declared.fault.Span.{Span}
 use Rattle.ber_values.specs.declared.fault.Why.TheVariants as whys
@@ -8,8 +9,11 @@ use Rattle.ber_values.specs.Faults.{fault_at, ◌>>=◌}
 use Rattle.ber_values.specs.Leaves.{span_at}
 use Rattle.ber_values.specs.Reading.{Taken}
 use Rattle.session_profile.specs.declared.spdu.Spdu.{Spdu}
-use Rattle.session_profile.specs.declared.spdu.Spdu.TheVariants.{Connect, Accept, Refuse, Carry, Finish, Disconnect, Abort, AbortAccept}
-use Rattle.session_profile.specs.Parameters.{Parameter, BeginsParameter, ParameterFault, parameter_in, end_in}
+use Rattle.session_profile.specs.declared.spdu.Spdu.TheVariants.{Connect, Accept, Refuse, Carry}
+use Rattle.session_profile.specs.declared.spdu.Spdu.TheVariants.{Finish, Disconnect, Abort}
+use Rattle.session_profile.specs.declared.spdu.Spdu.TheVariants.{AbortAccept}
+use Rattle.session_profile.specs.Parameters.{Parameter, BeginsParameter, ParameterFault}
+use Rattle.session_profile.specs.Parameters.{parameter_in, end_in}
 use Rattle.session_profile.specs.Rules.{SpellsAll, FaultAmong, all_in}
 use Rattle.session_profile.specs.Connections.{Connection, connection}
 

@@ -1,10 +1,13 @@
 -- The written form of an SPDU: the shortest lengths, and the parameters in the order of the
 -- standard's tables.
-use Rattle.std.specs.Prelude.{ℕ, ◌+◌, ◌-◌, ◌/◌, ◌%◌, List, [], ◌∷◌, ◌++◌, length, Option, Some, None, nat_lt, if◌then◌else◌}
+use Rattle.std.specs.Prelude.{ℕ, ◌+◌, ◌-◌, ◌/◌, ◌%◌, List, [], ◌∷◌, ◌++◌, length, Option, Some}
+use Rattle.std.specs.Prelude.{None, nat_lt, if◌then◌else◌}
 use Rattle.ber_values.specs.declared.fault.Span.{Span}
 use Rattle.tpkt_cotp.specs.Selectors.{IsSelector}
 use Rattle.session_profile.specs.declared.spdu.Spdu.{Spdu}
-use Rattle.session_profile.specs.declared.spdu.Spdu.TheVariants.{Connect, Accept, Refuse, Carry, Finish, Disconnect, Abort, AbortAccept}
+use Rattle.session_profile.specs.declared.spdu.Spdu.TheVariants.{Connect, Accept, Refuse, Carry}
+use Rattle.session_profile.specs.declared.spdu.Spdu.TheVariants.{Finish, Disconnect, Abort}
+use Rattle.session_profile.specs.declared.spdu.Spdu.TheVariants.{AbortAccept}
 
 -- the shortest length
 unfoldable pub length_octets : ℕ → List ℕ

@@ -1,12 +1,17 @@
 //! The parameters of connect and accept (ISO 8327-1, CONNECT SPDU and ACCEPT SPDU).
-ghost use Rattle.std.specs.Prelude.{◌≡◌, ◌+◌, ◌-◌, ◌^◌, ◌<◌, ◌≤◌, ◌++◌, length, take, slice_index, IfOk, IfSome, OnOk, OnErr};
+ghost use Rattle.std.specs.Prelude.{◌≡◌, ◌+◌, ◌-◌, ◌^◌, ◌<◌, ◌≤◌, ◌++◌, length, take, slice_index};
+ghost use Rattle.std.specs.Prelude.{IfOk, IfSome, OnOk, OnErr};
 ghost use Rattle.ber_values.specs.Faults.{Gives};
 ghost use Rattle.session_profile.specs.Parameters.{judged_by};
 ghost use Rattle.session_profile.specs.Rules.{all_in, sound_in, next_in, whole_or_short};
-ghost use Rattle.session_profile.specs.Connections.{has_second_bit, version_in, requirements_in, item, judged, may_follow, with_one, connection};
+ghost use Rattle.session_profile.specs.Connections.{has_second_bit, version_in, requirements_in};
+ghost use Rattle.session_profile.specs.Connections.{item, judged, may_follow, with_one, connection};
 ghost use Rattle.session_profile.specs.declared.spdu.TheConstants.{MOST_BODY};
-ghost use Rattle.session_profile.specs.Writing.{calling, called_octets, called_and_data, front_octets, connect_octets, accept_octets, HasSelector};
-ghost use Rattle.session_profile.specs.Seen.{parameter_of, taken_of, seen_of, connection_seen, IsWithin};
+ghost use Rattle.session_profile.specs.Writing.{calling, called_octets, called_and_data};
+ghost use Rattle.session_profile.specs.Writing.{front_octets, connect_octets, accept_octets};
+ghost use Rattle.session_profile.specs.Writing.{HasSelector};
+ghost use Rattle.session_profile.specs.Seen.{parameter_of, taken_of, seen_of, connection_seen};
+ghost use Rattle.session_profile.specs.Seen.{IsWithin};
 
 use crate::length::fault;
 use crate::parameter::{Parameter, element_len, put_element, put_head, read_parameter};

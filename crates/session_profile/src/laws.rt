@@ -8,7 +8,8 @@ ghost use Rattle.session_profile.specs.Counts.{AreOnce, AreSound};
 ghost use Rattle.session_profile.specs.Rules.{SpellsAll};
 ghost use Rattle.session_profile.specs.Spdus.{SpellsSpdu, SpduFault};
 ghost use Rattle.session_profile.specs.Writing.{written_form, as_written, IsWritable};
-ghost use Rattle.session_profile.specs.Answers.{FinishIsWritten, ReleaseIsWritten, AbortIsWritten, RefusalIsWritten};
+ghost use Rattle.session_profile.specs.Answers.{FinishIsWritten, ReleaseIsWritten, AbortIsWritten};
+ghost use Rattle.session_profile.specs.Answers.{RefusalIsWritten};
 
 /// Octets have one reading: exactly one holds, they spell exactly one SPDU, or they have exactly
 /// one first fault.

@@ -1,6 +1,7 @@
 //! Parameters (ISO 8327-1, PI and PGI units), and SPDUs, which have the same form: an identifier, a
 //! length and contents.
-ghost use Rattle.std.specs.Prelude.{◌≡◌, ◌+◌, ◌^◌, ◌<◌, ◌≤◌, ◌++◌, ◌∷◌, length, take, IfOk, OnOk, OnErr};
+ghost use Rattle.std.specs.Prelude.{◌≡◌, ◌+◌, ◌^◌, ◌<◌, ◌≤◌, ◌++◌, ◌∷◌, length, take, IfOk, OnOk};
+ghost use Rattle.std.specs.Prelude.{OnErr};
 ghost use Rattle.ber_values.specs.Faults.{Gives};
 ghost use Rattle.ber_values.specs.Leaves.{span_at};
 ghost use Rattle.session_profile.specs.Parameters.{parameter_in, sized_in, judged_by, end_in};

@@ -1,5 +1,6 @@
 //! SPDUs (ISO 8327-1, 8.3).
-ghost use Rattle.std.specs.Prelude.{◌≡◌, ◌≢◌, ◌+◌, ◌^◌, ◌<◌, ◌≤◌, ◌↔◌, ◌-◌, ◌++◌, ◌∷◌, [], Ok, Err, length, take, option_copied, IfOk, OnOk, OnErr, IfSome};
+ghost use Rattle.std.specs.Prelude.{◌≡◌, ◌≢◌, ◌+◌, ◌^◌, ◌<◌, ◌≤◌, ◌↔◌, ◌-◌, ◌++◌, ◌∷◌, [], Ok, Err};
+ghost use Rattle.std.specs.Prelude.{length, take, option_copied, IfOk, OnOk, OnErr, IfSome};
 ghost use Rattle.ber_values.specs.Faults.{fault_at, Gives};
 ghost use Rattle.ber_values.specs.Leaves.{span_at};
 ghost use Rattle.ber_values.specs.Stops.{Answers};
@@ -7,8 +8,11 @@ ghost use Rattle.session_profile.specs.declared.fault.SessionFault.{SessionFault
 ghost use Rattle.session_profile.specs.declared.spdu.Spdu.{Spdu};
 ghost use Rattle.session_profile.specs.Connections.{called_of};
 ghost use Rattle.session_profile.specs.Seen.{parameter_of, fault_of, session_fault_of};
-ghost use Rattle.session_profile.specs.Writing.{released, refuse_octets, release_octets, abort_octets, carry_octets, written_form, as_written, IsWritable};
-ghost use Rattle.session_profile.specs.Spdus.{SpellsSpdu, SpduFault, is_code, octet_in, front_in, carried, plain_in, coded_in, whole_in, spdu_in};
+ghost use Rattle.session_profile.specs.Writing.{released, refuse_octets, release_octets};
+ghost use Rattle.session_profile.specs.Writing.{abort_octets, carry_octets, written_form};
+ghost use Rattle.session_profile.specs.Writing.{as_written, IsWritable};
+ghost use Rattle.session_profile.specs.Spdus.{SpellsSpdu, SpduFault, is_code, octet_in, front_in};
+ghost use Rattle.session_profile.specs.Spdus.{carried, plain_in, coded_in, whole_in, spdu_in};
 
 use crate::connection::{ACCEPT, CONNECT, USER_DATA, put_accept, put_connect, read_connection};
 use crate::fault::SessionFault;

@@ -234,7 +234,8 @@ pub(crate) fn read_tpkt<'a>(
     requires { total ≤ TSDU_LIMIT }
     ensures exact { Gives tpkt_seen result (tpkt_in turn total octets.now) }
     ensures within { IfOk result (λ found. IfSome found (λ tpkt. tpkt.size ≤ length octets.now)) }
-    ensures sound { IfOk result (λ found. IfSome found (λ tpkt. IsSoundTpdu (tpdu_seen tpkt.tpdu))) }
+    ensures sound { IfOk result
+        (λ found. IfSome found (λ tpkt. IsSoundTpdu (tpdu_seen tpkt.tpdu))) }
     ensures fits { IfOk result (λ found. IfSome found (λ tpkt. Fits total (tpdu_seen tpkt.tpdu))) }
     ensures cut { IfOk result (λ found. IfNone found (length octets.now ≤ 65534)) }
 {

@@ -1,5 +1,6 @@
 //! Data as octets (ISO 9506-2, `Data`).
-ghost use Rattle.std.specs.Prelude.{◌≡◌, ◌+◌, ◌-◌, ◌*◌, ◌<◌, ◌≤◌, ◌^◌, ◌++◌, ◌∷◌, ◌↔◌, length, drop};
+ghost use Rattle.std.specs.Prelude.{◌≡◌, ◌+◌, ◌-◌, ◌*◌, ◌<◌, ◌≤◌, ◌^◌, ◌++◌, ◌∷◌, ◌↔◌, length};
+ghost use Rattle.std.specs.Prelude.{drop};
 ghost use Rattle.std.specs.Prelude.{IfOk, OnOk, OnErr, Err};
 ghost use Rattle.std.specs.List.{slice_range};
 ghost use Rattle.plain_text.specs.Extends.{Extends};
@@ -21,12 +22,11 @@ ghost use Rattle.mms_data.specs.Floating.{floating};
 ghost use Rattle.mms_data.specs.DataOctets.{plain_datum, array_of, structure_of, datum_within};
 ghost use Rattle.mms_data.specs.DataOctets.{one_datum};
 
-use ber_values::{BitString, Visible};
 use super::{DataKind, DataList, MmsData, OctetList};
 use ber_values::{
-    BerFault, MOST_LENGTH, Part, Stop, Why, add_len, has_tag, integer_len, natural_len, octets_from, part_len, settle,
-    take_part, write_bits, write_boolean, write_head, write_integer, write_natural, write_octets,
-    write_visible,
+    BerFault, BitString, MOST_LENGTH, Part, Stop, Visible, Why, add_len, has_tag, integer_len,
+    natural_len, octets_from, part_len, settle, take_part, write_bits, write_boolean, write_head,
+    write_integer, write_natural, write_octets, write_visible,
 };
 use std::alloc::{AllocError, Global};
 
@@ -88,20 +88,11 @@ fn data_from(alloc: Global, octets: &[u8], at: usize) -> Result<(MmsData, usize)
 
 /// The value at the front of octets, of at most so many levels, and the place after it.
 #[cycle(levels)]
-#[tactic(auto, unfolding(
-    crate::specs::DataOctets::datum_within,
-    ber_values::specs::Parts::choose_in,
-    ber_values::specs::Grammars::branch_in,
-    ber_values::specs::Grammars::refused
-))]
-fn datum_at(
-    alloc: Global,
-    octets: &[u8],
-    at: usize,
-    levels: u8,
-) -> Result<(MmsData, usize), Stop>
+#[tactic(auto, unfolding(crate::specs::DataOctets::datum_within, ber_values::specs::Parts::choose_in, ber_values::specs::Grammars::branch_in, ber_values::specs::Grammars::refused))]
+fn datum_at(alloc: Global, octets: &[u8], at: usize, levels: u8) -> Result<(MmsData, usize), Stop>
     requires { at + length octets.now < 2 ^ 64 }
-    ensures exact { Answers (λ x. taken x.0 x.1 (drop (x.1 - at) octets.now)) result ((datum_within levels).reading at octets.now) }
+    ensures exact { Answers (λ x. taken x.0 x.1 (drop (x.1 - at) octets.now)) result
+        ((datum_within levels).reading at octets.now) }
     ensures within { IfOk result (λ x. (at + 2 ≤ x.1) × (x.1 ≤ at + length octets.now)) }
 {
     if levels == 0 {
@@ -118,18 +109,12 @@ fn datum_at(
 
 /// The array at the front of octets, whose members have at most so many levels.
 #[cycle(levels)]
-#[tactic(auto, unfolding(
-    ber_values::specs::Parts::part_in,
-    ber_values::specs::Parts::contents_as
-))]
-fn array_at(
-    alloc: Global,
-    octets: &[u8],
-    at: usize,
-    levels: u8,
-) -> Result<(MmsData, usize), Stop>
+#[tactic(auto, unfolding(ber_values::specs::Parts::part_in, ber_values::specs::Parts::contents_as))]
+fn array_at(alloc: Global, octets: &[u8], at: usize, levels: u8) -> Result<(MmsData, usize), Stop>
     requires { at + length octets.now < 2 ^ 64 }
-    ensures exact { Answers (λ x. taken x.0 x.1 (drop (x.1 - at) octets.now)) result ((part_in 161 (contents_as array_of (list_in 0 (datum_within levels)))).reading at octets.now) }
+    ensures exact { Answers (λ x. taken x.0 x.1 (drop (x.1 - at) octets.now)) result
+        ((part_in 161 (contents_as array_of (list_in 0 (datum_within levels)))).reading at
+        octets.now) }
     ensures within { IfOk result (λ x. (at + 2 ≤ x.1) × (x.1 ≤ at + length octets.now)) }
 {
     let part = take_part(octets, at, 0xA1)?;
@@ -139,10 +124,7 @@ fn array_at(
 
 /// The structure at the front of octets, whose members have at most so many levels.
 #[cycle(levels)]
-#[tactic(auto, unfolding(
-    ber_values::specs::Parts::part_in,
-    ber_values::specs::Parts::contents_as
-))]
+#[tactic(auto, unfolding(ber_values::specs::Parts::part_in, ber_values::specs::Parts::contents_as))]
 fn structure_at(
     alloc: Global,
     octets: &[u8],
@@ -150,7 +132,9 @@ fn structure_at(
     levels: u8,
 ) -> Result<(MmsData, usize), Stop>
     requires { at + length octets.now < 2 ^ 64 }
-    ensures exact { Answers (λ x. taken x.0 x.1 (drop (x.1 - at) octets.now)) result ((part_in 162 (contents_as structure_of (list_in 0 (datum_within levels)))).reading at octets.now) }
+    ensures exact { Answers (λ x. taken x.0 x.1 (drop (x.1 - at) octets.now)) result
+        ((part_in 162 (contents_as structure_of (list_in 0 (datum_within levels)))).reading at
+        octets.now) }
     ensures within { IfOk result (λ x. (at + 2 ≤ x.1) × (x.1 ≤ at + length octets.now)) }
 {
     let part = take_part(octets, at, 0xA2)?;
@@ -162,7 +146,8 @@ fn structure_at(
 #[cycle(levels)]
 fn members_of(alloc: Global, part: &Part<'_>, levels: u8) -> Result<DataList, Stop>
     requires { part.now.head.body + length part.now.contents.now < 2 ^ 64 }
-    ensures { Answers (λ ds. ds) result ((list_in 0 (datum_within levels)).reading part.now.head part.now.contents.now) }
+    ensures { Answers (λ ds. ds) result
+        ((list_in 0 (datum_within levels)).reading part.now.head part.now.contents.now) }
 {
     let mut members = DataList::new(alloc);
     let mut at = part.head.body;
@@ -177,39 +162,47 @@ fn members_of(alloc: Global, part: &Part<'_>, levels: u8) -> Result<DataList, St
 }
 
 /// The value without members at the front of octets.
-#[tactic(auto, unfolding(
-    crate::specs::DataOctets::plain_datum,
-    ber_values::specs::Leaves::raw,
-    ber_values::specs::Parts::choose_in,
-    ber_values::specs::Parts::part_in,
-    ber_values::specs::Parts::contents_as,
-    ber_values::specs::Grammars::branch_in,
-    ber_values::specs::Grammars::refused
-))]
+#[tactic(auto, unfolding(crate::specs::DataOctets::plain_datum, ber_values::specs::Leaves::raw, ber_values::specs::Parts::choose_in, ber_values::specs::Parts::part_in, ber_values::specs::Parts::contents_as, ber_values::specs::Grammars::branch_in, ber_values::specs::Grammars::refused))]
 fn plain_at(alloc: Global, octets: &[u8], at: usize) -> Result<(MmsData, usize), Stop>
     requires { at + length octets.now < 2 ^ 64 }
-    ensures exact { Answers (λ x. taken x.0 x.1 (drop (x.1 - at) octets.now)) result (plain_datum.reading at octets.now) }
+    ensures exact { Answers (λ x. taken x.0 x.1 (drop (x.1 - at) octets.now)) result
+        (plain_datum.reading at octets.now) }
     ensures within { IfOk result (λ x. (at + 2 ≤ x.1) × (x.1 ≤ at + length octets.now)) }
 {
     if has_tag(octets, 0x83) {
         let part = take_part(octets, at, 0x83)?;
-        return Ok((MmsData::new(DataKind::Boolean(part.boolean()?)), part.head.next));
+        return Ok((
+            MmsData::new(DataKind::Boolean(part.boolean()?)),
+            part.head.next,
+        ));
     }
     if has_tag(octets, 0x84) {
         let part = take_part(octets, at, 0x84)?;
-        return Ok((MmsData::new(DataKind::Bits(part.bits(alloc)?)), part.head.next));
+        return Ok((
+            MmsData::new(DataKind::Bits(part.bits(alloc)?)),
+            part.head.next,
+        ));
     }
     if has_tag(octets, 0x85) {
         let part = take_part(octets, at, 0x85)?;
-        return Ok((MmsData::new(DataKind::Integer(part.integer()?)), part.head.next));
+        return Ok((
+            MmsData::new(DataKind::Integer(part.integer()?)),
+            part.head.next,
+        ));
     }
     if has_tag(octets, 0x86) {
         let part = take_part(octets, at, 0x86)?;
-        return Ok((MmsData::new(DataKind::Unsigned(part.natural()?)), part.head.next));
+        return Ok((
+            MmsData::new(DataKind::Unsigned(part.natural()?)),
+            part.head.next,
+        ));
     }
     if has_tag(octets, 0x87) {
         let part = take_part(octets, at, 0x87)?;
-        return Ok((MmsData::new(DataKind::Real(real_of(&part)?)), part.head.next));
+        return Ok((
+            MmsData::new(DataKind::Real(real_of(&part)?)),
+            part.head.next,
+        ));
     }
     if has_tag(octets, 0x89) {
         let part = take_part(octets, at, 0x89)?;
@@ -218,16 +211,16 @@ fn plain_at(alloc: Global, octets: &[u8], at: usize) -> Result<(MmsData, usize),
     }
     if has_tag(octets, 0x8A) {
         let part = take_part(octets, at, 0x8A)?;
-        return Ok((MmsData::new(DataKind::Text(part.visible(alloc)?)), part.head.next));
+        return Ok((
+            MmsData::new(DataKind::Text(part.visible(alloc)?)),
+            part.head.next,
+        ));
     }
     Err(Stop::Fault(refused(octets, at)))
 }
 
 /// The four octets of the floating-point number that the contents are.
-#[tactic(auto, unfolding(
-    crate::specs::Floating::floating,
-    crate::specs::Floating::real_in
-))]
+#[tactic(auto, unfolding(crate::specs::Floating::floating, crate::specs::Floating::real_in))]
 fn real_of(part: &Part<'_>) -> Result<[u8; 4], BerFault>
     ensures { result ≡ floating.reading part.now.head part.now.contents.now }
 {

@@ -6,4 +6,4 @@ pub new-requires : goal.new-requires
 new-requires c =
     rw (c.in_ok-held.ensures, c.from.ensures)
     (IsBits-bits_with c.args.unused c.args.octets.now (λ i. omega (arith, c.type_inv.octets i))
-        c.requires.few c.requires.some)
+    c.requires.few c.requires.some)

@@ -7,6 +7,6 @@ pub returns-clause-ok : goal.returns-clause-ok
 returns-clause-ok c =
     on_ok_weaker c.put_number.result
     (λ e. put_written c.args.out.now.items c.put_head.new.out.items c.put_number.new.out.items
-        c.args.tag c.size_of_number-size.result c.args.value (pos c.args.value)
-        c.size_of_number-size.ensures.value refl c.in_ok-put_head.ensures.ok e)
+    c.args.tag c.size_of_number-size.result c.args.value (pos c.args.value)
+    c.size_of_number-size.ensures.value refl c.in_ok-put_head.ensures.ok e)
     c.put_number.ensures.ok

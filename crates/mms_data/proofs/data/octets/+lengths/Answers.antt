@@ -20,5 +20,5 @@ len_of-returns-in-Array t c =
     let e : array ds ≡ c.args.value.now = sym (ap datum_of c.in-Array.is) ∙ c.value.view_is in
     c.part_len-in-Array.ensures
     ∙ capped-written 161 c.len_of_members-in-Array.result (members_octets ds)
-        c.len_of_members-in-Array.ensures
+    c.len_of_members-in-Array.ensures
     ∙ ap datum_len e

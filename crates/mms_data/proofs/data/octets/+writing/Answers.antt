@@ -13,15 +13,14 @@ put_members-put_data-requires t c =
     let all : ds ≡ c.args.members.now = c.deref-member-items.ensures.value ∙ c.members.view_is in
     let few = member_few ds i item c.loop-member-test.true in
     let same : length (datum_octets item) ≡ length (datum_octets (get_or ds i item)) =
-        ap (λ d. length (datum_octets d)) c.member-item.is in
+    ap (λ d. length (datum_octets d)) c.member-item.is in
     let whole : length (members_octets (data_of ds))
-        ≡ length (members_octets (data_of c.args.members.now)) =
-        ap (λ xs. length (members_octets (data_of xs))) all in
+    ≡ length (members_octets (data_of c.args.members.now)) =
+    ap (λ xs. length (members_octets (data_of xs))) all in
     let shallow = member_shallow ds i item c.loop-member-test.true in
     let level : depth item ≡ depth (get_or ds i item) = ap depth c.member-item.is in
     let levels : deepest (data_of ds) ≡ deepest (data_of c.args.members.now) =
-        ap (λ xs. deepest (data_of xs)) all in
-    (
+    ap (λ xs. deepest (data_of xs)) all in (
       omega (arith, shallow, level, levels, c.decreases),
       omega (arith, few, same, whole, c.requires),
     )
@@ -37,4 +36,4 @@ put_members-loop-member-preserved t c =
     ∙ ap (λ os. os ++ datum_octets item) c.loop-member.invariant
     ∙ append_assoc old front (datum_octets item)
     ∙ ap (λ os. old ++ os) (ap (λ d. front ++ datum_octets d) c.member-item.is
-        ∙ sym (members_octets-take ds i item c.loop-member-test.true))
+    ∙ sym (members_octets-take ds i item c.loop-member-test.true))

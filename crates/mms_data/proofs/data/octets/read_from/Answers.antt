@@ -9,11 +9,11 @@ returns-clause-exact c =
     let at = c.args.at in
     let octets = c.args.octets.now in
     rw c.settle.ensures (settled_gives (λ x. taken x.0 x.1 (drop (x.1 - at) octets))
-        c.data_from.result (one_datum.reading at octets) c.data_from.ensures.exact)
+    c.data_from.result (one_datum.reading at octets) c.data_from.ensures.exact)
 
 pub returns-clause-within : goal.returns-clause-within
 returns-clause-within c =
     let at = c.args.at in
     rw c.settle.ensures (settled_holds
-        (λ x. (at + 2 ≤ x.1) × (x.1 ≤ at + length c.args.octets.now))
-        c.data_from.result c.data_from.ensures.within)
+    (λ x. (at + 2 ≤ x.1) × (x.1 ≤ at + length c.args.octets.now))
+    c.data_from.result c.data_from.ensures.within)
