@@ -1,0 +1,3 @@
+pub mod OffersRead
+mod Worked
+pub mod Transfers
