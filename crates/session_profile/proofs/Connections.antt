@@ -50,7 +50,7 @@ seen_push ps p =
 
 -- ---- contents
 
-is_false : (b : Bool) → (b ≡ true → ⊥) → b ≡ false
+pub is_false : (b : Bool) → (b ≡ true → ⊥) → b ≡ false
 is_false true never = absurd (never refl)
 is_false false never = refl
 

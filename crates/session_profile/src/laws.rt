@@ -1,10 +1,11 @@
 //! What holds of all octets and values.
-ghost use Rattle.std.specs.Prelude.{ℕ, List, ◌≤◌, length};
+ghost use Rattle.std.specs.Prelude.{ℕ, List, [], ◌≤◌, length};
 ghost use Rattle.ber_values.specs.Reading.{HasOneReading};
 ghost use Rattle.session_profile.specs.declared.spdu.Spdu.{Spdu};
 ghost use Rattle.session_profile.specs.declared.spdu.TheConstants.{MOST_BODY};
 ghost use Rattle.session_profile.specs.Connections.{Connection, connection};
 ghost use Rattle.session_profile.specs.Counts.{AreOnce, AreSound};
+ghost use Rattle.session_profile.specs.Parameters.{Parameter, BeginsParameters};
 ghost use Rattle.session_profile.specs.Rules.{SpellsAll};
 ghost use Rattle.session_profile.specs.Spdus.{SpellsSpdu, SpduFault};
 ghost use Rattle.session_profile.specs.Writing.{written_form, as_written, IsWritable};
@@ -21,8 +22,12 @@ pub fn one_reading()
 /// the requirements and the called selector once at most, no extended user data, and the contents
 /// of each keep their rules.
 pub fn parameters_once()
-    ensures { (at : ℕ) (c : Connection) (octets : List ℕ) (s : SpellsAll connection at c octets)
-        → AreOnce s.parameters × AreSound s.parameters }
+    ensures only { (at : ℕ) (c : Connection) (octets : List ℕ)
+        → (s : SpellsAll connection at c octets) → AreOnce s.parameters × AreSound s.parameters }
+    // Wherever parameters are so, they are those of one.
+    ensures any { (at : ℕ) (octets : List ℕ) (ps : List Parameter) (end : ℕ)
+        → BeginsParameters at octets ps end [] → AreOnce ps → AreSound ps
+        → (c : Connection) × SpellsAll connection at c octets }
 {}
 
 /// What is written is read back as the same SPDU, whose body is the octets that were given.

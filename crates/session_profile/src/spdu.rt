@@ -25,6 +25,9 @@ use tpkt_cotp::Selector;
 /// The most octets of a body that are written.
 pub const MOST_BODY: usize = 65_400;
 
+/// The most octets that are written around a body.
+const MOST_AROUND: usize = 64;
+
 const FINISH: u8 = 0x09;
 
 const DISCONNECT: u8 = 0x0A;
@@ -295,9 +298,11 @@ pub fn write_spdu(out: &mut Vec<u8>, spdu: &Spdu, body: &[u8]) -> Result<(), All
     ensures ok { OnOk result (out.new.items ≡ out.old.items ++ written_form spdu.now body.now) }
     ensures err { OnErr result (out.new.items ≡ out.old.items) }
     // It is read back as the same value, whose body is these octets.
-    ensures spelled { SpellsSpdu (as_written spdu.now body.now) (written_form spdu.now body.now) }
+    ensures spelled { OnOk result
+        (SpellsSpdu (as_written spdu.now body.now) (written_form spdu.now body.now)) }
 {
     let mark = out.len();
+    out.reserve(body.len() + MOST_AROUND)?;
     let done = put_spdu(out, spdu, body);
     if done.is_err() {
         out.truncate(mark);
