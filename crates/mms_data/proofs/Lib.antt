@@ -5,3 +5,5 @@ pub mod DataRead
 pub mod DataLawful
 pub mod DataWritten
 pub mod DataLengths
+pub mod NameRead
+pub mod NameWritten
