@@ -7,3 +7,4 @@ pub mod DataWritten
 pub mod DataLengths
 pub mod NameRead
 pub mod NameWritten
+pub mod OutcomeRead
