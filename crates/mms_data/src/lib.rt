@@ -21,6 +21,8 @@ pub use object_name::{
 pub use outcome::{Outcome, outcome_len, read_outcome, spell_outcome, take_outcome, write_outcome};
 
 #[cfg(test)]
+mod access_tests;
+#[cfg(test)]
 mod octet_tests;
 #[cfg(test)]
 mod tests;
