@@ -1,16 +1,15 @@
 -- Reading names is exact, and what is read is a name.
-use Rattle.std.proofs.Common.{◌≡◌, ℕ, ◌<◌, List, [], ◌++◌, length, sym, subst, Result, Ok, Err, IfOk, arith}
+use Rattle.std.proofs.Common.{◌≡◌, ℕ, List, sym, subst, Result, Ok, Err, IfOk}
 use Rattle.ber_values.specs.declared.stop.Stop.{Stop}
 use Rattle.ber_values.specs.Stops.{Answers}
 use Rattle.ber_values.specs.declared.head.Head.{Head}
-use Rattle.ber_values.specs.Reading.{Taken}
-use Rattle.ber_values.specs.Grammars.{IsGrammar, branch_in, then_in, map_in}
-use Rattle.ber_values.specs.Parts.{IsContentsGrammar, part_in, choose_in, contents_as, all_in}
+use Rattle.ber_values.specs.Grammars.{IsGrammar}
+use Rattle.ber_values.specs.Parts.{IsContentsGrammar}
 use Rattle.ber_values.specs.Leaves.{visible_within}
 use Rattle.ber_values.proofs.Grammars.{then_reads, map_reads, part_reads, choose_reads, as_reads}
 use Rattle.ber_values.proofs.Grammars.{all_reads}
 use Rattle.ber_values.proofs.Leaves.{text_contents}
-use Rattle.mms_data.specs.ObjectName.{ObjectName, IsName, IsIdentifier}
+use Rattle.mms_data.specs.ObjectName.{IsIdentifier}
 use Rattle.mms_data.specs.NameOctets.{identifier, of_device, of_domain, of_association}
 use Rattle.mms_data.specs.NameOctets.{domain_name, one_name}
 

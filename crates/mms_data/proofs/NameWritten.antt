@@ -1,13 +1,12 @@
 -- Lengths of the written form of names, which is read back.
-use Rattle.std.proofs.Common.{◌≡◌, ℕ, ◌+◌, ◌<◌, ◌≤◌, ◌^◌, List, [], ◌++◌, length, refl, sym, ap}
+use Rattle.std.proofs.Common.{◌≡◌, ℕ, ◌+◌, ◌<◌, ◌^◌, List, [], ◌++◌, length, refl, sym, ap}
 use Rattle.std.proofs.Common.{subst, ◌∙◌, append-nil, arith}
 use Rattle.std.proofs.lemmas.List.{length-append}
 use Rattle.ber_values.specs.Visible.{IsVisible}
-use Rattle.ber_values.specs.Reading.{Taken}
 use Rattle.ber_values.specs.Writing.{written, length_octets}
 use Rattle.ber_values.specs.Lengths.{capped, part_size}
-use Rattle.ber_values.specs.Grammars.{Grammar, taken, then_in, map_in}
-use Rattle.ber_values.specs.Parts.{Contents, part_in, choose_in, contents_as, all_in}
+use Rattle.ber_values.specs.Grammars.{taken, then_in, map_in}
+use Rattle.ber_values.specs.Parts.{Contents, part_in, contents_as, all_in}
 use Rattle.ber_values.specs.Leaves.{visible_within}
 use Rattle.ber_values.proofs.Capped.{length-written, part_size-short}
 use Rattle.ber_values.proofs.Grammars.{part-written, choose-written, choose-other}

@@ -4,7 +4,6 @@ use Rattle.std.proofs.Common.{sym, ap, ◌∙◌, subst, inl, inr, arith}
 use Rattle.ber_values.specs.Lengths.{capped}
 use Rattle.ber_values.proofs.Capped.{length-written, part_size-short}
 use Rattle.ber_values.specs.Reading.{Taken}
-use Rattle.ber_values.specs.Writing.{written}
 use Rattle.ber_values.specs.Grammars.{IsGrammar, taken, branch_in, map_in, has_tag}
 use Rattle.ber_values.specs.Parts.{part_in, choose_in, contents_as}
 use Rattle.ber_values.specs.Leaves.{octet}
