@@ -5,3 +5,6 @@ pub mod DataRead
 pub mod DataLawful
 pub mod DataWritten
 pub mod DataLengths
+pub mod NameRead
+pub mod NameWritten
+pub mod OutcomeRead

@@ -10,6 +10,7 @@ mod octets;
 
 use ber_values::{BitString, Visible};
 use item_list::ItemList;
+pub(crate) use octets::data_from;
 pub use octets::{MOST_DEPTH, data_len, read_data, write_data};
 use plain_text::{push_decimal, push_escaped, push_hex, push_signed_decimal};
 use std::alloc::{AllocError, Global};

@@ -10,8 +10,11 @@ ghost use Rattle.mms_data.specs.ObjectName.{ObjectName, IsName, IsScope, IsIdent
 ghost use Rattle.mms_data.specs.ObjectName.{same_scope, same_name};
 ghost use Rattle.mms_data.specs.Texts.{name_text, scope_text};
 
+mod octets;
+
 use ber_values::{Visible, is_visible};
 use item_list::ItemList;
+pub use octets::{name_len, read_name_octets, take_name, write_name};
 use plain_text::{push_escaped, read_escaped};
 use std::alloc::{AllocError, Global};
 use std::marker::Model;

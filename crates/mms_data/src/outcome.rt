@@ -3,7 +3,10 @@ ghost use Rattle.std.specs.Prelude.{◌≡◌, ◌++◌, OnOk, OnErr};
 ghost use Rattle.mms_data.specs.declared.outcome.Outcome.{Outcome};
 ghost use Rattle.mms_data.specs.Texts.{outcome_text};
 
+mod octets;
+
 use crate::data::{MmsData, spell_data};
+pub use octets::{outcome_len, read_outcome, take_outcome, write_outcome};
 use plain_text::push_decimal;
 use std::alloc::AllocError;
 

@@ -77,7 +77,7 @@ fn read_from(
 }
 
 #[tactic(auto, unfolding(crate::specs::DataOctets::one_datum))]
-fn data_from(alloc: Global, octets: &[u8], at: usize) -> Result<(MmsData, usize), Stop>
+pub(crate) fn data_from(alloc: Global, octets: &[u8], at: usize) -> Result<(MmsData, usize), Stop>
     requires { at + length octets.now < 2 ^ 64 }
     ensures exact { Answers (λ x. taken x.0 x.1 (drop (x.1 - at) octets.now)) result
         (one_datum.reading at octets.now) }

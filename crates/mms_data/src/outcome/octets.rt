@@ -1,0 +1,104 @@
+//! Outcomes of access as octets (ISO 9506-2, `AccessResult`).
+ghost use Rattle.std.specs.Prelude.{◌≡◌, ◌+◌, ◌-◌, ◌<◌, ◌≤◌, ◌^◌, ◌++◌, ◌↔◌, length, drop};
+ghost use Rattle.std.specs.Prelude.{IfOk, OnOk, OnErr, Err};
+ghost use Rattle.std.specs.List.{slice_range};
+ghost use Rattle.ber_values.specs.declared.fault.BerFault.{BerFault};
+ghost use Rattle.ber_values.specs.Faults.{Gives};
+ghost use Rattle.ber_values.specs.Reading.{Taken};
+ghost use Rattle.ber_values.specs.Stops.{Answers, AnswersValue};
+ghost use Rattle.ber_values.specs.Grammars.{taken};
+ghost use Rattle.mms_data.specs.declared.outcome.Outcome.{Outcome};
+ghost use Rattle.mms_data.specs.OutcomeOctets.{one_outcome, IsLawfulOutcome, outcome_octets};
+ghost use Rattle.mms_data.specs.OutcomeOctets.{outcome_len};
+
+use super::Outcome;
+use crate::data::{data_from, data_len, write_data};
+use ber_values::{BerFault, MOST_LENGTH, Stop, has_tag, settle, take_part, write_octets};
+use std::alloc::{AllocError, Global};
+
+/// The outcome that begins at `at` in octets that end at `end`, and the place after it.
+pub fn read_outcome(
+    alloc: Global,
+    bytes: &[u8],
+    at: usize,
+    end: usize,
+) -> Result<Result<(Outcome, usize), BerFault>, AllocError>
+    requires start { at ≤ end }
+    requires stop { end ≤ length bytes.now }
+    // An outcome is read only where the octets begin with it,
+    ensures found { IfOk result (λ read. IfOk read
+        (λ x. one_outcome.begins at (slice_range bytes.now at end)
+        (taken x.0 x.1 (drop (x.1 - at) (slice_range bytes.now at end))))) }
+    // and wherever they begin with one, it is read.
+    ensures only { (t : Taken Outcome) → one_outcome.begins at (slice_range bytes.now at end) t
+        → IfOk result (λ read. AnswersValue
+        (λ x. taken x.0 x.1 (drop (x.1 - at) (slice_range bytes.now at end))) read t) }
+    // A fault is the first one from the left.
+    ensures fault { (fault : BerFault) → IfOk result
+        (λ read. (read ≡ Err fault) ↔ one_outcome.fault at (slice_range bytes.now at end) fault) }
+    ensures lawful { IfOk result (λ read. IfOk read (λ x. IsLawfulOutcome x.0)) }
+    ensures within { IfOk result (λ read. IfOk read (λ x. (at < x.1) × (x.1 ≤ end))) }
+    ensures exact { IfOk result (λ read. Gives
+        (λ x. taken x.0 x.1 (drop (x.1 - at) (slice_range bytes.now at end))) read
+        (one_outcome.reading at (slice_range bytes.now at end))) }
+{
+    outcome_from(alloc, &bytes[at..end], at)
+}
+
+fn outcome_from(
+    alloc: Global,
+    octets: &[u8],
+    at: usize,
+) -> Result<Result<(Outcome, usize), BerFault>, AllocError>
+    requires { at + length octets.now < 2 ^ 64 }
+    ensures exact { IfOk result (λ read. Gives
+        (λ x. taken x.0 x.1 (drop (x.1 - at) octets.now)) read
+        (one_outcome.reading at octets.now)) }
+    ensures within { IfOk result (λ read. IfOk read
+        (λ x. (at + 2 ≤ x.1) × (x.1 ≤ at + length octets.now))) }
+{
+    settle(take_outcome(alloc, octets, at))
+}
+
+/// The outcome at the front of octets, of which the first has the place `at`, and the place after
+/// it.
+#[tactic(auto, unfolding(crate::specs::OutcomeOctets::one_outcome, ber_values::specs::Parts::choose_in, ber_values::specs::Parts::part_in, ber_values::specs::Parts::contents_as, ber_values::specs::Grammars::branch_in, ber_values::specs::Grammars::map_in))]
+pub fn take_outcome(alloc: Global, octets: &[u8], at: usize) -> Result<(Outcome, usize), Stop>
+    requires { at + length octets.now < 2 ^ 64 }
+    ensures exact { Answers (λ x. taken x.0 x.1 (drop (x.1 - at) octets.now)) result
+        (one_outcome.reading at octets.now) }
+    ensures within { IfOk result (λ x. (at + 2 ≤ x.1) × (x.1 ≤ at + length octets.now)) }
+{
+    if has_tag(octets, 0x80) {
+        let part = take_part(octets, at, 0x80)?;
+        return Ok((Outcome::Fail(part.octet()?), part.head.next));
+    }
+    let (value, next) = data_from(alloc, octets, at)?;
+    Ok((Outcome::Good(value), next))
+}
+
+/// How many octets [`write_outcome`] appends, or 4,294,967,295 where they would be as many or
+/// more.
+pub fn outcome_len(outcome: &Outcome) -> usize
+    requires { IsLawfulOutcome outcome.now }
+    ensures { result ≡ outcome_len outcome.now }
+{
+    match outcome {
+        Outcome::Good(value) => data_len(value),
+        Outcome::Fail(_) => 3,
+    }
+}
+
+/// Appends an outcome, which is shorter than 4,294,967,295 octets. After want of memory `out` is
+/// as before.
+pub fn write_outcome(out: &mut Vec<u8>, outcome: &Outcome) -> Result<(), AllocError>
+    requires lawful { IsLawfulOutcome outcome.now }
+    requires bounded { outcome_len outcome.now < MOST_LENGTH }
+    ensures ok { OnOk result (out.new.items ≡ out.old.items ++ outcome_octets outcome.now) }
+    ensures err { OnErr result (out.new.items ≡ out.old.items) }
+{
+    match outcome {
+        Outcome::Good(value) => write_data(out, value),
+        Outcome::Fail(reason) => write_octets(out, 0x80, &[*reason]),
+    }
+}
