@@ -5,3 +5,6 @@ pub mod DataRead
 pub mod DataLawful
 pub mod DataWritten
 pub mod DataLengths
+pub mod WordText
+pub mod TextLevels
+pub mod WorkedTexts
