@@ -8,3 +8,6 @@ pub mod DataLengths
 pub mod NameRead
 pub mod NameWritten
 pub mod OutcomeRead
+pub mod WordText
+pub mod TextLevels
+pub mod WorkedTexts

@@ -3,9 +3,12 @@
 
 mod access_laws;
 mod data;
+mod data_text;
 mod laws;
 mod object_name;
 mod outcome;
+mod word_front;
+mod word_value;
 
 pub use access_laws::{
     names_have_one_reading, outcomes_have_one_reading, written_names_are_read,
@@ -14,6 +17,7 @@ pub use access_laws::{
 pub use data::{
     DataKind, DataList, MOST_DEPTH, MmsData, OctetList, data_len, read_data, spell_data, write_data,
 };
+pub use data_text::read_data_text;
 pub use laws::{data_have_one_reading, written_data_are_read};
 pub use object_name::{
     Name, Names, Scope, name_len, read_name, read_name_octets, spell_name, take_name, write_name,
