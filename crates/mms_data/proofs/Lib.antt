@@ -8,3 +8,4 @@ pub mod DataLengths
 pub mod WordText
 pub mod TextLevels
 pub mod WorkedTexts
+pub mod WordOnly

@@ -21,3 +21,5 @@ pub use outcome::{Outcome, spell_outcome};
 mod octet_tests;
 #[cfg(test)]
 mod tests;
+#[cfg(test)]
+mod text_tests;
