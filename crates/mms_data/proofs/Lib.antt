@@ -11,3 +11,4 @@ pub mod OutcomeRead
 pub mod WordText
 pub mod TextLevels
 pub mod WorkedTexts
+pub mod WordOnly

@@ -1,11 +1,14 @@
 -- Members are read one after another, and a text breaks where one of them does.
-use Rattle.std.proofs.Common.{◌≡◌, ℕ, zero, suc, ◌+◌, ◌-◌, ◌≤◌, ◌<◌, false, List, [], ◌∷◌, ◌++◌, length, refl, sym, ap, ◌∙◌, inl, inr, subst, append_assoc, append-nil, arith}
+use Rattle.std.proofs.Common.{◌≡◌, ℕ, zero, suc, ◌+◌, ◌-◌, ◌≤◌, ◌<◌, false, List, [], ◌∷◌, ◌++◌}
+use Rattle.std.proofs.Common.{length, refl, sym, ap, ◌∙◌, inl, inr, subst, append_assoc, append-nil}
+use Rattle.std.proofs.Common.{arith}
 use Rattle.std.proofs.lemmas.List.{length-append}
 use Rattle.mms_data.specs.declared.data_text.Halt.{Halt}
 use Rattle.mms_data.specs.declared.data_text.Halt.TheVariants as halts
 use Rattle.mms_data.specs.Datum.{Datum, data_of, depth, deepest}
 use Rattle.mms_data.specs.Texts.{data_text, members_text, further_text}
-use Rattle.mms_data.specs.TextRead.{IsWithin, AreWithin, BeginsDatum, BreaksDatum, BreaksMembers, Halts, members_before, begins_with}
+use Rattle.mms_data.specs.TextRead.{IsWithin, AreWithin, BeginsDatum, BreaksDatum, BreaksMembers}
+use Rattle.mms_data.specs.TextRead.{Halts, members_before, begins_with}
 
 -- members so far, a comma behind each, and what is still to be read
 pub record SoFar (n close : ℕ) (octets : List ℕ) (members : List Datum) (rest : List ℕ)

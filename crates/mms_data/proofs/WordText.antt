@@ -1,5 +1,9 @@
 -- The value that a word is is spelled as that word.
-use Rattle.std.proofs.Common.{◌≡◌, ◌≢◌, inr, ℕ, zero, suc, ◌+◌, ◌-◌, ◌*◌, ◌/◌, ◌%◌, ◌^◌, ◌<◌, ◌≤◌, Bool, true, false, cond, ◌&&◌, ◌==◌, nat_le, List, [], ◌∷◌, ◌++◌, length, take, drop, position, get_or, Option, Some, None, option_map, ℤ, pos, negsuc, int_le, refl, sym, ap, ◌∙◌, arith, subst, decimal, append_assoc}
+use Rattle.std.proofs.Common.{◌≡◌, ◌≢◌, inr, ℕ, zero, suc, ◌+◌, ◌-◌, ◌*◌, ◌/◌, ◌%◌, ◌^◌, ◌<◌, ◌≤◌}
+use Rattle.std.proofs.Common.{Bool, true, false, cond, ◌&&◌, ◌==◌, nat_le, List, [], ◌∷◌, ◌++◌}
+use Rattle.std.proofs.Common.{length, take, drop, position, get_or, Option, Some, None, option_map}
+use Rattle.std.proofs.Common.{ℤ, pos, negsuc, int_le, refl, sym, ap, ◌∙◌, arith, subst, decimal}
+use Rattle.std.proofs.Common.{append_assoc}
 use Rattle.std.specs.Fmt.{signed_decimal}
 use Rattle.std.specs.Option.{option_and_then}
 use Rattle.std.proofs.lemmas.Bool.{and_parts}
@@ -7,7 +11,8 @@ use Rattle.std.proofs.lemmas.Bool.Decides.{nat_tests}
 use Rattle.std.proofs.lemmas.Option.{option_and_then_some}
 use Rattle.plain_text.specs.Octets.{hex_digit, hex_pair, hex_text}
 use Rattle.plain_text.specs.Escaped.{unescaped}
-use Rattle.plain_text.specs.Numbers.{number_in, number_up_to, if_passes, negative, hex_in, hex_octets, hex_value, hex_pair_value}
+use Rattle.plain_text.specs.Numbers.{number_in, number_up_to, if_passes, negative, hex_in}
+use Rattle.plain_text.specs.Numbers.{hex_octets, hex_value, hex_pair_value}
 use Rattle.plain_text.specs.Numbers as numbers
 use Rattle.plain_text.proofs.Decimal.{number_in-decimal}
 use Rattle.plain_text.proofs.EscapedText.{option_map-found, hex_value-found, unescaped-found}
@@ -16,7 +21,8 @@ use Rattle.std.proofs.lemmas.List.Quantifiers.{position-Some}
 use Rattle.ber_values.specs.Bits.{IsBits}
 use Rattle.ber_values.specs.Octets.{IsOctets}
 use Rattle.ber_values.proofs.BitsLemmas.{list_all-octets}
-use Rattle.mms_data.specs.Datum.{Datum, boolean, integer, unsigned, bits, real, octets, text, structure, array, depth}
+use Rattle.mms_data.specs.Datum.{Datum, boolean, integer, unsigned, bits, real, octets, text}
+use Rattle.mms_data.specs.Datum.{structure, array, depth}
 use Rattle.mms_data.specs.Lawful.{KeepsUnsigned}
 use Rattle.mms_data.specs.Texts.{data_text}
 use Rattle.mms_data.specs.WordValue as own

@@ -1,5 +1,6 @@
 -- Data in a text, and where a text breaks that is no text of a datum.
-use Rattle.std.specs.Prelude.{◌≡◌, ◌≢◌, ◌⊎◌, ℕ, zero, suc, ◌+◌, ◌≤◌, Bool, false, ◌==◌, List, [], ◌∷◌}
+use Rattle.std.specs.Prelude.{◌≡◌, ◌≢◌, ◌⊎◌, ℕ, zero, suc, ◌+◌, ◌≤◌, Bool, false, ◌==◌, List, []}
+use Rattle.std.specs.Prelude.{◌∷◌}
 use Rattle.std.specs.Prelude.{◌++◌, length, None, Some}
 use Rattle.mms_data.specs.declared.data.octets.TheConstants.{MOST_DEPTH}
 use Rattle.mms_data.specs.declared.data_text.Halt.{Halt}

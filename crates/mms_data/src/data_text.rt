@@ -1,5 +1,5 @@
 //! The text of a value, read.
-ghost use Rattle.std.specs.Prelude.{ℕ, ◌≡◌, ◌≤◌, ◌≢◌, ◌⊎◌, ◌∷◌, ◌++◌, [], false, length, Err};
+ghost use Rattle.std.specs.Prelude.{◌≡◌, ◌≤◌, ◌≢◌, ◌⊎◌, ◌∷◌, ◌++◌, [], false, length, Some, Ok};
 ghost use Rattle.std.specs.Prelude.{IfOk, IfErr, IfSome, IfNone};
 ghost use Rattle.mms_data.specs.declared.data_text.Halt.TheVariants.{Memory};
 ghost use Rattle.mms_data.specs.Datum.{Datum, data_of, array, structure};
@@ -36,6 +36,9 @@ pub fn read_data_text(alloc: Global, text: &[u8]) -> Result<Result<MmsData, usiz
     // What is read is what the text spells.
     ensures found { IfOk result (λ read. IfOk read (λ d. text.now ≡ data_text d)) }
     ensures lawful { IfOk result (λ read. IfOk read (λ d. IsLawful d)) }
+    // A text of one word that stands for a value is read as it.
+    ensures word { (d : Datum) → own.word_value text.now ≡ Some d → own.word_of text.now ≡ text.now
+        → IfOk result (λ read. read ≡ Ok d) }
     // A place is where the text breaks.
     ensures fault { IfOk result (λ read. IfErr read (λ place. BreaksAt text.now place)) }
     ensures within { IfOk result (λ read. IfErr read (λ place. place ≤ length text.now)) }

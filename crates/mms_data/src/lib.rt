@@ -30,3 +30,5 @@ mod access_tests;
 mod octet_tests;
 #[cfg(test)]
 mod tests;
+#[cfg(test)]
+mod text_tests;

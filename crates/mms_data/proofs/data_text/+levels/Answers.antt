@@ -2,7 +2,9 @@
 use Rattle.std.proofs.Common.{◌<◌, ◌≤◌, ◌-◌, length, refl, arith}
 use Rattle.std.proofs.lemmas.Result.{err_from_is_err_and}
 use Rattle.mms_data.specs.TextRead.{BreaksDatum, BreaksMembers}
-use Rattle.mms_data.proofs.TextLevels.{halts_as, inside_brace, inside_bracket, so_far-none, so_far-breaks, so_far-within, so_far-end, so_far-more, so_far-behind, within_push, begins-within, begins-shorter}
+use Rattle.mms_data.proofs.TextLevels.{halts_as, inside_brace, inside_bracket, so_far-none}
+use Rattle.mms_data.proofs.TextLevels.{so_far-breaks, so_far-within, so_far-end, so_far-more}
+use Rattle.mms_data.proofs.TextLevels.{so_far-behind, within_push, begins-within, begins-shorter}
 use Rattle.mms_data.proofs.data_text.+levels.Goals as goal
 
 pub datum_at-returns-in_err-members-clause-fault : goal.datum_at-returns-in_err-members-clause-fault
@@ -16,7 +18,8 @@ datum_at-returns-in_err-members-clause-fault t c =
     (inside_brace n (n - 1) c.args.text.now c.in-Some.inner.now some refl c.in-Some.ensures.some)
     c.in_err-members.ensures.fault)
 
-pub datum_at-returns-in_err-members-2-clause-fault : goal.datum_at-returns-in_err-members-2-clause-fault
+pub datum_at-returns-in_err-members-2-clause-fault
+    : goal.datum_at-returns-in_err-members-2-clause-fault
 datum_at-returns-in_err-members-2-clause-fault t c =
     let p = err_from_is_err_and c.from_residual-in_err-members-2.result
     c.from_residual-in_err-members-2.ensures.1 in
@@ -34,7 +37,8 @@ members_at-loop-members-init t c =
     so_far-none c.args.levels c.args.close c.args.text.now c.new-members.result
     c.new-members.ensures c.in_default.ensures.none
 
-pub members_at-returns-in_err-member-clause-fault : goal.members_at-returns-in_err-member-clause-fault
+pub members_at-returns-in_err-member-clause-fault
+    : goal.members_at-returns-in_err-member-clause-fault
 members_at-returns-in_err-member-clause-fault t c =
     let p = err_from_is_err_and c.from_residual.result c.from_residual.ensures.1 in
     let n = c.args.levels in
@@ -46,7 +50,8 @@ members_at-returns-in_err-member-clause-fault t c =
     c.loop-members.invariant)
     c.in_err-member.ensures.fault)
 
-pub members_at-returns-in_err-member-clause-within : goal.members_at-returns-in_err-member-clause-within
+pub members_at-returns-in_err-member-clause-within
+    : goal.members_at-returns-in_err-member-clause-within
 members_at-returns-in_err-member-clause-within t c =
     let p = err_from_is_err_and c.from_residual.result c.from_residual.ensures.1 in
     let rest = c.loop-members.rest.now in
@@ -57,7 +62,8 @@ members_at-returns-in_err-member-clause-within t c =
     c.loop-members.invariant)
     c.in_err-member.ensures.within)
 
-pub members_at-returns-in-Some-behind-clause-found : goal.members_at-returns-in-Some-behind-clause-found
+pub members_at-returns-in-Some-behind-clause-found
+    : goal.members_at-returns-in-Some-behind-clause-found
 members_at-returns-in-Some-behind-clause-found t c =
     rw c.in_ok-push.ensures.ok
     (so_far-end c.args.levels c.args.close c.args.text.now c.loop-members.members
@@ -65,20 +71,23 @@ members_at-returns-in-Some-behind-clause-found t c =
     c.in-Some-behind.end.now c.loop-members.invariant c.in_ok-member.ensures.found
     c.in-Some-behind.ensures.some)
 
-pub members_at-returns-in-Some-behind-clause-lawful : goal.members_at-returns-in-Some-behind-clause-lawful
+pub members_at-returns-in-Some-behind-clause-lawful
+    : goal.members_at-returns-in-Some-behind-clause-lawful
 members_at-returns-in-Some-behind-clause-lawful t c =
     rw c.in_ok-push.ensures.ok
     (within_push c.args.levels c.loop-members.members c.in_ok-member.member
     c.loop-members.invariant.lawful c.in_ok-member.ensures.found.lawful)
 
-pub members_at-returns-in_default-behind-2-clause-fault : goal.members_at-returns-in_default-behind-2-clause-fault
+pub members_at-returns-in_default-behind-2-clause-fault
+    : goal.members_at-returns-in_default-behind-2-clause-fault
 members_at-returns-in_default-behind-2-clause-fault t c =
     so_far-behind c.args.levels c.args.close c.args.text.now c.loop-members.members
     c.loop-members.rest.now c.in_ok-member.member c.in_ok-member.after.now
     c.loop-members.invariant c.in_ok-member.ensures.found c.in_default-behind.ensures.none
     c.in_default-behind-2.ensures.none
 
-pub members_at-returns-in_default-behind-2-clause-within : goal.members_at-returns-in_default-behind-2-clause-within
+pub members_at-returns-in_default-behind-2-clause-within
+    : goal.members_at-returns-in_default-behind-2-clause-within
 members_at-returns-in_default-behind-2-clause-within t c =
     let less = begins-within c.args.levels c.loop-members.rest.now c.in_ok-member.member
     c.in_ok-member.after.now c.in_ok-member.ensures.found in
