@@ -1,6 +1,6 @@
 -- Worked rows of how far words go on, and of what they stand for.
-use Rattle.std.proofs.Common.{◌≡◌, ℕ, ◌+◌, ◌^◌, List, [], ◌∷◌, Some, None, codes, refl, true}
-use Rattle.mms_data.specs.Datum.{boolean, octets, bits, real}
+use Rattle.std.proofs.Common.{◌≡◌, [], ◌∷◌, Some, None, codes, refl}
+use Rattle.mms_data.specs.Datum.{bits}
 use Rattle.mms_data.specs.WordValue.{word_value, word_of}
 use Rattle.mms_data.specs.WordFront.{word_front}
 
