@@ -1,3 +1,4 @@
 pub mod OffersRead
 mod Worked
 pub mod Transfers
+pub mod Counted

@@ -1,8 +1,7 @@
 -- Reading offers is exact.
-use Rattle.ber_values.specs.Grammars.{IsGrammar, then_in, map_in}
-use Rattle.ber_values.specs.Parts.{IsContentsGrammar, part_in}
-use Rattle.ber_values.specs.Lists.{list_in, count_in}
-use Rattle.ber_values.specs.Leaves.{unsigned_within, oid}
+use Rattle.ber_values.specs.Grammars.{IsGrammar}
+use Rattle.ber_values.specs.Parts.{IsContentsGrammar}
+use Rattle.ber_values.specs.Leaves.{oid}
 use Rattle.ber_values.proofs.Grammars.{then_reads, map_reads, part_reads, as_reads, all_reads}
 use Rattle.ber_values.proofs.Lists.{list_reads, count_reads}
 use Rattle.ber_values.proofs.Leaves.{oid_contents, unsigned_within_contents}

@@ -1,4 +1,4 @@
-use Rattle.std.proofs.Common.{◌≡◌, ◌<◌, length, sym, ap, arith}
+use Rattle.std.proofs.Common.{◌<◌, length, sym}
 use Rattle.std.proofs.lemmas.Result.{err_from_is_err_and}
 use Rattle.ber_values.proofs.Lists.{some_left, none_left}
 use Rattle.presentation_profile.proofs.Transfers.{names-begin, names-more, names-fail, names-end}
