@@ -11,8 +11,8 @@ use std::test::Fail;
 // Two peers, each with a table of its own.
 const TABLES: &str = "point BUS1 state\npoint LOAD1 discrete\npoint FREQ1 real\n\
 peer A 1.1.999.1 DOMA TBLA\nsee BUS1 domain value\nsee LOAD1 domain value,cov\n\
-peer B 1.1.999.2 DOMB TBLB\nsee BUS1 domain value,time\nsee LOAD1 domain value,flags\nsee FREQ1 vmd
-    value\n";
+peer B 1.1.999.2 DOMB TBLB\nsee BUS1 domain value,time\nsee LOAD1 domain value,flags\n\
+see FREQ1 vmd value\n";
 
 const LAWFUL: [&str; 3] = ["replay", "tables", "scenario"];
 
