@@ -1,11 +1,11 @@
 -- Capped lengths and their sums.
-use Rattle.std.proofs.Common.{◌≡◌, ℕ, ◌+◌, ◌≤◌, ◌<◌, ◌^◌, min, ltb, List, [], ◌∷◌, ◌++◌, length, ℤ, cond, refl, sym, ap, ◌∙◌, arith}
+use Rattle.std.proofs.Common.{◌≡◌, ℕ, ◌+◌, ◌≤◌, ◌<◌, min, ltb, List, [], ◌∷◌, length, refl, sym, ap, ◌∙◌, arith}
 use Rattle.std.proofs.lemmas.Bool.{cond_both, ltb-true, ltb-false}
 use Rattle.std.proofs.lemmas.List.{length-append}
 use Rattle.ber_values.specs.declared.lengths.TheConstants.{MOST_LENGTH}
-use Rattle.ber_values.specs.Writing.{length_size, octets_of, length_octets, head_octets, written}
+use Rattle.ber_values.specs.Writing.{length_size, octets_of, length_octets, written}
 use Rattle.ber_values.specs.Lengths.{capped, part_size}
-use Rattle.ber_values.proofs.Written.{length-octets_of, length-integer_octets}
+use Rattle.ber_values.proofs.Written.{length-octets_of}
 
 -- sums of capped lengths are capped sums
 pub capped-sum : (a b : ℕ) → capped (capped a + capped b) ≡ capped (a + b)

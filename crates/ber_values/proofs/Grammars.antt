@@ -1,17 +1,17 @@
 -- The pieces of grammars are exact where those that they are made of are.
-use Rattle.std.proofs.Common.{◌≡◌, ◌≢◌, ℕ, zero, suc, Bool, true, false, cond, eqb, ltb, List, [], ◌∷◌, length, Result, Ok, Err, refl, sym, ap, subst, ◌∙◌, inl, inr, ◌⊎◌, Option, Some, None, ◌≤◌, ◌<◌, ◌-◌, ◌+◌, ◌++◌, ◌^◌, drop, take, append_assoc, arith}
-use Rattle.std.proofs.lemmas.Bool.{ltb-true, ltb-false, lt-ltb, le-ltb, eqb-true, eqb-false, eq-eqb, ne_eqb, false≢true, cond-true, cond-false}
+use Rattle.std.proofs.Common.{◌≡◌, ◌≢◌, ℕ, zero, suc, Bool, true, false, cond, eqb, ltb, List, [], ◌∷◌, length, Result, Ok, Err, refl, sym, ap, subst, ◌∙◌, inl, inr, ◌⊎◌, Some, None, ◌≤◌, ◌<◌, ◌-◌, ◌+◌, ◌++◌, ◌^◌, drop, take, append_assoc, arith}
+use Rattle.std.proofs.lemmas.Bool.{ltb-true, ltb-false, lt-ltb, le-ltb, eqb-true, eqb-false, eq-eqb, ne_eqb, false≢true}
 use Rattle.std.proofs.lemmas.List.{drop-drop, drop_at, take_at, length-append}
 use Rattle.ber_values.specs.declared.fault.BerFault.{BerFault}
 use Rattle.ber_values.specs.declared.fault.Why.TheVariants as whys
 use Rattle.ber_values.specs.declared.head.Head.{Head}
 use Rattle.ber_values.specs.Faults.{fault_at, ◌>>=◌}
-use Rattle.ber_values.specs.Heads.{head_of, IsPastEnd, SpellsHead, HeadFault, head_in}
+use Rattle.ber_values.specs.Heads.{IsPastEnd, SpellsHead, HeadFault, head_in}
 use Rattle.ber_values.specs.Tags.{SpellsLength, LengthFault, length_in}
 use Rattle.ber_values.specs.Reading.{Taken, Begins, IsReading}
-use Rattle.ber_values.specs.Grammars.{Grammar, IsGrammar, taken, gives, then_in, map_in, branch_in, first_is, has_tag, is_ended, why_refused, refused, skip, by_length, pass_within, pass_in, times_in, fold_in}
+use Rattle.ber_values.specs.Grammars.{Grammar, IsGrammar, taken, gives, then_in, map_in, branch_in, first_is, has_tag, is_ended, why_refused, refused, skip, ended, whole_in, by_length, pass_within, pass_in, times_in, fold_in}
 use Rattle.ber_values.specs.Parts.{Contents, IsContentsGrammar, Parted, parted, BeginsPart, PartFault, sized_part_in, parted_in, part_in, choose_in, maybe_in, contents_as, contents_where, end_in, all_in}
-use Rattle.ber_values.proofs.Reading.{IsReading-from, IsReading-then, IsReading-as, Ok_is, Err_is, not_both}
+use Rattle.ber_values.proofs.Reading.{IsReading-from, IsReading-then, IsReading-as}
 use Rattle.ber_values.proofs.Tags.{length_reads}
 use Rattle.ber_values.proofs.Heads.{head_reads}
 use Rattle.ber_values.specs.Writing.{length_octets, written}
@@ -75,6 +75,14 @@ refused_reads {X} at octets = IsReading-failed (Taken X) (fault_at at (why_refus
 pub skip_reads : IsGrammar skip
 unfolding skip
 skip_reads at octets = IsReading-map Head (Taken (Unit {0})) (SpellsHead at octets) (HeadFault at octets) (head_in at octets) (λ head. taken tt head.next (drop (head.next - at) octets)) (head_reads at octets)
+
+pub ended_reads : IsGrammar ended
+unfolding ended
+ended_reads = branch_reads is_ended (gives tt) refused (gives_reads tt) refused_reads
+
+pub whole_reads : {X : Type 0} (g : Grammar X) → IsGrammar g → IsGrammar (whole_in g)
+unfolding whole_in
+whole_reads g one = then_reads g (λ x. map_in (λ u. x) ended) one (λ x. map_reads (λ u. x) ended ended_reads)
 
 pub by_length_reads : {X : Type 0} (g : ℕ → Grammar X) → ((n : ℕ) → IsGrammar (g n)) → IsGrammar (by_length g)
 unfolding by_length

@@ -10,6 +10,8 @@ pub mod Windows
 pub mod Shortest
 pub mod Grammars
 pub mod Lists
+pub mod Counted
+pub mod Passed
 pub mod Leaves
 pub mod Capped
 pub mod Settled

@@ -1,4 +1,3 @@
 pub mod OffersRead
 mod Worked
 pub mod Transfers
-pub mod Counted
