@@ -13,6 +13,7 @@ pub mod Lists
 pub mod Counted
 pub mod Passed
 pub mod Leaves
+pub mod Externals
 pub mod Capped
 pub mod Settled
 pub mod DottedOctets

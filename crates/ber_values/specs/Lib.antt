@@ -18,6 +18,7 @@ pub mod Grammars
 pub mod Parts
 pub mod Lists
 pub mod Leaves
+pub mod Externals
 pub mod Stops
 pub mod Readers
 pub mod PartOf

@@ -4,6 +4,7 @@
 mod bit_string;
 mod boolean;
 mod contents;
+mod external;
 mod fault;
 mod head;
 mod integer;
@@ -21,6 +22,7 @@ mod writing;
 
 pub use bit_string::{BitString, read_bits, write_bits};
 pub use boolean::{read_boolean, write_boolean};
+pub use external::External;
 pub use fault::{BerFault, Span, Why};
 pub use head::{Head, read_head, write_head};
 pub use integer::{read_integer, read_unsigned, write_integer, write_natural};
@@ -30,6 +32,7 @@ pub use object_identifier::{ARC_LIMIT, OID_LIMIT, Oid, read_dotted, read_oid, wr
 pub use part::{Part, has_tag, octets_from, take_end, take_part};
 pub use passing::{skip_part, skip_parts};
 pub use stop::{Stop, settle};
+pub use tag::{Tag, read_tag};
 pub use visible_string::{VISIBLE_LIMIT, Visible, is_visible, read_visible, write_visible};
 pub use writing::write_octets;
 

@@ -9,12 +9,14 @@ use crate::fault::{BerFault, Why};
 use crate::number::unsigned_number;
 
 /// A tag, and whether it has further octets.
-#[derive(Clone, Copy)]
-pub(crate) struct Tag {
-    pub(crate) class: u8,
-    pub(crate) constructed: bool,
-    pub(crate) number: u32,
-    pub(crate) long_form: bool,
+#[derive(Clone, Copy, Debug, PartialEq, Eq)]
+pub struct Tag {
+    /// 0 universal, 1 application, 2 context-specific, 3 private.
+    pub class: u8,
+    pub constructed: bool,
+    pub number: u32,
+    /// Whether the tag has further octets, so that it is no tag of one octet.
+    pub long_form: bool,
 }
 
 pub(crate) fn make_tag(first: u8, number: u32, long_form: bool) -> Tag
@@ -40,7 +42,7 @@ pub(crate) fn short(place: usize) -> BerFault
 /// The tag at the front, the place after it and the octets from there on. `at` is the place of
 /// the first octet.
 #[tactic(auto, unfolding(crate::specs::Tags::tag_in))]
-pub(crate) fn read_tag(octets: &[u8], at: usize) -> Result<(Tag, usize, &[u8]), BerFault>
+pub fn read_tag(octets: &[u8], at: usize) -> Result<(Tag, usize, &[u8]), BerFault>
     requires { at + length octets.now < 2 ^ 64 }
     ensures exact { Gives (λ x. record { value = x.0; next = x.1; rest = x.2.now }) result
         (tag_in at octets.now) }
