@@ -1,0 +1,4 @@
+pub mod RisingReads
+pub mod RisingLoop
+pub mod ApdusRead
+mod Worked

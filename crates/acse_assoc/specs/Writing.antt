@@ -1,0 +1,82 @@
+-- The written form of an APDU: the shortest lengths and integers, and no element that may be absent
+-- but the title, where there is one.
+use Rattle.std.specs.Prelude.{◌≡◌, ℕ, ◌+◌, ◌-◌, ◌<◌, ◌≤◌, ◌^◌, List, [], ◌∷◌, ◌++◌, length, pos}
+use Rattle.std.specs.Prelude.{Option, Some, None, ◌==◌, if◌then◌else◌}
+use Rattle.ber_values.specs.declared.fault.Span.{Span}
+use Rattle.ber_values.specs.Oid.{IsOid}
+use Rattle.ber_values.specs.Writing.{written, integer_octets}
+use Rattle.ber_values.specs.declared.external.External.{External}
+use Rattle.acse_assoc.specs.declared.request.AssociateRequest.{AssociateRequest}
+use Rattle.acse_assoc.specs.declared.response.AssociateResponse.{AssociateResponse}
+use Rattle.acse_assoc.specs.declared.apdu.Apdu.{Apdu}
+use Rattle.acse_assoc.specs.declared.apdu.Apdu.TheVariants.{Aarq, Aare, Rlrq, Rlre, Abrt}
+use Rattle.ber_values.specs.Externals.{external_of}
+
+-- the user information of this context, alone in its element
+abbrev pub user_octets : ℕ → List ℕ → List ℕ
+user_octets id body =
+    written 190 (written 40 (written 2 (integer_octets (pos id)) ++ written 160 body))
+
+abbrev pub title_octets : Option (List ℕ) → List ℕ
+title_octets None = []
+title_octets (Some title) = written 166 (written 6 title)
+
+abbrev pub request_octets : AssociateRequest → List ℕ → List ℕ
+request_octets r body = written 96 (written 161 (written 6 r.context)
+    ++ (title_octets r.title ++ user_octets r.user.id body))
+
+-- iso standard 9506 part 2, the application context
+abbrev pub mms_context : List ℕ
+mms_context = 40 ∷ 202 ∷ 34 ∷ 2 ∷ 3 ∷ []
+
+-- the diagnostic of the service's user: none where the result is 0, else no reason given
+abbrev pub diagnostic : ℕ → List ℕ
+diagnostic result = 163 ∷ 5 ∷ 161 ∷ 3 ∷ 2 ∷ 1 ∷ (if result == 0 then 0 else 1) ∷ []
+
+abbrev pub some_user_octets : Option External → List ℕ → List ℕ
+some_user_octets None body = []
+some_user_octets (Some user) body = user_octets user.id body
+
+abbrev pub response_octets : AssociateResponse → List ℕ → List ℕ
+response_octets r body = written 97 (written 161 (written 6 mms_context)
+    ++ (written 162 (written 2 (integer_octets (pos r.result)))
+    ++ (diagnostic r.result ++ some_user_octets r.user body)))
+
+-- the reason: normal, or none
+abbrev pub short_octets : ℕ → List ℕ
+short_octets tag = tag ∷ 3 ∷ 128 ∷ 1 ∷ 0 ∷ []
+
+abbrev pub apdu_octets : Apdu → List ℕ → List ℕ
+apdu_octets (Aarq r) body = request_octets r body
+apdu_octets (Aare r) body = response_octets r body
+apdu_octets Rlrq body = short_octets 98
+apdu_octets Rlre body = short_octets 99
+apdu_octets Abrt body = short_octets 100
+
+-- the last octets before a place
+abbrev pub span_before : ℕ → List ℕ → Span
+span_before end body = record { from = end - length body; to = end }
+
+-- the same user information, with its body in another place
+abbrev pub moved : Span → External → External
+moved body user = external_of user.id body
+
+-- the same APDU, with its body in another place
+abbrev pub with_body : Span → Apdu → Apdu
+with_body body (Aarq r) =
+    Aarq (record { context = r.context; title = r.title; user = moved body r.user })
+with_body body (Aare r) = Aare (record { result = r.result; user = moved_user r.user })
+  where
+    moved_user : Option External → Option External
+    moved_user None = None
+    moved_user (Some user) = Some (moved body user)
+with_body body apdu = apdu
+
+-- an accepted association has user information
+abbrev pub HasUser : AssociateResponse → Type 0
+HasUser r = r.result ≡ 0 → (user : External) × (r.user ≡ Some user)
+
+abbrev pub IsWritable : Apdu → Type 0
+IsWritable (Aarq r) = Unit {0}
+IsWritable (Aare r) = HasUser r
+IsWritable apdu = Unit {0}

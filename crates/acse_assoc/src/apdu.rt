@@ -1,0 +1,117 @@
+//! APDUs (ISO 8650-1, `ACSE-apdu`).
+ghost use Rattle.std.specs.Prelude.{◌≡◌, ◌+◌, ◌-◌, ◌^◌, ◌<◌, ◌≤◌, [], length, drop, IfOk};
+ghost use Rattle.std.specs.List.{slice_range};
+ghost use Rattle.ber_values.specs.Faults.{Gives};
+ghost use Rattle.ber_values.specs.Grammars.{taken};
+ghost use Rattle.ber_values.specs.Readers.{IsReadBy, taken_from};
+ghost use Rattle.ber_values.specs.Stops.{Answers};
+ghost use Rattle.acse_assoc.specs.Apdus.{one_apdu, apdu};
+
+use crate::expected::Expected;
+use crate::request::{AssociateRequest, request_from};
+use crate::response::{AssociateResponse, response_from};
+use ber_values::{BerFault, Stop, has_tag, octets_from, settle, take_end, take_part};
+use std::alloc::{AllocError, Global};
+
+/// The most octets of a body that are written.
+pub const MOST_BODY: usize = 65_400;
+
+const AARQ: u8 = 0x60;
+const AARE: u8 = 0x61;
+const RLRQ: u8 = 0x62;
+const RLRE: u8 = 0x63;
+const ABRT: u8 = 0x64;
+
+/// An application protocol data unit. What RLRQ, RLRE and ABRT hold isn't looked at.
+#[derive(Debug, Drop, PartialEq, Eq)]
+pub enum Apdu {
+    /// Asks for an association.
+    Aarq(AssociateRequest),
+    /// Answers it.
+    Aare(AssociateResponse),
+    /// Asks for the release.
+    Rlrq,
+    /// Answers it.
+    Rlre,
+    /// Ends the association at once.
+    Abrt,
+}
+
+/// The APDU that the octets from `at` up to `end` are, where it has what is expected of it. A body
+/// is where its octets stand in the slice.
+pub fn read_apdu(
+    alloc: Global,
+    bytes: &[u8],
+    at: usize,
+    end: usize,
+    expected: Expected,
+) -> Result<Result<Apdu, BerFault>, AllocError>
+    requires start { at ≤ end }
+    requires stop { end ≤ length bytes.now }
+    ensures { IfOk result (λ read. IsReadBy (apdu expected) (λ v. taken v end []) at
+        (slice_range bytes.now at end) read) }
+{
+    settle(apdu_from(alloc, &bytes[at..end], at, expected))
+}
+
+/// The APDU that octets are, of which the first has the place `at`.
+#[tactic(auto, unfolding(crate::specs::Apdus::apdu))]
+fn apdu_from(
+    alloc: Global,
+    octets: &[u8],
+    at: usize,
+    expected: Expected,
+) -> Result<Apdu, Stop>
+    requires { at + length octets.now < 2 ^ 64 }
+    ensures { Answers (λ v. taken v (at + length octets.now) []) result
+        ((apdu expected).reading at octets.now) }
+{
+    let (apdu, next) = take_apdu(alloc, octets, at, expected)?;
+    take_end(octets_from(octets, at, next), next)?;
+    Ok(apdu)
+}
+
+/// The APDU at the front of octets, and the place after it.
+#[tactic(
+    auto,
+    unfolding(
+        crate::specs::Apdus::one_apdu,
+        ber_values::specs::Parts::choose_in,
+        ber_values::specs::Parts::part_in,
+        ber_values::specs::Parts::contents_as,
+        ber_values::specs::Grammars::branch_in,
+        ber_values::specs::Leaves::raw
+    )
+)]
+fn take_apdu(
+    alloc: Global,
+    octets: &[u8],
+    at: usize,
+    expected: Expected,
+) -> Result<(Apdu, usize), Stop>
+    requires { at + length octets.now < 2 ^ 64 }
+    ensures exact { Answers (taken_from at octets.now) result
+        ((one_apdu expected).reading at octets.now) }
+    ensures within { IfOk result (λ x. (at < x.1) × (x.1 ≤ at + length octets.now)) }
+{
+    if has_tag(octets, AARQ) {
+        let part = take_part(octets, at, AARQ)?;
+        let request = request_from(alloc, &part, expected)?;
+        return Ok((Apdu::Aarq(request), part.head.next));
+    }
+    if has_tag(octets, AARE) {
+        let part = take_part(octets, at, AARE)?;
+        let response = response_from(&part, expected)?;
+        return Ok((Apdu::Aare(response), part.head.next));
+    }
+    if has_tag(octets, RLRQ) {
+        let part = take_part(octets, at, RLRQ)?;
+        return Ok((Apdu::Rlrq, part.head.next));
+    }
+    if has_tag(octets, RLRE) {
+        let part = take_part(octets, at, RLRE)?;
+        return Ok((Apdu::Rlre, part.head.next));
+    }
+    let part = take_part(octets, at, ABRT)?;
+    Ok((Apdu::Abrt, part.head.next))
+}

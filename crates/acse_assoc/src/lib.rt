@@ -1,0 +1,17 @@
+//! The association control service element (ISO 8650-1).
+#![tactic(auto)]
+
+mod apdu;
+mod expected;
+mod laws;
+mod numbers;
+mod request;
+mod response;
+mod rising;
+mod user;
+
+pub use apdu::{Apdu, MOST_BODY, read_apdu};
+pub use expected::Expected;
+pub use laws::apdus_have_one_reading;
+pub use request::AssociateRequest;
+pub use response::AssociateResponse;

@@ -1,0 +1,237 @@
+//! AARE (ISO 8650-1, `AARE-apdu`): answers an AARQ.
+ghost use Rattle.std.specs.Prelude.{◌≡◌, ◌+◌, ◌^◌, ◌<◌, ◌≤◌, length, IfOk};
+ghost use Rattle.ber_values.specs.Faults.{Gives};
+ghost use Rattle.ber_values.specs.Grammars.{taken};
+ghost use Rattle.acse_assoc.specs.declared.numbers.TheConstants.{USER_INFORMATION};
+ghost use Rattle.acse_assoc.specs.Rising.{perhaps_in, least_after};
+ghost use Rattle.acse_assoc.specs.Users.{user_information};
+ghost use Rattle.acse_assoc.specs.Responses.{context_passed, largest_result, one_result};
+ghost use Rattle.acse_assoc.specs.Responses.{result_next, user_of_result, some_user_last, response};
+
+use crate::expected::Expected;
+use crate::numbers::{CONTEXT_NAME, CONTEXT_NAME_TAG, INTEGER, LARGEST_NUMBER, LARGEST_RESULT};
+use crate::numbers::{RESULT, RESULT_TAG, USER_INFORMATION, USER_INFORMATION_TAG};
+use crate::request::one_oid;
+use crate::rising::{Left, pass_rising, refused};
+use crate::user::{named_user, user_from};
+use ber_values::{BerFault, External, Part, has_tag, take_end, take_part};
+
+/// Answers a request for an association: the result is 0 where it is accepted.
+#[derive(Clone, Copy, Debug, PartialEq, Eq)]
+pub struct AssociateResponse {
+    pub result: u8,
+    /// It is there where the result is 0, and may be there else.
+    pub user: Option<External>,
+}
+
+/// The response that the contents of an element are.
+#[tactic(
+    auto,
+    unfolding(
+        crate::specs::Responses::response,
+        ber_values::specs::Parts::all_in,
+        ber_values::specs::Grammars::then_in,
+        ber_values::specs::Grammars::map_in
+    )
+)]
+pub(crate) fn response_from(
+    part: &Part<'_>,
+    expected: Expected,
+) -> Result<AssociateResponse, BerFault>
+    requires { part.now.head.body + length part.now.contents.now < 2 ^ 64 }
+    ensures { result ≡ (response expected).reading part.now.head part.now.contents.now }
+{
+    let left = pass_context(part.contents, part.head.body)?;
+    let (result, at, octets) = take_result(&left, expected)?;
+    let (user, at, octets) = take_user(octets, at, result, expected)?;
+    take_end(octets, at)?;
+    Ok(AssociateResponse { result, user })
+}
+
+/// What is left after the name of the application context, if it is there.
+#[tactic(
+    auto,
+    unfolding(
+        crate::specs::Responses::context_passed,
+        crate::specs::Rising::perhaps_in,
+        ber_values::specs::Grammars::then_in,
+        ber_values::specs::Grammars::map_in,
+        ber_values::specs::Grammars::branch_in,
+        ber_values::specs::Grammars::gives,
+        ber_values::specs::Parts::maybe_in,
+        ber_values::specs::Parts::part_in
+    )
+)]
+fn pass_context(octets: &[u8], at: usize) -> Result<Left<'_>, BerFault>
+    requires { at + length octets.now < 2 ^ 64 }
+    ensures exact { Gives (λ left. taken left.least left.at left.octets.now) result
+        (context_passed.reading at octets.now) }
+    ensures within { IfOk result
+        (λ left. left.at + length left.octets.now ≡ at + length octets.now) }
+{
+    let left = pass_rising(octets, at, CONTEXT_NAME, 0)?;
+    if CONTEXT_NAME < left.least {
+        return Ok(left);
+    }
+    if !has_tag(left.octets, CONTEXT_NAME_TAG) {
+        return Ok(left);
+    }
+    let part = take_part(left.octets, left.at, CONTEXT_NAME_TAG)?;
+    let _name = one_oid(&part)?;
+    Ok(Left {
+        least: CONTEXT_NAME + 1,
+        at: part.head.next,
+        octets: part.rest,
+    })
+}
+
+impl Expected {
+    /// The largest result that is taken: only 0 accepts.
+    fn largest_result(&self) -> u32
+        ensures value { result ≡ largest_result self.now }
+        ensures few { result ≤ 255 }
+    {
+        if self.accepted { 0 } else { LARGEST_RESULT }
+    }
+}
+
+/// The result that alone stands in this element.
+#[tactic(
+    auto,
+    unfolding(
+        crate::specs::Responses::one_result,
+        ber_values::specs::Parts::all_in,
+        ber_values::specs::Parts::part_in
+    )
+)]
+fn result_from(part: &Part<'_>, expected: Expected) -> Result<u8, BerFault>
+    requires { part.now.head.body + length part.now.contents.now < 2 ^ 64 }
+    ensures { result ≡ (one_result expected).reading part.now.head part.now.contents.now }
+{
+    let number = take_part(part.contents, part.head.body, INTEGER)?;
+    let result = number.unsigned_within(0, expected.largest_result())?;
+    take_end(number.rest, number.head.next)?;
+    Ok(result as u8)
+}
+
+/// The result, and what is left after it.
+#[tactic(
+    auto,
+    unfolding(
+        crate::specs::Responses::result_next,
+        crate::specs::Rising::named_in,
+        ber_values::specs::Grammars::then_in,
+        ber_values::specs::Grammars::branch_in,
+        ber_values::specs::Grammars::refused,
+        ber_values::specs::Parts::part_in
+    )
+)]
+fn take_result<'a>(
+    from: &Left<'a>,
+    expected: Expected,
+) -> Result<(u8, usize, &'a [u8]), BerFault>
+    requires { from.now.at + length from.now.octets.now < 2 ^ 64 }
+    ensures exact { Gives (λ x. taken x.0 x.1 x.2.now) result
+        ((result_next expected from.now.least).reading from.now.at from.now.octets.now) }
+    ensures within { IfOk result
+        (λ x. x.1 + length x.2.now ≡ from.now.at + length from.now.octets.now) }
+{
+    let left = pass_rising(from.octets, from.at, RESULT, from.least)?;
+    if RESULT < left.least {
+        return Err(refused(&left));
+    }
+    let part = take_part(left.octets, left.at, RESULT_TAG)?;
+    let result = result_from(&part, expected)?;
+    Ok((result, part.head.next, part.rest))
+}
+
+/// External information, if it is there, and what is left.
+#[tactic(
+    auto,
+    unfolding(
+        crate::specs::Rising::perhaps_in,
+        ber_values::specs::Grammars::map_in,
+        ber_values::specs::Grammars::branch_in,
+        ber_values::specs::Grammars::gives,
+        ber_values::specs::Parts::maybe_in,
+        ber_values::specs::Parts::part_in
+    )
+)]
+fn perhaps_user<'a>(
+    left: &Left<'a>,
+    expected: Expected,
+) -> Result<(Option<External>, usize, &'a [u8]), BerFault>
+    requires { left.now.at + length left.now.octets.now < 2 ^ 64 }
+    ensures exact { Gives (λ x. taken x.0 x.1 x.2.now) result
+        ((perhaps_in USER_INFORMATION (user_information expected) left.now.least).reading
+        left.now.at left.now.octets.now) }
+    ensures within { IfOk result
+        (λ x. x.1 + length x.2.now ≡ left.now.at + length left.now.octets.now) }
+{
+    if USER_INFORMATION < left.least {
+        return Ok((None, left.at, left.octets));
+    }
+    if !has_tag(left.octets, USER_INFORMATION_TAG) {
+        return Ok((None, left.at, left.octets));
+    }
+    let part = take_part(left.octets, left.at, USER_INFORMATION_TAG)?;
+    let user = user_from(&part, expected)?;
+    Ok((Some(user), part.head.next, part.rest))
+}
+
+/// The user information that goes with a result, and what is left after it.
+#[tactic(
+    auto,
+    unfolding(
+        crate::specs::Responses::user_of_result,
+        ber_values::specs::Grammars::branch_in,
+        ber_values::specs::Grammars::map_in
+    )
+)]
+fn user_of_result<'a>(
+    left: &Left<'a>,
+    code: u8,
+    expected: Expected,
+) -> Result<(Option<External>, usize, &'a [u8]), BerFault>
+    requires { left.now.at + length left.now.octets.now < 2 ^ 64 }
+    ensures exact { Gives (λ x. taken x.0 x.1 x.2.now) result
+        ((user_of_result expected code left.now.least).reading
+        left.now.at left.now.octets.now) }
+    ensures within { IfOk result
+        (λ x. x.1 + length x.2.now ≡ left.now.at + length left.now.octets.now) }
+{
+    if code == 0 {
+        let (user, at, octets) = named_user(left, expected)?;
+        return Ok((Some(user), at, octets));
+    }
+    perhaps_user(left, expected)
+}
+
+/// The user information, and what is left after the elements that follow it.
+#[tactic(
+    auto,
+    unfolding(
+        crate::specs::Responses::some_user_last,
+        ber_values::specs::Grammars::then_in,
+        ber_values::specs::Grammars::map_in
+    )
+)]
+fn take_user(
+    octets: &[u8],
+    at: usize,
+    code: u8,
+    expected: Expected,
+) -> Result<(Option<External>, usize, &[u8]), BerFault>
+    requires { at + length octets.now < 2 ^ 64 }
+    ensures { Gives (λ x. taken x.0 x.1 x.2.now) result
+        ((some_user_last expected code).reading at octets.now) }
+{
+    let left = pass_rising(octets, at, USER_INFORMATION, RESULT + 1)?;
+    let (user, at, octets) = user_of_result(&left, code, expected)?;
+    let least = match user {
+        None => left.least,
+        Some(_) => USER_INFORMATION + 1,
+    };
+    let last = pass_rising(octets, at, LARGEST_NUMBER, least)?;
+    Ok((user, last.at, last.octets))
+}

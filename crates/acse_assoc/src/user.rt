@@ -1,0 +1,60 @@
+//! User information (ISO 8650-1, `Association-information`).
+ghost use Rattle.std.specs.Prelude.{◌≡◌, ◌+◌, ◌^◌, ◌<◌, length, IfOk};
+ghost use Rattle.ber_values.specs.Faults.{Gives};
+ghost use Rattle.ber_values.specs.Grammars.{taken};
+ghost use Rattle.acse_assoc.specs.declared.numbers.TheConstants.{USER_INFORMATION};
+ghost use Rattle.acse_assoc.specs.Rising.{named_in};
+ghost use Rattle.acse_assoc.specs.Users.{user_information};
+
+use crate::expected::Expected;
+use crate::numbers::{EXTERNAL, USER_INFORMATION, USER_INFORMATION_TAG};
+use crate::rising::{Left, refused};
+use ber_values::{BerFault, External, Part, take_end, take_part};
+
+/// The user information, where its number may still follow, and what is left after it.
+#[tactic(
+    auto,
+    unfolding(
+        crate::specs::Rising::named_in,
+        ber_values::specs::Grammars::branch_in,
+        ber_values::specs::Grammars::refused,
+        ber_values::specs::Parts::part_in
+    )
+)]
+pub(crate) fn named_user<'a>(
+    left: &Left<'a>,
+    expected: Expected,
+) -> Result<(External, usize, &'a [u8]), BerFault>
+    requires { left.now.at + length left.now.octets.now < 2 ^ 64 }
+    ensures exact { Gives (λ x. taken x.0 x.1 x.2.now) result
+        ((named_in USER_INFORMATION (user_information expected) left.now.least).reading
+        left.now.at left.now.octets.now) }
+    ensures within { IfOk result
+        (λ x. x.1 + length x.2.now ≡ left.now.at + length left.now.octets.now) }
+{
+    if USER_INFORMATION < left.least {
+        return Err(refused(left));
+    }
+    let part = take_part(left.octets, left.at, USER_INFORMATION_TAG)?;
+    let user = user_from(&part, expected)?;
+    Ok((user, part.head.next, part.rest))
+}
+
+/// The user information in this element.
+#[tactic(
+    auto,
+    unfolding(
+        crate::specs::Users::user_information,
+        ber_values::specs::Parts::all_in,
+        ber_values::specs::Parts::part_in
+    )
+)]
+pub(crate) fn user_from(part: &Part<'_>, expected: Expected) -> Result<External, BerFault>
+    requires { part.now.head.body + length part.now.contents.now < 2 ^ 64 }
+    ensures { result ≡ (user_information expected).reading part.now.head part.now.contents.now }
+{
+    let external = take_part(part.contents, part.head.body, EXTERNAL)?;
+    let user = external.external(expected.id)?;
+    take_end(external.rest, external.head.next)?;
+    Ok(user)
+}
