@@ -1,17 +1,20 @@
 //! Values of presentation contexts (ISO 8825-1, 8.18, `EXTERNAL`; ISO 8823-1, `PDV-list`).
-ghost use Rattle.std.specs.Prelude.{◌≡◌, ◌≢◌, ◌+◌, ◌%◌, ◌^◌, ◌<◌, ◌++◌, length, option_copied};
-ghost use Rattle.std.specs.Prelude.{IfOk, OnOk, OnErr};
+ghost use Rattle.std.specs.Prelude.{◌≡◌, ◌+◌, ◌^◌, ◌<◌, ◌++◌, length, option_copied};
+ghost use Rattle.std.specs.Prelude.{ℕ, List, ◌≤◌, IfOk, OnOk, OnErr};
 ghost use Rattle.plain_text.specs.Extends.{Extends};
 ghost use Rattle.ber_values.specs.Faults.{Gives};
 ghost use Rattle.ber_values.specs.Grammars.{taken};
 ghost use Rattle.ber_values.specs.Parts.{maybe_in, contents_where};
 ghost use Rattle.ber_values.specs.Leaves.{unsigned, oid};
-ghost use Rattle.ber_values.specs.Writing.{written};
 ghost use Rattle.ber_values.specs.Externals.{is_wanted, external, external_octets};
 
 use crate::contents::value_fault;
 use crate::fault::{BerFault, Span};
+use crate::integer::write_natural;
+use crate::lengths::{natural_len, part_len};
 use crate::part::{Part, has_tag, take_end, take_part};
+use crate::writing::{or_undo, write_octets};
+use std::alloc::AllocError;
 
 /// The tag of an integer.
 const INTEGER: u8 = 0x02;
@@ -102,4 +105,35 @@ fn wanted_id(part: &Part<'_>, wanted: Option<u32>) -> Result<u32, BerFault>
     } else {
         Err(value_fault(&part.head))
     }
+}
+
+/// The length of what [`write_external`] appends, by that of the value.
+pub fn external_len(id: u32, body: usize) -> usize
+    requires { body < 2 ^ 31 }
+    ensures value { (octets : List ℕ) → length octets ≡ body
+        → result ≡ length (external_octets id octets) }
+    ensures few { result ≤ body + 16 }
+{
+    2 + natural_len(u64::from(id)) + part_len(body)
+}
+
+/// Appends a value of the presentation context with this id, of fewer than 2^31 octets, as the
+/// contents of an EXTERNAL. After want of memory `out` is as before.
+pub fn write_external(out: &mut Vec<u8>, id: u32, body: &[u8]) -> Result<(), AllocError>
+    requires { length body.now < 2 ^ 31 }
+    ensures ok { OnOk result (out.new.items ≡ out.old.items ++ external_octets id body.now) }
+    ensures err { OnErr result (out.new.items ≡ out.old.items) }
+{
+    let mark = out.len();
+    let done = put_external(out, id, body);
+    or_undo(out, mark, done)
+}
+
+fn put_external(out: &mut Vec<u8>, id: u32, body: &[u8]) -> Result<(), AllocError>
+    requires { length body.now < 2 ^ 31 }
+    ensures ok { OnOk result (out.new.items ≡ out.old.items ++ external_octets id body.now) }
+    ensures err { OnErr result (Extends out.old.items out.new.items) }
+{
+    write_natural(out, INTEGER, u64::from(id))?;
+    write_octets(out, SINGLE_VALUE, body)
 }

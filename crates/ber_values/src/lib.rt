@@ -22,7 +22,7 @@ mod writing;
 
 pub use bit_string::{BitString, read_bits, write_bits};
 pub use boolean::{read_boolean, write_boolean};
-pub use external::External;
+pub use external::{External, external_len, write_external};
 pub use fault::{BerFault, Span, Why};
 pub use head::{Head, read_head, write_head};
 pub use integer::{read_integer, read_unsigned, write_integer, write_natural};
