@@ -125,21 +125,6 @@ impl Part<'_> {
         same_from(self.contents, self.head.body, wanted)
     }
 
-    /// The octets of the selector that the contents are: 0 to 32, none of which is no selector.
-    #[tactic(auto, unfolding(crate::specs::Leaves::selector, crate::specs::Leaves::selector_in))]
-    pub fn selector(&self) -> Result<Option<&[u8]>, BerFault>
-        ensures exact { Gives option_copied result
-            (selector.reading self.now.head self.now.contents.now) }
-        ensures sized { IfOk result (λ octets. IfSome (option_copied octets)
-            (λ octets. HasLength 1 32 octets)) }
-    {
-        match self.contents.len() {
-            0 => Ok(None),
-            1..=32 => Ok(Some(self.contents)),
-            _ => Err(length_fault(&self.head)),
-        }
-    }
-
     /// Where the contents stand.
     #[tactic(auto, unfolding(crate::specs::Leaves::span))]
     pub fn span(&self) -> Result<Span, BerFault>
@@ -159,17 +144,6 @@ impl Part<'_> {
         ensures { Answers (λ b. b) result (bits.reading self.now.head self.now.contents.now) }
     {
         Ok(bits_from(alloc, self.contents, &self.head)??)
-    }
-
-    /// The octets of the object identifier that the contents are: one to 32.
-    #[tactic(auto, unfolding(crate::specs::Leaves::oid, crate::specs::TextContents::oid_in))]
-    pub fn oid_octets(&self) -> Result<&[u8], BerFault>
-        ensures { Gives (λ o. o.now) result (oid.reading self.now.head self.now.contents.now) }
-    {
-        match self.contents.len() {
-            1..=OID_LIMIT => Ok(self.contents),
-            _ => Err(length_fault(&self.head)),
-        }
     }
 
     /// The object identifier that the contents are: one to 32 octets.
@@ -202,5 +176,33 @@ impl Part<'_> {
             return Err(Stop::Fault(value_fault(&self.head)));
         }
         Ok(Visible::new(Vec::from_slice(alloc, self.contents)?))
+    }
+}
+
+impl<'a> Part<'a> {
+    /// The octets of the object identifier that the contents are: one to 32.
+    #[tactic(auto, unfolding(crate::specs::Leaves::oid, crate::specs::TextContents::oid_in))]
+    pub fn oid_octets(&self) -> Result<&'a [u8], BerFault>
+        ensures { Gives (λ o. o.now) result (oid.reading self.now.head self.now.contents.now) }
+    {
+        match self.contents.len() {
+            1..=OID_LIMIT => Ok(self.contents),
+            _ => Err(length_fault(&self.head)),
+        }
+    }
+
+    /// The octets of the selector that the contents are: 0 to 32, none of which is no selector.
+    #[tactic(auto, unfolding(crate::specs::Leaves::selector, crate::specs::Leaves::selector_in))]
+    pub fn selector(&self) -> Result<Option<&'a [u8]>, BerFault>
+        ensures exact { Gives option_copied result
+            (selector.reading self.now.head self.now.contents.now) }
+        ensures sized { IfOk result (λ octets. IfSome (option_copied octets)
+            (λ octets. HasLength 1 32 octets)) }
+    {
+        match self.contents.len() {
+            0 => Ok(None),
+            1..=32 => Ok(Some(self.contents)),
+            _ => Err(length_fault(&self.head)),
+        }
     }
 }

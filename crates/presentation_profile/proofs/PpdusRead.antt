@@ -10,7 +10,7 @@ use Rattle.presentation_profile.specs.Offers.{offers}
 use Rattle.presentation_profile.specs.Others.{others, after_others, before_others, selector_in}
 use Rattle.presentation_profile.specs.UserData.{user_of, data_values, user_data}
 use Rattle.presentation_profile.specs.Results.{result_contents, one_result, results}
-use Rattle.presentation_profile.specs.Ppdus.{connect_named, connect_of, connect_selectors, connect, accept_named, accept_of, accept, has_results, parameters, mode, set_up, carry_of, ppdu}
+use Rattle.presentation_profile.specs.Ppdus.{connect_named, connect_of, connect_selectors, connect, accept_named, accept_of, accept, has_results, parameters, mode, set_up_contents, set_up, carry_of, ppdu}
 use Rattle.presentation_profile.proofs.OffersRead.{offers_read}
 
 others_read : (named : List ℕ) → IsGrammar (others named)
@@ -84,7 +84,7 @@ unfolding mode
 mode_reads = part_reads 160 _ (all_reads _ (part_reads 128 _ (fixed_contents (1 ∷ []))))
 
 set_up_reads : IsGrammar set_up
-unfolding set_up
+unfolding set_up set_up_contents
 set_up_reads =
     part_reads 49 _ (all_reads _ (branch_reads (has_tag 160) _ _
     (then_reads _ _ mode_reads (λ u. parameters_read))

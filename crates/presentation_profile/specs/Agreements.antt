@@ -37,11 +37,11 @@ pub record Agrees (contexts : List Offered) (agreed : Agreed) : Type 0 where
 
 -- what is agreed on, or the first of these that holds: a name stands twice, ACSE has none, MMS none
 pub record IsAgreement (contexts : List Offered) (result : Result Agreed ContextFault) : Type 0
-    where
-  pub agrees : (agreed : Agreed) → (result ≡ Ok agreed) ↔ Agrees contexts agreed
-  pub twice : (result ≡ Err faults.Twice) ↔ NamesTwice contexts
-  pub no_acse : (result ≡ Err faults.NoAcse)
-      ↔ ((NamesTwice contexts → ⊥) × (offers_of acse_name contexts ≡ []))
-  pub no_mms : (result ≡ Err faults.NoMms)
-      ↔ ((NamesTwice contexts → ⊥) × (offers_of acse_name contexts ≢ [])
-      × (offers_of mms_name contexts ≡ []))
+  where
+    pub agrees : (agreed : Agreed) → (result ≡ Ok agreed) ↔ Agrees contexts agreed
+    pub twice : (result ≡ Err faults.Twice) ↔ NamesTwice contexts
+    pub no_acse : (result ≡ Err faults.NoAcse)
+        ↔ ((NamesTwice contexts → ⊥) × (offers_of acse_name contexts ≡ []))
+    pub no_mms : (result ≡ Err faults.NoMms)
+        ↔ ((NamesTwice contexts → ⊥) × (offers_of acse_name contexts ≢ [])
+        × (offers_of mms_name contexts ≡ []))

@@ -2,8 +2,8 @@
 use Rattle.std.specs.Prelude.{ℕ, Bool, false, List, [], ◌∷◌, Option, Result, Ok, Err}
 use Rattle.ber_values.specs.declared.fault.BerFault.{BerFault}
 use Rattle.ber_values.specs.Reading.{Taken}
-use Rattle.ber_values.specs.Grammars.{Grammar, then_in, map_in, branch_in, has_tag, whole_in}
-use Rattle.ber_values.specs.Parts.{Contents, part_in, all_in}
+use Rattle.ber_values.specs.Grammars.{Grammar, then_in, map_in, branch_in, has_tag}
+use Rattle.ber_values.specs.Parts.{Contents, part_in, whole_in, all_in}
 use Rattle.ber_values.specs.Leaves.{fixed}
 use Rattle.presentation_profile.specs.declared.offers.Offered.{Offered}
 use Rattle.presentation_profile.specs.declared.user_data.UserData.{UserData}
@@ -67,10 +67,14 @@ unfoldable pub mode : Grammar (Unit {0})
 mode = part_in 160 (all_in (part_in 128 (fixed (1 ∷ []))))
 
 -- the mode and the parameters, in either order
-unfoldable pub set_up : Grammar Ppdu
-set_up = part_in 49 (all_in (branch_in (has_tag 160)
+unfoldable pub set_up_contents : Contents Ppdu
+set_up_contents = all_in (branch_in (has_tag 160)
     (then_in mode (λ u. parameters))
-    (then_in parameters (λ ppdu. map_in (λ u. ppdu) mode))))
+    (then_in parameters (λ p. map_in (λ u. p) mode)))
+
+-- what sets up a connection
+unfoldable pub set_up : Grammar Ppdu
+set_up = part_in 49 set_up_contents
 
 abbrev pub carry_of : UserData → Ppdu
 carry_of user = Carry user.id user.body
