@@ -4,9 +4,9 @@ use Rattle.ber_values.specs.Tags.{length_in, tag_in}
 use Rattle.ber_values.specs.Heads.{head_in}
 use Rattle.ber_values.specs.Numbers.{unsigned_in}
 use Rattle.ber_values.specs.TextContents.{oid_in}
-use Rattle.ber_values.specs.Grammars.{whole_in, ended, taken, gives, then_in, map_in, branch_in, refused, skip, by_length}
+use Rattle.ber_values.specs.Grammars.{taken, gives, then_in, map_in, branch_in, refused, skip, by_length}
 use Rattle.ber_values.specs.Parts.{sized_part_in, parted_in, part_in, choose_in, maybe_in, contents_as}
-use Rattle.ber_values.specs.Parts.{contents_where, all_in}
+use Rattle.ber_values.specs.Parts.{contents_where, whole_in, all_in}
 use Rattle.ber_values.specs.Leaves.{unsigned, unsigned_within, oid, span, raw}
 use Rattle.ber_values.specs.Faults.{fault_at}
 use Rattle.ber_values.specs.declared.fault.Why.TheVariants as whys
@@ -33,7 +33,7 @@ asked_read : (apdu any).reading 100 asked ≡ Ok (taken (Aarq (record {
     title = Some (41 ∷ 135 ∷ 103 ∷ 1 ∷ []);
     user = external_of 3 (record { from = 137; to = 141 });
   })) 141 [])
-unfolding asked any apdu one_apdu whole_in ended request one_oid context_name calling_title user_last external user_information by_tag rising_within rising_in named_in perhaps_in attempt tag_in length_in head_in unsigned_in oid_in gives then_in map_in branch_in refused skip by_length sized_part_in parted_in part_in choose_in maybe_in contents_as contents_where all_in unsigned unsigned_within oid span raw
+unfolding asked any apdu one_apdu whole_in request one_oid context_name calling_title user_last external user_information by_tag rising_within rising_in named_in perhaps_in attempt tag_in length_in head_in unsigned_in oid_in gives then_in map_in branch_in refused skip by_length sized_part_in parted_in part_in choose_in maybe_in contents_as contents_where all_in unsigned unsigned_within oid span raw
 asked_read = refl
 
 -- an AARE, accepted, without user information
@@ -41,5 +41,5 @@ bare : List ℕ
 bare = 97 ∷ 5 ∷ 162 ∷ 3 ∷ 2 ∷ 1 ∷ 0 ∷ []
 
 bare_read : (apdu any).reading 0 bare ≡ Err (fault_at 7 whys.Short)
-unfolding bare any apdu one_apdu whole_in ended response one_oid context_passed one_result result_next user_of_result some_user_last external user_information by_tag rising_within rising_in named_in perhaps_in tag_in length_in head_in unsigned_in oid_in gives then_in map_in branch_in refused skip by_length sized_part_in parted_in part_in choose_in maybe_in contents_as contents_where all_in unsigned unsigned_within oid span raw
+unfolding bare any apdu one_apdu whole_in response one_oid context_passed one_result result_next user_of_result some_user_last external user_information by_tag rising_within rising_in named_in perhaps_in tag_in length_in head_in unsigned_in oid_in gives then_in map_in branch_in refused skip by_length sized_part_in parted_in part_in choose_in maybe_in contents_as contents_where all_in unsigned unsigned_within oid span raw
 bare_read = refl

@@ -1,7 +1,7 @@
 -- APDUs (ISO 8650-1, ACSE-apdu).
 use Rattle.std.specs.Prelude.{ℕ, List}
-use Rattle.ber_values.specs.Grammars.{Grammar, whole_in}
-use Rattle.ber_values.specs.Parts.{choose_in, part_in, contents_as}
+use Rattle.ber_values.specs.Grammars.{Grammar}
+use Rattle.ber_values.specs.Parts.{choose_in, part_in, contents_as, whole_in}
 use Rattle.ber_values.specs.Leaves.{raw}
 use Rattle.acse_assoc.specs.declared.apdu.Apdu.{Apdu}
 use Rattle.acse_assoc.specs.declared.apdu.Apdu.TheVariants.{Aarq, Aare, Rlrq, Rlre, Abrt}

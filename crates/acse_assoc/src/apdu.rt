@@ -1,9 +1,7 @@
 //! APDUs (ISO 8650-1, `ACSE-apdu`).
-ghost use Rattle.std.specs.Prelude.{◌≡◌, ◌+◌, ◌-◌, ◌^◌, ◌<◌, ◌≤◌, [], length, drop, IfOk};
+ghost use Rattle.std.specs.Prelude.{◌≡◌, ◌+◌, ◌^◌, ◌<◌, ◌≤◌, length, IfOk};
 ghost use Rattle.std.specs.List.{slice_range};
-ghost use Rattle.ber_values.specs.Faults.{Gives};
-ghost use Rattle.ber_values.specs.Grammars.{taken};
-ghost use Rattle.ber_values.specs.Readers.{IsReadBy, taken_from};
+ghost use Rattle.ber_values.specs.Readers.{IsReadBy, taken_from, taken_whole};
 ghost use Rattle.ber_values.specs.Stops.{Answers};
 ghost use Rattle.acse_assoc.specs.Apdus.{one_apdu, apdu};
 
@@ -48,14 +46,14 @@ pub fn read_apdu(
 ) -> Result<Result<Apdu, BerFault>, AllocError>
     requires start { at ≤ end }
     requires stop { end ≤ length bytes.now }
-    ensures { IfOk result (λ read. IsReadBy (apdu expected) (λ v. taken v end []) at
-        (slice_range bytes.now at end) read) }
+    ensures { IfOk result (λ read. IsReadBy (apdu expected)
+        (taken_whole at (slice_range bytes.now at end)) at (slice_range bytes.now at end) read) }
 {
     settle(apdu_from(alloc, &bytes[at..end], at, expected))
 }
 
 /// The APDU that octets are, of which the first has the place `at`.
-#[tactic(auto, unfolding(crate::specs::Apdus::apdu))]
+#[tactic(auto, unfolding(crate::specs::Apdus::apdu, ber_values::specs::Parts::whole_in))]
 fn apdu_from(
     alloc: Global,
     octets: &[u8],
@@ -63,8 +61,7 @@ fn apdu_from(
     expected: Expected,
 ) -> Result<Apdu, Stop>
     requires { at + length octets.now < 2 ^ 64 }
-    ensures { Answers (λ v. taken v (at + length octets.now) []) result
-        ((apdu expected).reading at octets.now) }
+    ensures { Answers (taken_whole at octets.now) result ((apdu expected).reading at octets.now) }
 {
     let (apdu, next) = take_apdu(alloc, octets, at, expected)?;
     take_end(octets_from(octets, at, next), next)?;

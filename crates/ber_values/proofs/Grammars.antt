@@ -9,8 +9,8 @@ use Rattle.ber_values.specs.Faults.{fault_at, ◌>>=◌}
 use Rattle.ber_values.specs.Heads.{IsPastEnd, SpellsHead, HeadFault, head_in}
 use Rattle.ber_values.specs.Tags.{SpellsLength, LengthFault, length_in}
 use Rattle.ber_values.specs.Reading.{Taken, Begins, IsReading}
-use Rattle.ber_values.specs.Grammars.{Grammar, IsGrammar, taken, gives, then_in, map_in, branch_in, first_is, has_tag, is_ended, why_refused, refused, skip, ended, whole_in, by_length, pass_within, pass_in, times_in, fold_in}
-use Rattle.ber_values.specs.Parts.{Contents, IsContentsGrammar, Parted, parted, BeginsPart, PartFault, sized_part_in, parted_in, part_in, choose_in, maybe_in, contents_as, contents_where, end_in, all_in}
+use Rattle.ber_values.specs.Grammars.{Grammar, IsGrammar, taken, gives, then_in, map_in, branch_in, first_is, has_tag, is_ended, why_refused, refused, skip, by_length, pass_within, pass_in, times_in, fold_in}
+use Rattle.ber_values.specs.Parts.{Contents, IsContentsGrammar, Parted, parted, BeginsPart, PartFault, sized_part_in, parted_in, part_in, choose_in, maybe_in, contents_as, contents_where, end_in, whole_in, all_in}
 use Rattle.ber_values.proofs.Reading.{IsReading-from, IsReading-then, IsReading-as}
 use Rattle.ber_values.proofs.Tags.{length_reads}
 use Rattle.ber_values.proofs.Heads.{head_reads}
@@ -75,14 +75,6 @@ refused_reads {X} at octets = IsReading-failed (Taken X) (fault_at at (why_refus
 pub skip_reads : IsGrammar skip
 unfolding skip
 skip_reads at octets = IsReading-map Head (Taken (Unit {0})) (SpellsHead at octets) (HeadFault at octets) (head_in at octets) (λ head. taken tt head.next (drop (head.next - at) octets)) (head_reads at octets)
-
-pub ended_reads : IsGrammar ended
-unfolding ended
-ended_reads = branch_reads is_ended (gives tt) refused (gives_reads tt) refused_reads
-
-pub whole_reads : {X : Type 0} (g : Grammar X) → IsGrammar g → IsGrammar (whole_in g)
-unfolding whole_in
-whole_reads g one = then_reads g (λ x. map_in (λ u. x) ended) one (λ x. map_reads (λ u. x) ended ended_reads)
 
 pub by_length_reads : {X : Type 0} (g : ℕ → Grammar X) → ((n : ℕ) → IsGrammar (g n)) → IsGrammar (by_length g)
 unfolding by_length
@@ -205,6 +197,12 @@ unfolding all_in
 all_reads {X} g one head octets =
     IsReading-then (Taken X) X (g.begins head.body octets) (g.fault head.body octets) (g.reading head.body octets) (λ t x. (t.rest ≡ []) × (x ≡ t.value)) (λ t f. (t.rest ≢ []) × (f ≡ fault_at t.next whys.Tag)) (λ t. end_in t.next t.rest >>= λ u. Ok t.value)
     (one head.body octets) (λ t s. end_reads t.value t.next t.rest)
+
+pub whole_reads : {X : Type 0} (g : Grammar X) → IsGrammar g → IsGrammar (whole_in g)
+unfolding whole_in
+whole_reads {X} g one at octets =
+    IsReading-then (Taken X) (Taken X) (g.begins at octets) (g.fault at octets) (g.reading at octets) (λ t u. (t.rest ≡ []) × (u ≡ t)) (λ t f. (t.rest ≢ []) × (f ≡ fault_at t.next whys.Tag)) (λ t. end_in t.next t.rest >>= λ u. Ok t)
+    (one at octets) (λ t s. end_reads t t.next t.rest)
 
 -- ---- places of elements
 

@@ -16,5 +16,4 @@ pub mod Leaves
 pub mod Externals
 pub mod Capped
 pub mod Settled
-pub mod Wholes
 pub mod DottedOctets

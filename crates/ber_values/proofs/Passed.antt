@@ -73,3 +73,9 @@ passed-fails skips start whole at octets f first read s =
 -- no more elements are passed over
 pub passed-ends : (skips : ℕ → Bool) (start : ℕ) (whole : List ℕ) (at : ℕ) (octets : List ℕ) → first_is skips octets ≡ false → PassedSoFar skips start whole at octets → (pass_in skips).reading start whole ≡ Ok (taken tt at (drop (at - start) whole))
 passed-ends skips start whole at octets first s = sym s.reads ∙ all_passed skips s.room at octets first ∙ ap (λ (os : List ℕ). Ok (taken tt at os)) s.left
+
+-- octets that were dropped in two steps
+pub drop_on : (at next end : ℕ) (octets : List ℕ) → at ≤ next → next ≤ end → drop (end - next) (drop (next - at) octets) ≡ drop (end - at) octets
+drop_on at next end octets first last =
+    let far : next - at + (end - next) ≡ end - at = omega (arith, first, last) in
+    drop-drop (end - next) (next - at) octets ∙ ap (λ (n : ℕ). drop n octets) far

@@ -1,7 +1,7 @@
 -- Parts of octets, seen from the whole and from a container.
-use Rattle.std.proofs.Common.{◌≡◌, ℕ, ◌+◌, ◌-◌, ◌≤◌, List, length, take, drop, ap, ◌∙◌, arith}
+use Rattle.std.proofs.Common.{◌≡◌, ℕ, ◌+◌, ◌-◌, ◌≤◌, List, take, drop, ap, ◌∙◌, arith}
 use Rattle.std.specs.List.{slice_range}
-use Rattle.std.proofs.lemmas.List.{drop-take, drop-drop, take-take, length-take, length-drop}
+use Rattle.std.proofs.lemmas.List.{drop-take, drop-drop, take-take}
 use Rattle.ber_values.specs.declared.head.Head.{Head}
 use Rattle.ber_values.specs.Contents.{contents_of}
 use Rattle.ber_values.specs.Elements.{contents_from}
@@ -29,7 +29,3 @@ slice_range-within bytes at from to end first order last =
 -- the contents of a head are the same octets, seen from the whole and from its container
 pub contents_from-is : (bytes : List ℕ) (at end : ℕ) (head : Head) → at ≤ head.body → head.body ≤ head.end → head.end ≤ end → contents_from at (slice_range bytes at end) head ≡ contents_of bytes head
 contents_from-is bytes at end head first order last = slice_range-within bytes at head.body head.end end first order last
-
--- the length of a container
-pub length-slice_range : (bytes : List ℕ) (at end : ℕ) → at ≤ end → end ≤ length bytes → at + length (slice_range bytes at end) ≡ end
-length-slice_range bytes at end order within = omega (arith, length-take (end - at) (drop at bytes), length-drop at bytes, order, within)

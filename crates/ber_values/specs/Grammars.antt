@@ -104,14 +104,6 @@ skip = record {
       >>= λ head. Ok (taken tt head.next (drop (head.next - at) octets));
 }
 
--- no octets are left
-unfoldable pub ended : Grammar (Unit {0})
-ended = branch_in is_ended (gives tt) refused
-
--- one thing, after which no octets are left
-unfoldable pub whole_in : {X : Type 0} → Grammar X → Grammar X
-whole_in g = then_in g (λ x. map_in (λ u. x) ended)
-
 -- a grammar for each number of octets
 unfoldable pub by_length : {X : Type 0} → (ℕ → Grammar X) → Grammar X
 by_length g = record {

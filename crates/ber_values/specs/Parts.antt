@@ -111,6 +111,16 @@ abbrev pub end_in : ℕ → List ℕ → Result (Unit {0}) BerFault
 end_in at [] = Ok tt
 end_in at (first ∷ octets) = Err (fault_at at whys.Tag)
 
+-- one thing, which no octet follows
+unfoldable pub whole_in : {X : Type 0} → Grammar X → Grammar X
+whole_in {X} g = record {
+  begins = λ at octets u. (t : Taken X) × g.begins at octets t × ((t.rest ≡ []) × (u ≡ t));
+  fault = λ at octets f. g.fault at octets f
+      ⊎ ((t : Taken X) × g.begins at octets t
+      × ((t.rest ≢ []) × (f ≡ fault_at t.next whys.Tag)));
+  reading = λ at octets. g.reading at octets >>= λ t. end_in t.next t.rest >>= λ u. Ok t;
+}
+
 -- contents that are one thing, which no octet follows
 unfoldable pub all_in : {X : Type 0} → Grammar X → Contents X
 all_in {X} g = record {

@@ -1,5 +1,5 @@
 -- What the public reader of a grammar answers.
-use Rattle.std.specs.Prelude.{◌≡◌, ℕ, ◌-◌, List, drop, Result, Err, IfOk, ◌↔◌}
+use Rattle.std.specs.Prelude.{◌≡◌, ℕ, ◌+◌, ◌-◌, List, [], length, drop, Result, Err, IfOk, ◌↔◌}
 use Rattle.ber_values.specs.declared.fault.BerFault.{BerFault}
 use Rattle.ber_values.specs.Reading.{Taken}
 use Rattle.ber_values.specs.Stops.{AnswersValue}
@@ -8,6 +8,10 @@ use Rattle.ber_values.specs.Grammars.{Grammar, taken}
 -- a value, and the place after it in octets, of which the first has the place at
 abbrev pub taken_from : {X : Type 0} → ℕ → List ℕ → X × ℕ → Taken X
 taken_from at octets x = taken x.0 x.1 (drop (x.1 - at) octets)
+
+-- a value that all octets are, of which the first has the place at
+abbrev pub taken_whole : {X : Type 0} → ℕ → List ℕ → X → Taken X
+taken_whole at octets x = taken x (at + length octets) []
 
 -- octets, of which the first has the place at, were read exactly; view is what was taken
 pub record IsReadBy {V X : Type 0} (g : Grammar X) (view : V → Taken X) (at : ℕ)

@@ -1,3 +1,5 @@
 pub mod OffersRead
+pub mod PpdusRead
 mod Worked
+mod WorkedPpdus
 pub mod Transfers
