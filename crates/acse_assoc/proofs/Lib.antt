@@ -1,4 +1,5 @@
 pub mod RisingReads
 pub mod RisingLoop
 pub mod ApdusRead
+pub mod Sizes
 mod Worked

@@ -5,6 +5,7 @@ use Rattle.std.specs.Prelude.{Option, Some, None, ◌==◌, if◌then◌else◌}
 use Rattle.ber_values.specs.declared.fault.Span.{Span}
 use Rattle.ber_values.specs.Oid.{IsOid}
 use Rattle.ber_values.specs.Writing.{written, integer_octets}
+use Rattle.ber_values.specs.Externals.{external_octets}
 use Rattle.ber_values.specs.declared.external.External.{External}
 use Rattle.acse_assoc.specs.declared.request.AssociateRequest.{AssociateRequest}
 use Rattle.acse_assoc.specs.declared.response.AssociateResponse.{AssociateResponse}
@@ -12,18 +13,20 @@ use Rattle.acse_assoc.specs.declared.apdu.Apdu.{Apdu}
 use Rattle.acse_assoc.specs.declared.apdu.Apdu.TheVariants.{Aarq, Aare, Rlrq, Rlre, Abrt}
 use Rattle.ber_values.specs.Externals.{external_of}
 
--- the user information of this context, alone in its element
+-- the user information of this context
 abbrev pub user_octets : ℕ → List ℕ → List ℕ
-user_octets id body =
-    written 190 (written 40 (written 2 (integer_octets (pos id)) ++ written 160 body))
+user_octets id body = written 190 (written 40 (external_octets id body))
 
 abbrev pub title_octets : Option (List ℕ) → List ℕ
 title_octets None = []
 title_octets (Some title) = written 166 (written 6 title)
 
+abbrev pub request_contents : AssociateRequest → List ℕ → List ℕ
+request_contents r body = written 161 (written 6 r.context)
+    ++ (title_octets r.title ++ user_octets r.user.id body)
+
 abbrev pub request_octets : AssociateRequest → List ℕ → List ℕ
-request_octets r body = written 96 (written 161 (written 6 r.context)
-    ++ (title_octets r.title ++ user_octets r.user.id body))
+request_octets r body = written 96 (request_contents r body)
 
 -- iso standard 9506 part 2, the application context
 abbrev pub mms_context : List ℕ
@@ -37,10 +40,15 @@ abbrev pub some_user_octets : Option External → List ℕ → List ℕ
 some_user_octets None body = []
 some_user_octets (Some user) body = user_octets user.id body
 
+abbrev pub result_octets : ℕ → List ℕ
+result_octets result = written 162 (written 2 (integer_octets (pos result)))
+
+abbrev pub response_contents : AssociateResponse → List ℕ → List ℕ
+response_contents r body = written 161 (written 6 mms_context)
+    ++ (result_octets r.result ++ (diagnostic r.result ++ some_user_octets r.user body))
+
 abbrev pub response_octets : AssociateResponse → List ℕ → List ℕ
-response_octets r body = written 97 (written 161 (written 6 mms_context)
-    ++ (written 162 (written 2 (integer_octets (pos r.result)))
-    ++ (diagnostic r.result ++ some_user_octets r.user body)))
+response_octets r body = written 97 (response_contents r body)
 
 -- the reason: normal, or none
 abbrev pub short_octets : ℕ → List ℕ

@@ -1,24 +1,21 @@
 //! APDUs (ISO 8650-1, `ACSE-apdu`).
-ghost use Rattle.std.specs.Prelude.{◌≡◌, ◌+◌, ◌^◌, ◌<◌, ◌≤◌, length, IfOk};
+ghost use Rattle.std.specs.Prelude.{◌≡◌, ◌+◌, ◌^◌, ◌<◌, ◌≤◌, ◌++◌, length, IfOk, OnOk, OnErr};
+ghost use Rattle.plain_text.specs.Extends.{Extends};
 ghost use Rattle.std.specs.List.{slice_range};
 ghost use Rattle.ber_values.specs.Readers.{IsReadBy, taken_from, taken_whole};
 ghost use Rattle.ber_values.specs.Stops.{Answers};
 ghost use Rattle.acse_assoc.specs.Apdus.{one_apdu, apdu};
+ghost use Rattle.acse_assoc.specs.Writing.{apdu_octets, short_octets, IsWritable};
 
 use crate::expected::Expected;
-use crate::request::{AssociateRequest, request_from};
-use crate::response::{AssociateResponse, response_from};
+use crate::numbers::{AARE, AARQ, ABRT, RLRE, RLRQ};
+use crate::request::{AssociateRequest, put_request, request_from};
+use crate::response::{AssociateResponse, put_response, response_from};
 use ber_values::{BerFault, Stop, has_tag, octets_from, settle, take_end, take_part};
 use std::alloc::{AllocError, Global};
 
 /// The most octets of a body that are written.
 pub const MOST_BODY: usize = 65_400;
-
-const AARQ: u8 = 0x60;
-const AARE: u8 = 0x61;
-const RLRQ: u8 = 0x62;
-const RLRE: u8 = 0x63;
-const ABRT: u8 = 0x64;
 
 /// An application protocol data unit. What RLRQ, RLRE and ABRT hold isn't looked at.
 #[derive(Debug, Drop, PartialEq, Eq)]
@@ -111,4 +108,42 @@ fn take_apdu(
     }
     let part = take_part(octets, at, ABRT)?;
     Ok((Apdu::Abrt, part.head.next))
+}
+
+/// Appends an APDU with this body, of at most [`MOST_BODY`] octets; the place of its own body
+/// doesn't count. RLRQ, RLRE and ABRT have none. After want of memory `out` is as before.
+pub fn write_apdu(out: &mut Vec<u8>, apdu: &Apdu, body: &[u8]) -> Result<(), AllocError>
+    requires writable { IsWritable apdu.now }
+    requires bounded { length body.now ≤ MOST_BODY }
+    ensures ok { OnOk result (out.new.items ≡ out.old.items ++ apdu_octets apdu.now body.now) }
+    ensures err { OnErr result (out.new.items ≡ out.old.items) }
+{
+    let before = out.len();
+    let written = put_apdu(out, apdu, body);
+    if written.is_err() {
+        out.truncate(before);
+    }
+    written
+}
+
+fn put_apdu(out: &mut Vec<u8>, apdu: &Apdu, body: &[u8]) -> Result<(), AllocError>
+    requires { length body.now ≤ MOST_BODY }
+    ensures ok { OnOk result (out.new.items ≡ out.old.items ++ apdu_octets apdu.now body.now) }
+    ensures err { OnErr result (Extends out.old.items out.new.items) }
+{
+    match apdu {
+        Apdu::Aarq(request) => put_request(out, request, body),
+        Apdu::Aare(response) => put_response(out, response, body),
+        Apdu::Rlrq => put_short(out, RLRQ),
+        Apdu::Rlre => put_short(out, RLRE),
+        Apdu::Abrt => put_short(out, ABRT),
+    }
+}
+
+/// Appends an APDU whose one element is 0: a normal release, or an abort by the user.
+fn put_short(out: &mut Vec<u8>, tag: u8) -> Result<(), AllocError>
+    ensures ok { OnOk result (out.new.items ≡ out.old.items ++ short_octets tag) }
+    ensures err { OnErr result (Extends out.old.items out.new.items) }
+{
+    out.extend_from_slice(&[tag, 3, 0x80, 1, 0])
 }

@@ -10,7 +10,7 @@ mod response;
 mod rising;
 mod user;
 
-pub use apdu::{Apdu, MOST_BODY, read_apdu};
+pub use apdu::{Apdu, MOST_BODY, read_apdu, write_apdu};
 pub use expected::Expected;
 pub use laws::apdus_have_one_reading;
 pub use request::AssociateRequest;

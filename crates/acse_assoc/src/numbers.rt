@@ -1,4 +1,11 @@
-//! The numbers of elements of AARQ and AARE, and their tags.
+//! The tags of APDUs, and the numbers of elements of AARQ and AARE and their tags.
+
+/// Tags of APDUs.
+pub(crate) const AARQ: u8 = 0x60;
+pub(crate) const AARE: u8 = 0x61;
+pub(crate) const RLRQ: u8 = 0x62;
+pub(crate) const RLRE: u8 = 0x63;
+pub(crate) const ABRT: u8 = 0x64;
 
 /// Tags of this class are particular to their container.
 pub(crate) const CONTEXT_CLASS: u8 = 2;

@@ -1,20 +1,28 @@
 //! AARQ (ISO 8650-1, `AARQ-apdu`): asks for an association.
-ghost use Rattle.std.specs.Prelude.{◌≡◌, ◌+◌, ◌^◌, ◌<◌, length, option_copied, IfOk, IfSome};
+ghost use Rattle.std.specs.Prelude.{◌≡◌, ◌≢◌, ◌+◌, ◌%◌, ◌^◌, ◌<◌, ◌≤◌, ◌++◌, ℕ, List, length};
+ghost use Rattle.std.specs.Prelude.{option_copied, IfOk, IfSome, OnOk, OnErr};
+ghost use Rattle.plain_text.specs.Extends.{Extends};
 ghost use Rattle.ber_values.specs.Oid.{IsOid};
 ghost use Rattle.ber_values.specs.Faults.{Gives};
 ghost use Rattle.ber_values.specs.Stops.{Answers};
 ghost use Rattle.ber_values.specs.Grammars.{taken};
+ghost use Rattle.ber_values.specs.Writing.{written};
+ghost use Rattle.acse_assoc.specs.declared.apdu.TheConstants.{MOST_BODY};
 ghost use Rattle.acse_assoc.specs.Rising.{read_of};
 ghost use Rattle.acse_assoc.specs.Requests.{one_oid, context_name, calling_title, user_last};
 ghost use Rattle.acse_assoc.specs.Requests.{request};
+ghost use Rattle.acse_assoc.specs.Writing.{title_octets, request_contents, request_octets};
 ghost use Rattle.acse_assoc.specs.Seen.{titled_seen, request_seen};
 
 use crate::expected::Expected;
+use crate::numbers::AARQ;
 use crate::numbers::{CALLING_TITLE, CALLING_TITLE_TAG, CONTEXT_NAME, CONTEXT_NAME_TAG};
 use crate::numbers::{LARGEST_NUMBER, OBJECT_IDENTIFIER, USER_INFORMATION};
 use crate::rising::{Left, pass_rising, refused};
-use crate::user::named_user;
-use ber_values::{BerFault, External, Oid, Part, Stop, has_tag, take_end, take_part};
+use crate::user::{named_user, put_user, user_len};
+use ber_values::{
+    BerFault, External, Oid, Part, Stop, has_tag, take_end, take_part, write_head, write_oid,
+};
 use std::alloc::{AllocError, Global};
 
 /// Asks for an association in this application context.
@@ -224,4 +232,78 @@ fn take_user<'a>(
     let (user, at, octets) = named_user(&left, expected)?;
     let last = pass_rising(octets, at, LARGEST_NUMBER, USER_INFORMATION + 1)?;
     Ok((user, last.at, last.octets))
+}
+
+/// The length of a name as an element.
+fn oid_len(name: &Oid) -> usize
+    ensures value { result ≡ length (written 6 name.now) }
+    ensures few { result ≤ 34 }
+{
+    2 + name.octets().len()
+}
+
+/// The length of an element in which a name stands alone.
+fn named_oid_len(name: &Oid) -> usize
+    ensures value { (tag : ℕ) → result ≡ length (written tag (written 6 name.now)) }
+    ensures few { result ≤ 36 }
+{
+    2 + oid_len(name)
+}
+
+/// Appends an element in which a name stands alone.
+fn put_named_oid(out: &mut Vec<u8>, tag: u8, name: &Oid) -> Result<(), AllocError>
+    requires { tag % 32 ≢ 31 }
+    ensures ok { OnOk result (out.new.items ≡ out.old.items ++ written tag (written 6 name.now)) }
+    ensures err { OnErr result (Extends out.old.items out.new.items) }
+{
+    write_head(out, tag, oid_len(name))?;
+    write_oid(out, OBJECT_IDENTIFIER, name)
+}
+
+fn title_len(title: &Option<Oid>) -> usize
+    ensures value { result ≡ length (title_octets title.now) }
+    ensures few { result ≤ 36 }
+{
+    match title {
+        None => 0,
+        Some(title) => named_oid_len(title),
+    }
+}
+
+fn put_title(out: &mut Vec<u8>, title: &Option<Oid>) -> Result<(), AllocError>
+    ensures ok { OnOk result (out.new.items ≡ out.old.items ++ title_octets title.now) }
+    ensures err { OnErr result (Extends out.old.items out.new.items) }
+{
+    match title {
+        None => Ok(()),
+        Some(title) => put_named_oid(out, CALLING_TITLE_TAG, title),
+    }
+}
+
+/// The length of the contents of a written request, by that of its body.
+fn request_len(request: &AssociateRequest, body: usize) -> usize
+    requires { body ≤ MOST_BODY }
+    ensures value { (octets : List ℕ) → length octets ≡ body
+        → result ≡ length (request_contents request.now octets) }
+    ensures few { result ≤ body + 100 }
+{
+    named_oid_len(&request.context) + title_len(&request.title) + user_len(request.user.id, body)
+}
+
+/// Appends a request with this body.
+#[tactic(auto, using(crate::proofs::Sizes::extended))]
+pub(crate) fn put_request(
+    out: &mut Vec<u8>,
+    request: &AssociateRequest,
+    body: &[u8],
+) -> Result<(), AllocError>
+    requires { length body.now ≤ MOST_BODY }
+    ensures ok { OnOk result
+        (out.new.items ≡ out.old.items ++ request_octets request.now body.now) }
+    ensures err { OnErr result (Extends out.old.items out.new.items) }
+{
+    write_head(out, AARQ, request_len(request, body.len()))?;
+    put_named_oid(out, CONTEXT_NAME_TAG, &request.context)?;
+    put_title(out, &request.title)?;
+    put_user(out, request.user.id, body)
 }

@@ -1,20 +1,30 @@
 //! AARE (ISO 8650-1, `AARE-apdu`): answers an AARQ.
-ghost use Rattle.std.specs.Prelude.{◌≡◌, ◌+◌, ◌^◌, ◌<◌, ◌≤◌, length, IfOk};
+ghost use Rattle.std.specs.Prelude.{◌≡◌, ◌+◌, ◌^◌, ◌<◌, ◌≤◌, ◌++◌, ℕ, List, length, pos};
+ghost use Rattle.std.specs.Prelude.{IfOk, OnOk, OnErr};
+ghost use Rattle.plain_text.specs.Extends.{Extends};
 ghost use Rattle.ber_values.specs.Faults.{Gives};
 ghost use Rattle.ber_values.specs.Grammars.{taken};
 ghost use Rattle.acse_assoc.specs.declared.numbers.TheConstants.{USER_INFORMATION};
+ghost use Rattle.acse_assoc.specs.declared.apdu.TheConstants.{MOST_BODY};
+ghost use Rattle.ber_values.specs.Writing.{written, integer_octets};
+ghost use Rattle.acse_assoc.specs.Writing.{mms_context, result_octets, diagnostic, some_user_octets};
+ghost use Rattle.acse_assoc.specs.Writing.{response_contents, response_octets};
 ghost use Rattle.acse_assoc.specs.Rising.{perhaps_in, least_after};
 ghost use Rattle.acse_assoc.specs.Users.{user_information};
 ghost use Rattle.acse_assoc.specs.Responses.{context_passed, largest_result, one_result};
 ghost use Rattle.acse_assoc.specs.Responses.{result_next, user_of_result, some_user_last, response};
 
 use crate::expected::Expected;
+use crate::numbers::AARE;
 use crate::numbers::{CONTEXT_NAME, CONTEXT_NAME_TAG, INTEGER, LARGEST_NUMBER, LARGEST_RESULT};
 use crate::numbers::{RESULT, RESULT_TAG, USER_INFORMATION, USER_INFORMATION_TAG};
 use crate::request::one_oid;
 use crate::rising::{Left, pass_rising, refused};
-use crate::user::{named_user, user_from};
-use ber_values::{BerFault, External, Part, has_tag, take_end, take_part};
+use crate::user::{named_user, put_user, user_from, user_len};
+use ber_values::{
+    BerFault, External, Part, has_tag, natural_len, take_end, take_part, write_head, write_natural,
+};
+use std::alloc::AllocError;
 
 /// Answers a request for an association: the result is 0 where it is accepted.
 #[derive(Clone, Copy, Debug, PartialEq, Eq)]
@@ -234,4 +244,106 @@ fn take_user(
     };
     let last = pass_rising(octets, at, LARGEST_NUMBER, least)?;
     Ok((user, last.at, last.octets))
+}
+
+/// The application context of MMS (ISO 9506-2), alone in its element.
+const CONTEXT: [u8; 9] = [0xA1, 7, 6, 5, 0x28, 0xCA, 0x22, 2, 3];
+
+/// Appends the application context of MMS, alone in its element.
+#[tactic(auto, unfolding(ber_values::specs::Writing::length_octets))]
+fn put_context(out: &mut Vec<u8>) -> Result<(), AllocError>
+    ensures ok { OnOk result
+        (out.new.items ≡ out.old.items ++ written 161 (written 6 mms_context)) }
+    ensures err { OnErr result (out.new.items ≡ out.old.items) }
+{
+    out.extend_from_slice(&CONTEXT)
+}
+
+/// The length of a result as an integer.
+fn code_len(code: u8) -> usize
+    ensures value { result ≡ length (written 2 (integer_octets (pos code))) }
+    ensures few { result ≤ 10 }
+{
+    2 + natural_len(u64::from(code))
+}
+
+/// The length of a written result.
+fn result_len(code: u8) -> usize
+    ensures value { result ≡ length (result_octets code) }
+    ensures few { result ≤ 12 }
+{
+    2 + code_len(code)
+}
+
+fn put_result(out: &mut Vec<u8>, code: u8) -> Result<(), AllocError>
+    ensures ok { OnOk result (out.new.items ≡ out.old.items ++ result_octets code) }
+    ensures err { OnErr result (Extends out.old.items out.new.items) }
+{
+    write_head(out, RESULT_TAG, code_len(code))?;
+    write_natural(out, INTEGER, u64::from(code))
+}
+
+/// Appends the diagnostic of the service's user: none, or no reason given.
+fn put_diagnostic(out: &mut Vec<u8>, code: u8) -> Result<(), AllocError>
+    ensures ok { OnOk result (out.new.items ≡ out.old.items ++ diagnostic code) }
+    ensures err { OnErr result (Extends out.old.items out.new.items) }
+{
+    let reason = if code == 0 { 0 } else { 1 };
+    out.extend_from_slice(&[0xA3, 5, 0xA1, 3, 2, 1, reason])
+}
+
+fn some_user_len(user: Option<External>, body: usize) -> usize
+    requires { body ≤ MOST_BODY }
+    ensures value { (octets : List ℕ) → length octets ≡ body
+        → result ≡ length (some_user_octets user octets) }
+    ensures few { result ≤ body + 28 }
+{
+    match user {
+        None => 0,
+        Some(user) => user_len(user.id, body),
+    }
+}
+
+fn put_some_user(
+    out: &mut Vec<u8>,
+    user: Option<External>,
+    body: &[u8],
+) -> Result<(), AllocError>
+    requires { length body.now ≤ MOST_BODY }
+    ensures ok { OnOk result (out.new.items ≡ out.old.items ++ some_user_octets user body.now) }
+    ensures err { OnErr result (Extends out.old.items out.new.items) }
+{
+    match user {
+        None => Ok(()),
+        Some(user) => put_user(out, user.id, body),
+    }
+}
+
+/// The length of the contents of a written response, by that of its body.
+fn response_len(response: &AssociateResponse, body: usize) -> usize
+    requires { body ≤ MOST_BODY }
+    ensures value { (octets : List ℕ) → length octets ≡ body
+        → result ≡ length (response_contents response.now octets) }
+    ensures few { result ≤ body + 56 }
+{
+    CONTEXT.len() + result_len(response.result) + 7 + some_user_len(response.user, body)
+}
+
+/// Appends a response with this body.
+#[tactic(auto, using(crate::proofs::Sizes::extended))]
+pub(crate) fn put_response(
+    out: &mut Vec<u8>,
+    response: &AssociateResponse,
+    body: &[u8],
+) -> Result<(), AllocError>
+    requires { length body.now ≤ MOST_BODY }
+    ensures ok { OnOk result
+        (out.new.items ≡ out.old.items ++ response_octets response.now body.now) }
+    ensures err { OnErr result (Extends out.old.items out.new.items) }
+{
+    write_head(out, AARE, response_len(response, body.len()))?;
+    put_context(out)?;
+    put_result(out, response.result)?;
+    put_diagnostic(out, response.result)?;
+    put_some_user(out, response.user, body)
 }

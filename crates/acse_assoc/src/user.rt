@@ -1,15 +1,23 @@
 //! User information (ISO 8650-1, `Association-information`).
-ghost use Rattle.std.specs.Prelude.{◌≡◌, ◌+◌, ◌^◌, ◌<◌, length, IfOk};
+ghost use Rattle.std.specs.Prelude.{◌≡◌, ◌+◌, ◌^◌, ◌<◌, ◌≤◌, ◌++◌, ℕ, List, length, IfOk, OnOk, OnErr};
+ghost use Rattle.plain_text.specs.Extends.{Extends};
 ghost use Rattle.ber_values.specs.Faults.{Gives};
 ghost use Rattle.ber_values.specs.Grammars.{taken};
 ghost use Rattle.acse_assoc.specs.declared.numbers.TheConstants.{USER_INFORMATION};
 ghost use Rattle.acse_assoc.specs.Rising.{named_in};
 ghost use Rattle.acse_assoc.specs.Users.{user_information};
+ghost use Rattle.acse_assoc.specs.declared.apdu.TheConstants.{MOST_BODY};
+ghost use Rattle.ber_values.specs.Writing.{written};
+ghost use Rattle.ber_values.specs.Externals.{external_octets};
+ghost use Rattle.acse_assoc.specs.Writing.{user_octets};
 
 use crate::expected::Expected;
 use crate::numbers::{EXTERNAL, USER_INFORMATION, USER_INFORMATION_TAG};
 use crate::rising::{Left, refused};
-use ber_values::{BerFault, External, Part, take_end, take_part};
+use ber_values::{
+    BerFault, External, Part, external_len, part_len, take_end, take_part, write_external, write_head,
+};
+use std::alloc::AllocError;
 
 /// The user information, where its number may still follow, and what is left after it.
 #[tactic(
@@ -57,4 +65,44 @@ pub(crate) fn user_from(part: &Part<'_>, expected: Expected) -> Result<External,
     let user = external.external(expected.id)?;
     take_end(external.rest, external.head.next)?;
     Ok(user)
+}
+
+/// The length of an EXTERNAL as an element, by that of its value.
+fn external_part_len(id: u32, body: usize) -> usize
+    requires { body ≤ MOST_BODY }
+    ensures value { (octets : List ℕ) → length octets ≡ body
+        → result ≡ length (written 40 (external_octets id octets)) }
+    ensures few { result ≤ body + 22 }
+{
+    part_len(external_len(id, body))
+}
+
+/// The length of written user information.
+pub(crate) fn user_len(id: u32, body: usize) -> usize
+    requires { body ≤ MOST_BODY }
+    ensures value { (octets : List ℕ) → length octets ≡ body
+        → result ≡ length (user_octets id octets) }
+    ensures few { result ≤ body + 28 }
+{
+    part_len(external_part_len(id, body))
+}
+
+fn put_external(out: &mut Vec<u8>, id: u32, body: &[u8]) -> Result<(), AllocError>
+    requires { length body.now ≤ MOST_BODY }
+    ensures ok { OnOk result
+        (out.new.items ≡ out.old.items ++ written 40 (external_octets id body.now)) }
+    ensures err { OnErr result (Extends out.old.items out.new.items) }
+{
+    write_head(out, EXTERNAL, external_len(id, body.len()))?;
+    write_external(out, id, body)
+}
+
+/// Appends the user information of this context.
+pub(crate) fn put_user(out: &mut Vec<u8>, id: u32, body: &[u8]) -> Result<(), AllocError>
+    requires { length body.now ≤ MOST_BODY }
+    ensures ok { OnOk result (out.new.items ≡ out.old.items ++ user_octets id body.now) }
+    ensures err { OnErr result (Extends out.old.items out.new.items) }
+{
+    write_head(out, USER_INFORMATION_TAG, external_part_len(id, body.len()))?;
+    put_external(out, id, body)
 }
