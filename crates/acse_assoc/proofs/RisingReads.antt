@@ -30,7 +30,7 @@ pub either_reads : {X : Type 0} (test : Bool) (one other : Grammar X) → IsGram
     → IsGrammar other → IsGrammar (either_in test one other)
 either_reads test one other a b = branch_reads (λ octets. test) one other a b
 
-rising_within_reads : (number room least : ℕ) → IsGrammar (rising_within number room least)
+pub rising_within_reads : (number room least : ℕ) → IsGrammar (rising_within number room least)
 unfolding rising_within
 rising_within_reads number zero least = gives_reads least
 rising_within_reads number (suc room) least =

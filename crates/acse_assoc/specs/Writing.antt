@@ -1,14 +1,17 @@
 -- The written form of an APDU: the shortest lengths and integers, and no element that may be absent
 -- but the title, where there is one.
-use Rattle.std.specs.Prelude.{◌≡◌, ℕ, ◌+◌, ◌-◌, ◌<◌, ◌≤◌, ◌^◌, List, [], ◌∷◌, ◌++◌, length, pos}
+use Rattle.std.specs.Prelude.{◌≡◌, ◌≢◌, ℕ, ◌+◌, ◌-◌, ◌<◌, ◌≤◌, ◌^◌, true, List, [], ◌∷◌, ◌++◌}
+use Rattle.std.specs.Prelude.{length, pos}
 use Rattle.std.specs.Prelude.{Option, Some, None, ◌==◌, if◌then◌else◌}
 use Rattle.ber_values.specs.declared.fault.Span.{Span}
 use Rattle.ber_values.specs.Oid.{IsOid}
 use Rattle.ber_values.specs.Writing.{written, integer_octets}
-use Rattle.ber_values.specs.Externals.{external_octets}
+use Rattle.ber_values.specs.Externals.{external_octets, is_wanted}
 use Rattle.ber_values.specs.declared.external.External.{External}
 use Rattle.acse_assoc.specs.declared.request.AssociateRequest.{AssociateRequest}
 use Rattle.acse_assoc.specs.declared.response.AssociateResponse.{AssociateResponse}
+use Rattle.acse_assoc.specs.declared.expected.Expected.{Expected}
+use Rattle.acse_assoc.specs.Responses.{largest_result}
 use Rattle.acse_assoc.specs.declared.apdu.Apdu.{Apdu}
 use Rattle.acse_assoc.specs.declared.apdu.Apdu.TheVariants.{Aarq, Aare, Rlrq, Rlre, Abrt}
 use Rattle.ber_values.specs.Externals.{external_of}
@@ -32,9 +35,13 @@ request_octets r body = written 96 (request_contents r body)
 abbrev pub mms_context : List ℕ
 mms_context = 40 ∷ 202 ∷ 34 ∷ 2 ∷ 3 ∷ []
 
--- the diagnostic of the service's user: none where the result is 0, else no reason given
+-- none where the result is 0, else no reason given
+abbrev pub diagnosed : ℕ → ℕ
+diagnosed result = if result == 0 then 0 else 1
+
+-- the diagnostic of the service's user
 abbrev pub diagnostic : ℕ → List ℕ
-diagnostic result = 163 ∷ 5 ∷ 161 ∷ 3 ∷ 2 ∷ 1 ∷ (if result == 0 then 0 else 1) ∷ []
+diagnostic result = 163 ∷ 5 ∷ 161 ∷ 3 ∷ 2 ∷ 1 ∷ diagnosed result ∷ []
 
 abbrev pub some_user_octets : Option External → List ℕ → List ℕ
 some_user_octets None body = []
@@ -62,29 +69,59 @@ apdu_octets Rlre body = short_octets 99
 apdu_octets Abrt body = short_octets 100
 
 -- the last octets before a place
-abbrev pub span_before : ℕ → List ℕ → Span
-span_before end body = record { from = end - length body; to = end }
+abbrev pub last_span : ℕ → List ℕ → Span
+last_span end body = record { from = end - length body; to = end }
 
 -- the same user information, with its body in another place
 abbrev pub moved : Span → External → External
 moved body user = external_of user.id body
 
+abbrev pub some_moved : Span → Option External → Option External
+some_moved body None = None
+some_moved body (Some user) = Some (moved body user)
+
 -- the same APDU, with its body in another place
 abbrev pub with_body : Span → Apdu → Apdu
 with_body body (Aarq r) =
     Aarq (record { context = r.context; title = r.title; user = moved body r.user })
-with_body body (Aare r) = Aare (record { result = r.result; user = moved_user r.user })
-  where
-    moved_user : Option External → Option External
-    moved_user None = None
-    moved_user (Some user) = Some (moved body user)
+with_body body (Aare r) = Aare (record { result = r.result; user = some_moved body r.user })
 with_body body apdu = apdu
 
+-- the value that the written form spells, at a place
+abbrev pub as_written : ℕ → Apdu → List ℕ → Apdu
+as_written at apdu body = with_body (last_span (at + length (apdu_octets apdu body)) body) apdu
+
 -- an accepted association has user information
-abbrev pub HasUser : AssociateResponse → Type 0
-HasUser r = r.result ≡ 0 → (user : External) × (r.user ≡ Some user)
+abbrev pub HasUser : ℕ → Option External → Type 0
+HasUser result None = result ≢ 0
+HasUser result (Some user) = Unit {0}
 
 abbrev pub IsWritable : Apdu → Type 0
-IsWritable (Aarq r) = Unit {0}
-IsWritable (Aare r) = HasUser r
+IsWritable (Aare r) = HasUser r.result r.user
 IsWritable apdu = Unit {0}
+
+-- what the types of a title and of user information keep
+abbrev pub IsTitle : Option (List ℕ) → Type 0
+IsTitle None = Unit {0}
+IsTitle (Some title) = IsOid title
+
+abbrev pub IsSmall : Option External → Type 0
+IsSmall None = Unit {0}
+IsSmall (Some user) = user.id < 2 ^ 32
+
+-- what the type of an APDU keeps
+abbrev pub IsHeld : Apdu → Type 0
+IsHeld (Aarq r) = IsOid r.context × (IsTitle r.title × (r.user.id < 2 ^ 32))
+IsHeld (Aare r) = (r.result < 256) × IsSmall r.user
+IsHeld apdu = Unit {0}
+
+-- the id is the one that is expected, if one is
+abbrev pub IsOfId : Option ℕ → Option External → Type 0
+IsOfId wanted None = Unit {0}
+IsOfId wanted (Some user) = is_wanted wanted user.id ≡ true
+
+-- an APDU has what is expected of it
+abbrev pub IsAsExpected : Expected → Apdu → Type 0
+IsAsExpected e (Aarq r) = is_wanted e.id r.user.id ≡ true
+IsAsExpected e (Aare r) = (r.result ≤ largest_result e) × IsOfId e.id r.user
+IsAsExpected e apdu = Unit {0}

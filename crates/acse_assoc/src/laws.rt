@@ -1,13 +1,26 @@
 //! What holds of all octets and APDUs.
-ghost use Rattle.std.specs.Prelude.{ℕ, List};
+ghost use Rattle.std.specs.Prelude.{ℕ, ◌+◌, ◌≤◌, List, [], length};
 ghost use Rattle.ber_values.specs.Reading.{Taken, HasOneReading};
 ghost use Rattle.acse_assoc.specs.declared.apdu.Apdu.{Apdu};
 ghost use Rattle.acse_assoc.specs.declared.expected.Expected.{Expected};
+ghost use Rattle.acse_assoc.specs.declared.apdu.TheConstants.{MOST_BODY};
+ghost use Rattle.ber_values.specs.Grammars.{taken};
 ghost use Rattle.acse_assoc.specs.Apdus.{apdu};
+ghost use Rattle.acse_assoc.specs.Writing.{apdu_octets, as_written, IsWritable, IsHeld};
+ghost use Rattle.acse_assoc.specs.Writing.{IsAsExpected};
 
 /// Octets have one reading, whatever is expected: exactly one holds, they spell exactly one APDU,
 /// or they have exactly one first fault.
 pub fn apdus_have_one_reading()
     ensures { (e : Expected) (at : ℕ) (octets : List ℕ)
         → HasOneReading (Taken Apdu) ((apdu e).begins at octets) ((apdu e).fault at octets) }
+{}
+
+/// What is written for an APDU that has what is expected of it is read back as the same APDU, whose
+/// body is the octets that were given.
+pub fn written_apdus_are_read()
+    ensures { (e : Expected) (v : Apdu) (body : List ℕ) → IsWritable v → IsHeld v
+        → IsAsExpected e v → length body ≤ MOST_BODY → (at : ℕ)
+        → (apdu e).begins at (apdu_octets v body)
+        (taken (as_written at v body) (at + length (apdu_octets v body)) []) }
 {}

@@ -65,10 +65,10 @@ abbrev pub last_span : ℕ → List ℕ → Span
 last_span end body = record { from = end - length body; to = end }
 
 -- an integer below 2^32 has few octets
-integer-few : (id : ℕ) → id < 2 ^ 63 → length (integer_octets (pos id)) ≤ 8
+pub integer-few : (id : ℕ) → id < 2 ^ 63 → length (integer_octets (pos id)) ≤ 8
 integer-few id small = omega (arith, length-integer_octets (pos id), (number_size-fits id small).few)
 
-unsigned_spelled : (at id : ℕ) → id < 2 ^ 32 → unsigned.spells at id (integer_octets (pos id))
+pub unsigned_spelled : (at id : ℕ) → id < 2 ^ 32 → unsigned.spells at id (integer_octets (pos id))
 unfolding unsigned
 unsigned_spelled at id small = contents_spelled kinds.unsigned id small
 

@@ -15,6 +15,7 @@ use Rattle.ber_values.specs.declared.head.Head.{Head}
 use Rattle.ber_values.specs.Bits.{Bits, IsBits}
 use Rattle.ber_values.specs.Reading.{Taken}
 use Rattle.ber_values.specs.Tags.{tag_with}
+use Rattle.ber_values.specs.Grammars.{taken, skip}
 use Rattle.ber_values.specs.Heads.{head_of, SpellsHead}
 use Rattle.ber_values.specs.Numbers.{twos_complement, SpellsInteger}
 use Rattle.ber_values.specs.Booleans.{SpellsBoolean}
@@ -273,3 +274,14 @@ element_written kind value tag at rest fits single =
       short = refl;
       ends = omega (arith, length-append (length_octets (length contents)) contents);
     }
+
+-- an element that was written is passed over whole
+pub skip-written : (tag at : ℕ) (contents rest : List ℕ) → length contents < 2 ^ 32 → tag % 32 ≢ 31 → skip.begins at (written tag contents ++ rest) (taken tt (at + length (written tag contents)) rest)
+unfolding skip head_written tag_written size_written
+skip-written tag at contents rest few single =
+    let head = head_written tag at (length contents) in
+    let place : head.next ≡ at + length (written tag contents) = omega (arith, length-append (length_octets (length contents)) contents) in
+    let count : length (written tag contents) ≡ at + length (written tag contents) - at = omega arith in
+    (head, head_spelled tag at contents rest few single,
+    ap (λ (os : List ℕ). taken tt (at + length (written tag contents)) os) (sym (drop_at (written tag contents) rest _ count))
+    ∙ ap (λ (n : ℕ). taken tt n (drop (n - at) (written tag contents ++ rest))) (sym place))
