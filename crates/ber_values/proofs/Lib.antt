@@ -15,4 +15,5 @@ pub mod Passed
 pub mod Leaves
 pub mod Capped
 pub mod Settled
+pub mod WrittenParts
 pub mod DottedOctets
