@@ -16,8 +16,9 @@ use Rattle.ber_values.specs.Parts.{Contents, part_in, maybe_in, contents_as, con
 use Rattle.ber_values.specs.Parts.{whole_in, choose_in}
 use Rattle.ber_values.specs.Leaves.{oid, raw, unsigned, unsigned_within}
 use Rattle.ber_values.proofs.Grammars.{part-written, choose-written, choose-other}
-use Rattle.ber_values.proofs.Capped.{length-written}
-use Rattle.ber_values.proofs.Externals.{last-written, external-spelled, part_size-few, integer-few}
+use Rattle.ber_values.proofs.Capped.{length-written, part_size-most}
+use Rattle.ber_values.proofs.WrittenParts.{ends_of, part-writes}
+use Rattle.ber_values.proofs.Externals.{external-spelled, integer-few}
 use Rattle.ber_values.proofs.Externals.{unsigned_spelled}
 use Rattle.ber_values.proofs.Written.{skip-written}
 use Rattle.ber_values.proofs.Tags.{tag_reads}
@@ -45,13 +46,22 @@ use Rattle.acse_assoc.specs.Writing.{response_octets}
 use Rattle.acse_assoc.proofs.RisingReads.{rising_reads, rising_within_reads}
 use Rattle.acse_assoc.proofs.Sizes.{context_len}
 
+-- an element at the end of its container
+last-written : {X : Type 0} (tag : ℕ) (c : Contents X) (at : ℕ) (x : X) (contents : List ℕ)
+    → length contents < 2 ^ 32
+    → c.spells (at + 1 + length (length_octets (length contents))) x contents
+    → (part_in tag c).begins at (written tag contents)
+    (taken x (at + length (written tag contents)) [])
+last-written tag c at x contents few spelled =
+    ends_of (part_in tag c) at x (written tag contents) (part-writes tag c at x contents few spelled)
+
 -- ---- lengths
 
 -- how much longer an element is than its contents
 written-few : (tag : ℕ) (contents : List ℕ) → length contents < 2 ^ 32
     → length (written tag contents) ≤ length contents + 6
 written-few tag contents few =
-    omega (arith, length-written tag contents, part_size-few (length contents) few)
+    omega (arith, length-written tag contents, part_size-most (length contents))
 
 -- ---- elements that aren't passed over
 

@@ -14,8 +14,9 @@ use Rattle.ber_values.specs.Externals.{external_of, is_wanted, external, externa
 use Rattle.ber_values.proofs.Grammars.{then_reads, map_reads, part_reads, maybe_reads, where_reads}
 use Rattle.ber_values.proofs.Grammars.{all_reads}
 use Rattle.ber_values.proofs.Grammars.{part-written}
-use Rattle.ber_values.proofs.Capped.{length-written, part_size-short, part_size-long, capped-same}
-use Rattle.ber_values.proofs.Written.{contents_spelled, length_size-fits, length-integer_octets, number_size-fits}
+use Rattle.ber_values.proofs.Capped.{length-written, part_size-short, element-sized}
+use Rattle.ber_values.proofs.WrittenParts.{ends_of, part-writes}
+use Rattle.ber_values.proofs.Written.{contents_spelled, length-integer_octets, number_size-fits}
 use Rattle.ber_values.proofs.Leaves.{oid_contents, unsigned_contents, span_contents}
 
 pub external_contents : (wanted : Option ℕ) → IsContentsGrammar (external wanted)
@@ -27,38 +28,12 @@ external_contents wanted = all_reads _
 
 -- ---- lengths
 
--- an element is at most six octets longer than its contents
-pub part_size-few : (n : ℕ) → n < 2 ^ 32 → part_size n ≤ n + 6
-part_size-few n few =
-    cond_both {A = ℕ} (ltb n 128) 0 1 (λ _. part_size n ≤ n + 6)
-    (λ e. omega (arith, part_size-short n (ltb-true n 128 e)))
-    (λ e. omega (arith, part_size-long n (ltb-false n 128 e), (length_size-fits n few).few))
-
--- a part of few octets has its own length
-pub part_len-exact : (tag n : ℕ) (contents : List ℕ) → n < 2 ^ 31 → length contents ≡ n → (r : ℕ) → r ≡ capped (part_size n) → r ≡ length (written tag contents)
-part_len-exact tag n contents few len r e =
-    e ∙ capped-same (part_size n) (omega (arith, part_size-few n (omega (arith, few)), few))
-    ∙ ap part_size (sym len) ∙ sym (length-written tag contents)
-
 pub external_len-value : (id body few : ℕ) (octets : List ℕ) (r : ℕ) → length octets ≡ body → body < 2 ^ 31 → few ≡ length (integer_octets (pos id)) → few ≤ 8 → r ≡ capped (part_size body) → 2 + few + r ≡ length (external_octets id octets)
 external_len-value id body few octets r len small is le e =
     let first : length (written 2 (integer_octets (pos id))) ≡ 2 + few = length-written 2 (integer_octets (pos id)) ∙ part_size-short (length (integer_octets (pos id))) (omega (arith, is, le)) ∙ ap (λ (n : ℕ). 2 + n) (sym is) in
-    omega (arith, first, part_len-exact 160 body octets small len r e, length-append (written 2 (integer_octets (pos id))) (written 160 octets))
-
-pub part_len-few : (n r : ℕ) → n < 2 ^ 31 → r ≡ capped (part_size n) → r ≤ n + 6
-part_len-few n r small e = omega (arith, e, part_size-few n (omega (arith, small)))
+    omega (arith, first, element-sized 160 body r octets (sym len) e (omega (arith, small)), length-append (written 2 (integer_octets (pos id))) (written 160 octets))
 
 -- ---- what is written is read back
-
--- an element at the end of its container
-pub last-written : {X : Type 0} (tag : ℕ) (c : Contents X) (at : ℕ) (x : X) (contents : List ℕ)
-    → length contents < 2 ^ 32
-    → c.spells (at + 1 + length (length_octets (length contents))) x contents
-    → (part_in tag c).begins at (written tag contents)
-    (taken x (at + length (written tag contents)) [])
-last-written tag c at x contents few spelled =
-    subst (λ os. (part_in tag c).begins at os (taken x (at + length (written tag contents)) []))
-    (append-nil (written tag contents)) (part-written tag c at x contents [] few spelled)
 
 -- the last octets before a place
 abbrev pub last_span : ℕ → List ℕ → Span
@@ -102,7 +77,8 @@ external-spelled wanted id body at small few is =
               (id, unsigned_spelled _ id small, (is, refl)),
           (
             taken (span_at from body) end [],
-            last-written 160 span next (span_at from body) body few (body_spelled _ body),
+            ends_of (part_in 160 span) next (span_at from body) (written 160 body)
+                (part-writes 160 span next (span_at from body) body few (body_spelled _ body)),
             refl,
           ),
         ),

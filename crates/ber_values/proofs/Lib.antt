@@ -16,4 +16,5 @@ pub mod Leaves
 pub mod Externals
 pub mod Capped
 pub mod Settled
+pub mod WrittenParts
 pub mod DottedOctets

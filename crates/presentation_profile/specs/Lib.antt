@@ -3,4 +3,5 @@ pub mod Others
 pub mod UserData
 pub mod Results
 pub mod Ppdus
+pub mod Written
 pub mod Agreements

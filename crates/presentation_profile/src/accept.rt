@@ -1,23 +1,28 @@
 //! The parameters of an accept (ISO 8823-1, CPA-type).
-ghost use Rattle.std.specs.Prelude.{◌≡◌, ◌+◌, ◌<◌, ◌≤◌, ◌^◌, length, IfOk};
+ghost use Rattle.std.specs.Prelude.{◌≡◌, ◌+◌, ◌<◌, ◌≤◌, ◌^◌, ◌++◌, length, IfOk};
+ghost use Rattle.std.specs.Prelude.{OnOk, OnErr};
+ghost use Rattle.plain_text.specs.Extends.{Extends};
 ghost use Rattle.ber_values.specs.Stops.{Answers};
 ghost use Rattle.ber_values.specs.Parts.{all_in};
 ghost use Rattle.ber_values.specs.Readers.{taken_from};
 ghost use Rattle.presentation_profile.specs.Others.{after_others, selector_in};
 ghost use Rattle.presentation_profile.specs.Ppdus.{accept_named, accept};
+ghost use Rattle.presentation_profile.specs.Written.{accept_octets};
 
-use crate::others::{skip_others, take_last_data, take_selector};
+use crate::offers::MOST_OFFERS;
+use crate::others::{put_selector, selector_len, skip_others, take_last_data, take_selector};
 use crate::ppdu::Ppdu;
-use crate::results::take_results;
+use crate::results::{RESULTS, Results, put_results, results_len, take_results};
+use crate::user_data::{MOST_BODY, put_user_data, user_len};
 use ber_values::{Part, Stop, octets_from, take_end};
-use std::alloc::Global;
+use std::alloc::{AllocError, Global};
 use tpkt_cotp::Selector;
 
 /// The tag of the selector that responds.
 const RESPONDING: u8 = 0x83;
 
 /// The elements that an accept names, before its user data.
-const NAMED: [u8; 2] = [RESPONDING, 0xA5];
+const NAMED: [u8; 2] = [RESPONDING, RESULTS];
 
 /// The accept that the contents of an element are.
 #[tactic(auto, using(ber_values::proofs::Passed::drop_on), unfolding(crate::specs::Ppdus::accept, crate::specs::Others::after_others, ber_values::specs::Parts::all_in, ber_values::specs::Grammars::then_in, ber_values::specs::Grammars::map_in))]
@@ -57,4 +62,40 @@ fn take_responding(
     let next = skip_others(octets, at, &NAMED)?;
     let rest = octets_from(octets, at, next);
     take_selector(alloc, rest, next, RESPONDING)
+}
+
+/// How many octets [`put_accept`] appends.
+pub(crate) fn accept_len(
+    called: &Option<Selector>,
+    results: &Results,
+    id: u32,
+    body: &[u8],
+) -> usize
+    requires few { length results.now ≤ MOST_OFFERS }
+    requires bounded { length body.now ≤ MOST_BODY }
+    ensures value { result ≡ length (accept_octets called.now results.now id body.now) }
+    ensures few { result ≤ 70000 }
+{
+    selector_len(called) + results_len(results) + user_len(id, body)
+}
+
+/// Appends the parameters of an accept.
+#[tactic(auto, using(crate::proofs::Sizes::extended), unfolding(crate::specs::Written::accept_octets))]
+pub(crate) fn put_accept(
+    out: &mut Vec<u8>,
+    called: &Option<Selector>,
+    results: &Results,
+    id: u32,
+    body: &[u8],
+) -> Result<(), AllocError>
+    requires few { length results.now ≤ MOST_OFFERS }
+    requires bounded { length body.now ≤ MOST_BODY }
+    ensures ok { OnOk result
+        (out.new.items ≡ out.old.items ++ accept_octets called.now results.now id body.now) }
+    ensures err { OnErr result (Extends out.old.items out.new.items) }
+{
+    put_selector(out, RESPONDING, called)?;
+    put_results(out, results)?;
+    put_user_data(out, id, body)?;
+    Ok(())
 }

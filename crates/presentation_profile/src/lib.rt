@@ -13,9 +13,12 @@ mod user_data;
 
 pub use agreement::{Agreed, ContextFault};
 pub use laws::{offers_have_one_reading, ppdus_have_one_reading};
-pub use offers::{LARGEST_ID, MOST_OFFERS, Offered, Offers, read_offers, take_offers};
-pub use ppdu::{Ppdu, read_ppdu};
+pub use offers::{
+    LARGEST_ID, MOST_OFFERS, Offered, Offers, offers_len, read_offers, take_offers, write_offers,
+};
+pub use ppdu::{Ppdu, read_ppdu, write_ppdu};
 pub use results::Results;
+pub use user_data::MOST_BODY;
 
 #[cfg(test)]
 mod tests;

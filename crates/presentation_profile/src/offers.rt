@@ -1,14 +1,21 @@
 //! The presentation contexts that a connect offers (ISO 8823-1, 8.2).
-ghost use Rattle.std.specs.Prelude.{◌≡◌, ◌+◌, ◌<◌, ◌≤◌, ◌^◌, length, IfOk};
+ghost use Rattle.std.specs.Prelude.{◌≡◌, ◌+◌, ◌<◌, ◌≤◌, ◌^◌, ◌++◌, length, flat_map, IfOk};
+ghost use Rattle.std.specs.Prelude.{OnOk, OnErr};
 ghost use Rattle.std.specs.List.{slice_range};
+ghost use Rattle.plain_text.specs.Extends.{Extends};
 ghost use Rattle.ber_values.specs.Faults.{fault_at};
 ghost use Rattle.ber_values.specs.Stops.{Answers};
 ghost use Rattle.ber_values.specs.Lists.{count_in};
 ghost use Rattle.ber_values.specs.Readers.{IsReadBy, taken_from};
 ghost use Rattle.presentation_profile.specs.Offers.{transfers, offer_contents, offer, offers};
 ghost use Rattle.presentation_profile.specs.Offers.{names_ber, NamesNext};
+ghost use Rattle.presentation_profile.specs.Written.{offered_octets, offer_octets, offers_octets};
+ghost use Rattle.presentation_profile.specs.Written.{ber_octets, AreOffers};
 
-use ber_values::{BerFault, Oid, Part, Stop, Why, octets_from, settle, take_end, take_part};
+use ber_values::{
+    BerFault, Oid, Part, Stop, Why, natural_len, octets_from, part_len, settle, take_end, take_part,
+    write_head, write_natural, write_oid,
+};
 use item_list::ItemList;
 use std::alloc::{AllocError, Global};
 
@@ -30,11 +37,14 @@ pub struct Offered {
 /// Offers in order.
 pub type Offers = ItemList<Offered>;
 
+/// BER's name, joint-iso-itu-t asn1(1) basic-encoding(1).
+pub(crate) const BER: [u8; 2] = [0x51, 1];
+
 /// The tag of a sequence.
 const SEQUENCE: u8 = 0x30;
 
 /// The tag of the list of offers.
-const OFFERS: u8 = 0xA4;
+pub(crate) const OFFERS: u8 = 0xA4;
 
 /// The offers that begin at `at` in octets that end at `end`, and the place after them: 1 to
 /// [`MOST_OFFERS`] of them, with ids from 1 to [`LARGEST_ID`].
@@ -127,7 +137,7 @@ fn fault(place: usize, why: Why) -> BerFault
 fn names_ber(name: &[u8]) -> bool
     ensures { result ≡ names_ber name.now }
 {
-    name == [0x51, 1].as_slice()
+    name == BER.as_slice()
 }
 
 /// Whether BER is among the transfer syntaxes in this element.
@@ -177,4 +187,110 @@ fn offer_from(alloc: Global, part: &Part<'_>) -> Result<Offered, Stop>
         abstract_name,
         ber,
     })
+}
+
+/// How many octets [`write_offers`] appends.
+pub fn offers_len(offers: &Offers) -> usize
+    requires { AreOffers offers.now }
+    ensures value { result ≡ length (offers_octets offers.now) }
+    ensures few { result ≤ 900 }
+{
+    part_len(each_len(offers.as_slice()))
+}
+
+/// The length of the contents of a list of offers.
+fn each_len(offers: &[Offered]) -> usize
+    requires { length offers.now ≤ MOST_OFFERS }
+    ensures value { result ≡ length (flat_map offer_octets offers.now) }
+    ensures few { result ≤ 832 }
+{
+    let mut len = 0;
+    for offer in offers {
+        len += offer_len(offer);
+    }
+    len
+}
+
+fn offer_len(offer: &Offered) -> usize
+    ensures value { result ≡ length (offer_octets offer.now) }
+    ensures few { result ≤ 52 }
+{
+    2 + offered_len(offer)
+}
+
+/// The length of the contents of an offer.
+fn offered_len(offer: &Offered) -> usize
+    ensures value { result ≡ length (offered_octets offer.now) }
+    ensures few { result ≤ 50 }
+{
+    let id = natural_len(u64::from(offer.id));
+    let name = offer.abstract_name.octets().len();
+    10 + id + name
+}
+
+/// Appends offers, each of which names BER alone. After want of memory `out` is as before.
+pub fn write_offers(out: &mut Vec<u8>, offers: &Offers) -> Result<(), AllocError>
+    requires { AreOffers offers.now }
+    ensures ok { OnOk result (out.new.items ≡ out.old.items ++ offers_octets offers.now) }
+    ensures err { OnErr result (out.new.items ≡ out.old.items) }
+{
+    let before = out.len();
+    let written = put_offers(out, offers);
+    if written.is_err() {
+        out.truncate(before);
+    }
+    written
+}
+
+pub(crate) fn put_offers(out: &mut Vec<u8>, offers: &Offers) -> Result<(), AllocError>
+    requires { AreOffers offers.now }
+    ensures ok { OnOk result (out.new.items ≡ out.old.items ++ offers_octets offers.now) }
+    ensures err { OnErr result (Extends out.old.items out.new.items) }
+{
+    write_head(out, OFFERS, each_len(offers.as_slice()))?;
+    put_each(out, offers.as_slice())?;
+    Ok(())
+}
+
+/// Appends offers, one after another.
+#[tactic(auto, using(crate::proofs::Sizes::extended))]
+fn put_each(out: &mut Vec<u8>, offers: &[Offered]) -> Result<(), AllocError>
+    ensures ok { OnOk result
+        (out.new.items ≡ out.old.items ++ flat_map offer_octets offers.now) }
+    ensures err { OnErr result (Extends out.old.items out.new.items) }
+{
+    for offer in offers {
+        put_offer(out, offer)?;
+    }
+    Ok(())
+}
+
+fn put_offer(out: &mut Vec<u8>, offer: &Offered) -> Result<(), AllocError>
+    ensures ok { OnOk result (out.new.items ≡ out.old.items ++ offer_octets offer.now) }
+    ensures err { OnErr result (Extends out.old.items out.new.items) }
+{
+    write_head(out, SEQUENCE, offered_len(offer))?;
+    put_offered(out, offer)?;
+    Ok(())
+}
+
+/// Appends the contents of an offer.
+#[tactic(auto, unfolding(crate::specs::Written::offered_octets))]
+fn put_offered(out: &mut Vec<u8>, offer: &Offered) -> Result<(), AllocError>
+    ensures ok { OnOk result (out.new.items ≡ out.old.items ++ offered_octets offer.now) }
+    ensures err { OnErr result (Extends out.old.items out.new.items) }
+{
+    write_natural(out, 2, u64::from(offer.id))?;
+    write_oid(out, 6, &offer.abstract_name)?;
+    put_ber(out)?;
+    Ok(())
+}
+
+/// Appends BER's name as the only transfer syntax.
+#[tactic(auto, unfolding(crate::specs::Written::ber_octets, ber_values::specs::Writing::length_octets))]
+fn put_ber(out: &mut Vec<u8>) -> Result<(), AllocError>
+    ensures ok { OnOk result (out.new.items ≡ out.old.items ++ ber_octets) }
+    ensures err { OnErr result (out.new.items ≡ out.old.items) }
+{
+    out.extend_from_slice(&[SEQUENCE, 4, 6, 2, BER[0], BER[1]])
 }

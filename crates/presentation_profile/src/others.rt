@@ -1,7 +1,7 @@
 //! What a connect and an accept share: selectors, elements that may stand between those that they
 //! name, and the user data at the end.
-ghost use Rattle.std.specs.Prelude.{◌≡◌, ◌≢◌, ◌+◌, ◌-◌, ◌%◌, ◌<◌, ◌≤◌, ◌^◌, length, drop, IfOk};
-ghost use Rattle.std.specs.Prelude.{option_copied, IfSome};
+ghost use Rattle.std.specs.Prelude.{◌≡◌, ◌≢◌, ◌+◌, ◌-◌, ◌%◌, ◌<◌, ◌≤◌, ◌^◌, ◌++◌, ℕ, length};
+ghost use Rattle.std.specs.Prelude.{drop, option_copied, IfSome, IfOk, OnOk, OnErr};
 ghost use Rattle.ber_values.specs.Contents.{HasLength};
 ghost use Rattle.ber_values.specs.Faults.{Gives};
 ghost use Rattle.ber_values.specs.Stops.{Answers};
@@ -10,9 +10,10 @@ ghost use Rattle.ber_values.specs.Readers.{taken_from};
 ghost use Rattle.presentation_profile.specs.Others.{others, after_others, before_others};
 ghost use Rattle.presentation_profile.specs.Others.{selector_in};
 ghost use Rattle.presentation_profile.specs.UserData.{user_data};
+ghost use Rattle.presentation_profile.specs.Written.{selector_octets};
 
 use crate::user_data::{UserData, take_user_data};
-use ber_values::{BerFault, Stop, has_tag, octets_from, skip_parts, take_part};
+use ber_values::{BerFault, Stop, has_tag, octets_from, skip_parts, take_part, write_octets};
 use std::alloc::{AllocError, Global};
 use tpkt_cotp::Selector;
 
@@ -80,4 +81,31 @@ pub(crate) fn take_last_data(
     let rest = octets_from(rest, next, after);
     let end = skip_others(rest, after, named)?;
     Ok((user, end))
+}
+
+/// How many octets [`put_selector`] appends.
+pub(crate) fn selector_len(selector: &Option<Selector>) -> usize
+    ensures value { (tag : ℕ) → result ≡ length (selector_octets tag selector.now) }
+    ensures few { result ≤ 34 }
+{
+    match selector {
+        Some(selector) => 2 + selector.octets().len(),
+        None => 0,
+    }
+}
+
+/// Appends a selector, if there is one.
+pub(crate) fn put_selector(
+    out: &mut Vec<u8>,
+    tag: u8,
+    selector: &Option<Selector>,
+) -> Result<(), AllocError>
+    requires { tag % 32 ≢ 31 }
+    ensures ok { OnOk result (out.new.items ≡ out.old.items ++ selector_octets tag selector.now) }
+    ensures err { OnErr result (out.new.items ≡ out.old.items) }
+{
+    match selector {
+        Some(selector) => write_octets(out, tag, selector.octets()),
+        None => Ok(()),
+    }
 }

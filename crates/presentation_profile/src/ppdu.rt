@@ -1,6 +1,8 @@
 //! PPDUs (ISO 8823-1, 8.2 and 8.4).
-ghost use Rattle.std.specs.Prelude.{◌≡◌, ◌+◌, ◌<◌, ◌≤◌, ◌^◌, length, IfOk};
+ghost use Rattle.std.specs.Prelude.{◌≡◌, ◌+◌, ◌<◌, ◌≤◌, ◌^◌, ◌++◌, length, IfOk};
+ghost use Rattle.std.specs.Prelude.{OnOk, OnErr};
 ghost use Rattle.std.specs.List.{slice_range};
+ghost use Rattle.plain_text.specs.Extends.{Extends};
 ghost use Rattle.ber_values.specs.Faults.{Gives};
 ghost use Rattle.ber_values.specs.Stops.{Answers};
 ghost use Rattle.ber_values.specs.Grammars.{branch_in};
@@ -8,14 +10,19 @@ ghost use Rattle.ber_values.specs.Parts.{all_in};
 ghost use Rattle.ber_values.specs.Readers.{IsReadBy, taken_from, taken_whole};
 ghost use Rattle.presentation_profile.specs.Ppdus.{accept, connect, has_results, parameters, mode};
 ghost use Rattle.presentation_profile.specs.Ppdus.{set_up_contents, ppdu};
+ghost use Rattle.presentation_profile.specs.Written.{AreOffers, IsWritable, connect_octets};
+ghost use Rattle.presentation_profile.specs.Written.{accept_octets, mode_octets, front_octets};
+ghost use Rattle.presentation_profile.specs.Written.{set_up_octets, ppdu_octets};
 
-use crate::accept::accept_from;
-use crate::connect::connect_from;
-use crate::offers::Offers;
+use crate::accept::{accept_from, accept_len, put_accept};
+use crate::connect::{connect_from, connect_len, put_connect};
+use crate::offers::{MOST_OFFERS, OFFERS, Offers};
 use crate::others::skip_others;
-use crate::results::Results;
-use crate::user_data::take_user_data;
-use ber_values::{BerFault, Part, Span, Stop, has_tag, octets_from, settle, take_end, take_part};
+use crate::results::{RESULTS, Results};
+use crate::user_data::{MOST_BODY, USER_DATA, put_user_data, take_user_data};
+use ber_values::{
+    BerFault, Part, Span, Stop, has_tag, octets_from, part_len, settle, take_end, take_part, write_head,
+};
 use std::alloc::{AllocError, Global};
 use tpkt_cotp::Selector;
 
@@ -44,9 +51,6 @@ pub enum Ppdu {
     },
 }
 
-/// The tag of user data.
-const USER_DATA: u8 = 0x61;
-
 /// The tag of a connect and of an accept.
 const SET_UP: u8 = 0x31;
 
@@ -55,12 +59,6 @@ const MODE: u8 = 0xA0;
 
 /// The tag of the parameters of the normal mode.
 const PARAMETERS: u8 = 0xA2;
-
-/// The tag of offers.
-const OFFERS: u8 = 0xA4;
-
-/// The tag of results.
-const RESULTS: u8 = 0xA5;
 
 /// The PPDU that the octets from `at` to `end` are.
 pub fn read_ppdu(
@@ -176,4 +174,100 @@ fn has_results(octets: &[u8]) -> bool
         Ok(next) => has_tag(octets_from(octets, 0, next), RESULTS),
         Err(_) => false,
     }
+}
+
+/// Appends a PPDU with these octets as its body; the value's own body isn't looked at. Offers are
+/// written with BER alone. After want of memory `out` is as before.
+pub fn write_ppdu(out: &mut Vec<u8>, ppdu: &Ppdu, body: &[u8]) -> Result<(), AllocError>
+    requires writable { IsWritable ppdu.now }
+    requires bounded { length body.now ≤ MOST_BODY }
+    ensures ok { OnOk result (out.new.items ≡ out.old.items ++ ppdu_octets ppdu.now body.now) }
+    ensures err { OnErr result (out.new.items ≡ out.old.items) }
+{
+    let before = out.len();
+    let written = put_ppdu(out, ppdu, body);
+    if written.is_err() {
+        out.truncate(before);
+    }
+    written
+}
+
+fn put_ppdu(out: &mut Vec<u8>, ppdu: &Ppdu, body: &[u8]) -> Result<(), AllocError>
+    requires writable { IsWritable ppdu.now }
+    requires bounded { length body.now ≤ MOST_BODY }
+    ensures ok { OnOk result (out.new.items ≡ out.old.items ++ ppdu_octets ppdu.now body.now) }
+    ensures err { OnErr result (Extends out.old.items out.new.items) }
+{
+    match ppdu {
+        Ppdu::Connect {
+            called,
+            contexts,
+            id,
+            ..
+        } => put_whole_connect(out, called, contexts, *id, body),
+        Ppdu::Accept {
+            called,
+            results,
+            id,
+            ..
+        } => put_whole_accept(out, called, results, *id, body),
+        Ppdu::Carry { id, .. } => put_user_data(out, *id, body),
+    }
+}
+
+fn put_whole_connect(
+    out: &mut Vec<u8>,
+    called: &Option<Selector>,
+    contexts: &Offers,
+    id: u32,
+    body: &[u8],
+) -> Result<(), AllocError>
+    requires offered { AreOffers contexts.now }
+    requires bounded { length body.now ≤ MOST_BODY }
+    ensures ok { OnOk result (out.new.items
+        ≡ out.old.items ++ set_up_octets (connect_octets called.now contexts.now id body.now)) }
+    ensures err { OnErr result (Extends out.old.items out.new.items) }
+{
+    put_front(out, connect_len(called, contexts, id, body))?;
+    put_connect(out, called, contexts, id, body)?;
+    Ok(())
+}
+
+fn put_whole_accept(
+    out: &mut Vec<u8>,
+    called: &Option<Selector>,
+    results: &Results,
+    id: u32,
+    body: &[u8],
+) -> Result<(), AllocError>
+    requires few { length results.now ≤ MOST_OFFERS }
+    requires bounded { length body.now ≤ MOST_BODY }
+    ensures ok { OnOk result (out.new.items
+        ≡ out.old.items ++ set_up_octets (accept_octets called.now results.now id body.now)) }
+    ensures err { OnErr result (Extends out.old.items out.new.items) }
+{
+    put_front(out, accept_len(called, results, id, body))?;
+    put_accept(out, called, results, id, body)?;
+    Ok(())
+}
+
+/// Appends what stands before parameters of so many octets.
+fn put_front(out: &mut Vec<u8>, len: usize) -> Result<(), AllocError>
+    requires { len ≤ 70000 }
+    ensures ok { OnOk result (out.new.items ≡ out.old.items ++ front_octets len) }
+    ensures err { OnErr result (Extends out.old.items out.new.items) }
+{
+    write_head(out, SET_UP, 5 + part_len(len))?;
+    put_mode(out)?;
+    write_head(out, PARAMETERS, len)?;
+    Ok(())
+}
+
+/// Appends the normal mode.
+#[tactic(auto, unfolding(crate::specs::Written::mode_octets, ber_values::specs::Writing::length_octets))]
+fn put_mode(out: &mut Vec<u8>) -> Result<(), AllocError>
+    ensures ok { OnOk result (out.new.items ≡ out.old.items ++ mode_octets) }
+    ensures err { OnErr result (out.new.items ≡ out.old.items) }
+{
+    out.extend_from_slice(&[MODE, 3, 0x80, 1, 1])
 }

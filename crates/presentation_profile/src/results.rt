@@ -1,22 +1,29 @@
 //! What became of the contexts that were offered (ISO 8823-1,
 //! Presentation-context-definition-result-list).
-ghost use Rattle.std.specs.Prelude.{◌≡◌, ◌+◌, ◌<◌, ◌≤◌, ◌^◌, length, IfOk};
+ghost use Rattle.std.specs.Prelude.{◌≡◌, ◌+◌, ◌<◌, ◌≤◌, ◌^◌, ◌++◌, length, flat_map, IfOk};
+ghost use Rattle.std.specs.Prelude.{OnOk, OnErr};
+ghost use Rattle.plain_text.specs.Extends.{Extends};
 ghost use Rattle.ber_values.specs.Faults.{Gives};
 ghost use Rattle.ber_values.specs.Stops.{Answers};
 ghost use Rattle.ber_values.specs.Lists.{list_in};
 ghost use Rattle.ber_values.specs.Readers.{taken_from};
 ghost use Rattle.presentation_profile.specs.Results.{result_contents, one_result, results};
+ghost use Rattle.presentation_profile.specs.Written.{accepted_octets, refused_octets};
+ghost use Rattle.presentation_profile.specs.Written.{result_octets, results_octets};
 
+use crate::offers::{BER, MOST_OFFERS};
 use crate::user_data::maybe_name;
-use ber_values::{BerFault, Part, Stop, octets_from, skip_parts, take_end, take_part};
+use ber_values::{
+    BerFault, Part, Stop, octets_from, part_len, skip_parts, take_end, take_part, write_head,
+};
 use item_list::ItemList;
-use std::alloc::Global;
+use std::alloc::{AllocError, Global};
 
 /// A result for each context that was offered, in order: 0 where it is accepted.
 pub type Results = ItemList<u8>;
 
 /// The tag of the list of results.
-const RESULTS: u8 = 0xA5;
+pub(crate) const RESULTS: u8 = 0xA5;
 
 /// The tag of a result.
 const RESULT: u8 = 0x80;
@@ -84,4 +91,87 @@ fn result_from(part: &Part<'_>) -> Result<u8, BerFault>
     let end = skip_parts(rest, next, 0, 0xFF, &[RESULT, NAME])?;
     take_end(octets_from(rest, next, end), end)?;
     Ok(value)
+}
+
+/// How many octets [`put_results`] appends.
+pub(crate) fn results_len(results: &Results) -> usize
+    requires { length results.now ≤ MOST_OFFERS }
+    ensures value { result ≡ length (results_octets results.now) }
+    ensures few { result ≤ 200 }
+{
+    part_len(each_len(results.as_slice()))
+}
+
+/// The length of the contents of a list of results.
+fn each_len(results: &[u8]) -> usize
+    requires { length results.now ≤ MOST_OFFERS }
+    ensures value { result ≡ length (flat_map result_octets results.now) }
+    ensures few { result ≤ 144 }
+{
+    let mut len = 0;
+    for one in results {
+        len += result_len(*one);
+    }
+    len
+}
+
+#[tactic(auto, unfolding(crate::specs::Written::accepted_octets, crate::specs::Written::refused_octets, ber_values::specs::Writing::length_octets))]
+fn result_len(one: u8) -> usize
+    ensures value { result ≡ length (result_octets one) }
+    ensures few { result ≤ 9 }
+{
+    if one == 0 { 9 } else { 5 }
+}
+
+/// Appends results.
+pub(crate) fn put_results(out: &mut Vec<u8>, results: &Results) -> Result<(), AllocError>
+    requires { length results.now ≤ MOST_OFFERS }
+    ensures ok { OnOk result (out.new.items ≡ out.old.items ++ results_octets results.now) }
+    ensures err { OnErr result (Extends out.old.items out.new.items) }
+{
+    write_head(out, RESULTS, each_len(results.as_slice()))?;
+    put_each(out, results.as_slice())?;
+    Ok(())
+}
+
+/// Appends results, one after another.
+#[tactic(auto, using(crate::proofs::Sizes::extended))]
+fn put_each(out: &mut Vec<u8>, results: &[u8]) -> Result<(), AllocError>
+    ensures ok { OnOk result
+        (out.new.items ≡ out.old.items ++ flat_map result_octets results.now) }
+    ensures err { OnErr result (Extends out.old.items out.new.items) }
+{
+    for one in results {
+        put_result(out, *one)?;
+    }
+    Ok(())
+}
+
+fn put_result(out: &mut Vec<u8>, one: u8) -> Result<(), AllocError>
+    ensures ok { OnOk result (out.new.items ≡ out.old.items ++ result_octets one) }
+    ensures err { OnErr result (out.new.items ≡ out.old.items) }
+{
+    if one == 0 {
+        put_accepted(out)
+    } else {
+        put_refused(out, one)
+    }
+}
+
+/// Appends that a context is accepted, with BER.
+#[tactic(auto, unfolding(crate::specs::Written::accepted_octets, ber_values::specs::Writing::length_octets))]
+fn put_accepted(out: &mut Vec<u8>) -> Result<(), AllocError>
+    ensures ok { OnOk result (out.new.items ≡ out.old.items ++ accepted_octets) }
+    ensures err { OnErr result (out.new.items ≡ out.old.items) }
+{
+    out.extend_from_slice(&[0x30, 7, RESULT, 1, 0, NAME, 2, BER[0], BER[1]])
+}
+
+/// Appends that a context isn't accepted.
+#[tactic(auto, unfolding(crate::specs::Written::refused_octets, ber_values::specs::Writing::length_octets))]
+fn put_refused(out: &mut Vec<u8>, one: u8) -> Result<(), AllocError>
+    ensures ok { OnOk result (out.new.items ≡ out.old.items ++ refused_octets one) }
+    ensures err { OnErr result (out.new.items ≡ out.old.items) }
+{
+    out.extend_from_slice(&[0x30, 3, RESULT, 1, one])
 }

@@ -1,14 +1,24 @@
 //! The data of the presentation's user (ISO 8823-1, User-data).
-ghost use Rattle.std.specs.Prelude.{◌≡◌, ◌≢◌, ◌+◌, ◌-◌, ◌%◌, ◌<◌, ◌≤◌, ◌^◌, length, drop, IfOk};
-ghost use Rattle.std.specs.Prelude.{option_copied};
+ghost use Rattle.std.specs.Prelude.{◌≡◌, ◌≢◌, ◌+◌, ◌-◌, ◌%◌, ◌<◌, ◌≤◌, ◌^◌, ◌++◌, length, drop};
+ghost use Rattle.std.specs.Prelude.{option_copied, IfOk, OnOk, OnErr};
+ghost use Rattle.plain_text.specs.Extends.{Extends};
+ghost use Rattle.ber_values.specs.Writing.{written};
 ghost use Rattle.ber_values.specs.Faults.{Gives};
 ghost use Rattle.ber_values.specs.Grammars.{taken};
 ghost use Rattle.ber_values.specs.Parts.{maybe_in};
 ghost use Rattle.ber_values.specs.Leaves.{oid};
 ghost use Rattle.ber_values.specs.Readers.{taken_from};
 ghost use Rattle.presentation_profile.specs.UserData.{data_values, user_data};
+ghost use Rattle.presentation_profile.specs.Written.{values_octets, user_octets};
 
-use ber_values::{BerFault, Part, Span, has_tag, octets_from, take_end, take_part};
+use ber_values::{
+    BerFault, Part, Span, has_tag, natural_len, octets_from, part_len, take_end, take_part, write_head,
+    write_natural, write_octets,
+};
+use std::alloc::AllocError;
+
+/// The most octets of a body that are written.
+pub const MOST_BODY: usize = 65_400;
 
 /// A body, by where its octets stand, and the id of the context that it belongs to.
 #[derive(Clone, Copy, Debug)]
@@ -18,7 +28,7 @@ pub struct UserData {
 }
 
 /// The tag of user data.
-const USER_DATA: u8 = 0x61;
+pub(crate) const USER_DATA: u8 = 0x61;
 
 /// The tag of a value's body.
 const BODY: u8 = 0xA0;
@@ -74,4 +84,57 @@ pub(crate) fn maybe_name(
     let part = take_part(octets, at, tag)?;
     let name = part.oid_octets()?;
     Ok((Some(name), part.head.next))
+}
+
+/// How many octets [`put_user_data`] appends.
+pub(crate) fn user_len(id: u32, body: &[u8]) -> usize
+    requires { length body.now ≤ MOST_BODY }
+    ensures value { result ≡ length (user_octets id body.now) }
+    ensures few { result ≤ length body.now + 32 }
+{
+    part_len(part_len(values_len(id, body)))
+}
+
+/// The length of an id and a body.
+fn values_len(id: u32, body: &[u8]) -> usize
+    requires { length body.now ≤ MOST_BODY }
+    ensures value { result ≡ length (values_octets id body.now) }
+    ensures few { result ≤ length body.now + 16 }
+{
+    2 + natural_len(u64::from(id)) + part_len(body.len())
+}
+
+/// Appends user data.
+pub(crate) fn put_user_data(out: &mut Vec<u8>, id: u32, body: &[u8]) -> Result<(), AllocError>
+    requires { length body.now ≤ MOST_BODY }
+    ensures ok { OnOk result (out.new.items ≡ out.old.items ++ user_octets id body.now) }
+    ensures err { OnErr result (Extends out.old.items out.new.items) }
+{
+    write_head(out, USER_DATA, part_len(values_len(id, body)))?;
+    put_list(out, id, body)?;
+    Ok(())
+}
+
+/// Appends an id and a body, as the one list of values.
+fn put_list(out: &mut Vec<u8>, id: u32, body: &[u8]) -> Result<(), AllocError>
+    requires { length body.now ≤ MOST_BODY }
+    ensures ok { OnOk result
+        (out.new.items ≡ out.old.items ++ written 48 (values_octets id body.now)) }
+    ensures err { OnErr result (Extends out.old.items out.new.items) }
+{
+    write_head(out, 0x30, values_len(id, body))?;
+    put_values(out, id, body)?;
+    Ok(())
+}
+
+/// Appends an id and a body.
+#[tactic(auto, unfolding(crate::specs::Written::values_octets))]
+fn put_values(out: &mut Vec<u8>, id: u32, body: &[u8]) -> Result<(), AllocError>
+    requires { length body.now ≤ MOST_BODY }
+    ensures ok { OnOk result (out.new.items ≡ out.old.items ++ values_octets id body.now) }
+    ensures err { OnErr result (Extends out.old.items out.new.items) }
+{
+    write_natural(out, 2, u64::from(id))?;
+    write_octets(out, BODY, body)?;
+    Ok(())
 }

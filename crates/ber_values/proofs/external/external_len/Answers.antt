@@ -1,6 +1,7 @@
 use Rattle.std.proofs.Common.{◌+◌, ◌≤◌, ℕ, ◌∙◌, length, pos, ap, arith}
 use Rattle.ber_values.specs.Writing.{integer_octets}
-use Rattle.ber_values.proofs.Externals.{external_len-value, part_len-few}
+use Rattle.ber_values.proofs.Externals.{external_len-value}
+use Rattle.ber_values.proofs.Capped.{element-few}
 use Rattle.ber_values.proofs.external.external_len.Goals as goal
 
 pub returns-clause-value : goal.returns-clause-value
@@ -11,4 +12,4 @@ returns-clause-value c octets len =
 
 pub returns-clause-few : goal.returns-clause-few
 returns-clause-few c = omega (arith, c.natural_len.ensures.few,
-    part_len-few c.args.body c.part_len.result c.requires c.part_len.ensures)
+    element-few c.args.body c.part_len.result c.part_len.ensures)
