@@ -67,7 +67,7 @@ attempted X Spelled First (Ok x) one =
     IsReading-as (Option X) (λ v. v ≡ Some x) _ (λ f. ⊥) (λ f. ⊥) _
     (λ v e. inl (x, one.found x refl, e))
     (λ v h. elim h [
-      inl a ↦ a.2 ∙ ap (λ (y : X). Some y) (sym (Ok_is x a.0 (one.only a.0 a.1)))
+      | inl a ↦ a.2 ∙ ap (λ (y : X). Some y) (sym (Ok_is x a.0 (one.only a.0 a.1)))
       | inr b ↦ absurd (b.0 x (one.found x refl))
     ])
     (λ f h. h) (λ f h. h) (IsReading-done (Option X) (Some x))
@@ -75,7 +75,7 @@ attempted X Spelled First (Err f) one =
     IsReading-as (Option X) (λ v. v ≡ None) _ (λ f. ⊥) (λ f. ⊥) _
     (λ v e. inr (λ x s. not_both x f (sym (one.only x s)), e))
     (λ v h. elim h [
-      inl a ↦ absurd (not_both a.0 f (sym (one.only a.0 a.1)))
+      | inl a ↦ absurd (not_both a.0 f (sym (one.only a.0 a.1)))
       | inr b ↦ b.1
     ])
     (λ f h. h) (λ f h. h) (IsReading-done (Option X) None)

@@ -29,10 +29,10 @@ asked = 96 ∷ 39 ∷ 161 ∷ 7 ∷ 6 ∷ 5 ∷ 40 ∷ 202 ∷ 34 ∷ 2 ∷ 3 �
     ∷ 167 ∷ 3 ∷ 2 ∷ 1 ∷ 12 ∷ 190 ∷ 15 ∷ 40 ∷ 13 ∷ 6 ∷ 2 ∷ 81 ∷ 1 ∷ 2 ∷ 1 ∷ 3 ∷ 160 ∷ 4 ∷ 168 ∷ 2 ∷ 128 ∷ 0 ∷ []
 
 asked_read : (apdu any).reading 100 asked ≡ Ok (taken (Aarq (record {
-    context = 40 ∷ 202 ∷ 34 ∷ 2 ∷ 3 ∷ [];
-    title = Some (41 ∷ 135 ∷ 103 ∷ 1 ∷ []);
-    user = external_of 3 (record { from = 137; to = 141 });
-  })) 141 [])
+  context = 40 ∷ 202 ∷ 34 ∷ 2 ∷ 3 ∷ [];
+  title = Some (41 ∷ 135 ∷ 103 ∷ 1 ∷ []);
+  user = external_of 3 (record { from = 137; to = 141 });
+})) 141 [])
 unfolding asked any apdu one_apdu whole_in request one_oid context_name calling_title user_last external user_information by_tag rising_within rising_in named_in perhaps_in attempt tag_in length_in head_in unsigned_in oid_in gives then_in map_in branch_in refused skip by_length sized_part_in parted_in part_in choose_in maybe_in contents_as contents_where all_in unsigned unsigned_within oid span raw
 asked_read = refl
 

@@ -210,9 +210,12 @@ unfolding context_name then_in named_in branch_in
 context_begins at context rest named = (
   taken 0 at (written 161 (written 6 context) ++ rest),
   rising_stops 1 0 at _ (before_context at _),
-  inl (refl, part-written 161 one_oid at context (written 6 context) rest
-  (omega (arith, written-few 6 context (omega (arith, named.1)), named.1))
-  (one_oid_spelled _ context named)),
+  inl (
+    refl,
+    part-written 161 one_oid at context (written 6 context) rest
+        (omega (arith, written-few 6 context (omega (arith, named.1)), named.1))
+        (one_oid_spelled _ context named),
+  ),
 )
 
 title_begins : (at : ℕ) (title : Option (List ℕ)) (rest : List ℕ) → IsTitle title
@@ -235,13 +238,19 @@ title_begins at (Some title) rest named =
       rising_stops 6 2 at octets (before_title at _),
       (
         taken (Some (Some title)) next (190 ∷ rest),
-        inl (refl, inl (refl, (
-          taken (Some title) next (190 ∷ rest),
-          part-written 166 (attempt one_oid) at (Some title) (written 6 title) (190 ∷ rest)
-          (omega (arith, written-few 6 title (omega (arith, named.1)), named.1))
-          (inl (title, one_oid_spelled _ title named, refl)),
+        inl (
           refl,
-        ))),
+          inl (
+            refl,
+            (
+              taken (Some title) next (190 ∷ rest),
+              part-written 166 (attempt one_oid) at (Some title) (written 6 title) (190 ∷ rest)
+                  (omega (arith, written-few 6 title (omega (arith, named.1)), named.1))
+                  (inl (title, one_oid_spelled _ title named, refl)),
+              refl,
+            ),
+          ),
+        ),
         refl,
       ),
     )
@@ -300,11 +309,11 @@ request_spelled e context title id body at front last whole named titled_is smal
           title = title;
           user = external_of id (last_span n body);
         }) (sym ends)
-        ∙ ap (λ (o : Option (List ℕ)). record {
-          context = context;
-          title = o;
-          user = external_of id (last_span end body);
-        }) (sym (title_same title)),
+            ∙ ap (λ (o : Option (List ℕ)). record {
+              context = context;
+              title = o;
+              user = external_of id (last_span end body);
+            }) (sym (title_same title)),
       ),
     )
   where
@@ -314,12 +323,14 @@ request_spelled e context title id body at front last whole named titled_is smal
     context_at f = subst (λ (os : List ℕ). context_name.begins at (os ++ (title_octets title ++ last))
         (taken context (at + length os) (title_octets title ++ last))) (sym f)
         (context_begins at context (title_octets title ++ last) named)
+
     title_at : last ≡ user_octets id body
         → calling_title.begins (at + length front) (title_octets title ++ last)
         (taken (titled 2 (option_map Some title)) (at + length front + length (title_octets title)) last)
     title_at l = subst (λ (os : List ℕ). calling_title.begins (at + length front) (title_octets title ++ os)
         (taken (titled 2 (option_map Some title)) (at + length front + length (title_octets title)) os))
         (sym l) (title_begins (at + length front) title _ titled_is)
+
     last_at : last ≡ user_octets id body
         → (user_last e (titled 2 (option_map Some title)).least).begins
         (at + length front + length (title_octets title)) last
@@ -345,13 +356,19 @@ context_passes at rest =
       rising_stops 1 0 at octets (before_context at _),
       (
         taken (Some mms_context) next rest,
-        inl (refl, inl (refl, (
-          taken mms_context next rest,
-          part-written 161 one_oid at mms_context (written 6 mms_context) rest
-          (omega (arith, written-few 6 mms_context (omega arith)))
-          (one_oid_spelled _ mms_context (omega arith, omega arith)),
+        inl (
           refl,
-        ))),
+          inl (
+            refl,
+            (
+              taken mms_context next rest,
+              part-written 161 one_oid at mms_context (written 6 mms_context) rest
+                  (omega (arith, written-few 6 mms_context (omega arith)))
+                  (one_oid_spelled _ mms_context (omega arith, omega arith)),
+              refl,
+            ),
+          ),
+        ),
         refl,
       ),
     )
@@ -368,11 +385,14 @@ one_result_spelled e at result small most =
     let octets = integer_octets (pos result) in (
       taken result (at + length (written 2 octets)) [],
       last-written 2 (unsigned_within 0 (largest_result e)) at result octets
-          (omega (arith, integer-few result (omega (arith, small))))
-          (result, unsigned_spelled _ result (omega (arith, small)), (
-            rw (le-leb 0 result (omega arith), le-leb result (largest_result e) most) refl,
-            refl,
-          )),
+          (omega (arith, integer-few result (omega (arith, small)))) (
+            result,
+            unsigned_spelled _ result (omega (arith, small)),
+            (
+              rw (le-leb 0 result (omega arith), le-leb result (largest_result e) most) refl,
+              refl,
+            ),
+          ),
       (refl, refl),
     )
 
@@ -385,9 +405,12 @@ result_begins e at result rest small most =
     let size : length octets ≤ 8 = integer-few result (omega (arith, small)) in (
       taken 2 at (result_octets result ++ rest),
       rising_stops 2 2 at _ (before_result at _),
-      inl (refl, part-written 162 (one_result e) at result (written 2 octets) rest
-      (omega (arith, size, written-few 2 octets (omega (arith, size))))
-      (one_result_spelled e _ result small most)),
+      inl (
+        refl,
+        part-written 162 (one_result e) at result (written 2 octets) rest
+            (omega (arith, size, written-few 2 octets (omega (arith, size))))
+            (one_result_spelled e _ result small most),
+      ),
     )
 
 -- ---- the diagnostic is passed over
@@ -425,16 +448,22 @@ diagnostic_passes at result user body =
     let rest = some_user_octets user body in
     let octets = diagnostic result ++ rest in
     let next = at + length (diagnostic result) in
-    inl (refl, (
-      taken (tag_with 163 3 false) (at + 1) _,
-      (tag_reads at octets).found _ (diagnostic_tag at _),
-      inl (refl, (
-        taken tt next rest,
-        subst (λ (os : List ℕ). skip.begins at (os ++ rest) (taken tt (at + length os) rest))
-            (sym (diagnostic_is result)) (skip-written 163 at contents rest (omega arith) (λ e. omega (arith, e))),
-        after_diagnostic (length (contents ++ rest)) next user body,
-      )),
-    ))
+    inl (
+      refl,
+      (
+        taken (tag_with 163 3 false) (at + 1) _,
+        (tag_reads at octets).found _ (diagnostic_tag at _),
+        inl (
+          refl,
+          (
+            taken tt next rest,
+            subst (λ (os : List ℕ). skip.begins at (os ++ rest) (taken tt (at + length os) rest))
+                (sym (diagnostic_is result)) (skip-written 163 at contents rest (omega arith) (λ e. omega (arith, e))),
+            after_diagnostic (length (contents ++ rest)) next user body,
+          ),
+        ),
+      ),
+    )
 
 -- the user information that goes with a result
 user_of_result_begins : (e : Expected) (result : ℕ) (user : Option External) (body : List ℕ)
@@ -444,18 +473,29 @@ user_of_result_begins : (e : Expected) (result : ℕ) (user : Option External) (
     (at + length (some_user_octets user body)) [])
 unfolding user_of_result perhaps_in maybe_in map_in branch_in gives
 user_of_result_begins e result None body at has small few wanted =
-    inr (ne_eqb result 0 has, inl (refl, inr (refl,
-    ap (λ (n : ℕ). taken None n []) (let same : at + 0 ≡ at = omega arith in same))))
+    inr (
+      ne_eqb result 0 has,
+      inl (
+        refl,
+        inr (
+          refl,
+          ap (λ (n : ℕ). taken None n []) (let same : at + 0 ≡ at = omega arith in same),
+        ),
+      ),
+    )
 user_of_result_begins e result (Some user) body at has small few wanted =
     let end = at + length (user_octets user.id body) in
     let moved_user = external_of user.id (last_span end body) in
     let part = user_part_begins e user.id body at small few wanted in
     elim (cases_Bool (eqb result 0)) [
-      inl is ↦ inl (is, (
-        taken moved_user end [],
-        user_begins e 4 user.id body at refl small few wanted,
-        refl,
-      ))
+      | inl is ↦ inl (
+        is,
+        (
+          taken moved_user end [],
+          user_begins e 4 user.id body at refl small few wanted,
+          refl,
+        ),
+      )
       | inr other ↦ inr (other, inl (refl, inl (refl, (taken moved_user end [], part, refl))))
     ]
 
@@ -529,15 +569,24 @@ user_few : (id : ℕ) (body : List ℕ) → id < 2 ^ 32 → length body ≤ MOST
 user_few id body small few =
     let first = external_few id body small few in
     let second = written-few 40 (external_octets id body) (omega (arith, first, few)) in
-    omega (arith, first, second, few,
-    written-few 190 (written 40 (external_octets id body)) (omega (arith, first, second, few)))
+    omega (
+      arith,
+      first,
+      second,
+      few,
+      written-few 190 (written 40 (external_octets id body)) (omega (arith, first, second, few)),
+    )
 
 title_few : (title : Option (List ℕ)) → IsTitle title → length (title_octets title) ≤ 44
 title_few None named = omega arith
 title_few (Some title) named =
     let first = written-few 6 title (omega (arith, named.1)) in
-    omega (arith, named.1, first,
-    written-few 166 (written 6 title) (omega (arith, named.1, first)))
+    omega (
+      arith,
+      named.1,
+      first,
+      written-few 166 (written 6 title) (omega (arith, named.1, first)),
+    )
 
 request_few : (r : AssociateRequest) (body : List ℕ) → IsOid r.context → IsTitle r.title
     → r.user.id < 2 ^ 32 → length body ≤ MOST_BODY
@@ -546,7 +595,11 @@ request_few r body named titled_is small few =
     let first = written-few 6 r.context (omega (arith, named.1)) in
     let second = written-few 161 (written 6 r.context) (omega (arith, named.1, first)) in
     omega (
-      arith, named.1, first, second, title_few r.title titled_is,
+      arith,
+      named.1,
+      first,
+      second,
+      title_few r.title titled_is,
       user_few r.user.id body small few,
       length-append (written 161 (written 6 r.context))
           (title_octets r.title ++ user_octets r.user.id body),
@@ -568,7 +621,12 @@ response_few result user body byte small few =
     (omega (arith, size, first)) in
     let last = diagnostic result ++ some_user_octets user body in
     omega (
-      arith, context_len, size, first, second, some_user_few user body small few,
+      arith,
+      context_len,
+      size,
+      first,
+      second,
+      some_user_few user body small few,
       length-append (written 161 (written 6 mms_context)) (result_octets result ++ last),
       length-append (result_octets result) last,
       length-append (diagnostic result) (some_user_octets user body),
@@ -596,18 +654,20 @@ request_begins e r body at held wanted few =
     let ends : from + length contents ≡ at + length (request_octets r body) =
     omega (arith, length-append (length_octets (length contents)) contents) in
     choose-written 96 _ _ at _ contents []
-    (omega (arith, request_few r body held.0 held.1.0 held.1.1 few, few))
-    (record {
-      context = r.context;
-      title = r.title;
-      user = external_of r.user.id (last_span (from + length contents) body);
-    }, request_spelled e r.context r.title r.user.id body from _ _ contents held.0 held.1.0 held.1.1
-    few wanted refl refl refl,
-    ap (λ (n : ℕ). Aarq (record {
-      context = r.context;
-      title = r.title;
-      user = external_of r.user.id (last_span n body);
-    })) (sym ends))
+    (omega (arith, request_few r body held.0 held.1.0 held.1.1 few, few)) (
+      record {
+        context = r.context;
+        title = r.title;
+        user = external_of r.user.id (last_span (from + length contents) body);
+      },
+      request_spelled e r.context r.title r.user.id body from _ _ contents held.0 held.1.0 held.1.1
+          few wanted refl refl refl,
+      ap (λ (n : ℕ). Aarq (record {
+        context = r.context;
+        title = r.title;
+        user = external_of r.user.id (last_span n body);
+      })) (sym ends),
+    )
 
 response_begins : (e : Expected) (r : AssociateResponse) (body : List ℕ) (at : ℕ)
     → HasUser r.result r.user → IsHeld (Aare r) → r.result ≤ largest_result e
@@ -621,11 +681,12 @@ response_begins e r body at has held most wanted few =
     let ends : from + length contents ≡ at + length (response_octets r body) =
     omega (arith, length-append (length_octets (length contents)) contents) in
     choose-other 96 _ _ at _ _ refl (choose-written 97 _ _ at _ contents []
-    (omega (arith, response_few r.result r.user body held.0 held.1 few, few))
-    (response_of r.result (some_moved (last_span (from + length contents) body) r.user),
-    response_spelled e r.result r.user body from held.0 most has held.1 few wanted,
-    ap (λ (n : ℕ). Aare (response_of r.result (some_moved (last_span n body) r.user)))
-    (sym ends)))
+    (omega (arith, response_few r.result r.user body held.0 held.1 few, few)) (
+      response_of r.result (some_moved (last_span (from + length contents) body) r.user),
+      response_spelled e r.result r.user body from held.0 most has held.1 few wanted,
+      ap (λ (n : ℕ). Aare (response_of r.result (some_moved (last_span n body) r.user)))
+          (sym ends),
+    ))
 
 short_few : length {A = ℕ} (128 ∷ 1 ∷ 0 ∷ []) < 2 ^ 32
 short_few = omega arith

@@ -51,12 +51,7 @@ pub fn read_apdu(
 
 /// The APDU that octets are, of which the first has the place `at`.
 #[tactic(auto, unfolding(crate::specs::Apdus::apdu, ber_values::specs::Parts::whole_in))]
-fn apdu_from(
-    alloc: Global,
-    octets: &[u8],
-    at: usize,
-    expected: Expected,
-) -> Result<Apdu, Stop>
+fn apdu_from(alloc: Global, octets: &[u8], at: usize, expected: Expected) -> Result<Apdu, Stop>
     requires { at + length octets.now < 2 ^ 64 }
     ensures { Answers (taken_whole at octets.now) result ((apdu expected).reading at octets.now) }
 {
@@ -66,17 +61,7 @@ fn apdu_from(
 }
 
 /// The APDU at the front of octets, and the place after it.
-#[tactic(
-    auto,
-    unfolding(
-        crate::specs::Apdus::one_apdu,
-        ber_values::specs::Parts::choose_in,
-        ber_values::specs::Parts::part_in,
-        ber_values::specs::Parts::contents_as,
-        ber_values::specs::Grammars::branch_in,
-        ber_values::specs::Leaves::raw
-    )
-)]
+#[tactic(auto, unfolding(crate::specs::Apdus::one_apdu, ber_values::specs::Parts::choose_in, ber_values::specs::Parts::part_in, ber_values::specs::Parts::contents_as, ber_values::specs::Grammars::branch_in, ber_values::specs::Leaves::raw))]
 fn take_apdu(
     alloc: Global,
     octets: &[u8],

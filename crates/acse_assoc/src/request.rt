@@ -15,9 +15,10 @@ ghost use Rattle.acse_assoc.specs.Writing.{title_octets, request_contents, reque
 ghost use Rattle.acse_assoc.specs.Seen.{titled_seen, request_seen};
 
 use crate::expected::Expected;
-use crate::numbers::AARQ;
-use crate::numbers::{CALLING_TITLE, CALLING_TITLE_TAG, CONTEXT_NAME, CONTEXT_NAME_TAG};
-use crate::numbers::{LARGEST_NUMBER, OBJECT_IDENTIFIER, USER_INFORMATION};
+use crate::numbers::{
+    AARQ, CALLING_TITLE, CALLING_TITLE_TAG, CONTEXT_NAME, CONTEXT_NAME_TAG, LARGEST_NUMBER,
+    OBJECT_IDENTIFIER, USER_INFORMATION,
+};
 use crate::rising::{Left, pass_rising, refused};
 use crate::user::{named_user, put_user, user_len};
 use ber_values::{
@@ -82,15 +83,7 @@ fn owned(alloc: Global, seen: &RequestSeen<'_>) -> Result<AssociateRequest, Allo
     })
 }
 
-#[tactic(
-    auto,
-    unfolding(
-        crate::specs::Requests::request,
-        ber_values::specs::Parts::all_in,
-        ber_values::specs::Grammars::then_in,
-        ber_values::specs::Grammars::map_in
-    )
-)]
+#[tactic(auto, unfolding(crate::specs::Requests::request, ber_values::specs::Parts::all_in, ber_values::specs::Grammars::then_in, ber_values::specs::Grammars::map_in))]
 fn seen_in<'a>(part: &Part<'a>, expected: Expected) -> Result<RequestSeen<'a>, BerFault>
     requires { part.now.head.body + length part.now.contents.now < 2 ^ 64 }
     ensures exact { Gives request_seen result
@@ -110,14 +103,7 @@ fn seen_in<'a>(part: &Part<'a>, expected: Expected) -> Result<RequestSeen<'a>, B
 }
 
 /// The name that alone stands in this element.
-#[tactic(
-    auto,
-    unfolding(
-        crate::specs::Requests::one_oid,
-        ber_values::specs::Parts::all_in,
-        ber_values::specs::Parts::part_in
-    )
-)]
+#[tactic(auto, unfolding(crate::specs::Requests::one_oid, ber_values::specs::Parts::all_in, ber_values::specs::Parts::part_in))]
 pub(crate) fn one_oid<'a>(part: &Part<'a>) -> Result<&'a [u8], BerFault>
     requires { part.now.head.body + length part.now.contents.now < 2 ^ 64 }
     ensures exact { Gives (λ o. o.now) result
@@ -131,17 +117,7 @@ pub(crate) fn one_oid<'a>(part: &Part<'a>) -> Result<&'a [u8], BerFault>
 }
 
 /// The name of the application context, and what is left after it.
-#[tactic(
-    auto,
-    unfolding(
-        crate::specs::Requests::context_name,
-        crate::specs::Rising::named_in,
-        ber_values::specs::Grammars::then_in,
-        ber_values::specs::Grammars::branch_in,
-        ber_values::specs::Grammars::refused,
-        ber_values::specs::Parts::part_in
-    )
-)]
+#[tactic(auto, unfolding(crate::specs::Requests::context_name, crate::specs::Rising::named_in, ber_values::specs::Grammars::then_in, ber_values::specs::Grammars::branch_in, ber_values::specs::Grammars::refused, ber_values::specs::Parts::part_in))]
 fn take_context(octets: &[u8], at: usize) -> Result<(&[u8], usize, &[u8]), BerFault>
     requires { at + length octets.now < 2 ^ 64 }
     ensures exact { Gives (λ x. taken x.0.now x.1 x.2.now) result
@@ -172,20 +148,7 @@ fn title_from<'a>(part: &Part<'a>) -> Option<&'a [u8]>
 }
 
 /// The calling title, if there is one, and what is left after it.
-#[tactic(
-    auto,
-    unfolding(
-        crate::specs::Requests::calling_title,
-        crate::specs::Rising::perhaps_in,
-        crate::specs::Rising::attempt,
-        ber_values::specs::Grammars::then_in,
-        ber_values::specs::Grammars::map_in,
-        ber_values::specs::Grammars::branch_in,
-        ber_values::specs::Grammars::gives,
-        ber_values::specs::Parts::maybe_in,
-        ber_values::specs::Parts::part_in
-    )
-)]
+#[tactic(auto, unfolding(crate::specs::Requests::calling_title, crate::specs::Rising::perhaps_in, crate::specs::Rising::attempt, ber_values::specs::Grammars::then_in, ber_values::specs::Grammars::map_in, ber_values::specs::Grammars::branch_in, ber_values::specs::Grammars::gives, ber_values::specs::Parts::maybe_in, ber_values::specs::Parts::part_in))]
 fn take_title(octets: &[u8], at: usize) -> Result<TitleSeen<'_>, BerFault>
     requires { at + length octets.now < 2 ^ 64 }
     ensures exact { Gives (λ t. taken (titled_seen t) t.left.at t.left.octets.now) result
@@ -212,14 +175,7 @@ fn take_title(octets: &[u8], at: usize) -> Result<TitleSeen<'_>, BerFault>
 }
 
 /// The user information, and what is left after the elements that follow it.
-#[tactic(
-    auto,
-    unfolding(
-        crate::specs::Requests::user_last,
-        ber_values::specs::Grammars::then_in,
-        ber_values::specs::Grammars::map_in
-    )
-)]
+#[tactic(auto, unfolding(crate::specs::Requests::user_last, ber_values::specs::Grammars::then_in, ber_values::specs::Grammars::map_in))]
 fn take_user<'a>(
     from: &Left<'a>,
     expected: Expected,

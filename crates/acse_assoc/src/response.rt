@@ -15,9 +15,10 @@ ghost use Rattle.acse_assoc.specs.Responses.{context_passed, largest_result, one
 ghost use Rattle.acse_assoc.specs.Responses.{result_next, user_of_result, some_user_last, response};
 
 use crate::expected::Expected;
-use crate::numbers::AARE;
-use crate::numbers::{CONTEXT_NAME, CONTEXT_NAME_TAG, INTEGER, LARGEST_NUMBER, LARGEST_RESULT};
-use crate::numbers::{RESULT, RESULT_TAG, USER_INFORMATION, USER_INFORMATION_TAG};
+use crate::numbers::{
+    AARE, CONTEXT_NAME, CONTEXT_NAME_TAG, INTEGER, LARGEST_NUMBER, LARGEST_RESULT, RESULT,
+    RESULT_TAG, USER_INFORMATION, USER_INFORMATION_TAG,
+};
 use crate::request::one_oid;
 use crate::rising::{Left, pass_rising, refused};
 use crate::user::{named_user, put_user, user_from, user_len};
@@ -35,15 +36,7 @@ pub struct AssociateResponse {
 }
 
 /// The response that the contents of an element are.
-#[tactic(
-    auto,
-    unfolding(
-        crate::specs::Responses::response,
-        ber_values::specs::Parts::all_in,
-        ber_values::specs::Grammars::then_in,
-        ber_values::specs::Grammars::map_in
-    )
-)]
+#[tactic(auto, unfolding(crate::specs::Responses::response, ber_values::specs::Parts::all_in, ber_values::specs::Grammars::then_in, ber_values::specs::Grammars::map_in))]
 pub(crate) fn response_from(
     part: &Part<'_>,
     expected: Expected,
@@ -59,19 +52,7 @@ pub(crate) fn response_from(
 }
 
 /// What is left after the name of the application context, if it is there.
-#[tactic(
-    auto,
-    unfolding(
-        crate::specs::Responses::context_passed,
-        crate::specs::Rising::perhaps_in,
-        ber_values::specs::Grammars::then_in,
-        ber_values::specs::Grammars::map_in,
-        ber_values::specs::Grammars::branch_in,
-        ber_values::specs::Grammars::gives,
-        ber_values::specs::Parts::maybe_in,
-        ber_values::specs::Parts::part_in
-    )
-)]
+#[tactic(auto, unfolding(crate::specs::Responses::context_passed, crate::specs::Rising::perhaps_in, ber_values::specs::Grammars::then_in, ber_values::specs::Grammars::map_in, ber_values::specs::Grammars::branch_in, ber_values::specs::Grammars::gives, ber_values::specs::Parts::maybe_in, ber_values::specs::Parts::part_in))]
 fn pass_context(octets: &[u8], at: usize) -> Result<Left<'_>, BerFault>
     requires { at + length octets.now < 2 ^ 64 }
     ensures exact { Gives (λ left. taken left.least left.at left.octets.now) result
@@ -106,14 +87,7 @@ impl Expected {
 }
 
 /// The result that alone stands in this element.
-#[tactic(
-    auto,
-    unfolding(
-        crate::specs::Responses::one_result,
-        ber_values::specs::Parts::all_in,
-        ber_values::specs::Parts::part_in
-    )
-)]
+#[tactic(auto, unfolding(crate::specs::Responses::one_result, ber_values::specs::Parts::all_in, ber_values::specs::Parts::part_in))]
 fn result_from(part: &Part<'_>, expected: Expected) -> Result<u8, BerFault>
     requires { part.now.head.body + length part.now.contents.now < 2 ^ 64 }
     ensures { result ≡ (one_result expected).reading part.now.head part.now.contents.now }
@@ -125,21 +99,8 @@ fn result_from(part: &Part<'_>, expected: Expected) -> Result<u8, BerFault>
 }
 
 /// The result, and what is left after it.
-#[tactic(
-    auto,
-    unfolding(
-        crate::specs::Responses::result_next,
-        crate::specs::Rising::named_in,
-        ber_values::specs::Grammars::then_in,
-        ber_values::specs::Grammars::branch_in,
-        ber_values::specs::Grammars::refused,
-        ber_values::specs::Parts::part_in
-    )
-)]
-fn take_result<'a>(
-    from: &Left<'a>,
-    expected: Expected,
-) -> Result<(u8, usize, &'a [u8]), BerFault>
+#[tactic(auto, unfolding(crate::specs::Responses::result_next, crate::specs::Rising::named_in, ber_values::specs::Grammars::then_in, ber_values::specs::Grammars::branch_in, ber_values::specs::Grammars::refused, ber_values::specs::Parts::part_in))]
+fn take_result<'a>(from: &Left<'a>, expected: Expected) -> Result<(u8, usize, &'a [u8]), BerFault>
     requires { from.now.at + length from.now.octets.now < 2 ^ 64 }
     ensures exact { Gives (λ x. taken x.0 x.1 x.2.now) result
         ((result_next expected from.now.least).reading from.now.at from.now.octets.now) }
@@ -156,17 +117,7 @@ fn take_result<'a>(
 }
 
 /// External information, if it is there, and what is left.
-#[tactic(
-    auto,
-    unfolding(
-        crate::specs::Rising::perhaps_in,
-        ber_values::specs::Grammars::map_in,
-        ber_values::specs::Grammars::branch_in,
-        ber_values::specs::Grammars::gives,
-        ber_values::specs::Parts::maybe_in,
-        ber_values::specs::Parts::part_in
-    )
-)]
+#[tactic(auto, unfolding(crate::specs::Rising::perhaps_in, ber_values::specs::Grammars::map_in, ber_values::specs::Grammars::branch_in, ber_values::specs::Grammars::gives, ber_values::specs::Parts::maybe_in, ber_values::specs::Parts::part_in))]
 fn perhaps_user<'a>(
     left: &Left<'a>,
     expected: Expected,
@@ -190,14 +141,7 @@ fn perhaps_user<'a>(
 }
 
 /// The user information that goes with a result, and what is left after it.
-#[tactic(
-    auto,
-    unfolding(
-        crate::specs::Responses::user_of_result,
-        ber_values::specs::Grammars::branch_in,
-        ber_values::specs::Grammars::map_in
-    )
-)]
+#[tactic(auto, unfolding(crate::specs::Responses::user_of_result, ber_values::specs::Grammars::branch_in, ber_values::specs::Grammars::map_in))]
 fn user_of_result<'a>(
     left: &Left<'a>,
     code: u8,
@@ -218,14 +162,7 @@ fn user_of_result<'a>(
 }
 
 /// The user information, and what is left after the elements that follow it.
-#[tactic(
-    auto,
-    unfolding(
-        crate::specs::Responses::some_user_last,
-        ber_values::specs::Grammars::then_in,
-        ber_values::specs::Grammars::map_in
-    )
-)]
+#[tactic(auto, unfolding(crate::specs::Responses::some_user_last, ber_values::specs::Grammars::then_in, ber_values::specs::Grammars::map_in))]
 fn take_user(
     octets: &[u8],
     at: usize,
@@ -288,7 +225,10 @@ fn put_diagnostic(out: &mut Vec<u8>, code: u8) -> Result<(), AllocError>
     ensures ok { OnOk result (out.new.items ≡ out.old.items ++ diagnostic code) }
     ensures err { OnErr result (Extends out.old.items out.new.items) }
 {
-    let reason = if code == 0 { 0 } else { 1 };
+    let reason = match code {
+        0 => 0,
+        _ => 1,
+    };
     out.extend_from_slice(&[0xA3, 5, 0xA1, 3, 2, 1, reason])
 }
 
@@ -304,11 +244,7 @@ fn some_user_len(user: Option<External>, body: usize) -> usize
     }
 }
 
-fn put_some_user(
-    out: &mut Vec<u8>,
-    user: Option<External>,
-    body: &[u8],
-) -> Result<(), AllocError>
+fn put_some_user(out: &mut Vec<u8>, user: Option<External>, body: &[u8]) -> Result<(), AllocError>
     requires { length body.now ≤ MOST_BODY }
     ensures ok { OnOk result (out.new.items ≡ out.old.items ++ some_user_octets user body.now) }
     ensures err { OnErr result (Extends out.old.items out.new.items) }

@@ -40,16 +40,7 @@ fn may_pass(number: u32, least: u32, tag: &Tag) -> bool
 
 /// Passes over the element at the front, if it may be: the least number that may follow it, and
 /// the place after it.
-#[tactic(
-    auto,
-    unfolding(
-        crate::specs::Rising::rising_within,
-        crate::specs::Rising::by_tag,
-        ber_values::specs::Grammars::branch_in,
-        ber_values::specs::Grammars::then_in,
-        ber_values::specs::Grammars::gives
-    )
-)]
+#[tactic(auto, unfolding(crate::specs::Rising::rising_within, crate::specs::Rising::by_tag, ber_values::specs::Grammars::branch_in, ber_values::specs::Grammars::then_in, ber_values::specs::Grammars::gives))]
 fn pass_one(
     octets: &[u8],
     at: usize,
@@ -115,5 +106,8 @@ pub(crate) fn refused(left: &Left<'_>) -> BerFault
         [] => Why::Short,
         _ => Why::Tag,
     };
-    BerFault { place: left.at, why }
+    BerFault {
+        place: left.at,
+        why,
+    }
 }

@@ -15,20 +15,13 @@ use crate::expected::Expected;
 use crate::numbers::{EXTERNAL, USER_INFORMATION, USER_INFORMATION_TAG};
 use crate::rising::{Left, refused};
 use ber_values::{
-    BerFault, External, Part, external_len, part_len, take_end, take_part, write_external, write_head,
+    BerFault, External, Part, external_len, part_len, take_end, take_part, write_external,
+    write_head,
 };
 use std::alloc::AllocError;
 
 /// The user information, where its number may still follow, and what is left after it.
-#[tactic(
-    auto,
-    unfolding(
-        crate::specs::Rising::named_in,
-        ber_values::specs::Grammars::branch_in,
-        ber_values::specs::Grammars::refused,
-        ber_values::specs::Parts::part_in
-    )
-)]
+#[tactic(auto, unfolding(crate::specs::Rising::named_in, ber_values::specs::Grammars::branch_in, ber_values::specs::Grammars::refused, ber_values::specs::Parts::part_in))]
 pub(crate) fn named_user<'a>(
     left: &Left<'a>,
     expected: Expected,
@@ -49,14 +42,7 @@ pub(crate) fn named_user<'a>(
 }
 
 /// The user information in this element.
-#[tactic(
-    auto,
-    unfolding(
-        crate::specs::Users::user_information,
-        ber_values::specs::Parts::all_in,
-        ber_values::specs::Parts::part_in
-    )
-)]
+#[tactic(auto, unfolding(crate::specs::Users::user_information, ber_values::specs::Parts::all_in, ber_values::specs::Parts::part_in))]
 pub(crate) fn user_from(part: &Part<'_>, expected: Expected) -> Result<External, BerFault>
     requires { part.now.head.body + length part.now.contents.now < 2 ^ 64 }
     ensures { result ≡ (user_information expected).reading part.now.head part.now.contents.now }

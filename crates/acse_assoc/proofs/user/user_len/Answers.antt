@@ -11,5 +11,9 @@ returns-clause-value c octets len =
     (omega (arith, c.external_part_len.ensures.few, c.requires))
 
 pub returns-clause-few : goal.returns-clause-few
-returns-clause-few c = omega (arith, c.external_part_len.ensures.few, c.requires,
-    element-few c.external_part_len.result c.part_len.result c.part_len.ensures)
+returns-clause-few c = omega (
+  arith,
+  c.external_part_len.ensures.few,
+  c.requires,
+  element-few c.external_part_len.result c.part_len.result c.part_len.ensures,
+)
