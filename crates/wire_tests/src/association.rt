@@ -1,17 +1,15 @@
 //! The association control service element: APDUs read and written.
-ghost use Rattle.std.specs.Prelude.{◌≤◌, length};
-ghost use Rattle.acse_assoc.specs.declared.apdu.TheConstants.{MOST_BODY};
 ghost use Rattle.acse_assoc.specs.Writing.{IsWritable};
 
 mod rows;
 
 use crate::texts::{octets_of, row_of};
-use acse_assoc::{Apdu, AssociateResponse, Expected, read_apdu, write_apdu};
+use acse_assoc::{Apdu, AssociateResponse, Expected, MOST_BODY, read_apdu, write_apdu};
 use ber_values::{BerFault, External, Span};
 use plain_text::{push_decimal, push_hex};
 use rows::{
-    CONTEXTS, ELEMENTS, EXPECTED, ONE, PASSED, REFUSED, REQUEST, RESPONSE, RESPONSES, TITLES, USERS,
-    WITH_ONES, WITH_ZEROS, WRITTEN,
+    CONTEXTS, ELEMENTS, EXPECTED, ONE, PASSED, REFUSED, REQUEST, RESPONSE, RESPONSES, TITLES,
+    USERS, WITH_ONES, WITH_ZEROS, WRITTEN,
 };
 use std::alloc::{AllocError, Global};
 use std::process::Abort;
@@ -108,12 +106,7 @@ fn expected_apdus(rt: HostRuntime) -> Result<(), Fail> {
 }
 
 /// Each octet of an AARQ changed to another one.
-fn check_changed(
-    rt: &impl Abort,
-    alloc: Global,
-    octet: u8,
-    wanted: &[&str],
-) -> Result<(), Fail> {
+fn check_changed(rt: &impl Abort, alloc: Global, octet: u8, wanted: &[&str]) -> Result<(), Fail> {
     let octets = octets_of(alloc, ONE.as_bytes())?;
     for place in 0..octets.len() {
         let mut changed = Vec::from_slice(alloc, octets.as_slice())?;
@@ -153,7 +146,10 @@ fn cut_off_apdus(rt: HostRuntime) -> Result<(), Fail> {
 fn apdus_of_control_centres(rt: HostRuntime) -> Result<(), Fail> {
     let request = octets_of(rt.alloc(), REQUEST.as_bytes())?;
     let read = read_as(rt.alloc(), request.as_slice(), ANY)?;
-    assert_eq!(rt; read.as_slice(), b"Q 28ca220203 29876701 3 37+40".as_slice());
+    assert_eq!(rt;
+        read.as_slice(),
+        b"Q 28ca220203 29876701 3 37+40".as_slice()
+    );
     let response = octets_of(rt.alloc(), RESPONSE.as_bytes())?;
     let read = read_as(rt.alloc(), response.as_slice(), ACCEPTED)?;
     assert_eq!(rt; read.as_slice(), b"S 0 3 32+40".as_slice());
@@ -161,10 +157,12 @@ fn apdus_of_control_centres(rt: HostRuntime) -> Result<(), Fail> {
 }
 
 /// What is written behind an octet that was there.
-fn written(alloc: Global, apdu: &Apdu, body: &[u8]) -> Result<Vec<u8>, AllocError>
-    requires writable { IsWritable apdu.now }
-    requires bounded { length body.now ≤ MOST_BODY }
+fn written(alloc: Global, apdu: &Apdu, body: &[u8]) -> Result<Vec<u8>, Fail>
+    requires { IsWritable apdu.now }
 {
+    if body.len() > MOST_BODY {
+        return Err("a long body".into());
+    }
     let mut out = Vec::new(alloc);
     out.push(9)?;
     write_apdu(&mut out, apdu, body)?;
@@ -181,7 +179,10 @@ fn written_requests(rt: HostRuntime) -> Result<(), Fail> {
     let body = read.as_slice().split_at(37.min(read.len())).1;
     let out = written(rt.alloc(), &Apdu::Aarq(request), body)?;
     let wanted = octets_of(rt.alloc(), WRITTEN.as_bytes())?;
-    assert_eq!(rt; out.as_slice().split_at(1.min(out.len())).1, wanted.as_slice());
+    assert_eq!(rt;
+        out.as_slice().split_at(1.min(out.len())).1,
+        wanted.as_slice()
+    );
     Ok(())
 }
 
@@ -196,7 +197,10 @@ fn written_answers(rt: HostRuntime) -> Result<(), Fail> {
     });
     let accepted = Apdu::Aare(AssociateResponse { result: 0, user });
     let out = written(rt.alloc(), &accepted, body)?;
-    assert_eq!(rt; out.as_slice().split_at(1.min(out.len())).1, read.as_slice());
+    assert_eq!(rt;
+        out.as_slice().split_at(1.min(out.len())).1,
+        read.as_slice()
+    );
     let refused = Apdu::Aare(AssociateResponse {
         result: 1,
         user: None,
@@ -210,7 +214,10 @@ fn written_answers(rt: HostRuntime) -> Result<(), Fail> {
     for (apdu, text) in &rows {
         let out = written(rt.alloc(), apdu, b"".as_slice())?;
         let wanted = octets_of(rt.alloc(), text.as_bytes())?;
-        assert_eq!(rt; out.as_slice().split_at(1.min(out.len())).1, wanted.as_slice());
+        assert_eq!(rt;
+            out.as_slice().split_at(1.min(out.len())).1,
+            wanted.as_slice()
+        );
     }
     Ok(())
 }

@@ -125,6 +125,7 @@ pub(crate) const EXPECTED: [&str; 6] = [
 
 /// The first AARQ of these, and what it is with each of its octets changed to FF and to 00.
 pub(crate) const ONE: &str = "600ea103060152be072805020103a000";
+
 pub(crate) const WITH_ONES: [&str; 16] = [
     "Tag@0",
     "Length@1",
@@ -143,6 +144,7 @@ pub(crate) const WITH_ONES: [&str; 16] = [
     "Tag@14",
     "Length@15",
 ];
+
 pub(crate) const WITH_ZEROS: [&str; 16] = [
     "Tag@0",
     "Short@2",
@@ -166,6 +168,7 @@ pub(crate) const WITH_ZEROS: [&str; 16] = [
 pub(crate) const REQUEST: &str = "604b a107060528ca220203 a606060429876701 a70302010c \
     be3328310602510102 0103a028 \
     a826800300fde8810105820105830105a416800101810305f100820c03ee1c00000408000079ef18";
+
 pub(crate) const RESPONSE: &str = "6146 a107060528ca220203 a203020100 a305a103020100 \
     be2f282d020103a028 \
     a926800300fde8810105820105830105a416800101810305e100820c036c1c000000000000000110";
