@@ -25,7 +25,7 @@ use Rattle.mms_text.specs.NameIn.{name_of_parts, name_in}
 use Rattle.mms_text.specs.Texts.{scope_text, name_text}
 
 -- visible octets are octets
-octets_from_visible : (octets : List ℕ) → list_all is_visible_octet octets ≡ true
+pub octets_from_visible : (octets : List ℕ) → list_all is_visible_octet octets ≡ true
     → list_all is_octet octets ≡ true
 octets_from_visible [] e = refl
 octets_from_visible (octet ∷ rest) e =
@@ -131,14 +131,14 @@ name_in-found escaped name e =
     (parts ∙ found.0, found.1))
 
 -- a list in front of what passes
-prefix_len-append : (p : ℕ → Bool) (xs : List ℕ) (y : ℕ) (ys : List ℕ) → list_all p xs ≡ true
+pub prefix_len-append : (p : ℕ → Bool) (xs : List ℕ) (y : ℕ) (ys : List ℕ) → list_all p xs ≡ true
     → p y ≡ false → prefix_len p (xs ++ y ∷ ys) ≡ length xs
 prefix_len-append p [] y ys all_pass e = rw e refl
 prefix_len-append p (x ∷ xs) y ys all_pass e =
     let parts = and_parts (p x) (list_all p xs) all_pass in
     rw (parts.0, prefix_len-append p xs y ys parts.1 e) (omega arith)
 
-position-append : (p : ℕ → Bool) (xs : List ℕ) (y : ℕ) (ys : List ℕ)
+pub position-append : (p : ℕ → Bool) (xs : List ℕ) (y : ℕ) (ys : List ℕ)
     → list_all (λ x. not (p x)) xs ≡ true → p y ≡ true
     → position p (xs ++ y ∷ ys) ≡ Some (length xs)
 position-append p xs y ys none e =

@@ -1,10 +1,15 @@
 -- The value that a word is is spelled as that word.
-use Rattle.std.proofs.Common.{◌≡◌, ◌≢◌, inr, ℕ, zero, suc, ◌+◌, ◌-◌, ◌*◌, ◌/◌, ◌%◌, ◌^◌, ◌<◌, ◌≤◌}
+use Rattle.std.proofs.Common.{◌≡◌, ◌≢◌, ℕ, zero, suc, ◌+◌, ◌-◌, ◌*◌, ◌/◌, ◌%◌, ◌^◌, ◌<◌, ◌≤◌}
 use Rattle.std.proofs.Common.{Bool, true, false, cond, ◌&&◌, ◌==◌, nat_le, List, [], ◌∷◌, ◌++◌}
 use Rattle.std.proofs.Common.{length, take, drop, position, get_or, Option, Some, None, option_map}
 use Rattle.std.proofs.Common.{ℤ, pos, negsuc, int_le, refl, sym, ap, ◌∙◌, arith, subst, decimal}
 use Rattle.std.proofs.Common.{append_assoc}
 use Rattle.std.specs.Fmt.{signed_decimal}
+use Rattle.std.specs.List.{list_all}
+use Rattle.std.specs.Int.{w64}
+use Rattle.std.specs.Int.RustNames.{FitsSigned}
+use Rattle.plain_text.specs.Escaped.{is_octet}
+use Rattle.ber_values.specs.Visible.{IsVisible}
 use Rattle.std.specs.Option.{option_and_then}
 use Rattle.std.proofs.lemmas.Bool.{and_parts}
 use Rattle.std.proofs.lemmas.Bool.Decides.{nat_tests}
@@ -23,16 +28,15 @@ use Rattle.ber_values.specs.Octets.{IsOctets}
 use Rattle.ber_values.proofs.BitsLemmas.{list_all-octets}
 use Rattle.mms_data.specs.Datum.{Datum, boolean, integer, unsigned, bits, real, octets, text}
 use Rattle.mms_data.specs.Datum.{structure, array, depth}
-use Rattle.mms_data.specs.Lawful.{KeepsUnsigned}
 use Rattle.mms_text.specs.Texts.{data_text}
 use Rattle.mms_text.specs.WordValue as own
-use Rattle.mms_text.specs.TextRead.{Stands, IsFirstWord, BeginsDatum, BreaksDatum, BreaksWord}
+use Rattle.mms_text.specs.TextRead.{IsLeaf, IsEnd, IsTextual, AreOctets, BeginsDatum}
 
 -- a word is the text of a datum without members
 pub record IsWord (word : List ℕ) (d : Datum) : Type 0 where
   pub spelled : word ≡ data_text d
-  pub shallow : depth d ≡ 1
-  pub numbers : KeepsUnsigned d
+  pub leaf : IsLeaf d
+  pub parts : IsTextual d
 
 passes-found : {A : Type 0} (test : A → Bool) (x y : A) (b : Bool) → test x ≡ b
     → cond b (Some x) None ≡ Some y → (x ≡ y) × (test y ≡ true)
@@ -77,6 +81,38 @@ pair-found high low octet e =
     let quotient : octet / 16 ≡ h = omega arith in
     let rest : octet % 16 ≡ l = omega arith in
     (λ i. hex_digit (quotient i) ∷ hex_digit (rest i) ∷ []) ∙ (λ i. first.1 i ∷ second.1 i ∷ [])))
+
+pair-small : (high low octet : ℕ) → hex_pair_value high low ≡ Some octet → octet < 256
+pair-small high low octet e =
+    option_and_then_some (λ h. option_map (λ l. h * 16 + l) (hex_value low)) (hex_value high)
+    octet e
+    (λ h high_is digits.
+    option_map-found (λ l. h * 16 + l) (hex_value low) octet digits
+    (λ l low_is sum.
+    let first = hex_value-found high h high_is in
+    let second = hex_value-found low l low_is in
+    omega (arith, first.0, second.0, sum)))
+
+octets_joined : (more : List ℕ) (high low : ℕ) (os : List ℕ)
+    → ((rest : List ℕ) → hex_in more ≡ Some rest → AreOctets rest)
+    → option_and_then (λ octet. option_map (λ rest. octet ∷ rest) (hex_in more))
+    (hex_pair_value high low) ≡ Some os → AreOctets os
+octets_joined more high low os induct e =
+    option_and_then_some (λ octet. option_map (λ rest. octet ∷ rest) (hex_in more))
+    (hex_pair_value high low) os e
+    (λ octet pair joined.
+    option_map-found (λ rest. octet ∷ rest) (hex_in more) os joined
+    (λ rest rest_is whole.
+    let small : is_octet octet ≡ true = grind (arith, nat_tests, pair-small high low octet pair) in
+    let others : list_all is_octet rest ≡ true = induct rest rest_is in
+    rw (whole, small, others) refl))
+
+-- pairs of digits are octets
+pub hex-octets : (word os : List ℕ) → hex_in word ≡ Some os → AreOctets os
+hex-octets [] os e = let none : os ≡ [] = cc in rw none refl
+hex-octets (high ∷ []) os e = absurd cc
+hex-octets (high ∷ low ∷ more) os e =
+    octets_joined more high low os (λ rest k. hex-octets more rest k) e
 
 pub hex-found : (word os : List ℕ) → hex_in word ≡ Some os → word ≡ hex_text os
 hex-found [] os e = let none : os ≡ [] = cc in ap hex_text (sym none)
@@ -137,13 +173,18 @@ signed_in-found (first ∷ more) z e long =
     ∙ sym (ap signed_decimal z_is)))
     e
 
+signed-fits : (z : ℤ) → (int_le (negsuc (2 ^ 63 - 1)) z && int_le z (pos (2 ^ 63 - 1))) ≡ true
+    → FitsSigned w64 z
+signed-fits (pos n) e = omega (arith, small_positive n e)
+signed-fits (negsuc n) e = omega (arith, small_negative n e)
+
 signed-found : (word : List ℕ) (z : ℤ)
     → numbers.integer_within (negsuc (2 ^ 63 - 1)) (pos (2 ^ 63 - 1)) word ≡ Some z
-    → word ≡ signed_decimal z
+    → (word ≡ signed_decimal z) × FitsSigned w64 z
 signed-found word z e =
     let p = passes (λ y. int_le (negsuc (2 ^ 63 - 1)) y && int_le y (pos (2 ^ 63 - 1)))
     (numbers.integer_in word) z e in
-    signed_in-found word z p.0 p.1
+    (signed_in-found word z p.0 p.1, signed-fits z p.1)
 
 boolean-found : (b : Bool) (held : List ℕ) (d : Datum) → own.boolean_in b held ≡ Some d
     → (held ≡ []) × (d ≡ boolean b)
@@ -167,6 +208,12 @@ split_at c xs i e =
     ∙ ap (λ y. take i xs ++ y ∷ drop (suc i) xs) (is_same (get_or xs i 0) c there.1)
     ∙ ap (λ j. take i xs ++ c ∷ drop j xs) (next i)
 
+bits_fit : (count : ℕ) (os : List ℕ) → own.is_bits (record { count = count; octets = os }) ≡ true
+    → AreOctets os → IsBits (record { count = count; octets = os })
+bits_fit count os e octets_are =
+    let p = and_parts _ _ e in
+    record { fitting = is_same _ _ p.0; in_octets = octets_are; padded = is_same _ _ p.1 }
+
 bits-found : (held : List ℕ) (d : Datum) → own.bits_in held ≡ Some d
     → IsWord (98 ∷ held) d
 bits-found held d e =
@@ -185,7 +232,10 @@ bits-found held d e =
     (λ b b_is d_is.
     let same = passes-found own.is_bits (record { count = n; octets = os }) b
     (own.is_bits (record { count = n; octets = os })) refl b_is in
-    let number : count ≡ decimal n = (number-found (2 ^ 64 - 1) n count (omega arith) n_is).0 in
+    let numeral = number-found (2 ^ 64 - 1) n count (omega arith) n_is in
+    let number : count ≡ decimal n = numeral.0 in
+    let filled : own.is_bits (record { count = n; octets = os }) ≡ true =
+    ap own.is_bits same.0 ∙ same.1 in
     let hex : digits ≡ hex_text os = hex-found digits os os_is in
     let parts : held ≡ count ++ 46 ∷ digits = split_at 46 held point point_is in
     let d_bits : d ≡ bits (record { count = n; octets = os }) = d_is ∙ ap bits (sym same.0) in
@@ -193,9 +243,12 @@ bits-found held d e =
     (record {
       spelled = ap (λ t. 98 ∷ t) parts ∙ (λ i. 98 ∷ (number i ++ 46 ∷ hex i))
           ∙ ap (λ t. 98 ∷ t) (sym (append_assoc (decimal n) (46 ∷ []) (hex_text os)));
-      shallow = refl;
-      numbers = tt;
+      leaf = tt;
+      parts = (bits_fit n os filled (hex-octets digits os os_is), omega (arith, numeral.1));
     })))))
+
+visible-fits : (os : List ℕ) → own.is_visible os ≡ true → IsVisible os
+visible-fits os e = let p = and_parts _ _ e in (is_most _ _ p.0, p.1)
 
 text-found : (held : List ℕ) (d : Datum) → own.text_in held ≡ Some d → IsWord (118 ∷ held) d
 text-found held d e =
@@ -205,8 +258,8 @@ text-found held d e =
     subst (λ (x : Datum). IsWord (118 ∷ held) x) (sym d_is)
     (record {
       spelled = ap (λ t. 118 ∷ t) (unescaped-found held os p.0);
-      shallow = refl;
-      numbers = tt;
+      leaf = tt;
+      parts = visible-fits os p.1;
     }))
 
 kind-found : (kind : ℕ) (held : List ℕ) (d : Datum) → own.value_in kind held ≡ Some d
@@ -218,24 +271,21 @@ kind-found kind held d =
     chosen P d (kind == 84) _ _
     (λ is e. let p = boolean-found true held d e in kept 84 is
     (subst (λ (x : Datum). IsWord (84 ∷ held) x) (sym p.1)
-    (record { spelled = ap (λ t. 84 ∷ t) p.0; shallow = refl; numbers = tt })))
+    (record { spelled = ap (λ t. 84 ∷ t) p.0; leaf = tt; parts = tt })))
     (λ other. chosen P d (kind == 70) _ _
     (λ is e. let p = boolean-found false held d e in kept 70 is
     (subst (λ (x : Datum). IsWord (70 ∷ held) x) (sym p.1)
-    (record { spelled = ap (λ t. 70 ∷ t) p.0; shallow = refl; numbers = tt })))
+    (record { spelled = ap (λ t. 70 ∷ t) p.0; leaf = tt; parts = tt })))
     (λ other. chosen P d (kind == 105) _ _
     (λ is e. kept 105 is (option_map-found integer _ d e
-    (λ z z_is d_is. subst (λ (x : Datum). IsWord (105 ∷ held) x) (sym d_is)
-    (record {
-      spelled = ap (λ t. 105 ∷ t) (signed-found held z z_is);
-      shallow = refl;
-      numbers = tt;
-    }))))
+    (λ z z_is d_is. let p = signed-found held z z_is in
+    subst (λ (x : Datum). IsWord (105 ∷ held) x) (sym d_is)
+    (record { spelled = ap (λ t. 105 ∷ t) p.0; leaf = tt; parts = p.1 }))))
     (λ other. chosen P d (kind == 117) _ _
     (λ is e. kept 117 is (option_map-found unsigned _ d e
     (λ n n_is d_is. let p = number-found (2 ^ 63 - 1) n held (omega arith) n_is in
     subst (λ (x : Datum). IsWord (117 ∷ held) x) (sym d_is)
-    (record { spelled = ap (λ t. 117 ∷ t) p.0; shallow = refl; numbers = omega (arith, p.1) }))))
+    (record { spelled = ap (λ t. 117 ∷ t) p.0; leaf = tt; parts = omega (arith, p.1) }))))
     (λ other. chosen P d (kind == 98) _ _
     (λ is e. kept 98 is (bits-found held d e))
     (λ other. chosen P d (kind == 102) _ _
@@ -244,8 +294,8 @@ kind-found kind held d =
     subst (λ (x : Datum). IsWord (102 ∷ held) x) (sym d_is)
     (record {
       spelled = ap (λ t. 102 ∷ t) (hex-found held os p.0);
-      shallow = refl;
-      numbers = tt;
+      leaf = tt;
+      parts = (is_same (length os) 4 p.1, hex-octets held os p.0);
     }))))
     (λ other. chosen P d (kind == 111) _ _
     (λ is e. kept 111 is (option_map-found octets _ d e
@@ -253,8 +303,8 @@ kind-found kind held d =
     subst (λ (x : Datum). IsWord (111 ∷ held) x) (sym d_is)
     (record {
       spelled = ap (λ t. 111 ∷ t) (hex-found held os os_is);
-      shallow = refl;
-      numbers = tt;
+      leaf = tt;
+      parts = hex-octets held os os_is;
     }))))
     (λ other. chosen P d (kind == 118) _ _
     (λ is e. kept 118 is (text-found held d e))
@@ -264,49 +314,30 @@ pub word-found : (word : List ℕ) (d : Datum) → own.word_value word ≡ Some 
 word-found [] d e = absurd cc
 word-found (kind ∷ held) d e = kind-found kind held d e
 
--- what a word stands for is no structure and no array
-stands : (d : Datum) → own.word_value (data_text d) ≡ Some d → Stands d
-stands (boolean b) e = e
-stands (integer z) e = e
-stands (unsigned n) e = e
-stands (bits b) e = e
-stands (real o) e = e
-stands (octets o) e = e
-stands (text o) e = e
-stands (structure ds) e = absurd cc
-stands (array ds) e = absurd cc
-
-first_word : (d : Datum) (os : List ℕ) → own.word_of os ≡ data_text d → IsFirstWord d os
-first_word (boolean b) os e = e
-first_word (integer z) os e = e
-first_word (unsigned n) os e = e
-first_word (bits b) os e = e
-first_word (real o) os e = e
-first_word (octets o) os e = e
-first_word (text o) os e = e
-first_word (structure ds) os e = tt
-first_word (array ds) os e = tt
+shallow : (d : Datum) → IsLeaf d → depth d ≡ 1
+shallow (structure ds) leaf = absurd leaf
+shallow (array ds) leaf = absurd leaf
+shallow (boolean b) leaf = refl
+shallow (integer z) leaf = refl
+shallow (unsigned n) leaf = refl
+shallow (bits b) leaf = refl
+shallow (real o) leaf = refl
+shallow (octets o) leaf = refl
+shallow (text o) leaf = refl
 
 -- a text that begins with a word begins with its value
 pub word_begins : (n : ℕ) (os word rest : List ℕ) (d : Datum) → n ≢ 0 → os ≡ word ++ rest
-    → word ≡ own.word_of os → own.word_value word ≡ Some d → BeginsDatum n os d rest
-word_begins n os word rest d some parts first e =
+    → IsEnd rest → own.word_value word ≡ Some d → BeginsDatum n os d rest
+word_begins n os word rest d some parts end e =
     let w = word-found word d e in
     record {
       spelled = parts ∙ ap (λ t. t ++ rest) w.spelled;
-      whole = first_word d os (sym first ∙ w.spelled);
+      whole = λ leaf. end;
       lawful = record {
-        shallow = omega (arith, some, w.shallow);
-        numbers = w.numbers;
-        words = stands d (subst (λ (t : List ℕ). own.word_value t ≡ Some d) w.spelled e);
+        shallow = omega (arith, some, shallow d w.leaf);
+        parts = w.parts;
       };
     }
-
--- a text that begins with no word breaks
-pub word_breaks : (n : ℕ) (os : List ℕ) (left : ℕ) → n ≢ 0 → BreaksWord os left
-    → BreaksDatum n os left
-word_breaks zero os left some b = absurd (some refl)
-word_breaks (suc n) os left some b = inr (inr b)
 
 -- octets that bits fill
 pub bits_sound : (count : ℕ) (os : List ℕ) (b : Bool)

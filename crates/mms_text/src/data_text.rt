@@ -1,13 +1,13 @@
 //! The text of a value, read.
-ghost use Rattle.std.specs.Prelude.{◌≡◌, ◌≤◌, ◌≢◌, ◌⊎◌, ◌∷◌, ◌++◌, [], false, length, Some, Ok};
+ghost use Rattle.std.specs.Prelude.{◌≡◌, ◌≤◌, ◌≢◌, ◌↔◌, ℕ, ◌∷◌, ◌++◌, [], false, length, Ok, Err};
 ghost use Rattle.std.specs.Prelude.{IfOk, IfErr, IfSome, IfNone};
 ghost use Rattle.mms_text.specs.declared.data_text.Halt.TheVariants.{Memory};
-ghost use Rattle.mms_data.specs.Datum.{Datum, data_of, array, structure};
+ghost use Rattle.mms_data.specs.Datum.{Datum, data_of};
 ghost use Rattle.mms_data.specs.Lawful.{IsLawful};
 ghost use Rattle.mms_text.specs.Texts.{data_text, members_text};
-ghost use Rattle.mms_text.specs.WordValue as own;
-ghost use Rattle.mms_text.specs.TextRead.{BeginsDatum, AreWithin, BreaksMembers, BreaksDatum};
-ghost use Rattle.mms_text.specs.TextRead.{BreaksAfter, BreaksAt, Halts, begins_with};
+ghost use Rattle.mms_text.specs.TextRead.{HasText, BreaksAt, BreaksBefore, BeginsDatum, AreWithin};
+ghost use Rattle.mms_text.specs.TextRead.{BreaksMembers, BreaksDatum, Halts, IsClosing};
+ghost use Rattle.mms_text.specs.TextRead.{begins_with};
 
 use crate::word_front::word_front;
 use crate::word_value::{split_word, word_value};
@@ -33,14 +33,15 @@ impl From<AllocError> for Halt {
 /// place from which on no value's text goes on as this text does; its length, where more of a
 /// value is missing.
 pub fn read_data_text(alloc: Global, text: &[u8]) -> Result<Result<MmsData, usize>, AllocError>
-    // What is read is what the text spells.
+    // What is read is what the text spells,
     ensures found { IfOk result (λ read. IfOk read (λ d. text.now ≡ data_text d)) }
-    ensures lawful { IfOk result (λ read. IfOk read (λ d. IsLawful d)) }
-    // A text of one word that stands for a value is read as it.
-    ensures word { (d : Datum) → own.word_value text.now ≡ Some d → own.word_of text.now ≡ text.now
+    ensures lawful { IfOk result (λ read. IfOk read (λ d. IsLawful d × HasText d)) }
+    // and what it spells is read.
+    ensures only { (d : Datum) → HasText d → text.now ≡ data_text d
         → IfOk result (λ read. read ≡ Ok d) }
-    // A place is where the text breaks.
-    ensures fault { IfOk result (λ read. IfErr read (λ place. BreaksAt text.now place)) }
+    // A place is the one where the text breaks.
+    ensures fault { (place : ℕ) → IfOk result
+        (λ read. (read ≡ Err place) ↔ BreaksAt text.now place) }
     ensures within { IfOk result (λ read. IfErr read (λ place. place ≤ length text.now)) }
 {
     match whole(alloc, text) {
@@ -53,8 +54,7 @@ pub fn read_data_text(alloc: Global, text: &[u8]) -> Result<Result<MmsData, usiz
 /// The value that a text is.
 fn whole(alloc: Global, text: &[u8]) -> Result<MmsData, Halt>
     ensures found { IfOk result (λ d. BeginsDatum MOST_DEPTH text.now d []) }
-    ensures fault { IfErr result (λ halt. Halts halt
-        (λ left. BreaksDatum MOST_DEPTH text.now left ⊎ BreaksAfter text.now left)) }
+    ensures fault { IfErr result (λ halt. Halts halt (λ left. BreaksBefore text.now left)) }
     ensures within { IfErr result (λ halt. Halts halt (λ left. left ≤ length text.now)) }
 {
     let (value, rest) = datum_at(alloc, text, MOST_DEPTH)?;
@@ -94,11 +94,12 @@ fn members_at<'a>(
     close: u8,
     levels: u8,
 ) -> Result<(DataList, &'a [u8]), Halt>
+    requires { IsClosing close }
     ensures found { IfOk result
         (λ x. text.now ≡ members_text (data_of x.0) ++ close ∷ x.1.now) }
-    ensures lawful { IfOk result (λ x. AreWithin levels x.0) }
+    ensures lawful { IfOk result (λ x. AreWithin levels (data_of x.0)) }
     ensures fault { IfErr result (λ halt. Halts halt
-        (λ left. BreaksMembers levels (BreaksDatum levels) close text.now left)) }
+        (λ left. BreaksMembers levels close text.now left)) }
     ensures within { IfErr result (λ halt. Halts halt (λ left. left ≤ length text.now)) }
 {
     let mut members = DataList::new(alloc);

@@ -1,7 +1,5 @@
 use ber_values::{BerFault, Why};
-use mms_data::{
-    name_len, outcome_len, read_name_octets, read_outcome, write_name, write_outcome,
-};
+use mms_data::{name_len, outcome_len, read_name_octets, read_outcome, write_name, write_outcome};
 use mms_text::{spell_name, spell_outcome};
 use std::test::Fail;
 

@@ -5,6 +5,7 @@ use Rattle.mms_text.specs.TextRead.{BreaksDatum, BreaksMembers}
 use Rattle.mms_text.proofs.TextLevels.{halts_as, inside_brace, inside_bracket, so_far-none}
 use Rattle.mms_text.proofs.TextLevels.{so_far-breaks, so_far-within, so_far-end, so_far-more}
 use Rattle.mms_text.proofs.TextLevels.{so_far-behind, within_push, begins-within, begins-shorter}
+use Rattle.mms_text.proofs.TextBreaks.{no_levels}
 use Rattle.mms_text.proofs.data_text.+levels.Goals as goal
 
 pub datum_at-returns-in_err-members-clause-fault : goal.datum_at-returns-in_err-members-clause-fault
@@ -13,7 +14,7 @@ datum_at-returns-in_err-members-clause-fault t c =
     let n = c.args.levels in
     let some : 0 < n = omega arith in
     rw (p.1, p.2) (halts_as c.in_err-members.field-0.0
-    (λ left. BreaksMembers (n - 1) (BreaksDatum (n - 1)) 125 c.in-Some.inner.now left)
+    (λ left. BreaksMembers (n - 1) 125 c.in-Some.inner.now left)
     (λ left. BreaksDatum n c.args.text.now left)
     (inside_brace n (n - 1) c.args.text.now c.in-Some.inner.now some refl c.in-Some.ensures.some)
     c.in_err-members.ensures.fault)
@@ -27,7 +28,7 @@ datum_at-returns-in_err-members-2-clause-fault t c =
     let some : 0 < n = omega arith in
     let inner = c.in-Some-behind.inner.now in
     rw (p.1, p.2) (halts_as c.in_err-members-2.field-0.0
-    (λ left. BreaksMembers (n - 1) (BreaksDatum (n - 1)) 93 inner left)
+    (λ left. BreaksMembers (n - 1) 93 inner left)
     (λ left. BreaksDatum n c.args.text.now left)
     (inside_bracket n (n - 1) c.args.text.now inner some refl c.in-Some-behind.ensures.some)
     c.in_err-members-2.ensures.fault)
@@ -45,8 +46,8 @@ members_at-returns-in_err-member-clause-fault t c =
     let rest = c.loop-members.rest.now in
     rw (p.1, p.2) (halts_as c.in_err-member.field-0.0
     (λ left. BreaksDatum n rest left)
-    (λ left. BreaksMembers n (BreaksDatum n) c.args.close c.args.text.now left)
-    (so_far-breaks n c.args.close c.args.text.now c.loop-members.members rest
+    (λ left. BreaksMembers n c.args.close c.args.text.now left)
+    (so_far-breaks n c.args.close c.args.text.now c.loop-members.members rest c.requires
     c.loop-members.invariant)
     c.in_err-member.ensures.fault)
 
@@ -82,7 +83,7 @@ pub members_at-returns-in_default-behind-2-clause-fault
     : goal.members_at-returns-in_default-behind-2-clause-fault
 members_at-returns-in_default-behind-2-clause-fault t c =
     so_far-behind c.args.levels c.args.close c.args.text.now c.loop-members.members
-    c.loop-members.rest.now c.in_ok-member.member c.in_ok-member.after.now
+    c.loop-members.rest.now c.in_ok-member.member c.in_ok-member.after.now c.requires
     c.loop-members.invariant c.in_ok-member.ensures.found c.in_default-behind.ensures.none
     c.in_default-behind-2.ensures.none
 
@@ -107,3 +108,8 @@ members_at-loop-members-preserved t c =
     c.loop-members.rest.now c.in_ok-member.member c.in_ok-member.after.now
     c.in-Some-behind-2.more.now c.loop-members.invariant c.in_ok-member.ensures.found
     c.in-Some-behind-2.ensures.some)
+
+pub datum_at-returns-then-levels-eq0-clause-fault
+    : goal.datum_at-returns-then-levels-eq0-clause-fault
+datum_at-returns-then-levels-eq0-clause-fault t c =
+    no_levels c.args.levels c.args.text.now c.if-levels-eq0.true

@@ -28,6 +28,13 @@ pub spell_members-spell-requires : goal.spell_members-spell-requires
 spell_members-spell-requires t c =
     let items = c.as_slice-member-items.result.now in
     let member = c.member-item.result in
-    let shallow = member_shallow items c.loop-index.index member c.loop-index-test.true in
-    (omega (arith, c.decreases, shallow, ap depth c.member-item.is,
-    ap (λ ds. deepest (data_of ds)) c.as_slice-member-items.ensures), tt)
+    let shallow = member_shallow items c.loop-index.index member c.loop-index-test.true in (
+      omega (
+        arith,
+        c.decreases,
+        shallow,
+        ap depth c.member-item.is,
+        ap (λ ds. deepest (data_of ds)) c.as_slice-member-items.ensures,
+      ),
+      tt,
+    )
