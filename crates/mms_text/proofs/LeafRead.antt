@@ -29,6 +29,7 @@ use Rattle.mms_data.specs.Datum.{structure, array}
 use Rattle.mms_text.specs.Texts.{data_text}
 use Rattle.mms_text.specs.WordValue as own
 use Rattle.mms_text.specs.TextRead.{IsLeaf, IsTextual, AreOctets}
+use Rattle.mms_text.proofs.Marks.{small_octet}
 use Rattle.mms_text.proofs.ReadName.{position-append, octets_from_visible}
 
 hex_pair-read : (octet : ℕ) → octet < 256
@@ -39,9 +40,6 @@ hex_pair-read octet small =
     let whole : octet / 16 * 16 + octet % 16 ≡ octet = omega arith in
     rw (hex_value-hex_digit (octet / 16) quotient, hex_value-hex_digit (octet % 16) rest, whole)
     refl
-
-small_octet : (octet : ℕ) → is_octet octet ≡ true → octet < 256
-small_octet octet e = grind (arith, nat_tests)
 
 -- octets in digits are read back
 pub hex_in-hex_text : (os : List ℕ) → AreOctets os → hex_in (hex_text os) ≡ Some os
@@ -97,9 +95,6 @@ no_point (c ∷ cs) d =
 
 fits-test : (b : Bits) → IsBits b → own.is_bits b ≡ true
 fits-test b fits = grind (arith, nat_tests, fits.fitting, fits.padded)
-
-next : (i : ℕ) → i + 1 ≡ suc i
-next i = omega arith
 
 parts-read : (n : ℕ) (os : List ℕ) → n < 2 ^ 64 → AreOctets os
     → own.is_bits (record { count = n; octets = os }) ≡ true

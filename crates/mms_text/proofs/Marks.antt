@@ -44,7 +44,7 @@ decimal_unmarked n small = digits_unmarked (decimal n) (decimal_is_IsNumeral n s
 hex_unmarked : (value : ℕ) → value < 16 → unmarked (hex_digit value) ≡ true
 hex_unmarked value small = grind (arith, nat_tests)
 
-small_octet : (octet : ℕ) → is_octet octet ≡ true → octet < 256
+pub small_octet : (octet : ℕ) → is_octet octet ≡ true → octet < 256
 small_octet octet e = grind (arith, nat_tests)
 
 pub hex_text_unmarked : (os : List ℕ) → list_all is_octet os ≡ true → AreUnmarked (hex_text os)

@@ -25,7 +25,10 @@ use Rattle.plain_text.specs.Octets.{hex_digit}
 use Rattle.plain_text.specs.Escaped.{is_plain, unescaped, unescaped_high, unescaped_low}
 use Rattle.plain_text.specs.Escaped.{escaped_value, before_octets, escaped_text}
 use Rattle.plain_text.proofs.EscapedText.{option_map-found, unescaped-found, escaped_value-found}
+use Rattle.plain_text.proofs.EscapedText.{before_octets-found}
+use Rattle.plain_text.proofs.Decimal.{digits_value_after-ge}
 use Rattle.ber_values.specs.Visible.{is_visible_octet}
+use Rattle.mms_text.proofs.WordText.{passes, is_same, chosen}
 use Rattle.mms_text.specs.declared.word_front.Next.{Next}
 use Rattle.mms_text.specs.declared.word_front.Next.TheVariants as next
 use Rattle.mms_text.specs.WordFront.{next_of, next_digit, digits_next, number_next, integer_next}
@@ -106,10 +109,6 @@ pub record FitsNumber (limit : ℕ) (ys : List ℕ) : Type 0 where
   pub small : number < 2 ^ 64
   pub spelled : ys ≡ decimal number
 
-value_grows : (n : ℕ) (ds : List ℕ) → n ≤ digits_value_after 10 n ds
-value_grows n [] = omega arith
-value_grows n (d ∷ ds) = omega (arith, value_grows (n * 10 + digit_value d) ds)
-
 digit_of : (c : ℕ) → 48 ≤ c → c ≤ 57 → digit_value c ≡ c - 48
 digit_of c low high = omega (arith, digit_value_digit c (low, high))
 
@@ -174,7 +173,7 @@ digits_step limit number c cs f =
     let k = digit_from_value c f.digits.0 in
     let g = digits_behind limit number c cs f in
     next_digit-is limit number c (omega (arith, k)) (omega (arith, k))
-    (omega (arith, g.few, value_grows (number * 10 + (c - 48)) cs))
+    (omega (arith, g.few, digits_value_after-ge (number * 10 + (c - 48)) cs))
 
 -- a number is zero, or its first digit is none
 positive : (limit n c : ℕ) (cs : List ℕ) → 0 < n → n ≤ limit → n < 2 ^ 64 → c ∷ cs ≡ decimal n
@@ -455,12 +454,6 @@ hex_steps room c cs e h =
 
 -- Text.
 
-before-found : {P : Type 0} (octet : ℕ) (rest : Option (List ℕ)) (octets : List ℕ)
-    → before_octets octet rest ≡ Some octets
-    → ((others : List ℕ) → rest ≡ Some others → octets ≡ octet ∷ others → P) → P
-before-found octet None octets e k = absurd cc
-before-found octet (Some others) octets e k = k others refl cc
-
 text_steps-by : (room c : ℕ) (cs os : List ℕ) (plain percent : Bool) → is_plain c ≡ plain
     → (c == 37) ≡ percent
     → cond plain (before_octets c (unescaped cs)) (cond percent (unescaped_high cs) None)
@@ -469,7 +462,7 @@ text_steps-by : (room c : ℕ) (cs os : List ℕ) (plain percent : Bool) → is_
     → Steps (cond plain (Some (next.Text (room - 1)))
     (cond percent (Some (next.High (room - 1))) None)) cs
 text_steps-by room c cs os true percent p q e visible few some =
-    before-found c (unescaped cs) os e (λ others others_is whole.
+    before_octets-found c (unescaped cs) os e (λ others others_is whole.
     let v : list_all is_visible_octet (c ∷ others) ≡ true =
     ap (list_all is_visible_octet) (sym whole) ∙ visible in
     record {
@@ -527,7 +520,7 @@ low_found : (high low : ℕ) (cs octets : List ℕ) → unescaped_low (low ∷ c
 low_found high low cs octets e =
     option_and_then_some (λ octet. before_octets octet (unescaped cs)) (escaped_value high low)
     octets e
-    (λ octet value k. before-found octet (unescaped cs) octets k
+    (λ octet value k. before_octets-found octet (unescaped cs) octets k
     (λ others rest whole.
     record { octet = octet; others = others; value = value; rest = rest; whole = whole }))
 
@@ -612,15 +605,6 @@ Lives next.Pairs = Unit {0}
 Lives (next.Text room) = Unit {0}
 Lives (next.High room) = Unit {0}
 
--- a choice by a test
-chosen : {A : Type 0} (P : Type 0) (d : A) (b : Bool) (x y : Option A)
-    → (b ≡ true → x ≡ Some d → P) → (b ≡ false → y ≡ Some d → P) → cond b x y ≡ Some d → P
-chosen P d true x y first second e = first refl e
-chosen P d false x y first second e = second refl e
-
-is_same : (a b : ℕ) → (a == b) ≡ true → a ≡ b
-is_same a b e = grind (arith, nat_tests)
-
 is_other : (a b : ℕ) → (a == b) ≡ false → a ≢ b
 is_other a b e k = absurd (grind (arith, nat_tests))
 
@@ -701,7 +685,7 @@ negative_came c cs t e =
           let digit : digit_value c ≡ c - 48 =
           digit_of c (omega (arith, some)) (omega (arith, digit_from_value c g.digits.0)) in
           let positive : 0 < number =
-          omega (arith, some, digit, value_grows (0 * 10 + digit_value c) cs) in (
+          omega (arith, some, digit, digits_value_after-ge (0 * 10 + digit_value c) cs) in (
             number - 1,
             omega (arith, g.few, positive),
             number_from (2 ^ 63) c cs some g ∙ ap decimal (less_one number positive),
@@ -795,14 +779,6 @@ point_came c cs t e =
     }))
     (λ other k. absurd cc) e
 
-passed : {A : Type 0} (test : A → Bool) (o : Option A) (y : A)
-    → option_and_then (if_passes test) o ≡ Some y → (o ≡ Some y) × (test y ≡ true)
-passed test None y k = absurd cc
-passed test (Some x) y k =
-    chosen ((Some x ≡ Some y) × (test y ≡ true)) y (test x) (Some x) None
-    (λ e same. let is : x ≡ y = cc in (same, ap test (sym is) ∙ e))
-    (λ e same. absurd cc) k
-
 padded_came : (b n c : ℕ) (cs : List ℕ) (t : Next) → padded_next b n c ≡ Some t
     → Came (next.Padded b n) c cs t
 padded_came b n c cs t e =
@@ -814,7 +790,7 @@ padded_came b n c cs t e =
     option_map-found (λ v. next.Padded (b - 4) (n - 1))
     (option_and_then (if_passes (λ v. v % 2 ^ (4 - min b 4) == 0)) (hex_value c)) t k
     (λ v v_is t_is.
-    let p = passed (λ v. v % 2 ^ (4 - min b 4) == 0) (hex_value c) v v_is in
+    let p = passes (λ v. v % 2 ^ (4 - min b 4) == 0) (hex_value c) v v_is in
     let one : suc (n - 1) ≡ n = omega (arith, is_other n 0 some) in
     subst (λ (u : Next). Came (next.Padded b n) c cs u) (sym t_is) (record {
       lives = tt;
@@ -900,7 +876,7 @@ low_came room high c cs t e =
     option_map-found (λ o. next.Text room)
     (option_and_then (if_passes is_visible_octet) (escaped_value high c)) t e
     (λ o o_is t_is.
-    let p = passed is_visible_octet (escaped_value high c) o o_is in
+    let p = passes is_visible_octet (escaped_value high c) o o_is in
     subst (λ (u : Next). Came (next.Low room high) c cs u) (sym t_is) (record {
       lives = tt;
       fits = λ f. record {

@@ -20,6 +20,8 @@ use Rattle.mms_text.specs.declared.word_front.Next.{Next}
 use Rattle.mms_text.specs.declared.word_front.Next.TheVariants as next
 use Rattle.mms_text.specs.WordFront.{next_of_kind, and_behind, front_of, word_front}
 use Rattle.mms_text.specs.TextRead.{IsLeaf, IsTextual, AreOctets}
+use Rattle.mms_text.proofs.Marks.{small_octet}
+use Rattle.mms_text.proofs.WordText.{is_same}
 use Rattle.mms_text.proofs.ReadName.{octets_from_visible}
 use Rattle.mms_text.proofs.WordFits.{Passes, passes_far, passes_front, front_passes, completes}
 use Rattle.mms_text.proofs.WordFits.{front_of_within, fits_passes, Fits, Lives, AllHex, Padded}
@@ -95,9 +97,6 @@ digit_read octet small = (
   hex_value-hex_digit (octet / 16) (omega (arith, small)),
   hex_value-hex_digit (octet % 16) (omega (arith, small)),
 )
-
-small_octet : (octet : ℕ) → is_octet octet ≡ true → octet < 256
-small_octet octet e = grind (arith, nat_tests)
 
 all_hex : (os : List ℕ) → AreOctets os → AllHex (hex_text os)
 all_hex [] e = tt
@@ -384,9 +383,6 @@ starts_text = record {
         ∙ sym (append-nil held));
   };
 }
-
-is_same : (a b : ℕ) → (a == b) ≡ true → a ≡ b
-is_same a b e = grind (arith, nat_tests)
 
 -- one kind of several
 kind_of : (kind k : ℕ) (s t : Next) (others : Option Next) → Starts k t

@@ -43,20 +43,20 @@ passes-found : {A : Type 0} (test : A → Bool) (x y : A) (b : Bool) → test x 
 passes-found test x y true e k = let same : x ≡ y = cc in (same, sym (ap test same) ∙ e)
 passes-found test x y false e k = absurd cc
 
-passes : {A : Type 0} (test : A → Bool) (o : Option A) (y : A)
+pub passes : {A : Type 0} (test : A → Bool) (o : Option A) (y : A)
     → option_and_then (if_passes test) o ≡ Some y → (o ≡ Some y) × (test y ≡ true)
 passes test None y k = absurd cc
 passes test (Some x) y k =
     let p = passes-found test x y (test x) refl k in (ap Some p.0, p.1)
 
-is_same : (a b : ℕ) → (a == b) ≡ true → a ≡ b
+pub is_same : (a b : ℕ) → (a == b) ≡ true → a ≡ b
 is_same a b e = grind (arith, nat_tests)
 
 is_most : (a b : ℕ) → nat_le a b ≡ true → a ≤ b
 is_most a b e = grind (arith, nat_tests)
 
 -- a choice by a test
-chosen : {A : Type 0} (P : Type 0) (d : A) (b : Bool) (x y : Option A)
+pub chosen : {A : Type 0} (P : Type 0) (d : A) (b : Bool) (x y : Option A)
     → (b ≡ true → x ≡ Some d → P) → (b ≡ false → y ≡ Some d → P) → cond b x y ≡ Some d → P
 chosen P d true x y first second e = first refl e
 chosen P d false x y first second e = second refl e
