@@ -1,11 +1,11 @@
 -- Capped lengths and their sums.
-use Rattle.std.proofs.Common.{◌≡◌, ℕ, ◌+◌, ◌≤◌, ◌<◌, ◌^◌, min, ltb, List, [], ◌∷◌, ◌++◌, length, ℤ, cond, refl, sym, ap, ◌∙◌, arith}
+use Rattle.std.proofs.Common.{◌≡◌, ℕ, ◌+◌, ◌≤◌, ◌<◌, ◌^◌, min, ltb, cond, List, [], ◌∷◌, length, refl, sym, ap, ◌∙◌, arith}
 use Rattle.std.proofs.lemmas.Bool.{cond_both, ltb-true, ltb-false}
 use Rattle.std.proofs.lemmas.List.{length-append}
 use Rattle.ber_values.specs.declared.lengths.TheConstants.{MOST_LENGTH}
-use Rattle.ber_values.specs.Writing.{length_size, octets_of, length_octets, head_octets, written}
+use Rattle.ber_values.specs.Writing.{length_size, octets_of, length_octets, written}
 use Rattle.ber_values.specs.Lengths.{capped, part_size}
-use Rattle.ber_values.proofs.Written.{length-octets_of, length-integer_octets}
+use Rattle.ber_values.proofs.Written.{length-octets_of}
 
 -- sums of capped lengths are capped sums
 pub capped-sum : (a b : ℕ) → capped (capped a + capped b) ≡ capped (a + b)
@@ -71,3 +71,24 @@ pub capped-element : (n len : ℕ) → n ≡ min MOST_LENGTH len
 capped-element n len e =
     let same : n ≡ capped len = omega (arith, e) in
     ap (λ k. capped (part_size k)) same ∙ capped-part len
+
+length_size-most : (n : ℕ) → length_size n ≤ 4
+length_size-most n =
+    cond_both {A = ℕ} (ltb n (2 ^ 8)) 1 (cond (ltb n (2 ^ 16)) 2 (cond (ltb n (2 ^ 24)) 3 4)) (λ k. k ≤ 4) (λ e. omega arith)
+    (λ e. cond_both {A = ℕ} (ltb n (2 ^ 16)) 2 (cond (ltb n (2 ^ 24)) 3 4) (λ k. k ≤ 4) (λ f. omega arith)
+    (λ f. cond_both {A = ℕ} (ltb n (2 ^ 24)) 3 4 (λ k. k ≤ 4) (λ g. omega arith) (λ g. omega arith)))
+
+-- an element has at most six octets besides its contents
+pub part_size-most : (n : ℕ) → part_size n ≤ n + 6
+part_size-most n = cond_both {A = ℕ} (ltb n 128) 0 1 (λ _. part_size n ≤ n + 6) (λ e. omega (arith, part_size-short n (omega (arith, ltb-true n 128 e)))) (λ e. omega (arith, part_size-long n (omega (arith, ltb-false n 128 e)), length_size-most n))
+
+-- the length of an element, by that of its contents, where it is far from the most
+pub element-sized : (tag n r : ℕ) (contents : List ℕ) → n ≡ length contents → r ≡ capped (part_size n) → n + 6 < MOST_LENGTH → r ≡ length (written tag contents)
+element-sized tag n r contents e is few = omega (arith, ap part_size e, length-written tag contents, part_size-most n, is, few)
+
+pub element-few : (n r : ℕ) → r ≡ capped (part_size n) → r ≤ n + 6
+element-few n r is = omega (arith, part_size-most n, is)
+
+-- an element of fewer than 128 contents octets
+pub short-sized : (tag : ℕ) (contents : List ℕ) → length contents < 128 → length (written tag contents) ≡ 2 + length contents
+short-sized tag contents few = length-written tag contents ∙ part_size-short (length contents) few

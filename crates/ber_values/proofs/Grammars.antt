@@ -1,17 +1,17 @@
 -- The pieces of grammars are exact where those that they are made of are.
-use Rattle.std.proofs.Common.{◌≡◌, ◌≢◌, ℕ, zero, suc, Bool, true, false, cond, eqb, ltb, List, [], ◌∷◌, length, Result, Ok, Err, refl, sym, ap, subst, ◌∙◌, inl, inr, ◌⊎◌, Option, Some, None, ◌≤◌, ◌<◌, ◌-◌, ◌+◌, ◌++◌, ◌^◌, drop, take, append_assoc, arith}
-use Rattle.std.proofs.lemmas.Bool.{ltb-true, ltb-false, lt-ltb, le-ltb, eqb-true, eqb-false, eq-eqb, ne_eqb, false≢true, cond-true, cond-false}
+use Rattle.std.proofs.Common.{◌≡◌, ◌≢◌, ℕ, zero, suc, Bool, true, false, cond, eqb, ltb, List, [], ◌∷◌, length, Result, Ok, Err, refl, sym, ap, subst, ◌∙◌, inl, inr, ◌⊎◌, Some, None, ◌≤◌, ◌<◌, ◌-◌, ◌+◌, ◌++◌, ◌^◌, drop, take, append_assoc, arith}
+use Rattle.std.proofs.lemmas.Bool.{ltb-true, ltb-false, lt-ltb, le-ltb, eqb-true, eqb-false, eq-eqb, ne_eqb, false≢true}
 use Rattle.std.proofs.lemmas.List.{drop-drop, drop_at, take_at, length-append}
 use Rattle.ber_values.specs.declared.fault.BerFault.{BerFault}
 use Rattle.ber_values.specs.declared.fault.Why.TheVariants as whys
 use Rattle.ber_values.specs.declared.head.Head.{Head}
 use Rattle.ber_values.specs.Faults.{fault_at, ◌>>=◌}
-use Rattle.ber_values.specs.Heads.{head_of, IsPastEnd, SpellsHead, HeadFault, head_in}
+use Rattle.ber_values.specs.Heads.{IsPastEnd, SpellsHead, HeadFault, head_in}
 use Rattle.ber_values.specs.Tags.{SpellsLength, LengthFault, length_in}
 use Rattle.ber_values.specs.Reading.{Taken, Begins, IsReading}
 use Rattle.ber_values.specs.Grammars.{Grammar, IsGrammar, taken, gives, then_in, map_in, branch_in, first_is, has_tag, is_ended, why_refused, refused, skip, by_length, pass_within, pass_in, times_in, fold_in}
-use Rattle.ber_values.specs.Parts.{Contents, IsContentsGrammar, Parted, parted, BeginsPart, PartFault, sized_part_in, parted_in, part_in, choose_in, maybe_in, contents_as, contents_where, end_in, all_in}
-use Rattle.ber_values.proofs.Reading.{IsReading-from, IsReading-then, IsReading-as, Ok_is, Err_is, not_both}
+use Rattle.ber_values.specs.Parts.{Contents, IsContentsGrammar, Parted, parted, BeginsPart, PartFault, sized_part_in, parted_in, part_in, choose_in, maybe_in, contents_as, contents_where, end_in, whole_in, all_in}
+use Rattle.ber_values.proofs.Reading.{IsReading-from, IsReading-then, IsReading-as}
 use Rattle.ber_values.proofs.Tags.{length_reads}
 use Rattle.ber_values.proofs.Heads.{head_reads}
 use Rattle.ber_values.specs.Writing.{length_octets, written}
@@ -197,6 +197,12 @@ unfolding all_in
 all_reads {X} g one head octets =
     IsReading-then (Taken X) X (g.begins head.body octets) (g.fault head.body octets) (g.reading head.body octets) (λ t x. (t.rest ≡ []) × (x ≡ t.value)) (λ t f. (t.rest ≢ []) × (f ≡ fault_at t.next whys.Tag)) (λ t. end_in t.next t.rest >>= λ u. Ok t.value)
     (one head.body octets) (λ t s. end_reads t.value t.next t.rest)
+
+pub whole_reads : {X : Type 0} (g : Grammar X) → IsGrammar g → IsGrammar (whole_in g)
+unfolding whole_in
+whole_reads {X} g one at octets =
+    IsReading-then (Taken X) (Taken X) (g.begins at octets) (g.fault at octets) (g.reading at octets) (λ t u. (t.rest ≡ []) × (u ≡ t)) (λ t f. (t.rest ≢ []) × (f ≡ fault_at t.next whys.Tag)) (λ t. end_in t.next t.rest >>= λ u. Ok t)
+    (one at octets) (λ t s. end_reads t t.next t.rest)
 
 -- ---- places of elements
 

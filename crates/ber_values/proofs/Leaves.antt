@@ -1,22 +1,19 @@
 -- Contents that hold no elements are read exactly.
-use Rattle.std.proofs.Common.{◌≡◌, ◌≢◌, ℕ, zero, suc, ◌+◌, ◌^◌, ◌<◌, ◌≤◌, Bool, true, false, ◌&&◌, cond, eqb, List, [], ◌∷◌, length, get_or, ℤ, pos, negsuc, ◌<ℤ◌, Option, Result, Ok, Err, refl, sym, ap, ◌∙◌, inl, inr, ◌⊎◌, arith}
+use Rattle.std.proofs.Common.{◌≡◌, ◌≢◌, ℕ, zero, suc, ◌+◌, ◌^◌, ◌<◌, true, false, ◌&&◌, eqb, List, [], ◌∷◌, length, get_or, ℤ, Option, Ok, Err, refl, sym, ap, ◌∙◌, inl, inr, ◌⊎◌, arith}
 use Rattle.std.specs.Prelude.{int_le, nat_le}
 use Rattle.std.specs.List.{list_all}
 use Rattle.std.proofs.lemmas.Bool.{eqb-true, eqb-false, eq-eqb, ne_eqb, false≢true}
-use Rattle.std.proofs.lemmas.Int.{ints}
 use Rattle.ber_values.specs.declared.fault.BerFault.{BerFault}
 use Rattle.ber_values.specs.declared.fault.Why.TheVariants as whys
 use Rattle.ber_values.specs.declared.fault.Span.{Span}
-use Rattle.ber_values.specs.declared.head.Head.{Head}
 use Rattle.ber_values.specs.Faults.{fault_at}
 use Rattle.ber_values.specs.Visible.{is_visible_octet}
 use Rattle.ber_values.specs.Reading.{IsReading}
-use Rattle.ber_values.specs.Contents.{HasLength, has_length, ContentsFault}
-use Rattle.ber_values.specs.Numbers.{twos_complement, SpellsInteger, unsigned_of}
-use Rattle.ber_values.specs.Parts.{Contents, IsContentsGrammar}
+use Rattle.ber_values.specs.Contents.{HasLength, has_length}
+use Rattle.ber_values.specs.Parts.{IsContentsGrammar}
 use Rattle.ber_values.specs.Leaves.{integer, unsigned, boolean, bits, oid, visible, natural_in, natural, octet_in, octet, raw, span_at, span, SpellsText, text_in, visible_within, integer_within, unsigned_within, selector_of, selector_in, selector, same_from, FirstWrong, fixed}
-use Rattle.ber_values.proofs.Reading.{IsReading-from, IsReading-as}
-use Rattle.ber_values.proofs.Elements.{Tests, contents_read, length_kept, length_test, below_reads, integer_reads, unsigned_reads, boolean_reads, bits_read, oid_reads, visible_reads}
+use Rattle.ber_values.proofs.Reading.{IsReading-as}
+use Rattle.ber_values.proofs.Elements.{contents_read, length_kept, length_test, below_reads, integer_reads, unsigned_reads, boolean_reads, bits_read, oid_reads, visible_reads}
 use Rattle.ber_values.proofs.Grammars.{IsReading-done, IsReading-failed, IsReading-test, where_reads}
 
 pub integer_contents : IsContentsGrammar integer

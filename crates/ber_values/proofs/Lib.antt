@@ -10,7 +10,10 @@ pub mod Windows
 pub mod Shortest
 pub mod Grammars
 pub mod Lists
+pub mod Counted
+pub mod Passed
 pub mod Leaves
 pub mod Capped
 pub mod Settled
+pub mod WrittenParts
 pub mod DottedOctets

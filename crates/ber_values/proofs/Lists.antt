@@ -5,13 +5,13 @@ use Rattle.std.proofs.lemmas.List.{length_push, length-drop}
 use Rattle.ber_values.specs.declared.fault.BerFault.{BerFault}
 use Rattle.ber_values.specs.declared.fault.Why.TheVariants as whys
 use Rattle.ber_values.specs.declared.head.Head.{Head}
-use Rattle.ber_values.specs.Faults.{fault_at, ◌>>=◌}
+use Rattle.ber_values.specs.Faults.{fault_at}
 use Rattle.ber_values.specs.Reading.{Taken, IsReading}
 use Rattle.ber_values.specs.Grammars.{Grammar, IsGrammar, taken}
 use Rattle.ber_values.specs.declared.stop.Stop.{Stop}
 use Rattle.ber_values.specs.declared.stop.Stop.TheVariants as stops
 use Rattle.ber_values.specs.Stops.{Stops}
-use Rattle.ber_values.specs.Parts.{Contents, IsContentsGrammar}
+use Rattle.ber_values.specs.Parts.{IsContentsGrammar}
 use Rattle.ber_values.specs.Lists.{BeginsList, SpellsList, BreaksList, ListFault, more_in, count_in, list_in}
 use Rattle.ber_values.proofs.Reading.{IsReading-then, IsReading-as}
 use Rattle.ber_values.proofs.Grammars.{IsReading-done, IsReading-failed, IsReading-test}

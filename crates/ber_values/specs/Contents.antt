@@ -1,6 +1,6 @@
 -- Contents of an element, and how they can be faulty: a length that their kind doesn't have, or a
 -- rule that they break.
-use Rattle.std.specs.Prelude.{◌≡◌, ℕ, ◌+◌, ◌^◌, ◌<◌, ◌≤◌, Bool, ◌&&◌, List, length, ◌⊎◌, Result, Ok}
+use Rattle.std.specs.Prelude.{◌≡◌, ℕ, ◌≤◌, Bool, ◌&&◌, List, length, ◌⊎◌, Result, Ok}
 use Rattle.std.specs.Prelude.{Err, nat_le, if◌then◌else◌}
 use Rattle.std.specs.List.{slice_range}
 use Rattle.ber_values.specs.declared.fault.BerFault.{BerFault}

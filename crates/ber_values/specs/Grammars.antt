@@ -1,8 +1,9 @@
 -- Grammars of octets: which octets begin with which value, the first fault of those that begin
 -- with none, and the reading from the left that tells both. Productions are composed of these.
-use Rattle.std.specs.Prelude.{◌≡◌, ◌≢◌, ℕ, zero, suc, Bool, true, false, List, [], ◌∷◌, length}
-use Rattle.std.specs.Prelude.{drop, ◌-◌, Option, Some, None, ◌⊎◌, Result, Ok, Err, ◌==◌}
-use Rattle.std.specs.Prelude.{if◌then◌else◌}
+use Rattle.std.specs.Prelude.{◌≡◌, ℕ, zero, suc, Bool, true, false, List, [], ◌∷◌, length}
+use Rattle.std.specs.Prelude.{drop, ◌-◌, ◌⊎◌, Result, Ok, Err, ◌==◌}
+use Rattle.std.specs.Prelude.{if◌then◌else◌, nat_le, ◌&&◌, not}
+use Rattle.std.specs.List.{list_any}
 use Rattle.ber_values.specs.declared.fault.BerFault.{BerFault}
 use Rattle.ber_values.specs.declared.fault.Why.{Why}
 use Rattle.ber_values.specs.declared.fault.Why.TheVariants as whys
@@ -116,6 +117,11 @@ unfoldable pub pass_within : (ℕ → Bool) → ℕ → Grammar (Unit {0})
 pass_within skips zero = gives tt
 pass_within skips (suc n) =
     branch_in (first_is skips) (then_in skip (λ u. pass_within skips n)) (gives tt)
+
+-- a tag from low to high, other than those that are named
+abbrev pub is_other : ℕ → ℕ → List ℕ → ℕ → Bool
+is_other low high named tag =
+    (nat_le low tag && nat_le tag high) && not (list_any (λ name. name == tag) named)
 
 -- all elements, up to the first one whose first octet doesn't pass a test
 unfoldable pub pass_in : (ℕ → Bool) → Grammar (Unit {0})

@@ -19,5 +19,6 @@ pub mod Parts
 pub mod Lists
 pub mod Leaves
 pub mod Stops
+pub mod Readers
 pub mod PartOf
 pub mod Lengths

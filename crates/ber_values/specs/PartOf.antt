@@ -1,6 +1,5 @@
 -- Elements as code holds them.
 use Rattle.std.specs.Prelude.{◌≡◌, ℕ, ◌+◌, ◌^◌, ◌<◌, ◌≤◌, List, length}
-use Rattle.ber_values.specs.declared.head.Head.{Head}
 use Rattle.ber_values.specs.declared.part.Part.{Part}
 use Rattle.ber_values.specs.Parts.{Parted}
 

@@ -1,6 +1,6 @@
 -- Elements with a tag of one octet, and grammars of their contents.
-use Rattle.std.specs.Prelude.{◌≡◌, ◌≢◌, ℕ, zero, suc, ◌+◌, ◌-◌, ◌/◌, ◌%◌, ◌<◌, ◌≤◌, Bool, true}
-use Rattle.std.specs.Prelude.{false, List, [], ◌∷◌, ◌++◌, length, take, drop, Option, Some, None}
+use Rattle.std.specs.Prelude.{◌≡◌, ◌≢◌, ℕ, ◌+◌, ◌%◌, ◌≤◌, Bool, true}
+use Rattle.std.specs.Prelude.{false, List, [], ◌∷◌, length, take, drop, Option, Some, None}
 use Rattle.std.specs.Prelude.{◌⊎◌, Result, Ok, Err, nat_lt, ◌==◌, if◌then◌else◌}
 use Rattle.ber_values.specs.declared.fault.BerFault.{BerFault}
 use Rattle.ber_values.specs.declared.fault.Why.TheVariants as whys
@@ -9,7 +9,7 @@ use Rattle.ber_values.specs.Faults.{fault_at, ◌>>=◌}
 use Rattle.ber_values.specs.Reading.{Taken, Begins, IsReading}
 use Rattle.ber_values.specs.Tags.{tag_with, SpellsLength, LengthFault, length_in}
 use Rattle.ber_values.specs.Heads.{head_of, IsPastEnd}
-use Rattle.ber_values.specs.Grammars.{Grammar, IsGrammar, taken, gives, map_in, branch_in, has_tag}
+use Rattle.ber_values.specs.Grammars.{Grammar, taken, gives, map_in, branch_in, has_tag}
 
 -- all octets of an element's contents
 pub record Contents (X : Type 0) : Type 1 where
@@ -110,6 +110,16 @@ contents_where {X} test c = record {
 abbrev pub end_in : ℕ → List ℕ → Result (Unit {0}) BerFault
 end_in at [] = Ok tt
 end_in at (first ∷ octets) = Err (fault_at at whys.Tag)
+
+-- one thing, which no octet follows
+unfoldable pub whole_in : {X : Type 0} → Grammar X → Grammar X
+whole_in {X} g = record {
+  begins = λ at octets u. (t : Taken X) × g.begins at octets t × ((t.rest ≡ []) × (u ≡ t));
+  fault = λ at octets f. g.fault at octets f
+      ⊎ ((t : Taken X) × g.begins at octets t
+      × ((t.rest ≢ []) × (f ≡ fault_at t.next whys.Tag)));
+  reading = λ at octets. g.reading at octets >>= λ t. end_in t.next t.rest >>= λ u. Ok t;
+}
 
 -- contents that are one thing, which no octet follows
 unfoldable pub all_in : {X : Type 0} → Grammar X → Contents X

@@ -1,6 +1,6 @@
 //! The head of an element: its tag and its length (ISO 8825-1, 8.1.2 and 8.1.3).
-ghost use Rattle.std.specs.Prelude.{◌≡◌, ◌≢◌, ◌%◌, ◌^◌, ◌≤◌, ◌<◌, ◌↔◌, ◌++◌, length, IfOk, OnOk};
-ghost use Rattle.std.specs.Prelude.{OnErr};
+ghost use Rattle.std.specs.Prelude.{◌≡◌, ◌≢◌, ◌+◌, ◌%◌, ◌^◌, ◌≤◌, ◌<◌, ◌↔◌, ◌++◌, length};
+ghost use Rattle.std.specs.Prelude.{IfOk, OnOk, OnErr};
 ghost use Rattle.std.specs.List.{slice_range};
 ghost use Rattle.ber_values.specs.declared.fault.BerFault.{BerFault};
 ghost use Rattle.ber_values.specs.declared.head.Head.{Head};
@@ -31,14 +31,14 @@ pub struct Head {
     pub next: usize,
 }
 
+/// The head at the front of octets, of which the first has the place `at`.
 #[tactic(auto, unfolding(crate::specs::Heads::head_in))]
-fn head_from(bytes: &[u8], at: usize, end: usize) -> Result<Head, BerFault>
-    requires start { at ≤ end }
-    requires stop { end ≤ length bytes.now }
-    ensures exact { result ≡ head_in at (slice_range bytes.now at end) }
-    ensures within { IfOk result (λ head. IsHeadWithin at end head) }
+pub(crate) fn head_at(octets: &[u8], at: usize) -> Result<Head, BerFault>
+    requires { at + length octets.now < 2 ^ 64 }
+    ensures exact { result ≡ head_in at octets.now }
+    ensures within { IfOk result (λ head. IsHeadWithin at (at + length octets.now) head) }
 {
-    let (tag, length_at, rest) = read_tag(&bytes[at..end], at)?;
+    let (tag, length_at, rest) = read_tag(octets, at)?;
     let (length, body, rest) = read_length(rest, length_at)?;
     if rest.len() < length {
         return Err(BerFault {
@@ -73,7 +73,7 @@ pub fn read_head(bytes: &[u8], at: usize, end: usize) -> Result<Head, BerFault>
     ensures within { IfOk result (λ head. IsHeadWithin at end head) }
     ensures exact { result ≡ head_in at (slice_range bytes.now at end) }
 {
-    head_from(bytes, at, end)
+    head_at(&bytes[at..end], at)
 }
 
 /// Appends a tag of one octet and the shortest length.

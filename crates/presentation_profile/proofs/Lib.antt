@@ -1,4 +1,5 @@
 pub mod OffersRead
+pub mod PpdusRead
 mod Worked
+mod WorkedPpdus
 pub mod Transfers
-pub mod Counted

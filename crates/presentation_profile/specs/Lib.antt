@@ -1,1 +1,6 @@
 pub mod Offers
+pub mod Others
+pub mod UserData
+pub mod Results
+pub mod Ppdus
+pub mod Agreements

@@ -1,4 +1,4 @@
--- The presentation contexts that a connect offers (ISO 8823-1, Presentation-context-definition-list).
+-- Presentation contexts that a connect offers (ISO 8823-1, Presentation-context-definition-list).
 use Rattle.std.specs.Prelude.{◌≡◌, ℕ, ◌-◌, Bool, List, [], ◌∷◌, drop, Result, Ok, Err}
 use Rattle.ber_values.specs.declared.fault.BerFault.{BerFault}
 use Rattle.std.specs.List.{list_any}

@@ -1,11 +1,21 @@
 //! The presentation layer (ISO 8823-1).
 #![tactic(auto)]
 
+mod accept;
+mod agreement;
+mod connect;
 mod laws;
 mod offers;
+mod others;
+mod ppdu;
+mod results;
+mod user_data;
 
-pub use laws::offers_have_one_reading;
+pub use agreement::{Agreed, ContextFault};
+pub use laws::{offers_have_one_reading, ppdus_have_one_reading};
 pub use offers::{LARGEST_ID, MOST_OFFERS, Offered, Offers, read_offers, take_offers};
+pub use ppdu::{Ppdu, read_ppdu};
+pub use results::Results;
 
 #[cfg(test)]
 mod tests;

@@ -1,14 +1,10 @@
 //! The presentation contexts that a connect offers (ISO 8823-1, 8.2).
-ghost use Rattle.std.specs.Prelude.{◌≡◌, ◌+◌, ◌-◌, ◌<◌, ◌≤◌, ◌^◌, ◌↔◌, length, drop, List};
-ghost use Rattle.std.specs.Prelude.{IfOk, Err};
+ghost use Rattle.std.specs.Prelude.{◌≡◌, ◌+◌, ◌<◌, ◌≤◌, ◌^◌, length, IfOk};
 ghost use Rattle.std.specs.List.{slice_range};
-ghost use Rattle.ber_values.specs.declared.fault.BerFault.{BerFault};
-ghost use Rattle.ber_values.specs.Faults.{Gives, fault_at};
-ghost use Rattle.ber_values.specs.Reading.{Taken};
-ghost use Rattle.ber_values.specs.Stops.{Answers, AnswersValue};
-ghost use Rattle.ber_values.specs.Grammars.{taken};
+ghost use Rattle.ber_values.specs.Faults.{fault_at};
+ghost use Rattle.ber_values.specs.Stops.{Answers};
 ghost use Rattle.ber_values.specs.Lists.{count_in};
-ghost use Rattle.presentation_profile.specs.declared.offers.Offered.{Offered};
+ghost use Rattle.ber_values.specs.Readers.{IsReadBy, taken_from};
 ghost use Rattle.presentation_profile.specs.Offers.{transfers, offer_contents, offer, offers};
 ghost use Rattle.presentation_profile.specs.Offers.{names_ber, NamesNext};
 
@@ -50,17 +46,8 @@ pub fn read_offers(
 ) -> Result<Result<(Offers, usize), BerFault>, AllocError>
     requires start { at ≤ end }
     requires stop { end ≤ length bytes.now }
-    // Offers are read only where the octets begin with them,
-    ensures found { IfOk result (λ read. IfOk read
-        (λ x. offers.begins at (slice_range bytes.now at end)
-        (taken x.0 x.1 (drop (x.1 - at) (slice_range bytes.now at end))))) }
-    // and wherever they begin with some, these are read.
-    ensures only { (t : Taken (List Offered)) → offers.begins at (slice_range bytes.now at end) t
-        → IfOk result (λ read. AnswersValue
-        (λ x. taken x.0 x.1 (drop (x.1 - at) (slice_range bytes.now at end))) read t) }
-    // A fault is the first one from the left.
-    ensures fault { (fault : BerFault) → IfOk result
-        (λ read. (read ≡ Err fault) ↔ offers.fault at (slice_range bytes.now at end) fault) }
+    ensures exact { IfOk result (λ read. IsReadBy offers
+        (taken_from at (slice_range bytes.now at end)) at (slice_range bytes.now at end) read) }
     ensures within { IfOk result (λ read. IfOk read (λ x. (at < x.1) × (x.1 ≤ end))) }
 {
     offers_from(alloc, &bytes[at..end], at)
@@ -72,8 +59,8 @@ fn offers_from(
     at: usize,
 ) -> Result<Result<(Offers, usize), BerFault>, AllocError>
     requires { at + length octets.now < 2 ^ 64 }
-    ensures exact { IfOk result (λ read. Gives
-        (λ x. taken x.0 x.1 (drop (x.1 - at) octets.now)) read (offers.reading at octets.now)) }
+    ensures exact { IfOk result (λ read. IsReadBy offers (taken_from at octets.now) at octets.now
+        read) }
     ensures within { IfOk result (λ read. IfOk read
         (λ x. (at < x.1) × (x.1 ≤ at + length octets.now))) }
 {
@@ -85,8 +72,7 @@ fn offers_from(
 #[tactic(auto, unfolding(crate::specs::Offers::offers, ber_values::specs::Parts::part_in))]
 pub fn take_offers(alloc: Global, octets: &[u8], at: usize) -> Result<(Offers, usize), Stop>
     requires { at + length octets.now < 2 ^ 64 }
-    ensures exact { Answers (λ x. taken x.0 x.1 (drop (x.1 - at) octets.now)) result
-        (offers.reading at octets.now) }
+    ensures exact { Answers (taken_from at octets.now) result (offers.reading at octets.now) }
     ensures within { IfOk result (λ x. (at < x.1) × (x.1 ≤ at + length octets.now)) }
 {
     let part = take_part(octets, at, OFFERS)?;
@@ -122,8 +108,7 @@ fn offers_in(alloc: Global, part: &Part<'_>) -> Result<Offers, Stop>
 #[tactic(auto, unfolding(crate::specs::Offers::offer, ber_values::specs::Parts::part_in))]
 fn take_offer(alloc: Global, octets: &[u8], at: usize) -> Result<(Offered, usize), Stop>
     requires { at + length octets.now < 2 ^ 64 }
-    ensures exact { Answers (λ x. taken x.0 x.1 (drop (x.1 - at) octets.now)) result
-        (offer.reading at octets.now) }
+    ensures exact { Answers (taken_from at octets.now) result (offer.reading at octets.now) }
     ensures within { IfOk result (λ x. (at < x.1) × (x.1 ≤ at + length octets.now)) }
 {
     let part = take_part(octets, at, SEQUENCE)?;

@@ -4,7 +4,7 @@ use Rattle.ber_values.specs.Lists.{count_in}
 use Rattle.ber_values.proofs.Lists.{some_left, none_left, so_far-ends, so_far-misses, so_far-full}
 use Rattle.presentation_profile.specs.declared.offers.TheConstants.{MOST_OFFERS}
 use Rattle.presentation_profile.specs.Offers.{offer}
-use Rattle.presentation_profile.proofs.Counted.{counted-begin, counted-more, counted-stop}
+use Rattle.ber_values.proofs.Counted.{counted-begin, counted-more, counted-stop}
 use Rattle.presentation_profile.proofs.offers.offers_in.Goals as goal
 
 pub loop-rest-init : goal.loop-rest-init

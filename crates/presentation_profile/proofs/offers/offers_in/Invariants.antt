@@ -3,7 +3,7 @@ use Rattle.std.proofs.Common.{length}
 use Rattle.ber_values.specs.Lists.{count_in}
 use Rattle.presentation_profile.specs.declared.offers.TheConstants.{MOST_OFFERS}
 use Rattle.presentation_profile.specs.Offers.{offer}
-use Rattle.presentation_profile.proofs.Counted.{CountedSoFar}
+use Rattle.ber_values.proofs.Counted.{CountedSoFar}
 use Rattle.presentation_profile.proofs.offers.offers_in.Given as goal
 
 abbrev pub invariant-loop-rest : goal.invariant-loop-rest

@@ -1,0 +1,47 @@
+-- The contexts that both ends agree on.
+use Rattle.std.specs.Prelude.{◌≡◌, ◌≢◌, ℕ, ◌≤◌, Bool, ◌&&◌, List, [], ◌∷◌, length, filter, ◌⊎◌}
+use Rattle.std.specs.Prelude.{Result, Ok, Err, ◌↔◌}
+use Rattle.std.specs.Str.{bytes_eq}
+use Rattle.presentation_profile.specs.declared.offers.Offered.{Offered}
+use Rattle.presentation_profile.specs.declared.agreement.Agreed.{Agreed}
+use Rattle.presentation_profile.specs.declared.agreement.ContextFault.{ContextFault}
+use Rattle.presentation_profile.specs.declared.agreement.ContextFault.TheVariants as faults
+
+-- ACSE: joint-iso-itu-t association-control(2) abstract-syntax(1) apdus(0) version1(1)
+abbrev pub acse_name : List ℕ
+acse_name = 82 ∷ 1 ∷ 0 ∷ 1 ∷ []
+
+-- MMS: iso(1) standard(0) 9506 part(2) mms-abstract-syntax-version1(1)
+abbrev pub mms_name : List ℕ
+mms_name = 40 ∷ 202 ∷ 34 ∷ 2 ∷ 1 ∷ []
+
+-- the offers of this abstract syntax that have BER
+abbrev pub offers_of : List ℕ → List Offered → List Offered
+offers_of name contexts = filter (λ o. o.ber && bytes_eq o.abstract_name name) contexts
+
+-- two offers name the same of the two, or one of each has the same id
+abbrev pub NamesTwice : List Offered → Type 0
+NamesTwice contexts = (2 ≤ length (offers_of acse_name contexts))
+    ⊎ ((2 ≤ length (offers_of mms_name contexts))
+    ⊎ ((acse : Offered) × (mms : Offered) × (offers_of acse_name contexts ≡ acse ∷ [])
+    × (offers_of mms_name contexts ≡ mms ∷ []) × (acse.id ≡ mms.id)))
+
+-- one offer names ACSE, one names MMS, and they have these ids, which differ
+pub record Agrees (contexts : List Offered) (agreed : Agreed) : Type 0 where
+  pub acse : Offered
+  pub mms : Offered
+  pub one_acse : offers_of acse_name contexts ≡ acse ∷ []
+  pub one_mms : offers_of mms_name contexts ≡ mms ∷ []
+  pub ids : agreed ≡ record { acse = acse.id; mms = mms.id }
+  pub differ : acse.id ≢ mms.id
+
+-- what is agreed on, or the first of these that holds: a name stands twice, ACSE has none, MMS none
+pub record IsAgreement (contexts : List Offered) (result : Result Agreed ContextFault) : Type 0
+  where
+    pub agrees : (agreed : Agreed) → (result ≡ Ok agreed) ↔ Agrees contexts agreed
+    pub twice : (result ≡ Err faults.Twice) ↔ NamesTwice contexts
+    pub no_acse : (result ≡ Err faults.NoAcse)
+        ↔ ((NamesTwice contexts → ⊥) × (offers_of acse_name contexts ≡ []))
+    pub no_mms : (result ≡ Err faults.NoMms)
+        ↔ ((NamesTwice contexts → ⊥) × (offers_of acse_name contexts ≢ [])
+        × (offers_of mms_name contexts ≡ []))

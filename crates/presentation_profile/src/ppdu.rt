@@ -1,0 +1,179 @@
+//! PPDUs (ISO 8823-1, 8.2 and 8.4).
+ghost use Rattle.std.specs.Prelude.{◌≡◌, ◌+◌, ◌<◌, ◌≤◌, ◌^◌, length, IfOk};
+ghost use Rattle.std.specs.List.{slice_range};
+ghost use Rattle.ber_values.specs.Faults.{Gives};
+ghost use Rattle.ber_values.specs.Stops.{Answers};
+ghost use Rattle.ber_values.specs.Grammars.{branch_in};
+ghost use Rattle.ber_values.specs.Parts.{all_in};
+ghost use Rattle.ber_values.specs.Readers.{IsReadBy, taken_from, taken_whole};
+ghost use Rattle.presentation_profile.specs.Ppdus.{accept, connect, has_results, parameters, mode};
+ghost use Rattle.presentation_profile.specs.Ppdus.{set_up_contents, ppdu};
+
+use crate::accept::accept_from;
+use crate::connect::connect_from;
+use crate::offers::Offers;
+use crate::others::skip_others;
+use crate::results::Results;
+use crate::user_data::take_user_data;
+use ber_values::{BerFault, Part, Span, Stop, has_tag, octets_from, settle, take_end, take_part};
+use std::alloc::{AllocError, Global};
+use tpkt_cotp::Selector;
+
+/// A presentation protocol data unit. A body is where its octets stand in the octets that were
+/// read, and `id` is the context that it belongs to.
+#[derive(Debug, Drop)]
+pub enum Ppdu {
+    /// CP: asks for a connection, and offers contexts.
+    Connect {
+        called: Option<Selector>,
+        contexts: Offers,
+        id: u32,
+        body: Span,
+    },
+    /// CPA: accepts a connection, with a result for each context that was offered, in order.
+    Accept {
+        called: Option<Selector>,
+        results: Results,
+        id: u32,
+        body: Span,
+    },
+    /// User data over a connection.
+    Carry {
+        id: u32,
+        body: Span,
+    },
+}
+
+/// The tag of user data.
+const USER_DATA: u8 = 0x61;
+
+/// The tag of a connect and of an accept.
+const SET_UP: u8 = 0x31;
+
+/// The tag of the mode.
+const MODE: u8 = 0xA0;
+
+/// The tag of the parameters of the normal mode.
+const PARAMETERS: u8 = 0xA2;
+
+/// The tag of offers.
+const OFFERS: u8 = 0xA4;
+
+/// The tag of results.
+const RESULTS: u8 = 0xA5;
+
+/// The PPDU that the octets from `at` to `end` are.
+pub fn read_ppdu(
+    alloc: Global,
+    tsdu: &[u8],
+    at: usize,
+    end: usize,
+) -> Result<Result<Ppdu, BerFault>, AllocError>
+    requires start { at ≤ end }
+    requires stop { end ≤ length tsdu.now }
+    ensures { IfOk result (λ read. IsReadBy ppdu
+        (taken_whole at (slice_range tsdu.now at end)) at (slice_range tsdu.now at end) read) }
+{
+    ppdu_from(alloc, &tsdu[at..end], at)
+}
+
+fn ppdu_from(alloc: Global, octets: &[u8], at: usize) -> Result<Result<Ppdu, BerFault>, AllocError>
+    requires { at + length octets.now < 2 ^ 64 }
+    ensures { IfOk result (λ read. IsReadBy ppdu (taken_whole at octets.now) at octets.now read) }
+{
+    settle(whole_ppdu(alloc, octets, at))
+}
+
+/// The PPDU that octets are, of which the first has the place `at`.
+#[tactic(auto, unfolding(crate::specs::Ppdus::ppdu, crate::specs::Ppdus::set_up, ber_values::specs::Parts::whole_in, ber_values::specs::Parts::part_in, ber_values::specs::Grammars::branch_in, ber_values::specs::Grammars::map_in))]
+fn whole_ppdu(alloc: Global, octets: &[u8], at: usize) -> Result<Ppdu, Stop>
+    requires { at + length octets.now < 2 ^ 64 }
+    ensures { Answers (taken_whole at octets.now) result (ppdu.reading at octets.now) }
+{
+    if has_tag(octets, USER_DATA) {
+        let (user, next) = take_user_data(octets, at)?;
+        take_end(octets_from(octets, at, next), next)?;
+        return Ok(Ppdu::Carry {
+            id: user.id,
+            body: user.body,
+        });
+    }
+    let part = take_part(octets, at, SET_UP)?;
+    let ppdu = set_up_from(alloc, &part)?;
+    take_end(part.rest, part.head.next)?;
+    Ok(ppdu)
+}
+
+/// The mode and the parameters that the contents of an element are.
+#[tactic(auto, unfolding(crate::specs::Ppdus::set_up_contents, ber_values::specs::Parts::all_in, ber_values::specs::Grammars::branch_in, ber_values::specs::Grammars::then_in, ber_values::specs::Grammars::map_in))]
+fn set_up_from(alloc: Global, part: &Part<'_>) -> Result<Ppdu, Stop>
+    requires { part.now.head.body + length part.now.contents.now < 2 ^ 64 }
+    ensures { Answers (λ p. p) result
+        (set_up_contents.reading part.now.head part.now.contents.now) }
+{
+    let at = part.head.body;
+    if has_tag(part.contents, MODE) {
+        let next = take_mode(part.contents, at)?;
+        let rest = octets_from(part.contents, at, next);
+        let (ppdu, end) = take_parameters(alloc, rest, next)?;
+        take_end(octets_from(rest, next, end), end)?;
+        return Ok(ppdu);
+    }
+    let (ppdu, next) = take_parameters(alloc, part.contents, at)?;
+    let rest = octets_from(part.contents, at, next);
+    let end = take_mode(rest, next)?;
+    take_end(octets_from(rest, next, end), end)?;
+    Ok(ppdu)
+}
+
+/// The place after the normal mode at the front of octets.
+#[tactic(auto, unfolding(crate::specs::Ppdus::mode, ber_values::specs::Parts::part_in, ber_values::specs::Parts::all_in))]
+fn take_mode(octets: &[u8], at: usize) -> Result<usize, BerFault>
+    requires { at + length octets.now < 2 ^ 64 }
+    ensures exact { Gives (λ next. taken_from at octets.now (tt, next)) result
+        (mode.reading at octets.now) }
+    ensures within { IfOk result (λ next. (at < next) × (next ≤ at + length octets.now)) }
+{
+    let part = take_part(octets, at, MODE)?;
+    let value = take_part(part.contents, part.head.body, 0x80)?;
+    value.fixed(&[1])?;
+    take_end(value.rest, value.head.next)?;
+    Ok(part.head.next)
+}
+
+/// The connect or accept in the parameters at the front of octets, and the place after them.
+#[tactic(auto, unfolding(crate::specs::Ppdus::parameters, ber_values::specs::Parts::part_in))]
+fn take_parameters(alloc: Global, octets: &[u8], at: usize) -> Result<(Ppdu, usize), Stop>
+    requires { at + length octets.now < 2 ^ 64 }
+    ensures exact { Answers (taken_from at octets.now) result (parameters.reading at octets.now) }
+    ensures within { IfOk result (λ x. (at < x.1) × (x.1 ≤ at + length octets.now)) }
+{
+    let part = take_part(octets, at, PARAMETERS)?;
+    let ppdu = parameters_from(alloc, &part)?;
+    Ok((ppdu, part.head.next))
+}
+
+/// The connect or accept that the contents of an element are.
+#[tactic(auto, unfolding(ber_values::specs::Parts::all_in, ber_values::specs::Grammars::branch_in))]
+fn parameters_from(alloc: Global, part: &Part<'_>) -> Result<Ppdu, Stop>
+    requires { part.now.head.body + length part.now.contents.now < 2 ^ 64 }
+    ensures { Answers (λ p. p) result ((all_in (branch_in has_results accept connect)).reading
+        part.now.head part.now.contents.now) }
+{
+    if has_results(part.contents) {
+        accept_from(alloc, part)
+    } else {
+        connect_from(alloc, part)
+    }
+}
+
+/// Whether the first of offers and results in the contents of parameters are results.
+fn has_results(octets: &[u8]) -> bool
+    requires { length octets.now < 2 ^ 64 }
+    ensures { result ≡ has_results octets.now }
+{
+    match skip_others(octets, 0, &[OFFERS, RESULTS]) {
+        Ok(next) => has_tag(octets_from(octets, 0, next), RESULTS),
+        Err(_) => false,
+    }
+}
