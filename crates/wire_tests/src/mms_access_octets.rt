@@ -42,9 +42,10 @@ fn names_in_octets(rt: HostRuntime) -> Result<(), Fail> {
 #[test]
 fn outcomes_in_octets(rt: HostRuntime) -> Result<(), Fail> {
     // ISO 9506-2, AccessResult: [0] the number of an error, else data
-    let rows: [(&[u8], &str); 3] = [
+    let rows: [(&[u8], &str); 4] = [
         (&[0x80, 1, 10], "!10"),
         (&[0x80, 1, 0xFF], "!255"),
+        (&[0x80, 1, 0], "!0"),
         (&[0xA2, 3, 0x83, 1, 0xFF], "{T}"),
     ];
     for (octets, text) in rows {
@@ -133,5 +134,47 @@ fn faults_of_names_and_outcomes(rt: HostRuntime) -> Result<(), Fail> {
         why: Why::Length,
     };
     assert_eq!(rt; fault_of(&rt, &long, true)?, Some(want));
+    Ok(())
+}
+
+#[test]
+fn changed_octets_of_a_name(rt: HostRuntime) -> Result<(), Fail> {
+    // FF and 00 are no tag of a name: Tag at it. FF is no length, and an identifier has an octet
+    // at least: Length at it. They aren't visible either: Value where the contents begin.
+    let rows = [
+        (0, 0, Why::Tag),
+        (2, 2, Why::Tag),
+        (3, 3, Why::Length),
+        (4, 4, Why::Value),
+        (5, 4, Why::Value),
+        (6, 6, Why::Tag),
+        (7, 7, Why::Length),
+        (8, 8, Why::Value),
+    ];
+    for (index, place, why) in rows {
+        let want = Some(BerFault { place, why });
+        for octet in [0xFF, 0] {
+            let mut name = [0xA1, 7, 0x1A, 2, 0x43, 0x31, 0x1A, 1, 0x42].to_vec(rt.alloc())?;
+            *name.get_mut(index).ok_or("no octet")? = octet;
+            assert_eq!(rt; fault_of(&rt, &name, true)?, want, "{index} {octet}");
+        }
+    }
+    Ok(())
+}
+
+#[test]
+fn other_lengths_of_a_name_and_an_outcome(rt: HostRuntime) -> Result<(), Fail> {
+    // a container that is empty lacks its domain; FF is no length; an error has one octet
+    let rows: [(&[u8], bool, usize, Why); 6] = [
+        (&[0xA1, 0xFF, 0x1A, 1, 0x42], true, 1, Why::Length),
+        (&[0xA1, 0, 0x1A, 1, 0x42], true, 2, Why::Short),
+        (&[0xFF, 1, 10], false, 0, Why::Tag),
+        (&[0, 1, 10], false, 0, Why::Tag),
+        (&[0x80, 0xFF, 10], false, 1, Why::Length),
+        (&[0x80, 0, 10], false, 1, Why::Length),
+    ];
+    for (octets, name, place, why) in rows {
+        assert_eq!(rt; fault_of(&rt, octets, name)?, Some(BerFault { place, why }));
+    }
     Ok(())
 }

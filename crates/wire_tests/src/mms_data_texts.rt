@@ -35,6 +35,23 @@ fn data_in_texts(rt: HostRuntime) -> Result<(), Fail> {
 }
 
 #[test]
+fn front_parts_of_texts(rt: HostRuntime) -> Result<(), Fail> {
+    // a front part of a value's text is a value's text, or only its end is missing
+    for text in [
+        b"{i-10,[],b12.fff0,[F,{o00,va%20}]}".as_slice(),
+        b"f3f800000",
+    ] {
+        for kept in 0..text.len() {
+            match again(&rt, &text[..kept])? {
+                Ok(read) => assert_eq!(rt; read.as_slice(), &text[..kept], "{kept}"),
+                Err(place) => assert_eq!(rt; place, kept, "{kept}"),
+            }
+        }
+    }
+    Ok(())
+}
+
+#[test]
 fn where_texts_break(rt: HostRuntime) -> Result<(), Fail> {
     let rows = [
         ("", 0),
