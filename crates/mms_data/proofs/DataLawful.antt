@@ -1,25 +1,14 @@
 -- What octets spell is lawful, and what is lawful is spelled by its written form.
-use Rattle.std.proofs.Common.{◌≡◌, ℕ, zero, suc, ◌+◌, ◌*◌, ◌^◌, ◌≤◌, ◌<◌, max, false, List, [], ◌∷◌, ◌++◌, length, pos, refl, sym, ap, subst, ◌∙◌, inl, inr, ◌⊎◌, append_assoc, append-nil, arith}
-use Rattle.std.proofs.lemmas.List.{length-append}
-use Rattle.std.proofs.lemmas.Int.{ints}
-use Rattle.std.specs.Int.{w64}
-use Rattle.std.specs.Int.RustNames.{FitsSigned}
+use Rattle.std.proofs.Common.{ℕ, zero, suc, ◌≤◌, List, [], ◌∷◌, sym, subst, inl, inr, arith}
 use Rattle.ber_values.specs.Reading.{Taken}
-use Rattle.ber_values.specs.Grammars.{Grammar, taken, refused, branch_in, has_tag}
+use Rattle.ber_values.specs.Grammars.{Grammar, refused, branch_in}
 use Rattle.ber_values.specs.Parts.{Contents, choose_in, part_in, contents_as}
-use Rattle.ber_values.specs.Lists.{BeginsList, SpellsList, list_in}
+use Rattle.ber_values.specs.Lists.{BeginsList, list_in}
 use Rattle.ber_values.specs.Leaves as leaves
-use Rattle.ber_values.specs.Elements as elements
-use Rattle.ber_values.specs.Writing.{written, length_octets, boolean_octets, bits_octets, integer_octets}
-use Rattle.ber_values.specs.Lengths.{part_size}
-use Rattle.ber_values.proofs.Written.{contents_spelled, integer_spelled}
-use Rattle.ber_values.proofs.Capped.{length-written, part_size-more}
-use Rattle.ber_values.proofs.Grammars.{choose-written, choose-other}
-use Rattle.mms_data.specs.Datum.{Datum, boolean, integer, unsigned, bits, real, octets, text, structure, array, Data, no_data, datum, data_of, depth, deepest}
+use Rattle.mms_data.specs.Datum.{Datum, boolean, integer, unsigned, bits, real, octets, text, Data, data_of, depth, deepest}
 use Rattle.mms_data.specs.Floating.{floating}
 use Rattle.mms_data.specs.DataOctets.{plain_datum, array_of, structure_of, datum_within, one_datum}
-use Rattle.mms_data.specs.Lawful.{KeepsUnsigned, KeepUnsigned, IsLawful, IsHeld, AreHeld}
-use Rattle.mms_data.specs.DataWritten.{datum_octets, members_octets}
+use Rattle.mms_data.specs.Lawful.{KeepsUnsigned, KeepUnsigned, IsLawful}
 
 -- ---- what octets spell is lawful
 

@@ -1,17 +1,15 @@
 -- Lawful data are spelled by their written form, whatever follows it.
-use Rattle.std.proofs.Common.{◌≡◌, ℕ, zero, suc, ◌+◌, ◌*◌, ◌^◌, ◌≤◌, ◌<◌, max, false, List, [], ◌∷◌, ◌++◌, length, pos, refl, sym, ap, subst, ◌∙◌, append_assoc, append-nil, arith}
+use Rattle.std.proofs.Common.{◌≡◌, ℕ, zero, suc, ◌+◌, ◌^◌, ◌≤◌, ◌<◌, List, [], ◌∷◌, ◌++◌, length, pos, refl, sym, ap, subst, arith}
 use Rattle.std.proofs.lemmas.List.{length-append}
 use Rattle.std.proofs.lemmas.Int.{ints}
 use Rattle.std.specs.Int.{w64}
 use Rattle.std.specs.Int.RustNames.{FitsSigned}
-use Rattle.ber_values.specs.Reading.{Taken}
-use Rattle.ber_values.specs.Grammars.{Grammar, taken}
+use Rattle.ber_values.specs.Grammars.{taken}
 use Rattle.ber_values.specs.Parts.{contents_as}
-use Rattle.ber_values.specs.Lists.{BeginsList, SpellsList, list_in}
+use Rattle.ber_values.specs.Lists.{BeginsList, list_in}
 use Rattle.ber_values.specs.Leaves as leaves
 use Rattle.ber_values.specs.Elements as elements
 use Rattle.ber_values.specs.Writing.{written, bits_octets, boolean_octets, integer_octets}
-use Rattle.ber_values.specs.Lengths.{part_size}
 use Rattle.ber_values.proofs.Written.{contents_spelled, integer_spelled}
 use Rattle.ber_values.proofs.Capped.{length-written, part_size-more}
 use Rattle.ber_values.proofs.Grammars.{choose-written, choose-other}

@@ -1,9 +1,9 @@
 -- Reading floating-point numbers is exact.
-use Rattle.std.proofs.Common.{◌≡◌, ◌≢◌, ℕ, eqb, List, [], ◌∷◌, length, drop, get_or, true, false, sym, ap, arith}
+use Rattle.std.proofs.Common.{◌≡◌, ◌≢◌, ℕ, eqb, List, [], ◌∷◌, length, drop, get_or, true, sym, ap, arith}
 use Rattle.std.proofs.lemmas.Bool.{eqb-true, eqb-false, eq-eqb, ne_eqb}
 use Rattle.ber_values.specs.Contents.{HasLength, has_length}
 use Rattle.ber_values.specs.Parts.{IsContentsGrammar}
-use Rattle.ber_values.proofs.Elements.{Tests, contents_read, length_kept, length_test}
+use Rattle.ber_values.proofs.Elements.{contents_read, length_kept, length_test}
 use Rattle.mms_data.specs.Floating.{SpellsReal, real_in, floating}
 
 real_spelled : (octets : List ℕ) → has_length 5 5 octets ≡ true → eqb (get_or octets 0 0) 8 ≡ true → SpellsReal (drop 1 octets) octets

@@ -1,5 +1,3 @@
-pub mod Spelled
-pub mod ReadName
 pub mod FloatingRead
 pub mod DataRead
 pub mod DataLawful
@@ -8,7 +6,3 @@ pub mod DataLengths
 pub mod NameRead
 pub mod NameWritten
 pub mod OutcomeRead
-pub mod WordText
-pub mod TextLevels
-pub mod WorkedTexts
-pub mod WordOnly

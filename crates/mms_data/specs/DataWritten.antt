@@ -1,5 +1,5 @@
 -- The written form of data: the shortest lengths and integers.
-use Rattle.std.specs.Prelude.{◌≡◌, ℕ, List, [], ◌∷◌, ◌++◌, length, pos}
+use Rattle.std.specs.Prelude.{ℕ, List, [], ◌∷◌, ◌++◌, length, pos}
 use Rattle.ber_values.specs.Writing.{written, boolean_octets, bits_octets, integer_octets}
 use Rattle.ber_values.specs.Lengths.{capped}
 use Rattle.mms_data.specs.Datum.{Datum, boolean, integer, unsigned, bits, real, octets, text}

@@ -1,5 +1,5 @@
 -- Floating-point numbers as contents octets (ISO 9506-2, FloatingPoint).
-use Rattle.std.specs.Prelude.{◌≡◌, ◌≢◌, ℕ, Bool, List, [], ◌∷◌, length, drop, slice_index, Result}
+use Rattle.std.specs.Prelude.{◌≡◌, ◌≢◌, ℕ, List, ◌∷◌, length, drop, slice_index, Result}
 use Rattle.std.specs.Prelude.{◌==◌}
 use Rattle.ber_values.specs.declared.fault.BerFault.{BerFault}
 use Rattle.ber_values.specs.declared.head.Head.{Head}

@@ -77,7 +77,8 @@ unescaped-escaped_text (octet ∷ rest) h =
     unescaped-escaped_octet octet (escaped_text rest) _ refl (grind (arith, nat_tests, parts.0))
     ∙ ap (before_octets octet) (unescaped-escaped_text rest parts.1)
 
-before_octets-found : {P : Type 0} (octet : ℕ) (rest : Option (List ℕ)) (octets : List ℕ)
+-- octets before which one was put
+pub before_octets-found : {P : Type 0} (octet : ℕ) (rest : Option (List ℕ)) (octets : List ℕ)
     → before_octets octet rest ≡ Some octets
     → ((others : List ℕ) → rest ≡ Some others → octets ≡ octet ∷ others → P) → P
 before_octets-found octet None octets e k = absurd cc

@@ -1,7 +1,7 @@
 //! Escaped text, read and written.
 ghost use Rattle.std.specs.Prelude.{◌≡◌, ◌<◌, ◌++◌, length, IfOk, OnOk, OnErr};
 ghost use Rattle.std.specs.Option.{option_map};
-ghost use Rattle.plain_text.specs.Escaped.{escaped_text, escaped_value, unescaped, ReadsOctet};
+ghost use Rattle.plain_text.specs.Escaped.{escaped_text, unescaped, ReadsOctet};
 ghost use Rattle.plain_text.specs.Escaped as own;
 
 use crate::hexadecimal::{hex_digit, read_hex_octet};
@@ -31,20 +31,20 @@ fn read_octet(text: &[u8]) -> Option<(u8, usize)>
 {
     match text {
         [plain, ..] if is_plain(*plain) => Some((*plain, 1)),
-        [b'%', high, low, ..] => Some((read_digits(*high, *low)?, 3)),
+        [b'%', high, low, ..] => Some((escaped_value(*high, *low)?, 3)),
         _ => None,
     }
 }
 
-/// The octet of two digits, unless it stands for itself.
-fn read_digits(high: u8, low: u8) -> Option<u8>
-    ensures { result ≡ escaped_value high low }
+/// The octet of two lower-case hexadecimal digits, unless it stands for itself in escaped text.
+pub fn escaped_value(high: u8, low: u8) -> Option<u8>
+    ensures { result ≡ own.escaped_value high low }
 {
     read_hex_octet(&[high, low]).filter(|octet| !is_plain(*octet))
 }
 
-/// Whether an octet stands for itself in escaped text.
-fn is_plain(octet: u8) -> bool
+/// Whether an octet stands for itself in escaped text: letters, digits, `_`, `$`, `-` and `.` do.
+pub fn is_plain(octet: u8) -> bool
     ensures { result ≡ own.is_plain octet }
 {
     octet.is_ascii_alphanumeric() || matches!(octet, b'_' | b'$' | b'-' | b'.')

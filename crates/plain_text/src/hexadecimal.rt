@@ -9,7 +9,7 @@ ghost use Rattle.plain_text.specs.Octets as octets;
 use std::alloc::{AllocError, Global};
 
 /// The value of a lower-case hexadecimal digit.
-fn hex_value(digit: u8) -> Option<u8>
+pub fn hex_value(digit: u8) -> Option<u8>
     ensures value { result ≡ numbers.hex_value digit }
     ensures small { IfSome result (λ value. value < 16) }
 {

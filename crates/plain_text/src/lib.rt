@@ -10,8 +10,8 @@ mod numbers;
 mod words;
 
 pub use counted_words::{four_words, three_words, two_words};
-pub use escaped::{push_escaped, read_escaped};
-pub use hexadecimal::{push_hex, read_hex, read_hex_four, read_hex_octet};
+pub use escaped::{escaped_value, is_plain, push_escaped, read_escaped};
+pub use hexadecimal::{hex_value, push_hex, read_hex, read_hex_four, read_hex_octet};
 pub use laws::{escaped_is_read_back, number_is_its_digits};
 pub use lines::{is_skipped, next_line};
 pub use numbers::{push_decimal, push_signed_decimal, read_integer, read_number};

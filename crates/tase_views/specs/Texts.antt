@@ -3,8 +3,8 @@ use Rattle.std.specs.Prelude.{ℕ, if◌then◌else◌, List, [], ◌∷◌, ◌
 use Rattle.std.specs.Prelude.{codes, bytes_eq}
 use Rattle.mms_data.specs.declared.outcome.Outcome.{Outcome}
 use Rattle.mms_data.specs.ObjectName.{ObjectName}
-use Rattle.mms_data.specs.NameIn.{name_in}
-use Rattle.mms_data.specs.Texts.{outcome_text}
+use Rattle.mms_text.specs.NameIn.{name_in}
+use Rattle.mms_text.specs.Texts.{outcome_text}
 use Rattle.tase_views.specs.declared.call.CallKind.{CallKind}
 use Rattle.tase_views.specs.declared.call.CallKind.TheVariants.{Read}
 use Rattle.tase_views.specs.declared.reply.ReplyKind.{ReplyKind}

@@ -5,7 +5,8 @@ ghost use Rattle.tase_views.specs.Texts.{call_in, names_in, result_text, reply_t
 
 use crate::call::{Call, CallKind};
 use crate::reply::{Reply, ReplyKind};
-use mms_data::{Names, Outcome, read_name, spell_outcome};
+use mms_data::{Names, Outcome};
+use mms_text::{read_name, spell_outcome};
 use plain_text::next_word;
 use std::alloc::{AllocError, Global};
 

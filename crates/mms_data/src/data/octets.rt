@@ -4,14 +4,12 @@ ghost use Rattle.std.specs.Prelude.{drop};
 ghost use Rattle.std.specs.Prelude.{IfOk, OnOk, OnErr, Err};
 ghost use Rattle.std.specs.List.{slice_range};
 ghost use Rattle.plain_text.specs.Extends.{Extends};
-ghost use Rattle.ber_values.specs.declared.fault.BerFault.{BerFault};
-ghost use Rattle.ber_values.specs.Faults.{Gives};
 ghost use Rattle.ber_values.specs.Lengths.{capped, part_size};
-ghost use Rattle.ber_values.specs.Reading.{Taken};
 ghost use Rattle.ber_values.specs.Writing.{written};
 ghost use Rattle.ber_values.specs.Faults.{fault_at};
-ghost use Rattle.ber_values.specs.Stops.{Answers, AnswersValue};
-ghost use Rattle.ber_values.specs.Grammars.{taken, why_refused};
+ghost use Rattle.ber_values.specs.Stops.{Answers};
+ghost use Rattle.ber_values.specs.Grammars.{why_refused};
+ghost use Rattle.ber_values.specs.Readers.{IsReadBy, taken_from};
 ghost use Rattle.ber_values.specs.Parts.{part_in, contents_as};
 ghost use Rattle.ber_values.specs.Lists.{list_in};
 ghost use Rattle.ber_values.specs.Leaves as leaves;
@@ -42,22 +40,10 @@ pub fn read_data(
 ) -> Result<Result<(MmsData, usize), BerFault>, AllocError>
     requires start { at ≤ end }
     requires stop { end ≤ length bytes.now }
-    // A value is read only where the octets begin with it,
-    ensures found { IfOk result (λ read. IfOk read
-        (λ x. one_datum.begins at (slice_range bytes.now at end)
-        (taken x.0 x.1 (drop (x.1 - at) (slice_range bytes.now at end))))) }
-    // and wherever they begin with one, it is read.
-    ensures only { (t : Taken Datum) → one_datum.begins at (slice_range bytes.now at end) t
-        → IfOk result (λ read. AnswersValue
-        (λ x. taken x.0 x.1 (drop (x.1 - at) (slice_range bytes.now at end))) read t) }
-    // A fault is the first one from the left.
-    ensures fault { (fault : BerFault) → IfOk result
-        (λ read. (read ≡ Err fault) ↔ one_datum.fault at (slice_range bytes.now at end) fault) }
+    ensures exact { IfOk result (λ read. IsReadBy one_datum
+        (taken_from at (slice_range bytes.now at end)) at (slice_range bytes.now at end) read) }
     ensures lawful { IfOk result (λ read. IfOk read (λ x. IsLawful x.0)) }
     ensures within { IfOk result (λ read. IfOk read (λ x. (at < x.1) × (x.1 ≤ end))) }
-    ensures exact { IfOk result (λ read. Gives
-        (λ x. taken x.0 x.1 (drop (x.1 - at) (slice_range bytes.now at end))) read
-        (one_datum.reading at (slice_range bytes.now at end))) }
 {
     read_from(alloc, &bytes[at..end], at)
 }
@@ -68,8 +54,9 @@ fn read_from(
     at: usize,
 ) -> Result<Result<(MmsData, usize), BerFault>, AllocError>
     requires { at + length octets.now < 2 ^ 64 }
-    ensures exact { IfOk result (λ read. Gives
-        (λ x. taken x.0 x.1 (drop (x.1 - at) octets.now)) read (one_datum.reading at octets.now)) }
+    ensures exact { IfOk result (λ read. IsReadBy one_datum (taken_from at octets.now) at octets.now
+        read) }
+    ensures lawful { IfOk result (λ read. IfOk read (λ x. IsLawful x.0)) }
     ensures within { IfOk result (λ read. IfOk read
         (λ x. (at + 2 ≤ x.1) × (x.1 ≤ at + length octets.now))) }
 {
@@ -79,8 +66,7 @@ fn read_from(
 #[tactic(auto, unfolding(crate::specs::DataOctets::one_datum))]
 pub(crate) fn data_from(alloc: Global, octets: &[u8], at: usize) -> Result<(MmsData, usize), Stop>
     requires { at + length octets.now < 2 ^ 64 }
-    ensures exact { Answers (λ x. taken x.0 x.1 (drop (x.1 - at) octets.now)) result
-        (one_datum.reading at octets.now) }
+    ensures exact { Answers (taken_from at octets.now) result (one_datum.reading at octets.now) }
     ensures within { IfOk result (λ x. (at + 2 ≤ x.1) × (x.1 ≤ at + length octets.now)) }
 {
     datum_at(alloc, octets, at, MOST_DEPTH)
@@ -91,7 +77,7 @@ pub(crate) fn data_from(alloc: Global, octets: &[u8], at: usize) -> Result<(MmsD
 #[tactic(auto, unfolding(crate::specs::DataOctets::datum_within, ber_values::specs::Parts::choose_in, ber_values::specs::Grammars::branch_in, ber_values::specs::Grammars::refused))]
 fn datum_at(alloc: Global, octets: &[u8], at: usize, levels: u8) -> Result<(MmsData, usize), Stop>
     requires { at + length octets.now < 2 ^ 64 }
-    ensures exact { Answers (λ x. taken x.0 x.1 (drop (x.1 - at) octets.now)) result
+    ensures exact { Answers (taken_from at octets.now) result
         ((datum_within levels).reading at octets.now) }
     ensures within { IfOk result (λ x. (at + 2 ≤ x.1) × (x.1 ≤ at + length octets.now)) }
 {
@@ -112,7 +98,7 @@ fn datum_at(alloc: Global, octets: &[u8], at: usize, levels: u8) -> Result<(MmsD
 #[tactic(auto, unfolding(ber_values::specs::Parts::part_in, ber_values::specs::Parts::contents_as))]
 fn array_at(alloc: Global, octets: &[u8], at: usize, levels: u8) -> Result<(MmsData, usize), Stop>
     requires { at + length octets.now < 2 ^ 64 }
-    ensures exact { Answers (λ x. taken x.0 x.1 (drop (x.1 - at) octets.now)) result
+    ensures exact { Answers (taken_from at octets.now) result
         ((part_in 161 (contents_as array_of (list_in 0 (datum_within levels)))).reading at
         octets.now) }
     ensures within { IfOk result (λ x. (at + 2 ≤ x.1) × (x.1 ≤ at + length octets.now)) }
@@ -132,7 +118,7 @@ fn structure_at(
     levels: u8,
 ) -> Result<(MmsData, usize), Stop>
     requires { at + length octets.now < 2 ^ 64 }
-    ensures exact { Answers (λ x. taken x.0 x.1 (drop (x.1 - at) octets.now)) result
+    ensures exact { Answers (taken_from at octets.now) result
         ((part_in 162 (contents_as structure_of (list_in 0 (datum_within levels)))).reading at
         octets.now) }
     ensures within { IfOk result (λ x. (at + 2 ≤ x.1) × (x.1 ≤ at + length octets.now)) }
@@ -165,8 +151,7 @@ fn members_of(alloc: Global, part: &Part<'_>, levels: u8) -> Result<DataList, St
 #[tactic(auto, unfolding(crate::specs::DataOctets::plain_datum, ber_values::specs::Leaves::raw, ber_values::specs::Parts::choose_in, ber_values::specs::Parts::part_in, ber_values::specs::Parts::contents_as, ber_values::specs::Grammars::branch_in, ber_values::specs::Grammars::refused))]
 fn plain_at(alloc: Global, octets: &[u8], at: usize) -> Result<(MmsData, usize), Stop>
     requires { at + length octets.now < 2 ^ 64 }
-    ensures exact { Answers (λ x. taken x.0 x.1 (drop (x.1 - at) octets.now)) result
-        (plain_datum.reading at octets.now) }
+    ensures exact { Answers (taken_from at octets.now) result (plain_datum.reading at octets.now) }
     ensures within { IfOk result (λ x. (at + 2 ≤ x.1) × (x.1 ≤ at + length octets.now)) }
 {
     if has_tag(octets, 0x83) {

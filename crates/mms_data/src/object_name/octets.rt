@@ -3,12 +3,9 @@ ghost use Rattle.std.specs.Prelude.{◌≡◌, ◌+◌, ◌-◌, ◌<◌, ◌≤
 ghost use Rattle.std.specs.Prelude.{IfOk, OnOk, OnErr, Err};
 ghost use Rattle.std.specs.List.{slice_range};
 ghost use Rattle.plain_text.specs.Extends.{Extends};
-ghost use Rattle.ber_values.specs.declared.fault.BerFault.{BerFault};
-ghost use Rattle.ber_values.specs.Faults.{Gives};
-ghost use Rattle.ber_values.specs.Reading.{Taken};
 ghost use Rattle.ber_values.specs.Writing.{written};
-ghost use Rattle.ber_values.specs.Stops.{Answers, AnswersValue};
-ghost use Rattle.ber_values.specs.Grammars.{taken};
+ghost use Rattle.ber_values.specs.Stops.{Answers};
+ghost use Rattle.ber_values.specs.Readers.{IsReadBy, taken_from};
 ghost use Rattle.mms_data.specs.ObjectName.{ObjectName, IsName, IsIdentifier};
 ghost use Rattle.mms_data.specs.NameOctets.{identifier, of_domain, domain_name, one_name};
 ghost use Rattle.mms_data.specs.NameOctets.{name_octets, name_len};
@@ -29,22 +26,10 @@ pub fn read_name_octets(
 ) -> Result<Result<(Name, usize), BerFault>, AllocError>
     requires start { at ≤ end }
     requires stop { end ≤ length bytes.now }
-    // A name is read only where the octets begin with it,
-    ensures found { IfOk result (λ read. IfOk read
-        (λ x. one_name.begins at (slice_range bytes.now at end)
-        (taken x.0 x.1 (drop (x.1 - at) (slice_range bytes.now at end))))) }
-    // and wherever they begin with one, it is read.
-    ensures only { (t : Taken ObjectName) → one_name.begins at (slice_range bytes.now at end) t
-        → IfOk result (λ read. AnswersValue
-        (λ x. taken x.0 x.1 (drop (x.1 - at) (slice_range bytes.now at end))) read t) }
-    // A fault is the first one from the left.
-    ensures fault { (fault : BerFault) → IfOk result
-        (λ read. (read ≡ Err fault) ↔ one_name.fault at (slice_range bytes.now at end) fault) }
+    ensures exact { IfOk result (λ read. IsReadBy one_name
+        (taken_from at (slice_range bytes.now at end)) at (slice_range bytes.now at end) read) }
     ensures named { IfOk result (λ read. IfOk read (λ x. IsName x.0)) }
     ensures within { IfOk result (λ read. IfOk read (λ x. (at < x.1) × (x.1 ≤ end))) }
-    ensures exact { IfOk result (λ read. Gives
-        (λ x. taken x.0 x.1 (drop (x.1 - at) (slice_range bytes.now at end))) read
-        (one_name.reading at (slice_range bytes.now at end))) }
 {
     name_from(alloc, &bytes[at..end], at)
 }
@@ -55,8 +40,8 @@ fn name_from(
     at: usize,
 ) -> Result<Result<(Name, usize), BerFault>, AllocError>
     requires { at + length octets.now < 2 ^ 64 }
-    ensures exact { IfOk result (λ read. Gives
-        (λ x. taken x.0 x.1 (drop (x.1 - at) octets.now)) read (one_name.reading at octets.now)) }
+    ensures exact { IfOk result (λ read. IsReadBy one_name (taken_from at octets.now) at octets.now
+        read) }
     ensures named { IfOk result (λ read. IfOk read (λ x. IsName x.0)) }
     ensures within { IfOk result (λ read. IfOk read
         (λ x. (at + 2 ≤ x.1) × (x.1 ≤ at + length octets.now))) }
@@ -68,8 +53,7 @@ fn name_from(
 #[tactic(auto, unfolding(crate::specs::NameOctets::one_name, ber_values::specs::Parts::choose_in, ber_values::specs::Parts::part_in, ber_values::specs::Parts::contents_as, ber_values::specs::Grammars::branch_in))]
 pub fn take_name(alloc: Global, octets: &[u8], at: usize) -> Result<(Name, usize), Stop>
     requires { at + length octets.now < 2 ^ 64 }
-    ensures exact { Answers (λ x. taken x.0 x.1 (drop (x.1 - at) octets.now)) result
-        (one_name.reading at octets.now) }
+    ensures exact { Answers (taken_from at octets.now) result (one_name.reading at octets.now) }
     ensures named { IfOk result (λ x. IsName x.0) }
     ensures within { IfOk result (λ x. (at + 2 ≤ x.1) × (x.1 ≤ at + length octets.now)) }
 {

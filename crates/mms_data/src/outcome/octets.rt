@@ -2,11 +2,8 @@
 ghost use Rattle.std.specs.Prelude.{◌≡◌, ◌+◌, ◌-◌, ◌<◌, ◌≤◌, ◌^◌, ◌++◌, ◌↔◌, length, drop};
 ghost use Rattle.std.specs.Prelude.{IfOk, OnOk, OnErr, Err};
 ghost use Rattle.std.specs.List.{slice_range};
-ghost use Rattle.ber_values.specs.declared.fault.BerFault.{BerFault};
-ghost use Rattle.ber_values.specs.Faults.{Gives};
-ghost use Rattle.ber_values.specs.Reading.{Taken};
-ghost use Rattle.ber_values.specs.Stops.{Answers, AnswersValue};
-ghost use Rattle.ber_values.specs.Grammars.{taken};
+ghost use Rattle.ber_values.specs.Stops.{Answers};
+ghost use Rattle.ber_values.specs.Readers.{IsReadBy, taken_from};
 ghost use Rattle.mms_data.specs.declared.outcome.Outcome.{Outcome};
 ghost use Rattle.mms_data.specs.OutcomeOctets.{one_outcome, IsLawfulOutcome, outcome_octets};
 ghost use Rattle.mms_data.specs.OutcomeOctets.{outcome_len};
@@ -25,22 +22,10 @@ pub fn read_outcome(
 ) -> Result<Result<(Outcome, usize), BerFault>, AllocError>
     requires start { at ≤ end }
     requires stop { end ≤ length bytes.now }
-    // An outcome is read only where the octets begin with it,
-    ensures found { IfOk result (λ read. IfOk read
-        (λ x. one_outcome.begins at (slice_range bytes.now at end)
-        (taken x.0 x.1 (drop (x.1 - at) (slice_range bytes.now at end))))) }
-    // and wherever they begin with one, it is read.
-    ensures only { (t : Taken Outcome) → one_outcome.begins at (slice_range bytes.now at end) t
-        → IfOk result (λ read. AnswersValue
-        (λ x. taken x.0 x.1 (drop (x.1 - at) (slice_range bytes.now at end))) read t) }
-    // A fault is the first one from the left.
-    ensures fault { (fault : BerFault) → IfOk result
-        (λ read. (read ≡ Err fault) ↔ one_outcome.fault at (slice_range bytes.now at end) fault) }
+    ensures exact { IfOk result (λ read. IsReadBy one_outcome
+        (taken_from at (slice_range bytes.now at end)) at (slice_range bytes.now at end) read) }
     ensures lawful { IfOk result (λ read. IfOk read (λ x. IsLawfulOutcome x.0)) }
     ensures within { IfOk result (λ read. IfOk read (λ x. (at < x.1) × (x.1 ≤ end))) }
-    ensures exact { IfOk result (λ read. Gives
-        (λ x. taken x.0 x.1 (drop (x.1 - at) (slice_range bytes.now at end))) read
-        (one_outcome.reading at (slice_range bytes.now at end))) }
 {
     outcome_from(alloc, &bytes[at..end], at)
 }
@@ -51,9 +36,9 @@ fn outcome_from(
     at: usize,
 ) -> Result<Result<(Outcome, usize), BerFault>, AllocError>
     requires { at + length octets.now < 2 ^ 64 }
-    ensures exact { IfOk result (λ read. Gives
-        (λ x. taken x.0 x.1 (drop (x.1 - at) octets.now)) read
-        (one_outcome.reading at octets.now)) }
+    ensures exact { IfOk result (λ read. IsReadBy one_outcome (taken_from at octets.now) at
+        octets.now read) }
+    ensures lawful { IfOk result (λ read. IfOk read (λ x. IsLawfulOutcome x.0)) }
     ensures within { IfOk result (λ read. IfOk read
         (λ x. (at + 2 ≤ x.1) × (x.1 ≤ at + length octets.now))) }
 {
@@ -65,8 +50,7 @@ fn outcome_from(
 #[tactic(auto, unfolding(crate::specs::OutcomeOctets::one_outcome, ber_values::specs::Parts::choose_in, ber_values::specs::Parts::part_in, ber_values::specs::Parts::contents_as, ber_values::specs::Grammars::branch_in, ber_values::specs::Grammars::map_in))]
 pub fn take_outcome(alloc: Global, octets: &[u8], at: usize) -> Result<(Outcome, usize), Stop>
     requires { at + length octets.now < 2 ^ 64 }
-    ensures exact { Answers (λ x. taken x.0 x.1 (drop (x.1 - at) octets.now)) result
-        (one_outcome.reading at octets.now) }
+    ensures exact { Answers (taken_from at octets.now) result (one_outcome.reading at octets.now) }
     ensures within { IfOk result (λ x. (at + 2 ≤ x.1) × (x.1 ≤ at + length octets.now)) }
 {
     if has_tag(octets, 0x80) {

@@ -1,7 +1,7 @@
 -- A container's length, by that of its members.
 use Rattle.std.proofs.Common.{◌≡◌, ◌∙◌, sym, ap}
 use Rattle.ber_values.proofs.Capped.{capped-written}
-use Rattle.mms_data.specs.Datum.{Datum, structure, array, data_of}
+use Rattle.mms_data.specs.Datum.{structure, array, data_of}
 use Rattle.mms_data.specs.DatumOf.{datum_of}
 use Rattle.mms_data.specs.DataWritten.{members_octets, datum_len}
 use Rattle.mms_data.proofs.data.octets.+lengths.Goals as goal

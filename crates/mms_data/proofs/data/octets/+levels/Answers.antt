@@ -1,7 +1,6 @@
 -- The loop over members reads what their list's grammar reads.
-use Rattle.std.proofs.Common.{◌≡◌, ◌<◌, ◌∙◌, sym, ap, length, Ok, drop, ◌-◌, arith}
+use Rattle.std.proofs.Common.{◌<◌, length, arith}
 use Rattle.std.proofs.lemmas.Result.{err_from_is_err_and}
-use Rattle.ber_values.specs.Grammars.{taken}
 use Rattle.ber_values.specs.Lists.{list_in}
 use Rattle.ber_values.proofs.Lists.{members-begin, members-more, members-stop, members-end, some_left, none_left}
 use Rattle.mms_data.specs.DataOctets.{datum_within}

@@ -1,5 +1,5 @@
 -- Each member is short enough, and one member more has been written.
-use Rattle.std.proofs.Common.{◌≡◌, ◌+◌, ◌++◌, ◌∙◌, sym, ap, length, take, get_or, append_assoc, arith, rules}
+use Rattle.std.proofs.Common.{◌≡◌, ◌++◌, ◌∙◌, sym, ap, length, take, get_or, append_assoc, arith}
 use Rattle.mms_data.specs.Datum.{data_of, depth, deepest}
 use Rattle.mms_data.specs.DataWritten.{datum_octets, members_octets}
 use Rattle.mms_data.proofs.DataLengths.{member_few, member_shallow, members_octets-take}

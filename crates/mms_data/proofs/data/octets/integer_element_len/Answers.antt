@@ -1,5 +1,5 @@
-use Rattle.std.proofs.Common.{◌≡◌, ◌∙◌, sym, ap, length, refl, ◌∷◌, pos, arith}
-use Rattle.ber_values.specs.Writing.{boolean_octets, bits_octets, integer_octets}
+use Rattle.std.proofs.Common.{◌∙◌, ap, length}
+use Rattle.ber_values.specs.Writing.{integer_octets}
 use Rattle.mms_data.proofs.DataLengths.{element-written}
 use Rattle.std.proofs.lemmas.Int.{to_z-of_z}
 use Rattle.std.specs.Int.{w64}

@@ -1,19 +1,30 @@
-use Rattle.std.proofs.Common.{◌≤◌, ◌+◌, ◌-◌, length, drop}
-use Rattle.ber_values.specs.Grammars.{taken}
-use Rattle.ber_values.proofs.Settled.{settled_gives, settled_holds}
+use Rattle.std.proofs.Common.{◌≤◌, ◌+◌, length}
+use Rattle.ber_values.specs.Readers.{taken_from}
+use Rattle.ber_values.specs.Stops.{settled}
+use Rattle.ber_values.proofs.Settled.{settled_by, settled_gives, settled_holds, spelled_settled}
+use Rattle.mms_data.specs.Lawful.{IsLawful}
 use Rattle.mms_data.specs.DataOctets.{one_datum}
+use Rattle.mms_data.proofs.DataRead.{one_datum_reads}
+use Rattle.mms_data.proofs.DataLawful.{datum_lawful}
 use Rattle.mms_data.proofs.data.octets.read_from.Goals as goal
 
 pub returns-clause-exact : goal.returns-clause-exact
 returns-clause-exact c =
+    rw c.settle.ensures (settled_by one_datum (taken_from c.args.at c.args.octets.now) c.args.at
+    c.args.octets.now c.data_from.result one_datum_reads c.data_from.ensures.exact)
+
+pub returns-clause-lawful : goal.returns-clause-lawful
+returns-clause-lawful c =
     let at = c.args.at in
     let octets = c.args.octets.now in
-    rw c.settle.ensures (settled_gives (λ x. taken x.0 x.1 (drop (x.1 - at) octets))
-    c.data_from.result (one_datum.reading at octets) c.data_from.ensures.exact)
+    let r = c.data_from.result in
+    rw c.settle.ensures (spelled_settled (taken_from at octets) (λ t. IsLawful t.value)
+    (one_datum.begins at octets) (one_datum.fault at octets) (one_datum.reading at octets) (settled r)
+    (datum_lawful at octets) (one_datum_reads at octets)
+    (settled_gives (taken_from at octets) r (one_datum.reading at octets) c.data_from.ensures.exact))
 
 pub returns-clause-within : goal.returns-clause-within
 returns-clause-within c =
-    let at = c.args.at in
     rw c.settle.ensures (settled_holds
-    (λ x. (at + 2 ≤ x.1) × (x.1 ≤ at + length c.args.octets.now))
+    (λ x. (c.args.at + 2 ≤ x.1) × (x.1 ≤ c.args.at + length c.args.octets.now))
     c.data_from.result c.data_from.ensures.within)

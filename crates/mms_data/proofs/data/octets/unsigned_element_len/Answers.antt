@@ -1,5 +1,5 @@
-use Rattle.std.proofs.Common.{◌≡◌, ◌∙◌, sym, ap, length, refl, ◌∷◌, pos, arith}
-use Rattle.ber_values.specs.Writing.{boolean_octets, bits_octets, integer_octets}
+use Rattle.std.proofs.Common.{pos}
+use Rattle.ber_values.specs.Writing.{integer_octets}
 use Rattle.mms_data.proofs.DataLengths.{element-written}
 use Rattle.mms_data.proofs.data.octets.unsigned_element_len.Goals as goal
 

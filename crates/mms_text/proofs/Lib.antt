@@ -1,0 +1,12 @@
+pub mod Spelled
+pub mod ReadName
+pub mod Marks
+pub mod LeafRead
+pub mod SameParts
+pub mod WordText
+pub mod WordFits
+pub mod WordKinds
+pub mod TextLevels
+pub mod TextBreaks
+pub mod TextReading
+pub mod WorkedTexts

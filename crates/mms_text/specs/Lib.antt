@@ -1,0 +1,5 @@
+pub mod Texts
+pub mod NameIn
+pub mod WordValue
+pub mod WordFront
+pub mod TextRead
