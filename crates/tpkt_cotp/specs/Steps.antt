@@ -1,8 +1,8 @@
 -- One TPKT more.
 use Rattle.std.specs.Prelude.{◌≡◌, ◌+◌, ◌≤◌, [], length, drop, Some, None, Ok, Err}
 use Rattle.tpkt_cotp.specs.declared.fault.CotpFault.{CotpFault}
-use Rattle.tpkt_cotp.specs.declared.transport.Step.{Step}
-use Rattle.tpkt_cotp.specs.declared.transport.Step.TheVariants as steps
+use Rattle.tpkt_cotp.specs.declared.walk.Step.{Step}
+use Rattle.tpkt_cotp.specs.declared.walk.Step.TheVariants as steps
 use Rattle.tpkt_cotp.specs.declared.turn.Turn.TheVariants as turns
 use Rattle.tpkt_cotp.specs.Tpdus.{Tpkt}
 use Rattle.tpkt_cotp.specs.Readings.{tpkt_in}

@@ -13,6 +13,7 @@ mod tpdu;
 mod tpkt;
 mod transport;
 mod turn;
+mod walk;
 mod writing;
 
 pub use fault::CotpFault;
