@@ -11,7 +11,7 @@ use Rattle.tpkt_cotp.specs.declared.turn.Turn.TheVariants as turns
 use Rattle.tpkt_cotp.specs.Tpdus.{Tpdu, request, confirm, disconnect, part, Tpkt, SpellsTpkt}
 use Rattle.tpkt_cotp.specs.Readings.{tpkt_in}
 use Rattle.tpkt_cotp.specs.Streams.{Message, Section, held_of, octets_of, Opens, BreaksRule}
-use Rattle.tpkt_cotp.specs.Streams.{turn_after, Stops, part_after}
+use Rattle.tpkt_cotp.specs.Streams.{turn_after, Stops, part_after, IsPartial}
 use Rattle.tpkt_cotp.specs.Seen.{message_seen}
 use Rattle.tpkt_cotp.specs.Lines.{Line, Reads, Stands, IsSettled, Answers, fed}
 use Rattle.tpkt_cotp.specs.Steps.{StepsPart, StepsMessage, StepsNowhere, StepsBroken}
@@ -21,7 +21,7 @@ use Rattle.tpkt_cotp.proofs.Stays.{tpkt_broken}
 use Rattle.tpkt_cotp.proofs.FaultReading.{fault_found}
 use Rattle.tpkt_cotp.proofs.FaultFirst.{fault_first}
 use Rattle.tpkt_cotp.proofs.Standing.{no_end, stands_message, stands_broken}
-use Rattle.tpkt_cotp.proofs.OneReading.{rest_from}
+use Rattle.tpkt_cotp.proofs.OneReading.{rest_from, partial_from}
 use Rattle.tpkt_cotp.proofs.LineLemmas.{line}
 
 -- parts of a TSDU stay, whatever follows
@@ -112,14 +112,15 @@ settled_of : (t : Line) → t.fault ≡ None → length t.unread ≤ 65534
 settled_of t none few read = (
   few,
   subst (λ (o : Option CotpFault). MatchOption o
-      (tpkt_in t.turn (length t.held) t.unread ≡ Ok None) (λ _. t.unread ≡ [])) (sym none) read,
+      (IsPartial t.turn (length t.held) t.unread) (λ _. t.unread ≡ [])) (sym none)
+      (partial_from t.turn (length t.held) t.unread read),
 )
 
 stopped_of : (t : Line) (f : CotpFault) → t.fault ≡ Some f → t.unread ≡ [] → IsSettled t
 stopped_of t f some none = (
   let l = ap length none in omega (arith, l),
   subst (λ (o : Option CotpFault). MatchOption o
-      (tpkt_in t.turn (length t.held) t.unread ≡ Ok None) (λ _. t.unread ≡ [])) (sym some) none,
+      (IsPartial t.turn (length t.held) t.unread) (λ _. t.unread ≡ [])) (sym some) none,
 )
 
 pub answers_rest : (role : Role) (heard : List ℕ) (given : List Message) (old new : Line)

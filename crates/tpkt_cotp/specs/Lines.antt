@@ -9,9 +9,8 @@ use Rattle.tpkt_cotp.specs.declared.turn.Role.{Role}
 use Rattle.tpkt_cotp.specs.declared.turn.Turn.{Turn}
 use Rattle.tpkt_cotp.specs.declared.turn.Turn.TheVariants as turns
 use Rattle.tpkt_cotp.specs.declared.walk.Walk.{Walk}
-use Rattle.tpkt_cotp.specs.Readings.{tpkt_in}
 use Rattle.tpkt_cotp.specs.Streams.{Message, capped, Section, held_of, octets_of, Opens}
-use Rattle.tpkt_cotp.specs.Streams.{SpellsMessages, turn_after, Says, Stops}
+use Rattle.tpkt_cotp.specs.Streams.{IsPartial, SpellsMessages, turn_after, Says, Stops}
 use Rattle.tpkt_cotp.specs.Seen.{message_seen}
 
 pub record Line : Type 0 where
@@ -49,7 +48,7 @@ HoldsFew t = (length t.held ≤ TSDU_LIMIT) × (length t.unread ≤ TPKT_LIMIT -
 -- no whole TPKT is unread, or the stream has stopped
 abbrev pub IsSettled : Line → Type 0
 IsSettled t = (length t.unread ≤ TPKT_LIMIT - 1) × MatchOption t.fault
-    (tpkt_in t.turn (length t.held) t.unread ≡ Ok None) (λ _. t.unread ≡ [])
+    (IsPartial t.turn (length t.held) t.unread) (λ _. t.unread ≡ [])
 
 -- these octets were fed, these messages handed out, and the next one has come so far
 pub record Reads (role : Role) (heard : List ℕ) (given : List Message) (t : Line) : Type 0 where

@@ -21,7 +21,7 @@ pub use laws::{
     no_message_begins_another, one_reading, what_was_said_stays, written_is_said,
     written_is_spelled,
 };
-pub use limits::{PIECE_LIMIT, TPKT_LIMIT, TSDU_LIMIT};
+pub use limits::{PIECE_LIMIT, SELECTOR_LIMIT, TPKT_LIMIT, TSDU_LIMIT};
 pub use message::TransportIn;
 pub use run::{Heard, read_stream};
 pub use selector::Selector;
