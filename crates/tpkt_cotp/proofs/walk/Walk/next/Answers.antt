@@ -4,7 +4,6 @@ use Rattle.tpkt_cotp.specs.Seen.{message_seen}
 use Rattle.tpkt_cotp.proofs.Standing.{stands_part}
 use Rattle.tpkt_cotp.proofs.Answering.{answers_message, answers_rest, answers_broken, steps_shorter}
 use Rattle.tpkt_cotp.proofs.Answering.{message_shorter, clear_part, begins_part}
-use Rattle.tpkt_cotp.specs.Lines.{line_of}
 use Rattle.tpkt_cotp.proofs.walk.Walk.next.Goals as goal
 
 pub loop-message-smaller : goal.loop-message-smaller

@@ -1,4 +1,4 @@
-use Rattle.std.proofs.Common.{◌∙◌, length, Ok, Some, refl, sym, ap, option_map}
+use Rattle.std.proofs.Common.{◌∙◌, length, refl, sym, ap, option_map}
 use Rattle.std.proofs.lemmas.List.{drop-drop, take_rest}
 use Rattle.tpkt_cotp.specs.Found.{tpkt_seen, tpdu_seen}
 use Rattle.tpkt_cotp.specs.Seen.{message_seen}
