@@ -29,6 +29,3 @@ pub use tpdu::{ConnectConfirm, ConnectRequest, Parameters};
 pub use transport::Transport;
 pub use turn::Role;
 pub use writing::{write_cc, write_cr, write_tsdu};
-
-#[cfg(test)]
-mod tests;
