@@ -78,7 +78,8 @@ impl Transport {
     }
 
     /// Takes the next piece of the stream, at most 65,536 octets, once `next` has answered that
-    /// no whole message is left, or a fault. After a fault the octets are dropped.
+    /// no whole message is left, or a fault. After a fault the octets are dropped. After want of
+    /// memory the reader is as before.
     pub fn feed(&mut self, piece: &[u8]) -> Result<(), AllocError>
         requires small { length piece.now ≤ PIECE_LIMIT }
         requires settled { IsSettled self.old }
@@ -93,7 +94,7 @@ impl Transport {
 
     /// The next whole message of the stream so far; none where no whole one is left; or the first
     /// rule that the stream breaks, once the messages before it were handed out, and then again
-    /// and again.
+    /// and again. After want of memory the reader is as before.
     pub fn next(&mut self) -> Result<Result<Option<TransportIn>, CotpFault>, AllocError>
         ensures ok { (role : Role) (heard : List ℕ) (given : List Message)
             → Stands role heard given self.old
