@@ -1,7 +1,8 @@
 -- What a transport answers is right.
-use Rattle.std.proofs.Common.{◌≡◌, ℕ, ◌<◌, ◌≤◌, List, [], ◌∷◌, ◌++◌, length, drop, Option, Some}
-use Rattle.std.proofs.Common.{None, MatchOption, Ok, Err, sym, ap, subst, ◌∙◌, arith, append_assoc}
-use Rattle.std.proofs.lemmas.List.{length-append, length-drop}
+use Rattle.std.proofs.Common.{◌≡◌, ℕ, ◌<◌, ◌≤◌, List, [], ◌∷◌, ◌++◌, length, take, drop, Option}
+use Rattle.std.proofs.Common.{Some, None, MatchOption, Ok, Err, sym, ap, subst, ◌∙◌, arith}
+use Rattle.std.proofs.Common.{append_assoc}
+use Rattle.std.proofs.lemmas.List.{length-append, length-drop, length-take, take-append-le}
 use Rattle.tpkt_cotp.specs.declared.fault.CotpFault.{CotpFault}
 use Rattle.tpkt_cotp.specs.declared.message.TransportIn.{TransportIn}
 use Rattle.tpkt_cotp.specs.declared.turn.Role.{Role}
@@ -10,7 +11,7 @@ use Rattle.tpkt_cotp.specs.declared.turn.Turn.TheVariants as turns
 use Rattle.tpkt_cotp.specs.Tpdus.{Tpdu, request, confirm, disconnect, part, Tpkt, SpellsTpkt}
 use Rattle.tpkt_cotp.specs.Readings.{tpkt_in}
 use Rattle.tpkt_cotp.specs.Streams.{Message, Section, held_of, octets_of, Opens, BreaksRule}
-use Rattle.tpkt_cotp.specs.Streams.{turn_after, Stops}
+use Rattle.tpkt_cotp.specs.Streams.{turn_after, Stops, part_after, IsPartial}
 use Rattle.tpkt_cotp.specs.Seen.{message_seen}
 use Rattle.tpkt_cotp.specs.Lines.{Line, Reads, Stands, IsSettled, Answers, fed}
 use Rattle.tpkt_cotp.specs.Steps.{StepsPart, StepsMessage, StepsNowhere, StepsBroken}
@@ -19,8 +20,8 @@ use Rattle.tpkt_cotp.proofs.ExactTpkt.{tpkt_found}
 use Rattle.tpkt_cotp.proofs.Stays.{tpkt_broken}
 use Rattle.tpkt_cotp.proofs.FaultReading.{fault_found}
 use Rattle.tpkt_cotp.proofs.FaultFirst.{fault_first}
-use Rattle.tpkt_cotp.proofs.Standing.{stands_message, stands_broken}
-use Rattle.tpkt_cotp.proofs.OneReading.{rest_from}
+use Rattle.tpkt_cotp.proofs.Standing.{no_end, stands_message, stands_broken}
+use Rattle.tpkt_cotp.proofs.OneReading.{rest_from, partial_from}
 use Rattle.tpkt_cotp.proofs.LineLemmas.{line}
 
 -- parts of a TSDU stay, whatever follows
@@ -111,14 +112,15 @@ settled_of : (t : Line) → t.fault ≡ None → length t.unread ≤ 65534
 settled_of t none few read = (
   few,
   subst (λ (o : Option CotpFault). MatchOption o
-      (tpkt_in t.turn (length t.held) t.unread ≡ Ok None) (λ _. t.unread ≡ [])) (sym none) read,
+      (IsPartial t.turn (length t.held) t.unread) (λ _. t.unread ≡ [])) (sym none)
+      (partial_from t.turn (length t.held) t.unread read),
 )
 
 stopped_of : (t : Line) (f : CotpFault) → t.fault ≡ Some f → t.unread ≡ [] → IsSettled t
 stopped_of t f some none = (
   let l = ap length none in omega (arith, l),
   subst (λ (o : Option CotpFault). MatchOption o
-      (tpkt_in t.turn (length t.held) t.unread ≡ Ok None) (λ _. t.unread ≡ [])) (sym some) none,
+      (IsPartial t.turn (length t.held) t.unread) (λ _. t.unread ≡ [])) (sym some) none,
 )
 
 pub answers_rest : (role : Role) (heard : List ℕ) (given : List Message) (old new : Line)
@@ -202,3 +204,14 @@ message_shorter old new m s = unread_shorter old s.tpkt new.unread
 
 pub clear_part : (old new : Line) → old.fault ≡ None → StepsPart old new → new.fault ≡ None
 clear_part old new none s = ap (λ (l : Line). l.fault) s.is ∙ none
+
+-- what was held is held in front of a part
+pub begins_part : (before : List ℕ) (old new : Line) → take (length before) old.held ≡ before
+    → StepsPart old new → take (length before) new.held ≡ before
+begins_part before old new begins s =
+    let more = (no_end old.start old.held s.tpkt.tpdu s.ends).0 in
+    let is : new.held ≡ old.held ++ more = ap (λ (l : Line). l.held) s.is
+    ∙ ap (λ (t : Tpdu). part_after old.held t) (no_end old.start old.held s.tpkt.tpdu s.ends).1 in
+    ap (λ (os : List ℕ). take (length before) os) is ∙ take-append-le (length before) old.held more
+    (let e = ap length begins in let l = length-take (length before) old.held in omega (arith, e, l))
+    ∙ begins

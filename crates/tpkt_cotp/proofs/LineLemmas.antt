@@ -1,12 +1,11 @@
 -- Lines.
-use Rattle.std.proofs.Common.{◌≡◌, ℕ, ◌≤◌, List, [], length, true, false, Option, Some, None, Ok}
-use Rattle.std.proofs.Common.{refl, sym, ap, ◌∙◌, arith}
-use Rattle.std.proofs.lemmas.List.{length-append}
+use Rattle.std.proofs.Common.{◌≡◌, ℕ, List, [], true, false, Option, Some, None, Ok}
+use Rattle.std.proofs.Common.{refl, sym, ap, ◌∙◌}
 use Rattle.tpkt_cotp.specs.declared.fault.CotpFault.{CotpFault}
 use Rattle.tpkt_cotp.specs.declared.turn.Turn.{Turn}
 use Rattle.tpkt_cotp.specs.Tpdus.{Tpdu, request, confirm, disconnect, part, Tpkt}
 use Rattle.tpkt_cotp.specs.Readings.{Read, tpkt_in}
-use Rattle.tpkt_cotp.specs.Streams.{Fits, part_after, Message, message_of}
+use Rattle.tpkt_cotp.specs.Streams.{part_after, Message, message_of}
 use Rattle.tpkt_cotp.specs.Lines.{Line}
 
 abbrev pub line : Turn → ℕ → ℕ → List ℕ → List ℕ → Option CotpFault → Line
@@ -31,15 +30,6 @@ pub read_is : (turn : Turn) (total total' : ℕ) (octets octets' : List ℕ) (r 
     → tpkt_in turn total' octets' ≡ r
 read_is turn total total' octets octets' r t o is = ap (λ (n : ℕ). tpkt_in turn n octets') (sym t)
     ∙ ap (λ (os : List ℕ). tpkt_in turn total os) (sym o) ∙ is
-
-pub held_few : (held : List ℕ) (tpdu : Tpdu) → Fits (length held) tpdu → length held ≤ 65531
-    → length (part_after held tpdu) ≤ 65531
-held_few held (request r) fits few = omega arith
-held_few held (confirm c) fits few = omega arith
-held_few held disconnect fits few = omega arith
-held_few held (part true more) fits few = omega arith
-held_few held (part false more) fits few = let l = length-append held more in omega
-    (arith, l, fits.0)
 
 -- a TPDU that ends a message leaves nothing of it
 pub nothing_held : (at : ℕ) (held : List ℕ) (tpdu : Tpdu) (m : Message)

@@ -12,7 +12,7 @@ use Rattle.tpkt_cotp.specs.Turns.{may_come}
 use Rattle.tpkt_cotp.specs.Tpdus.{Tpdu, request, confirm, disconnect, part, Tpkt}
 use Rattle.tpkt_cotp.specs.Readings.{Read, tpkt_of, tpkt_in}
 use Rattle.tpkt_cotp.specs.Streams.{Message, Section, IsSection, held_of, octets_of, Opens, Comes}
-use Rattle.tpkt_cotp.specs.Streams.{message_of, SpellsMessage, BreaksRule, IsRest}
+use Rattle.tpkt_cotp.specs.Streams.{message_of, SpellsMessage, BreaksRule, IsPartial, IsRest}
 use Rattle.tpkt_cotp.proofs.Again.{tpkt_again}
 use Rattle.tpkt_cotp.proofs.FaultFirst.{fault_first}
 
@@ -204,3 +204,13 @@ rest_from turn at octets sections rest opens none =
       no_fault = λ f b. let same = one_end turn octets sections b.sections rest b.rest (Ok None)
           (Err b.broken) here (fault_ends turn at octets f b) in let e = same.1 in absurd cc;
     }
+
+-- where no whole TPKT is read and no fault, there is a part of one
+pub partial_from : (turn : Turn) (total : ℕ) (octets : List ℕ) → tpkt_in turn total octets ≡ Ok None
+    → IsPartial turn total octets
+partial_from turn total octets none = record {
+  no_tpkt = λ tpdu first more is spelled comes. let e = sym none
+      ∙ ap (λ (os : List ℕ). tpkt_in turn total os) is
+      ∙ tpkt_again turn total tpdu first more spelled comes in absurd cc;
+  no_fault = λ f breaks. let e = sym none ∙ fault_first turn total octets f breaks in absurd cc;
+}

@@ -1,16 +1,16 @@
 -- A transport as contracts see it, and where it stands in a stream.
 use Rattle.std.specs.Prelude.{◌≡◌, ℕ, ◌+◌, ◌≤◌, List, [], ◌∷◌, ◌++◌, length, Option, Some, None}
 use Rattle.std.specs.Prelude.{MatchOption, Result, Ok, Err}
-use Rattle.std.specs.Prelude.{◌-◌}
+use Rattle.std.specs.Prelude.{◌-◌, drop}
 use Rattle.tpkt_cotp.specs.declared.fault.CotpFault.{CotpFault}
 use Rattle.tpkt_cotp.specs.declared.limits.TheConstants.{TSDU_LIMIT, TPKT_LIMIT, PIECE_LIMIT}
 use Rattle.tpkt_cotp.specs.declared.message.TransportIn.{TransportIn}
 use Rattle.tpkt_cotp.specs.declared.turn.Role.{Role}
 use Rattle.tpkt_cotp.specs.declared.turn.Turn.{Turn}
 use Rattle.tpkt_cotp.specs.declared.turn.Turn.TheVariants as turns
-use Rattle.tpkt_cotp.specs.Readings.{tpkt_in}
+use Rattle.tpkt_cotp.specs.declared.walk.Walk.{Walk}
 use Rattle.tpkt_cotp.specs.Streams.{Message, capped, Section, held_of, octets_of, Opens}
-use Rattle.tpkt_cotp.specs.Streams.{SpellsMessages, turn_after, Says, Stops}
+use Rattle.tpkt_cotp.specs.Streams.{IsPartial, SpellsMessages, turn_after, Says, Stops}
 use Rattle.tpkt_cotp.specs.Seen.{message_seen}
 
 pub record Line : Type 0 where
@@ -26,6 +26,21 @@ pub record Line : Type 0 where
   -- the rule that was broken
   pub fault : Option CotpFault
 
+-- a walk over octets as a line: what has come of a TSDU, and the octets from where it stands
+abbrev pub line_of : Walk → List ℕ → List ℕ → Line
+line_of w held octets = record {
+  turn = w.turn;
+  place = w.place;
+  start = w.start;
+  held = held;
+  unread = drop w.passed octets;
+  fault = w.fault;
+}
+
+-- it stands within the octets, and so much of a TSDU has come at most
+abbrev pub IsWithin : Walk → List ℕ → List ℕ → Type 0
+IsWithin w held octets = (w.passed ≤ length octets) × (length held ≤ TSDU_LIMIT)
+
 -- so many octets of a TSDU at most, and so many unread: less than a TPKT, and a piece
 abbrev pub HoldsFew : Line → Type 0
 HoldsFew t = (length t.held ≤ TSDU_LIMIT) × (length t.unread ≤ TPKT_LIMIT - 1 + PIECE_LIMIT)
@@ -33,7 +48,7 @@ HoldsFew t = (length t.held ≤ TSDU_LIMIT) × (length t.unread ≤ TPKT_LIMIT -
 -- no whole TPKT is unread, or the stream has stopped
 abbrev pub IsSettled : Line → Type 0
 IsSettled t = (length t.unread ≤ TPKT_LIMIT - 1) × MatchOption t.fault
-    (tpkt_in t.turn (length t.held) t.unread ≡ Ok None) (λ _. t.unread ≡ [])
+    (IsPartial t.turn (length t.held) t.unread) (λ _. t.unread ≡ [])
 
 -- these octets were fed, these messages handed out, and the next one has come so far
 pub record Reads (role : Role) (heard : List ℕ) (given : List Message) (t : Line) : Type 0 where

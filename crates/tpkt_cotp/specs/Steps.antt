@@ -1,8 +1,9 @@
 -- One TPKT more.
-use Rattle.std.specs.Prelude.{◌≡◌, ◌+◌, ◌≤◌, [], length, drop, Some, None, Ok, Err}
+use Rattle.std.specs.Prelude.{◌≡◌, ◌+◌, ◌-◌, ◌≤◌, [], length, drop, Some, None, Ok, Err}
 use Rattle.tpkt_cotp.specs.declared.fault.CotpFault.{CotpFault}
-use Rattle.tpkt_cotp.specs.declared.transport.Step.{Step}
-use Rattle.tpkt_cotp.specs.declared.transport.Step.TheVariants as steps
+use Rattle.tpkt_cotp.specs.declared.limits.TheConstants.{TPKT_LIMIT}
+use Rattle.tpkt_cotp.specs.declared.walk.Step.{Step}
+use Rattle.tpkt_cotp.specs.declared.walk.Step.TheVariants as steps
 use Rattle.tpkt_cotp.specs.declared.turn.Turn.TheVariants as turns
 use Rattle.tpkt_cotp.specs.Tpdus.{Tpkt}
 use Rattle.tpkt_cotp.specs.Readings.{tpkt_in}
@@ -43,7 +44,7 @@ pub record StepsMessage (old : Line) (m : Message) (new : Line) : Type 0 where
 pub record StepsNowhere (old new : Line) : Type 0 where
   pub read : tpkt_in old.turn (length old.held) old.unread ≡ Ok None
   pub is : new ≡ old
-  pub few : length old.unread ≤ 65534
+  pub few : length old.unread ≤ TPKT_LIMIT - 1
 
 pub record StepsBroken (old : Line) (f : CotpFault) (new : Line) : Type 0 where
   pub broken : CotpFault

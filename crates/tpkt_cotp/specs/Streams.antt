@@ -92,6 +92,13 @@ pub record BreaksRule (turn : Turn) (at : ℕ) (octets : List ℕ) (f : CotpFaul
     why = broken.why;
   }
 
+-- no whole TPKT that may come stands at the front, and none breaks a rule so far, where so many
+-- octets of a TSDU came before
+pub record IsPartial (turn : Turn) (total : ℕ) (octets : List ℕ) : Type 0 where
+  pub no_tpkt : (tpdu : Tpdu) (first more : List ℕ) → octets ≡ first ++ more
+      → SpellsTpkt tpdu first → Comes turn total tpdu → ⊥
+  pub no_fault : (f : CotpFault) → TpktFault turn total octets f → ⊥
+
 -- no whole message stands at the front, and no rule is broken so far
 pub record IsRest (turn : Turn) (at : ℕ) (octets : List ℕ) : Type 0 where
   pub no_message : (message : Message) (first more : List ℕ) → octets ≡ first ++ more

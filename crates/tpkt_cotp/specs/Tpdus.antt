@@ -2,6 +2,7 @@
 use Rattle.std.specs.Prelude.{◌≡◌, ℕ, ◌+◌, ◌*◌, ◌<◌, Bool, true, false, not, ◌&&◌, ◌||◌, List, []}
 use Rattle.std.specs.Prelude.{◌∷◌, length, flat_map, slice_index, Some, None, is_some, nat_le, ◌==◌}
 use Rattle.std.specs.Prelude.{if◌then◌else◌}
+use Rattle.tpkt_cotp.specs.declared.limits.TheConstants.{SELECTOR_LIMIT}
 use Rattle.tpkt_cotp.specs.declared.tpdu.Parameters.{Parameters}
 use Rattle.tpkt_cotp.specs.declared.tpdu.ConnectRequest.{ConnectRequest}
 use Rattle.tpkt_cotp.specs.declared.tpdu.ConnectConfirm.{ConnectConfirm}
@@ -34,7 +35,7 @@ is_twice seen code = code == 192 && is_some seen.size || code == 193 && is_some 
 -- one octet of size, 1 to 32 of a selector, any number of others
 abbrev pub is_length_of : ℕ → ℕ → Bool
 is_length_of code count = if code == 192 then count == 1 else
-    (if code == 193 || code == 194 then nat_le 1 count && nat_le count 32 else true)
+    (if code == 193 || code == 194 then nat_le 1 count && nat_le count SELECTOR_LIMIT else true)
 
 -- a size is 7 to 13, the others are free
 abbrev pub is_value_of : ℕ → ℕ → Bool

@@ -1,6 +1,7 @@
 //! What holds of all streams.
 ghost use Rattle.std.specs.Prelude.{◌≡◌, ℕ, ◌+◌, ◌<◌, ◌≤◌, List, ◌++◌, length, ◌⊎◌};
 ghost use Rattle.tpkt_cotp.specs.declared.fault.CotpFault.{CotpFault};
+ghost use Rattle.tpkt_cotp.specs.declared.limits.TheConstants.{TSDU_LIMIT};
 ghost use Rattle.tpkt_cotp.specs.declared.turn.Role.{Role};
 ghost use Rattle.tpkt_cotp.specs.declared.turn.Turn.{Turn};
 ghost use Rattle.tpkt_cotp.specs.declared.turn.Turn.TheVariants.{Transfer};
@@ -53,7 +54,7 @@ pub fn what_was_said_stays()
 /// What is written for a TSDU says exactly this TSDU, wherever it stands after the first TPDU.
 pub fn written_is_said()
     ensures { (size at : ℕ) (octets written : List ℕ) → IsCut size octets written
-        → length octets ≤ 65531
+        → length octets ≤ TSDU_LIMIT
         → SpellsMessage Transfer at (tsdu (capped at) octets) written }
 {}
 

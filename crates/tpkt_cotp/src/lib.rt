@@ -13,6 +13,7 @@ mod tpdu;
 mod tpkt;
 mod transport;
 mod turn;
+mod walk;
 mod writing;
 
 pub use fault::CotpFault;
@@ -20,7 +21,7 @@ pub use laws::{
     no_message_begins_another, one_reading, what_was_said_stays, written_is_said,
     written_is_spelled,
 };
-pub use limits::{PIECE_LIMIT, TPKT_LIMIT, TSDU_LIMIT};
+pub use limits::{PIECE_LIMIT, SELECTOR_LIMIT, TPKT_LIMIT, TSDU_LIMIT};
 pub use message::TransportIn;
 pub use run::{Heard, read_stream};
 pub use selector::Selector;
@@ -28,6 +29,3 @@ pub use tpdu::{ConnectConfirm, ConnectRequest, Parameters};
 pub use transport::Transport;
 pub use turn::Role;
 pub use writing::{write_cc, write_cr, write_tsdu};
-
-#[cfg(test)]
-mod tests;

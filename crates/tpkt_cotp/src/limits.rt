@@ -4,6 +4,9 @@
 /// and the end mark, and three octets more.
 pub const TSDU_LIMIT: usize = 65_531;
 
+/// The most octets of a selector.
+pub const SELECTOR_LIMIT: usize = 32;
+
 /// The most octets of a TPKT, its head included.
 pub const TPKT_LIMIT: usize = 65_535;
 

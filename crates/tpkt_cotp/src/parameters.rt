@@ -1,11 +1,12 @@
 //! The parameters of connect requests and confirms (ISO 8073, 13.3.4 and 13.4.4).
 ghost use Rattle.std.specs.Prelude.{◌≡◌, ◌+◌, ◌<◌, ◌≤◌, ◌^◌, length, drop, IfOk, IfSome};
 ghost use Rattle.std.specs.Prelude.{slice_index};
-ghost use Rattle.tpkt_cotp.specs.Readings.{Gives, parameters_in, parameter_in, value_in};
+ghost use Rattle.tpkt_cotp.specs.Readings.{Gives, parameters_in, parameter_in};
 ghost use Rattle.tpkt_cotp.specs.Tpdus.{is_twice, is_length_of, is_value_of, with_value};
 ghost use Rattle.tpkt_cotp.specs.Found.{parameters_of};
 
 use crate::fault::{CotpFault, fault_at};
+use crate::limits::SELECTOR_LIMIT;
 use ber_values::Why;
 
 /// Parameters as they stand in the octets that were read.
@@ -44,7 +45,7 @@ fn may_count(code: u8, count: usize) -> bool
 {
     match code {
         SIZE => count == 1,
-        CALLING | CALLED => 1 <= count && count <= 32,
+        CALLING | CALLED => 1 <= count && count <= SELECTOR_LIMIT,
         _ => true,
     }
 }
@@ -77,40 +78,8 @@ fn with<'a>(seen: Found<'a>, code: u8, value: &'a [u8]) -> Found<'a>
     }
 }
 
-/// The value behind a code, in a TPDU with so much room from the code on: the parameters with it,
-/// the octets of the value, and the octets from there on. `at` is the place of the code.
-fn read_value<'a>(
-    seen: Found<'a>,
-    at: usize,
-    room: usize,
-    code: u8,
-    octets: &'a [u8],
-) -> Result<Option<(Found<'a>, usize, &'a [u8])>, CotpFault>
-    requires { at + room < 2 ^ 32 }
-    ensures exact { Gives (λ x. record { seen = parameters_of x.0; count = x.1 }) result
-        (value_in (parameters_of seen.entry) at room code octets.now) }
-    ensures rest { IfOk result (λ found. IfSome found
-        (λ x. (length octets.now ≡ x.1 + 1 + length x.2.now)
-        × (x.2.now ≡ drop (x.1 + 1) octets.now) × (x.1 + 2 ≤ room))) }
-{
-    let [count, octets @ ..] = octets else {
-        return Ok(None);
-    };
-    let count = usize::from(*count);
-    if !may_count(code, count) || count + 2 > room {
-        return Err(fault_at(at + 1, Why::Length));
-    }
-    if octets.len() < count {
-        return Ok(None);
-    }
-    let (value, rest) = octets.split_at(count);
-    if !may_begin(code, value) {
-        return Err(fault_at(at + 2, Why::Value));
-    }
-    Ok(Some((with(seen, code, value), count, rest)))
-}
-
-/// The parameter with this code.
+/// The parameter with this code, in a TPDU with so much room from the code on: the parameters with
+/// it, the octets of its value, and the octets from there on. `at` is the place of the code.
 fn read_parameter<'a>(
     seen: Found<'a>,
     at: usize,
@@ -131,7 +100,21 @@ fn read_parameter<'a>(
     if room == 1 {
         return Err(fault_at(at + 1, Why::Short));
     }
-    read_value(seen, at, room, code, octets)
+    let [count, octets @ ..] = octets else {
+        return Ok(None);
+    };
+    let count = usize::from(*count);
+    if !may_count(code, count) || count + 2 > room {
+        return Err(fault_at(at + 1, Why::Length));
+    }
+    if octets.len() < count {
+        return Ok(None);
+    }
+    let (value, rest) = octets.split_at(count);
+    if !may_begin(code, value) {
+        return Err(fault_at(at + 2, Why::Value));
+    }
+    Ok(Some((with(seen, code, value), count, rest)))
 }
 
 /// The parameters that fill the room from `at` on.

@@ -1,6 +1,7 @@
 //! A whole stream that comes in pieces.
 ghost use Rattle.std.specs.Prelude.{◌≡◌, ℕ, ◌≤◌, List, ◌++◌, length, map, flat_map, All, IfOk};
 ghost use Rattle.std.specs.Prelude.{OnErr, MatchOption, vec_len};
+ghost use Rattle.tpkt_cotp.specs.declared.limits.TheConstants.{PIECE_LIMIT};
 ghost use Rattle.tpkt_cotp.specs.declared.turn.Role.{Role};
 ghost use Rattle.tpkt_cotp.specs.Streams.{Message, Says, Stops};
 ghost use Rattle.tpkt_cotp.specs.Seen.{message_seen};
@@ -42,7 +43,7 @@ fn take_all(
 /// The messages of a stream that comes in these pieces of at most 65,536 octets. They are those of
 /// the pieces joined, so it doesn't matter how the stream was cut.
 pub fn read_stream(alloc: Global, role: Role, pieces: &[Vec<u8>]) -> Result<Heard, AllocError>
-    requires { All (λ piece. length piece.items ≤ 65536) pieces.now }
+    requires { All (λ piece. length piece.items ≤ PIECE_LIMIT) pieces.now }
     ensures { IfOk result (λ heard. MatchOption heard.fault
         ((rest : List ℕ) × Says role (flat_map (λ piece. piece.items) pieces.now)
         (map message_seen heard.messages.items) rest)

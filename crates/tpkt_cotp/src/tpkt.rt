@@ -1,5 +1,6 @@
 //! A TPKT and its TPDU at the front of the octets (RFC 1006, section 6; ISO 8073, 13).
 ghost use Rattle.std.specs.Prelude.{◌≡◌, ◌+◌, ◌-◌, ◌<◌, ◌≤◌, ◌^◌, length, IfOk, IfSome, IfNone};
+ghost use Rattle.tpkt_cotp.specs.declared.limits.TheConstants.{TPKT_LIMIT};
 ghost use Rattle.tpkt_cotp.specs.Readings.{Gives, tpkt_in, sized_in, tpdu_in, body_in, connect_in};
 ghost use Rattle.tpkt_cotp.specs.Readings.{part_in, disconnect_in, marked_in, connect_with};
 ghost use Rattle.tpkt_cotp.specs.Readings.{parameters_in, known_in};
@@ -237,7 +238,7 @@ pub(crate) fn read_tpkt<'a>(
     ensures sound { IfOk result
         (λ found. IfSome found (λ tpkt. IsSoundTpdu (tpdu_seen tpkt.tpdu))) }
     ensures fits { IfOk result (λ found. IfSome found (λ tpkt. Fits total (tpdu_seen tpkt.tpdu))) }
-    ensures cut { IfOk result (λ found. IfNone found (length octets.now ≤ 65534)) }
+    ensures cut { IfOk result (λ found. IfNone found (length octets.now ≤ TPKT_LIMIT - 1)) }
 {
     read_front(turn, total, octets)
 }

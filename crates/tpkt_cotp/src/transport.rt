@@ -2,15 +2,14 @@
 ghost use Rattle.std.specs.Prelude.{◌≡◌, ℕ, ◌+◌, ◌-◌, ◌≤◌, ◌<◌, List, [], ◌++◌, length, IfOk, OnOk};
 ghost use Rattle.std.specs.Prelude.{OnErr, OnSome};
 ghost use Rattle.tpkt_cotp.specs.declared.turn.Role.{Role};
-ghost use Rattle.tpkt_cotp.specs.Streams.{Message, capped};
+ghost use Rattle.tpkt_cotp.specs.Streams.{Message};
 ghost use Rattle.tpkt_cotp.specs.Lines.{Line, IsSettled, HoldsFew, Stands, Answers, fed};
-ghost use Rattle.tpkt_cotp.specs.Steps.{Steps};
 
 use crate::fault::CotpFault;
 use crate::limits::{PIECE_LIMIT, TPKT_LIMIT};
-use crate::message::{TransportIn, take_tpdu};
-use crate::tpkt::read_tpkt;
+use crate::message::TransportIn;
 use crate::turn::{Role, Turn};
+use crate::walk::Walk;
 use bytes::BytesMut;
 use std::alloc::{AllocError, Global};
 use std::marker::Model;
@@ -48,23 +47,6 @@ impl Model for Transport {
         × (length t.unread.items ≤ TPKT_LIMIT - 1 + PIECE_LIMIT) };
 }
 
-/// What one TPKT led to.
-#[derive(Drop)]
-pub(crate) enum Step {
-    /// A part of a TSDU.
-    Part,
-    Message(TransportIn),
-    /// No whole TPKT is left.
-    Rest,
-    Broken(CotpFault),
-}
-
-fn shifted(place: u64, by: u64) -> u64
-    ensures { result ≡ capped (place + by) }
-{
-    place.saturating_add(by)
-}
-
 impl Transport {
     /// A reader at the start of a stream.
     pub fn new(alloc: Global, role: Role) -> Transport
@@ -83,43 +65,6 @@ impl Transport {
         }
     }
 
-    /// Looks at the TPKT at the front.
-    fn step(&mut self) -> Result<Step, AllocError>
-        ensures ok { IfOk result (λ step. Steps self.old step self.new) }
-        ensures err { OnErr result (self.new ≡ self.old) }
-    {
-        let (message, size) = match read_tpkt(
-            self.turn,
-            self.part.as_slice().len(),
-            self.unread.as_slice(),
-        ) {
-            Err(fault) => {
-                let fault = CotpFault {
-                    place: shifted(self.place, fault.place),
-                    why: fault.why,
-                };
-                self.unread.clear();
-                self.fault = Some(fault);
-                return Ok(Step::Broken(fault));
-            }
-            Ok(None) => return Ok(Step::Rest),
-            Ok(Some(tpkt)) => {
-                let message = take_tpdu(self.alloc, self.start, &mut self.part, tpkt.tpdu)?;
-                (message, tpkt.size)
-            }
-        };
-        self.unread.advance(size);
-        self.turn = Turn::Transfer;
-        self.place = shifted(self.place, size as u64);
-        match message {
-            None => Ok(Step::Part),
-            Some(message) => {
-                self.start = self.place;
-                Ok(Step::Message(message))
-            }
-        }
-    }
-
     fn take_in(&mut self, piece: &[u8]) -> Result<(), AllocError>
         requires small { length piece.now ≤ PIECE_LIMIT }
         requires few { length self.old.unread ≤ TPKT_LIMIT - 1 }
@@ -133,7 +78,8 @@ impl Transport {
     }
 
     /// Takes the next piece of the stream, at most 65,536 octets, once `next` has answered that
-    /// no whole message is left, or a fault. After a fault the octets are dropped.
+    /// no whole message is left, or a fault. After a fault the octets are dropped. After want of
+    /// memory the reader is as before.
     pub fn feed(&mut self, piece: &[u8]) -> Result<(), AllocError>
         requires small { length piece.now ≤ PIECE_LIMIT }
         requires settled { IsSettled self.old }
@@ -148,27 +94,38 @@ impl Transport {
 
     /// The next whole message of the stream so far; none where no whole one is left; or the first
     /// rule that the stream breaks, once the messages before it were handed out, and then again
-    /// and again.
+    /// and again. After want of memory the reader is as before.
     pub fn next(&mut self) -> Result<Result<Option<TransportIn>, CotpFault>, AllocError>
         ensures ok { (role : Role) (heard : List ℕ) (given : List Message)
             → Stands role heard given self.old
             → IfOk result (λ answer. Answers role heard given answer self.new) }
-        // Nothing is lost: it still stands where it stood.
-        ensures err { (role : Role) (heard : List ℕ) (given : List Message)
-            → Stands role heard given self.old
-            → OnErr result (Stands role heard given self.new) }
         ensures shorter { IfOk result (λ answer. IfOk answer (λ message. OnSome message
             (length self.new.unread < length self.old.unread))) }
+        ensures err { OnErr result (self.new ≡ self.old) }
     {
         if let Some(fault) = self.fault {
             return Ok(Err(fault));
         }
-        loop {
-            match self.step()? {
-                Step::Part => {}
-                Step::Message(message) => return Ok(Ok(Some(message))),
-                Step::Rest => return Ok(Ok(None)),
-                Step::Broken(fault) => return Ok(Err(fault)),
+        let mark = self.part.len();
+        let mut walk = Walk {
+            turn: self.turn,
+            place: self.place,
+            start: self.start,
+            passed: 0,
+            fault: None,
+        };
+        match walk.next(self.alloc, &mut self.part, self.unread.as_slice()) {
+            Err(error) => {
+                self.part.truncate(mark);
+                Err(error)
+            }
+            Ok(answer) => {
+                self.turn = walk.turn;
+                self.place = walk.place;
+                self.start = walk.start;
+                self.fault = walk.fault;
+                self.unread.advance(walk.passed);
+                Ok(answer)
             }
         }
     }

@@ -1,6 +1,7 @@
 //! Connect requests, their answers and TSDUs, written.
 ghost use Rattle.std.specs.Prelude.{◌≡◌, ℕ, ◌+◌, ◌-◌, ◌<◌, ◌≤◌, List, ◌++◌, take, length, IfSome};
 ghost use Rattle.std.specs.Prelude.{OnOk, OnErr, option_copied};
+ghost use Rattle.tpkt_cotp.specs.declared.limits.TheConstants.{SELECTOR_LIMIT, TSDU_LIMIT};
 ghost use Rattle.tpkt_cotp.specs.Selectors.{IsSelector};
 ghost use Rattle.tpkt_cotp.specs.Written.{request_octets, size_octets, selector_octets};
 ghost use Rattle.tpkt_cotp.specs.Written.{answer_octets, confirm_head, confirm_octets, part_octets};
@@ -118,7 +119,7 @@ fn selector_of(selector: &Option<Selector>) -> Option<&[u8]>
 fn len_of(selector: Option<&[u8]>) -> usize
     requires { IfSome (option_copied selector) IsSelector }
     ensures value { result ≡ length (selector_octets 193 (option_copied selector.entry)) }
-    ensures few { result ≤ 34 }
+    ensures few { result ≤ SELECTOR_LIMIT + 2 }
 {
     match selector {
         None => 0,
@@ -203,7 +204,7 @@ fn put_tsdu(out: &mut Vec<u8>, size: u16, octets: &[u8]) -> Result<(), AllocErro
 /// Appends a TSDU of 1 to 65,531 octets in TPDUs of at most `size` octets, 128 to 1,024.
 pub fn write_tsdu(out: &mut Vec<u8>, size: u16, octets: &[u8]) -> Result<(), AllocError>
     requires sized { (128 ≤ size) × (size ≤ 1024) }
-    requires some { (1 ≤ length octets.now) × (length octets.now ≤ 65531) }
+    requires some { (1 ≤ length octets.now) × (length octets.now ≤ TSDU_LIMIT) }
     ensures ok { OnOk result ((written : List ℕ) × IsCut size octets.now written
         × (out.new.items ≡ out.old.items ++ written)) }
     ensures err { OnErr result (out.new.items ≡ out.old.items) }

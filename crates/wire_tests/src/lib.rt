@@ -6,3 +6,5 @@
 mod association;
 #[cfg(test)]
 mod texts;
+#[cfg(test)]
+mod transport;

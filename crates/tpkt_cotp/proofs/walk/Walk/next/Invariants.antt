@@ -1,0 +1,20 @@
+use Rattle.std.proofs.Common.{◌≡◌, ◌-◌, ◌≤◌, ℕ, List, None, length, take}
+use Rattle.tpkt_cotp.specs.declared.turn.Role.{Role}
+use Rattle.tpkt_cotp.specs.Streams.{Message}
+use Rattle.tpkt_cotp.specs.Lines.{Line, IsWithin, line_of, Reads, Stands}
+use Rattle.tpkt_cotp.proofs.walk.Walk.next.Given as goal
+
+-- no rule was broken, it stands where it stood, and holds what it held
+pub record Keeps (old t : Line) : Type 0 where
+  pub clear : t.fault ≡ None
+  pub begins : take (length old.held) t.held ≡ old.held
+  pub reads : (role : Role) (heard : List ℕ) (given : List Message) → Stands role heard given old
+      → Reads role heard given t
+
+abbrev pub invariant-loop-message : goal.invariant-loop-message
+invariant-loop-message l = Keeps (line_of l.fn.self l.fn.part.items l.octets)
+    (line_of l.self l.part.items l.octets) × IsWithin l.self l.part.items l.octets
+    × (l.fn.self.passed ≤ l.self.passed)
+
+abbrev pub decreases-loop-message : goal.decreases-loop-message
+decreases-loop-message l = length l.octets - l.self.passed
