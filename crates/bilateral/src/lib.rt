@@ -20,6 +20,3 @@ pub use line::TableLine;
 pub use reading::read_centre;
 pub use rows::{PEER_LIMIT, POINT_LIMIT, PointRow, SEE_LIMIT, See, Sees, Table};
 pub use words::{IDENTIFIER_LIMIT, NAME_LIMIT};
-
-#[cfg(test)]
-mod tests;

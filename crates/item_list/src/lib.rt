@@ -4,6 +4,3 @@
 mod list;
 
 pub use list::ItemList;
-
-#[cfg(test)]
-mod tests;

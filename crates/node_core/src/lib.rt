@@ -6,6 +6,3 @@ mod node;
 mod store;
 
 pub use node::Node;
-
-#[cfg(test)]
-mod tests;

@@ -16,6 +16,3 @@ pub use laws::{escaped_is_read_back, number_is_its_digits};
 pub use lines::{is_skipped, next_line};
 pub use numbers::{push_decimal, push_signed_decimal, read_integer, read_number};
 pub use words::{is_spaced, next_part, next_word};
-
-#[cfg(test)]
-mod tests;

@@ -8,6 +8,3 @@ mod showing;
 
 pub use reading::from_data;
 pub use showing::to_data;
-
-#[cfg(test)]
-mod tests;

@@ -14,6 +14,3 @@ pub use layout::{COV_MODULUS, Component, Layout};
 pub use value::{
     FLAGS_LIMIT, MILLIS_LIMIT, PointValue, SECONDS_LIMIT, STATE_LIMIT, changes, unknown,
 };
-
-#[cfg(test)]
-mod tests;

@@ -16,6 +16,3 @@ pub use fault::StepFault;
 pub use laws::{others_are_unseen, seats_are_unseen, two_worlds, views_are_of_entries};
 pub use reply::{Answer, OBJECT_NON_EXISTENT, Reply, ReplyKind, Results};
 pub use texts::{read_call, spell_reply};
-
-#[cfg(test)]
-mod tests;

@@ -5,6 +5,8 @@
 #[cfg(test)]
 mod association;
 #[cfg(test)]
+mod session;
+#[cfg(test)]
 mod texts;
 #[cfg(test)]
 mod transport;

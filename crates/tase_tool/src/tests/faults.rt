@@ -1,106 +1,96 @@
-use super::{LAWFUL, TABLES, outside_of, printed, source_of, words_of};
-use crate::run;
+use super::{LAWFUL, TABLES, ran, room_of, text_of};
 use command_io::Status;
-use outside::{ByteSink, MemoryOutside, TextSource};
 use std::alloc::{AllocError, Global};
 use std::test::Fail;
 
-const SCENARIO: &str =
-    "open 1 A\nsay 1 read DOMA/BUS1\nsay 1 read DOMA/LOAD1\nsay 1 read vmd:FREQ1\n";
-
-// A text and then remarks, so long that it is read in two pieces before its end.
-fn long_text(alloc: Global, text: &str) -> Result<Vec<u8>, AllocError> {
+// A text and then a line so many times.
+fn repeated(alloc: Global, text: &str, line: &[u8], times: usize) -> Result<Vec<u8>, AllocError> {
     let mut octets = Vec::from_slice(alloc, text.as_bytes())?;
-    for _ in 0..7000 {
-        octets.extend_from_slice(b"# nothing\n")?;
+    for _ in 0..times {
+        octets.extend_from_slice(line)?;
     }
     Ok(octets)
 }
 
-// The numbers of the calls that fail: this one.
-fn only(alloc: Global, number: u64) -> Result<Vec<u64>, AllocError> {
-    let mut numbers = Vec::new(alloc);
-    numbers.push(number)?;
-    Ok(numbers)
-}
-
-// An outside with both texts, of which these calls fail.
-fn failing(
-    alloc: Global,
-    tables: Vec<u64>,
-    scenario: Vec<u64>,
-    writes: Vec<u64>,
-) -> Result<MemoryOutside, AllocError> {
-    let tables = TextSource::new(long_text(alloc, TABLES)?, tables);
-    let output = ByteSink::new(alloc, 1000, writes)?;
-    let mut outside = outside_of(alloc, tables, "", output)?;
-    let scenario = TextSource::new(long_text(alloc, SCENARIO)?, scenario);
-    outside.put_in(alloc, "scenario", scenario)?;
-    Ok(outside)
-}
+// The reads of the tables that fail, the room, how the run ends, and what went out.
+const ROOMS: [(&[u64], usize, Status, &str); 4] = [
+    (
+        &[],
+        1000,
+        Status::Done,
+        "reply 1 read b8.30\nreply 1 read b8.30\n",
+    ),
+    (&[0], 1000, Status::Outside, ""),
+    (&[], 22, Status::Outside, "reply 1 read b8.30\nrep"),
+    (&[], 0, Status::Outside, ""),
+];
 
 #[test]
-fn each_read_may_fail(rt: HostRuntime) -> Result<(), Fail> {
+fn room_may_lack(rt: HostRuntime) -> Result<(), Fail> {
     let alloc = rt.alloc();
-    let words = words_of(alloc, &LAWFUL)?;
-    for number in 0..4 {
-        let status = if number < 3 {
-            Status::Outside
-        } else {
-            Status::Done
-        };
-        let mut outside = failing(
-            alloc,
-            only(alloc, number)?,
-            Vec::new(alloc),
-            Vec::new(alloc),
-        )?;
-        assert_eq!(rt;
-            run(alloc, &words, &mut outside),
-            status,
-            "tables, read {number}"
-        );
-        assert_eq!(rt; printed(&outside).is_empty(), number < 3);
-        let mut outside = failing(
-            alloc,
-            Vec::new(alloc),
-            only(alloc, number)?,
-            Vec::new(alloc),
-        )?;
-        assert_eq!(rt;
-            run(alloc, &words, &mut outside),
-            status,
-            "scenario, read {number}"
-        );
-        assert_eq!(rt; printed(&outside).is_empty(), number < 3);
+    for (fails, room, status, shown) in ROOMS {
+        let tables = text_of(alloc, TABLES.as_bytes(), fails)?;
+        let text = b"open 1 A\nsay 1 read DOMA/BUS1\nsay 1 read DOMA/BUS1\n";
+        let scenario = text_of(alloc, text, &[])?;
+        let output = room_of(alloc, room, &[])?;
+        let (end, printed) = ran(alloc, &LAWFUL, tables, scenario, output)?;
+        assert_eq!(rt; end, status, "room {room}");
+        assert_eq!(rt; printed.as_slice(), shown.as_bytes(), "room {room}");
     }
     Ok(())
 }
 
-// So many replies of 19 octets are shown.
-const REPLIES: usize = 4000;
+const SCENARIO: &str =
+    "open 1 A\nsay 1 read DOMA/BUS1\nsay 1 read DOMA/LOAD1\nsay 1 read vmd:FREQ1\n";
 
-// What is shown goes out in pieces of up to 65,536 octets: 3,449 replies, and then the rest.
+// The reads of the tables that fail, those of the scenario, and how the run ends. With remarks
+// behind it each text is so long that it is read in two pieces before its end.
+const READS: [(&[u64], &[u64], Status); 8] = [
+    (&[0], &[], Status::Outside),
+    (&[1], &[], Status::Outside),
+    (&[2], &[], Status::Outside),
+    (&[3], &[], Status::Done),
+    (&[], &[0], Status::Outside),
+    (&[], &[1], Status::Outside),
+    (&[], &[2], Status::Outside),
+    (&[], &[3], Status::Done),
+];
+
+#[test]
+fn each_read_may_fail(rt: HostRuntime) -> Result<(), Fail> {
+    let alloc = rt.alloc();
+    let tables = repeated(alloc, TABLES, b"# nothing\n", 7000)?;
+    let scenario = repeated(alloc, SCENARIO, b"# nothing\n", 7000)?;
+    for (of_tables, of_scenario, status) in READS {
+        let tables = text_of(alloc, &tables, of_tables)?;
+        let scenario = text_of(alloc, &scenario, of_scenario)?;
+        let output = room_of(alloc, 1000, &[])?;
+        let (end, printed) = ran(alloc, &LAWFUL, tables, scenario, output)?;
+        assert_eq!(rt; end, status, "{of_tables:?} {of_scenario:?}");
+        assert_eq!(rt; printed.is_empty(), status == Status::Outside);
+    }
+    Ok(())
+}
+
+// The writes that fail, how the run ends, and how many octets went out: in pieces of up to 65,536
+// octets, of 4,000 replies of 19 octets 3,449, and then the rest.
+const WRITES: [(&[u64], Status, usize); 3] = [
+    (&[0], Status::Outside, 0),
+    (&[1], Status::Outside, 65_531),
+    (&[2], Status::Done, 76_000),
+];
+
 #[test]
 fn each_write_may_fail(rt: HostRuntime) -> Result<(), Fail> {
     let alloc = rt.alloc();
-    let words = words_of(alloc, &LAWFUL)?;
-    let mut scenario = Vec::from_slice(alloc, b"open 1 A\n")?;
-    for _ in 0..REPLIES {
-        scenario.extend_from_slice(b"say 1 read DOMA/BUS1\n")?;
-    }
-    for (number, status, count) in [
-        (0, Status::Outside, 0),
-        (1, Status::Outside, 65_531),
-        (2, Status::Done, 76_000),
-    ] {
-        let tables = source_of(alloc, TABLES, Vec::new(alloc))?;
-        let output = ByteSink::new(alloc, 100_000, only(alloc, number)?)?;
-        let mut outside = outside_of(alloc, tables, "", output)?;
-        let text = TextSource::new(scenario.clone()?, Vec::new(alloc));
-        outside.put_in(alloc, "scenario", text)?;
-        assert_eq!(rt; run(alloc, &words, &mut outside), status, "write {number}");
-        assert_eq!(rt; printed(&outside).len(), count, "write {number}");
+    let scenario = repeated(alloc, "open 1 A\n", b"say 1 read DOMA/BUS1\n", 4000)?;
+    for (fails, status, count) in WRITES {
+        let tables = text_of(alloc, TABLES.as_bytes(), &[])?;
+        let scenario = text_of(alloc, &scenario, &[])?;
+        let output = room_of(alloc, 100_000, fails)?;
+        let (end, printed) = ran(alloc, &LAWFUL, tables, scenario, output)?;
+        assert_eq!(rt; end, status, "{fails:?}");
+        assert_eq!(rt; printed.len(), count, "{fails:?}");
     }
     Ok(())
 }

@@ -1,7 +1,5 @@
-use super::{LAWFUL, TABLES, outside_of, printed, source_of, words_of};
-use crate::run;
+use super::{LAWFUL, TABLES, runs_so};
 use command_io::Status;
-use outside::ByteSink;
 use std::process::Abort;
 use std::test::Fail;
 
@@ -85,14 +83,15 @@ fn played(
 ) -> Result<(), Fail> {
     let alloc = rt.alloc();
     let scenario = format!(in alloc; "open 1 A\nopen 2 B\nsay 1 read DOMA/BUS1\n{line}\n")?;
-    let words = words_of(alloc, &LAWFUL)?;
-    let tables = source_of(alloc, TABLES, Vec::new(alloc))?;
-    let output = ByteSink::new(alloc, 1000, Vec::new(alloc))?;
-    let mut outside = outside_of(alloc, tables, scenario.as_str(), output)?;
-    assert_eq!(rt; run(alloc, &words, &mut outside), status, "{line}");
-    let wanted = format!(in alloc; "reply 1 read b8.30\n{shown}")?;
-    assert_eq!(rt; printed(&outside), wanted.as_bytes(), "{line}");
-    Ok(())
+    let shown = format!(in alloc; "reply 1 read b8.30\n{shown}")?;
+    runs_so(
+        rt,
+        &LAWFUL,
+        TABLES,
+        scenario.as_str(),
+        status,
+        shown.as_str(),
+    )
 }
 
 #[test]

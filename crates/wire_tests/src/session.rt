@@ -2,8 +2,8 @@
 //! the rows of faults and of connects were worked out by hand by the rules of the profile.
 ghost use Rattle.std.specs.Prelude.{◌<◌, ◌≤◌, length};
 
-use super::*;
 use ber_values::{Span, Why};
+use session_profile::{SessionFault, Spdu, read_spdu, write_spdu};
 use std::alloc::AllocError;
 use std::test::*;
 use tpkt_cotp::Selector;

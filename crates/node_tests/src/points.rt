@@ -1,5 +1,5 @@
-use super::*;
 use std::test::Fail;
+use tase_points::{Body, Component, Kind, Layout, PointValue, changes, unknown};
 
 #[test]
 fn values_change(rt: HostRuntime) {
@@ -13,12 +13,23 @@ fn values_change(rt: HostRuntime) {
     ] {
         assert_eq!(rt; changes(&old, &new), want, "{new:?}");
     }
-    assert_eq!(rt; old.body(), Body::State(2));
-    assert_eq!(rt; old.body().kind(), Kind::State);
-    assert!(rt; Kind::Real.is_same(Kind::Real) && !Component::Cov.is_same(Component::Time));
-    assert_eq!(rt; old.flags(), 0);
-    assert_eq!(rt; old.seconds(), 1700000000);
-    assert_eq!(rt; old.millis(), 5);
+}
+
+#[test]
+fn values_keep_their_parts(rt: HostRuntime) {
+    let value = PointValue::new(Body::State(2), 0, 1700000000, 5);
+    assert_eq!(rt; value.body(), Body::State(2));
+    assert_eq!(rt; value.body().kind(), Kind::State);
+    assert_eq!(rt;
+        (value.flags(), value.seconds(), value.millis()),
+        (0, 1700000000, 5)
+    );
+}
+
+#[test]
+fn kinds_and_components_are_told_apart(rt: HostRuntime) {
+    assert!(rt; Kind::Real.is_same(Kind::Real));
+    assert!(rt; !Component::Cov.is_same(Component::Time));
 }
 
 #[test]

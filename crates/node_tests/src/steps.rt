@@ -1,5 +1,5 @@
-use super::*;
 use bilateral::read_centre;
+use node_core::Node;
 use sbo_device::Key;
 use std::alloc::Global;
 use std::sync::Arc;
@@ -31,15 +31,22 @@ fn reply_text(alloc: Global, node: &mut Node, who: u64, text: &str) -> Result<Ve
     Ok(out)
 }
 
+fn opened(alloc: Global, node: &mut Node, who: u64, peer: u32) -> Result<Key, Fail> {
+    match node.step(alloc, who, Event::new(EventKind::Open { peer }))? {
+        Answer::Opened { key } => Ok(key),
+        _ => Err(Fail::from("not opened")),
+    }
+}
+
 #[test]
 fn two_peers_read_one_point(rt: HostRuntime) -> Result<(), Fail> {
     let alloc = rt.alloc();
     let mut node = new_node(alloc)?;
     for (who, peer) in [(1, 0), (2, 1)] {
-        match node.step(alloc, who, Event::new(EventKind::Open { peer }))? {
-            Answer::Opened { key } => assert_eq!(rt; key, Key { peer, ordinal: 0 }),
-            _ => return Err(Fail::from("not opened")),
-        }
+        assert_eq!(rt;
+            opened(alloc, &mut node, who, peer)?,
+            Key { peer, ordinal: 0 }
+        );
     }
     let value = PointValue::new(Body::State(2), 0, 1_700_000_000, 0);
     node.step(alloc, 0, Event::new(EventKind::Update { point: 0, value }))?;
@@ -56,6 +63,11 @@ fn two_peers_read_one_point(rt: HostRuntime) -> Result<(), Fail> {
     }
     assert_eq!(rt; node.history_len(), 5);
     assert!(rt; node.entry(4)?.is_some());
-    assert_eq!(rt; node.centre().peers(), 2);
+    Ok(())
+}
+
+#[test]
+fn a_node_has_its_centre(rt: HostRuntime) -> Result<(), Fail> {
+    assert_eq!(rt; new_node(rt.alloc())?.centre().peers(), 2);
     Ok(())
 }

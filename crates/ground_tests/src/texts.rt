@@ -1,4 +1,8 @@
-use super::*;
+use plain_text::{
+    is_skipped, is_spaced, next_line, next_word, push_decimal, push_escaped, push_hex,
+    push_signed_decimal, read_escaped, read_hex, read_hex_four, read_hex_octet, read_integer,
+    read_number,
+};
 use std::test::Fail;
 
 #[test]
@@ -36,9 +40,10 @@ fn reads_hexadecimal(rt: HostRuntime) -> Result<(), Fail> {
     assert_eq!(rt; read_hex_octet(b"3f"), Some(63));
     assert_eq!(rt; read_hex_octet(b"3F"), None);
     assert_eq!(rt; read_hex_four(b"41200000"), Some([0x41, 0x20, 0, 0]));
-    let octets = read_hex(rt.alloc(), b"00ff10")?.ok_or("not read")?;
-    assert_eq!(rt; octets.as_slice(), [0, 255, 16].as_slice());
-    assert!(rt; read_hex(rt.alloc(), b"00f")?.is_none());
+    let rows: [(&[u8], Option<&[u8]>); 2] = [(b"00ff10", Some(&[0, 255, 16])), (b"00f", None)];
+    for (word, want) in rows {
+        assert_eq!(rt; read_hex(rt.alloc(), word)?.as_deref(), want);
+    }
     Ok(())
 }
 
@@ -62,8 +67,14 @@ fn writes(rt: HostRuntime) -> Result<(), Fail> {
     push_hex(&mut out, b"\x00\xff")?;
     push_escaped(&mut out, b"a/$\xe4")?;
     assert_eq!(rt; out.as_slice(), b"1073741824-500ffa%2f$%e4".as_slice());
-    let octets = read_escaped(rt.alloc(), b"a%2f$%e4")?.ok_or("not read")?;
-    assert_eq!(rt; octets.as_slice(), b"a/$\xe4".as_slice());
-    assert!(rt; read_escaped(rt.alloc(), b"a%41")?.is_none());
+    Ok(())
+}
+
+#[test]
+fn reads_escaped_text(rt: HostRuntime) -> Result<(), Fail> {
+    let rows: [(&[u8], Option<&[u8]>); 2] = [(b"a%2f$%e4", Some(b"a/$\xe4")), (b"a%41", None)];
+    for (text, want) in rows {
+        assert_eq!(rt; read_escaped(rt.alloc(), text)?.as_deref(), want);
+    }
     Ok(())
 }

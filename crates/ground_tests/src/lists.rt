@@ -1,4 +1,4 @@
-use super::*;
+use item_list::ItemList;
 use std::test::Fail;
 
 #[test]

@@ -1,6 +1,6 @@
-use super::*;
 use mms_data::{DataKind, MmsData, Outcome};
 use std::test::Fail;
+use tase_views::{CallKind, Reply, ReplyKind, Results, read_call, spell_reply};
 
 #[test]
 fn calls_are_read(rt: HostRuntime) -> Result<(), Fail> {

@@ -1,12 +1,13 @@
 use bilateral::{TableFault, TableWhy, read_centre};
 use std::alloc::{AllocError, Global};
+use std::process::Abort;
 use std::test::Fail;
 
 // Two points and the table of one peer, on three lines.
 const FRONT: &str = "point P state\npoint Q discrete\npeer A 1.1.1 D T\n";
 
-// Lines that are bad behind those three, with the reason.
-const BAD_LINES: [(&str, TableWhy); 35] = [
+// Fourth lines that are bad, with the reason.
+const BAD_LINES: [(&str, TableWhy); 32] = [
     ("see P domain value ", TableWhy::Word),
     (" see P domain value", TableWhy::Word),
     ("see P\tdomain value", TableWhy::Word),
@@ -47,10 +48,14 @@ const BAD_LINES: [(&str, TableWhy); 35] = [
     ),
     ("peer A 1.1.2 D T", TableWhy::Again),
     ("peer B 1.1.1 D T", TableWhy::Again),
-    ("see P domain value\nsee P vmd time", TableWhy::Again),
-    ("peer B * D T\npeer C * D T", TableWhy::Again),
-    ("\r\n# a remark\r\nsee P domain\r\n", TableWhy::Word),
     ("see P domain value\r", TableWhy::Word),
+];
+
+// Texts behind those three lines, with the first bad line and the reason.
+const BAD_TEXTS: [(&str, u64, TableWhy); 3] = [
+    ("see P domain value\nsee P vmd time", 5, TableWhy::Again),
+    ("peer B * D T\npeer C * D T", 5, TableWhy::Again),
+    ("\r\n# a remark\r\nsee P domain\r\n", 6, TableWhy::Word),
 ];
 
 // First lines that are bad, with the reason.
@@ -71,8 +76,18 @@ const BAD_FIRST_LINES: [(&str, TableWhy); 14] = [
     ("peer A 1.1.1 D", TableWhy::Word),
 ];
 
-// Lines that are taken behind those three.
-const GOOD_LINES: [&str; 8] = [
+// Whole texts, with the first bad line and the reason.
+const BAD_TABLES: [(&str, u64, TableWhy); 2] = [
+    ("point A state\npoint A real", 2, TableWhy::Again),
+    (
+        "point A state\npeer K * D T\nsee A vmd value,value,odd",
+        3,
+        TableWhy::Word,
+    ),
+];
+
+// Texts that are taken behind those three lines.
+const GOOD_TEXTS: [&str; 8] = [
     "see P domain value",
     "see   P  vmd   cov,flags,millis,time,value",
     "peer B 1.1.1.1.1.1.1.1 D T",
@@ -83,56 +98,53 @@ const GOOD_LINES: [&str; 8] = [
     "see P domain value\nsee Q domain value\npeer B 1.1.2 D T\nsee P vmd value",
 ];
 
-// The number of a text's last line.
-fn last_line(text: &[u8]) -> u64 {
-    let text = match text {
-        [front @ .., b'\n'] => front,
-        _ => text,
-    };
-    let mut number = 1u64;
-    for octet in text {
-        if *octet == b'\n' {
-            number = number.saturating_add(1);
-        }
-    }
-    number
+// The first fault of a text behind a front.
+fn fault_of(alloc: Global, front: &str, text: &str) -> Result<Option<TableFault>, AllocError> {
+    let whole = format!(in alloc; "{front}{text}")?;
+    Ok(read_centre(alloc, whole.as_bytes())?.err())
 }
 
-// The reason why the text behind a front isn't taken, where it isn't.
-fn refused(alloc: Global, front: &str, text: &str) -> Result<Option<TableFault>, AllocError> {
-    let whole = format!(in alloc; "{front}{text}")?;
-    Ok(match read_centre(alloc, whole.as_bytes())? {
-        Ok(_) => None,
-        Err(fault) => Some(fault),
-    })
+// Sees that a text behind a front is refused at this line for this reason.
+fn is_refused(
+    rt: &(impl Abort + AllocGlobal),
+    front: &str,
+    text: &str,
+    line: u64,
+    why: TableWhy,
+) -> Result<(), Fail> {
+    let fault = fault_of(rt.alloc(), front, text)?;
+    assert_eq!(rt; fault, Some(TableFault { line, why }), "{text}");
+    Ok(())
 }
 
 #[test]
-fn table_lines_are_refused_with_their_reasons(rt: HostRuntime) -> Result<(), Fail> {
+fn lines_are_refused_with_their_reasons(rt: HostRuntime) -> Result<(), Fail> {
     for (text, why) in BAD_LINES {
-        let line = last_line(text.as_bytes()).saturating_add(3);
-        assert_eq!(rt;
-            refused(rt.alloc(), FRONT, text)?,
-            Some(TableFault { line, why }),
-            "{text}"
-        );
+        is_refused(&rt, FRONT, text, 4, why)?;
     }
     for (text, why) in BAD_FIRST_LINES {
-        assert_eq!(rt;
-            refused(rt.alloc(), "", text)?,
-            Some(TableFault { line: 1, why }),
-            "{text}"
-        );
+        is_refused(&rt, "", text, 1, why)?;
     }
     Ok(())
 }
 
 #[test]
-fn table_lines_are_taken(rt: HostRuntime) -> Result<(), Fail> {
-    for text in GOOD_LINES {
-        assert_eq!(rt; refused(rt.alloc(), FRONT, text)?, None, "{text}");
+fn texts_are_refused_at_their_first_bad_line(rt: HostRuntime) -> Result<(), Fail> {
+    for (text, line, why) in BAD_TEXTS {
+        is_refused(&rt, FRONT, text, line, why)?;
+    }
+    for (text, line, why) in BAD_TABLES {
+        is_refused(&rt, "", text, line, why)?;
+    }
+    Ok(())
+}
+
+#[test]
+fn texts_are_taken(rt: HostRuntime) -> Result<(), Fail> {
+    for text in GOOD_TEXTS {
+        assert_eq!(rt; fault_of(rt.alloc(), FRONT, text)?, None, "{text}");
     }
     let longest = "point ABCDEFGHIJKLMNOPQRSTUVWX state";
-    assert_eq!(rt; refused(rt.alloc(), "", longest)?, None);
+    assert_eq!(rt; fault_of(rt.alloc(), "", longest)?, None);
     Ok(())
 }

@@ -1,0 +1,10 @@
+//! Tests of the crates of the ground, apart from these, so that no crate is proved a second time
+//! with its tests.
+#![tactic(auto)]
+
+#[cfg(test)]
+mod lists;
+#[cfg(test)]
+mod outside_in_memory;
+#[cfg(test)]
+mod texts;

@@ -1,0 +1,16 @@
+//! Tests of the crates of state and node, apart from these, so that no crate is proved a second
+//! time with its tests.
+#![tactic(auto)]
+
+#[cfg(test)]
+mod points;
+#[cfg(test)]
+mod shown;
+#[cfg(test)]
+mod steps;
+#[cfg(test)]
+mod table_lines;
+#[cfg(test)]
+mod tables;
+#[cfg(test)]
+mod texts;
