@@ -1,6 +1,7 @@
 ghost use Rattle.tase_points.specs.Layouts.{IsLayout};
 
-use mms_data::{DataKind, MmsData, spell_data};
+use mms_data::{DataKind, MmsData};
+use mms_text::spell_data;
 use point_data::{from_data, to_data};
 use std::test::Fail;
 use tase_points::{Body, Component, Kind, Layout, PointValue};
