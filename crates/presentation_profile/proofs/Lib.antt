@@ -1,6 +1,9 @@
 pub mod OffersRead
 pub mod PpdusRead
 pub mod Sizes
+pub mod OffersWritten
+pub mod UserWritten
+pub mod PpdusWritten
 mod Worked
 mod WorkedPpdus
 pub mod Transfers

@@ -10,11 +10,11 @@ use Rattle.presentation_profile.specs.Written.{ber_octets, offered_octets, offer
 
 pub ruleset extended = (Extends-append)
 
-ber-sized : length ber_octets ≡ 6
+pub ber-sized : length ber_octets ≡ 6
 unfolding ber_octets length_octets
 ber-sized = refl
 
-calling-sized : length calling_octets ≡ 6
+pub calling-sized : length calling_octets ≡ 6
 unfolding calling_octets length_octets
 calling-sized = refl
 
