@@ -1,15 +1,11 @@
 -- Written forms of what grammars read: their lengths, and that they are read back, whatever follows.
-use Rattle.std.proofs.Common.{◌≡◌, ℕ, zero, suc, ◌+◌, ◌-◌, ◌^◌, ◌≤◌, ◌<◌, Bool, true, false, ◌%◌, ◌≢◌, List, [], ◌∷◌, ◌++◌, length, take, drop, get_or, flat_map, Ok, refl, sym, ap, subst, ◌∙◌, inl, inr, append_assoc, append-nil, arith}
+use Rattle.std.proofs.Common.{◌≡◌, ℕ, zero, suc, ◌+◌, ◌-◌, ◌^◌, ◌≤◌, ◌<◌, Bool, true, false, ◌%◌, ◌≢◌, List, [], ◌∷◌, ◌++◌, length, take, drop, get_or, flat_map, Ok, refl, sym, ap, subst, ◌∙◌, inr, append_assoc, append-nil, arith}
 use Rattle.std.proofs.lemmas.List.{length-append, take_more, drop_at}
 use Rattle.std.proofs.lemmas.List.Concat.{flat_map-append}
-use Rattle.ber_values.specs.declared.lengths.TheConstants.{MOST_LENGTH}
-use Rattle.ber_values.specs.Lengths.{capped, part_size}
 use Rattle.ber_values.specs.Writing.{head_octets, length_octets, written}
-use Rattle.ber_values.specs.Reading.{Taken}
 use Rattle.ber_values.specs.Grammars.{Grammar, taken, gives, then_in, map_in, branch_in, first_is, skip, by_length, pass_within, pass_in}
 use Rattle.ber_values.specs.Parts.{Contents, part_in, all_in, whole_in}
-use Rattle.ber_values.specs.Lists.{BeginsList, SpellsList, count_in, list_in}
-use Rattle.ber_values.proofs.Capped.{length-written, part_size-short, part_size-more, length-length_octets}
+use Rattle.ber_values.specs.Lists.{BeginsList, count_in, list_in}
 use Rattle.ber_values.proofs.Written.{head_written, head_written-next, head_spelled}
 use Rattle.ber_values.proofs.Grammars.{skip_reads, part-written}
 use Rattle.ber_values.proofs.Passed.{PassedSoFar, passed-more}

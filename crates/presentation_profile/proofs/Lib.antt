@@ -4,6 +4,7 @@ pub mod Sizes
 pub mod OffersWritten
 pub mod UserWritten
 pub mod PpdusWritten
+pub mod Agreeing
 mod Worked
 mod WorkedPpdus
 pub mod Transfers

@@ -1,5 +1,5 @@
 -- What is written for offers is read back.
-use Rattle.std.proofs.Common.{◌≡◌, ℕ, zero, suc, ◌+◌, ◌*◌, ◌≤◌, ◌<◌, ◌^◌, true, List, [], ◌∷◌, ◌++◌, length, flat_map, pos, refl, sym, ap, subst, ◌∙◌, append-nil, arith}
+use Rattle.std.proofs.Common.{◌≡◌, ℕ, suc, ◌+◌, ◌*◌, ◌≤◌, ◌<◌, ◌^◌, true, List, [], ◌∷◌, ◌++◌, length, flat_map, pos, refl, sym, ap, subst, append-nil, arith}
 use Rattle.std.specs.List.{All}
 use Rattle.std.specs.Int.{w64}
 use Rattle.std.specs.Int.RustNames.{FitsSigned}
@@ -17,9 +17,9 @@ use Rattle.ber_values.proofs.Capped.{short-sized, length-written, part_size-most
 use Rattle.ber_values.proofs.WrittenParts.{Writes, Ends, ends_of, then-ends, map-ends, part-writes, all-spelled, WritesEach, WriteAll, list-spelled, count-spelled}
 use Rattle.presentation_profile.specs.declared.offers.Offered.{Offered}
 use Rattle.presentation_profile.specs.declared.offers.TheConstants.{MOST_OFFERS, LARGEST_ID}
-use Rattle.presentation_profile.specs.Offers.{any_ber, transfers, offered, offer_contents, offer, offers}
+use Rattle.presentation_profile.specs.Offers.{transfers, offered, offer_contents, offer, offers}
 use Rattle.presentation_profile.specs.Written.{ber_octets, offered_octets, offer_octets, offers_octets, IsOffered, AreOffers}
-use Rattle.presentation_profile.proofs.Sizes.{offered-sized, ber-sized}
+use Rattle.presentation_profile.proofs.Sizes.{offered-sized}
 
 -- an id of a context is spelled by the shortest integer
 pub id-spelled : (at id : ℕ) → id < 2 ^ 32 → unsigned.spells at id (integer_octets (pos id))
@@ -50,7 +50,7 @@ unfolding transfers contents_as
 transfers-spelled at = (
   (81 ∷ 1 ∷ []) ∷ [],
   subst (λ os. (list_in 0 (part_in 6 oid)).spells at ((81 ∷ 1 ∷ []) ∷ []) os) (append-nil (written 6 (81 ∷ 1 ∷ [])))
-  (list-spelled (part_in 6 oid) (written 6) 0 at ((81 ∷ 1 ∷ []) ∷ []) (omega arith) (one_ber, tt)),
+      (list-spelled (part_in 6 oid) (written 6) 0 at ((81 ∷ 1 ∷ []) ∷ []) (omega arith) (one_ber, tt)),
   refl,
 )
 

@@ -1,18 +1,18 @@
 -- What is written for a PPDU is read back as the same PPDU, with its body where that was written.
-use Rattle.std.proofs.Common.{◌≡◌, ℕ, zero, suc, ◌+◌, ◌-◌, ◌≤◌, ◌<◌, ◌^◌, ◌%◌, ◌≢◌, true, false, Option, Some, None, List, [], ◌∷◌, ◌++◌, length, drop, Result, Ok, Err, refl, sym, ap, subst, ◌∙◌, inl, inr, append_assoc, arith}
+use Rattle.std.proofs.Common.{◌≡◌, ℕ, ◌+◌, ◌-◌, ◌≤◌, ◌<◌, ◌^◌, ◌%◌, ◌≢◌, true, false, Option, Some, None, List, [], ◌∷◌, ◌++◌, length, refl, sym, ap, subst, ◌∙◌, inl, inr, arith}
 use Rattle.std.specs.List.{All}
-use Rattle.std.proofs.lemmas.List.{length-append, drop_at}
+use Rattle.std.proofs.lemmas.List.{length-append}
 use Rattle.std.proofs.lemmas.Bool.{eq-eqb}
 use Rattle.ber_values.specs.declared.fault.Span.{Span}
 use Rattle.ber_values.specs.Oid.{IsOid}
 use Rattle.ber_values.specs.Writing.{written, length_octets}
-use Rattle.ber_values.specs.Grammars.{taken, gives, then_in, map_in, branch_in, has_tag, pass_in, is_other}
+use Rattle.ber_values.specs.Grammars.{taken, gives, then_in, map_in, branch_in, has_tag, is_other}
 use Rattle.ber_values.specs.Parts.{part_in, choose_in}
-use Rattle.ber_values.specs.Leaves.{selector_of, selector, fixed}
+use Rattle.ber_values.specs.Leaves.{selector, fixed}
 use Rattle.ber_values.specs.Readers.{taken_whole}
 use Rattle.ber_values.proofs.Capped.{short-sized, length-written, part_size-most}
 use Rattle.ber_values.proofs.Passed.{PassedSoFar, passed-begin, passed-ends}
-use Rattle.ber_values.proofs.WrittenParts.{Writes, Ends, ends_of, then-ends, map-ends, map-writes, part-writes, all-spelled, whole-begins, none_passed, passed-written}
+use Rattle.ber_values.proofs.WrittenParts.{Writes, Ends, ends_of, then-ends, map-ends, part-writes, all-spelled, whole-begins, none_passed, passed-written}
 use Rattle.tpkt_cotp.specs.Selectors.{IsSelector}
 use Rattle.presentation_profile.specs.declared.user_data.TheConstants.{MOST_BODY}
 use Rattle.presentation_profile.specs.declared.user_data.UserData.{UserData}
@@ -24,7 +24,7 @@ use Rattle.presentation_profile.specs.Offers.{offers}
 use Rattle.presentation_profile.specs.Others.{others, after_others, before_others, selector_in}
 use Rattle.presentation_profile.specs.UserData.{user_of, user_data}
 use Rattle.presentation_profile.specs.Results.{results}
-use Rattle.presentation_profile.specs.Ppdus.{connect_named, connect_of, connect_selectors, connect, accept_named, accept_of, accept, come_to_results, has_results, parameters, mode, set_up_contents, set_up, carry_of, ppdu}
+use Rattle.presentation_profile.specs.Ppdus.{connect_named, connect_selectors, connect, accept_named, accept, come_to_results, has_results, parameters, mode, set_up_contents, set_up, carry_of, ppdu}
 use Rattle.presentation_profile.specs.Written.{offers_octets, user_octets, results_octets, selector_octets, calling_octets, connect_octets, accept_octets, mode_octets, set_up_octets, ppdu_octets, AreOffers, IsWritable, HasSelector, IsHeld, last_span, as_written}
 use Rattle.presentation_profile.proofs.OffersWritten.{offers-writes, offers-few}
 use Rattle.presentation_profile.proofs.Sizes.{calling-sized, mode-sized, connect-sized, accept-sized}
@@ -230,10 +230,12 @@ set_up-writes at contents p few e =
     let place = at + 1 + length (length_octets (length (mode_octets ++ last))) in
     part-writes 49 _ at p (mode_octets ++ last) (omega (arith, few, length-append mode_octets last, length-written 162 contents, part_size-most (length contents), mode-sized))
     (all-spelled _ place p (mode_octets ++ last)
-    (inl (refl,
-    then-ends mode (λ u. parameters) place tt mode_octets p last (mode-writes place)
-    (ends_of parameters (place + length mode_octets) p last
-    (part-writes 162 _ (place + length mode_octets) p contents (omega (arith, few)) (all-spelled (branch_in has_results accept connect) _ p contents e))))))
+    (inl (
+      refl,
+      then-ends mode (λ u. parameters) place tt mode_octets p last (mode-writes place)
+          (ends_of parameters (place + length mode_octets) p last
+          (part-writes 162 _ (place + length mode_octets) p contents (omega (arith, few)) (all-spelled (branch_in has_results accept connect) _ p contents e))),
+    )))
 
 set_up-ends : (at : ℕ) (contents : List ℕ) (p : Ppdu) → Writes set_up at p (set_up_octets contents) → Ends ppdu at p (set_up_octets contents)
 unfolding ppdu branch_in set_up_octets

@@ -1,14 +1,14 @@
 -- What is written for user data and for results is read back.
-use Rattle.std.proofs.Common.{◌≡◌, ℕ, zero, suc, ◌+◌, ◌-◌, ◌*◌, ◌≤◌, ◌<◌, ◌^◌, true, false, eqb, cond, Some, None, List, [], ◌∷◌, ◌++◌, length, flat_map, pos, refl, sym, ap, subst, ◌∙◌, inl, inr, append-nil, arith}
+use Rattle.std.proofs.Common.{◌≡◌, ℕ, ◌+◌, ◌-◌, ◌*◌, ◌≤◌, ◌<◌, ◌^◌, eqb, Some, None, List, [], ◌∷◌, ◌++◌, length, flat_map, pos, refl, sym, ap, subst, ◌∙◌, inl, inr, arith}
 use Rattle.std.proofs.lemmas.List.{length-append}
-use Rattle.std.proofs.lemmas.Bool.{eqb-true, eqb-false, cond_both}
+use Rattle.std.proofs.lemmas.Bool.{eqb-true, cond_both}
 use Rattle.ber_values.specs.declared.fault.Span.{Span}
 use Rattle.ber_values.specs.Writing.{written, integer_octets, length_octets}
-use Rattle.ber_values.specs.Grammars.{taken, gives, then_in, map_in, branch_in, pass_in, is_other}
+use Rattle.ber_values.specs.Grammars.{taken, gives, then_in, map_in, branch_in, is_other}
 use Rattle.ber_values.specs.Parts.{part_in, maybe_in}
 use Rattle.ber_values.specs.Leaves.{unsigned, oid, span, span_at, octet}
 use Rattle.ber_values.proofs.Capped.{short-sized, length-written, part_size-most}
-use Rattle.ber_values.proofs.WrittenParts.{Writes, Ends, ends_of, then-ends, map-ends, part-writes, all-spelled, none_passed, WritesEach, WriteAll, list-spelled}
+use Rattle.ber_values.proofs.WrittenParts.{Writes, ends_of, then-ends, map-ends, part-writes, all-spelled, none_passed, WritesEach, WriteAll, list-spelled}
 use Rattle.presentation_profile.specs.declared.user_data.TheConstants.{MOST_BODY}
 use Rattle.presentation_profile.specs.declared.offers.TheConstants.{MOST_OFFERS}
 use Rattle.presentation_profile.specs.declared.user_data.UserData.{UserData}
@@ -37,10 +37,10 @@ values-spelled at id body few size =
       taken None at (first ++ last),
       inr (refl, refl),
       then-ends (part_in 2 unsigned) (λ i. map_in (user_of i) (part_in 160 span)) at id first user last
-      (part-writes 2 unsigned at id (integer_octets (pos id)) (omega (arith, id-few id few)) (id-spelled _ id few))
-      (map-ends (user_of id) (part_in 160 span) (at + length first) (span_at (body_place at id body) body) last
-      (ends_of (part_in 160 span) (at + length first) (span_at (body_place at id body) body) last
-      (part-writes 160 span (at + length first) (span_at (body_place at id body) body) body (omega (arith, size)) (span-spelled _ body)))),
+          (part-writes 2 unsigned at id (integer_octets (pos id)) (omega (arith, id-few id few)) (id-spelled _ id few))
+          (map-ends (user_of id) (part_in 160 span) (at + length first) (span_at (body_place at id body) body) last
+          (ends_of (part_in 160 span) (at + length first) (span_at (body_place at id body) body) last
+          (part-writes 160 span (at + length first) (span_at (body_place at id body) body) body (omega (arith, size)) (span-spelled _ body)))),
     )
 
 values-few : (id : ℕ) (body : List ℕ) → id < 2 ^ 32 → length body ≤ MOST_BODY → length (values_octets id body) ≤ length body + 16
