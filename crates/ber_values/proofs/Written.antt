@@ -231,6 +231,10 @@ pub head_written : ℕ → ℕ → ℕ → Head
 unfolding tag_written size_written
 head_written tag at size = head_of (tag_written tag at []) (size_written size at [])
 
+pub head_written-next : (tag at size : ℕ) → (head_written tag at size).next ≡ at + 1 + length (length_octets size) + size
+unfolding head_written tag_written size_written
+head_written-next tag at size = refl
+
 pub head_spelled : (tag at : ℕ) (contents rest : List ℕ) → length contents < 2 ^ 32 → tag % 32 ≢ 31 → SpellsHead at (written tag contents ++ rest) (head_written tag at (length contents))
 unfolding head_written tag_written size_written
 head_spelled tag at contents rest few single =

@@ -1,6 +1,10 @@
 pub mod OffersRead
 pub mod PpdusRead
 pub mod Sizes
+pub mod OffersWritten
+pub mod UserWritten
+pub mod PpdusWritten
+pub mod Agreeing
 mod Worked
 mod WorkedPpdus
 pub mod Transfers

@@ -1,5 +1,5 @@
 -- Lengths of written forms.
-use Rattle.std.proofs.Common.{◌≡◌, ℕ, ◌+◌, ◌≤◌, ◌<◌, List, [], ◌∷◌, ◌++◌, length, Option, Some, None, pos, refl, ap, ◌∙◌, append_assoc, arith}
+use Rattle.std.proofs.Common.{◌≡◌, ℕ, ◌+◌, ◌≤◌, List, ◌++◌, length, Option, Some, pos, refl, ap, ◌∙◌, append_assoc, arith}
 use Rattle.std.proofs.lemmas.List.{length-append}
 use Rattle.plain_text.proofs.Extended.{Extends-append}
 use Rattle.ber_values.specs.Writing.{head_octets, written, integer_octets, length_octets}
@@ -10,11 +10,11 @@ use Rattle.presentation_profile.specs.Written.{ber_octets, offered_octets, offer
 
 pub ruleset extended = (Extends-append)
 
-ber-sized : length ber_octets ≡ 6
+pub ber-sized : length ber_octets ≡ 6
 unfolding ber_octets length_octets
 ber-sized = refl
 
-calling-sized : length calling_octets ≡ 6
+pub calling-sized : length calling_octets ≡ 6
 unfolding calling_octets length_octets
 calling-sized = refl
 
@@ -78,8 +78,8 @@ set_up-written len old mid new contents is head tail =
     let inner : length (mode_octets ++ written 162 contents) ≡ length mode_octets + part_size (length contents) = length-append mode_octets (written 162 contents) ∙ ap (λ n. length mode_octets + n) (length-written 162 contents) in
     let front : front_octets len ≡ front_octets (length contents) = ap front_octets is in
     let whole : front_octets (length contents) ++ contents ≡ head_octets 49 (length mode_octets + part_size (length contents)) ++ (mode_octets ++ written 162 contents) =
-        append_assoc (head_octets 49 (length mode_octets + part_size (length contents))) (mode_octets ++ head_octets 162 (length contents)) contents
-        ∙ ap (λ os. head_octets 49 (length mode_octets + part_size (length contents)) ++ os) (append_assoc mode_octets (head_octets 162 (length contents)) contents) in
+    append_assoc (head_octets 49 (length mode_octets + part_size (length contents))) (mode_octets ++ head_octets 162 (length contents)) contents
+    ∙ ap (λ os. head_octets 49 (length mode_octets + part_size (length contents)) ++ os) (append_assoc mode_octets (head_octets 162 (length contents)) contents) in
     tail ∙ ap (λ os. os ++ contents) (head ∙ ap (λ os. old ++ os) front)
     ∙ append_assoc old (front_octets (length contents)) contents
     ∙ ap (λ os. old ++ os) (whole ∙ ap (λ n. head_octets 49 n ++ (mode_octets ++ written 162 contents)) (let back : length mode_octets + part_size (length contents) ≡ length (mode_octets ++ written 162 contents) = omega (arith, inner) in back))

@@ -1,5 +1,5 @@
 -- PPDUs as two control centres send them, computed.
-use Rattle.std.proofs.Common.{◌≡◌, List, ℕ, [], ◌∷◌, true, Option, Some, None, Ok, Err, refl}
+use Rattle.std.proofs.Common.{◌≡◌, List, ℕ, [], ◌∷◌, true, Some, Ok, refl}
 use Rattle.ber_values.specs.Tags.{tag_in, length_in}
 use Rattle.ber_values.specs.Numbers.{unsigned_in}
 use Rattle.ber_values.specs.TextContents.{oid_in}
@@ -8,8 +8,6 @@ use Rattle.ber_values.specs.Grammars.{taken, gives, then_in, map_in, branch_in, 
 use Rattle.ber_values.specs.Parts.{whole_in, sized_part_in, parted_in, part_in, choose_in, maybe_in, contents_as, contents_where, all_in}
 use Rattle.ber_values.specs.Lists.{more_in, list_in, count_in}
 use Rattle.ber_values.specs.Leaves as leaves
-use Rattle.ber_values.specs.Faults.{fault_at}
-use Rattle.ber_values.specs.declared.fault.Why.TheVariants as whys
 use Rattle.presentation_profile.specs.declared.ppdu.Ppdu.TheVariants.{Connect, Accept, Carry}
 use Rattle.presentation_profile.specs.Offers.{transfers, offered, offer_contents, offer, offers}
 use Rattle.presentation_profile.specs.Others.{others, after_others, before_others, selector_in}

@@ -1,6 +1,6 @@
 -- The contexts that both ends agree on.
 use Rattle.std.specs.Prelude.{◌≡◌, ◌≢◌, ℕ, ◌≤◌, Bool, ◌&&◌, List, [], ◌∷◌, length, filter, ◌⊎◌}
-use Rattle.std.specs.Prelude.{Result, Ok, Err, ◌↔◌}
+use Rattle.std.specs.Prelude.{Result, Ok, Err, Option, Some, None, ◌↔◌}
 use Rattle.std.specs.Str.{bytes_eq}
 use Rattle.presentation_profile.specs.declared.offers.Offered.{Offered}
 use Rattle.presentation_profile.specs.declared.agreement.Agreed.{Agreed}
@@ -15,9 +15,19 @@ acse_name = 82 ∷ 1 ∷ 0 ∷ 1 ∷ []
 abbrev pub mms_name : List ℕ
 mms_name = 40 ∷ 202 ∷ 34 ∷ 2 ∷ 1 ∷ []
 
+-- whether an offer has this abstract syntax, and BER
+abbrev pub is_of : List ℕ → Offered → Bool
+is_of name o = o.ber && bytes_eq o.abstract_name name
+
 -- the offers of this abstract syntax that have BER
 abbrev pub offers_of : List ℕ → List Offered → List Offered
-offers_of name contexts = filter (λ o. o.ber && bytes_eq o.abstract_name name) contexts
+offers_of name contexts = filter (is_of name) contexts
+
+-- the id of the only one of these offers, if there is one, or else two stand there
+abbrev pub IsOnly : List Offered → Result (Option ℕ) ContextFault → Type 0
+IsOnly os (Ok None) = os ≡ []
+IsOnly os (Ok (Some id)) = (o : Offered) × (os ≡ o ∷ []) × (id ≡ o.id)
+IsOnly os (Err fault) = (2 ≤ length os) × (fault ≡ faults.Twice)
 
 -- two offers name the same of the two, or one of each has the same id
 abbrev pub NamesTwice : List Offered → Type 0

@@ -1,6 +1,7 @@
 -- PPDUs (ISO 8823-1, CP-type, CPA-type and User-data).
 use Rattle.std.specs.Prelude.{ℕ, Bool, false, List, [], ◌∷◌, Option, Result, Ok, Err}
 use Rattle.ber_values.specs.declared.fault.BerFault.{BerFault}
+use Rattle.ber_values.specs.declared.fault.Span.{Span}
 use Rattle.ber_values.specs.Reading.{Taken}
 use Rattle.ber_values.specs.Grammars.{Grammar, then_in, map_in, branch_in, has_tag}
 use Rattle.ber_values.specs.Parts.{Contents, part_in, whole_in, all_in}
@@ -78,6 +79,12 @@ set_up = part_in 49 set_up_contents
 
 abbrev pub carry_of : UserData → Ppdu
 carry_of user = Carry user.id user.body
+
+-- where the body of a PPDU stands
+abbrev pub body_of : Ppdu → Span
+body_of (Connect _ _ _ body) = body
+body_of (Accept _ _ _ body) = body
+body_of (Carry _ body) = body
 
 -- user data alone, or else what sets up a connection, up to the end
 unfoldable pub ppdu : Grammar Ppdu

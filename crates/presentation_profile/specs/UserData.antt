@@ -1,5 +1,5 @@
 -- The data of the presentation's user (ISO 8823-1, 8.4.2, User-data).
-use Rattle.std.specs.Prelude.{ℕ}
+use Rattle.std.specs.Prelude.{ℕ, ◌≤◌}
 use Rattle.ber_values.specs.declared.fault.Span.{Span}
 use Rattle.ber_values.specs.Grammars.{Grammar, then_in, map_in}
 use Rattle.ber_values.specs.Parts.{Contents, part_in, maybe_in, all_in}
@@ -19,3 +19,7 @@ data_values = all_in
 -- one list of values
 unfoldable pub user_data : Grammar UserData
 user_data = part_in 97 (all_in (part_in 48 data_values))
+
+-- a body lies between two places
+abbrev pub IsBodyWithin : ℕ → ℕ → Span → Type 0
+IsBodyWithin at end body = (at ≤ body.from) × ((body.from ≤ body.to) × (body.to ≤ end))

@@ -1,4 +1,9 @@
 //! The contexts that both ends agree on.
+ghost use Rattle.std.specs.Prelude.{◌≡◌, ◌↔◌, ◌≤◌, ◌∷◌, [], length, IsTrue};
+ghost use Rattle.presentation_profile.specs.declared.offers.Offered.{Offered};
+ghost use Rattle.presentation_profile.specs.Agreements.{IsAgreement, IsOnly, offers_of, is_of};
+
+use crate::offers::Offered;
 
 /// The ids of the two contexts that are agreed on.
 #[derive(Clone, Copy, Debug, PartialEq, Eq)]
@@ -16,4 +21,49 @@ pub enum ContextFault {
     NoMms,
     /// Two offers name the same of the two, or one of each has the same id.
     Twice,
+}
+
+/// The name of ACSE: joint-iso-itu-t association-control(2) abstract-syntax(1) apdus(0)
+/// version1(1).
+const ACSE: [u8; 4] = [0x52, 1, 0, 1];
+
+/// The name of MMS: iso(1) standard(0) 9506 part(2) mms-abstract-syntax-version1(1).
+const MMS: [u8; 5] = [0x28, 0xCA, 0x22, 2, 1];
+
+/// The ids of the contexts that are agreed on. Only offers with BER count: one has to name ACSE,
+/// one MMS, and their ids have to differ.
+pub fn agree(contexts: &[Offered]) -> Result<Agreed, ContextFault>
+    ensures { IsAgreement contexts.now result }
+{
+    let acse = only_of(contexts, &ACSE)?;
+    let mms = only_of(contexts, &MMS)?;
+    match (acse, mms) {
+        (None, _) => Err(ContextFault::NoAcse),
+        (_, None) => Err(ContextFault::NoMms),
+        (Some(acse), Some(mms)) if acse == mms => Err(ContextFault::Twice),
+        (Some(acse), Some(mms)) => Ok(Agreed { acse, mms }),
+    }
+}
+
+/// The id of the one offer of this abstract syntax with BER, if there is one.
+fn only_of(contexts: &[Offered], name: &[u8]) -> Result<Option<u32>, ContextFault>
+    ensures { IsOnly (offers_of name.now contexts.now) result }
+{
+    let mut only = None;
+    for offer in contexts {
+        if is_of(offer, name) {
+            if only.is_some() {
+                return Err(ContextFault::Twice);
+            }
+            only = Some(offer.id);
+        }
+    }
+    Ok(only)
+}
+
+/// Whether an offer has this abstract syntax, and BER.
+fn is_of(offer: &Offered, name: &[u8]) -> bool
+    ensures { result ≡ is_of name.now offer.now }
+{
+    offer.ber && offer.abstract_name.octets() == name
 }

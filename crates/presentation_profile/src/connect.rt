@@ -6,6 +6,8 @@ ghost use Rattle.ber_values.specs.Stops.{Answers};
 ghost use Rattle.ber_values.specs.Parts.{all_in};
 ghost use Rattle.ber_values.specs.Readers.{taken_from};
 ghost use Rattle.presentation_profile.specs.Ppdus.{connect_selectors, connect};
+ghost use Rattle.presentation_profile.specs.Ppdus.{body_of};
+ghost use Rattle.presentation_profile.specs.UserData.{IsBodyWithin};
 ghost use Rattle.presentation_profile.specs.Written.{AreOffers, calling_octets, connect_octets};
 
 use crate::offers::{OFFERS, Offers, offers_len, put_offers, take_offers};
@@ -29,8 +31,10 @@ const NAMED: [u8; 3] = [CALLING, CALLED, OFFERS];
 #[tactic(auto, using(ber_values::proofs::Passed::drop_on), unfolding(crate::specs::Ppdus::connect, crate::specs::Others::after_others, ber_values::specs::Parts::all_in, ber_values::specs::Grammars::then_in, ber_values::specs::Grammars::map_in))]
 pub(crate) fn connect_from(alloc: Global, part: &Part<'_>) -> Result<Ppdu, Stop>
     requires { part.now.head.body + length part.now.contents.now < 2 ^ 64 }
-    ensures { Answers (λ p. p) result
+    ensures exact { Answers (λ p. p) result
         ((all_in connect).reading part.now.head part.now.contents.now) }
+    ensures body { IfOk result (λ p. IsBodyWithin part.now.head.body
+        (part.now.head.body + length part.now.contents.now) (body_of p)) }
 {
     let (called, at) = take_selectors(alloc, part.contents, part.head.body)?;
     let rest = octets_from(part.contents, part.head.body, at);

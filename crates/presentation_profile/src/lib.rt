@@ -11,8 +11,11 @@ mod ppdu;
 mod results;
 mod user_data;
 
-pub use agreement::{Agreed, ContextFault};
-pub use laws::{offers_have_one_reading, ppdus_have_one_reading};
+pub use agreement::{Agreed, ContextFault, agree};
+pub use laws::{
+    offers_have_one_reading, ppdus_have_one_reading, written_offers_are_read,
+    written_ppdus_are_read,
+};
 pub use offers::{
     LARGEST_ID, MOST_OFFERS, Offered, Offers, offers_len, read_offers, take_offers, write_offers,
 };

@@ -13,8 +13,8 @@ ghost use Rattle.presentation_profile.specs.Written.{offered_octets, offer_octet
 ghost use Rattle.presentation_profile.specs.Written.{ber_octets, AreOffers};
 
 use ber_values::{
-    BerFault, Oid, Part, Stop, Why, natural_len, octets_from, part_len, settle, take_end, take_part,
-    write_head, write_natural, write_oid,
+    BerFault, Oid, Part, Stop, Why, natural_len, octets_from, part_len, settle, take_end,
+    take_part, write_head, write_natural, write_oid,
 };
 use item_list::ItemList;
 use std::alloc::{AllocError, Global};

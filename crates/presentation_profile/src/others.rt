@@ -9,7 +9,7 @@ ghost use Rattle.ber_values.specs.Grammars.{taken};
 ghost use Rattle.ber_values.specs.Readers.{taken_from};
 ghost use Rattle.presentation_profile.specs.Others.{others, after_others, before_others};
 ghost use Rattle.presentation_profile.specs.Others.{selector_in};
-ghost use Rattle.presentation_profile.specs.UserData.{user_data};
+ghost use Rattle.presentation_profile.specs.UserData.{user_data, IsBodyWithin};
 ghost use Rattle.presentation_profile.specs.Written.{selector_octets};
 
 use crate::user_data::{UserData, take_user_data};
@@ -74,6 +74,7 @@ pub(crate) fn take_last_data(
     ensures exact { Gives (taken_from at octets.now) result
         ((after_others named.now (before_others named.now user_data)).reading at octets.now) }
     ensures within { IfOk result (λ x. (at < x.1) × (x.1 ≤ at + length octets.now)) }
+    ensures body { IfOk result (λ x. IsBodyWithin at x.1 x.0.body) }
 {
     let next = skip_others(octets, at, named)?;
     let rest = octets_from(octets, at, next);

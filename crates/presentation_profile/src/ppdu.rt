@@ -9,7 +9,8 @@ ghost use Rattle.ber_values.specs.Grammars.{branch_in};
 ghost use Rattle.ber_values.specs.Parts.{all_in};
 ghost use Rattle.ber_values.specs.Readers.{IsReadBy, taken_from, taken_whole};
 ghost use Rattle.presentation_profile.specs.Ppdus.{accept, connect, has_results, parameters, mode};
-ghost use Rattle.presentation_profile.specs.Ppdus.{set_up_contents, ppdu};
+ghost use Rattle.presentation_profile.specs.Ppdus.{set_up_contents, ppdu, body_of};
+ghost use Rattle.presentation_profile.specs.UserData.{IsBodyWithin};
 ghost use Rattle.presentation_profile.specs.Written.{AreOffers, IsWritable, connect_octets};
 ghost use Rattle.presentation_profile.specs.Written.{accept_octets, mode_octets, front_octets};
 ghost use Rattle.presentation_profile.specs.Written.{set_up_octets, ppdu_octets};
@@ -21,7 +22,8 @@ use crate::others::skip_others;
 use crate::results::{RESULTS, Results};
 use crate::user_data::{MOST_BODY, USER_DATA, put_user_data, take_user_data};
 use ber_values::{
-    BerFault, Part, Span, Stop, has_tag, octets_from, part_len, settle, take_end, take_part, write_head,
+    BerFault, Part, Span, Stop, has_tag, octets_from, part_len, settle, take_end, take_part,
+    write_head,
 };
 use std::alloc::{AllocError, Global};
 use tpkt_cotp::Selector;
@@ -69,15 +71,19 @@ pub fn read_ppdu(
 ) -> Result<Result<Ppdu, BerFault>, AllocError>
     requires start { at ≤ end }
     requires stop { end ≤ length tsdu.now }
-    ensures { IfOk result (λ read. IsReadBy ppdu
+    ensures exact { IfOk result (λ read. IsReadBy ppdu
         (taken_whole at (slice_range tsdu.now at end)) at (slice_range tsdu.now at end) read) }
+    ensures body { IfOk result (λ read. IfOk read (λ p. IsBodyWithin at end (body_of p))) }
 {
     ppdu_from(alloc, &tsdu[at..end], at)
 }
 
 fn ppdu_from(alloc: Global, octets: &[u8], at: usize) -> Result<Result<Ppdu, BerFault>, AllocError>
     requires { at + length octets.now < 2 ^ 64 }
-    ensures { IfOk result (λ read. IsReadBy ppdu (taken_whole at octets.now) at octets.now read) }
+    ensures exact { IfOk result
+        (λ read. IsReadBy ppdu (taken_whole at octets.now) at octets.now read) }
+    ensures body { IfOk result (λ read. IfOk read
+        (λ p. IsBodyWithin at (at + length octets.now) (body_of p))) }
 {
     settle(whole_ppdu(alloc, octets, at))
 }
@@ -86,7 +92,8 @@ fn ppdu_from(alloc: Global, octets: &[u8], at: usize) -> Result<Result<Ppdu, Ber
 #[tactic(auto, unfolding(crate::specs::Ppdus::ppdu, crate::specs::Ppdus::set_up, ber_values::specs::Parts::whole_in, ber_values::specs::Parts::part_in, ber_values::specs::Grammars::branch_in, ber_values::specs::Grammars::map_in))]
 fn whole_ppdu(alloc: Global, octets: &[u8], at: usize) -> Result<Ppdu, Stop>
     requires { at + length octets.now < 2 ^ 64 }
-    ensures { Answers (taken_whole at octets.now) result (ppdu.reading at octets.now) }
+    ensures exact { Answers (taken_whole at octets.now) result (ppdu.reading at octets.now) }
+    ensures body { IfOk result (λ p. IsBodyWithin at (at + length octets.now) (body_of p)) }
 {
     if has_tag(octets, USER_DATA) {
         let (user, next) = take_user_data(octets, at)?;
@@ -106,8 +113,10 @@ fn whole_ppdu(alloc: Global, octets: &[u8], at: usize) -> Result<Ppdu, Stop>
 #[tactic(auto, unfolding(crate::specs::Ppdus::set_up_contents, ber_values::specs::Parts::all_in, ber_values::specs::Grammars::branch_in, ber_values::specs::Grammars::then_in, ber_values::specs::Grammars::map_in))]
 fn set_up_from(alloc: Global, part: &Part<'_>) -> Result<Ppdu, Stop>
     requires { part.now.head.body + length part.now.contents.now < 2 ^ 64 }
-    ensures { Answers (λ p. p) result
+    ensures exact { Answers (λ p. p) result
         (set_up_contents.reading part.now.head part.now.contents.now) }
+    ensures body { IfOk result (λ p. IsBodyWithin part.now.head.body
+        (part.now.head.body + length part.now.contents.now) (body_of p)) }
 {
     let at = part.head.body;
     if has_tag(part.contents, MODE) {
@@ -145,6 +154,7 @@ fn take_parameters(alloc: Global, octets: &[u8], at: usize) -> Result<(Ppdu, usi
     requires { at + length octets.now < 2 ^ 64 }
     ensures exact { Answers (taken_from at octets.now) result (parameters.reading at octets.now) }
     ensures within { IfOk result (λ x. (at < x.1) × (x.1 ≤ at + length octets.now)) }
+    ensures body { IfOk result (λ x. IsBodyWithin at x.1 (body_of x.0)) }
 {
     let part = take_part(octets, at, PARAMETERS)?;
     let ppdu = parameters_from(alloc, &part)?;
@@ -155,8 +165,10 @@ fn take_parameters(alloc: Global, octets: &[u8], at: usize) -> Result<(Ppdu, usi
 #[tactic(auto, unfolding(ber_values::specs::Parts::all_in, ber_values::specs::Grammars::branch_in))]
 fn parameters_from(alloc: Global, part: &Part<'_>) -> Result<Ppdu, Stop>
     requires { part.now.head.body + length part.now.contents.now < 2 ^ 64 }
-    ensures { Answers (λ p. p) result ((all_in (branch_in has_results accept connect)).reading
+    ensures exact { Answers (λ p. p) result ((all_in (branch_in has_results accept connect)).reading
         part.now.head part.now.contents.now) }
+    ensures body { IfOk result (λ p. IsBodyWithin part.now.head.body
+        (part.now.head.body + length part.now.contents.now) (body_of p)) }
 {
     if has_results(part.contents) {
         accept_from(alloc, part)

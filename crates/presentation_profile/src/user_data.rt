@@ -9,11 +9,12 @@ ghost use Rattle.ber_values.specs.Parts.{maybe_in};
 ghost use Rattle.ber_values.specs.Leaves.{oid};
 ghost use Rattle.ber_values.specs.Readers.{taken_from};
 ghost use Rattle.presentation_profile.specs.UserData.{data_values, user_data};
+ghost use Rattle.presentation_profile.specs.UserData.{IsBodyWithin};
 ghost use Rattle.presentation_profile.specs.Written.{values_octets, user_octets};
 
 use ber_values::{
-    BerFault, Part, Span, has_tag, natural_len, octets_from, part_len, take_end, take_part, write_head,
-    write_natural, write_octets,
+    BerFault, Part, Span, has_tag, natural_len, octets_from, part_len, take_end, take_part,
+    write_head, write_natural, write_octets,
 };
 use std::alloc::AllocError;
 
@@ -40,6 +41,7 @@ pub(crate) fn take_user_data(octets: &[u8], at: usize) -> Result<(UserData, usiz
     requires { at + length octets.now < 2 ^ 64 }
     ensures exact { Gives (taken_from at octets.now) result (user_data.reading at octets.now) }
     ensures within { IfOk result (λ x. (at < x.1) × (x.1 ≤ at + length octets.now)) }
+    ensures body { IfOk result (λ x. IsBodyWithin at x.1 x.0.body) }
 {
     let part = take_part(octets, at, USER_DATA)?;
     let list = take_part(part.contents, part.head.body, 0x30)?;
@@ -49,10 +51,12 @@ pub(crate) fn take_user_data(octets: &[u8], at: usize) -> Result<(UserData, usiz
 }
 
 /// The values that the contents of an element are.
-#[tactic(auto, unfolding(crate::specs::UserData::data_values, ber_values::specs::Parts::part_in, ber_values::specs::Parts::all_in, ber_values::specs::Grammars::then_in, ber_values::specs::Grammars::map_in))]
+#[tactic(auto, unfolding(crate::specs::UserData::data_values, ber_values::specs::Leaves::span, ber_values::specs::Parts::part_in, ber_values::specs::Parts::all_in, ber_values::specs::Grammars::then_in, ber_values::specs::Grammars::map_in))]
 fn values_from(part: &Part<'_>) -> Result<UserData, BerFault>
     requires { part.now.head.body + length part.now.contents.now < 2 ^ 64 }
-    ensures { result ≡ data_values.reading part.now.head part.now.contents.now }
+    ensures exact { result ≡ data_values.reading part.now.head part.now.contents.now }
+    ensures body { IfOk result (λ user. IsBodyWithin part.now.head.body
+        (part.now.head.body + length part.now.contents.now) user.body) }
 {
     let (_name, next) = maybe_name(part.contents, part.head.body, 6)?;
     let rest = octets_from(part.contents, part.head.body, next);

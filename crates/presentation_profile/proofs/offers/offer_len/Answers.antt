@@ -7,5 +7,9 @@ pub returns-clause-value : goal.returns-clause-value
 unfolding offer_octets
 returns-clause-value c =
     let few = c.offered_len.ensures.few in
-    omega (arith, short-sized 48 (offered_octets c.args.offer.now)
-    (omega (arith, few, c.offered_len.ensures.value)), c.offered_len.ensures.value)
+    omega (
+      arith,
+      short-sized 48 (offered_octets c.args.offer.now)
+          (omega (arith, few, c.offered_len.ensures.value)),
+      c.offered_len.ensures.value,
+    )

@@ -1,4 +1,4 @@
-use Rattle.std.proofs.Common.{◌≡◌, ◌+◌, ◌++◌, length, sym, ap, ◌∙◌, append_assoc, arith}
+use Rattle.std.proofs.Common.{◌≡◌, ◌+◌, ◌++◌, length, ap, ◌∙◌, append_assoc, arith}
 use Rattle.ber_values.specs.Lengths.{part_size}
 use Rattle.ber_values.specs.Writing.{head_octets}
 use Rattle.ber_values.proofs.Capped.{element-few, part_size-most}
@@ -16,10 +16,10 @@ returns-clause-ok c =
     let old = c.args.out.now.items in
     let head = head_octets 49 (length mode_octets + part_size c.args.len) in
     let size : 5 + c.part_len.result ≡ length mode_octets + part_size c.args.len =
-        omega (arith, c.part_len.ensures, mode-sized, part_size-most c.args.len, c.requires) in
+    omega (arith, c.part_len.ensures, mode-sized, part_size-most c.args.len, c.requires) in
     let one = c.in_ok-write_head.ensures.ok ∙ ap (λ n. old ++ head_octets 49 n) size in
     let two = c.in_ok-put_mode.ensures.ok ∙ ap (λ os. os ++ mode_octets) one
-        ∙ append_assoc old head mode_octets in
+    ∙ append_assoc old head mode_octets in
     c.in_ok-write_head-2.ensures.ok ∙ ap (λ os. os ++ head_octets 162 c.args.len) two
     ∙ append_assoc old (head ++ mode_octets) (head_octets 162 c.args.len)
     ∙ ap (λ os. old ++ os) (append_assoc head mode_octets (head_octets 162 c.args.len))

@@ -12,5 +12,8 @@ returns-clause-value c =
 
 pub returns-clause-few : goal.returns-clause-few
 returns-clause-few c =
-    omega (arith, element-few c.each_len.result c.part_len.result c.part_len.ensures,
-    c.each_len.ensures.few)
+    omega (
+      arith,
+      element-few c.each_len.result c.part_len.result c.part_len.ensures,
+      c.each_len.ensures.few,
+    )

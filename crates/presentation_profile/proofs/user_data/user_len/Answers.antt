@@ -16,6 +16,9 @@ returns-clause-value c =
 
 pub returns-clause-few : goal.returns-clause-few
 returns-clause-few c =
-    omega (arith, element-few c.values_len.result c.part_len.result c.part_len.ensures,
-    element-few c.part_len.result c.part_len-2.result c.part_len-2.ensures,
-    c.values_len.ensures.few)
+    omega (
+      arith,
+      element-few c.values_len.result c.part_len.result c.part_len.ensures,
+      element-few c.part_len.result c.part_len-2.result c.part_len-2.ensures,
+      c.values_len.ensures.few,
+    )

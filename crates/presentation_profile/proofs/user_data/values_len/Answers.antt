@@ -14,5 +14,8 @@ returns-clause-value c =
 
 pub returns-clause-few : goal.returns-clause-few
 returns-clause-few c =
-    omega (arith, element-few (length c.args.body.now) c.part_len.result c.part_len.ensures,
-    c.natural_len.ensures.few)
+    omega (
+      arith,
+      element-few (length c.args.body.now) c.part_len.result c.part_len.ensures,
+      c.natural_len.ensures.few,
+    )

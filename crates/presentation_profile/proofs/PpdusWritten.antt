@@ -1,0 +1,295 @@
+-- What is written for a PPDU is read back as the same PPDU, with its body where that was written.
+use Rattle.std.proofs.Common.{◌≡◌, ℕ, ◌+◌, ◌-◌, ◌≤◌, ◌<◌, ◌^◌, ◌%◌, ◌≢◌, true, false, Option, Some, None, List, [], ◌∷◌, ◌++◌, length, refl, sym, ap, subst, ◌∙◌, inl, inr, arith}
+use Rattle.std.specs.List.{All}
+use Rattle.std.proofs.lemmas.List.{length-append}
+use Rattle.std.proofs.lemmas.Bool.{eq-eqb}
+use Rattle.ber_values.specs.declared.fault.Span.{Span}
+use Rattle.ber_values.specs.Oid.{IsOid}
+use Rattle.ber_values.specs.Writing.{written, length_octets}
+use Rattle.ber_values.specs.Grammars.{taken, gives, then_in, map_in, branch_in, has_tag, is_other}
+use Rattle.ber_values.specs.Parts.{part_in, choose_in}
+use Rattle.ber_values.specs.Leaves.{selector, fixed}
+use Rattle.ber_values.specs.Readers.{taken_whole}
+use Rattle.ber_values.proofs.Capped.{short-sized, length-written, part_size-most}
+use Rattle.ber_values.proofs.Passed.{PassedSoFar, passed-begin, passed-ends}
+use Rattle.ber_values.proofs.WrittenParts.{Writes, Ends, ends_of, then-ends, map-ends, part-writes, all-spelled, whole-begins, none_passed, passed-written}
+use Rattle.tpkt_cotp.specs.Selectors.{IsSelector}
+use Rattle.presentation_profile.specs.declared.user_data.TheConstants.{MOST_BODY}
+use Rattle.presentation_profile.specs.declared.user_data.UserData.{UserData}
+use Rattle.presentation_profile.specs.declared.offers.Offered.{Offered}
+use Rattle.presentation_profile.specs.declared.offers.TheConstants.{MOST_OFFERS}
+use Rattle.presentation_profile.specs.declared.ppdu.Ppdu.{Ppdu}
+use Rattle.presentation_profile.specs.declared.ppdu.Ppdu.TheVariants.{Connect, Accept, Carry}
+use Rattle.presentation_profile.specs.Offers.{offers}
+use Rattle.presentation_profile.specs.Others.{others, after_others, before_others, selector_in}
+use Rattle.presentation_profile.specs.UserData.{user_of, user_data}
+use Rattle.presentation_profile.specs.Results.{results}
+use Rattle.presentation_profile.specs.Ppdus.{connect_named, connect_selectors, connect, accept_named, accept, come_to_results, has_results, parameters, mode, set_up_contents, set_up, carry_of, ppdu}
+use Rattle.presentation_profile.specs.Written.{offers_octets, user_octets, results_octets, selector_octets, calling_octets, connect_octets, accept_octets, mode_octets, set_up_octets, ppdu_octets, AreOffers, IsWritable, HasSelector, IsHeld, last_span, as_written}
+use Rattle.presentation_profile.proofs.OffersWritten.{offers-writes, offers-few}
+use Rattle.presentation_profile.proofs.Sizes.{calling-sized, mode-sized, connect-sized, accept-sized}
+use Rattle.presentation_profile.proofs.UserWritten.{user-writes, results-write, body_within, results-few, user-few}
+
+-- ---- selectors
+
+none_other : (named : List ℕ) (at tag : ℕ) (octets : List ℕ) → is_other 128 191 named tag ≡ false → (others named).begins at (tag ∷ octets) (taken tt at (tag ∷ octets))
+unfolding others
+none_other named at tag octets e = none_passed (is_other 128 191 named) at (tag ∷ octets) e
+
+none_last : (named : List ℕ) (at : ℕ) → (others named).begins at [] (taken tt at [])
+unfolding others
+none_last named at = none_passed (is_other 128 191 named) at [] refl
+
+selector-spelled : (at : ℕ) (octets : List ℕ) → IsSelector octets → selector.spells at (Some octets) octets
+unfolding selector
+selector-spelled at [] is = absurd (omega (arith, is.0))
+selector-spelled at (first ∷ octets) is = ((omega arith, is.1), refl)
+
+selector-writes : (tag at : ℕ) (octets : List ℕ) → IsSelector octets → Writes (selector_in tag) at (Some octets) (written tag octets)
+unfolding selector_in choose_in branch_in
+selector-writes tag at octets is rest = inl (eq-eqb tag tag refl, part-writes tag selector at (Some octets) octets (omega (arith, is.1)) (selector-spelled _ octets is) rest)
+
+no_selector : (tag at first : ℕ) (rest : List ℕ) → has_tag tag (first ∷ rest) ≡ false → (selector_in tag).begins at (first ∷ rest) (taken None at (first ∷ rest))
+unfolding selector_in choose_in branch_in gives
+no_selector tag at first rest e = inr (e, refl)
+
+-- ---- a connect
+
+calling-writes : (at : ℕ) → Writes (selector_in 129) at (Some (0 ∷ 0 ∷ 0 ∷ 1 ∷ [])) calling_octets
+unfolding calling_octets
+calling-writes at = selector-writes 129 at (0 ∷ 0 ∷ 0 ∷ 1 ∷ []) (omega arith, omega arith)
+
+-- the called selector, where offers follow
+called-begins : (called : Option (List ℕ)) (at : ℕ) (after : List ℕ) → HasSelector called → (after_others connect_named (selector_in 130)).begins at (selector_octets 130 called ++ (164 ∷ after)) (taken called (at + length (selector_octets 130 called)) (164 ∷ after))
+unfolding after_others then_in
+called-begins None at after held = (taken tt at (164 ∷ after), none_other connect_named at 164 after refl, subst (λ (k : ℕ). (selector_in 130).begins at (164 ∷ after) (taken None k (164 ∷ after))) (let none : at ≡ at + 0 = omega arith in none) (no_selector 130 at 164 after refl))
+called-begins (Some octets) at after held = (taken tt at (written 130 octets ++ (164 ∷ after)), none_other connect_named at 130 _ refl, selector-writes 130 at octets held (164 ∷ after))
+
+selectors-begin : (called : Option (List ℕ)) (at : ℕ) (after : List ℕ) → HasSelector called → connect_selectors.begins at (calling_octets ++ (selector_octets 130 called ++ (164 ∷ after))) (taken called (at + length calling_octets + length (selector_octets 130 called)) (164 ∷ after))
+unfolding connect_selectors after_others then_in calling_octets
+selectors-begin called at after held =
+    let rest = selector_octets 130 called ++ (164 ∷ after) in (
+      taken tt at (calling_octets ++ rest),
+      none_other connect_named at 129 _ refl,
+      (
+        taken (Some (0 ∷ 0 ∷ 0 ∷ 1 ∷ [])) (at + length calling_octets) rest,
+        calling-writes at rest,
+        called-begins called (at + length calling_octets) after held,
+      ),
+    )
+
+-- user data with a tag of its own end
+last-begins : (named : List ℕ) (at id : ℕ) (body : List ℕ) → is_other 128 191 named 97 ≡ false → id < 2 ^ 32 → length body ≤ MOST_BODY → Ends (after_others named (before_others named user_data)) at (user_of id (last_span at (user_octets id body) body)) (user_octets id body)
+unfolding after_others before_others then_in map_in user_octets
+last-begins named at id body other few size =
+    let user = user_of id (last_span at (user_octets id body) body) in
+    let end = at + length (user_octets id body) in (
+      taken tt at (user_octets id body),
+      none_other named at 97 _ other,
+      (
+        taken user end [],
+        ends_of user_data at user (user_octets id body) (user-writes at id body few size),
+        (taken tt end [], none_last named end, refl),
+      ),
+    )
+
+span-moved : (from at : ℕ) (last whole body : List ℕ) → from + length last ≡ at + length whole → length body ≤ length last → at ≤ from → last_span from last body ≡ last_span at whole body
+span-moved from at last whole body ends within after =
+    let start : from + (length last - length body) ≡ at + (length whole - length body) = omega (arith, ends, within, after) in
+    ap (λ (k : ℕ). record { from = k; to = from + length last }) start
+    ∙ ap (λ (k : ℕ). record { from = at + (length whole - length body); to = k }) ends
+
+connect-begins : (called : Option (List ℕ)) (contexts : List Offered) (at id : ℕ) (body : List ℕ) → HasSelector called → AreOffers contexts → All (λ o. IsOid o.abstract_name) contexts → id < 2 ^ 32 → length body ≤ MOST_BODY
+    → (place : ℕ) → place ≡ at + length calling_octets + length (selector_octets 130 called) + length (offers_octets contexts)
+    → connect.begins at (connect_octets called contexts id body) (taken (Connect called contexts id (last_span place (user_octets id body) body)) (place + length (user_octets id body)) [])
+unfolding connect connect_octets then_in map_in after_others offers_octets
+connect-begins called contexts at id body held are named few size place is =
+    let user = user_octets id body in
+    let second = at + length calling_octets + length (selector_octets 130 called) in
+    let value : UserData = user_of id (last_span place user body) in (
+      taken called second (offers_octets contexts ++ user),
+      selectors-begin called at _ held,
+      (
+        taken contexts place user,
+        (taken tt second (offers_octets contexts ++ user), none_other connect_named second 164 _ refl, subst (λ (k : ℕ). offers.begins second (offers_octets contexts ++ user) (taken contexts k user)) (sym is) (offers-writes second contexts are named user)),
+        (taken value (place + length user) [], last-begins connect_named place id body refl few size, refl),
+      ),
+    )
+
+connect-ends : (called : Option (List ℕ)) (contexts : List Offered) (at id : ℕ) (body : List ℕ) → HasSelector called → AreOffers contexts → All (λ o. IsOid o.abstract_name) contexts → id < 2 ^ 32 → length body ≤ MOST_BODY
+    → Ends connect at (Connect called contexts id (last_span at (connect_octets called contexts id body) body)) (connect_octets called contexts id body)
+connect-ends called contexts at id body held are named few size =
+    let user = user_octets id body in
+    let whole = connect_octets called contexts id body in
+    let place = at + length calling_octets + length (selector_octets 130 called) + length (offers_octets contexts) in
+    let ends : place + length user ≡ at + length whole = omega (arith, connect-sized called contexts id (length (selector_octets 130 called)) (length (offers_octets contexts)) (length user) body refl refl refl, calling-sized) in
+    subst (λ (k : ℕ). connect.begins at whole (taken (Connect called contexts id (last_span at whole body)) k [])) ends
+    (subst (λ (s : Span). connect.begins at whole (taken (Connect called contexts id s) (place + length user) [])) (span-moved place at user whole body ends (body_within id body) (omega arith))
+    (connect-begins called contexts at id body held are named few size place refl))
+
+-- ---- an accept
+
+responding-begins : (called : Option (List ℕ)) (at : ℕ) (after : List ℕ) → HasSelector called → (after_others accept_named (selector_in 131)).begins at (selector_octets 131 called ++ (165 ∷ after)) (taken called (at + length (selector_octets 131 called)) (165 ∷ after))
+unfolding after_others then_in
+responding-begins None at after held = (taken tt at (165 ∷ after), none_other accept_named at 165 after refl, subst (λ (k : ℕ). (selector_in 131).begins at (165 ∷ after) (taken None k (165 ∷ after))) (let none : at ≡ at + 0 = omega arith in none) (no_selector 131 at 165 after refl))
+responding-begins (Some octets) at after held = (taken tt at (written 131 octets ++ (165 ∷ after)), none_other accept_named at 131 _ refl, selector-writes 131 at octets held (165 ∷ after))
+
+accept-begins : (called : Option (List ℕ)) (found : List ℕ) (at id : ℕ) (body : List ℕ) → HasSelector called → length found ≤ MOST_OFFERS → id < 2 ^ 32 → length body ≤ MOST_BODY
+    → (place : ℕ) → place ≡ at + length (selector_octets 131 called) + length (results_octets found)
+    → accept.begins at (accept_octets called found id body) (taken (Accept called found id (last_span place (user_octets id body) body)) (place + length (user_octets id body)) [])
+unfolding accept accept_octets then_in map_in after_others results_octets
+accept-begins called found at id body held most few size place is =
+    let user = user_octets id body in
+    let second = at + length (selector_octets 131 called) in
+    let value : UserData = user_of id (last_span place user body) in (
+      taken called second (results_octets found ++ user),
+      responding-begins called at _ held,
+      (
+        taken found place user,
+        (taken tt second (results_octets found ++ user), none_other accept_named second 165 _ refl, subst (λ (k : ℕ). results.begins second (results_octets found ++ user) (taken found k user)) (sym is) (results-write second found most user)),
+        (taken value (place + length user) [], last-begins accept_named place id body refl few size, refl),
+      ),
+    )
+
+accept-ends : (called : Option (List ℕ)) (found : List ℕ) (at id : ℕ) (body : List ℕ) → HasSelector called → length found ≤ MOST_OFFERS → id < 2 ^ 32 → length body ≤ MOST_BODY
+    → Ends accept at (Accept called found id (last_span at (accept_octets called found id body) body)) (accept_octets called found id body)
+accept-ends called found at id body held most few size =
+    let user = user_octets id body in
+    let whole = accept_octets called found id body in
+    let place = at + length (selector_octets 131 called) + length (results_octets found) in
+    let ends : place + length user ≡ at + length whole = omega (arith, accept-sized called found id (length (selector_octets 131 called)) (length (results_octets found)) (length user) body refl refl refl) in
+    subst (λ (k : ℕ). accept.begins at whole (taken (Accept called found id (last_span at whole body)) k [])) ends
+    (subst (λ (s : Span). accept.begins at whole (taken (Accept called found id s) (place + length user) [])) (span-moved place at user whole body ends (body_within id body) (omega arith))
+    (accept-begins called found at id body held most few size place refl))
+
+-- ---- which of the two
+
+ahead : (whole : List ℕ) (at first : ℕ) (after : List ℕ) → is_other 128 191 (164 ∷ 165 ∷ []) first ≡ false → PassedSoFar (is_other 128 191 (164 ∷ 165 ∷ [])) 0 whole at (first ∷ after) → has_results whole ≡ has_tag 165 (first ∷ after)
+unfolding others
+ahead whole at first after other s =
+    ap come_to_results (passed-ends (is_other 128 191 (164 ∷ 165 ∷ [])) 0 whole at (first ∷ after) other s)
+    ∙ ap (λ (os : List ℕ). has_tag 165 os) (sym s.left)
+
+-- a selector is passed over
+passed-selector : (whole : List ℕ) (tag at : ℕ) (called : Option (List ℕ)) (after : List ℕ) → HasSelector called → tag % 32 ≢ 31 → is_other 128 191 (164 ∷ 165 ∷ []) tag ≡ true → PassedSoFar (is_other 128 191 (164 ∷ 165 ∷ [])) 0 whole at (selector_octets tag called ++ after) → (next : ℕ) × PassedSoFar (is_other 128 191 (164 ∷ 165 ∷ [])) 0 whole next after
+passed-selector whole tag at None after held single other s = (at, s)
+passed-selector whole tag at (Some octets) after held single other s = (at + length (written tag octets), passed-written (is_other 128 191 (164 ∷ 165 ∷ [])) 0 whole tag at octets after (omega (arith, held.1)) single other s)
+
+connect-first : (called : Option (List ℕ)) (contexts : List Offered) (id : ℕ) (body : List ℕ) → HasSelector called → length (connect_octets called contexts id body) < 2 ^ 32 → has_results (connect_octets called contexts id body) ≡ false
+unfolding connect_octets calling_octets offers_octets
+connect-first called contexts id body held few =
+    let whole = connect_octets called contexts id body in
+    let rest = offers_octets contexts ++ user_octets id body in
+    let test = is_other 128 191 (164 ∷ 165 ∷ []) in
+    let one = passed-written test 0 whole 129 0 (0 ∷ 0 ∷ 0 ∷ 1 ∷ []) (selector_octets 130 called ++ rest) (omega arith) (omega arith) refl (passed-begin test 0 whole (omega (arith, few))) in
+    let two = passed-selector whole 130 _ called rest held (omega arith) refl one in
+    ahead whole two.0 164 _ refl two.1
+
+accept-first : (called : Option (List ℕ)) (found : List ℕ) (id : ℕ) (body : List ℕ) → HasSelector called → length (accept_octets called found id body) < 2 ^ 32 → has_results (accept_octets called found id body) ≡ true
+unfolding accept_octets results_octets
+accept-first called found id body held few =
+    let whole = accept_octets called found id body in
+    let rest = results_octets found ++ user_octets id body in
+    let two = passed-selector whole 131 0 called rest held (omega arith) refl (passed-begin (is_other 128 191 (164 ∷ 165 ∷ [])) 0 whole (omega (arith, few))) in
+    ahead whole two.0 165 _ refl two.1
+
+-- ---- the whole
+
+one-spelled : (at : ℕ) → (fixed (1 ∷ [])).spells at tt (1 ∷ [])
+unfolding fixed
+one-spelled at = refl
+
+mode-writes : (at : ℕ) → Writes mode at tt mode_octets
+unfolding mode mode_octets
+mode-writes at =
+    part-writes 160 _ at tt (written 128 (1 ∷ [])) (omega (arith, short-sized 128 (1 ∷ []) (omega arith)))
+    (all-spelled (part_in 128 (fixed (1 ∷ []))) _ tt (written 128 (1 ∷ []))
+    (ends_of (part_in 128 (fixed (1 ∷ []))) _ tt (written 128 (1 ∷ []))
+    (part-writes 128 (fixed (1 ∷ [])) _ tt (1 ∷ []) (omega arith) (one-spelled _))))
+
+-- where parameters begin behind the mode
+parameters_place : ℕ → List ℕ → ℕ
+parameters_place at contents =
+    let last = written 162 contents in
+    at + 1 + length (length_octets (length (mode_octets ++ last))) + length mode_octets + 1 + length (length_octets (length contents))
+
+parameters_last : (at : ℕ) (contents : List ℕ) → parameters_place at contents + length contents ≡ at + length (set_up_octets contents)
+unfolding parameters_place set_up_octets
+parameters_last at contents =
+    let last = written 162 contents in
+    omega (arith, length-append (length_octets (length (mode_octets ++ last))) (mode_octets ++ last), length-append mode_octets last, length-append (length_octets (length contents)) contents)
+
+parameters_after : (at : ℕ) (contents : List ℕ) → at ≤ parameters_place at contents
+unfolding parameters_place
+parameters_after at contents = omega arith
+
+set_up-writes : (at : ℕ) (contents : List ℕ) (p : Ppdu) → length contents < 2 ^ 31 → Ends (branch_in has_results accept connect) (parameters_place at contents) p contents → Writes set_up at p (set_up_octets contents)
+unfolding set_up set_up_octets set_up_contents parameters branch_in parameters_place mode_octets
+set_up-writes at contents p few e =
+    let last = written 162 contents in
+    let place = at + 1 + length (length_octets (length (mode_octets ++ last))) in
+    part-writes 49 _ at p (mode_octets ++ last) (omega (arith, few, length-append mode_octets last, length-written 162 contents, part_size-most (length contents), mode-sized))
+    (all-spelled _ place p (mode_octets ++ last)
+    (inl (
+      refl,
+      then-ends mode (λ u. parameters) place tt mode_octets p last (mode-writes place)
+          (ends_of parameters (place + length mode_octets) p last
+          (part-writes 162 _ (place + length mode_octets) p contents (omega (arith, few)) (all-spelled (branch_in has_results accept connect) _ p contents e))),
+    )))
+
+set_up-ends : (at : ℕ) (contents : List ℕ) (p : Ppdu) → Writes set_up at p (set_up_octets contents) → Ends ppdu at p (set_up_octets contents)
+unfolding ppdu branch_in set_up_octets
+set_up-ends at contents p w = whole-begins _ at p (set_up_octets contents) (inr (refl, ends_of set_up at p (set_up_octets contents) w))
+
+is_connect : (at : ℕ) (contents : List ℕ) (p : Ppdu) → has_results contents ≡ false → Ends connect at p contents → Ends (branch_in has_results accept connect) at p contents
+unfolding branch_in
+is_connect at contents p first e = inr (first, e)
+
+is_accept : (at : ℕ) (contents : List ℕ) (p : Ppdu) → has_results contents ≡ true → Ends accept at p contents → Ends (branch_in has_results accept connect) at p contents
+unfolding branch_in
+is_accept at contents p first e = inl (first, e)
+
+selector-few : (tag : ℕ) (called : Option (List ℕ)) → HasSelector called → length (selector_octets tag called) ≤ 34
+selector-few tag None held = omega arith
+selector-few tag (Some octets) held = omega (arith, held.1, short-sized tag octets (omega (arith, held.1)))
+
+connect-whole : (called : Option (List ℕ)) (contexts : List Offered) (at id : ℕ) (body : List ℕ) → HasSelector called → AreOffers contexts → All (λ o. IsOid o.abstract_name) contexts → id < 2 ^ 32 → length body ≤ MOST_BODY
+    → Ends ppdu at (Connect called contexts id (last_span at (set_up_octets (connect_octets called contexts id body)) body)) (set_up_octets (connect_octets called contexts id body))
+connect-whole called contexts at id body held are named few size =
+    let contents = connect_octets called contexts id body in
+    let place = parameters_place at contents in
+    let sized = connect-sized called contexts id (length (selector_octets 130 called)) (length (offers_octets contexts)) (length (user_octets id body)) body refl refl refl in
+    let small : length contents < 2 ^ 31 = omega (arith, sized, selector-few 130 called held, offers-few contexts are named, user-few id body few size, size) in
+    let within : length body ≤ length contents = omega (arith, sized, body_within id body) in
+    let first = connect-first called contexts id body held (omega (arith, small)) in
+    set_up-ends at contents (Connect called contexts id (last_span at (set_up_octets contents) body))
+    (subst (λ (s : Span). Writes set_up at (Connect called contexts id s) (set_up_octets contents)) (span-moved place at contents (set_up_octets contents) body (parameters_last at contents) within (parameters_after at contents))
+    (set_up-writes at contents (Connect called contexts id (last_span place contents body)) small
+    (is_connect place contents (Connect called contexts id (last_span place contents body)) first (connect-ends called contexts place id body held are named few size))))
+
+accept-whole : (called : Option (List ℕ)) (found : List ℕ) (at id : ℕ) (body : List ℕ) → HasSelector called → length found ≤ MOST_OFFERS → id < 2 ^ 32 → length body ≤ MOST_BODY
+    → Ends ppdu at (Accept called found id (last_span at (set_up_octets (accept_octets called found id body)) body)) (set_up_octets (accept_octets called found id body))
+accept-whole called found at id body held most few size =
+    let contents = accept_octets called found id body in
+    let place = parameters_place at contents in
+    let sized = accept-sized called found id (length (selector_octets 131 called)) (length (results_octets found)) (length (user_octets id body)) body refl refl refl in
+    let small : length contents < 2 ^ 31 = omega (arith, sized, selector-few 131 called held, results-few found most, user-few id body few size, size) in
+    let within : length body ≤ length contents = omega (arith, sized, body_within id body) in
+    let first = accept-first called found id body held (omega (arith, small)) in
+    set_up-ends at contents (Accept called found id (last_span at (set_up_octets contents) body))
+    (subst (λ (s : Span). Writes set_up at (Accept called found id s) (set_up_octets contents)) (span-moved place at contents (set_up_octets contents) body (parameters_last at contents) within (parameters_after at contents))
+    (set_up-writes at contents (Accept called found id (last_span place contents body)) small
+    (is_accept place contents (Accept called found id (last_span place contents body)) first (accept-ends called found place id body held most few size))))
+
+carry-whole : (at id : ℕ) (body : List ℕ) → id < 2 ^ 32 → length body ≤ MOST_BODY → Ends ppdu at (Carry id (last_span at (user_octets id body) body)) (user_octets id body)
+unfolding ppdu branch_in user_octets
+carry-whole at id body few size =
+    let user = user_of id (last_span at (user_octets id body) body) in
+    whole-begins _ at (Carry id (last_span at (user_octets id body) body)) (user_octets id body)
+    (inl (refl, map-ends carry_of user_data at user (user_octets id body) (ends_of user_data at user (user_octets id body) (user-writes at id body few size))))
+
+-- what is written for a PPDU is one, with the body at its end
+pub ppdu-begins : (p : Ppdu) (body : List ℕ) (at : ℕ) → IsWritable p → IsHeld p → length body ≤ MOST_BODY → ppdu.begins at (ppdu_octets p body) (taken_whole at (ppdu_octets p body) (as_written at p body))
+ppdu-begins (Connect called contexts id old) body at are held size = connect-whole called contexts at id body held.0 are held.1.0 held.1.1 size
+ppdu-begins (Accept called found id old) body at most held size = accept-whole called found at id body held.0 most held.1 size
+ppdu-begins (Carry id old) body at any held size = carry-whole at id body held size
