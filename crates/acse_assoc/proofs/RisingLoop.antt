@@ -11,6 +11,7 @@ use Rattle.acse_assoc.specs.Rising.{rising_within, rising_in, PassesNext}
 pub record RisingSoFar (number from start : ℕ) (whole : List ℕ) (least at : ℕ) (octets : List ℕ)
     : Type 0 where
   pub placed : start + length whole < 2 ^ 64
+  pub after : start ≤ at
   pub ends : at + length octets ≡ start + length whole
   pub room : ℕ
   pub enough : length octets ≤ room
@@ -21,7 +22,7 @@ pub rising-begin : (number from start : ℕ) (whole : List ℕ) → start + leng
     → RisingSoFar number from start whole from start whole
 unfolding rising_in by_length
 rising-begin number from start whole placed =
-    record { placed = placed; ends = refl; room = length whole; enough = omega arith; reads = refl }
+    record { placed = placed; after = omega arith; ends = refl; room = length whole; enough = omega arith; reads = refl }
 
 more_room : (number least at room : ℕ) (octets : List ℕ) → length octets ≤ room
     → PassesNext number least at octets (Ok None)
@@ -48,6 +49,7 @@ rising-more number from start whole least at octets after next passed later with
     length-drop (next - at) octets in
     let k : s.room ≡ suc (s.room - 1) = omega (arith, later, within, s.enough) in record {
       placed = s.placed;
+      after = omega (arith, later, s.after);
       ends = omega (arith, len, later, within, s.ends);
       room = s.room - 1;
       enough = omega (arith, len, later, within, s.enough);

@@ -1,6 +1,9 @@
 -- What was read, seen without where its octets lie in memory.
-use Rattle.std.specs.Prelude.{ℕ, List, Option, option_copied}
-use Rattle.ber_values.specs.Oid.{IsOid}
+use Rattle.std.specs.Prelude.{ℕ, Option, Some, None, option_copied}
+use Rattle.ber_values.specs.declared.external.External.{External}
+use Rattle.ber_values.specs.Externals.{IsSpanWithin}
+use Rattle.acse_assoc.specs.declared.apdu.Apdu.{Apdu}
+use Rattle.acse_assoc.specs.declared.apdu.Apdu.TheVariants.{Aarq, Aare}
 use Rattle.acse_assoc.specs.declared.request.AssociateRequest.{AssociateRequest}
 use Rattle.acse_assoc.specs.declared.request.RequestSeen.{RequestSeen}
 use Rattle.acse_assoc.specs.declared.request.TitleSeen.{TitleSeen}
@@ -12,3 +15,14 @@ titled_seen t = record { title = option_copied t.title; least = t.left.least }
 abbrev pub request_seen : RequestSeen → AssociateRequest
 request_seen r =
     record { context = r.context.now; title = option_copied r.title; user = r.user }
+
+-- the body of user information, if there is any, stands between two places
+abbrev pub IsSomeWithin : ℕ → ℕ → Option External → Type 0
+IsSomeWithin at end None = Unit {0}
+IsSomeWithin at end (Some user) = IsSpanWithin at end user.body
+
+-- the body of an APDU, if it has one, stands between two places
+abbrev pub IsBodyWithin : ℕ → ℕ → Apdu → Type 0
+IsBodyWithin at end (Aarq r) = IsSpanWithin at end r.user.body
+IsBodyWithin at end (Aare r) = IsSomeWithin at end r.user
+IsBodyWithin at end apdu = Unit {0}

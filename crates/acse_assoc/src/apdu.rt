@@ -5,6 +5,7 @@ ghost use Rattle.std.specs.List.{slice_range};
 ghost use Rattle.ber_values.specs.Readers.{IsReadBy, taken_from, taken_whole};
 ghost use Rattle.ber_values.specs.Stops.{Answers};
 ghost use Rattle.acse_assoc.specs.Apdus.{one_apdu, apdu};
+ghost use Rattle.acse_assoc.specs.Seen.{IsBodyWithin};
 ghost use Rattle.acse_assoc.specs.Writing.{apdu_octets, short_octets, IsWritable};
 
 use crate::expected::Expected;
@@ -43,8 +44,9 @@ pub fn read_apdu(
 ) -> Result<Result<Apdu, BerFault>, AllocError>
     requires start { at ≤ end }
     requires stop { end ≤ length bytes.now }
-    ensures { IfOk result (λ read. IsReadBy (apdu expected)
+    ensures exact { IfOk result (λ read. IsReadBy (apdu expected)
         (taken_whole at (slice_range bytes.now at end)) at (slice_range bytes.now at end) read) }
+    ensures body { IfOk result (λ read. IfOk read (λ v. IsBodyWithin at end v)) }
 {
     settle(apdu_from(alloc, &bytes[at..end], at, expected))
 }
@@ -53,7 +55,9 @@ pub fn read_apdu(
 #[tactic(auto, unfolding(crate::specs::Apdus::apdu, ber_values::specs::Parts::whole_in))]
 fn apdu_from(alloc: Global, octets: &[u8], at: usize, expected: Expected) -> Result<Apdu, Stop>
     requires { at + length octets.now < 2 ^ 64 }
-    ensures { Answers (taken_whole at octets.now) result ((apdu expected).reading at octets.now) }
+    ensures exact { Answers (taken_whole at octets.now) result
+        ((apdu expected).reading at octets.now) }
+    ensures body { IfOk result (λ v. IsBodyWithin at (at + length octets.now) v) }
 {
     let (apdu, next) = take_apdu(alloc, octets, at, expected)?;
     take_end(octets_from(octets, at, next), next)?;
@@ -72,6 +76,7 @@ fn take_apdu(
     ensures exact { Answers (taken_from at octets.now) result
         ((one_apdu expected).reading at octets.now) }
     ensures within { IfOk result (λ x. (at < x.1) × (x.1 ≤ at + length octets.now)) }
+    ensures body { IfOk result (λ x. IsBodyWithin at (at + length octets.now) x.0) }
 {
     if has_tag(octets, AARQ) {
         let part = take_part(octets, at, AARQ)?;

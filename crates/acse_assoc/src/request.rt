@@ -6,6 +6,7 @@ ghost use Rattle.ber_values.specs.Oid.{IsOid};
 ghost use Rattle.ber_values.specs.Faults.{Gives};
 ghost use Rattle.ber_values.specs.Stops.{Answers};
 ghost use Rattle.ber_values.specs.Grammars.{taken};
+ghost use Rattle.ber_values.specs.Externals.{IsSpanWithin};
 ghost use Rattle.ber_values.specs.Writing.{written};
 ghost use Rattle.acse_assoc.specs.declared.apdu.TheConstants.{MOST_BODY};
 ghost use Rattle.acse_assoc.specs.Rising.{read_of};
@@ -58,8 +59,10 @@ pub(crate) fn request_from(
     expected: Expected,
 ) -> Result<AssociateRequest, Stop>
     requires { part.now.head.body + length part.now.contents.now < 2 ^ 64 }
-    ensures { Answers (λ r. r) result
+    ensures exact { Answers (λ r. r) result
         ((request expected).reading part.now.head part.now.contents.now) }
+    ensures body { IfOk result (λ r. IsSpanWithin part.now.head.body
+        (part.now.head.body + length part.now.contents.now) r.user.body) }
 {
     let seen = seen_in(part, expected)?;
     Ok(owned(alloc, &seen)?)
@@ -88,6 +91,8 @@ fn seen_in<'a>(part: &Part<'a>, expected: Expected) -> Result<RequestSeen<'a>, B
     requires { part.now.head.body + length part.now.contents.now < 2 ^ 64 }
     ensures exact { Gives request_seen result
         ((request expected).reading part.now.head part.now.contents.now) }
+    ensures body { IfOk result (λ r. IsSpanWithin part.now.head.body
+        (part.now.head.body + length part.now.contents.now) r.user.body) }
     ensures context { IfOk result (λ r. IsOid r.context.now) }
     ensures title { IfOk result (λ r. IfSome (option_copied r.title) IsOid) }
 {
@@ -123,7 +128,8 @@ fn take_context(octets: &[u8], at: usize) -> Result<(&[u8], usize, &[u8]), BerFa
     ensures exact { Gives (λ x. taken x.0.now x.1 x.2.now) result
         (context_name.reading at octets.now) }
     ensures sized { IfOk result (λ x. IsOid x.0.now) }
-    ensures within { IfOk result (λ x. x.1 + length x.2.now ≡ at + length octets.now) }
+    ensures within { IfOk result
+        (λ x. (at ≤ x.1) × (x.1 + length x.2.now ≡ at + length octets.now)) }
 {
     let left = pass_rising(octets, at, CONTEXT_NAME, 0)?;
     if CONTEXT_NAME < left.least {
@@ -154,8 +160,8 @@ fn take_title(octets: &[u8], at: usize) -> Result<TitleSeen<'_>, BerFault>
     ensures exact { Gives (λ t. taken (titled_seen t) t.left.at t.left.octets.now) result
         (calling_title.reading at octets.now) }
     ensures sized { IfOk result (λ t. IfSome (option_copied t.title) IsOid) }
-    ensures within { IfOk result
-        (λ t. t.left.at + length t.left.octets.now ≡ at + length octets.now) }
+    ensures within { IfOk result (λ t. (at ≤ t.left.at)
+        × (t.left.at + length t.left.octets.now ≡ at + length octets.now)) }
 {
     let left = pass_rising(octets, at, CALLING_TITLE, CONTEXT_NAME + 1)?;
     if CALLING_TITLE < left.least {
@@ -181,8 +187,10 @@ fn take_user<'a>(
     expected: Expected,
 ) -> Result<(External, usize, &'a [u8]), BerFault>
     requires { from.now.at + length from.now.octets.now < 2 ^ 64 }
-    ensures { Gives (λ x. taken x.0 x.1 x.2.now) result
+    ensures exact { Gives (λ x. taken x.0 x.1 x.2.now) result
         ((user_last expected from.now.least).reading from.now.at from.now.octets.now) }
+    ensures body { IfOk result (λ x. IsSpanWithin from.now.at
+        (from.now.at + length from.now.octets.now) x.0.body) }
 {
     let left = pass_rising(from.octets, from.at, USER_INFORMATION, from.least)?;
     let (user, at, octets) = named_user(&left, expected)?;

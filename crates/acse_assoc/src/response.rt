@@ -11,6 +11,7 @@ ghost use Rattle.acse_assoc.specs.Writing.{mms_context, result_octets, diagnosti
 ghost use Rattle.acse_assoc.specs.Writing.{response_contents, response_octets};
 ghost use Rattle.acse_assoc.specs.Rising.{perhaps_in, least_after};
 ghost use Rattle.acse_assoc.specs.Users.{user_information};
+ghost use Rattle.acse_assoc.specs.Seen.{IsSomeWithin};
 ghost use Rattle.acse_assoc.specs.Responses.{context_passed, largest_result, one_result};
 ghost use Rattle.acse_assoc.specs.Responses.{result_next, user_of_result, some_user_last, response};
 
@@ -42,7 +43,9 @@ pub(crate) fn response_from(
     expected: Expected,
 ) -> Result<AssociateResponse, BerFault>
     requires { part.now.head.body + length part.now.contents.now < 2 ^ 64 }
-    ensures { result ≡ (response expected).reading part.now.head part.now.contents.now }
+    ensures exact { result ≡ (response expected).reading part.now.head part.now.contents.now }
+    ensures body { IfOk result (λ r. IsSomeWithin part.now.head.body
+        (part.now.head.body + length part.now.contents.now) r.user) }
 {
     let left = pass_context(part.contents, part.head.body)?;
     let (result, at, octets) = take_result(&left, expected)?;
@@ -58,7 +61,7 @@ fn pass_context(octets: &[u8], at: usize) -> Result<Left<'_>, BerFault>
     ensures exact { Gives (λ left. taken left.least left.at left.octets.now) result
         (context_passed.reading at octets.now) }
     ensures within { IfOk result
-        (λ left. left.at + length left.octets.now ≡ at + length octets.now) }
+        (λ left. (at ≤ left.at) × (left.at + length left.octets.now ≡ at + length octets.now)) }
 {
     let left = pass_rising(octets, at, CONTEXT_NAME, 0)?;
     if CONTEXT_NAME < left.least {
@@ -104,8 +107,8 @@ fn take_result<'a>(from: &Left<'a>, expected: Expected) -> Result<(u8, usize, &'
     requires { from.now.at + length from.now.octets.now < 2 ^ 64 }
     ensures exact { Gives (λ x. taken x.0 x.1 x.2.now) result
         ((result_next expected from.now.least).reading from.now.at from.now.octets.now) }
-    ensures within { IfOk result
-        (λ x. x.1 + length x.2.now ≡ from.now.at + length from.now.octets.now) }
+    ensures within { IfOk result (λ x. (from.now.at ≤ x.1)
+        × (x.1 + length x.2.now ≡ from.now.at + length from.now.octets.now)) }
 {
     let left = pass_rising(from.octets, from.at, RESULT, from.least)?;
     if RESULT < left.least {
@@ -126,8 +129,10 @@ fn perhaps_user<'a>(
     ensures exact { Gives (λ x. taken x.0 x.1 x.2.now) result
         ((perhaps_in USER_INFORMATION (user_information expected) left.now.least).reading
         left.now.at left.now.octets.now) }
-    ensures within { IfOk result
-        (λ x. x.1 + length x.2.now ≡ left.now.at + length left.now.octets.now) }
+    ensures within { IfOk result (λ x. (left.now.at ≤ x.1)
+        × (x.1 + length x.2.now ≡ left.now.at + length left.now.octets.now)) }
+    ensures body { IfOk result (λ x. IsSomeWithin left.now.at
+        (left.now.at + length left.now.octets.now) x.0) }
 {
     if USER_INFORMATION < left.least {
         return Ok((None, left.at, left.octets));
@@ -151,8 +156,10 @@ fn user_of_result<'a>(
     ensures exact { Gives (λ x. taken x.0 x.1 x.2.now) result
         ((user_of_result expected code left.now.least).reading
         left.now.at left.now.octets.now) }
-    ensures within { IfOk result
-        (λ x. x.1 + length x.2.now ≡ left.now.at + length left.now.octets.now) }
+    ensures within { IfOk result (λ x. (left.now.at ≤ x.1)
+        × (x.1 + length x.2.now ≡ left.now.at + length left.now.octets.now)) }
+    ensures body { IfOk result (λ x. IsSomeWithin left.now.at
+        (left.now.at + length left.now.octets.now) x.0) }
 {
     if code == 0 {
         let (user, at, octets) = named_user(left, expected)?;
@@ -170,8 +177,9 @@ fn take_user(
     expected: Expected,
 ) -> Result<(Option<External>, usize, &[u8]), BerFault>
     requires { at + length octets.now < 2 ^ 64 }
-    ensures { Gives (λ x. taken x.0 x.1 x.2.now) result
+    ensures exact { Gives (λ x. taken x.0 x.1 x.2.now) result
         ((some_user_last expected code).reading at octets.now) }
+    ensures body { IfOk result (λ x. IsSomeWithin at (at + length octets.now) x.0) }
 {
     let left = pass_rising(octets, at, USER_INFORMATION, RESULT + 1)?;
     let (user, at, octets) = user_of_result(&left, code, expected)?;

@@ -77,7 +77,7 @@ pub(crate) fn pass_rising(
     ensures exact { Gives (λ left. taken left.least left.at left.octets.now) result
         ((rising_in number from).reading at octets.now) }
     ensures within { IfOk result
-        (λ left. left.at + length left.octets.now ≡ at + length octets.now) }
+        (λ left. (at ≤ left.at) × (left.at + length left.octets.now ≡ at + length octets.now)) }
 {
     let mut left = Left {
         least: from,

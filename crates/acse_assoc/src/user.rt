@@ -8,7 +8,7 @@ ghost use Rattle.acse_assoc.specs.Rising.{named_in};
 ghost use Rattle.acse_assoc.specs.Users.{user_information};
 ghost use Rattle.acse_assoc.specs.declared.apdu.TheConstants.{MOST_BODY};
 ghost use Rattle.ber_values.specs.Writing.{written};
-ghost use Rattle.ber_values.specs.Externals.{external_octets};
+ghost use Rattle.ber_values.specs.Externals.{external_octets, IsSpanWithin};
 ghost use Rattle.acse_assoc.specs.Writing.{user_octets};
 
 use crate::expected::Expected;
@@ -30,8 +30,10 @@ pub(crate) fn named_user<'a>(
     ensures exact { Gives (λ x. taken x.0 x.1 x.2.now) result
         ((named_in USER_INFORMATION (user_information expected) left.now.least).reading
         left.now.at left.now.octets.now) }
-    ensures within { IfOk result
-        (λ x. x.1 + length x.2.now ≡ left.now.at + length left.now.octets.now) }
+    ensures within { IfOk result (λ x. (left.now.at ≤ x.1)
+        × (x.1 + length x.2.now ≡ left.now.at + length left.now.octets.now)) }
+    ensures body { IfOk result (λ x. IsSpanWithin left.now.at
+        (left.now.at + length left.now.octets.now) x.0.body) }
 {
     if USER_INFORMATION < left.least {
         return Err(refused(left));
@@ -45,7 +47,10 @@ pub(crate) fn named_user<'a>(
 #[tactic(auto, unfolding(crate::specs::Users::user_information, ber_values::specs::Parts::all_in, ber_values::specs::Parts::part_in))]
 pub(crate) fn user_from(part: &Part<'_>, expected: Expected) -> Result<External, BerFault>
     requires { part.now.head.body + length part.now.contents.now < 2 ^ 64 }
-    ensures { result ≡ (user_information expected).reading part.now.head part.now.contents.now }
+    ensures exact { result
+        ≡ (user_information expected).reading part.now.head part.now.contents.now }
+    ensures body { IfOk result (λ user. IsSpanWithin part.now.head.body
+        (part.now.head.body + length part.now.contents.now) user.body) }
 {
     let external = take_part(part.contents, part.head.body, EXTERNAL)?;
     let user = external.external(expected.id)?;

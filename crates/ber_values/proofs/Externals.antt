@@ -86,6 +86,6 @@ external-spelled wanted id body at small few is =
       (
         refl,
         ap (λ (n : ℕ). external_of id (record { from = n; to = at + length (external_octets id body) })) starts
-        ∙ ap (λ (n : ℕ). external_of id (record { from = from; to = n })) stops,
+            ∙ ap (λ (n : ℕ). external_of id (record { from = from; to = n })) stops,
       ),
     )

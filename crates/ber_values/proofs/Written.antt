@@ -285,7 +285,9 @@ unfolding skip head_written tag_written size_written
 skip-written tag at contents rest few single =
     let head = head_written tag at (length contents) in
     let place : head.next ≡ at + length (written tag contents) = omega (arith, length-append (length_octets (length contents)) contents) in
-    let count : length (written tag contents) ≡ at + length (written tag contents) - at = omega arith in
-    (head, head_spelled tag at contents rest few single,
-    ap (λ (os : List ℕ). taken tt (at + length (written tag contents)) os) (sym (drop_at (written tag contents) rest _ count))
-    ∙ ap (λ (n : ℕ). taken tt n (drop (n - at) (written tag contents ++ rest))) (sym place))
+    let count : length (written tag contents) ≡ at + length (written tag contents) - at = omega arith in (
+      head,
+      head_spelled tag at contents rest few single,
+      ap (λ (os : List ℕ). taken tt (at + length (written tag contents)) os) (sym (drop_at (written tag contents) rest _ count))
+          ∙ ap (λ (n : ℕ). taken tt n (drop (n - at) (written tag contents ++ rest))) (sym place),
+    )

@@ -6,7 +6,7 @@ ghost use Rattle.ber_values.specs.Faults.{Gives};
 ghost use Rattle.ber_values.specs.Grammars.{taken};
 ghost use Rattle.ber_values.specs.Parts.{maybe_in, contents_where};
 ghost use Rattle.ber_values.specs.Leaves.{unsigned, oid};
-ghost use Rattle.ber_values.specs.Externals.{is_wanted, external, external_octets};
+ghost use Rattle.ber_values.specs.Externals.{is_wanted, external, external_octets, IsSpanWithin};
 
 use crate::contents::value_fault;
 use crate::fault::{BerFault, Span};
@@ -35,19 +35,12 @@ pub struct External {
 impl Part<'_> {
     /// The value of a presentation context that the contents are, where its id is the one that is
     /// wanted, or any where none is.
-    #[tactic(
-        auto,
-        unfolding(
-            crate::specs::Externals::external,
-            crate::specs::Parts::all_in,
-            crate::specs::Parts::part_in,
-            crate::specs::Grammars::then_in,
-            crate::specs::Grammars::map_in
-        )
-    )]
+    #[tactic(auto, unfolding(crate::specs::Externals::external, crate::specs::Leaves::span, crate::specs::Parts::all_in, crate::specs::Parts::part_in, crate::specs::Grammars::then_in, crate::specs::Grammars::map_in))]
     pub fn external(&self, wanted: Option<u32>) -> Result<External, BerFault>
         requires { self.now.head.body + length self.now.contents.now < 2 ^ 64 }
-        ensures { result ≡ (external wanted).reading self.now.head self.now.contents.now }
+        ensures exact { result ≡ (external wanted).reading self.now.head self.now.contents.now }
+        ensures body { IfOk result (λ value. IsSpanWithin self.now.head.body
+            (self.now.head.body + length self.now.contents.now) value.body) }
     {
         let (_, at, octets) = pass_syntax(self.contents, self.head.body)?;
         let number = take_part(octets, at, INTEGER)?;
@@ -60,21 +53,13 @@ impl Part<'_> {
 }
 
 /// The name of the transfer syntax, if there is one, and the octets after it.
-#[tactic(
-    auto,
-    unfolding(
-        crate::specs::Parts::maybe_in,
-        crate::specs::Parts::part_in,
-        crate::specs::Grammars::branch_in,
-        crate::specs::Grammars::map_in,
-        crate::specs::Grammars::gives
-    )
-)]
+#[tactic(auto, unfolding(crate::specs::Parts::maybe_in, crate::specs::Parts::part_in, crate::specs::Grammars::branch_in, crate::specs::Grammars::map_in, crate::specs::Grammars::gives))]
 fn pass_syntax(octets: &[u8], at: usize) -> Result<(Option<&[u8]>, usize, &[u8]), BerFault>
     requires { at + length octets.now < 2 ^ 64 }
     ensures exact { Gives (λ x. taken (option_copied x.0) x.1 x.2.now) result
         ((maybe_in 6 oid).reading at octets.now) }
-    ensures within { IfOk result (λ x. x.1 + length x.2.now ≡ at + length octets.now) }
+    ensures within { IfOk result
+        (λ x. (at ≤ x.1) × (x.1 + length x.2.now ≡ at + length octets.now)) }
 {
     if !has_tag(octets, OBJECT_IDENTIFIER) {
         return Ok((None, at, octets));

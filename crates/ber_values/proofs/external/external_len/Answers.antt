@@ -11,5 +11,8 @@ returns-clause-value c octets len =
     c.natural_len.ensures.few c.part_len.ensures
 
 pub returns-clause-few : goal.returns-clause-few
-returns-clause-few c = omega (arith, c.natural_len.ensures.few,
-    element-few c.args.body c.part_len.result c.part_len.ensures)
+returns-clause-few c = omega (
+  arith,
+  c.natural_len.ensures.few,
+  element-few c.args.body c.part_len.result c.part_len.ensures,
+)
