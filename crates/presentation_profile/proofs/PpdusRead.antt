@@ -1,5 +1,5 @@
 -- Reading PPDUs is exact.
-use Rattle.std.proofs.Common.{ℕ, List, [], ◌∷◌}
+use Rattle.std.proofs.Common.{ℕ, Option, List, [], ◌∷◌}
 use Rattle.ber_values.specs.Grammars.{Grammar, IsGrammar, has_tag, is_other}
 use Rattle.ber_values.specs.Parts.{IsContentsGrammar}
 use Rattle.ber_values.specs.Leaves.{selector, unsigned, oid, span, octet}
@@ -8,7 +8,10 @@ use Rattle.ber_values.proofs.Lists.{list_reads}
 use Rattle.ber_values.proofs.Leaves.{selector_contents, unsigned_contents, oid_contents, span_contents, octet_contents, fixed_contents}
 use Rattle.presentation_profile.specs.Offers.{offers}
 use Rattle.presentation_profile.specs.Others.{others, after_others, before_others, selector_in}
-use Rattle.presentation_profile.specs.UserData.{user_of, data_values, user_data}
+use Rattle.ber_values.specs.Externals.{external}
+use Rattle.ber_values.proofs.Externals.{external_contents}
+use Rattle.presentation_profile.specs.Agreements.{acse_of}
+use Rattle.presentation_profile.specs.UserData.{user_data}
 use Rattle.presentation_profile.specs.Results.{result_contents, one_result, results}
 use Rattle.presentation_profile.specs.Ppdus.{connect_named, connect_of, connect_selectors, connect, accept_named, accept_of, accept, has_results, parameters, mode, set_up_contents, set_up, carry_of, ppdu}
 use Rattle.presentation_profile.proofs.OffersRead.{offers_read}
@@ -29,17 +32,10 @@ selector_reads : (tag : ℕ) → IsGrammar (selector_in tag)
 unfolding selector_in
 selector_reads tag = choose_reads tag selector _ selector_contents (gives_reads _)
 
-values_read : IsContentsGrammar data_values
-unfolding data_values
-values_read =
-    all_reads _
-    (then_reads _ _ (maybe_reads 6 oid oid_contents) (λ name.
-    then_reads _ _ (part_reads 2 unsigned unsigned_contents) (λ id.
-    map_reads (user_of id) _ (part_reads 160 span span_contents))))
-
-pub user_data_reads : IsGrammar user_data
+pub user_data_reads : (wanted : Option ℕ) → IsGrammar (user_data wanted)
 unfolding user_data
-user_data_reads = part_reads 97 _ (all_reads _ (part_reads 48 data_values values_read))
+user_data_reads wanted =
+    part_reads 97 _ (all_reads _ (part_reads 48 (external wanted) (external_contents wanted)))
 
 result_reads : IsGrammar one_result
 unfolding one_result result_contents
@@ -65,31 +61,31 @@ connect_reads =
     then_reads _ _ selectors_read (λ called.
     then_reads _ _ (after_read connect_named offers offers_read) (λ contexts.
     map_reads (connect_of called contexts) _
-    (after_read connect_named _ (before_read connect_named user_data user_data_reads))))
+    (after_read connect_named _ (before_read connect_named (user_data (acse_of contexts)) (user_data_reads (acse_of contexts))))))
 
-accept_reads : IsGrammar accept
+accept_reads : (wanted : Option ℕ) → IsGrammar (accept wanted)
 unfolding accept
-accept_reads =
+accept_reads wanted =
     then_reads _ _ (after_read accept_named _ (selector_reads 131)) (λ called.
     then_reads _ _ (after_read accept_named results results_read) (λ found.
     map_reads (accept_of called found) _
-    (after_read accept_named _ (before_read accept_named user_data user_data_reads))))
+    (after_read accept_named _ (before_read accept_named (user_data wanted) (user_data_reads wanted)))))
 
-parameters_read : IsGrammar parameters
+parameters_read : (wanted : Option ℕ) → IsGrammar (parameters wanted)
 unfolding parameters
-parameters_read = part_reads 162 _ (all_reads _ (branch_reads has_results accept connect accept_reads connect_reads))
+parameters_read wanted = part_reads 162 _ (all_reads _ (branch_reads has_results (accept wanted) connect (accept_reads wanted) connect_reads))
 
 mode_reads : IsGrammar mode
 unfolding mode
 mode_reads = part_reads 160 _ (all_reads _ (part_reads 128 _ (fixed_contents (1 ∷ []))))
 
-set_up_reads : IsGrammar set_up
+set_up_reads : (wanted : Option ℕ) → IsGrammar (set_up wanted)
 unfolding set_up set_up_contents
-set_up_reads =
+set_up_reads wanted =
     part_reads 49 _ (all_reads _ (branch_reads (has_tag 160) _ _
-    (then_reads _ _ mode_reads (λ u. parameters_read))
-    (then_reads _ _ parameters_read (λ p. map_reads (λ u. p) _ mode_reads))))
+    (then_reads _ _ mode_reads (λ u. parameters_read wanted))
+    (then_reads _ _ (parameters_read wanted) (λ p. map_reads (λ u. p) _ mode_reads))))
 
-pub ppdu_reads : IsGrammar ppdu
+pub ppdu_reads : (wanted : Option ℕ) → IsGrammar (ppdu wanted)
 unfolding ppdu
-ppdu_reads = whole_reads _ (branch_reads (has_tag 97) _ set_up (map_reads carry_of user_data user_data_reads) set_up_reads)
+ppdu_reads wanted = whole_reads _ (branch_reads (has_tag 97) _ (set_up wanted) (map_reads carry_of (user_data wanted) (user_data_reads wanted)) (set_up_reads wanted))

@@ -6,7 +6,7 @@ use Rattle.ber_values.specs.Writing.{head_octets, written, integer_octets, lengt
 use Rattle.ber_values.specs.Lengths.{part_size}
 use Rattle.ber_values.proofs.Capped.{length-written, short-sized}
 use Rattle.presentation_profile.specs.declared.offers.Offered.{Offered}
-use Rattle.presentation_profile.specs.Written.{ber_octets, offered_octets, offers_octets, values_octets, user_octets, results_octets, calling_octets, selector_octets, connect_octets, accept_octets, mode_octets, front_octets, set_up_octets}
+use Rattle.presentation_profile.specs.Written.{ber_octets, offered_octets, offers_octets, user_octets, results_octets, calling_octets, selector_octets, connect_octets, accept_octets, mode_octets, front_octets, set_up_octets}
 
 pub ruleset extended = (Extends-append)
 
@@ -32,16 +32,6 @@ offered-sized o n is few name = omega (
   short-sized 6 o.abstract_name (omega (arith, name)),
   ber-sized,
   is,
-)
-
-pub values-sized : (id n r : ℕ) (body : List ℕ) → n ≡ length (integer_octets (pos id)) → n ≤ 8 → r ≡ length (written 160 body) → 2 + n + r ≡ length (values_octets id body)
-unfolding values_octets
-values-sized id n r body is few body_is = omega (
-  arith,
-  length-append (written 2 (integer_octets (pos id))) (written 160 body),
-  short-sized 2 (integer_octets (pos id)) (omega (arith, is, few)),
-  is,
-  body_is,
 )
 
 pub selector-sized : (tag : ℕ) (octets : List ℕ) → length octets ≤ 32 → 2 + length octets ≡ length (selector_octets tag (Some octets))

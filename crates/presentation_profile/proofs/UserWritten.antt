@@ -1,56 +1,28 @@
 -- What is written for user data and for results is read back.
-use Rattle.std.proofs.Common.{◌≡◌, ℕ, ◌+◌, ◌-◌, ◌*◌, ◌≤◌, ◌<◌, ◌^◌, eqb, Some, None, List, [], ◌∷◌, ◌++◌, length, flat_map, pos, refl, sym, ap, subst, ◌∙◌, inl, inr, arith}
+use Rattle.std.proofs.Common.{◌≡◌, ℕ, ◌+◌, ◌-◌, ◌*◌, ◌≤◌, ◌<◌, ◌^◌, eqb, true, Option, Some, None, List, [], ◌∷◌, ◌++◌, length, flat_map, pos, refl, sym, ap, subst, ◌∙◌, inl, inr, arith}
 use Rattle.std.proofs.lemmas.List.{length-append}
 use Rattle.std.proofs.lemmas.Bool.{eqb-true, cond_both}
 use Rattle.ber_values.specs.declared.fault.Span.{Span}
 use Rattle.ber_values.specs.Writing.{written, integer_octets, length_octets}
 use Rattle.ber_values.specs.Grammars.{taken, gives, then_in, map_in, branch_in, is_other}
-use Rattle.ber_values.specs.Parts.{part_in, maybe_in}
+use Rattle.ber_values.specs.Parts.{part_in, maybe_in, all_in}
 use Rattle.ber_values.specs.Leaves.{unsigned, oid, span, span_at, octet}
 use Rattle.ber_values.proofs.Capped.{short-sized, length-written, part_size-most}
 use Rattle.ber_values.proofs.WrittenParts.{Writes, ends_of, then-ends, map-ends, part-writes, all-spelled, none_passed, WritesEach, WriteAll, list-spelled}
 use Rattle.presentation_profile.specs.declared.user_data.TheConstants.{MOST_BODY}
 use Rattle.presentation_profile.specs.declared.offers.TheConstants.{MOST_OFFERS}
-use Rattle.presentation_profile.specs.declared.user_data.UserData.{UserData}
-use Rattle.presentation_profile.specs.UserData.{user_of, data_values, user_data}
+use Rattle.ber_values.specs.Externals.{external_of, is_wanted, external, external_octets}
+use Rattle.ber_values.proofs.Externals.{external-spelled}
+use Rattle.ber_values.proofs.Externals as externals
+use Rattle.presentation_profile.specs.UserData.{user_data}
 use Rattle.presentation_profile.specs.Results.{result_contents, one_result, results}
-use Rattle.presentation_profile.specs.Written.{values_octets, user_octets, accepted_octets, refused_octets, result_octets, results_octets, last_span}
+use Rattle.presentation_profile.specs.Written.{user_octets, accepted_octets, refused_octets, result_octets, results_octets, last_span}
 use Rattle.presentation_profile.proofs.OffersWritten.{id-spelled, id-few, oid-spelled, ber_is}
 
 -- ---- user data
 
-span-spelled : (at : ℕ) (octets : List ℕ) → span.spells at (span_at at octets) octets
-unfolding span
-span-spelled at octets = refl
-
--- where the body stands behind its id
-body_place : ℕ → ℕ → List ℕ → ℕ
-body_place at id body = at + length (written 2 (integer_octets (pos id))) + 1 + length (length_octets (length body))
-
-values-spelled : (at id : ℕ) (body : List ℕ) → id < 2 ^ 32 → length body ≤ MOST_BODY → data_values.spells at (user_of id (span_at (body_place at id body) body)) (values_octets id body)
-unfolding data_values values_octets maybe_in branch_in gives then_in body_place
-values-spelled at id body few size =
-    let first = written 2 (integer_octets (pos id)) in
-    let last = written 160 body in
-    let user : UserData = user_of id (span_at (body_place at id body) body) in
-    all-spelled _ at user (first ++ last) (
-      taken None at (first ++ last),
-      inr (refl, refl),
-      then-ends (part_in 2 unsigned) (λ i. map_in (user_of i) (part_in 160 span)) at id first user last
-          (part-writes 2 unsigned at id (integer_octets (pos id)) (omega (arith, id-few id few)) (id-spelled _ id few))
-          (map-ends (user_of id) (part_in 160 span) (at + length first) (span_at (body_place at id body) body) last
-          (ends_of (part_in 160 span) (at + length first) (span_at (body_place at id body) body) last
-          (part-writes 160 span (at + length first) (span_at (body_place at id body) body) body (omega (arith, size)) (span-spelled _ body)))),
-    )
-
-values-few : (id : ℕ) (body : List ℕ) → id < 2 ^ 32 → length body ≤ MOST_BODY → length (values_octets id body) ≤ length body + 16
-unfolding values_octets
+values-few : (id : ℕ) (body : List ℕ) → id < 2 ^ 32 → length body ≤ MOST_BODY → length (external_octets id body) ≤ length body + 16
 values-few id body few size = omega (arith, length-append (written 2 (integer_octets (pos id))) (written 160 body), length-written 160 body, part_size-most (length body), short-sized 2 (integer_octets (pos id)) (omega (arith, id-few id few)), id-few id few)
-
--- the body ends with the values
-body_last : (at id : ℕ) (body : List ℕ) → body_place at id body + length body ≡ at + length (values_octets id body)
-unfolding values_octets body_place
-body_last at id body = omega (arith, length-append (written 2 (integer_octets (pos id))) (written 160 body), length-append (length_octets (length body)) body)
 
 pub span-last : (from at : ℕ) (octets body : List ℕ) → from + length body ≡ at + length octets → length body ≤ length octets → span_at from body ≡ last_span at octets body
 span-last from at octets body ends within =
@@ -58,39 +30,41 @@ span-last from at octets body ends within =
     let stop : from + length body ≡ at + length octets = ends in
     ap (λ (k : ℕ). record { from = k; to = from + length body }) start ∙ ap (λ (k : ℕ). record { from = at + (length octets - length body); to = k }) stop
 
-user_place : ℕ → ℕ → List ℕ → ℕ
-user_place at id body =
-    let list = written 48 (values_octets id body) in
-    body_place (at + 1 + length (length_octets (length list)) + 1 + length (length_octets (length (values_octets id body)))) id body
-
-user_last : (at id : ℕ) (body : List ℕ) → user_place at id body + length body ≡ at + length (user_octets id body)
-unfolding user_octets user_place
-user_last at id body =
-    let values = values_octets id body in
-    let list = written 48 values in
-    omega (arith, body_last (at + 1 + length (length_octets (length list)) + 1 + length (length_octets (length values))) id body, length-append (length_octets (length list)) list, length-append (length_octets (length values)) values)
-
-user-begins : (at id : ℕ) (body : List ℕ) → id < 2 ^ 32 → length body ≤ MOST_BODY → Writes user_data at (user_of id (span_at (user_place at id body) body)) (user_octets id body)
-unfolding user_data user_octets user_place
-user-begins at id body few size =
-    let values = values_octets id body in
-    let list = written 48 values in
-    let user : UserData = user_of id (span_at (user_place at id body) body) in
-    let place = at + 1 + length (length_octets (length list)) in
-    let values_few = values-few id body few size in
-    part-writes 97 _ at user list (omega (arith, values_few, length-written 48 values, part_size-most (length values), size))
-    (all-spelled (part_in 48 data_values) place user list
-    (ends_of (part_in 48 data_values) place user list
-    (part-writes 48 data_values place user values (omega (arith, values_few, size)) (values-spelled _ id body few size))))
+-- the list of one value, which ends where its body does
+list-spelled_at : (wanted : Option ℕ) (at id : ℕ) (body : List ℕ) → id < 2 ^ 32 → length body ≤ MOST_BODY → is_wanted wanted id ≡ true → (all_in (part_in 48 (external wanted))).spells at (external_of id (externals.last_span (at + length (written 48 (external_octets id body))) body)) (written 48 (external_octets id body))
+list-spelled_at wanted at id body few size is =
+    let value = external_octets id body in
+    let from = at + 1 + length (length_octets (length value)) in
+    let list = written 48 value in
+    let ends : from + length value ≡ at + length list = omega (arith, length-append (length_octets (length value)) value) in
+    subst (λ (end : ℕ). (all_in (part_in 48 (external wanted))).spells at (external_of id (externals.last_span end body)) list) ends
+    (all-spelled (part_in 48 (external wanted)) at (external_of id (externals.last_span (from + length value) body)) list
+    (ends_of (part_in 48 (external wanted)) at (external_of id (externals.last_span (from + length value) body)) list
+    (part-writes 48 (external wanted) at (external_of id (externals.last_span (from + length value) body)) value (omega (arith, values-few id body few size, size))
+    (external-spelled wanted id body from few (omega (arith, size)) is))))
 
 pub body_within : (id : ℕ) (body : List ℕ) → length body ≤ length (user_octets id body)
-body_within id body = omega (arith, user_last 0 id body)
+unfolding user_octets
+body_within id body =
+    let value = external_octets id body in
+    let list = written 48 value in
+    omega (arith, length-append (length_octets (length list)) list, length-append (length_octets (length value)) value, length-append (written 2 (integer_octets (pos id))) (written 160 body), length-append (length_octets (length body)) body)
 
 -- what is written for user data begins what follows it, with its body at the end
-pub user-writes : (at id : ℕ) (body : List ℕ) → id < 2 ^ 32 → length body ≤ MOST_BODY → Writes user_data at (user_of id (last_span at (user_octets id body) body)) (user_octets id body)
-user-writes at id body few size =
-    subst (λ (s : Span). Writes user_data at (user_of id s) (user_octets id body)) (span-last (user_place at id body) at (user_octets id body) body (user_last at id body) (body_within id body))
-    (user-begins at id body few size)
+pub user-writes : (wanted : Option ℕ) (at id : ℕ) (body : List ℕ) → id < 2 ^ 32 → length body ≤ MOST_BODY → is_wanted wanted id ≡ true → Writes (user_data wanted) at (external_of id (last_span at (user_octets id body) body)) (user_octets id body)
+unfolding user_data user_octets
+user-writes wanted at id body few size is =
+    let value = external_octets id body in
+    let list = written 48 value in
+    let from = at + 1 + length (length_octets (length list)) in
+    let whole = written 97 list in
+    let ends : from + length list ≡ at + length whole = omega (arith, length-append (length_octets (length list)) list) in
+    let starts : (from + length list) - length body ≡ at + (length whole - length body) = omega (arith, ends, body_within id body) in
+    let values_few = values-few id body few size in
+    subst (λ (s : Span). Writes (part_in 97 (all_in (part_in 48 (external wanted)))) at (external_of id s) whole)
+    (ap (λ (k : ℕ). record { from = k; to = from + length list }) starts ∙ ap (λ (k : ℕ). record { from = at + (length whole - length body); to = k }) ends)
+    (part-writes 97 (all_in (part_in 48 (external wanted))) at (external_of id (externals.last_span (from + length list) body)) list (omega (arith, values_few, length-written 48 value, part_size-most (length value), size))
+    (list-spelled_at wanted from id body few size is))
 
 -- ---- results
 
@@ -182,5 +156,5 @@ results-few found few = omega (arith, each-few found, few, length-written 165 (f
 pub user-few : (id : ℕ) (body : List ℕ) → id < 2 ^ 32 → length body ≤ MOST_BODY → length (user_octets id body) ≤ length body + 28
 unfolding user_octets
 user-few id body few size =
-    let values = values_octets id body in
+    let values = external_octets id body in
     omega (arith, values-few id body few size, length-written 48 values, part_size-most (length values), length-written 97 (written 48 values), part_size-most (length (written 48 values)))

@@ -1,6 +1,6 @@
 -- The contexts that both ends agree on.
 use Rattle.std.specs.Prelude.{◌≡◌, ◌≢◌, ℕ, ◌≤◌, Bool, ◌&&◌, List, [], ◌∷◌, length, filter, ◌⊎◌}
-use Rattle.std.specs.Prelude.{Result, Ok, Err, Option, Some, None, ◌↔◌}
+use Rattle.std.specs.Prelude.{Result, Ok, Err, Option, Some, None, ◌↔◌, ◌==◌, if◌then◌else◌}
 use Rattle.std.specs.Str.{bytes_eq}
 use Rattle.presentation_profile.specs.declared.offers.Offered.{Offered}
 use Rattle.presentation_profile.specs.declared.agreement.Agreed.{Agreed}
@@ -44,6 +44,15 @@ pub record Agrees (contexts : List Offered) (agreed : Agreed) : Type 0 where
   pub one_mms : offers_of mms_name contexts ≡ mms ∷ []
   pub ids : agreed ≡ record { acse = acse.id; mms = mms.id }
   pub differ : acse.id ≢ mms.id
+
+-- the id of the only offer of ACSE, where the only one of MMS has another
+abbrev pub acse_among : List Offered → List Offered → Option ℕ
+acse_among (acse ∷ []) (mms ∷ []) = if acse.id == mms.id then None else Some acse.id
+acse_among _ _ = None
+
+-- the id of ACSE's context, where contexts are agreed on
+abbrev pub acse_of : List Offered → Option ℕ
+acse_of contexts = acse_among (offers_of acse_name contexts) (offers_of mms_name contexts)
 
 -- what is agreed on, or the first of these that holds: a name stands twice, ACSE has none, MMS none
 pub record IsAgreement (contexts : List Offered) (result : Result Agreed ContextFault) : Type 0

@@ -4,9 +4,11 @@ use Rattle.std.specs.Prelude.{flat_map, Option, Some, None, pos, ◌==◌, if◌
 use Rattle.std.specs.List.{All}
 use Rattle.ber_values.specs.declared.fault.Span.{Span}
 use Rattle.ber_values.specs.Oid.{IsOid}
+use Rattle.ber_values.specs.Externals.{external_octets, is_wanted}
 use Rattle.ber_values.specs.Lengths.{part_size}
 use Rattle.ber_values.specs.Writing.{head_octets, written, integer_octets}
 use Rattle.tpkt_cotp.specs.Selectors.{IsSelector}
+use Rattle.presentation_profile.specs.Agreements.{acse_of}
 use Rattle.presentation_profile.specs.declared.offers.Offered.{Offered}
 use Rattle.presentation_profile.specs.declared.offers.TheConstants.{MOST_OFFERS, LARGEST_ID}
 use Rattle.presentation_profile.specs.declared.ppdu.Ppdu.{Ppdu}
@@ -37,12 +39,9 @@ pub record AreOffers (os : List Offered) : Type 0 where
   pub few : length os ≤ MOST_OFFERS
   pub each : All IsOffered os
 
--- the id of a context, and a body
-unfoldable pub values_octets : ℕ → List ℕ → List ℕ
-values_octets id body = written 2 (integer_octets (pos id)) ++ written 160 body
-
+-- a value of the context with this id
 unfoldable pub user_octets : ℕ → List ℕ → List ℕ
-user_octets id body = written 97 (written 48 (values_octets id body))
+user_octets id body = written 97 (written 48 (external_octets id body))
 
 -- the context is accepted, with BER
 unfoldable pub accepted_octets : List ℕ
@@ -128,3 +127,9 @@ IsHeld (Connect called contexts id _) = HasSelector called
     × (All (λ o. IsOid o.abstract_name) contexts × (id < 2 ^ 32))
 IsHeld (Accept called found id _) = HasSelector called × (id < 2 ^ 32)
 IsHeld (Carry id _) = id < 2 ^ 32
+
+-- the id is that of ACSE's context in a connect, and else the one that is wanted, if one is
+abbrev pub IsAsWanted : Option ℕ → Ppdu → Type 0
+IsAsWanted wanted (Connect called contexts id _) = is_wanted (acse_of contexts) id ≡ true
+IsAsWanted wanted (Accept called found id _) = is_wanted wanted id ≡ true
+IsAsWanted wanted (Carry id _) = is_wanted wanted id ≡ true

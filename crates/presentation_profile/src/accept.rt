@@ -8,7 +8,7 @@ ghost use Rattle.ber_values.specs.Readers.{taken_from};
 ghost use Rattle.presentation_profile.specs.Others.{after_others, selector_in};
 ghost use Rattle.presentation_profile.specs.Ppdus.{accept_named, accept};
 ghost use Rattle.presentation_profile.specs.Ppdus.{body_of};
-ghost use Rattle.presentation_profile.specs.UserData.{IsBodyWithin};
+ghost use Rattle.ber_values.specs.Externals.{IsSpanWithin};
 ghost use Rattle.presentation_profile.specs.Written.{accept_octets};
 
 use crate::offers::MOST_OFFERS;
@@ -26,13 +26,17 @@ const RESPONDING: u8 = 0x83;
 /// The elements that an accept names, before its user data.
 const NAMED: [u8; 2] = [RESPONDING, RESULTS];
 
-/// The accept that the contents of an element are.
+/// The accept that the contents of an element are, of the context with the id that is wanted.
 #[tactic(auto, using(ber_values::proofs::Passed::drop_on), unfolding(crate::specs::Ppdus::accept, crate::specs::Others::after_others, ber_values::specs::Parts::all_in, ber_values::specs::Grammars::then_in, ber_values::specs::Grammars::map_in))]
-pub(crate) fn accept_from(alloc: Global, part: &Part<'_>) -> Result<Ppdu, Stop>
+pub(crate) fn accept_from(
+    alloc: Global,
+    part: &Part<'_>,
+    wanted: Option<u32>,
+) -> Result<Ppdu, Stop>
     requires { part.now.head.body + length part.now.contents.now < 2 ^ 64 }
     ensures exact { Answers (λ p. p) result
-        ((all_in accept).reading part.now.head part.now.contents.now) }
-    ensures body { IfOk result (λ p. IsBodyWithin part.now.head.body
+        ((all_in (accept wanted)).reading part.now.head part.now.contents.now) }
+    ensures body { IfOk result (λ p. IsSpanWithin part.now.head.body
         (part.now.head.body + length part.now.contents.now) (body_of p)) }
 {
     let (called, at) = take_responding(alloc, part.contents, part.head.body)?;
@@ -41,7 +45,7 @@ pub(crate) fn accept_from(alloc: Global, part: &Part<'_>) -> Result<Ppdu, Stop>
     let rest = octets_from(rest, at, next);
     let (results, at) = take_results(alloc, rest, next)?;
     let rest = octets_from(rest, next, at);
-    let (user, end) = take_last_data(rest, at, &NAMED)?;
+    let (user, end) = take_last_data(rest, at, &NAMED, wanted)?;
     take_end(octets_from(rest, at, end), end)?;
     Ok(Ppdu::Accept {
         called,

@@ -2,6 +2,7 @@
 ghost use Rattle.std.specs.Prelude.{◌≡◌, ◌↔◌, ◌≤◌, ◌∷◌, [], length, IsTrue};
 ghost use Rattle.presentation_profile.specs.declared.offers.Offered.{Offered};
 ghost use Rattle.presentation_profile.specs.Agreements.{IsAgreement, IsOnly, offers_of, is_of};
+ghost use Rattle.presentation_profile.specs.Agreements.{acse_of};
 
 use crate::offers::Offered;
 
@@ -66,4 +67,14 @@ fn is_of(offer: &Offered, name: &[u8]) -> bool
     ensures { result ≡ is_of name.now offer.now }
 {
     offer.ber && offer.abstract_name.octets() == name
+}
+
+/// The id of ACSE's context, where contexts are agreed on.
+pub(crate) fn acse_id(contexts: &[Offered]) -> Option<u32>
+    ensures { result ≡ acse_of contexts.now }
+{
+    match agree(contexts) {
+        Ok(agreed) => Some(agreed.acse),
+        Err(_) => None,
+    }
 }

@@ -7,9 +7,10 @@ ghost use Rattle.ber_values.specs.Parts.{all_in};
 ghost use Rattle.ber_values.specs.Readers.{taken_from};
 ghost use Rattle.presentation_profile.specs.Ppdus.{connect_selectors, connect};
 ghost use Rattle.presentation_profile.specs.Ppdus.{body_of};
-ghost use Rattle.presentation_profile.specs.UserData.{IsBodyWithin};
+ghost use Rattle.ber_values.specs.Externals.{IsSpanWithin};
 ghost use Rattle.presentation_profile.specs.Written.{AreOffers, calling_octets, connect_octets};
 
+use crate::agreement::acse_id;
 use crate::offers::{OFFERS, Offers, offers_len, put_offers, take_offers};
 use crate::others::{put_selector, selector_len, skip_others, take_last_data, take_selector};
 use crate::ppdu::Ppdu;
@@ -33,7 +34,7 @@ pub(crate) fn connect_from(alloc: Global, part: &Part<'_>) -> Result<Ppdu, Stop>
     requires { part.now.head.body + length part.now.contents.now < 2 ^ 64 }
     ensures exact { Answers (λ p. p) result
         ((all_in connect).reading part.now.head part.now.contents.now) }
-    ensures body { IfOk result (λ p. IsBodyWithin part.now.head.body
+    ensures body { IfOk result (λ p. IsSpanWithin part.now.head.body
         (part.now.head.body + length part.now.contents.now) (body_of p)) }
 {
     let (called, at) = take_selectors(alloc, part.contents, part.head.body)?;
@@ -42,7 +43,7 @@ pub(crate) fn connect_from(alloc: Global, part: &Part<'_>) -> Result<Ppdu, Stop>
     let rest = octets_from(rest, at, next);
     let (contexts, at) = take_offers(alloc, rest, next)?;
     let rest = octets_from(rest, next, at);
-    let (user, end) = take_last_data(rest, at, &NAMED)?;
+    let (user, end) = take_last_data(rest, at, &NAMED, acse_id(contexts.as_slice()))?;
     take_end(octets_from(rest, at, end), end)?;
     Ok(Ppdu::Connect {
         called,

@@ -9,11 +9,12 @@ ghost use Rattle.ber_values.specs.Grammars.{taken};
 ghost use Rattle.ber_values.specs.Readers.{taken_from};
 ghost use Rattle.presentation_profile.specs.Others.{others, after_others, before_others};
 ghost use Rattle.presentation_profile.specs.Others.{selector_in};
-ghost use Rattle.presentation_profile.specs.UserData.{user_data, IsBodyWithin};
+ghost use Rattle.ber_values.specs.Externals.{IsSpanWithin};
+ghost use Rattle.presentation_profile.specs.UserData.{user_data};
 ghost use Rattle.presentation_profile.specs.Written.{selector_octets};
 
-use crate::user_data::{UserData, take_user_data};
-use ber_values::{BerFault, Stop, has_tag, octets_from, skip_parts, take_part, write_octets};
+use crate::user_data::take_user_data;
+use ber_values::{BerFault, External, Stop, has_tag, octets_from, skip_parts, take_part, write_octets};
 use std::alloc::{AllocError, Global};
 use tpkt_cotp::Selector;
 
@@ -63,22 +64,25 @@ fn selector_of(alloc: Global, octets: Option<&[u8]>) -> Result<Option<Selector>,
     }
 }
 
-/// The user data between other elements, and the place after all these.
+/// The user data between other elements, and the place after all these. They are of the context
+/// with the id that is wanted, if one is.
 #[tactic(auto, using(ber_values::proofs::Passed::drop_on), unfolding(crate::specs::Others::after_others, crate::specs::Others::before_others, ber_values::specs::Grammars::then_in, ber_values::specs::Grammars::map_in))]
 pub(crate) fn take_last_data(
     octets: &[u8],
     at: usize,
     named: &[u8],
-) -> Result<(UserData, usize), BerFault>
+    wanted: Option<u32>,
+) -> Result<(External, usize), BerFault>
     requires { at + length octets.now < 2 ^ 64 }
     ensures exact { Gives (taken_from at octets.now) result
-        ((after_others named.now (before_others named.now user_data)).reading at octets.now) }
+        ((after_others named.now (before_others named.now (user_data wanted))).reading
+        at octets.now) }
     ensures within { IfOk result (λ x. (at < x.1) × (x.1 ≤ at + length octets.now)) }
-    ensures body { IfOk result (λ x. IsBodyWithin at x.1 x.0.body) }
+    ensures body { IfOk result (λ x. IsSpanWithin at x.1 x.0.body) }
 {
     let next = skip_others(octets, at, named)?;
     let rest = octets_from(octets, at, next);
-    let (user, after) = take_user_data(rest, next)?;
+    let (user, after) = take_user_data(rest, next, wanted)?;
     let rest = octets_from(rest, next, after);
     let end = skip_others(rest, after, named)?;
     Ok((user, end))

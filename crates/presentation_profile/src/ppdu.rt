@@ -10,7 +10,7 @@ ghost use Rattle.ber_values.specs.Parts.{all_in};
 ghost use Rattle.ber_values.specs.Readers.{IsReadBy, taken_from, taken_whole};
 ghost use Rattle.presentation_profile.specs.Ppdus.{accept, connect, has_results, parameters, mode};
 ghost use Rattle.presentation_profile.specs.Ppdus.{set_up_contents, ppdu, body_of};
-ghost use Rattle.presentation_profile.specs.UserData.{IsBodyWithin};
+ghost use Rattle.ber_values.specs.Externals.{IsSpanWithin};
 ghost use Rattle.presentation_profile.specs.Written.{AreOffers, IsWritable, connect_octets};
 ghost use Rattle.presentation_profile.specs.Written.{accept_octets, mode_octets, front_octets};
 ghost use Rattle.presentation_profile.specs.Written.{set_up_octets, ppdu_octets};
@@ -62,41 +62,55 @@ const MODE: u8 = 0xA0;
 /// The tag of the parameters of the normal mode.
 const PARAMETERS: u8 = 0xA2;
 
-/// The PPDU that the octets from `at` to `end` are.
+/// The PPDU that the octets from `at` to `end` are. The body of a connect is of the context of
+/// ACSE that its own offers agree on, or of any where they don't; the body of an accept and of user
+/// data is of the context with the id that is wanted, or of any where none is.
 pub fn read_ppdu(
     alloc: Global,
     tsdu: &[u8],
     at: usize,
     end: usize,
+    wanted: Option<u32>,
 ) -> Result<Result<Ppdu, BerFault>, AllocError>
     requires start { at ≤ end }
     requires stop { end ≤ length tsdu.now }
-    ensures exact { IfOk result (λ read. IsReadBy ppdu
+    ensures exact { IfOk result (λ read. IsReadBy (ppdu wanted)
         (taken_whole at (slice_range tsdu.now at end)) at (slice_range tsdu.now at end) read) }
-    ensures body { IfOk result (λ read. IfOk read (λ p. IsBodyWithin at end (body_of p))) }
+    ensures body { IfOk result (λ read. IfOk read (λ p. IsSpanWithin at end (body_of p))) }
 {
-    ppdu_from(alloc, &tsdu[at..end], at)
+    ppdu_from(alloc, &tsdu[at..end], at, wanted)
 }
 
-fn ppdu_from(alloc: Global, octets: &[u8], at: usize) -> Result<Result<Ppdu, BerFault>, AllocError>
+fn ppdu_from(
+    alloc: Global,
+    octets: &[u8],
+    at: usize,
+    wanted: Option<u32>,
+) -> Result<Result<Ppdu, BerFault>, AllocError>
     requires { at + length octets.now < 2 ^ 64 }
     ensures exact { IfOk result
-        (λ read. IsReadBy ppdu (taken_whole at octets.now) at octets.now read) }
+        (λ read. IsReadBy (ppdu wanted) (taken_whole at octets.now) at octets.now read) }
     ensures body { IfOk result (λ read. IfOk read
-        (λ p. IsBodyWithin at (at + length octets.now) (body_of p))) }
+        (λ p. IsSpanWithin at (at + length octets.now) (body_of p))) }
 {
-    settle(whole_ppdu(alloc, octets, at))
+    settle(whole_ppdu(alloc, octets, at, wanted))
 }
 
 /// The PPDU that octets are, of which the first has the place `at`.
 #[tactic(auto, unfolding(crate::specs::Ppdus::ppdu, crate::specs::Ppdus::set_up, ber_values::specs::Parts::whole_in, ber_values::specs::Parts::part_in, ber_values::specs::Grammars::branch_in, ber_values::specs::Grammars::map_in))]
-fn whole_ppdu(alloc: Global, octets: &[u8], at: usize) -> Result<Ppdu, Stop>
+fn whole_ppdu(
+    alloc: Global,
+    octets: &[u8],
+    at: usize,
+    wanted: Option<u32>,
+) -> Result<Ppdu, Stop>
     requires { at + length octets.now < 2 ^ 64 }
-    ensures exact { Answers (taken_whole at octets.now) result (ppdu.reading at octets.now) }
-    ensures body { IfOk result (λ p. IsBodyWithin at (at + length octets.now) (body_of p)) }
+    ensures exact { Answers (taken_whole at octets.now) result
+        ((ppdu wanted).reading at octets.now) }
+    ensures body { IfOk result (λ p. IsSpanWithin at (at + length octets.now) (body_of p)) }
 {
     if has_tag(octets, USER_DATA) {
-        let (user, next) = take_user_data(octets, at)?;
+        let (user, next) = take_user_data(octets, at, wanted)?;
         take_end(octets_from(octets, at, next), next)?;
         return Ok(Ppdu::Carry {
             id: user.id,
@@ -104,29 +118,33 @@ fn whole_ppdu(alloc: Global, octets: &[u8], at: usize) -> Result<Ppdu, Stop>
         });
     }
     let part = take_part(octets, at, SET_UP)?;
-    let ppdu = set_up_from(alloc, &part)?;
+    let ppdu = set_up_from(alloc, &part, wanted)?;
     take_end(part.rest, part.head.next)?;
     Ok(ppdu)
 }
 
 /// The mode and the parameters that the contents of an element are.
 #[tactic(auto, unfolding(crate::specs::Ppdus::set_up_contents, ber_values::specs::Parts::all_in, ber_values::specs::Grammars::branch_in, ber_values::specs::Grammars::then_in, ber_values::specs::Grammars::map_in))]
-fn set_up_from(alloc: Global, part: &Part<'_>) -> Result<Ppdu, Stop>
+fn set_up_from(
+    alloc: Global,
+    part: &Part<'_>,
+    wanted: Option<u32>,
+) -> Result<Ppdu, Stop>
     requires { part.now.head.body + length part.now.contents.now < 2 ^ 64 }
     ensures exact { Answers (λ p. p) result
-        (set_up_contents.reading part.now.head part.now.contents.now) }
-    ensures body { IfOk result (λ p. IsBodyWithin part.now.head.body
+        ((set_up_contents wanted).reading part.now.head part.now.contents.now) }
+    ensures body { IfOk result (λ p. IsSpanWithin part.now.head.body
         (part.now.head.body + length part.now.contents.now) (body_of p)) }
 {
     let at = part.head.body;
     if has_tag(part.contents, MODE) {
         let next = take_mode(part.contents, at)?;
         let rest = octets_from(part.contents, at, next);
-        let (ppdu, end) = take_parameters(alloc, rest, next)?;
+        let (ppdu, end) = take_parameters(alloc, rest, next, wanted)?;
         take_end(octets_from(rest, next, end), end)?;
         return Ok(ppdu);
     }
-    let (ppdu, next) = take_parameters(alloc, part.contents, at)?;
+    let (ppdu, next) = take_parameters(alloc, part.contents, at, wanted)?;
     let rest = octets_from(part.contents, at, next);
     let end = take_mode(rest, next)?;
     take_end(octets_from(rest, next, end), end)?;
@@ -150,28 +168,39 @@ fn take_mode(octets: &[u8], at: usize) -> Result<usize, BerFault>
 
 /// The connect or accept in the parameters at the front of octets, and the place after them.
 #[tactic(auto, unfolding(crate::specs::Ppdus::parameters, ber_values::specs::Parts::part_in))]
-fn take_parameters(alloc: Global, octets: &[u8], at: usize) -> Result<(Ppdu, usize), Stop>
+fn take_parameters(
+    alloc: Global,
+    octets: &[u8],
+    at: usize,
+    wanted: Option<u32>,
+) -> Result<(Ppdu, usize), Stop>
     requires { at + length octets.now < 2 ^ 64 }
-    ensures exact { Answers (taken_from at octets.now) result (parameters.reading at octets.now) }
+    ensures exact { Answers (taken_from at octets.now) result
+        ((parameters wanted).reading at octets.now) }
     ensures within { IfOk result (λ x. (at < x.1) × (x.1 ≤ at + length octets.now)) }
-    ensures body { IfOk result (λ x. IsBodyWithin at x.1 (body_of x.0)) }
+    ensures body { IfOk result (λ x. IsSpanWithin at x.1 (body_of x.0)) }
 {
     let part = take_part(octets, at, PARAMETERS)?;
-    let ppdu = parameters_from(alloc, &part)?;
+    let ppdu = parameters_from(alloc, &part, wanted)?;
     Ok((ppdu, part.head.next))
 }
 
 /// The connect or accept that the contents of an element are.
 #[tactic(auto, unfolding(ber_values::specs::Parts::all_in, ber_values::specs::Grammars::branch_in))]
-fn parameters_from(alloc: Global, part: &Part<'_>) -> Result<Ppdu, Stop>
+fn parameters_from(
+    alloc: Global,
+    part: &Part<'_>,
+    wanted: Option<u32>,
+) -> Result<Ppdu, Stop>
     requires { part.now.head.body + length part.now.contents.now < 2 ^ 64 }
-    ensures exact { Answers (λ p. p) result ((all_in (branch_in has_results accept connect)).reading
+    ensures exact { Answers (λ p. p) result 
+        ((all_in (branch_in has_results (accept wanted) connect)).reading
         part.now.head part.now.contents.now) }
-    ensures body { IfOk result (λ p. IsBodyWithin part.now.head.body
+    ensures body { IfOk result (λ p. IsSpanWithin part.now.head.body
         (part.now.head.body + length part.now.contents.now) (body_of p)) }
 {
     if has_results(part.contents) {
-        accept_from(alloc, part)
+        accept_from(alloc, part, wanted)
     } else {
         connect_from(alloc, part)
     }

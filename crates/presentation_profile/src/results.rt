@@ -1,7 +1,10 @@
 //! What became of the contexts that were offered (ISO 8823-1,
 //! Presentation-context-definition-result-list).
 ghost use Rattle.std.specs.Prelude.{◌≡◌, ◌+◌, ◌<◌, ◌≤◌, ◌^◌, ◌++◌, length, flat_map, IfOk};
-ghost use Rattle.std.specs.Prelude.{OnOk, OnErr};
+ghost use Rattle.std.specs.Prelude.{◌≢◌, ◌-◌, ◌%◌, drop, option_copied, OnOk, OnErr};
+ghost use Rattle.ber_values.specs.Grammars.{taken};
+ghost use Rattle.ber_values.specs.Parts.{maybe_in};
+ghost use Rattle.ber_values.specs.Leaves.{oid};
 ghost use Rattle.plain_text.specs.Extends.{Extends};
 ghost use Rattle.ber_values.specs.Faults.{Gives};
 ghost use Rattle.ber_values.specs.Stops.{Answers};
@@ -12,10 +15,7 @@ ghost use Rattle.presentation_profile.specs.Written.{accepted_octets, refused_oc
 ghost use Rattle.presentation_profile.specs.Written.{result_octets, results_octets};
 
 use crate::offers::{BER, MOST_OFFERS};
-use crate::user_data::maybe_name;
-use ber_values::{
-    BerFault, Part, Stop, octets_from, part_len, skip_parts, take_end, take_part, write_head,
-};
+use ber_values::{BerFault, Part, Stop, has_tag, octets_from, part_len, skip_parts, take_end, take_part, write_head};
 use item_list::ItemList;
 use std::alloc::{AllocError, Global};
 
@@ -174,4 +174,26 @@ fn put_refused(out: &mut Vec<u8>, one: u8) -> Result<(), AllocError>
     ensures err { OnErr result (out.new.items ≡ out.old.items) }
 {
     out.extend_from_slice(&[0x30, 3, RESULT, 1, one])
+}
+
+/// The object identifier of this tag at the front of octets, if there is one, and the place after
+/// it.
+#[tactic(auto, unfolding(ber_values::specs::Parts::maybe_in, ber_values::specs::Parts::part_in, ber_values::specs::Grammars::branch_in, ber_values::specs::Grammars::map_in, ber_values::specs::Grammars::gives))]
+fn maybe_name(
+    octets: &[u8],
+    at: usize,
+    tag: u8,
+) -> Result<(Option<&[u8]>, usize), BerFault>
+    requires single { tag % 32 ≢ 31 }
+    requires placed { at + length octets.now < 2 ^ 64 }
+    ensures exact { Gives (λ x. taken (option_copied x.0) x.1 (drop (x.1 - at) octets.now)) result
+        ((maybe_in tag oid).reading at octets.now) }
+    ensures within { IfOk result (λ x. (at ≤ x.1) × (x.1 ≤ at + length octets.now)) }
+{
+    if !has_tag(octets, tag) {
+        return Ok((None, at));
+    }
+    let part = take_part(octets, at, tag)?;
+    let name = part.oid_octets()?;
+    Ok((Some(name), part.head.next))
 }
