@@ -5,30 +5,34 @@ use outside::{
 use std::alloc::{AllocError, Global};
 use std::test::Fail;
 
-// A text, the calls that fail, the limit, and what is read.
-const READINGS: [(&[u8], &[u64], u64, Result<&[u8], TextEnd>); 6] = [
-    (b"abc", &[], 3, Ok(b"abc")),
-    (b"", &[], 0, Ok(b"")),
-    (b"abc", &[], 2, Err(TextEnd::Long)),
-    (b"abc", &[0], 3, Err(TextEnd::Failed)),
-    (b"abc", &[1], 3, Err(TextEnd::Failed)),
-    (b"abc", &[2], 3, Ok(b"abc")),
+// A text, the calls that fail, the limit, what is read, and how many faults there were.
+const READINGS: [(&[u8], &[u64], u64, Result<&[u8], &TextEnd>, u64); 6] = [
+    (b"abc", &[], 3, Ok(b"abc"), 0),
+    (b"", &[], 0, Ok(b""), 0),
+    (b"abc", &[], 2, Err(&TextEnd::Long), 0),
+    (b"abc", &[0], 3, Err(&TextEnd::Failed), 1),
+    (b"abc", &[1], 3, Err(&TextEnd::Failed), 1),
+    (b"abc", &[2], 3, Ok(b"abc"), 0),
 ];
+
+// What a text of which these calls fail is read as, and how many faults there were.
+fn read_of(
+    alloc: Global,
+    octets: &[u8],
+    fails: &[u64],
+    limit: u64,
+) -> Result<(Result<Vec<u8>, TextEnd>, u64), AllocError> {
+    let mut source = TextSource::new(octets.to_vec(alloc)?, fails.to_vec(alloc)?);
+    let read = read_text(alloc, &mut source, limit)?;
+    Ok((read, source.faults()))
+}
 
 #[test]
 fn reads_texts(rt: HostRuntime) -> Result<(), Fail> {
-    let alloc = rt.alloc();
-    for (octets, fails, limit, want) in READINGS {
-        let mut source = TextSource::new(octets.to_vec(alloc)?, fails.to_vec(alloc)?);
-        match (read_text(alloc, &mut source, limit)?, want) {
-            (Ok(text), Ok(wanted)) => assert_eq!(rt; text.as_slice(), wanted),
-            (Err(end), Err(wanted)) => assert_eq!(rt; end, wanted),
-            _ => panic!(rt; "at limit {limit}"),
-        }
-        assert_eq!(rt;
-            source.faults(),
-            if want == Err(TextEnd::Failed) { 1 } else { 0 }
-        );
+    for (octets, fails, limit, want, count) in READINGS {
+        let (read, faults) = read_of(rt.alloc(), octets, fails, limit)?;
+        assert_eq!(rt; read.as_deref(), want, "at limit {limit}");
+        assert_eq!(rt; faults, count, "at limit {limit}");
     }
     Ok(())
 }

@@ -1,5 +1,4 @@
 mod Standing
-pub mod Counting
 pub mod Calling
 pub mod Writing
 pub mod Reading

@@ -1,5 +1,5 @@
 -- The count of faults of an object outside. It stands still at its type's end.
-use Rattle.std.specs.Prelude.{Bool, true, false, ℕ, ◌+◌, ◌-◌, ◌^◌, ◌≤◌, max, min}
+use Rattle.std.specs.Prelude.{Bool, true, false, ℕ, ◌+◌, ◌-◌, ◌^◌, max, min}
 
 -- one more, or the same at the type's end
 abbrev pub next_count : ℕ → ℕ
@@ -9,8 +9,3 @@ next_count n = max n (min (n + 1) (2 ^ 64 - 1))
 abbrev pub counted : Bool → ℕ → ℕ
 counted true n = next_count n
 counted false n = n
-
--- the count rose, by one or more, or stands at its type's end; of several calls together
-pub record Rose (before now : ℕ) : Type 0 where
-  pub risen : next_count before ≤ now
-  pub no_lower : before ≤ now

@@ -77,17 +77,38 @@ const COMMANDS: [(&[&str], &str, Status, &str); 9] = [
     ),
 ];
 
-// A text, of which these reads fail.
-fn text_of(alloc: Global, octets: &[u8], fails: &[u64]) -> Result<TextSource, AllocError> {
-    Ok(TextSource::new(
-        Vec::from_slice(alloc, octets)?,
-        Vec::from_slice(alloc, fails)?,
-    ))
+// A text, and the numbers of its reads that fail.
+#[derive(Clone, Copy)]
+struct Text<'a> {
+    octets: &'a [u8],
+    fails: &'a [u64],
 }
 
-// Room for so many octets, of which these writes fail.
-fn room_of(alloc: Global, room: usize, fails: &[u64]) -> Result<ByteSink, AllocError> {
-    ByteSink::new(alloc, room, Vec::from_slice(alloc, fails)?)
+// Room for so many octets, and the numbers of the writes that fail.
+#[derive(Clone, Copy)]
+struct Room<'a> {
+    octets: usize,
+    fails: &'a [u64],
+}
+
+fn source_of(alloc: Global, text: Text<'_>) -> Result<TextSource, AllocError> {
+    let octets = Vec::from_slice(alloc, text.octets)?;
+    Ok(TextSource::new(octets, Vec::from_slice(alloc, text.fails)?))
+}
+
+// An outside with both texts, and room on standard output.
+fn outside_of(
+    alloc: Global,
+    tables: Text<'_>,
+    scenario: Text<'_>,
+    room: Room<'_>,
+) -> Result<MemoryOutside, AllocError> {
+    let mut outside = MemoryOutside::new(alloc);
+    outside.put_in(alloc, "tables", source_of(alloc, tables)?)?;
+    outside.put_in(alloc, "scenario", source_of(alloc, scenario)?)?;
+    let output = ByteSink::new(alloc, room.octets, Vec::from_slice(alloc, room.fails)?)?;
+    outside.put_out(alloc, "-", output)?;
+    Ok(outside)
 }
 
 // The words of a command.
@@ -111,17 +132,19 @@ fn printed(outside: &MemoryOutside) -> &[u8] {
 fn ran(
     alloc: Global,
     words: &[&str],
-    tables: TextSource,
-    scenario: TextSource,
-    output: ByteSink,
+    tables: Text<'_>,
+    scenario: Text<'_>,
+    room: Room<'_>,
 ) -> Result<(Status, Vec<u8>), AllocError> {
     let words = words_of(alloc, words)?;
-    let mut outside = MemoryOutside::new(alloc);
-    outside.put_in(alloc, "tables", tables)?;
-    outside.put_in(alloc, "scenario", scenario)?;
-    outside.put_out(alloc, "-", output)?;
+    let mut outside = outside_of(alloc, tables, scenario, room)?;
     let status = run(alloc, &words, &mut outside);
     Ok((status, Vec::from_slice(alloc, printed(&outside))?))
+}
+
+// A text that is read without a fault.
+fn sound(octets: &[u8]) -> Text<'_> {
+    Text { octets, fails: &[] }
 }
 
 // Runs these words over these texts, and sees how it ends and what it prints.
@@ -133,11 +156,12 @@ fn runs_so(
     status: Status,
     shown: &str,
 ) -> Result<(), Fail> {
-    let alloc = rt.alloc();
-    let tables = text_of(alloc, tables.as_bytes(), &[])?;
-    let source = text_of(alloc, scenario.as_bytes(), &[])?;
-    let output = room_of(alloc, 1000, &[])?;
-    let (end, printed) = ran(alloc, words, tables, source, output)?;
+    let room = Room {
+        octets: 1000,
+        fails: &[],
+    };
+    let texts = (sound(tables.as_bytes()), sound(scenario.as_bytes()));
+    let (end, printed) = ran(rt.alloc(), words, texts.0, texts.1, room)?;
     assert_eq!(rt; end, status, "{scenario}");
     assert_eq!(rt; printed.as_slice(), shown.as_bytes(), "{scenario}");
     Ok(())

@@ -1,4 +1,4 @@
-use super::{LAWFUL, TABLES, ran, room_of, text_of};
+use super::{LAWFUL, Room, TABLES, Text, ran, sound};
 use command_io::Status;
 use std::alloc::{AllocError, Global};
 use std::test::Fail;
@@ -27,15 +27,16 @@ const ROOMS: [(&[u64], usize, Status, &str); 4] = [
 
 #[test]
 fn room_may_lack(rt: HostRuntime) -> Result<(), Fail> {
-    let alloc = rt.alloc();
-    for (fails, room, status, shown) in ROOMS {
-        let tables = text_of(alloc, TABLES.as_bytes(), fails)?;
-        let text = b"open 1 A\nsay 1 read DOMA/BUS1\nsay 1 read DOMA/BUS1\n";
-        let scenario = text_of(alloc, text, &[])?;
-        let output = room_of(alloc, room, &[])?;
-        let (end, printed) = ran(alloc, &LAWFUL, tables, scenario, output)?;
-        assert_eq!(rt; end, status, "room {room}");
-        assert_eq!(rt; printed.as_slice(), shown.as_bytes(), "room {room}");
+    let scenario = sound(b"open 1 A\nsay 1 read DOMA/BUS1\nsay 1 read DOMA/BUS1\n");
+    for (fails, octets, status, shown) in ROOMS {
+        let tables = Text {
+            octets: TABLES.as_bytes(),
+            fails,
+        };
+        let room = Room { octets, fails: &[] };
+        let (end, printed) = ran(rt.alloc(), &LAWFUL, tables, scenario, room)?;
+        assert_eq!(rt; end, status, "room {octets}");
+        assert_eq!(rt; printed.as_slice(), shown.as_bytes(), "room {octets}");
     }
     Ok(())
 }
@@ -62,10 +63,19 @@ fn each_read_may_fail(rt: HostRuntime) -> Result<(), Fail> {
     let tables = repeated(alloc, TABLES, b"# nothing\n", 7000)?;
     let scenario = repeated(alloc, SCENARIO, b"# nothing\n", 7000)?;
     for (of_tables, of_scenario, status) in READS {
-        let tables = text_of(alloc, &tables, of_tables)?;
-        let scenario = text_of(alloc, &scenario, of_scenario)?;
-        let output = room_of(alloc, 1000, &[])?;
-        let (end, printed) = ran(alloc, &LAWFUL, tables, scenario, output)?;
+        let tables = Text {
+            octets: &tables,
+            fails: of_tables,
+        };
+        let scenario = Text {
+            octets: &scenario,
+            fails: of_scenario,
+        };
+        let room = Room {
+            octets: 1000,
+            fails: &[],
+        };
+        let (end, printed) = ran(alloc, &LAWFUL, tables, scenario, room)?;
         assert_eq!(rt; end, status, "{of_tables:?} {of_scenario:?}");
         assert_eq!(rt; printed.is_empty(), status == Status::Outside);
     }
@@ -85,10 +95,12 @@ fn each_write_may_fail(rt: HostRuntime) -> Result<(), Fail> {
     let alloc = rt.alloc();
     let scenario = repeated(alloc, "open 1 A\n", b"say 1 read DOMA/BUS1\n", 4000)?;
     for (fails, status, count) in WRITES {
-        let tables = text_of(alloc, TABLES.as_bytes(), &[])?;
-        let scenario = text_of(alloc, &scenario, &[])?;
-        let output = room_of(alloc, 100_000, fails)?;
-        let (end, printed) = ran(alloc, &LAWFUL, tables, scenario, output)?;
+        let tables = sound(TABLES.as_bytes());
+        let room = Room {
+            octets: 100_000,
+            fails,
+        };
+        let (end, printed) = ran(alloc, &LAWFUL, tables, sound(&scenario), room)?;
         assert_eq!(rt; end, status, "{fails:?}");
         assert_eq!(rt; printed.len(), count, "{fails:?}");
     }
