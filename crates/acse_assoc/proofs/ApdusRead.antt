@@ -1,14 +1,13 @@
 -- Reading APDUs is exact.
 use Rattle.std.proofs.Common.{ℕ}
 use Rattle.acse_assoc.specs.declared.expected.Expected.{Expected}
-use Rattle.ber_values.specs.Grammars.{IsGrammar, map_in, then_in}
+use Rattle.ber_values.specs.Grammars.{IsGrammar}
 use Rattle.ber_values.specs.Parts.{IsContentsGrammar}
-use Rattle.ber_values.specs.Leaves.{unsigned, oid}
-use Rattle.ber_values.proofs.Grammars.{then_reads, map_reads, part_reads, choose_reads, maybe_reads}
-use Rattle.ber_values.proofs.Grammars.{as_reads, all_reads, where_reads, whole_reads}
+use Rattle.ber_values.specs.Leaves.{oid}
+use Rattle.ber_values.proofs.Grammars.{then_reads, map_reads, part_reads, choose_reads}
+use Rattle.ber_values.proofs.Grammars.{as_reads, all_reads, whole_reads}
 use Rattle.ber_values.proofs.Leaves.{oid_contents, unsigned_within_contents, raw_contents}
 use Rattle.ber_values.proofs.Externals.{external_contents}
-use Rattle.acse_assoc.specs.Rising.{rising_in, attempt}
 use Rattle.acse_assoc.specs.Users.{user_information}
 use Rattle.acse_assoc.specs.Requests.{one_oid, context_name, calling_title, user_last, request}
 use Rattle.acse_assoc.specs.Responses.{context_passed, one_result, result_next, user_of_result}

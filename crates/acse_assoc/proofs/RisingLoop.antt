@@ -1,9 +1,8 @@
 -- A loop that passes over elements whose numbers rise.
-use Rattle.std.proofs.Common.{◌≡◌, ℕ, zero, suc, ◌+◌, ◌-◌, ◌^◌, ◌<◌, ◌≤◌, List, [], ◌∷◌, length}
-use Rattle.std.proofs.Common.{drop, Result, Ok, Err, Option, Some, None, refl, sym, ap, ◌∙◌, arith}
+use Rattle.std.proofs.Common.{◌≡◌, ℕ, zero, suc, ◌+◌, ◌-◌, ◌^◌, ◌<◌, ◌≤◌, List, length}
+use Rattle.std.proofs.Common.{drop, Ok, Err, Some, None, refl, sym, ap, ◌∙◌, arith}
 use Rattle.std.proofs.lemmas.List.{length-drop}
 use Rattle.ber_values.specs.declared.fault.BerFault.{BerFault}
-use Rattle.ber_values.specs.Reading.{Taken}
 use Rattle.ber_values.specs.Grammars.{taken, gives, by_length}
 use Rattle.acse_assoc.specs.Rising.{rising_within, rising_in, PassesNext}
 

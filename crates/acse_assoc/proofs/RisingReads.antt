@@ -1,13 +1,12 @@
 -- The pieces for elements whose numbers rise are exact.
-use Rattle.std.proofs.Common.{◌≡◌, ℕ, zero, suc, ◌+◌, Bool, true, false, List, Option, Some, None}
+use Rattle.std.proofs.Common.{◌≡◌, ℕ, zero, suc, ◌+◌, Bool, Option, Some, None}
 use Rattle.std.proofs.Common.{Result, Ok, Err, refl, sym, ap, inl, inr, ◌⊎◌, ◌∙◌}
 use Rattle.std.specs.Prelude.{nat_le}
 use Rattle.ber_values.specs.declared.fault.BerFault.{BerFault}
-use Rattle.ber_values.specs.declared.head.Head.{Head}
 use Rattle.ber_values.specs.declared.tag.Tag.{Tag}
 use Rattle.ber_values.specs.Reading.{Taken, Begins, IsReading}
 use Rattle.ber_values.specs.Tags.{SpellsTag, TagFault, tag_in}
-use Rattle.ber_values.specs.Grammars.{Grammar, IsGrammar, gives, then_in, branch_in, first_is}
+use Rattle.ber_values.specs.Grammars.{Grammar, IsGrammar, gives, first_is}
 use Rattle.ber_values.specs.Grammars.{refused, skip}
 use Rattle.ber_values.specs.Parts.{Contents, IsContentsGrammar, part_in, maybe_in}
 use Rattle.ber_values.proofs.Reading.{IsReading-as, IsReading-then, Ok_is, not_both}

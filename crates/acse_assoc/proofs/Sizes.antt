@@ -1,8 +1,7 @@
 -- Lengths of what is written.
-use Rattle.std.proofs.Common.{◌≡◌, ℕ, ◌+◌, ◌≤◌, ◌<◌, ◌^◌, List, ◌++◌, length, pos, refl, sym, ap, ◌∙◌, arith}
-use Rattle.std.proofs.lemmas.List.{length-append}
+use Rattle.std.proofs.Common.{◌≡◌, ℕ, ◌+◌, ◌<◌, List, length, refl, sym, ap, ◌∙◌, arith}
 use Rattle.plain_text.proofs.Extended.{Extends-append}
-use Rattle.ber_values.specs.Writing.{written, integer_octets}
+use Rattle.ber_values.specs.Writing.{written}
 use Rattle.ber_values.proofs.Capped.{length-written, part_size-short}
 use Rattle.acse_assoc.specs.Writing.{mms_context}
 

@@ -1,5 +1,5 @@
 -- APDUs as control centres send them, computed.
-use Rattle.std.proofs.Common.{◌≡◌, false, List, ℕ, [], ◌∷◌, ◌++◌, length, Option, Some, None, Ok, Err, refl}
+use Rattle.std.proofs.Common.{◌≡◌, false, List, ℕ, [], ◌∷◌, Some, None, Ok, Err, refl}
 use Rattle.ber_values.specs.Tags.{length_in, tag_in}
 use Rattle.ber_values.specs.Heads.{head_in}
 use Rattle.ber_values.specs.Numbers.{unsigned_in}
@@ -10,14 +10,14 @@ use Rattle.ber_values.specs.Parts.{contents_where, whole_in, all_in}
 use Rattle.ber_values.specs.Leaves.{unsigned, unsigned_within, oid, span, raw}
 use Rattle.ber_values.specs.Faults.{fault_at}
 use Rattle.ber_values.specs.declared.fault.Why.TheVariants as whys
-use Rattle.acse_assoc.specs.declared.apdu.Apdu.TheVariants.{Aarq, Aare, Rlre}
+use Rattle.acse_assoc.specs.declared.apdu.Apdu.TheVariants.{Aarq}
 use Rattle.acse_assoc.specs.Rising.{by_tag, rising_within, rising_in, named_in, perhaps_in, attempt}
 use Rattle.acse_assoc.specs.declared.expected.Expected.{Expected}
 use Rattle.ber_values.specs.Externals.{external_of, external}
 use Rattle.acse_assoc.specs.Users.{user_information}
 use Rattle.acse_assoc.specs.Requests.{one_oid, context_name, calling_title, user_last, request}
 use Rattle.acse_assoc.specs.Responses.{context_passed, one_result, result_next, user_of_result}
-use Rattle.acse_assoc.specs.Responses.{some_user_last, response, response_of}
+use Rattle.acse_assoc.specs.Responses.{some_user_last, response}
 use Rattle.acse_assoc.specs.Apdus.{one_apdu, apdu}
 
 any : Expected

@@ -1,20 +1,18 @@
 -- What is written is read back.
-use Rattle.std.proofs.Common.{◌≡◌, ◌≢◌, ℕ, suc, ◌+◌, ◌-◌, ◌<◌, ◌≤◌, ◌^◌, Bool, true, false, eqb, List, []}
-use Rattle.std.proofs.Common.{◌∷◌, ◌++◌, length, pos, Option, Some, None, Result, Ok, Err, refl, sym}
+use Rattle.std.proofs.Common.{◌≡◌, ℕ, suc, ◌+◌, ◌<◌, ◌≤◌, ◌^◌, true, false, eqb, List, []}
+use Rattle.std.proofs.Common.{◌∷◌, ◌++◌, length, pos, Option, Some, None, Ok, refl, sym}
 use Rattle.std.proofs.Common.{ap, subst, ◌∙◌, inl, inr, ◌⊎◌, append-nil, arith}
 use Rattle.std.specs.Prelude.{nat_le, option_map}
 use Rattle.std.proofs.lemmas.List.{length-append}
 use Rattle.ber_values.specs.declared.external.External.{External}
-use Rattle.ber_values.specs.declared.fault.Span.{Span}
 use Rattle.ber_values.specs.Oid.{IsOid}
-use Rattle.ber_values.specs.Reading.{Taken}
 use Rattle.ber_values.specs.Tags.{tag_with, tag_in}
 use Rattle.ber_values.specs.Writing.{written, integer_octets, length_octets}
 use Rattle.ber_values.specs.Externals.{external_of, is_wanted, external, external_octets}
 use Rattle.ber_values.specs.Grammars.{taken, gives, then_in, map_in, branch_in, by_length, skip}
 use Rattle.ber_values.specs.Parts.{Contents, part_in, maybe_in, contents_as, contents_where, all_in}
-use Rattle.ber_values.specs.Parts.{whole_in, choose_in}
-use Rattle.ber_values.specs.Leaves.{oid, raw, unsigned, unsigned_within}
+use Rattle.ber_values.specs.Parts.{whole_in}
+use Rattle.ber_values.specs.Leaves.{oid, raw, unsigned_within}
 use Rattle.ber_values.proofs.Grammars.{part-written, choose-written, choose-other}
 use Rattle.ber_values.proofs.Capped.{length-written, part_size-most}
 use Rattle.ber_values.proofs.WrittenParts.{ends_of, part-writes}
@@ -32,9 +30,9 @@ use Rattle.acse_assoc.specs.declared.response.AssociateResponse.{AssociateRespon
 use Rattle.acse_assoc.specs.Rising.{least_after}
 use Rattle.acse_assoc.specs.Rising.{by_tag, rising_within, rising_in, named_in, perhaps_in, attempt}
 use Rattle.acse_assoc.specs.Users.{user_information}
-use Rattle.acse_assoc.specs.Requests.{one_oid, context_name, titled, title_of, calling_title}
+use Rattle.acse_assoc.specs.Requests.{one_oid, context_name, titled, calling_title}
 use Rattle.acse_assoc.specs.Requests.{user_last, request_of, request}
-use Rattle.acse_assoc.specs.Apdus.{as_it_is, one_apdu, apdu}
+use Rattle.acse_assoc.specs.Apdus.{one_apdu, apdu}
 use Rattle.acse_assoc.specs.Writing.{user_octets, title_octets, request_contents, request_octets}
 use Rattle.acse_assoc.specs.Responses.{context_passed, largest_result, one_result, result_next}
 use Rattle.acse_assoc.specs.Responses.{user_of_result, some_user_last, response_of, response}

@@ -1,14 +1,12 @@
 -- Values of presentation contexts are read exactly, and what is written is read back.
-use Rattle.std.proofs.Common.{◌≡◌, ℕ, ◌+◌, ◌-◌, ◌≤◌, ◌<◌, ◌^◌, true, ltb, List, [], ◌++◌, length, pos, Option, Some, None, refl, sym, ap, subst, ◌∙◌, inr, append-nil, arith}
+use Rattle.std.proofs.Common.{◌≡◌, ℕ, ◌+◌, ◌-◌, ◌≤◌, ◌<◌, ◌^◌, true, List, [], ◌++◌, length, pos, Option, None, refl, sym, ap, ◌∙◌, inr, arith}
 use Rattle.std.proofs.lemmas.List.{length-append}
-use Rattle.std.proofs.lemmas.Bool.{cond_both, ltb-true, ltb-false}
-use Rattle.ber_values.specs.declared.lengths.TheConstants.{MOST_LENGTH}
 use Rattle.ber_values.specs.declared.fault.Span.{Span}
 use Rattle.ber_values.specs.Elements as kinds
 use Rattle.ber_values.specs.Grammars.{taken, gives, then_in, map_in, branch_in}
 use Rattle.ber_values.specs.Writing.{written, integer_octets, length_octets}
 use Rattle.ber_values.specs.Lengths.{capped, part_size}
-use Rattle.ber_values.specs.Parts.{IsContentsGrammar, Contents, part_in, maybe_in, contents_where, all_in}
+use Rattle.ber_values.specs.Parts.{IsContentsGrammar, part_in, maybe_in, contents_where, all_in}
 use Rattle.ber_values.specs.Leaves.{unsigned, oid, span_at, span}
 use Rattle.ber_values.specs.Externals.{external_of, is_wanted, external, external_octets}
 use Rattle.ber_values.proofs.Grammars.{then_reads, map_reads, part_reads, maybe_reads, where_reads}

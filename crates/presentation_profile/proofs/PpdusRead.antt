@@ -1,11 +1,10 @@
 -- Reading PPDUs is exact.
 use Rattle.std.proofs.Common.{ℕ, Option, List, [], ◌∷◌}
 use Rattle.ber_values.specs.Grammars.{Grammar, IsGrammar, has_tag, is_other}
-use Rattle.ber_values.specs.Parts.{IsContentsGrammar}
-use Rattle.ber_values.specs.Leaves.{selector, unsigned, oid, span, octet}
+use Rattle.ber_values.specs.Leaves.{selector, oid, octet}
 use Rattle.ber_values.proofs.Grammars.{gives_reads, then_reads, map_reads, branch_reads, pass_reads, whole_reads, part_reads, choose_reads, maybe_reads, all_reads}
 use Rattle.ber_values.proofs.Lists.{list_reads}
-use Rattle.ber_values.proofs.Leaves.{selector_contents, unsigned_contents, oid_contents, span_contents, octet_contents, fixed_contents}
+use Rattle.ber_values.proofs.Leaves.{selector_contents, oid_contents, octet_contents, fixed_contents}
 use Rattle.presentation_profile.specs.Offers.{offers}
 use Rattle.presentation_profile.specs.Others.{others, after_others, before_others, selector_in}
 use Rattle.ber_values.specs.Externals.{external}

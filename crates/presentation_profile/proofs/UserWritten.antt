@@ -6,9 +6,9 @@ use Rattle.ber_values.specs.declared.fault.Span.{Span}
 use Rattle.ber_values.specs.Writing.{written, integer_octets, length_octets}
 use Rattle.ber_values.specs.Grammars.{taken, gives, then_in, map_in, branch_in, is_other}
 use Rattle.ber_values.specs.Parts.{part_in, maybe_in, all_in}
-use Rattle.ber_values.specs.Leaves.{unsigned, oid, span, span_at, octet}
+use Rattle.ber_values.specs.Leaves.{oid, span_at, octet}
 use Rattle.ber_values.proofs.Capped.{short-sized, length-written, part_size-most}
-use Rattle.ber_values.proofs.WrittenParts.{Writes, ends_of, then-ends, map-ends, part-writes, all-spelled, none_passed, WritesEach, WriteAll, list-spelled}
+use Rattle.ber_values.proofs.WrittenParts.{Writes, ends_of, part-writes, all-spelled, none_passed, WritesEach, WriteAll, list-spelled}
 use Rattle.presentation_profile.specs.declared.user_data.TheConstants.{MOST_BODY}
 use Rattle.presentation_profile.specs.declared.offers.TheConstants.{MOST_OFFERS}
 use Rattle.ber_values.specs.Externals.{external_of, is_wanted, external, external_octets}
@@ -17,7 +17,7 @@ use Rattle.ber_values.proofs.Externals as externals
 use Rattle.presentation_profile.specs.UserData.{user_data}
 use Rattle.presentation_profile.specs.Results.{result_contents, one_result, results}
 use Rattle.presentation_profile.specs.Written.{user_octets, accepted_octets, refused_octets, result_octets, results_octets, last_span}
-use Rattle.presentation_profile.proofs.OffersWritten.{id-spelled, id-few, oid-spelled, ber_is}
+use Rattle.presentation_profile.proofs.OffersWritten.{id-few, oid-spelled, ber_is}
 
 -- ---- user data
 

@@ -28,11 +28,7 @@ const NAMED: [u8; 2] = [RESPONDING, RESULTS];
 
 /// The accept that the contents of an element are, of the context with the id that is wanted.
 #[tactic(auto, using(ber_values::proofs::Passed::drop_on), unfolding(crate::specs::Ppdus::accept, crate::specs::Others::after_others, ber_values::specs::Parts::all_in, ber_values::specs::Grammars::then_in, ber_values::specs::Grammars::map_in))]
-pub(crate) fn accept_from(
-    alloc: Global,
-    part: &Part<'_>,
-    wanted: Option<u32>,
-) -> Result<Ppdu, Stop>
+pub(crate) fn accept_from(alloc: Global, part: &Part<'_>, wanted: Option<u32>) -> Result<Ppdu, Stop>
     requires { part.now.head.body + length part.now.contents.now < 2 ^ 64 }
     ensures exact { Answers (λ p. p) result
         ((all_in (accept wanted)).reading part.now.head part.now.contents.now) }

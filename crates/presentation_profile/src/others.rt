@@ -14,7 +14,9 @@ ghost use Rattle.presentation_profile.specs.UserData.{user_data};
 ghost use Rattle.presentation_profile.specs.Written.{selector_octets};
 
 use crate::user_data::take_user_data;
-use ber_values::{BerFault, External, Stop, has_tag, octets_from, skip_parts, take_part, write_octets};
+use ber_values::{
+    BerFault, External, Stop, has_tag, octets_from, skip_parts, take_part, write_octets,
+};
 use std::alloc::{AllocError, Global};
 use tpkt_cotp::Selector;
 

@@ -98,12 +98,7 @@ fn ppdu_from(
 
 /// The PPDU that octets are, of which the first has the place `at`.
 #[tactic(auto, unfolding(crate::specs::Ppdus::ppdu, crate::specs::Ppdus::set_up, ber_values::specs::Parts::whole_in, ber_values::specs::Parts::part_in, ber_values::specs::Grammars::branch_in, ber_values::specs::Grammars::map_in))]
-fn whole_ppdu(
-    alloc: Global,
-    octets: &[u8],
-    at: usize,
-    wanted: Option<u32>,
-) -> Result<Ppdu, Stop>
+fn whole_ppdu(alloc: Global, octets: &[u8], at: usize, wanted: Option<u32>) -> Result<Ppdu, Stop>
     requires { at + length octets.now < 2 ^ 64 }
     ensures exact { Answers (taken_whole at octets.now) result
         ((ppdu wanted).reading at octets.now) }
@@ -125,11 +120,7 @@ fn whole_ppdu(
 
 /// The mode and the parameters that the contents of an element are.
 #[tactic(auto, unfolding(crate::specs::Ppdus::set_up_contents, ber_values::specs::Parts::all_in, ber_values::specs::Grammars::branch_in, ber_values::specs::Grammars::then_in, ber_values::specs::Grammars::map_in))]
-fn set_up_from(
-    alloc: Global,
-    part: &Part<'_>,
-    wanted: Option<u32>,
-) -> Result<Ppdu, Stop>
+fn set_up_from(alloc: Global, part: &Part<'_>, wanted: Option<u32>) -> Result<Ppdu, Stop>
     requires { part.now.head.body + length part.now.contents.now < 2 ^ 64 }
     ensures exact { Answers (λ p. p) result
         ((set_up_contents wanted).reading part.now.head part.now.contents.now) }
@@ -187,13 +178,9 @@ fn take_parameters(
 
 /// The connect or accept that the contents of an element are.
 #[tactic(auto, unfolding(ber_values::specs::Parts::all_in, ber_values::specs::Grammars::branch_in))]
-fn parameters_from(
-    alloc: Global,
-    part: &Part<'_>,
-    wanted: Option<u32>,
-) -> Result<Ppdu, Stop>
+fn parameters_from(alloc: Global, part: &Part<'_>, wanted: Option<u32>) -> Result<Ppdu, Stop>
     requires { part.now.head.body + length part.now.contents.now < 2 ^ 64 }
-    ensures exact { Answers (λ p. p) result 
+    ensures exact { Answers (λ p. p) result
         ((all_in (branch_in has_results (accept wanted) connect)).reading
         part.now.head part.now.contents.now) }
     ensures body { IfOk result (λ p. IsSpanWithin part.now.head.body

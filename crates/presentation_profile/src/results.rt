@@ -15,7 +15,10 @@ ghost use Rattle.presentation_profile.specs.Written.{accepted_octets, refused_oc
 ghost use Rattle.presentation_profile.specs.Written.{result_octets, results_octets};
 
 use crate::offers::{BER, MOST_OFFERS};
-use ber_values::{BerFault, Part, Stop, has_tag, octets_from, part_len, skip_parts, take_end, take_part, write_head};
+use ber_values::{
+    BerFault, Part, Stop, has_tag, octets_from, part_len, skip_parts, take_end, take_part,
+    write_head,
+};
 use item_list::ItemList;
 use std::alloc::{AllocError, Global};
 
@@ -179,11 +182,7 @@ fn put_refused(out: &mut Vec<u8>, one: u8) -> Result<(), AllocError>
 /// The object identifier of this tag at the front of octets, if there is one, and the place after
 /// it.
 #[tactic(auto, unfolding(ber_values::specs::Parts::maybe_in, ber_values::specs::Parts::part_in, ber_values::specs::Grammars::branch_in, ber_values::specs::Grammars::map_in, ber_values::specs::Grammars::gives))]
-fn maybe_name(
-    octets: &[u8],
-    at: usize,
-    tag: u8,
-) -> Result<(Option<&[u8]>, usize), BerFault>
+fn maybe_name(octets: &[u8], at: usize, tag: u8) -> Result<(Option<&[u8]>, usize), BerFault>
     requires single { tag % 32 ≢ 31 }
     requires placed { at + length octets.now < 2 ^ 64 }
     ensures exact { Gives (λ x. taken (option_copied x.0) x.1 (drop (x.1 - at) octets.now)) result

@@ -1,4 +1,4 @@
-use Rattle.std.proofs.Common.{◌<◌, arith}
+use Rattle.std.proofs.Common.{arith}
 use Rattle.ber_values.specs.Writing.{written}
 use Rattle.acse_assoc.proofs.Sizes.{written-short}
 use Rattle.acse_assoc.proofs.request.named_oid_len.Goals as goal

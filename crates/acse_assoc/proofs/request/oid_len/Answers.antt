@@ -1,4 +1,4 @@
-use Rattle.std.proofs.Common.{◌<◌, ◌≤◌, length, ap, arith}
+use Rattle.std.proofs.Common.{length, ap, arith}
 use Rattle.acse_assoc.proofs.Sizes.{written-short}
 use Rattle.acse_assoc.proofs.request.oid_len.Goals as goal
 

@@ -1,4 +1,4 @@
-use Rattle.std.proofs.Common.{◌++◌, length, arith}
+use Rattle.std.proofs.Common.{◌++◌, arith}
 use Rattle.std.proofs.lemmas.List.{length-append}
 use Rattle.ber_values.specs.Writing.{written}
 use Rattle.acse_assoc.specs.Writing.{title_octets, user_octets}

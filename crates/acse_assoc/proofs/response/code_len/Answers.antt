@@ -1,4 +1,4 @@
-use Rattle.std.proofs.Common.{◌<◌, ◌∙◌, ℕ, length, pos, ap, arith}
+use Rattle.std.proofs.Common.{◌∙◌, ℕ, length, pos, ap, arith}
 use Rattle.ber_values.specs.Writing.{integer_octets}
 use Rattle.acse_assoc.proofs.Sizes.{written-short}
 use Rattle.acse_assoc.proofs.response.code_len.Goals as goal

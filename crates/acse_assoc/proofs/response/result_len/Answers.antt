@@ -1,4 +1,4 @@
-use Rattle.std.proofs.Common.{◌<◌, pos, arith}
+use Rattle.std.proofs.Common.{pos, arith}
 use Rattle.ber_values.specs.Writing.{written, integer_octets}
 use Rattle.acse_assoc.proofs.Sizes.{written-short}
 use Rattle.acse_assoc.proofs.response.result_len.Goals as goal

@@ -1,4 +1,3 @@
-use Rattle.std.proofs.Common.{◌≡◌, ◌<◌, length, drop}
 use Rattle.std.proofs.lemmas.Result.{err_from_is_err_and}
 use Rattle.acse_assoc.proofs.RisingLoop.{rising-begin, rising-ends, rising-more, rising-fails}
 use Rattle.acse_assoc.proofs.rising.pass_rising.Goals as goal

@@ -1,4 +1,4 @@
-use Rattle.std.proofs.Common.{◌≤◌, ◌<◌, ◌+◌, arith}
+use Rattle.std.proofs.Common.{arith}
 use Rattle.ber_values.specs.Writing.{written}
 use Rattle.ber_values.specs.Externals.{external_octets}
 use Rattle.ber_values.proofs.Capped.{element-sized, element-few}

@@ -1,4 +1,4 @@
-use Rattle.std.proofs.Common.{◌+◌, ◌≤◌, ℕ, ◌∙◌, length, pos, ap, arith}
+use Rattle.std.proofs.Common.{ℕ, ◌∙◌, length, pos, ap, arith}
 use Rattle.ber_values.specs.Writing.{integer_octets}
 use Rattle.ber_values.proofs.Externals.{external_len-value}
 use Rattle.ber_values.proofs.Capped.{element-few}

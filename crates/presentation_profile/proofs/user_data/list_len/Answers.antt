@@ -11,5 +11,8 @@ returns-clause-value c =
     (omega (arith, c.external_len.ensures.few, c.requires))
 
 pub returns-clause-few : goal.returns-clause-few
-returns-clause-few c = omega (arith, c.external_len.ensures.few,
-    element-few c.external_len.result c.part_len.result c.part_len.ensures)
+returns-clause-few c = omega (
+  arith,
+  c.external_len.ensures.few,
+  element-few c.external_len.result c.part_len.result c.part_len.ensures,
+)

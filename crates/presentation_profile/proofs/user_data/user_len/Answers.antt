@@ -13,5 +13,8 @@ returns-clause-value c =
     c.part_len.ensures (omega (arith, c.list_len.ensures.few, c.requires))
 
 pub returns-clause-few : goal.returns-clause-few
-returns-clause-few c = omega (arith, c.list_len.ensures.few,
-    element-few c.list_len.result c.part_len.result c.part_len.ensures)
+returns-clause-few c = omega (
+  arith,
+  c.list_len.ensures.few,
+  element-few c.list_len.result c.part_len.result c.part_len.ensures,
+)
