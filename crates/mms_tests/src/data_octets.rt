@@ -32,7 +32,7 @@ fn fault_of(rt: &HostRuntime, octets: &[u8]) -> Result<Option<BerFault>, Fail> {
 fn data_in_octets(rt: HostRuntime) -> Result<(), Fail> {
     // ISO 8825-1, 8.6.4.2, 8.9.3 and 8.23.5.3, with the tags of MMS; a floating-point number, a
     // quality of 13 bits and a real value with its flags, as dissectors of MMS show them.
-    let rows: [(&[u8], &str); 13] = [
+    let rows: [(&[u8], &str); 14] = [
         (&[0x83, 1, 0xFF], "T"),
         (&[0x85, 1, 0x80], "i-128"),
         (&[0x86, 2, 0, 0x80], "u128"),
@@ -56,7 +56,11 @@ fn data_in_octets(rt: HostRuntime) -> Result<(), Fail> {
         ),
         (&[0xA2, 0], "{}"),
         (&[0xA2, 8, 0x83, 1, 0xFF, 0xA1, 3, 0x85, 1, 5], "{T,[i5]}"),
-        // five levels, of which the innermost is empty
+        // five levels, of which the innermost has no members
+        (
+            &[0xA2, 9, 0xA2, 7, 0xA2, 5, 0xA2, 3, 0x83, 1, 0xFF],
+            "{{{{T}}}}",
+        ),
         (&[0xA2, 8, 0xA2, 6, 0xA2, 4, 0xA2, 2, 0xA2, 0], "{{{{{}}}}}"),
     ];
     for (octets, text) in rows {

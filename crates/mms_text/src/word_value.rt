@@ -1,5 +1,5 @@
 //! The text of a value without members, read.
-ghost use Rattle.std.specs.Prelude.{◌≡◌, ◌≤◌, ◌++◌, ◌^◌, ◌<◌, ◌&&◌, ◌==◌, length, IfOk};
+ghost use Rattle.std.specs.Prelude.{◌≡◌, ◌++◌, IfOk};
 ghost use Rattle.std.specs.Bool.{OnTrue};
 ghost use Rattle.ber_values.specs.Bits.{IsBits};
 ghost use Rattle.mms_text.specs.WordValue as own;

@@ -1,11 +1,8 @@
 //! Data as octets (ISO 9506-2, `Data`).
-ghost use Rattle.std.specs.Prelude.{◌≡◌, ◌+◌, ◌-◌, ◌*◌, ◌<◌, ◌≤◌, ◌^◌, ◌++◌, ◌∷◌, ◌↔◌, length};
-ghost use Rattle.std.specs.Prelude.{drop};
-ghost use Rattle.std.specs.Prelude.{IfOk, OnOk, OnErr, Err};
+ghost use Rattle.std.specs.Prelude.{◌≡◌, ◌+◌, ◌<◌, ◌≤◌, ◌^◌, ◌++◌, length, IfOk, OnOk, OnErr};
 ghost use Rattle.std.specs.List.{slice_range};
 ghost use Rattle.plain_text.specs.Extends.{Extends};
 ghost use Rattle.ber_values.specs.Lengths.{capped, part_size};
-ghost use Rattle.ber_values.specs.Writing.{written};
 ghost use Rattle.ber_values.specs.Faults.{fault_at};
 ghost use Rattle.ber_values.specs.Stops.{Answers};
 ghost use Rattle.ber_values.specs.Grammars.{why_refused};
@@ -15,7 +12,7 @@ ghost use Rattle.ber_values.specs.Lists.{list_in};
 ghost use Rattle.ber_values.specs.Leaves as leaves;
 ghost use Rattle.mms_data.specs.Datum.{Datum, data_of};
 ghost use Rattle.mms_data.specs.DataWritten.{datum_octets, members_octets, datum_len};
-ghost use Rattle.mms_data.specs.Lawful.{IsLawful, KeepsUnsigned, KeepUnsigned};
+ghost use Rattle.mms_data.specs.Lawful.{IsLawful};
 ghost use Rattle.mms_data.specs.Floating.{floating};
 ghost use Rattle.mms_data.specs.DataOctets.{plain_datum, array_of, structure_of, datum_within};
 ghost use Rattle.mms_data.specs.DataOctets.{one_datum};

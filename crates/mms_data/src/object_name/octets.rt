@@ -1,12 +1,11 @@
 //! Names of variables as octets (ISO 9506-2, `ObjectName`).
-ghost use Rattle.std.specs.Prelude.{◌≡◌, ◌+◌, ◌-◌, ◌<◌, ◌≤◌, ◌^◌, ◌++◌, ◌↔◌, length, drop};
-ghost use Rattle.std.specs.Prelude.{IfOk, OnOk, OnErr, Err};
+ghost use Rattle.std.specs.Prelude.{◌≡◌, ◌+◌, ◌<◌, ◌≤◌, ◌^◌, ◌++◌, length, IfOk, OnOk, OnErr};
 ghost use Rattle.std.specs.List.{slice_range};
 ghost use Rattle.plain_text.specs.Extends.{Extends};
 ghost use Rattle.ber_values.specs.Writing.{written};
 ghost use Rattle.ber_values.specs.Stops.{Answers};
 ghost use Rattle.ber_values.specs.Readers.{IsReadBy, taken_from};
-ghost use Rattle.mms_data.specs.ObjectName.{ObjectName, IsName, IsIdentifier};
+ghost use Rattle.mms_data.specs.ObjectName.{IsName, IsIdentifier};
 ghost use Rattle.mms_data.specs.NameOctets.{identifier, of_domain, domain_name, one_name};
 ghost use Rattle.mms_data.specs.NameOctets.{name_octets, name_len};
 

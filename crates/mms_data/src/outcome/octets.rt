@@ -1,10 +1,8 @@
 //! Outcomes of access as octets (ISO 9506-2, `AccessResult`).
-ghost use Rattle.std.specs.Prelude.{◌≡◌, ◌+◌, ◌-◌, ◌<◌, ◌≤◌, ◌^◌, ◌++◌, ◌↔◌, length, drop};
-ghost use Rattle.std.specs.Prelude.{IfOk, OnOk, OnErr, Err};
+ghost use Rattle.std.specs.Prelude.{◌≡◌, ◌+◌, ◌<◌, ◌≤◌, ◌^◌, ◌++◌, length, IfOk, OnOk, OnErr};
 ghost use Rattle.std.specs.List.{slice_range};
 ghost use Rattle.ber_values.specs.Stops.{Answers};
 ghost use Rattle.ber_values.specs.Readers.{IsReadBy, taken_from};
-ghost use Rattle.mms_data.specs.declared.outcome.Outcome.{Outcome};
 ghost use Rattle.mms_data.specs.OutcomeOctets.{one_outcome, IsLawfulOutcome, outcome_octets};
 ghost use Rattle.mms_data.specs.OutcomeOctets.{outcome_len};
 
