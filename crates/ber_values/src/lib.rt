@@ -32,6 +32,3 @@ pub use passing::{skip_part, skip_parts};
 pub use stop::{Stop, settle};
 pub use visible_string::{VISIBLE_LIMIT, Visible, is_visible, read_visible, write_visible};
 pub use writing::write_octets;
-
-#[cfg(test)]
-mod tests;
