@@ -35,6 +35,3 @@ pub use stop::{Stop, settle};
 pub use tag::{Tag, read_tag};
 pub use visible_string::{VISIBLE_LIMIT, Visible, is_visible, read_visible, write_visible};
 pub use writing::write_octets;
-
-#[cfg(test)]
-mod tests;

@@ -7,4 +7,8 @@ mod lists;
 #[cfg(test)]
 mod outside_in_memory;
 #[cfg(test)]
+mod parts;
+#[cfg(test)]
 mod texts;
+#[cfg(test)]
+mod values;

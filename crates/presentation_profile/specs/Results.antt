@@ -1,4 +1,4 @@
--- What became of the contexts that were offered (ISO 8823-1, Presentation-context-definition-result-list).
+-- What became of the contexts on offer (ISO 8823-1, Presentation-context-definition-result-list).
 use Rattle.std.specs.Prelude.{ℕ, List, [], ◌∷◌}
 use Rattle.ber_values.specs.Grammars.{Grammar, then_in, map_in, pass_in, is_other}
 use Rattle.ber_values.specs.Parts.{Contents, part_in, maybe_in, all_in}

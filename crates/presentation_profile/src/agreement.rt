@@ -31,8 +31,9 @@ const ACSE: [u8; 4] = [0x52, 1, 0, 1];
 /// The name of MMS: iso(1) standard(0) 9506 part(2) mms-abstract-syntax-version1(1).
 const MMS: [u8; 5] = [0x28, 0xCA, 0x22, 2, 1];
 
-/// The ids of the contexts that are agreed on. Only offers with BER count: one has to name ACSE,
-/// one MMS, and their ids have to differ.
+/// The ids of the contexts that are agreed on. Only offers with BER count: exactly one has to name
+/// ACSE, exactly one MMS, and their ids have to differ. Else it is said that a name or an id stands
+/// twice, or, where none does, that ACSE has no offer, or that MMS has none.
 pub fn agree(contexts: &[Offered]) -> Result<Agreed, ContextFault>
     ensures { IsAgreement contexts.now result }
 {

@@ -1,6 +1,7 @@
 //! The presentation contexts that a connect offers (ISO 8823-1, 8.2).
 ghost use Rattle.std.specs.Prelude.{◌≡◌, ◌+◌, ◌<◌, ◌≤◌, ◌^◌, ◌++◌, length, flat_map, IfOk};
-ghost use Rattle.std.specs.Prelude.{OnOk, OnErr};
+ghost use Rattle.std.specs.Prelude.{OnOk, OnErr, IsTrue, ◌↔◌};
+ghost use Rattle.std.specs.List.{All};
 ghost use Rattle.std.specs.List.{slice_range};
 ghost use Rattle.plain_text.specs.Extends.{Extends};
 ghost use Rattle.ber_values.specs.Faults.{fault_at};
@@ -10,7 +11,7 @@ ghost use Rattle.ber_values.specs.Readers.{IsReadBy, taken_from};
 ghost use Rattle.presentation_profile.specs.Offers.{transfers, offer_contents, offer, offers};
 ghost use Rattle.presentation_profile.specs.Offers.{names_ber, NamesNext};
 ghost use Rattle.presentation_profile.specs.Written.{offered_octets, offer_octets, offers_octets};
-ghost use Rattle.presentation_profile.specs.Written.{ber_octets, AreOffers};
+ghost use Rattle.presentation_profile.specs.Written.{ber_octets, IsOffered, AreOffers};
 
 use ber_values::{
     BerFault, Oid, Part, Stop, Why, natural_len, octets_from, part_len, settle, take_end,
@@ -47,7 +48,8 @@ const SEQUENCE: u8 = 0x30;
 pub(crate) const OFFERS: u8 = 0xA4;
 
 /// The offers that begin at `at` in octets that end at `end`, and the place after them: 1 to
-/// [`MOST_OFFERS`] of them, with ids from 1 to [`LARGEST_ID`].
+/// [`MOST_OFFERS`] of them, with ids from 1 to [`LARGEST_ID`] (ISO 8823-1,
+/// Presentation-context-definition-list). Or else where the octets break a rule first, and which.
 pub fn read_offers(
     alloc: Global,
     bytes: &[u8],
@@ -189,6 +191,27 @@ fn offer_from(alloc: Global, part: &Part<'_>) -> Result<Offered, Stop>
     })
 }
 
+/// Whether offers may be written: 1 to [`MOST_OFFERS`] of them, with ids from 1 to [`LARGEST_ID`],
+/// each with BER.
+pub fn are_offers(offers: &[Offered]) -> bool
+    ensures { IsTrue result ↔ AreOffers offers.now }
+{
+    !offers.is_empty() && offers.len() <= MOST_OFFERS && all_offered(offers)
+}
+
+fn all_offered(offers: &[Offered]) -> bool
+    ensures { IsTrue result ↔ All IsOffered offers.now }
+{
+    offers.iter().all(is_offered)
+}
+
+/// Whether an offer has an id that may be written, and BER.
+fn is_offered(offer: &Offered) -> bool
+    ensures { IsTrue result ↔ IsOffered offer.now }
+{
+    1 <= offer.id && offer.id <= LARGEST_ID && offer.ber
+}
+
 /// How many octets [`write_offers`] appends.
 pub fn offers_len(offers: &Offers) -> usize
     requires { AreOffers offers.now }
@@ -228,7 +251,8 @@ fn offered_len(offer: &Offered) -> usize
     10 + id + name
 }
 
-/// Appends offers, each of which names BER alone. After want of memory `out` is as before.
+/// Appends 1 to [`MOST_OFFERS`] offers, each of which has BER and is written with it alone. After
+/// want of memory `out` is as before.
 pub fn write_offers(out: &mut Vec<u8>, offers: &Offers) -> Result<(), AllocError>
     requires { AreOffers offers.now }
     ensures ok { OnOk result (out.new.items ≡ out.old.items ++ offers_octets offers.now) }

@@ -62,9 +62,11 @@ const MODE: u8 = 0xA0;
 /// The tag of the parameters of the normal mode.
 const PARAMETERS: u8 = 0xA2;
 
-/// The PPDU that the octets from `at` to `end` are. The body of a connect is of the context of
-/// ACSE that its own offers agree on, or of any where they don't; the body of an accept and of user
-/// data is of the context with the id that is wanted, or of any where none is.
+/// The PPDU that the octets from `at` to `end` are (ISO 8823-1, CP-type, CPA-type, User-data), or
+/// where they break a rule first, and which. Places count the octets of `tsdu`. The body of a
+/// connect is of the context of ACSE that its own offers agree on, or of any where they don't; the
+/// body of an accept and of user data is of the context with the id that is wanted, or of any where
+/// none is.
 pub fn read_ppdu(
     alloc: Global,
     tsdu: &[u8],
@@ -204,8 +206,10 @@ fn has_results(octets: &[u8]) -> bool
     }
 }
 
-/// Appends a PPDU with these octets as its body; the value's own body isn't looked at. Offers are
-/// written with BER alone. After want of memory `out` is as before.
+/// Appends a PPDU with these octets as its body, at most [`MOST_BODY`] of them; the value's own
+/// body isn't looked at. A connect calls from 00 00 00 01 and has 1 to 16 offers, each with BER,
+/// which are written with BER alone; an accept has at most 16 results. After want of memory `out`
+/// is as before.
 pub fn write_ppdu(out: &mut Vec<u8>, ppdu: &Ppdu, body: &[u8]) -> Result<(), AllocError>
     requires writable { IsWritable ppdu.now }
     requires bounded { length body.now ≤ MOST_BODY }

@@ -5,6 +5,12 @@
 #[cfg(test)]
 mod association;
 #[cfg(test)]
+mod offers;
+#[cfg(test)]
+mod presentation;
+#[cfg(test)]
+mod presentation_faults;
+#[cfg(test)]
 mod session;
 #[cfg(test)]
 mod texts;

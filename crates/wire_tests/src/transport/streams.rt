@@ -1,9 +1,9 @@
 //! Each stream is read whole, octet by octet, and in pieces of each size between, so that it is cut
 //! at every place.
+use super::in_pieces;
 use super::rows::{
     CALLED_ORDER, CALLING_ORDER, CODES, EITHER_ORDER, HEADS, PARAMETERS, REQUESTS, TSDUS,
 };
-use super::in_pieces;
 use crate::texts::octets_of;
 use plain_text::{next_part, push_decimal, push_hex};
 use std::alloc::{AllocError, Global};

@@ -1,6 +1,7 @@
-use super::*;
+//! Offers of presentation contexts. The octets were written by hand after ISO 8823-1.
 use ber_values::{BerFault, Why};
-use std::test::Fail;
+use presentation_profile::read_offers;
+use std::test::*;
 
 /// Two offers as a control centre sends them: ACSE as 1, MMS as 3, both in BER.
 const TWO: [u8; 37] = [

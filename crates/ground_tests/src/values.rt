@@ -2,7 +2,11 @@
 //! Python (`core.Integer(128).dump()` and its like). Rows marked X.690 are that standard's own
 //! examples; rows marked dumpasn1 were read with Debian's dumpasn1 20210212, which names the same
 //! value and calls the form non-canonical. Faults are by the rules of this crate's profile.
-use super::*;
+use ber_values::{
+    BerFault, BitString, Head, Oid, Visible, Why, is_visible, read_bits, read_boolean, read_dotted,
+    read_head, read_integer, read_oid, read_unsigned, read_visible, write_bits, write_boolean,
+    write_head, write_integer, write_oid, write_visible,
+};
 use std::test::*;
 
 fn integer_of(octets: &[u8]) -> Result<i64, BerFault> {
