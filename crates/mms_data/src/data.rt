@@ -6,8 +6,7 @@ mod octets;
 
 use ber_values::{BitString, Visible};
 use item_list::ItemList;
-pub(crate) use octets::data_from;
-pub use octets::{MOST_DEPTH, data_len, read_data, write_data};
+pub use octets::{MOST_DEPTH, data_len, read_data, take_data, write_data};
 use std::alloc::{AllocError, Global};
 use std::marker::Model;
 

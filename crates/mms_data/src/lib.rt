@@ -12,7 +12,7 @@ pub use access_laws::{
     written_outcomes_are_read,
 };
 pub use data::{
-    DataKind, DataList, MOST_DEPTH, MmsData, OctetList, data_len, read_data, write_data,
+    DataKind, DataList, MOST_DEPTH, MmsData, OctetList, data_len, read_data, take_data, write_data,
 };
 pub use laws::{data_have_one_reading, written_data_are_read};
 pub use object_name::{Name, Names, Scope, name_len, read_name_octets, take_name, write_name};

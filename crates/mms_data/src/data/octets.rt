@@ -57,11 +57,12 @@ fn read_from(
     ensures within { IfOk result (λ read. IfOk read
         (λ x. (at + 2 ≤ x.1) × (x.1 ≤ at + length octets.now))) }
 {
-    settle(data_from(alloc, octets, at))
+    settle(take_data(alloc, octets, at))
 }
 
+/// The value at the front of octets, of which the first has the place `at`, and the place after it.
 #[tactic(auto, unfolding(crate::specs::DataOctets::one_datum))]
-pub(crate) fn data_from(alloc: Global, octets: &[u8], at: usize) -> Result<(MmsData, usize), Stop>
+pub fn take_data(alloc: Global, octets: &[u8], at: usize) -> Result<(MmsData, usize), Stop>
     requires { at + length octets.now < 2 ^ 64 }
     ensures exact { Answers (taken_from at octets.now) result (one_datum.reading at octets.now) }
     ensures within { IfOk result (λ x. (at + 2 ≤ x.1) × (x.1 ≤ at + length octets.now)) }

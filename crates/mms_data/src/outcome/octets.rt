@@ -7,7 +7,7 @@ ghost use Rattle.mms_data.specs.OutcomeOctets.{one_outcome, IsLawfulOutcome, out
 ghost use Rattle.mms_data.specs.OutcomeOctets.{outcome_len};
 
 use super::Outcome;
-use crate::data::{data_from, data_len, write_data};
+use crate::data::{data_len, take_data, write_data};
 use ber_values::{BerFault, MOST_LENGTH, Stop, has_tag, settle, take_part, write_octets};
 use std::alloc::{AllocError, Global};
 
@@ -55,7 +55,7 @@ pub fn take_outcome(alloc: Global, octets: &[u8], at: usize) -> Result<(Outcome,
         let part = take_part(octets, at, 0x80)?;
         return Ok((Outcome::Fail(part.octet()?), part.head.next));
     }
-    let (value, next) = data_from(alloc, octets, at)?;
+    let (value, next) = take_data(alloc, octets, at)?;
     Ok((Outcome::Good(value), next))
 }
 
