@@ -49,8 +49,8 @@ const DATA_ROLES: &[u8] = b"TSTSTFUTE";
 /// What is wrong where one octet, at this place, became `to`, which is FF or 00. By its role:
 /// a tag `T`, which may be no other; a first length octet of a container that wants an element
 /// `S`, of contents that can't be empty `F`, of contents that may be empty `E`, and a second length
-/// octet `M`; the id of an offer, and that of a connect's user data, which is ACSE's, `N`; the id of
-/// other user data `U`; the mode `V`; the tag of a name in a
+/// octet `M`; the id of an offer, and that of a connect's user data, which is ACSE's, `N`; the id
+/// of other user data `U`; the mode `V`; the tag of a name in a
 /// result `R`, in whose place any element may stand. All other contents may be any.
 fn changed(role: u8, to: u8, place: usize) -> Option<BerFault> {
     let (place, why) = match (role, to) {
