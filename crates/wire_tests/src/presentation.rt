@@ -234,8 +234,25 @@ fn an_accept(rt: HostRuntime) -> Result<(), Fail> {
 
 #[test]
 fn data(rt: HostRuntime) -> Result<(), Fail> {
-    let rows: [(&[u8], u32, Span); 5] = [
+    let rows: [(&[u8], u32, Span); 7] = [
         (&DATA, 3, Span { from: 9, to: 16 }),
+        // the same with a longer length, and the answer to it
+        (
+            &[
+                0x61, 0x81, 0x0E, 0x30, 0x0C, 2, 1, 3, 0xA0, 7, 0xA0, 5, 2, 1, 1, 0x82, 0,
+            ],
+            3,
+            Span { from: 10, to: 17 },
+        ),
+        (
+            &[
+                0x61, 0x20, 0x30, 0x1E, 2, 1, 3, 0xA0, 0x19, 0xA1, 0x17, 2, 1, 1, 0xA2, 0x12, 0x80,
+                6, 0x43, 0x45, 0x4E, 0x54, 0x52, 0x45, 0x81, 5, 0x54, 0x41, 0x53, 0x45, 0x32, 0x82,
+                1, 0x31,
+            ],
+            3,
+            Span { from: 9, to: 34 },
+        ),
         // a body of no octets, and the least and the largest id
         (
             &[0x61, 7, 0x30, 5, 2, 1, 0, 0xA0, 0],
