@@ -1,0 +1,1 @@
+//! Asks who answers (ISO 9506-2, `Identify`).

@@ -1,0 +1,35 @@
+//! The protocol data units of MMS (ISO 9506-2).
+#![tactic(auto)]
+
+mod define;
+mod delete;
+mod error;
+mod fault;
+mod identify;
+mod initiate;
+mod members;
+mod name_list;
+mod pdu;
+mod read;
+mod reject;
+mod report;
+mod request;
+mod response;
+mod spec;
+mod write;
+
+pub use define::DefineRequest;
+pub use delete::{DeleteRequest, DeleteResponse};
+pub use error::ErrorPdu;
+pub use fault::MmsFault;
+pub use initiate::Initiate;
+pub use members::{MembersRequest, MembersResponse};
+pub use name_list::{NameListRequest, NameListResponse};
+pub use pdu::MmsPdu;
+pub use read::{Outcomes, ReadRequest, ReadResponse};
+pub use reject::RejectPdu;
+pub use report::ReportPdu;
+pub use request::Request;
+pub use response::Response;
+pub use spec::Spec;
+pub use write::{WriteRequest, WriteResponse};
