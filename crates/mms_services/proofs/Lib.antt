@@ -1,0 +1,2 @@
+pub mod ReadSpecs
+mod Worked
