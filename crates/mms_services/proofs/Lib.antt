@@ -1,2 +1,4 @@
 pub mod ReadSpecs
+pub mod SetsRead
 mod Worked
+mod WorkedSets

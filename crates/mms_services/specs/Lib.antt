@@ -1,1 +1,4 @@
 pub mod Specifications
+pub mod Defines
+pub mod MemberLists
+pub mod Deletes
