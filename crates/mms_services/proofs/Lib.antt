@@ -1,2 +1,6 @@
 pub mod ReadSpecs
-mod Worked
+pub mod ReadLaws
+pub mod WriteLaws
+pub mod ReportLaws
+mod WorkedAccess
+mod WorkedServices
