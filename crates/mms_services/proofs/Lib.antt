@@ -1,4 +1,8 @@
 pub mod ReadSpecs
 pub mod SetsRead
-mod Worked
 mod WorkedSets
+pub mod ReadLaws
+pub mod WriteLaws
+pub mod ReportLaws
+mod WorkedAccess
+mod WorkedServices

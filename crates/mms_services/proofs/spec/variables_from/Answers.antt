@@ -1,5 +1,5 @@
 -- The loop over variables reads what their grammar reads.
-use Rattle.std.proofs.Common.{◌≡◌, ◌<◌, ◌≤◌, length, arith}
+use Rattle.std.proofs.Common.{◌<◌, ◌≤◌, length, arith}
 use Rattle.std.proofs.lemmas.Result.{err_from_is_err_and}
 use Rattle.ber_values.proofs.Lists.{members-begin, members-more, members-stop, members-end, so_far-misses, some_left, none_left}
 use Rattle.mms_services.specs.Specifications.{variable, variables}

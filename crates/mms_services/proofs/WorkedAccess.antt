@@ -1,7 +1,7 @@
 -- Services as control centres send them, computed.
 use Rattle.std.proofs.Common.{◌≡◌, List, ℕ, [], ◌∷◌, Ok, Err, refl}
 use Rattle.ber_values.specs.Tags.{length_in}
-use Rattle.ber_values.specs.Grammars.{taken, gives, then_in, map_in, branch_in}
+use Rattle.ber_values.specs.Grammars.{taken, then_in, map_in, branch_in}
 use Rattle.ber_values.specs.Parts.{sized_part_in, parted_in, part_in, choose_in, contents_as, all_in}
 use Rattle.ber_values.specs.Lists.{more_in, list_in}
 use Rattle.ber_values.specs.Leaves.{text_in, visible_within}
@@ -10,7 +10,7 @@ use Rattle.ber_values.specs.declared.fault.Why.TheVariants as whys
 use Rattle.mms_data.specs.NameOctets.{identifier, domain_name, one_name, of_device, of_domain}
 use Rattle.mms_services.specs.declared.spec.Spec.TheVariants as kinds
 use Rattle.mms_services.specs.Specifications.{sole_name, sole_variable, variable, variables}
-use Rattle.mms_services.specs.Specifications.{specification, sole_spec}
+use Rattle.mms_services.specs.Specifications.{specification}
 
 -- the variables D/P and Q
 two : List ℕ
