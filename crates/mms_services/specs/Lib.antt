@@ -1,0 +1,6 @@
+pub mod Coded
+pub mod Errors
+pub mod Identities
+pub mod Initiates
+pub mod NameLists
+pub mod Rejects

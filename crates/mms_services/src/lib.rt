@@ -1,6 +1,7 @@
 //! The protocol data units of MMS (ISO 9506-2).
 #![tactic(auto)]
 
+mod coded;
 mod define;
 mod delete;
 mod error;
