@@ -23,6 +23,7 @@ use Rattle.mms_services.specs.Identities.{identify_request, some_syntaxes, ident
 use Rattle.mms_services.specs.Initiates.{initiate_detail, initiate}
 use Rattle.mms_services.specs.NameLists.{object_class, one_scope, object_scope, name_list_request}
 use Rattle.mms_services.specs.NameLists.{after_name, listed, more_names, name_list_response}
+use Rattle.mms_services.specs.Negotiations.{granted}
 use Rattle.mms_services.specs.Rejects.{reject_pdu}
 
 -- the head of contents that stand at a place, after a tag and a length of one octet
@@ -126,3 +127,35 @@ no_names_read : name_list_response.reading (at_place 7) (160 ∷ 0 ∷ 129 ∷ 1
     ≡ Ok (record { names = []; more = false })
 unfolding at_place name_list_response more_names then_in map_in branch_in maybe_in part_in parted_in sized_part_in length_in all_in list_in more_in boolean boolean_in
 no_names_read = refl
+
+-- of what a control centre offers, all is granted
+all_granted : granted (record {
+  detail = Some (pos 65000);
+  calling = pos 5;
+  called = pos 5;
+  nesting = Some (pos 5);
+  version = pos 1;
+}) ≡ record {
+  detail = Some (pos 65000);
+  calling = pos 5;
+  called = pos 5;
+  nesting = Some (pos 5);
+  version = pos 1;
+}
+all_granted = refl
+
+-- the most is granted of more, and of what isn't offered
+most_granted : granted (record {
+  detail = None;
+  calling = pos 11;
+  called = pos 300;
+  nesting = None;
+  version = pos 2;
+}) ≡ record {
+  detail = Some (pos 65000);
+  calling = pos 10;
+  called = pos 10;
+  nesting = Some (pos 5);
+  version = pos 1;
+}
+most_granted = refl

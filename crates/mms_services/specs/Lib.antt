@@ -3,4 +3,5 @@ pub mod Errors
 pub mod Identities
 pub mod Initiates
 pub mod NameLists
+pub mod Negotiations
 pub mod Rejects

@@ -32,14 +32,14 @@ const LAST_CLASS: u8 = 0x8F;
 
 /// The error that the contents of an element are.
 #[tactic(auto, unfolding(crate::specs::Errors::error_pdu, ber_values::specs::Parts::all_in, ber_values::specs::Parts::part_in, ber_values::specs::Grammars::then_in, ber_values::specs::Grammars::map_in))]
-pub(crate) fn error_pdu_of(part: &Part<'_>) -> Result<ErrorPdu, BerFault>
+pub(crate) fn error_pdu_from(part: &Part<'_>) -> Result<ErrorPdu, BerFault>
     requires { part.now.head.body + length part.now.contents.now < 2 ^ 64 }
     ensures { result ≡ error_pdu.reading part.now.head part.now.contents.now }
 {
     let invoke_part = take_part(part.contents, part.head.body, INVOKE)?;
     let invoke = invoke_part.unsigned()?;
     let error_part = take_part(invoke_part.rest, invoke_part.head.next, SERVICE_ERROR)?;
-    let error = service_error_of(&error_part)?;
+    let error = service_error_from(&error_part)?;
     take_end(error_part.rest, error_part.head.next)?;
     Ok(ErrorPdu {
         invoke,
@@ -50,12 +50,12 @@ pub(crate) fn error_pdu_of(part: &Part<'_>) -> Result<ErrorPdu, BerFault>
 
 /// The class and the code in this element, in which others may follow them.
 #[tactic(auto, unfolding(crate::specs::Errors::service_error, ber_values::specs::Parts::all_in, ber_values::specs::Parts::part_in, ber_values::specs::Grammars::then_in, ber_values::specs::Grammars::map_in))]
-fn service_error_of(part: &Part<'_>) -> Result<Coded, BerFault>
+fn service_error_from(part: &Part<'_>) -> Result<Coded, BerFault>
     requires { part.now.head.body + length part.now.contents.now < 2 ^ 64 }
     ensures { result ≡ service_error.reading part.now.head part.now.contents.now }
 {
     let class_part = take_part(part.contents, part.head.body, ERROR_CLASS)?;
-    let error = error_class_of(&class_part)?;
+    let error = error_class_from(&class_part)?;
     let end = skip_parts(
         class_part.rest,
         class_part.head.next,
@@ -69,7 +69,7 @@ fn service_error_of(part: &Part<'_>) -> Result<Coded, BerFault>
 
 /// The class and the code that alone stand in this element.
 #[tactic(auto, unfolding(crate::specs::Errors::error_class, ber_values::specs::Parts::all_in))]
-fn error_class_of(part: &Part<'_>) -> Result<Coded, BerFault>
+fn error_class_from(part: &Part<'_>) -> Result<Coded, BerFault>
     requires { part.now.head.body + length part.now.contents.now < 2 ^ 64 }
     ensures { result ≡ error_class.reading part.now.head part.now.contents.now }
 {

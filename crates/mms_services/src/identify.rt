@@ -20,7 +20,7 @@ const SYNTAXES: u8 = 0xA3;
 
 /// The contents of an element ask who answers: there are none.
 #[tactic(auto, unfolding(crate::specs::Identities::identify_request))]
-pub(crate) fn identify_request_of(part: &Part<'_>) -> Result<(), BerFault>
+pub(crate) fn identify_request_from(part: &Part<'_>) -> Result<(), BerFault>
     requires { part.now.head.body + length part.now.contents.now < 2 ^ 64 }
     ensures { result ≡ identify_request.reading part.now.head part.now.contents.now }
 {
@@ -29,7 +29,7 @@ pub(crate) fn identify_request_of(part: &Part<'_>) -> Result<(), BerFault>
 
 /// The contents of an element say who answers: a vendor, a model and a revision.
 #[tactic(auto, unfolding(crate::specs::Identities::identify_response, ber_values::specs::Parts::all_in, ber_values::specs::Parts::part_in, ber_values::specs::Grammars::then_in, ber_values::specs::Grammars::map_in))]
-pub(crate) fn identify_response_of(alloc: Global, part: &Part<'_>) -> Result<(), Stop>
+pub(crate) fn identify_response_from(alloc: Global, part: &Part<'_>) -> Result<(), Stop>
     requires { part.now.head.body + length part.now.contents.now < 2 ^ 64 }
     ensures { Answers (λ u. tt) result
         (identify_response.reading part.now.head part.now.contents.now) }

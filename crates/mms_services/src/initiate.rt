@@ -1,9 +1,11 @@
 //! Agrees on the parameters of an association (ISO 9506-2, `Initiate`).
 ghost use Rattle.std.specs.Prelude.{◌≡◌, ◌≢◌, ◌+◌, ◌%◌, ◌^◌, ◌<◌, ◌≤◌, length, IfOk};
+ghost use Rattle.std.specs.Prelude.{None, IfSome, IsTrue, ◌↔◌};
 ghost use Rattle.ber_values.specs.Faults.{Gives};
 ghost use Rattle.ber_values.specs.Grammars.{taken};
 ghost use Rattle.ber_values.specs.Parts.{maybe_in};
 ghost use Rattle.ber_values.specs.Leaves.{integer};
+ghost use Rattle.mms_services.specs.Negotiations.{IsBelow, IsTooLittle, granted_of, granted};
 ghost use Rattle.mms_services.specs.Initiates.{initiate, initiate_detail};
 
 use ber_values::{BerFault, Part, has_tag, octets_from, skip_parts, take_end, take_part};
@@ -22,6 +24,18 @@ pub struct Initiate {
     /// The number of the protocol's version.
     pub version: i64,
 }
+
+/// The fewest octets of a PDU that are agreed on.
+pub const LEAST_DETAIL: i64 = 1_000;
+
+/// The most octets of a PDU that are granted.
+pub const MOST_DETAIL: i64 = 65_000;
+
+/// The most services at once that are granted to an end.
+pub const MOST_SERVICES: i64 = 10;
+
+/// The most levels of data that are granted.
+pub const MOST_NESTING: i64 = 5;
 
 /// The tag of the most octets of a PDU.
 const DETAIL: u8 = 0x80;
@@ -101,4 +115,55 @@ fn maybe_integer(octets: &[u8], at: usize, tag: u8) -> Result<(Option<i64>, usiz
     let part = take_part(octets, at, tag)?;
     let value = part.integer()?;
     Ok((Some(value), part.head.next, part.rest))
+}
+
+/// What is granted of an offer: version 1, and of each other parameter what is offered or the most
+/// that is granted, whichever is less. An octet count or a nesting that isn't offered is granted as
+/// the most. None where the version, either number of services or the nesting is below 1, or fewer
+/// than [`LEAST_DETAIL`] octets are offered (ISO 9506-2, Initiate service).
+pub fn negotiate(offer: &Initiate) -> Option<Initiate>
+    ensures refused { (result ≡ None) ↔ IsTooLittle offer.now }
+    ensures granted { IfSome result (λ answer. answer ≡ granted offer.now) }
+{
+    if is_too_little(offer) {
+        return None;
+    }
+    Some(Initiate {
+        detail: Some(granted_of(offer.detail, MOST_DETAIL)),
+        calling: offer.calling.min(MOST_SERVICES),
+        called: offer.called.min(MOST_SERVICES),
+        nesting: Some(granted_of(offer.nesting, MOST_NESTING)),
+        version: 1,
+    })
+}
+
+/// Whether too little is offered of a parameter.
+fn is_too_little(offer: &Initiate) -> bool
+    ensures { IsTrue result ↔ IsTooLittle offer.now }
+{
+    offer.version < 1
+        || offer.calling < 1
+        || offer.called < 1
+        || is_below(offer.detail, LEAST_DETAIL)
+        || is_below(offer.nesting, 1)
+}
+
+/// Whether a number that is offered is below the least one.
+fn is_below(number: Option<i64>, least: i64) -> bool
+    ensures { IsTrue result ↔ IsBelow least number }
+{
+    match number {
+        Some(number) => number < least,
+        None => false,
+    }
+}
+
+/// What is offered, up to the most that is granted, which also stands for no offer.
+fn granted_of(number: Option<i64>, most: i64) -> i64
+    ensures { result ≡ granted_of most number }
+{
+    match number {
+        Some(number) => number.min(most),
+        None => most,
+    }
 }

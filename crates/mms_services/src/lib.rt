@@ -23,7 +23,7 @@ pub use define::DefineRequest;
 pub use delete::{DeleteRequest, DeleteResponse};
 pub use error::ErrorPdu;
 pub use fault::MmsFault;
-pub use initiate::Initiate;
+pub use initiate::{Initiate, LEAST_DETAIL, MOST_DETAIL, MOST_NESTING, MOST_SERVICES, negotiate};
 pub use members::{MembersRequest, MembersResponse};
 pub use name_list::{NameListRequest, NameListResponse};
 pub use pdu::MmsPdu;

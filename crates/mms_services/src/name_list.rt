@@ -62,15 +62,18 @@ const VISIBLE_STRING: u8 = 0x1A;
 
 /// The request that the contents of an element are.
 #[tactic(auto, unfolding(crate::specs::NameLists::name_list_request, ber_values::specs::Parts::all_in, ber_values::specs::Parts::part_in, ber_values::specs::Grammars::then_in, ber_values::specs::Grammars::map_in))]
-pub(crate) fn name_list_request_of(alloc: Global, part: &Part<'_>) -> Result<NameListRequest, Stop>
+pub(crate) fn name_list_request_from(
+    alloc: Global,
+    part: &Part<'_>,
+) -> Result<NameListRequest, Stop>
     requires { part.now.head.body + length part.now.contents.now < 2 ^ 64 }
     ensures { Answers (λ r. r) result
         (name_list_request.reading part.now.head part.now.contents.now) }
 {
     let class_part = take_part(part.contents, part.head.body, CLASS)?;
-    let class = object_class_of(&class_part)?;
+    let class = object_class_from(&class_part)?;
     let scope_part = take_part(class_part.rest, class_part.head.next, SCOPE)?;
-    let scope = object_scope_of(alloc, &scope_part)?;
+    let scope = object_scope_from(alloc, &scope_part)?;
     let (after, next) = take_after(alloc, scope_part.rest, scope_part.head.next)?;
     take_end(
         octets_from(scope_part.rest, scope_part.head.next, next),
@@ -85,7 +88,7 @@ pub(crate) fn name_list_request_of(alloc: Global, part: &Part<'_>) -> Result<Nam
 
 /// The number of the class in this element.
 #[tactic(auto, unfolding(crate::specs::NameLists::object_class, ber_values::specs::Parts::all_in, ber_values::specs::Parts::part_in))]
-fn object_class_of(part: &Part<'_>) -> Result<i64, BerFault>
+fn object_class_from(part: &Part<'_>) -> Result<i64, BerFault>
     requires { part.now.head.body + length part.now.contents.now < 2 ^ 64 }
     ensures { result ≡ object_class.reading part.now.head part.now.contents.now }
 {
@@ -97,7 +100,7 @@ fn object_class_of(part: &Part<'_>) -> Result<i64, BerFault>
 
 /// The scope in this element.
 #[tactic(auto, unfolding(crate::specs::NameLists::object_scope, ber_values::specs::Parts::all_in))]
-fn object_scope_of(alloc: Global, part: &Part<'_>) -> Result<Scope, Stop>
+fn object_scope_from(alloc: Global, part: &Part<'_>) -> Result<Scope, Stop>
     requires { part.now.head.body + length part.now.contents.now < 2 ^ 64 }
     ensures { Answers (λ s. s) result
         (object_scope.reading part.now.head part.now.contents.now) }
@@ -121,7 +124,10 @@ fn take_scope(alloc: Global, octets: &[u8], at: usize) -> Result<(Scope, usize),
     }
     if has_tag(octets, DOMAIN) {
         let part = take_part(octets, at, DOMAIN)?;
-        return Ok((Scope::Domain(identifier_of(alloc, &part)?), part.head.next));
+        return Ok((
+            Scope::Domain(identifier_from(alloc, &part)?),
+            part.head.next,
+        ));
     }
     let part = take_part(octets, at, ASSOCIATION)?;
     part.fixed(&[])?;
@@ -139,13 +145,13 @@ fn take_after(alloc: Global, octets: &[u8], at: usize) -> Result<(Option<Visible
         return Ok((None, at));
     }
     let part = take_part(octets, at, AFTER)?;
-    let name = identifier_of(alloc, &part)?;
+    let name = identifier_from(alloc, &part)?;
     Ok((Some(name), part.head.next))
 }
 
 /// The name or the domain that the contents of an element are.
 #[tactic(auto, unfolding(mms_data::specs::NameOctets::identifier))]
-fn identifier_of(alloc: Global, part: &Part<'_>) -> Result<Visible, Stop>
+fn identifier_from(alloc: Global, part: &Part<'_>) -> Result<Visible, Stop>
     ensures { Answers (λ t. t) result (identifier.reading part.now.head part.now.contents.now) }
 {
     part.visible_within(alloc, 1, VISIBLE_LIMIT)
@@ -153,7 +159,7 @@ fn identifier_of(alloc: Global, part: &Part<'_>) -> Result<Visible, Stop>
 
 /// The response that the contents of an element are.
 #[tactic(auto, unfolding(crate::specs::NameLists::name_list_response, ber_values::specs::Parts::all_in, ber_values::specs::Parts::part_in, ber_values::specs::Grammars::then_in, ber_values::specs::Grammars::map_in))]
-pub(crate) fn name_list_response_of(
+pub(crate) fn name_list_response_from(
     alloc: Global,
     part: &Part<'_>,
 ) -> Result<NameListResponse, Stop>
@@ -162,7 +168,7 @@ pub(crate) fn name_list_response_of(
         (name_list_response.reading part.now.head part.now.contents.now) }
 {
     let names_part = take_part(part.contents, part.head.body, NAMES)?;
-    let names = names_of(alloc, &names_part)?;
+    let names = names_from(alloc, &names_part)?;
     let (more, next) = take_more(names_part.rest, names_part.head.next)?;
     take_end(
         octets_from(names_part.rest, names_part.head.next, next),
@@ -172,7 +178,7 @@ pub(crate) fn name_list_response_of(
 }
 
 /// The names in this element.
-fn names_of(alloc: Global, part: &Part<'_>) -> Result<ItemList<Visible>, Stop>
+fn names_from(alloc: Global, part: &Part<'_>) -> Result<ItemList<Visible>, Stop>
     requires { part.now.head.body + length part.now.contents.now < 2 ^ 64 }
     ensures { Answers (λ names. names) result
         ((list_in 0 listed).reading part.now.head part.now.contents.now) }
@@ -197,7 +203,7 @@ fn take_listed(alloc: Global, octets: &[u8], at: usize) -> Result<(Visible, usiz
     ensures within { IfOk result (λ x. (at < x.1) × (x.1 ≤ at + length octets.now)) }
 {
     let part = take_part(octets, at, VISIBLE_STRING)?;
-    Ok((identifier_of(alloc, &part)?, part.head.next))
+    Ok((identifier_from(alloc, &part)?, part.head.next))
 }
 
 /// Whether more names follow, which is so where nothing is said of it, and the place after that.

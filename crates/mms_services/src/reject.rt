@@ -30,7 +30,7 @@ const LAST_KIND: u8 = 0x8F;
 
 /// The reject that the contents of an element are.
 #[tactic(auto, unfolding(crate::specs::Rejects::reject_pdu, ber_values::specs::Parts::all_in, ber_values::specs::Grammars::then_in, ber_values::specs::Grammars::map_in))]
-pub(crate) fn reject_pdu_of(part: &Part<'_>) -> Result<RejectPdu, BerFault>
+pub(crate) fn reject_pdu_from(part: &Part<'_>) -> Result<RejectPdu, BerFault>
     requires { part.now.head.body + length part.now.contents.now < 2 ^ 64 }
     ensures { result ≡ reject_pdu.reading part.now.head part.now.contents.now }
 {

@@ -4,7 +4,7 @@ use Rattle.ber_values.specs.Lists.{list_in}
 use Rattle.ber_values.proofs.Lists.{some_left, none_left, members-begin, members-more}
 use Rattle.ber_values.proofs.Lists.{members-stop, members-end}
 use Rattle.mms_services.specs.NameLists.{listed}
-use Rattle.mms_services.proofs.name_list.names_of.Goals as goal
+use Rattle.mms_services.proofs.name_list.names_from.Goals as goal
 
 pub loop-rest-init : goal.loop-rest-init
 loop-rest-init c = rw c.new-names.ensures
