@@ -6,3 +6,10 @@ pub mod WriteLaws
 pub mod ReportLaws
 mod WorkedAccess
 mod WorkedServices
+pub mod CodedRead
+pub mod ErrorsRead
+pub mod IdentitiesRead
+pub mod InitiatesRead
+pub mod NameListsRead
+pub mod RejectsRead
+mod WorkedNegotiations

@@ -5,3 +5,10 @@ pub mod Deletes
 pub mod Reads
 pub mod Writes
 pub mod Reports
+pub mod Coded
+pub mod Errors
+pub mod Identities
+pub mod Initiates
+pub mod NameLists
+pub mod Negotiations
+pub mod Rejects

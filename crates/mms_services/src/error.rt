@@ -1,4 +1,9 @@
 //! Answers that a service failed (ISO 9506-2, `Confirmed-ErrorPDU`).
+ghost use Rattle.std.specs.Prelude.{◌≡◌, ◌+◌, ◌^◌, ◌<◌, length};
+ghost use Rattle.mms_services.specs.Errors.{error_class, service_error, error_pdu};
+
+use crate::coded::{Coded, take_coded};
+use ber_values::{BerFault, Part, octets_from, skip_parts, take_end, take_part};
 
 /// The service failed.
 #[derive(Clone, Copy, Debug, PartialEq, Eq)]
@@ -9,4 +14,66 @@ pub struct ErrorPdu {
     pub class: u8,
     /// The number of the error in its class.
     pub code: u8,
+}
+
+/// The tag of the number of the request.
+const INVOKE: u8 = 0x80;
+
+/// The tag of the error.
+const SERVICE_ERROR: u8 = 0xA2;
+
+/// The tag of the error's class and code.
+const ERROR_CLASS: u8 = 0xA0;
+
+/// The first and the last tag of a class.
+const FIRST_CLASS: u8 = 0x80;
+
+const LAST_CLASS: u8 = 0x8F;
+
+/// The error that the contents of an element are.
+#[tactic(auto, unfolding(crate::specs::Errors::error_pdu, ber_values::specs::Parts::all_in, ber_values::specs::Parts::part_in, ber_values::specs::Grammars::then_in, ber_values::specs::Grammars::map_in))]
+pub(crate) fn error_pdu_from(part: &Part<'_>) -> Result<ErrorPdu, BerFault>
+    requires { part.now.head.body + length part.now.contents.now < 2 ^ 64 }
+    ensures { result ≡ error_pdu.reading part.now.head part.now.contents.now }
+{
+    let invoke_part = take_part(part.contents, part.head.body, INVOKE)?;
+    let invoke = invoke_part.unsigned()?;
+    let error_part = take_part(invoke_part.rest, invoke_part.head.next, SERVICE_ERROR)?;
+    let error = service_error_from(&error_part)?;
+    take_end(error_part.rest, error_part.head.next)?;
+    Ok(ErrorPdu {
+        invoke,
+        class: error.number,
+        code: error.code,
+    })
+}
+
+/// The class and the code in this element, in which others may follow them.
+#[tactic(auto, unfolding(crate::specs::Errors::service_error, ber_values::specs::Parts::all_in, ber_values::specs::Parts::part_in, ber_values::specs::Grammars::then_in, ber_values::specs::Grammars::map_in))]
+fn service_error_from(part: &Part<'_>) -> Result<Coded, BerFault>
+    requires { part.now.head.body + length part.now.contents.now < 2 ^ 64 }
+    ensures { result ≡ service_error.reading part.now.head part.now.contents.now }
+{
+    let class_part = take_part(part.contents, part.head.body, ERROR_CLASS)?;
+    let error = error_class_from(&class_part)?;
+    let end = skip_parts(
+        class_part.rest,
+        class_part.head.next,
+        0,
+        0xFF,
+        &[ERROR_CLASS],
+    )?;
+    take_end(octets_from(class_part.rest, class_part.head.next, end), end)?;
+    Ok(error)
+}
+
+/// The class and the code that alone stand in this element.
+#[tactic(auto, unfolding(crate::specs::Errors::error_class, ber_values::specs::Parts::all_in))]
+fn error_class_from(part: &Part<'_>) -> Result<Coded, BerFault>
+    requires { part.now.head.body + length part.now.contents.now < 2 ^ 64 }
+    ensures { result ≡ error_class.reading part.now.head part.now.contents.now }
+{
+    let (error, next, rest) = take_coded(part.contents, part.head.body, FIRST_CLASS, LAST_CLASS)?;
+    take_end(rest, next)?;
+    Ok(error)
 }

@@ -1,6 +1,7 @@
 //! The protocol data units of MMS (ISO 9506-2).
 #![tactic(auto)]
 
+mod coded;
 mod define;
 mod delete;
 mod error;
@@ -23,7 +24,7 @@ pub use define::DefineRequest;
 pub use delete::{DeleteRequest, DeleteResponse};
 pub use error::ErrorPdu;
 pub use fault::MmsFault;
-pub use initiate::Initiate;
+pub use initiate::{Initiate, LEAST_DETAIL, MOST_DETAIL, MOST_NESTING, MOST_SERVICES, negotiate};
 pub use members::{MembersRequest, MembersResponse};
 pub use name_list::{NameListRequest, NameListResponse};
 pub use pdu::MmsPdu;

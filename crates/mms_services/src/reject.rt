@@ -1,4 +1,13 @@
 //! Answers that a PDU isn't understood (ISO 9506-2, `RejectPDU`).
+ghost use Rattle.std.specs.Prelude.{◌≡◌, ◌+◌, ◌^◌, ◌<◌, ◌≤◌, length, IfOk};
+ghost use Rattle.ber_values.specs.Faults.{Gives};
+ghost use Rattle.ber_values.specs.Grammars.{taken};
+ghost use Rattle.ber_values.specs.Parts.{maybe_in};
+ghost use Rattle.ber_values.specs.Leaves.{unsigned};
+ghost use Rattle.mms_services.specs.Rejects.{reject_pdu};
+
+use crate::coded::take_coded;
+use ber_values::{BerFault, Part, has_tag, take_end, take_part};
 
 /// The PDU isn't understood.
 #[derive(Clone, Copy, Debug, PartialEq, Eq)]
@@ -9,4 +18,45 @@ pub struct RejectPdu {
     pub kind: u8,
     /// The number of the reason for this kind.
     pub code: u8,
+}
+
+/// The tag of the number of the request.
+const INVOKE: u8 = 0x80;
+
+/// The first and the last tag of a kind.
+const FIRST_KIND: u8 = 0x81;
+
+const LAST_KIND: u8 = 0x8F;
+
+/// The reject that the contents of an element are.
+#[tactic(auto, unfolding(crate::specs::Rejects::reject_pdu, ber_values::specs::Parts::all_in, ber_values::specs::Grammars::then_in, ber_values::specs::Grammars::map_in))]
+pub(crate) fn reject_pdu_from(part: &Part<'_>) -> Result<RejectPdu, BerFault>
+    requires { part.now.head.body + length part.now.contents.now < 2 ^ 64 }
+    ensures { result ≡ reject_pdu.reading part.now.head part.now.contents.now }
+{
+    let (invoke, at, octets) = maybe_invoke(part.contents, part.head.body)?;
+    let (reason, next, rest) = take_coded(octets, at, FIRST_KIND, LAST_KIND)?;
+    take_end(rest, next)?;
+    Ok(RejectPdu {
+        invoke,
+        kind: reason.number,
+        code: reason.code,
+    })
+}
+
+/// The number of a request, if it is at the front of octets, and what is left after it.
+#[tactic(auto, unfolding(ber_values::specs::Parts::maybe_in, ber_values::specs::Parts::part_in, ber_values::specs::Grammars::branch_in, ber_values::specs::Grammars::map_in, ber_values::specs::Grammars::gives))]
+fn maybe_invoke(octets: &[u8], at: usize) -> Result<(Option<u32>, usize, &[u8]), BerFault>
+    requires { at + length octets.now < 2 ^ 64 }
+    ensures exact { Gives (λ x. taken x.0 x.1 x.2.now) result
+        ((maybe_in 128 unsigned).reading at octets.now) }
+    ensures within { IfOk result
+        (λ x. (at ≤ x.1) × (x.1 + length x.2.now ≡ at + length octets.now)) }
+{
+    if !has_tag(octets, INVOKE) {
+        return Ok((None, at, octets));
+    }
+    let part = take_part(octets, at, INVOKE)?;
+    let invoke = part.unsigned()?;
+    Ok((Some(invoke), part.head.next, part.rest))
 }
