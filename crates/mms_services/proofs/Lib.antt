@@ -13,3 +13,6 @@ pub mod InitiatesRead
 pub mod NameListsRead
 pub mod RejectsRead
 mod WorkedNegotiations
+pub mod PdusRead
+pub mod NumberedRead
+mod WorkedPdus

@@ -12,3 +12,7 @@ pub mod Initiates
 pub mod NameLists
 pub mod Negotiations
 pub mod Rejects
+pub mod Requests
+pub mod Responses
+pub mod Pdus
+pub mod Numbered
