@@ -1,9 +1,11 @@
+pub mod Pieces
 pub mod ReadSpecs
 pub mod SetsRead
 mod WorkedSets
 pub mod ReadLaws
 pub mod WriteLaws
 pub mod ReportLaws
+pub mod SpecsWritten
 mod WorkedAccess
 mod WorkedServices
 pub mod CodedRead
