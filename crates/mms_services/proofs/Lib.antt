@@ -18,3 +18,4 @@ mod WorkedNegotiations
 pub mod PdusRead
 pub mod NumberedRead
 mod WorkedPdus
+pub mod SetsWritten

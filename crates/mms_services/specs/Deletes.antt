@@ -1,12 +1,17 @@
 -- Deleting named variable lists (ISO 9506-2, DeleteNamedVariableList).
-use Rattle.std.specs.Prelude.{◌≡◌, ℕ, zero, suc, ◌+◌, Bool, true, false, List, [], length}
-use Rattle.std.specs.Prelude.{ℤ, pos, negsuc, Ok}
+use Rattle.std.specs.Prelude.{◌≡◌, ℕ, zero, suc, ◌+◌, ◌≤◌, ◌<◌, ◌^◌, Bool, true, false, List, []}
+use Rattle.std.specs.Prelude.{length, ◌++◌, flat_map, ℤ, pos, negsuc, Ok, if◌then◌else◌}
+use Rattle.std.specs.Prelude.{MatchBool}
+use Rattle.std.specs.List.{All}
+use Rattle.std.specs.Int.{w64}
+use Rattle.std.specs.Int.RustNames.{FitsSigned}
 use Rattle.ber_values.specs.Grammars.{Grammar, taken, gives, then_in, map_in, branch_in}
 use Rattle.ber_values.specs.Parts.{Contents, part_in, choose_in, all_in}
 use Rattle.ber_values.specs.Lists.{list_in}
 use Rattle.ber_values.specs.Leaves.{integer, unsigned}
-use Rattle.mms_data.specs.ObjectName.{ObjectName}
-use Rattle.mms_data.specs.NameOctets.{one_name}
+use Rattle.ber_values.specs.Writing.{written, integer_octets}
+use Rattle.mms_data.specs.ObjectName.{ObjectName, IsName}
+use Rattle.mms_data.specs.NameOctets.{one_name, name_octets}
 use Rattle.mms_services.specs.declared.delete.DeleteRequest.{DeleteRequest}
 use Rattle.mms_services.specs.declared.delete.DeleteResponse.{DeleteResponse}
 
@@ -50,3 +55,30 @@ unfoldable pub delete_response : Contents DeleteResponse
 delete_response = all_in
     (then_in (part_in 128 unsigned) (λ matched.
     map_in (deleted_of matched) (part_in 129 unsigned)))
+
+-- ---- written forms
+
+-- names, one after another
+unfoldable pub set_names_octets : List ObjectName → List ℕ
+set_names_octets names = flat_map name_octets names
+
+-- the names of the lists, where those are meant, else the scope alone
+unfoldable pub delete_request_octets : DeleteRequest → List ℕ
+delete_request_octets r = if is_specific r.scope
+    then written 161 (set_names_octets r.sets)
+    else written 128 (integer_octets r.scope)
+
+unfoldable pub delete_response_octets : DeleteResponse → List ℕ
+delete_response_octets r =
+    written 128 (integer_octets (pos r.matched)) ++ written 129 (integer_octets (pos r.deleted))
+
+-- lists are named just where those that are named are meant
+abbrev pub IsDelete : DeleteRequest → Type 0
+IsDelete r = MatchBool (is_specific r.scope) (1 ≤ length r.sets) (r.sets ≡ [])
+
+-- what the types keep of their names and numbers
+abbrev pub IsNamedDelete : DeleteRequest → Type 0
+IsNamedDelete r = FitsSigned w64 r.scope × All IsName r.sets
+
+abbrev pub IsCounted : DeleteResponse → Type 0
+IsCounted r = (r.matched < 2 ^ 32) × (r.deleted < 2 ^ 32)

@@ -1,15 +1,23 @@
 //! Deletes named variable lists (ISO 9506-2, `DeleteNamedVariableList`).
-ghost use Rattle.std.specs.Prelude.{◌≡◌, ◌+◌, ◌^◌, ◌<◌, ◌≤◌, length, IfOk};
+ghost use Rattle.std.specs.Prelude.{◌≡◌, ◌+◌, ◌^◌, ◌<◌, ◌≤◌, ◌++◌, length, IfOk, OnOk, OnErr};
+ghost use Rattle.plain_text.specs.Extends.{Extends};
+ghost use Rattle.ber_values.specs.Lengths.{capped};
+ghost use Rattle.ber_values.specs.Writing.{written};
+ghost use Rattle.ber_values.specs.declared.lengths.TheConstants.{MOST_LENGTH};
 ghost use Rattle.ber_values.specs.Faults.{Gives};
 ghost use Rattle.ber_values.specs.Stops.{Answers};
 ghost use Rattle.ber_values.specs.Readers.{taken_from};
 ghost use Rattle.mms_services.specs.Deletes.{is_specific, deletion_scope, set_names};
-ghost use Rattle.mms_services.specs.Deletes.{delete_request, delete_response};
+ghost use Rattle.mms_services.specs.Deletes.{delete_request, delete_response, set_names_octets};
+ghost use Rattle.mms_services.specs.Deletes.{delete_request_octets, delete_response_octets};
 
 use crate::missing::short;
-use ber_values::{BerFault, Part, Stop, has_tag, octets_from, take_end, take_part};
-use mms_data::{Names, take_name};
-use std::alloc::Global;
+use ber_values::{
+    BerFault, MOST_LENGTH, Part, Stop, add_len, has_tag, integer_len, natural_len, octets_from,
+    part_len, take_end, take_part, write_head, write_integer, write_natural,
+};
+use mms_data::{Name, Names, name_len, take_name, write_name};
+use std::alloc::{AllocError, Global};
 
 /// Asks that named variable lists be deleted.
 #[derive(Debug, Drop)]
@@ -105,4 +113,89 @@ pub(crate) fn delete_response_from(part: &Part<'_>) -> Result<DeleteResponse, Be
     let deleted = second.unsigned()?;
     take_end(second.rest, second.head.next)?;
     Ok(DeleteResponse { matched, deleted })
+}
+
+/// How many octets [`put_delete_request`] appends, capped.
+pub(crate) fn delete_request_len(request: &DeleteRequest) -> usize
+    ensures { result ≡ capped (length (delete_request_octets request.now)) }
+{
+    if is_specific(request.scope) {
+        return part_len(set_names_len(request.sets.as_slice()));
+    }
+    part_len(integer_len(request.scope))
+}
+
+/// How many octets [`put_set_names`] appends, capped.
+#[tactic(auto, using(crate::proofs::Pieces::summed), unfolding(crate::specs::Deletes::set_names_octets))]
+fn set_names_len(sets: &[Name]) -> usize
+    ensures { result ≡ capped (length (set_names_octets sets.now)) }
+{
+    let mut len = 0;
+    for set in sets {
+        len = add_len(len, name_len(set));
+    }
+    len
+}
+
+/// Appends the contents of a request.
+pub(crate) fn put_delete_request(
+    out: &mut Vec<u8>,
+    request: &DeleteRequest,
+) -> Result<(), AllocError>
+    requires { length (delete_request_octets request.now) < MOST_LENGTH }
+    ensures ok { OnOk result
+        (out.new.items ≡ out.old.items ++ delete_request_octets request.now) }
+    ensures err { OnErr result (Extends out.old.items out.new.items) }
+{
+    if is_specific(request.scope) {
+        return put_sets(out, &request.sets);
+    }
+    write_integer(out, 0x80, request.scope)
+}
+
+/// Appends the names of lists as an element.
+fn put_sets(out: &mut Vec<u8>, sets: &Names) -> Result<(), AllocError>
+    requires { length (written 161 (set_names_octets sets.now)) < MOST_LENGTH }
+    ensures ok { OnOk result
+        (out.new.items ≡ out.old.items ++ written 161 (set_names_octets sets.now)) }
+    ensures err { OnErr result (Extends out.old.items out.new.items) }
+{
+    write_head(out, 0xA1, set_names_len(sets.as_slice()))?;
+    put_set_names(out, sets.as_slice())?;
+    Ok(())
+}
+
+/// Appends the names of lists, one after another.
+#[tactic(auto, using(crate::proofs::Pieces::written_each), unfolding(crate::specs::Deletes::set_names_octets))]
+fn put_set_names(out: &mut Vec<u8>, sets: &[Name]) -> Result<(), AllocError>
+    ensures ok { OnOk result (out.new.items ≡ out.old.items ++ set_names_octets sets.now) }
+    ensures err { OnErr result (Extends out.old.items out.new.items) }
+{
+    for set in sets {
+        write_name(out, set)?;
+    }
+    Ok(())
+}
+
+/// How many octets [`put_delete_response`] appends.
+pub(crate) fn delete_response_len(response: &DeleteResponse) -> usize
+    ensures value { result ≡ length (delete_response_octets response.now) }
+    ensures few { result ≤ 20 }
+{
+    4 + natural_len(u64::from(response.matched)) + natural_len(u64::from(response.deleted))
+}
+
+/// Appends the contents of a response.
+#[tactic(auto, using(crate::proofs::Pieces::extended), unfolding(crate::specs::Deletes::delete_response_octets))]
+pub(crate) fn put_delete_response(
+    out: &mut Vec<u8>,
+    response: &DeleteResponse,
+) -> Result<(), AllocError>
+    ensures ok { OnOk result
+        (out.new.items ≡ out.old.items ++ delete_response_octets response.now) }
+    ensures err { OnErr result (Extends out.old.items out.new.items) }
+{
+    write_natural(out, 0x80, u64::from(response.matched))?;
+    write_natural(out, 0x81, u64::from(response.deleted))?;
+    Ok(())
 }
