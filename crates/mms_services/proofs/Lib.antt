@@ -5,3 +5,9 @@ pub mod InitiatesRead
 pub mod NameListsRead
 pub mod RejectsRead
 mod WorkedNegotiations
+pub mod ReadSpecs
+pub mod ReadLaws
+pub mod WriteLaws
+pub mod ReportLaws
+mod WorkedAccess
+mod WorkedServices

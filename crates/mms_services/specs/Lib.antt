@@ -5,3 +5,7 @@ pub mod Initiates
 pub mod NameLists
 pub mod Negotiations
 pub mod Rejects
+pub mod Specifications
+pub mod Reads
+pub mod Writes
+pub mod Reports

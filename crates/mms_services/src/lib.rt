@@ -9,6 +9,7 @@ mod fault;
 mod identify;
 mod initiate;
 mod members;
+mod missing;
 mod name_list;
 mod pdu;
 mod read;

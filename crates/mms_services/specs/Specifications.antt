@@ -1,0 +1,34 @@
+-- Which variables are meant (ISO 9506-2, VariableAccessSpecification).
+use Rattle.std.specs.Prelude.{List}
+use Rattle.ber_values.specs.Grammars.{Grammar}
+use Rattle.ber_values.specs.Parts.{Contents, part_in, choose_in, contents_as, all_in}
+use Rattle.ber_values.specs.Lists.{list_in}
+use Rattle.mms_data.specs.ObjectName.{ObjectName}
+use Rattle.mms_data.specs.NameOctets.{one_name}
+use Rattle.mms_services.specs.declared.spec.Spec.{Spec}
+use Rattle.mms_services.specs.declared.spec.Spec.TheVariants as kinds
+
+-- a name, alone
+unfoldable pub sole_name : Contents ObjectName
+sole_name = all_in one_name
+
+-- a variable by its name, alone
+unfoldable pub sole_variable : Contents ObjectName
+sole_variable = all_in (part_in 160 sole_name)
+
+unfoldable pub variable : Grammar ObjectName
+variable = part_in 48 sole_variable
+
+-- one or more variables
+unfoldable pub variables : Contents (List ObjectName)
+variables = list_in 1 variable
+
+-- variables, or the name of a list of them
+unfoldable pub specification : Grammar Spec
+specification =
+    choose_in 160 (contents_as kinds.List variables)
+    (part_in 161 (contents_as kinds.Set sole_name))
+
+-- a specification, alone
+unfoldable pub sole_spec : Contents Spec
+sole_spec = all_in specification
