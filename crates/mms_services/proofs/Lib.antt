@@ -1,3 +1,5 @@
+pub mod Pieces
+pub mod ShortWritten
 pub mod CodedRead
 pub mod ErrorsRead
 pub mod IdentitiesRead
