@@ -11,5 +11,6 @@ pub mod ReadSpecs
 pub mod ReadLaws
 pub mod WriteLaws
 pub mod ReportLaws
+pub mod SpecsWritten
 mod WorkedAccess
 mod WorkedServices

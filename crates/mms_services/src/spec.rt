@@ -1,14 +1,22 @@
 //! Which variables are meant (ISO 9506-2, `VariableAccessSpecification`).
-ghost use Rattle.std.specs.Prelude.{◌≡◌, ◌+◌, ◌<◌, ◌≤◌, ◌^◌, length, IfOk};
+ghost use Rattle.std.specs.Prelude.{◌≡◌, ◌+◌, ◌<◌, ◌≤◌, ◌^◌, ◌++◌, length, IfOk, OnOk, OnErr};
+ghost use Rattle.plain_text.specs.Extends.{Extends};
+ghost use Rattle.ber_values.specs.Lengths.{capped};
 ghost use Rattle.ber_values.specs.Stops.{Answers};
 ghost use Rattle.ber_values.specs.Readers.{taken_from};
 ghost use Rattle.mms_services.specs.Specifications.{sole_name, sole_variable, variable, variables};
 ghost use Rattle.mms_services.specs.Specifications.{specification, sole_spec};
+ghost use Rattle.mms_services.specs.Specifications.{variable_octets, variables_octets, spec_octets};
+ghost use Rattle.mms_services.specs.declared.spec.Spec.TheVariants as kinds;
+ghost use Rattle.ber_values.specs.declared.lengths.TheConstants.{MOST_LENGTH};
 
 use crate::missing::short;
-use ber_values::{Part, Stop, has_tag, octets_from, take_end, take_part};
-use mms_data::{Name, Names, take_name};
-use std::alloc::Global;
+use ber_values::{
+    MOST_LENGTH, Part, Stop, add_len, has_tag, octets_from, part_len, take_end, take_part,
+    write_head,
+};
+use mms_data::{Name, Names, name_len, take_name, write_name};
+use std::alloc::{AllocError, Global};
 
 /// The variables that a service is about.
 #[derive(Debug, Drop)]
@@ -101,4 +109,103 @@ pub(crate) fn name_from(alloc: Global, part: &Part<'_>) -> Result<Name, Stop>
     let (name, next) = take_name(alloc, part.contents, part.head.body)?;
     take_end(octets_from(part.contents, part.head.body, next), next)?;
     Ok(name)
+}
+
+/// How many octets [`put_spec`] appends, capped.
+pub(crate) fn spec_len(spec: &Spec) -> usize
+    ensures { result ≡ capped (length (spec_octets spec.now)) }
+{
+    match spec {
+        Spec::List(names) => list_len(names),
+        Spec::Set(name) => set_len(name),
+    }
+}
+
+fn list_len(names: &Names) -> usize
+    ensures { result ≡ capped (length (spec_octets (kinds.List names.now))) }
+{
+    part_len(variables_len(names.as_slice()))
+}
+
+fn set_len(name: &Name) -> usize
+    ensures { result ≡ capped (length (spec_octets (kinds.Set name.now))) }
+{
+    part_len(name_len(name))
+}
+
+/// How many octets [`put_variables`] appends, capped.
+#[tactic(auto, using(crate::proofs::Pieces::summed), unfolding(crate::specs::Specifications::variables_octets))]
+pub(crate) fn variables_len(names: &[Name]) -> usize
+    ensures { result ≡ capped (length (variables_octets names.now)) }
+{
+    let mut len = 0;
+    for name in names {
+        len = add_len(len, variable_len(name));
+    }
+    len
+}
+
+fn variable_len(name: &Name) -> usize
+    ensures { result ≡ capped (length (variable_octets name.now)) }
+{
+    part_len(part_len(name_len(name)))
+}
+
+/// Appends a specification.
+pub(crate) fn put_spec(out: &mut Vec<u8>, spec: &Spec) -> Result<(), AllocError>
+    requires { length (spec_octets spec.now) < MOST_LENGTH }
+    ensures ok { OnOk result (out.new.items ≡ out.old.items ++ spec_octets spec.now) }
+    ensures err { OnErr result (Extends out.old.items out.new.items) }
+{
+    match spec {
+        Spec::List(names) => put_list(out, names),
+        Spec::Set(name) => put_set(out, name),
+    }
+}
+
+fn put_list(out: &mut Vec<u8>, names: &Names) -> Result<(), AllocError>
+    requires { length (spec_octets (kinds.List names.now)) < MOST_LENGTH }
+    ensures ok { OnOk result
+        (out.new.items ≡ out.old.items ++ spec_octets (kinds.List names.now)) }
+    ensures err { OnErr result (Extends out.old.items out.new.items) }
+{
+    write_head(out, 0xA0, variables_len(names.as_slice()))?;
+    put_variables(out, names.as_slice())?;
+    Ok(())
+}
+
+fn put_set(out: &mut Vec<u8>, name: &Name) -> Result<(), AllocError>
+    requires { length (spec_octets (kinds.Set name.now)) < MOST_LENGTH }
+    ensures ok { OnOk result
+        (out.new.items ≡ out.old.items ++ spec_octets (kinds.Set name.now)) }
+    ensures err { OnErr result (Extends out.old.items out.new.items) }
+{
+    write_head(out, 0xA1, name_len(name))?;
+    write_name(out, name)?;
+    Ok(())
+}
+
+/// Appends variables, one after another.
+#[tactic(auto, using(crate::proofs::Pieces::written_each), unfolding(crate::specs::Specifications::variables_octets))]
+pub(crate) fn put_variables(out: &mut Vec<u8>, names: &[Name]) -> Result<(), AllocError>
+    requires { length (variables_octets names.now) < MOST_LENGTH }
+    ensures ok { OnOk result (out.new.items ≡ out.old.items ++ variables_octets names.now) }
+    ensures err { OnErr result (Extends out.old.items out.new.items) }
+{
+    for name in names {
+        put_variable(out, name)?;
+    }
+    Ok(())
+}
+
+#[tactic(auto, using(crate::proofs::Pieces::extended))]
+fn put_variable(out: &mut Vec<u8>, name: &Name) -> Result<(), AllocError>
+    requires { length (variable_octets name.now) < MOST_LENGTH }
+    ensures ok { OnOk result (out.new.items ≡ out.old.items ++ variable_octets name.now) }
+    ensures err { OnErr result (Extends out.old.items out.new.items) }
+{
+    write_head(out, 0x30, part_len(name_len(name)))?;
+    write_head(out, 0xA0, name_len(name))?;
+    write_name(out, name)?;
+    Ok(())
 }
