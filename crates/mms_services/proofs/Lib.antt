@@ -1,5 +1,14 @@
 pub mod Pieces
 pub mod ShortWritten
+pub mod ReadSpecs
+pub mod SetsRead
+mod WorkedSets
+pub mod ReadLaws
+pub mod WriteLaws
+pub mod ReportLaws
+pub mod SpecsWritten
+mod WorkedAccess
+mod WorkedServices
 pub mod CodedRead
 pub mod ErrorsRead
 pub mod IdentitiesRead
@@ -7,10 +16,6 @@ pub mod InitiatesRead
 pub mod NameListsRead
 pub mod RejectsRead
 mod WorkedNegotiations
-pub mod ReadSpecs
-pub mod ReadLaws
-pub mod WriteLaws
-pub mod ReportLaws
-pub mod SpecsWritten
-mod WorkedAccess
-mod WorkedServices
+pub mod PdusRead
+pub mod NumberedRead
+mod WorkedPdus

@@ -1,3 +1,10 @@
+pub mod Specifications
+pub mod Defines
+pub mod MemberLists
+pub mod Deletes
+pub mod Reads
+pub mod Writes
+pub mod Reports
 pub mod Coded
 pub mod Errors
 pub mod Identities
@@ -5,7 +12,7 @@ pub mod Initiates
 pub mod NameLists
 pub mod Negotiations
 pub mod Rejects
-pub mod Specifications
-pub mod Reads
-pub mod Writes
-pub mod Reports
+pub mod Requests
+pub mod Responses
+pub mod Pdus
+pub mod Numbered

@@ -1,10 +1,19 @@
 //! PDUs (ISO 9506-2, `MMSpdu`).
-use crate::error::ErrorPdu;
-use crate::initiate::Initiate;
-use crate::reject::RejectPdu;
-use crate::report::ReportPdu;
-use crate::request::Request;
-use crate::response::Response;
+ghost use Rattle.std.specs.Prelude.{◌≡◌, ◌+◌, ◌^◌, ◌<◌, ◌≤◌, length, IfOk, IfErr};
+ghost use Rattle.ber_values.specs.Stops.{Answers};
+ghost use Rattle.ber_values.specs.Readers.{IsReadBy, taken_from, taken_whole};
+ghost use Rattle.mms_services.specs.Pdus.{confirmed_request, confirmed_response, frame_pdu};
+ghost use Rattle.mms_services.specs.Pdus.{one_pdu, pdu, IsInvokeOf, without_invoke};
+
+use crate::error::{ErrorPdu, error_pdu_from};
+use crate::fault::{MmsFault, numbered};
+use crate::initiate::{Initiate, initiate_from};
+use crate::reject::{RejectPdu, reject_pdu_from};
+use crate::report::{ReportPdu, report_pdu_from};
+use crate::request::{Request, take_request};
+use crate::response::{Response, take_response};
+use ber_values::{Part, Stop, has_tag, octets_from, settle, take_end, take_part};
+use std::alloc::{AllocError, Global};
 
 /// A protocol data unit.
 #[derive(Debug, Drop)]
@@ -29,4 +38,145 @@ pub enum MmsPdu {
     Conclude,
     /// Answers that it ends.
     Concluded,
+}
+
+/// The tags of PDUs.
+pub(crate) const REQUEST: u8 = 0xA0;
+
+const RESPONSE: u8 = 0xA1;
+
+const ERROR: u8 = 0xA2;
+
+const REPORT: u8 = 0xA3;
+
+const REJECT: u8 = 0xA4;
+
+const INITIATE: u8 = 0xA8;
+
+const INITIATED: u8 = 0xA9;
+
+const INITIATE_ERROR: u8 = 0xAA;
+
+const CONCLUDE: u8 = 0x8B;
+
+const CONCLUDED: u8 = 0x8C;
+
+/// The tag of an integer, as which the number of a request stands.
+pub(crate) const INTEGER: u8 = 0x02;
+
+/// The PDU that octets are, or where they break a rule first, and which. The place counts the
+/// octets from 0.
+pub fn read_pdu(alloc: Global, bytes: &[u8]) -> Result<Result<MmsPdu, MmsFault>, AllocError>
+    ensures exact { IfOk result (λ read. IsReadBy pdu (taken_whole 0 bytes.now) 0 bytes.now
+        (without_invoke read)) }
+    // The number of a request is told whatever is wrong with its service.
+    ensures invoke { IfOk result (λ read. IfErr read (λ fault. IsInvokeOf bytes.now fault.invoke)) }
+{
+    let read = settle(pdu_from(alloc, bytes, 0))?;
+    Ok(numbered(bytes, read))
+}
+
+/// The PDU that octets are, of which the first has the place `at`.
+#[tactic(auto, unfolding(crate::specs::Pdus::pdu, ber_values::specs::Parts::whole_in))]
+fn pdu_from(alloc: Global, octets: &[u8], at: usize) -> Result<MmsPdu, Stop>
+    requires { at + length octets.now < 2 ^ 64 }
+    ensures { Answers (taken_whole at octets.now) result (pdu.reading at octets.now) }
+{
+    let (pdu, next) = take_pdu(alloc, octets, at)?;
+    take_end(octets_from(octets, at, next), next)?;
+    Ok(pdu)
+}
+
+/// The PDU at the front of octets, and the place after it.
+#[tactic(auto, unfolding(crate::specs::Pdus::one_pdu, ber_values::specs::Parts::choose_in, ber_values::specs::Parts::part_in, ber_values::specs::Parts::contents_as, ber_values::specs::Grammars::branch_in))]
+fn take_pdu(alloc: Global, octets: &[u8], at: usize) -> Result<(MmsPdu, usize), Stop>
+    requires { at + length octets.now < 2 ^ 64 }
+    ensures exact { Answers (taken_from at octets.now) result (one_pdu.reading at octets.now) }
+    ensures within { IfOk result (λ x. (at < x.1) × (x.1 ≤ at + length octets.now)) }
+{
+    if has_tag(octets, REQUEST) {
+        let part = take_part(octets, at, REQUEST)?;
+        let pdu = confirmed_request_from(alloc, &part)?;
+        return Ok((pdu, part.head.next));
+    }
+    if has_tag(octets, RESPONSE) {
+        let part = take_part(octets, at, RESPONSE)?;
+        let pdu = confirmed_response_from(alloc, &part)?;
+        return Ok((pdu, part.head.next));
+    }
+    if has_tag(octets, ERROR) {
+        let part = take_part(octets, at, ERROR)?;
+        let error = error_pdu_from(&part)?;
+        return Ok((MmsPdu::Error(error), part.head.next));
+    }
+    if has_tag(octets, REPORT) {
+        let part = take_part(octets, at, REPORT)?;
+        let report = report_pdu_from(alloc, &part)?;
+        return Ok((MmsPdu::Report(report), part.head.next));
+    }
+    if has_tag(octets, REJECT) {
+        let part = take_part(octets, at, REJECT)?;
+        let reject = reject_pdu_from(&part)?;
+        return Ok((MmsPdu::Reject(reject), part.head.next));
+    }
+    take_frame(octets, at)
+}
+
+/// The PDU at the front of octets that begins an association or ends it, and the place after it.
+#[tactic(auto, unfolding(crate::specs::Pdus::frame_pdu, ber_values::specs::Leaves::raw, ber_values::specs::Parts::choose_in, ber_values::specs::Parts::part_in, ber_values::specs::Parts::contents_as, ber_values::specs::Grammars::branch_in))]
+fn take_frame(octets: &[u8], at: usize) -> Result<(MmsPdu, usize), Stop>
+    requires { at + length octets.now < 2 ^ 64 }
+    ensures exact { Answers (taken_from at octets.now) result (frame_pdu.reading at octets.now) }
+    ensures within { IfOk result (λ x. (at < x.1) × (x.1 ≤ at + length octets.now)) }
+{
+    if has_tag(octets, INITIATE) {
+        let part = take_part(octets, at, INITIATE)?;
+        let initiate = initiate_from(&part)?;
+        return Ok((MmsPdu::Initiate(initiate), part.head.next));
+    }
+    if has_tag(octets, INITIATED) {
+        let part = take_part(octets, at, INITIATED)?;
+        let initiate = initiate_from(&part)?;
+        return Ok((MmsPdu::Initiated(initiate), part.head.next));
+    }
+    if has_tag(octets, INITIATE_ERROR) {
+        let part = take_part(octets, at, INITIATE_ERROR)?;
+        return Ok((MmsPdu::InitiateError, part.head.next));
+    }
+    if has_tag(octets, CONCLUDE) {
+        let part = take_part(octets, at, CONCLUDE)?;
+        part.fixed(&[])?;
+        return Ok((MmsPdu::Conclude, part.head.next));
+    }
+    let part = take_part(octets, at, CONCLUDED)?;
+    part.fixed(&[])?;
+    Ok((MmsPdu::Concluded, part.head.next))
+}
+
+/// The request and its number that the contents of an element are.
+#[tactic(auto, unfolding(crate::specs::Pdus::confirmed_request, crate::specs::Pdus::invoke_in, ber_values::specs::Parts::all_in, ber_values::specs::Parts::part_in, ber_values::specs::Grammars::then_in, ber_values::specs::Grammars::map_in))]
+fn confirmed_request_from(alloc: Global, part: &Part<'_>) -> Result<MmsPdu, Stop>
+    requires { part.now.head.body + length part.now.contents.now < 2 ^ 64 }
+    ensures { Answers (λ p. p) result
+        (confirmed_request.reading part.now.head part.now.contents.now) }
+{
+    let number = take_part(part.contents, part.head.body, INTEGER)?;
+    let invoke = number.unsigned()?;
+    let (request, next) = take_request(alloc, number.rest, number.head.next)?;
+    take_end(octets_from(number.rest, number.head.next, next), next)?;
+    Ok(MmsPdu::Request { invoke, request })
+}
+
+/// The response and its number that the contents of an element are.
+#[tactic(auto, unfolding(crate::specs::Pdus::confirmed_response, crate::specs::Pdus::invoke_in, ber_values::specs::Parts::all_in, ber_values::specs::Parts::part_in, ber_values::specs::Grammars::then_in, ber_values::specs::Grammars::map_in))]
+fn confirmed_response_from(alloc: Global, part: &Part<'_>) -> Result<MmsPdu, Stop>
+    requires { part.now.head.body + length part.now.contents.now < 2 ^ 64 }
+    ensures { Answers (λ p. p) result
+        (confirmed_response.reading part.now.head part.now.contents.now) }
+{
+    let number = take_part(part.contents, part.head.body, INTEGER)?;
+    let invoke = number.unsigned()?;
+    let (response, next) = take_response(alloc, number.rest, number.head.next)?;
+    take_end(octets_from(number.rest, number.head.next, next), next)?;
+    Ok(MmsPdu::Response { invoke, response })
 }
