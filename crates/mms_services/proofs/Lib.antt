@@ -1,4 +1,5 @@
 pub mod Pieces
+pub mod ShortWritten
 pub mod ReadSpecs
 pub mod SetsRead
 mod WorkedSets

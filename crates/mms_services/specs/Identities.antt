@@ -1,8 +1,9 @@
 -- Who answers (ISO 9506-2, Identify-Request and Identify-Response).
-use Rattle.std.specs.Prelude.{[]}
+use Rattle.std.specs.Prelude.{ℕ, List, [], ◌∷◌, ◌++◌}
 use Rattle.ber_values.specs.Grammars.{Grammar, then_in, map_in}
 use Rattle.ber_values.specs.Parts.{Contents, part_in, maybe_in, all_in}
 use Rattle.ber_values.specs.Leaves.{visible, raw, fixed}
+use Rattle.ber_values.specs.Writing.{written}
 
 -- nothing
 unfoldable pub identify_request : Contents (Unit {0})
@@ -19,3 +20,10 @@ identify_response = all_in
     then_in (part_in 129 visible) (λ model.
     then_in (part_in 130 visible) (λ revision.
     some_syntaxes))))
+
+-- ---- the written form
+
+-- the texts CENTRE, TASE2 and 1
+unfoldable pub identify_response_octets : List ℕ
+identify_response_octets = written 128 (67 ∷ 69 ∷ 78 ∷ 84 ∷ 82 ∷ 69 ∷ [])
+    ++ (written 129 (84 ∷ 65 ∷ 83 ∷ 69 ∷ 50 ∷ []) ++ written 130 (49 ∷ []))

@@ -1,10 +1,11 @@
 //! Codes under one of several tags, which tells their class or kind.
 ghost use Rattle.std.specs.Prelude.{◌≡◌, ◌+◌, ◌^◌, ◌<◌, ◌≤◌, length, IfOk};
-ghost use Rattle.ber_values.specs.Faults.{Gives, fault_at};
+ghost use Rattle.ber_values.specs.Faults.{Gives};
 ghost use Rattle.ber_values.specs.Grammars.{taken};
 ghost use Rattle.mms_services.specs.Coded.{coded_in};
 
-use ber_values::{BerFault, Why, take_part};
+use crate::missing::{short, surplus};
+use ber_values::{BerFault, take_part};
 
 /// The tag with the number 0 of those that are particular to their container.
 const FIRST_TAG: u8 = 0x80;
@@ -33,10 +34,10 @@ pub(crate) fn take_coded(
         (λ x. (at ≤ x.1) × (x.1 + length x.2.now ≡ at + length octets.now)) }
 {
     let [tag, ..] = octets else {
-        return Err(fault(at, Why::Short));
+        return Err(short(at));
     };
     if *tag < low || high < *tag {
-        return Err(fault(at, Why::Tag));
+        return Err(surplus(at));
     }
     let part = take_part(octets, at, *tag)?;
     let code = part.octet()?;
@@ -45,11 +46,4 @@ pub(crate) fn take_coded(
         code,
     };
     Ok((coded, part.head.next, part.rest))
-}
-
-/// This fault at this place.
-fn fault(place: usize, why: Why) -> BerFault
-    ensures { result ≡ fault_at place why }
-{
-    BerFault { place, why }
 }

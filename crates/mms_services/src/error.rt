@@ -1,9 +1,14 @@
 //! Answers that a service failed (ISO 9506-2, `Confirmed-ErrorPDU`).
-ghost use Rattle.std.specs.Prelude.{◌≡◌, ◌+◌, ◌^◌, ◌<◌, length};
+ghost use Rattle.std.specs.Prelude.{◌≡◌, ◌+◌, ◌^◌, ◌<◌, ◌≤◌, ◌++◌, length, OnOk, OnErr};
+ghost use Rattle.plain_text.specs.Extends.{Extends};
 ghost use Rattle.mms_services.specs.Errors.{error_class, service_error, error_pdu};
+ghost use Rattle.mms_services.specs.Errors.{service_error_octets, error_pdu_octets};
 
 use crate::coded::{Coded, take_coded};
-use ber_values::{BerFault, Part, octets_from, skip_parts, take_end, take_part};
+use ber_values::{
+    BerFault, Part, natural_len, octets_from, skip_parts, take_end, take_part, write_natural,
+};
+use std::alloc::AllocError;
 
 /// The service failed.
 #[derive(Clone, Copy, Debug, PartialEq, Eq)]
@@ -76,4 +81,40 @@ fn error_class_from(part: &Part<'_>) -> Result<Coded, BerFault>
     let (error, next, rest) = take_coded(part.contents, part.head.body, FIRST_CLASS, LAST_CLASS)?;
     take_end(rest, next)?;
     Ok(error)
+}
+
+/// How many octets [`put_error_pdu`] appends.
+pub(crate) fn error_pdu_len(error: &ErrorPdu) -> usize
+    ensures value { result ≡ length (error_pdu_octets error.now) }
+    ensures few { result ≤ 17 }
+{
+    2 + natural_len(u64::from(error.invoke)) + 7
+}
+
+/// Appends an error as the contents of an element.
+#[tactic(auto, using(crate::proofs::Pieces::extended), unfolding(crate::specs::Errors::error_pdu_octets))]
+pub(crate) fn put_error_pdu(out: &mut Vec<u8>, error: &ErrorPdu) -> Result<(), AllocError>
+    requires { error.now.class ≤ 15 }
+    ensures ok { OnOk result (out.new.items ≡ out.old.items ++ error_pdu_octets error.now) }
+    ensures err { OnErr result (Extends out.old.items out.new.items) }
+{
+    write_natural(out, INVOKE, u64::from(error.invoke))?;
+    put_service_error(out, error.class, error.code)
+}
+
+#[tactic(auto, unfolding(crate::specs::Errors::service_error_octets, ber_values::specs::Writing::length_octets))]
+fn put_service_error(out: &mut Vec<u8>, class: u8, code: u8) -> Result<(), AllocError>
+    requires { class ≤ 15 }
+    ensures ok { OnOk result (out.new.items ≡ out.old.items ++ service_error_octets class code) }
+    ensures err { OnErr result (out.new.items ≡ out.old.items) }
+{
+    out.extend_from_slice(&[
+        SERVICE_ERROR,
+        5,
+        ERROR_CLASS,
+        3,
+        FIRST_CLASS + class,
+        1,
+        code,
+    ])
 }

@@ -1,12 +1,13 @@
 //! Asks who answers (ISO 9506-2, `Identify`).
-ghost use Rattle.std.specs.Prelude.{◌≡◌, ◌+◌, ◌^◌, ◌<◌, ◌≤◌, length, IfOk};
+ghost use Rattle.std.specs.Prelude.{◌≡◌, ◌+◌, ◌^◌, ◌<◌, ◌≤◌, ◌++◌, length, IfOk, OnOk, OnErr};
 ghost use Rattle.ber_values.specs.Faults.{Gives};
 ghost use Rattle.ber_values.specs.Stops.{Answers};
 ghost use Rattle.ber_values.specs.Grammars.{taken};
 ghost use Rattle.mms_services.specs.Identities.{identify_request, identify_response, some_syntaxes};
+ghost use Rattle.mms_services.specs.Identities.{identify_response_octets};
 
 use ber_values::{BerFault, Part, Stop, has_tag, take_end, take_part};
-use std::alloc::Global;
+use std::alloc::{AllocError, Global};
 
 /// The tags of the texts in a response.
 const VENDOR: u8 = 0x80;
@@ -58,4 +59,19 @@ fn pass_syntaxes(octets: &[u8], at: usize) -> Result<(usize, &[u8]), BerFault>
     }
     let part = take_part(octets, at, SYNTAXES)?;
     Ok((part.head.next, part.rest))
+}
+
+/// How many octets [`put_identify_response`] appends.
+pub(crate) const IDENTIFY_RESPONSE_LEN: usize = 18;
+
+/// Appends the vendor CENTRE, the model TASE2 and the revision 1 as the contents of an element.
+#[tactic(auto, unfolding(crate::specs::Identities::identify_response_octets, ber_values::specs::Writing::length_octets))]
+pub(crate) fn put_identify_response(out: &mut Vec<u8>) -> Result<(), AllocError>
+    ensures ok { OnOk result (out.new.items ≡ out.old.items ++ identify_response_octets) }
+    ensures err { OnErr result (out.new.items ≡ out.old.items) }
+{
+    out.extend_from_slice(&[
+        VENDOR, 6, b'C', b'E', b'N', b'T', b'R', b'E', MODEL, 5, b'T', b'A', b'S', b'E', b'2',
+        REVISION, 1, b'1',
+    ])
 }

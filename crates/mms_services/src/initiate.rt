@@ -1,14 +1,21 @@
 //! Agrees on the parameters of an association (ISO 9506-2, `Initiate`).
 ghost use Rattle.std.specs.Prelude.{◌≡◌, ◌≢◌, ◌+◌, ◌%◌, ◌^◌, ◌<◌, ◌≤◌, length, IfOk};
-ghost use Rattle.std.specs.Prelude.{None, IfSome, IsTrue, ◌↔◌};
+ghost use Rattle.std.specs.Prelude.{None, IfSome, IsTrue, ◌↔◌, ◌++◌, ℕ, OnOk, OnErr};
+ghost use Rattle.plain_text.specs.Extends.{Extends};
+ghost use Rattle.ber_values.specs.Writing.{written, integer_octets};
 ghost use Rattle.ber_values.specs.Faults.{Gives};
 ghost use Rattle.ber_values.specs.Grammars.{taken};
 ghost use Rattle.ber_values.specs.Parts.{maybe_in};
 ghost use Rattle.ber_values.specs.Leaves.{integer};
 ghost use Rattle.mms_services.specs.Negotiations.{IsBelow, IsTooLittle, granted_of, granted};
-ghost use Rattle.mms_services.specs.Initiates.{initiate, initiate_detail};
+ghost use Rattle.mms_services.specs.Initiates.{initiate, initiate_detail, some_integer_octets};
+ghost use Rattle.mms_services.specs.Initiates.{last_octets, later_octets, initiate_octets};
 
-use ber_values::{BerFault, Part, has_tag, octets_from, skip_parts, take_end, take_part};
+use ber_values::{
+    BerFault, Part, has_tag, integer_len, octets_from, skip_parts, take_end, take_part,
+    write_integer,
+};
+use std::alloc::AllocError;
 
 /// What one end offers or takes.
 #[derive(Clone, Copy, Debug, PartialEq, Eq)]
@@ -166,4 +173,101 @@ fn granted_of(number: Option<i64>, most: i64) -> i64
         Some(number) => number.min(most),
         None => most,
     }
+}
+
+/// How many octets [`put_initiate`] appends.
+pub(crate) fn initiate_len(offer: &Initiate) -> usize
+    ensures value { result ≡ length (initiate_octets offer.now) }
+    ensures few { result ≤ 64 }
+{
+    let first = some_integer_len(offer.detail) + integer_part_len(offer.calling);
+    let next = integer_part_len(offer.called) + some_integer_len(offer.nesting);
+    first + next + 24
+}
+
+/// The length of an integer as an element.
+fn integer_part_len(value: i64) -> usize
+    ensures value { (tag : ℕ) → result ≡ length (written tag (integer_octets value)) }
+    ensures few { result ≤ 10 }
+{
+    2 + integer_len(value)
+}
+
+fn some_integer_len(value: Option<i64>) -> usize
+    ensures value { (tag : ℕ) → result ≡ length (some_integer_octets tag value) }
+    ensures few { result ≤ 10 }
+{
+    match value {
+        Some(value) => integer_part_len(value),
+        None => 0,
+    }
+}
+
+/// Appends parameters as the contents of an element, with version 1.
+#[tactic(auto, using(crate::proofs::Pieces::extended), unfolding(crate::specs::Initiates::initiate_octets))]
+pub(crate) fn put_initiate(out: &mut Vec<u8>, offer: &Initiate) -> Result<(), AllocError>
+    ensures ok { OnOk result (out.new.items ≡ out.old.items ++ initiate_octets offer.now) }
+    ensures err { OnErr result (Extends out.old.items out.new.items) }
+{
+    put_some_integer(out, DETAIL, offer.detail)?;
+    write_integer(out, CALLING, offer.calling)?;
+    put_later(out, offer)
+}
+
+/// Appends the parameters from the called end's services on.
+#[tactic(auto, using(crate::proofs::Pieces::extended), unfolding(crate::specs::Initiates::later_octets))]
+fn put_later(out: &mut Vec<u8>, offer: &Initiate) -> Result<(), AllocError>
+    ensures ok { OnOk result (out.new.items ≡ out.old.items ++ later_octets offer.now) }
+    ensures err { OnErr result (Extends out.old.items out.new.items) }
+{
+    write_integer(out, CALLED, offer.called)?;
+    put_some_integer(out, NESTING, offer.nesting)?;
+    put_last(out)
+}
+
+fn put_some_integer(out: &mut Vec<u8>, tag: u8, value: Option<i64>) -> Result<(), AllocError>
+    requires { tag % 32 ≢ 31 }
+    ensures ok { OnOk result (out.new.items ≡ out.old.items ++ some_integer_octets tag value) }
+    ensures err { OnErr result (out.new.items ≡ out.old.items) }
+{
+    match value {
+        Some(value) => write_integer(out, tag, value),
+        None => Ok(()),
+    }
+}
+
+/// Appends version 1; that arrays, structures, and variables and lists of them by their names are
+/// supported; and the services of this profile, in the order of their bits getNameList, identify,
+/// read, write, the three of named variable lists, informationReport and conclude.
+#[tactic(auto, unfolding(crate::specs::Initiates::last_octets, crate::specs::Initiates::initiate_detail_octets, ber_values::specs::Writing::length_octets))]
+fn put_last(out: &mut Vec<u8>) -> Result<(), AllocError>
+    ensures ok { OnOk result (out.new.items ≡ out.old.items ++ last_octets) }
+    ensures err { OnErr result (out.new.items ≡ out.old.items) }
+{
+    out.extend_from_slice(&[
+        INITIATE_DETAIL,
+        22,
+        VERSION,
+        1,
+        1,
+        PARAMETERS,
+        3,
+        5,
+        0xE1,
+        0,
+        SERVICES,
+        12,
+        3,
+        0x6C,
+        0x1C,
+        0,
+        0,
+        0,
+        0,
+        0,
+        0,
+        0,
+        1,
+        0x10,
+    ])
 }

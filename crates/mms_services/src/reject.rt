@@ -1,13 +1,16 @@
 //! Answers that a PDU isn't understood (ISO 9506-2, `RejectPDU`).
-ghost use Rattle.std.specs.Prelude.{◌≡◌, ◌+◌, ◌^◌, ◌<◌, ◌≤◌, length, IfOk};
+ghost use Rattle.std.specs.Prelude.{◌≡◌, ◌+◌, ◌^◌, ◌<◌, ◌≤◌, ◌++◌, length, IfOk, OnOk, OnErr};
+ghost use Rattle.plain_text.specs.Extends.{Extends};
 ghost use Rattle.ber_values.specs.Faults.{Gives};
 ghost use Rattle.ber_values.specs.Grammars.{taken};
 ghost use Rattle.ber_values.specs.Parts.{maybe_in};
 ghost use Rattle.ber_values.specs.Leaves.{unsigned};
-ghost use Rattle.mms_services.specs.Rejects.{reject_pdu};
+ghost use Rattle.mms_services.specs.Rejects.{reject_pdu, some_invoke_octets, reason_octets};
+ghost use Rattle.mms_services.specs.Rejects.{reject_pdu_octets};
 
 use crate::coded::take_coded;
-use ber_values::{BerFault, Part, has_tag, take_end, take_part};
+use ber_values::{BerFault, Part, has_tag, natural_len, take_end, take_part, write_natural};
+use std::alloc::AllocError;
 
 /// The PDU isn't understood.
 #[derive(Clone, Copy, Debug, PartialEq, Eq)]
@@ -22,6 +25,9 @@ pub struct RejectPdu {
 
 /// The tag of the number of the request.
 const INVOKE: u8 = 0x80;
+
+/// The tag with the number 0.
+const FIRST_TAG: u8 = 0x80;
 
 /// The first and the last tag of a kind.
 const FIRST_KIND: u8 = 0x81;
@@ -59,4 +65,52 @@ fn maybe_invoke(octets: &[u8], at: usize) -> Result<(Option<u32>, usize, &[u8]),
     let part = take_part(octets, at, INVOKE)?;
     let invoke = part.unsigned()?;
     Ok((Some(invoke), part.head.next, part.rest))
+}
+
+/// How many octets [`put_reject_pdu`] appends.
+pub(crate) fn reject_pdu_len(reject: &RejectPdu) -> usize
+    ensures value { result ≡ length (reject_pdu_octets reject.now) }
+    ensures few { result ≤ 13 }
+{
+    some_invoke_len(reject.invoke) + 3
+}
+
+fn some_invoke_len(invoke: Option<u32>) -> usize
+    ensures value { result ≡ length (some_invoke_octets invoke) }
+    ensures few { result ≤ 10 }
+{
+    match invoke {
+        Some(invoke) => 2 + natural_len(u64::from(invoke)),
+        None => 0,
+    }
+}
+
+/// Appends a reject as the contents of an element.
+#[tactic(auto, using(crate::proofs::Pieces::extended), unfolding(crate::specs::Rejects::reject_pdu_octets))]
+pub(crate) fn put_reject_pdu(out: &mut Vec<u8>, reject: &RejectPdu) -> Result<(), AllocError>
+    requires { reject.now.kind ≤ 15 }
+    ensures ok { OnOk result (out.new.items ≡ out.old.items ++ reject_pdu_octets reject.now) }
+    ensures err { OnErr result (Extends out.old.items out.new.items) }
+{
+    put_some_invoke(out, reject.invoke)?;
+    put_reason(out, reject.kind, reject.code)
+}
+
+fn put_some_invoke(out: &mut Vec<u8>, invoke: Option<u32>) -> Result<(), AllocError>
+    ensures ok { OnOk result (out.new.items ≡ out.old.items ++ some_invoke_octets invoke) }
+    ensures err { OnErr result (out.new.items ≡ out.old.items) }
+{
+    match invoke {
+        Some(invoke) => write_natural(out, INVOKE, u64::from(invoke)),
+        None => Ok(()),
+    }
+}
+
+#[tactic(auto, unfolding(crate::specs::Rejects::reason_octets, ber_values::specs::Writing::length_octets))]
+fn put_reason(out: &mut Vec<u8>, kind: u8, code: u8) -> Result<(), AllocError>
+    requires { kind ≤ 15 }
+    ensures ok { OnOk result (out.new.items ≡ out.old.items ++ reason_octets kind code) }
+    ensures err { OnErr result (out.new.items ≡ out.old.items) }
+{
+    out.extend_from_slice(&[FIRST_TAG + kind, 1, code])
 }
