@@ -4,5 +4,8 @@ pub mod ReadLaws
 pub mod WriteLaws
 pub mod ReportLaws
 pub mod SpecsWritten
+pub mod ReadWritten
+pub mod WriteWritten
+pub mod ReportWritten
 mod WorkedAccess
 mod WorkedServices
