@@ -7,5 +7,7 @@ pub mod SpecsWritten
 pub mod ReadWritten
 pub mod WriteWritten
 pub mod ReportWritten
+pub mod Holding
+pub mod SpelledAccess
 mod WorkedAccess
 mod WorkedServices

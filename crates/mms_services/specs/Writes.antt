@@ -1,5 +1,6 @@
 -- Values that variables are to get (ISO 9506-2, Write).
-use Rattle.std.specs.Prelude.{◌≡◌, ℕ, ◌≤◌, List, [], ◌∷◌, ◌++◌, length, flat_map, Option, Some, None}
+use Rattle.std.specs.Prelude.{◌≡◌, ℕ, ◌≤◌, List, [], ◌∷◌, ◌++◌, length, flat_map}
+use Rattle.std.specs.Prelude.{Option, Some, None}
 use Rattle.std.specs.List.{All}
 use Rattle.ber_values.specs.Grammars.{Grammar, then_in, map_in}
 use Rattle.ber_values.specs.Parts.{Contents, part_in, choose_in, contents_as, all_in}
@@ -34,7 +35,9 @@ write_request = all_in
 
 -- the number of an error, or that the variable was written
 unfoldable pub one_written : Grammar (Option ℕ)
-one_written = choose_in 128 (contents_as Some octet) (part_in 129 (contents_as (λ u. None) (fixed [])))
+one_written =
+    choose_in 128 (contents_as Some octet)
+    (part_in 129 (contents_as (λ u. None) (fixed [])))
 
 unfoldable pub write_response : Contents WriteResponse
 write_response = contents_as write_answered (list_in 0 one_written)
