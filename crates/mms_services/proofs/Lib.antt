@@ -25,3 +25,5 @@ pub mod PdusRead
 pub mod NumberedRead
 mod WorkedPdus
 pub mod SetsWritten
+pub mod SpelledOthers
+pub mod SpelledPdus

@@ -16,3 +16,4 @@ pub mod Requests
 pub mod Responses
 pub mod Pdus
 pub mod Numbered
+pub mod Lawful

@@ -3,6 +3,7 @@ ghost use Rattle.std.specs.Prelude.{◌≡◌, ◌+◌, ◌^◌, ◌<◌, ◌≤
 ghost use Rattle.ber_values.specs.Stops.{Answers};
 ghost use Rattle.ber_values.specs.Readers.{IsReadBy, taken_from, taken_whole};
 ghost use Rattle.mms_services.specs.Pdus.{confirmed_request, confirmed_response, frame_pdu};
+ghost use Rattle.mms_services.specs.Lawful.{IsLawfulPdu};
 ghost use Rattle.mms_services.specs.Pdus.{one_pdu, pdu, IsInvokeOf, without_invoke};
 
 use crate::error::{ErrorPdu, error_pdu_from};
@@ -69,6 +70,8 @@ pub(crate) const INTEGER: u8 = 0x02;
 pub fn read_pdu(alloc: Global, bytes: &[u8]) -> Result<Result<MmsPdu, MmsFault>, AllocError>
     ensures exact { IfOk result (λ read. IsReadBy pdu (taken_whole 0 bytes.now) 0 bytes.now
         (without_invoke read)) }
+    // Lists and names have lengths that they may have, and data are lawful.
+    ensures lawful { IfOk result (λ read. IfOk read IsLawfulPdu) }
     // The number of a request is told whatever is wrong with its service.
     ensures invoke { IfOk result (λ read. IfErr read (λ fault. IsInvokeOf bytes.now fault.invoke)) }
 {
