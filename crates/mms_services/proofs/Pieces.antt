@@ -2,10 +2,10 @@
 use Rattle.std.proofs.Common.{◌≡◌, ℕ, zero, suc, ◌+◌, ◌<◌, ◌≤◌, List, [], ◌∷◌, ◌++◌, length, take, get_or, flat_map, sym, ap, ◌∙◌, arith}
 use Rattle.std.proofs.lemmas.List.{length-append}
 use Rattle.plain_text.proofs.Extended.{Extends-append}
-use Rattle.ber_values.specs.Lengths.{capped, part_size}
-use Rattle.ber_values.specs.Writing.{head_octets, written}
-use Rattle.ber_values.proofs.Capped.{capped-sum, capped-written, length-written, part_size-most}
-use Rattle.ber_values.proofs.WrittenParts.{each_written-more, element-written}
+use Rattle.ber_values.specs.Lengths.{capped}
+use Rattle.ber_values.specs.Writing.{written}
+use Rattle.ber_values.proofs.Capped.{capped-sum, length-written, part_size-most}
+use Rattle.ber_values.proofs.WrittenParts.{each_written-more}
 use Rattle.mms_data.specs.ObjectName.{ObjectName, IsName, IsScope, IsIdentifier}
 use Rattle.mms_data.specs.NameOctets.{item_octets, name_octets}
 use Rattle.mms_data.specs.declared.object_name.Scope.{Scope}

@@ -1,9 +1,9 @@
 -- What is written for specifications is read back.
-use Rattle.std.proofs.Common.{◌≡◌, ℕ, suc, ◌+◌, ◌≤◌, ◌<◌, ◌^◌, List, [], ◌∷◌, ◌++◌, length, flat_map, refl, arith}
+use Rattle.std.proofs.Common.{ℕ, suc, ◌≤◌, ◌<◌, ◌^◌, List, [], ◌∷◌, length, refl, arith}
 use Rattle.std.specs.List.{All}
 use Rattle.ber_values.specs.Writing.{written}
 use Rattle.ber_values.specs.Parts.{part_in, contents_as}
-use Rattle.ber_values.proofs.Capped.{length-written, part_size-most, part_size-more}
+use Rattle.ber_values.proofs.Capped.{length-written, part_size-most}
 use Rattle.ber_values.proofs.Grammars.{choose-written, choose-other}
 use Rattle.ber_values.proofs.WrittenParts.{Writes, ends_of, part-writes, all-spelled, WritesEach, WriteAll, list-spelled}
 use Rattle.mms_data.specs.ObjectName.{ObjectName, IsName}
