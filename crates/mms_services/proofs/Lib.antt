@@ -8,6 +8,11 @@ pub mod ReadLaws
 pub mod WriteLaws
 pub mod ReportLaws
 pub mod SpecsWritten
+pub mod ReadWritten
+pub mod WriteWritten
+pub mod ReportWritten
+pub mod Holding
+pub mod SpelledAccess
 mod WorkedAccess
 mod WorkedServices
 pub mod CodedRead

@@ -1,21 +1,32 @@
 //! Reads variables (ISO 9506-2, `Read`).
-ghost use Rattle.std.specs.Prelude.{◌≡◌, ◌+◌, ◌<◌, ◌≤◌, ◌^◌, length, IfOk};
+ghost use Rattle.std.specs.Prelude.{◌≡◌, ◌≢◌, ◌+◌, ◌%◌, ◌<◌, ◌≤◌, ◌^◌, ◌++◌, length, IfOk};
+ghost use Rattle.std.specs.Prelude.{OnOk, OnErr};
+ghost use Rattle.std.specs.List.{All};
+ghost use Rattle.plain_text.specs.Extends.{Extends};
+ghost use Rattle.ber_values.specs.declared.lengths.TheConstants.{MOST_LENGTH};
+ghost use Rattle.ber_values.specs.Lengths.{capped};
+ghost use Rattle.ber_values.specs.Writing.{written};
 ghost use Rattle.ber_values.specs.Faults.{Gives};
 ghost use Rattle.ber_values.specs.Grammars.{taken};
 ghost use Rattle.ber_values.specs.Parts.{maybe_in};
 ghost use Rattle.ber_values.specs.Lists.{count_in};
 ghost use Rattle.ber_values.specs.Readers.{taken_from};
 ghost use Rattle.ber_values.specs.Stops.{Answers};
-ghost use Rattle.mms_data.specs.OutcomeOctets.{one_outcome};
-ghost use Rattle.mms_services.specs.Specifications.{sole_spec};
+ghost use Rattle.mms_data.specs.OutcomeOctets.{one_outcome, IsLawfulOutcome};
+ghost use Rattle.mms_services.specs.Specifications.{sole_spec, spec_octets};
 ghost use Rattle.mms_services.specs.Reads.{echo_in, read_request, read_response};
+ghost use Rattle.mms_services.specs.Reads.{echo_octets, echoed_octets, outcomes_octets};
+ghost use Rattle.mms_services.specs.Reads.{read_request_octets, read_response_octets};
 
 use crate::missing::{short, surplus};
-use crate::spec::{Spec, spec_from};
-use ber_values::{BerFault, Part, Stop, has_tag, octets_from, take_end, take_part};
+use crate::spec::{Spec, put_spec, spec_from, spec_len};
+use ber_values::{
+    BerFault, MOST_LENGTH, Part, Stop, add_len, has_tag, octets_from, part_len, take_end,
+    take_part, write_boolean, write_head,
+};
 use item_list::ItemList;
-use mms_data::{Outcome, take_outcome};
-use std::alloc::Global;
+use mms_data::{Outcome, outcome_len, take_outcome, write_outcome};
+use std::alloc::{AllocError, Global};
 
 /// Outcomes of access in order.
 pub type Outcomes = ItemList<Outcome>;
@@ -121,4 +132,147 @@ pub(crate) fn outcomes_from(
         return Err(Stop::Fault(short(at)));
     }
     Ok(outcomes)
+}
+
+/// How many octets [`put_read_request`] appends, capped.
+pub(crate) fn read_request_len(request: &ReadRequest) -> usize
+    ensures { result ≡ capped (length (read_request_octets request.now)) }
+{
+    add_len(echo_len(request.echo), part_len(spec_len(&request.spec)))
+}
+
+#[tactic(auto, unfolding(crate::specs::Reads::echo_octets, ber_values::specs::Writing::length_octets))]
+fn echo_len(echo: bool) -> usize
+    ensures { result ≡ capped (length (echo_octets echo)) }
+{
+    if echo { 3 } else { 0 }
+}
+
+/// Appends the contents of a request.
+#[tactic(auto, using(crate::proofs::Pieces::extended))]
+pub(crate) fn put_read_request(out: &mut Vec<u8>, request: &ReadRequest) -> Result<(), AllocError>
+    requires { length (read_request_octets request.now) < MOST_LENGTH }
+    ensures ok { OnOk result (out.new.items ≡ out.old.items ++ read_request_octets request.now) }
+    ensures err { OnErr result (Extends out.old.items out.new.items) }
+{
+    put_echo(out, request.echo)?;
+    put_spec_part(out, 0xA1, &request.spec)?;
+    Ok(())
+}
+
+/// Appends that an echo is wanted, where one is.
+#[tactic(auto, unfolding(crate::specs::Reads::echo_octets))]
+fn put_echo(out: &mut Vec<u8>, echo: bool) -> Result<(), AllocError>
+    ensures ok { OnOk result (out.new.items ≡ out.old.items ++ echo_octets echo) }
+    ensures err { OnErr result (Extends out.old.items out.new.items) }
+{
+    if echo {
+        return write_boolean(out, 0x80, true);
+    }
+    Ok(())
+}
+
+/// Appends an element that is a specification.
+fn put_spec_part(out: &mut Vec<u8>, tag: u8, spec: &Spec) -> Result<(), AllocError>
+    requires single { tag % 32 ≢ 31 }
+    requires bounded { length (written tag (spec_octets spec.now)) < MOST_LENGTH }
+    ensures ok { OnOk result
+        (out.new.items ≡ out.old.items ++ written tag (spec_octets spec.now)) }
+    ensures err { OnErr result (Extends out.old.items out.new.items) }
+{
+    write_head(out, tag, spec_len(spec))?;
+    put_spec(out, spec)?;
+    Ok(())
+}
+
+/// How many octets [`put_read_response`] appends, capped.
+pub(crate) fn read_response_len(response: &ReadResponse) -> usize
+    requires { All IsLawfulOutcome response.now.results }
+    ensures { result ≡ capped (length (read_response_octets response.now)) }
+{
+    let results = outcomes_len(response.results.as_slice());
+    add_len(echoed_len(&response.spec), part_len(results))
+}
+
+fn echoed_len(spec: &Option<Spec>) -> usize
+    ensures { result ≡ capped (length (echoed_octets spec.now)) }
+{
+    match spec {
+        None => 0,
+        Some(spec) => part_len(spec_len(spec)),
+    }
+}
+
+/// How many octets [`put_outcomes`] appends, capped.
+#[tactic(auto, using(crate::proofs::Pieces::summed), unfolding(crate::specs::Reads::outcomes_octets))]
+pub(crate) fn outcomes_len(outcomes: &[Outcome]) -> usize
+    requires { All IsLawfulOutcome outcomes.now }
+    ensures { result ≡ capped (length (outcomes_octets outcomes.now)) }
+{
+    let mut len = 0;
+    for outcome in outcomes {
+        len = add_len(len, outcome_len(outcome));
+    }
+    len
+}
+
+/// Appends the contents of a response.
+#[tactic(auto, using(crate::proofs::Pieces::extended))]
+pub(crate) fn put_read_response(
+    out: &mut Vec<u8>,
+    response: &ReadResponse,
+) -> Result<(), AllocError>
+    requires lawful { All IsLawfulOutcome response.now.results }
+    requires bounded { length (read_response_octets response.now) < MOST_LENGTH }
+    ensures ok { OnOk result (out.new.items ≡ out.old.items ++ read_response_octets response.now) }
+    ensures err { OnErr result (Extends out.old.items out.new.items) }
+{
+    put_echoed(out, &response.spec)?;
+    put_outcomes_part(out, 0xA1, response.results.as_slice())?;
+    Ok(())
+}
+
+/// Appends the specification, where it is repeated.
+#[tactic(auto, unfolding(crate::specs::Reads::echoed_octets))]
+fn put_echoed(out: &mut Vec<u8>, spec: &Option<Spec>) -> Result<(), AllocError>
+    requires { length (echoed_octets spec.now) < MOST_LENGTH }
+    ensures ok { OnOk result (out.new.items ≡ out.old.items ++ echoed_octets spec.now) }
+    ensures err { OnErr result (Extends out.old.items out.new.items) }
+{
+    match spec {
+        None => Ok(()),
+        Some(spec) => put_spec_part(out, 0xA0, spec),
+    }
+}
+
+/// Appends an element that is outcomes.
+pub(crate) fn put_outcomes_part(
+    out: &mut Vec<u8>,
+    tag: u8,
+    outcomes: &[Outcome],
+) -> Result<(), AllocError>
+    requires single { tag % 32 ≢ 31 }
+    requires lawful { All IsLawfulOutcome outcomes.now }
+    requires bounded { length (written tag (outcomes_octets outcomes.now)) < MOST_LENGTH }
+    ensures ok { OnOk result
+        (out.new.items ≡ out.old.items ++ written tag (outcomes_octets outcomes.now)) }
+    ensures err { OnErr result (Extends out.old.items out.new.items) }
+{
+    write_head(out, tag, outcomes_len(outcomes))?;
+    put_outcomes(out, outcomes)?;
+    Ok(())
+}
+
+/// Appends outcomes, one after another.
+#[tactic(auto, using(crate::proofs::Pieces::written_each), unfolding(crate::specs::Reads::outcomes_octets))]
+fn put_outcomes(out: &mut Vec<u8>, outcomes: &[Outcome]) -> Result<(), AllocError>
+    requires lawful { All IsLawfulOutcome outcomes.now }
+    requires bounded { length (outcomes_octets outcomes.now) < MOST_LENGTH }
+    ensures ok { OnOk result (out.new.items ≡ out.old.items ++ outcomes_octets outcomes.now) }
+    ensures err { OnErr result (Extends out.old.items out.new.items) }
+{
+    for outcome in outcomes {
+        write_outcome(out, outcome)?;
+    }
+    Ok(())
 }

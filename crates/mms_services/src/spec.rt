@@ -43,7 +43,8 @@ pub(crate) fn spec_from(alloc: Global, part: &Part<'_>) -> Result<Spec, Stop>
 #[tactic(auto, unfolding(crate::specs::Specifications::specification, ber_values::specs::Parts::choose_in, ber_values::specs::Parts::part_in, ber_values::specs::Parts::contents_as, ber_values::specs::Grammars::branch_in))]
 pub(crate) fn take_spec(alloc: Global, octets: &[u8], at: usize) -> Result<(Spec, usize), Stop>
     requires { at + length octets.now < 2 ^ 64 }
-    ensures exact { Answers (taken_from at octets.now) result (specification.reading at octets.now) }
+    ensures exact { Answers (taken_from at octets.now) result
+        (specification.reading at octets.now) }
     ensures within { IfOk result (λ x. (at < x.1) × (x.1 ≤ at + length octets.now)) }
 {
     if has_tag(octets, 0xA0) {

@@ -1,18 +1,30 @@
 //! Writes variables (ISO 9506-2, `Write`).
-ghost use Rattle.std.specs.Prelude.{◌≡◌, ◌+◌, ◌<◌, ◌≤◌, ◌^◌, length, IfOk};
+ghost use Rattle.std.specs.Prelude.{◌≡◌, ◌≢◌, ◌+◌, ◌%◌, ◌<◌, ◌≤◌, ◌^◌, ◌++◌, length, IfOk};
+ghost use Rattle.std.specs.Prelude.{flat_map, OnOk, OnErr};
+ghost use Rattle.std.specs.List.{All};
+ghost use Rattle.plain_text.specs.Extends.{Extends};
+ghost use Rattle.ber_values.specs.declared.lengths.TheConstants.{MOST_LENGTH};
+ghost use Rattle.ber_values.specs.Lengths.{capped};
+ghost use Rattle.ber_values.specs.Writing.{written};
+ghost use Rattle.mms_data.specs.Lawful.{IsLawful};
 ghost use Rattle.ber_values.specs.Faults.{Gives};
 ghost use Rattle.ber_values.specs.Lists.{count_in, list_in};
 ghost use Rattle.ber_values.specs.Readers.{taken_from};
 ghost use Rattle.ber_values.specs.Stops.{Answers};
 ghost use Rattle.mms_data.specs.DataOctets.{one_datum};
 ghost use Rattle.mms_services.specs.Writes.{values_of, write_request, one_written, write_response};
+ghost use Rattle.mms_services.specs.Writes.{values_octets, write_request_octets};
+ghost use Rattle.mms_services.specs.Writes.{one_written_octets, write_response_octets};
 
 use crate::missing::{short, surplus};
-use crate::spec::{Spec, take_spec};
-use ber_values::{BerFault, Part, Stop, has_tag, octets_from, take_end, take_part};
+use crate::spec::{Spec, put_spec, spec_len, take_spec};
+use ber_values::{
+    BerFault, MOST_LENGTH, Part, Stop, add_len, has_tag, octets_from, part_len, take_end,
+    take_part, write_head, write_octets,
+};
 use item_list::ItemList;
-use mms_data::{DataList, take_data};
-use std::alloc::Global;
+use mms_data::{DataList, MmsData, data_len, take_data, write_data};
+use std::alloc::{AllocError, Global};
 
 /// Asks that variables get these values.
 #[derive(Debug, Drop)]
@@ -122,4 +134,131 @@ fn take_written(octets: &[u8], at: usize) -> Result<(Option<u8>, usize), BerFaul
     let part = take_part(octets, at, 0x81)?;
     part.fixed(&[])?;
     Ok((None, part.head.next))
+}
+
+/// How many octets [`put_write_request`] appends, capped.
+pub(crate) fn write_request_len(request: &WriteRequest) -> usize
+    requires { All IsLawful request.now.values }
+    ensures { result ≡ capped (length (write_request_octets request.now)) }
+{
+    let values = values_len(request.values.as_slice());
+    add_len(spec_len(&request.spec), part_len(values))
+}
+
+#[tactic(auto, using(crate::proofs::Pieces::summed), unfolding(crate::specs::Writes::values_octets))]
+fn values_len(values: &[MmsData]) -> usize
+    requires { All IsLawful values.now }
+    ensures { result ≡ capped (length (values_octets values.now)) }
+{
+    let mut len = 0;
+    for value in values {
+        len = add_len(len, data_len(value));
+    }
+    len
+}
+
+/// Appends the contents of a request.
+#[tactic(auto, using(crate::proofs::Pieces::extended))]
+pub(crate) fn put_write_request(out: &mut Vec<u8>, request: &WriteRequest) -> Result<(), AllocError>
+    requires lawful { All IsLawful request.now.values }
+    requires bounded { length (write_request_octets request.now) < MOST_LENGTH }
+    ensures ok { OnOk result (out.new.items ≡ out.old.items ++ write_request_octets request.now) }
+    ensures err { OnErr result (Extends out.old.items out.new.items) }
+{
+    put_spec(out, &request.spec)?;
+    put_values_part(out, request.values.as_slice())?;
+    Ok(())
+}
+
+/// Appends the element that is the values.
+fn put_values_part(out: &mut Vec<u8>, values: &[MmsData]) -> Result<(), AllocError>
+    requires lawful { All IsLawful values.now }
+    requires bounded { length (written 160 (values_octets values.now)) < MOST_LENGTH }
+    ensures ok { OnOk result
+        (out.new.items ≡ out.old.items ++ written 160 (values_octets values.now)) }
+    ensures err { OnErr result (Extends out.old.items out.new.items) }
+{
+    write_head(out, 0xA0, values_len(values))?;
+    put_values(out, values)?;
+    Ok(())
+}
+
+/// Appends data, one after another.
+#[tactic(auto, using(crate::proofs::Pieces::written_each), unfolding(crate::specs::Writes::values_octets))]
+fn put_values(out: &mut Vec<u8>, values: &[MmsData]) -> Result<(), AllocError>
+    requires lawful { All IsLawful values.now }
+    requires bounded { length (values_octets values.now) < MOST_LENGTH }
+    ensures ok { OnOk result (out.new.items ≡ out.old.items ++ values_octets values.now) }
+    ensures err { OnErr result (Extends out.old.items out.new.items) }
+{
+    for value in values {
+        write_data(out, value)?;
+    }
+    Ok(())
+}
+
+/// How many octets [`put_write_response`] appends, capped.
+#[tactic(auto, unfolding(crate::specs::Writes::write_response_octets))]
+pub(crate) fn write_response_len(response: &WriteResponse) -> usize
+    ensures { result ≡ capped (length (write_response_octets response.now)) }
+{
+    all_written_len(response.results.as_slice())
+}
+
+#[tactic(auto, using(crate::proofs::Pieces::summed))]
+fn all_written_len(results: &[Option<u8>]) -> usize
+    ensures { result ≡ capped (length (flat_map one_written_octets results.now)) }
+{
+    let mut len = 0;
+    for written in results {
+        len = add_len(len, written_len(written));
+    }
+    len
+}
+
+#[tactic(auto, unfolding(crate::specs::Writes::one_written_octets, ber_values::specs::Writing::length_octets))]
+fn written_len(written: &Option<u8>) -> usize
+    ensures { result ≡ capped (length (one_written_octets written.now)) }
+{
+    match written {
+        None => 2,
+        Some(_) => 3,
+    }
+}
+
+/// Appends the contents of a response.
+#[tactic(auto, unfolding(crate::specs::Writes::write_response_octets))]
+pub(crate) fn put_write_response(
+    out: &mut Vec<u8>,
+    response: &WriteResponse,
+) -> Result<(), AllocError>
+    ensures ok { OnOk result
+        (out.new.items ≡ out.old.items ++ write_response_octets response.now) }
+    ensures err { OnErr result (Extends out.old.items out.new.items) }
+{
+    put_all_written(out, response.results.as_slice())
+}
+
+/// Appends what came of each variable.
+#[tactic(auto, using(crate::proofs::Pieces::extended))]
+fn put_all_written(out: &mut Vec<u8>, results: &[Option<u8>]) -> Result<(), AllocError>
+    ensures ok { OnOk result
+        (out.new.items ≡ out.old.items ++ flat_map one_written_octets results.now) }
+    ensures err { OnErr result (Extends out.old.items out.new.items) }
+{
+    for written in results {
+        put_written(out, written)?;
+    }
+    Ok(())
+}
+
+#[tactic(auto, unfolding(crate::specs::Writes::one_written_octets))]
+fn put_written(out: &mut Vec<u8>, written: &Option<u8>) -> Result<(), AllocError>
+    ensures ok { OnOk result (out.new.items ≡ out.old.items ++ one_written_octets written.now) }
+    ensures err { OnErr result (Extends out.old.items out.new.items) }
+{
+    match written {
+        None => write_octets(out, 0x81, &[]),
+        Some(reason) => write_octets(out, 0x80, &[*reason]),
+    }
 }
