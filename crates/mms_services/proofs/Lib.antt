@@ -1,5 +1,6 @@
 pub mod Pieces
 pub mod ShortWritten
+pub mod NameListsSized
 pub mod ReadSpecs
 pub mod SetsRead
 mod WorkedSets

@@ -78,9 +78,12 @@ abbrev pub after_octets : Option (List ℕ) → List ℕ
 after_octets None = []
 after_octets (Some name) = written 130 name
 
+unfoldable pub in_scope_octets : Scope → List ℕ
+in_scope_octets scope = written 161 (scope_octets scope)
+
 unfoldable pub name_list_request_octets : NameListRequest → List ℕ
-name_list_request_octets r = class_octets r.class
-    ++ (written 161 (scope_octets r.scope) ++ after_octets r.after)
+name_list_request_octets r =
+    class_octets r.class ++ (in_scope_octets r.scope ++ after_octets r.after)
 
 -- a request that may be written: its names have one to 64 octets
 pub record IsNamedRequest (r : NameListRequest) : Type 0 where
@@ -96,8 +99,11 @@ names_octets names = flat_map listed_octets names
 unfoldable pub more_octets : Bool → List ℕ
 more_octets more = written 129 (boolean_octets more)
 
+unfoldable pub list_octets : List (List ℕ) → List ℕ
+list_octets names = written 160 (names_octets names)
+
 unfoldable pub name_list_response_octets : NameListResponse → List ℕ
-name_list_response_octets r = written 160 (names_octets r.names) ++ more_octets r.more
+name_list_response_octets r = list_octets r.names ++ more_octets r.more
 
 -- a response that may be written: its names have one to 64 octets
 abbrev pub IsNamedResponse : NameListResponse → Type 0

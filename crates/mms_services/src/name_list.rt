@@ -1,5 +1,9 @@
 //! Lists names of objects (ISO 9506-2, `GetNameList`).
-ghost use Rattle.std.specs.Prelude.{◌≡◌, ◌+◌, ◌-◌, ◌^◌, ◌<◌, ◌≤◌, length, drop, IfOk};
+ghost use Rattle.std.specs.Prelude.{◌≡◌, ◌+◌, ◌-◌, ◌^◌, ◌<◌, ◌≤◌, ◌++◌, length, drop, IfOk};
+ghost use Rattle.std.specs.Prelude.{OnOk, OnErr};
+ghost use Rattle.plain_text.specs.Extends.{Extends};
+ghost use Rattle.ber_values.specs.Lengths.{capped};
+ghost use Rattle.ber_values.specs.declared.lengths.TheConstants.{MOST_LENGTH};
 ghost use Rattle.ber_values.specs.Faults.{Gives};
 ghost use Rattle.ber_values.specs.Stops.{Answers};
 ghost use Rattle.ber_values.specs.Grammars.{taken};
@@ -8,14 +12,20 @@ ghost use Rattle.ber_values.specs.Readers.{taken_from};
 ghost use Rattle.mms_data.specs.NameOctets.{identifier};
 ghost use Rattle.mms_services.specs.NameLists.{object_class, one_scope, object_scope, after_name};
 ghost use Rattle.mms_services.specs.NameLists.{name_list_request, listed, more_names};
-ghost use Rattle.mms_services.specs.NameLists.{name_list_response};
+ghost use Rattle.mms_services.specs.NameLists.{name_list_response, class_octets, scope_octets};
+ghost use Rattle.mms_services.specs.NameLists.{in_scope_octets, after_octets};
+ghost use Rattle.mms_services.specs.NameLists.{name_list_request_octets, listed_octets};
+ghost use Rattle.mms_services.specs.NameLists.{names_octets, list_octets, more_octets};
+ghost use Rattle.mms_services.specs.NameLists.{name_list_response_octets, name_list_response_len};
 
 use ber_values::{
-    BerFault, Part, Stop, VISIBLE_LIMIT, Visible, has_tag, octets_from, take_end, take_part,
+    BerFault, Part, Stop, VISIBLE_LIMIT, Visible, add_len, has_tag, integer_len, octets_from,
+    part_len, take_end, take_part, write_boolean, write_head, write_integer, write_octets,
+    write_visible,
 };
 use item_list::ItemList;
 use mms_data::Scope;
-use std::alloc::Global;
+use std::alloc::{AllocError, Global};
 
 /// Asks for the names of the objects of a class in a scope.
 #[derive(Debug, Drop)]
@@ -157,6 +167,103 @@ fn identifier_from(alloc: Global, part: &Part<'_>) -> Result<Visible, Stop>
     part.visible_within(alloc, 1, VISIBLE_LIMIT)
 }
 
+/// How many octets [`put_name_list_request`] appends.
+pub(crate) fn name_list_request_len(request: &NameListRequest) -> usize
+    ensures value { result ≡ length (name_list_request_octets request.now) }
+    ensures few { result ≤ 146 }
+{
+    class_len(request.class) + in_scope_len(&request.scope) + after_len(&request.after)
+}
+
+fn class_len(class: i64) -> usize
+    ensures value { result ≡ length (class_octets class) }
+    ensures few { result ≤ 12 }
+{
+    4 + integer_len(class)
+}
+
+fn in_scope_len(scope: &Scope) -> usize
+    ensures value { result ≡ length (in_scope_octets scope.now) }
+    ensures few { result ≤ 68 }
+{
+    2 + scope_len(scope)
+}
+
+fn scope_len(scope: &Scope) -> usize
+    ensures value { result ≡ length (scope_octets scope.now) }
+    ensures few { result ≤ 66 }
+{
+    match scope {
+        Scope::Vmd => 2,
+        Scope::Domain(domain) => 2 + domain.as_slice().len(),
+        Scope::Association => 2,
+    }
+}
+
+fn after_len(after: &Option<Visible>) -> usize
+    ensures value { result ≡ length (after_octets after.now) }
+    ensures few { result ≤ 66 }
+{
+    match after {
+        Some(name) => 2 + name.as_slice().len(),
+        None => 0,
+    }
+}
+
+/// Appends a request as the contents of an element.
+#[tactic(auto, using(crate::proofs::Pieces::extended), unfolding(crate::specs::NameLists::name_list_request_octets))]
+pub(crate) fn put_name_list_request(
+    out: &mut Vec<u8>,
+    request: &NameListRequest,
+) -> Result<(), AllocError>
+    ensures ok { OnOk result
+        (out.new.items ≡ out.old.items ++ name_list_request_octets request.now) }
+    ensures err { OnErr result (Extends out.old.items out.new.items) }
+{
+    put_class(out, request.class)?;
+    put_in_scope(out, &request.scope)?;
+    put_after(out, &request.after)
+}
+
+fn put_class(out: &mut Vec<u8>, class: i64) -> Result<(), AllocError>
+    ensures ok { OnOk result (out.new.items ≡ out.old.items ++ class_octets class) }
+    ensures err { OnErr result (Extends out.old.items out.new.items) }
+{
+    write_head(out, CLASS, 2 + integer_len(class))?;
+    write_integer(out, BASIC_CLASS, class)?;
+    Ok(())
+}
+
+fn put_in_scope(out: &mut Vec<u8>, scope: &Scope) -> Result<(), AllocError>
+    ensures ok { OnOk result (out.new.items ≡ out.old.items ++ in_scope_octets scope.now) }
+    ensures err { OnErr result (Extends out.old.items out.new.items) }
+{
+    write_head(out, SCOPE, scope_len(scope))?;
+    put_scope(out, scope)?;
+    Ok(())
+}
+
+fn put_scope(out: &mut Vec<u8>, scope: &Scope) -> Result<(), AllocError>
+    ensures ok { OnOk result (out.new.items ≡ out.old.items ++ scope_octets scope.now) }
+    ensures err { OnErr result (out.new.items ≡ out.old.items) }
+{
+    match scope {
+        Scope::Vmd => write_octets(out, VMD, &[]),
+        Scope::Domain(domain) => write_visible(out, DOMAIN, domain),
+        Scope::Association => write_octets(out, ASSOCIATION, &[]),
+    }
+}
+
+fn put_after(out: &mut Vec<u8>, after: &Option<Visible>) -> Result<(), AllocError>
+    ensures ok { OnOk result (out.new.items ≡ out.old.items ++ after_octets after.now) }
+    ensures err { OnErr result (out.new.items ≡ out.old.items) }
+{
+    match after {
+        Some(name) => write_visible(out, AFTER, name),
+        None => Ok(()),
+    }
+}
+
 /// The response that the contents of an element are.
 #[tactic(auto, unfolding(crate::specs::NameLists::name_list_response, ber_values::specs::Parts::all_in, ber_values::specs::Parts::part_in, ber_values::specs::Grammars::then_in, ber_values::specs::Grammars::map_in))]
 pub(crate) fn name_list_response_from(
@@ -218,4 +325,71 @@ fn take_more(octets: &[u8], at: usize) -> Result<(bool, usize), BerFault>
     }
     let part = take_part(octets, at, MORE)?;
     Ok((part.boolean()?, part.head.next))
+}
+
+/// How many octets [`put_name_list_response`] appends, or [`MOST_LENGTH`] where they would be as
+/// many or more.
+pub(crate) fn name_list_response_len(response: &NameListResponse) -> usize
+    ensures { result ≡ name_list_response_len response.now }
+{
+    add_len(list_len(&response.names), 3)
+}
+
+fn list_len(names: &ItemList<Visible>) -> usize
+    ensures { result ≡ capped (length (list_octets names.now)) }
+{
+    part_len(names_len(names.as_slice()))
+}
+
+#[tactic(auto, using(crate::proofs::Pieces::summed), unfolding(crate::specs::NameLists::names_octets))]
+fn names_len(names: &[Visible]) -> usize
+    ensures { result ≡ capped (length (names_octets names.now)) }
+{
+    let mut len = 0;
+    for name in names {
+        len = add_len(len, listed_len(name));
+    }
+    len
+}
+
+fn listed_len(name: &Visible) -> usize
+    ensures { result ≡ capped (length (listed_octets name.now)) }
+{
+    2 + name.as_slice().len()
+}
+
+/// Appends a response as the contents of an element.
+#[tactic(auto, using(crate::proofs::Pieces::extended), unfolding(crate::specs::NameLists::name_list_response_octets, crate::specs::NameLists::more_octets))]
+pub(crate) fn put_name_list_response(
+    out: &mut Vec<u8>,
+    response: &NameListResponse,
+) -> Result<(), AllocError>
+    requires { length (name_list_response_octets response.now) < MOST_LENGTH }
+    ensures ok { OnOk result
+        (out.new.items ≡ out.old.items ++ name_list_response_octets response.now) }
+    ensures err { OnErr result (Extends out.old.items out.new.items) }
+{
+    put_list(out, &response.names)?;
+    write_boolean(out, MORE, response.more)
+}
+
+fn put_list(out: &mut Vec<u8>, names: &ItemList<Visible>) -> Result<(), AllocError>
+    requires { length (list_octets names.now) < MOST_LENGTH }
+    ensures ok { OnOk result (out.new.items ≡ out.old.items ++ list_octets names.now) }
+    ensures err { OnErr result (Extends out.old.items out.new.items) }
+{
+    write_head(out, NAMES, names_len(names.as_slice()))?;
+    put_names(out, names.as_slice())?;
+    Ok(())
+}
+
+#[tactic(auto, using(crate::proofs::Pieces::written_each), unfolding(crate::specs::NameLists::names_octets, crate::specs::NameLists::listed_octets))]
+fn put_names(out: &mut Vec<u8>, names: &[Visible]) -> Result<(), AllocError>
+    ensures ok { OnOk result (out.new.items ≡ out.old.items ++ names_octets names.now) }
+    ensures err { OnErr result (Extends out.old.items out.new.items) }
+{
+    for name in names {
+        write_visible(out, VISIBLE_STRING, name)?;
+    }
+    Ok(())
 }
