@@ -17,3 +17,4 @@ pub mod Responses
 pub mod Pdus
 pub mod Numbered
 pub mod Lawful
+pub mod PduOctets

@@ -29,7 +29,7 @@ pub use initiate::{Initiate, LEAST_DETAIL, MOST_DETAIL, MOST_NESTING, MOST_SERVI
 pub use laws::pdus_have_one_reading;
 pub use members::{MembersRequest, MembersResponse};
 pub use name_list::{NameListRequest, NameListResponse};
-pub use pdu::{MmsPdu, read_pdu};
+pub use pdu::{MmsPdu, pdu_len, read_pdu, write_pdu};
 pub use read::{Outcomes, ReadRequest, ReadResponse};
 pub use reject::RejectPdu;
 pub use report::ReportPdu;

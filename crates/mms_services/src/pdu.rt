@@ -1,19 +1,30 @@
 //! PDUs (ISO 9506-2, `MMSpdu`).
-ghost use Rattle.std.specs.Prelude.{◌≡◌, ◌+◌, ◌^◌, ◌<◌, ◌≤◌, length, IfOk, IfErr};
+ghost use Rattle.std.specs.Prelude.{◌≡◌, ◌+◌, ◌^◌, ◌<◌, ◌≤◌, ◌≢◌, ◌%◌, ◌++◌, length};
+ghost use Rattle.std.specs.Prelude.{IfOk, IfErr, OnOk, OnErr};
+ghost use Rattle.plain_text.specs.Extends.{Extends};
+ghost use Rattle.ber_values.specs.Lengths.{capped};
+ghost use Rattle.ber_values.specs.declared.lengths.TheConstants.{MOST_LENGTH};
+ghost use Rattle.mms_services.specs.Lawful.{IsLawfulRequest, IsLawfulResponse};
+ghost use Rattle.mms_services.specs.PduOctets.{request_octets, response_octets, invoke_octets};
+ghost use Rattle.mms_services.specs.PduOctets.{pdu_tag, pdu_contents, pdu_octets, pdu_len};
+ghost use Rattle.mms_services.specs.PduOctets.{IsWritable};
 ghost use Rattle.ber_values.specs.Stops.{Answers};
 ghost use Rattle.ber_values.specs.Readers.{IsReadBy, taken_from, taken_whole};
 ghost use Rattle.mms_services.specs.Pdus.{confirmed_request, confirmed_response, frame_pdu};
 ghost use Rattle.mms_services.specs.Lawful.{IsLawfulPdu};
 ghost use Rattle.mms_services.specs.Pdus.{one_pdu, pdu, IsInvokeOf, without_invoke};
 
-use crate::error::{ErrorPdu, error_pdu_from};
+use crate::error::{ErrorPdu, error_pdu_from, error_pdu_len, put_error_pdu};
 use crate::fault::{MmsFault, numbered};
-use crate::initiate::{Initiate, initiate_from};
-use crate::reject::{RejectPdu, reject_pdu_from};
-use crate::report::{ReportPdu, report_pdu_from};
-use crate::request::{Request, take_request};
-use crate::response::{Response, take_response};
-use ber_values::{Part, Stop, has_tag, octets_from, settle, take_end, take_part};
+use crate::initiate::{Initiate, initiate_from, initiate_len, put_initiate};
+use crate::reject::{RejectPdu, put_reject_pdu, reject_pdu_from, reject_pdu_len};
+use crate::report::{ReportPdu, put_report_pdu, report_pdu_from, report_pdu_len};
+use crate::request::{Request, put_request, request_len, take_request};
+use crate::response::{Response, put_response, response_len, take_response};
+use ber_values::{
+    MOST_LENGTH, Part, Stop, add_len, has_tag, natural_len, octets_from, part_len, settle,
+    take_end, take_part, write_head, write_natural,
+};
 use std::alloc::{AllocError, Global};
 
 /// A protocol data unit.
@@ -182,4 +193,162 @@ fn confirmed_response_from(alloc: Global, part: &Part<'_>) -> Result<MmsPdu, Sto
     let (response, next) = take_response(alloc, number.rest, number.head.next)?;
     take_end(octets_from(number.rest, number.head.next, next), next)?;
     Ok(MmsPdu::Response { invoke, response })
+}
+
+/// How many octets [`write_pdu`] appends, or 4,294,967,295 where they would be as many or more. The
+/// PDU is one that may be written.
+pub fn pdu_len(pdu: &MmsPdu) -> usize
+    requires { IsWritable pdu.now }
+    ensures { result ≡ pdu_len pdu.now }
+{
+    part_len(contents_len(pdu))
+}
+
+/// How many octets the contents of a PDU have, capped.
+fn contents_len(pdu: &MmsPdu) -> usize
+    requires { IsWritable pdu.now }
+    ensures value { result ≡ capped (length (pdu_contents pdu.now)) }
+    ensures few { result ≤ MOST_LENGTH }
+{
+    match pdu {
+        MmsPdu::Request { invoke, request } => confirmed_request_len(*invoke, request),
+        MmsPdu::Response { invoke, response } => confirmed_response_len(*invoke, response),
+        MmsPdu::Error(error) => error_pdu_len(error),
+        MmsPdu::Report(report) => report_pdu_len(report),
+        MmsPdu::Reject(reject) => reject_pdu_len(reject),
+        MmsPdu::Initiate(offer) => initiate_len(offer),
+        MmsPdu::Initiated(offer) => initiate_len(offer),
+        MmsPdu::InitiateError => 0,
+        MmsPdu::Conclude => 0,
+        MmsPdu::Concluded => 0,
+    }
+}
+
+fn confirmed_request_len(invoke: u32, request: &Request) -> usize
+    requires { IsLawfulRequest request.now }
+    ensures value { result
+        ≡ capped (length (invoke_octets invoke ++ request_octets request.now)) }
+    ensures few { result ≤ MOST_LENGTH }
+{
+    add_len(invoke_len(invoke), request_len(request))
+}
+
+fn confirmed_response_len(invoke: u32, response: &Response) -> usize
+    requires { IsLawfulResponse response.now }
+    ensures value { result
+        ≡ capped (length (invoke_octets invoke ++ response_octets response.now)) }
+    ensures few { result ≤ MOST_LENGTH }
+{
+    add_len(invoke_len(invoke), response_len(response))
+}
+
+/// How many octets the number of a request has as an element.
+fn invoke_len(invoke: u32) -> usize
+    ensures value { result ≡ capped (length (invoke_octets invoke)) }
+    ensures few { result ≤ 10 }
+{
+    2 + natural_len(u64::from(invoke))
+}
+
+/// The tag of a PDU.
+fn pdu_tag(pdu: &MmsPdu) -> u8
+    ensures value { result ≡ pdu_tag pdu.now }
+    ensures single { result % 32 ≢ 31 }
+{
+    match pdu {
+        MmsPdu::Request { .. } => REQUEST,
+        MmsPdu::Response { .. } => RESPONSE,
+        MmsPdu::Error(_) => ERROR,
+        MmsPdu::Report(_) => REPORT,
+        MmsPdu::Reject(_) => REJECT,
+        MmsPdu::Initiate(_) => INITIATE,
+        MmsPdu::Initiated(_) => INITIATED,
+        MmsPdu::InitiateError => INITIATE_ERROR,
+        MmsPdu::Conclude => CONCLUDE,
+        MmsPdu::Concluded => CONCLUDED,
+    }
+}
+
+/// Appends a PDU. An initiate has version 1, its detail and its nesting; a request isn't unknown;
+/// that no association begins isn't written. After want of memory `out` is as before.
+pub fn write_pdu(out: &mut Vec<u8>, pdu: &MmsPdu) -> Result<(), AllocError>
+    requires writable { IsWritable pdu.now }
+    requires bounded { pdu_len pdu.now < MOST_LENGTH }
+    ensures ok { OnOk result (out.new.items ≡ out.old.items ++ pdu_octets pdu.now) }
+    ensures err { OnErr result (out.new.items ≡ out.old.items) }
+{
+    let before = out.len();
+    let written = put_pdu(out, pdu);
+    if written.is_err() {
+        out.truncate(before);
+    }
+    written
+}
+
+#[tactic(auto, using(crate::proofs::Pieces::extended))]
+fn put_pdu(out: &mut Vec<u8>, pdu: &MmsPdu) -> Result<(), AllocError>
+    requires writable { IsWritable pdu.now }
+    requires bounded { pdu_len pdu.now < MOST_LENGTH }
+    ensures ok { OnOk result (out.new.items ≡ out.old.items ++ pdu_octets pdu.now) }
+    ensures err { OnErr result (Extends out.old.items out.new.items) }
+{
+    write_head(out, pdu_tag(pdu), contents_len(pdu))?;
+    put_contents(out, pdu)?;
+    Ok(())
+}
+
+/// Appends the contents of a PDU.
+fn put_contents(out: &mut Vec<u8>, pdu: &MmsPdu) -> Result<(), AllocError>
+    requires writable { IsWritable pdu.now }
+    requires bounded { length (pdu_contents pdu.now) < MOST_LENGTH }
+    ensures ok { OnOk result (out.new.items ≡ out.old.items ++ pdu_contents pdu.now) }
+    ensures err { OnErr result (Extends out.old.items out.new.items) }
+{
+    match pdu {
+        MmsPdu::Request { invoke, request } => put_confirmed_request(out, *invoke, request),
+        MmsPdu::Response { invoke, response } => put_confirmed_response(out, *invoke, response),
+        MmsPdu::Error(error) => put_error_pdu(out, error),
+        MmsPdu::Report(report) => put_report_pdu(out, report),
+        MmsPdu::Reject(reject) => put_reject_pdu(out, reject),
+        MmsPdu::Initiate(offer) => put_initiate(out, offer),
+        MmsPdu::Initiated(offer) => put_initiate(out, offer),
+        MmsPdu::InitiateError => Ok(()),
+        MmsPdu::Conclude => Ok(()),
+        MmsPdu::Concluded => Ok(()),
+    }
+}
+
+#[tactic(auto, using(crate::proofs::Pieces::extended), unfolding(crate::specs::PduOctets::invoke_octets))]
+fn put_confirmed_request(
+    out: &mut Vec<u8>,
+    invoke: u32,
+    request: &Request,
+) -> Result<(), AllocError>
+    requires lawful { IsLawfulRequest request.now }
+    requires bounded { length (invoke_octets invoke ++ request_octets request.now) < MOST_LENGTH }
+    ensures ok { OnOk result
+        (out.new.items ≡ out.old.items ++ (invoke_octets invoke ++ request_octets request.now)) }
+    ensures err { OnErr result (Extends out.old.items out.new.items) }
+{
+    write_natural(out, INTEGER, u64::from(invoke))?;
+    put_request(out, request)?;
+    Ok(())
+}
+
+#[tactic(auto, using(crate::proofs::Pieces::extended), unfolding(crate::specs::PduOctets::invoke_octets))]
+fn put_confirmed_response(
+    out: &mut Vec<u8>,
+    invoke: u32,
+    response: &Response,
+) -> Result<(), AllocError>
+    requires lawful { IsLawfulResponse response.now }
+    requires bounded { length (invoke_octets invoke ++ response_octets response.now)
+        < MOST_LENGTH }
+    ensures ok { OnOk result
+        (out.new.items ≡ out.old.items ++ (invoke_octets invoke ++ response_octets response.now)) }
+    ensures err { OnErr result (Extends out.old.items out.new.items) }
+{
+    write_natural(out, INTEGER, u64::from(invoke))?;
+    put_response(out, response)?;
+    Ok(())
 }

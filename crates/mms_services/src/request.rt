@@ -1,5 +1,11 @@
 //! Requests of services (ISO 9506-2, `ConfirmedServiceRequest`).
-ghost use Rattle.std.specs.Prelude.{◌≡◌, ◌+◌, ◌-◌, ◌^◌, ◌<◌, ◌≤◌, length, drop, IfOk};
+ghost use Rattle.std.specs.Prelude.{◌≡◌, ◌+◌, ◌-◌, ◌^◌, ◌<◌, ◌≤◌, ◌≢◌, ◌%◌, ◌++◌, length};
+ghost use Rattle.std.specs.Prelude.{drop, IfOk, OnOk, OnErr};
+ghost use Rattle.plain_text.specs.Extends.{Extends};
+ghost use Rattle.ber_values.specs.Lengths.{capped};
+ghost use Rattle.ber_values.specs.declared.lengths.TheConstants.{MOST_LENGTH};
+ghost use Rattle.mms_services.specs.Lawful.{IsLawfulRequest};
+ghost use Rattle.mms_services.specs.PduOctets.{request_tag, request_contents, request_octets};
 ghost use Rattle.ber_values.specs.Faults.{Gives, fault_at};
 ghost use Rattle.ber_values.specs.Stops.{Answers};
 ghost use Rattle.ber_values.specs.Grammars.{taken, first_is, why_refused};
@@ -8,16 +14,22 @@ ghost use Rattle.mms_services.specs.declared.request.Request.TheVariants as serv
 ghost use Rattle.mms_services.specs.Requests.{is_context, unknown_request, set_request};
 ghost use Rattle.mms_services.specs.Requests.{one_request};
 
-use crate::define::{DefineRequest, define_request_from};
-use crate::delete::{DeleteRequest, delete_request_from};
+use crate::define::{DefineRequest, define_request_from, define_request_len, put_define_request};
+use crate::delete::{DeleteRequest, delete_request_from, delete_request_len, put_delete_request};
 use crate::identify::identify_request_from;
-use crate::members::{MembersRequest, members_request_from};
+use crate::members::{
+    MembersRequest, members_request_from, members_request_len, put_members_request,
+};
 use crate::missing::{short, surplus};
-use crate::name_list::{NameListRequest, name_list_request_from};
-use crate::read::{ReadRequest, read_request_from};
-use crate::write::{WriteRequest, write_request_from};
-use ber_values::{BerFault, Stop, has_tag, skip_part, take_part};
-use std::alloc::Global;
+use crate::name_list::{
+    NameListRequest, name_list_request_from, name_list_request_len, put_name_list_request,
+};
+use crate::read::{ReadRequest, put_read_request, read_request_from, read_request_len};
+use crate::write::{WriteRequest, put_write_request, write_request_from, write_request_len};
+use ber_values::{
+    BerFault, MOST_LENGTH, Stop, has_tag, part_len, skip_part, take_part, write_head,
+};
+use std::alloc::{AllocError, Global};
 
 /// What a service is asked for.
 #[derive(Debug, Drop)]
@@ -148,5 +160,81 @@ fn refused(octets: &[u8], at: usize) -> BerFault
         short(at)
     } else {
         surplus(at)
+    }
+}
+
+/// The tag of a request. A service that isn't known has none of its own.
+fn request_tag(request: &Request) -> u8
+    ensures value { result ≡ request_tag request.now }
+    ensures single { result % 32 ≢ 31 }
+{
+    match request {
+        Request::NameList(_) => NAME_LIST,
+        Request::Identify => IDENTIFY,
+        Request::Read(_) => READ,
+        Request::Write(_) => WRITE,
+        Request::Define(_) => DEFINE,
+        Request::MembersOf(_) => MEMBERS,
+        Request::Delete(_) => DELETE,
+        Request::Unknown => 0x80,
+    }
+}
+
+/// How many octets the contents of a request have, capped.
+fn contents_len(request: &Request) -> usize
+    requires { IsLawfulRequest request.now }
+    ensures value { result ≡ capped (length (request_contents request.now)) }
+    ensures few { result ≤ MOST_LENGTH }
+{
+    match request {
+        Request::NameList(request) => name_list_request_len(request),
+        Request::Identify => 0,
+        Request::Read(request) => read_request_len(request),
+        Request::Write(request) => write_request_len(request),
+        Request::Define(request) => define_request_len(request),
+        Request::MembersOf(request) => members_request_len(request),
+        Request::Delete(request) => delete_request_len(request),
+        Request::Unknown => 0,
+    }
+}
+
+/// How many octets [`put_request`] appends, capped.
+pub(crate) fn request_len(request: &Request) -> usize
+    requires { IsLawfulRequest request.now }
+    ensures value { result ≡ capped (length (request_octets request.now)) }
+    ensures few { result ≤ MOST_LENGTH }
+{
+    part_len(contents_len(request))
+}
+
+/// Appends a request.
+#[tactic(auto, using(crate::proofs::Pieces::extended))]
+pub(crate) fn put_request(out: &mut Vec<u8>, request: &Request) -> Result<(), AllocError>
+    requires lawful { IsLawfulRequest request.now }
+    requires bounded { length (request_octets request.now) < MOST_LENGTH }
+    ensures ok { OnOk result (out.new.items ≡ out.old.items ++ request_octets request.now) }
+    ensures err { OnErr result (Extends out.old.items out.new.items) }
+{
+    write_head(out, request_tag(request), contents_len(request))?;
+    put_contents(out, request)?;
+    Ok(())
+}
+
+/// Appends the contents of a request.
+fn put_contents(out: &mut Vec<u8>, request: &Request) -> Result<(), AllocError>
+    requires lawful { IsLawfulRequest request.now }
+    requires bounded { length (request_contents request.now) < MOST_LENGTH }
+    ensures ok { OnOk result (out.new.items ≡ out.old.items ++ request_contents request.now) }
+    ensures err { OnErr result (Extends out.old.items out.new.items) }
+{
+    match request {
+        Request::NameList(request) => put_name_list_request(out, request),
+        Request::Identify => Ok(()),
+        Request::Read(request) => put_read_request(out, request),
+        Request::Write(request) => put_write_request(out, request),
+        Request::Define(request) => put_define_request(out, request),
+        Request::MembersOf(request) => put_members_request(out, request),
+        Request::Delete(request) => put_delete_request(out, request),
+        Request::Unknown => Ok(()),
     }
 }
