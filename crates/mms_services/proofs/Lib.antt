@@ -21,6 +21,8 @@ pub mod IdentitiesRead
 pub mod InitiatesRead
 pub mod NameListsRead
 pub mod RejectsRead
+pub mod ShortSpelled
+pub mod NameListsSpelled
 mod WorkedNegotiations
 pub mod PdusRead
 pub mod NumberedRead
