@@ -24,6 +24,7 @@ pub mod RejectsRead
 pub mod ShortSpelled
 pub mod NameListsSpelled
 mod WorkedNegotiations
+mod WorkedWritten
 pub mod PdusRead
 pub mod NumberedRead
 mod WorkedPdus

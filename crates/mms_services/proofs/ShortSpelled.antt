@@ -233,8 +233,7 @@ identify_response-spelled at =
     (then-ends (part_in 128 visible) (λ v. then_in (part_in 129 visible) (λ m. then_in (part_in 130 visible) (λ r. some_syntaxes))) at vendor one tt (two ++ three)
     (part-writes 128 visible at vendor vendor (omega arith) (vendor-spelled _))
     (then-ends (part_in 129 visible) (λ m. then_in (part_in 130 visible) (λ r. some_syntaxes)) next model two tt three
-    (part-writes 129 visible next model model (omega arith) (model-spelled _))
-    (
+    (part-writes 129 visible next model model (omega arith) (model-spelled _)) (
       taken revision end [],
       ends_of (part_in 130 visible) last revision three (part-writes 130 visible last revision revision (omega arith) (revision-spelled _)),
       no_syntaxes end,
