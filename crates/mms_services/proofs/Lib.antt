@@ -21,7 +21,10 @@ pub mod IdentitiesRead
 pub mod InitiatesRead
 pub mod NameListsRead
 pub mod RejectsRead
+pub mod ShortSpelled
+pub mod NameListsSpelled
 mod WorkedNegotiations
+mod WorkedWritten
 pub mod PdusRead
 pub mod NumberedRead
 mod WorkedPdus

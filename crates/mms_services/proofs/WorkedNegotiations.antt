@@ -159,3 +159,27 @@ most_granted : granted (record {
   version = pos 1;
 }
 most_granted = refl
+
+-- the most levels of data where the called end's services must stand
+called_missing : initiate.reading (at_place 2) (129 ∷ 1 ∷ 1 ∷ 131 ∷ 1 ∷ 5 ∷ []) ≡ Err (fault_at 5 whys.Tag)
+unfolding at_place initiate then_in branch_in gives maybe_in part_in parted_in sized_part_in length_in all_in integer integer_in
+called_missing = refl
+
+-- a scope of the whole device has no contents
+scope_too_long : name_list_request.reading (at_place 2) (160 ∷ 3 ∷ 128 ∷ 1 ∷ 0 ∷ 161 ∷ 3 ∷ 128 ∷ 1 ∷ 0 ∷ []) ≡ Err (fault_at 10 whys.Length)
+unfolding at_place name_list_request object_class object_scope one_scope then_in branch_in choose_in part_in parted_in sized_part_in length_in all_in contents_as integer integer_in fixed
+scope_too_long = refl
+
+-- a name has an octet at least
+empty_name : name_list_response.reading (at_place 2) (160 ∷ 2 ∷ 26 ∷ 0 ∷ []) ≡ Err (fault_at 5 whys.Length)
+unfolding at_place name_list_response listed identifier then_in part_in parted_in sized_part_in length_in all_in list_in more_in visible_within text_in
+empty_name = refl
+
+-- identify is answered with three texts, and nothing else after the abstract syntaxes
+two_texts : identify_response.reading (at_place 2) (128 ∷ 0 ∷ 129 ∷ 0 ∷ []) ≡ Err (fault_at 6 whys.Short)
+unfolding at_place identify_response then_in part_in parted_in sized_part_in length_in all_in visible visible_in
+two_texts = refl
+
+after_syntaxes : identify_response.reading (at_place 2) (128 ∷ 0 ∷ 129 ∷ 0 ∷ 130 ∷ 0 ∷ 163 ∷ 0 ∷ 163 ∷ 0 ∷ []) ≡ Err (fault_at 10 whys.Tag)
+unfolding at_place identify_response some_syntaxes then_in map_in branch_in maybe_in part_in parted_in sized_part_in length_in all_in visible visible_in raw
+after_syntaxes = refl
