@@ -31,3 +31,4 @@ mod WorkedPdus
 pub mod SetsWritten
 pub mod SpelledOthers
 pub mod SpelledPdus
+pub mod PdusWritten

@@ -194,7 +194,7 @@ delete_request-spelled at r lists named few = by_scope (is_specific r.scope) ref
 
 -- ---- what is written for its response
 
-unsigned-written : (tag at n : ℕ) → n < 2 ^ 32
+pub unsigned-written : (tag at n : ℕ) → n < 2 ^ 32
     → Writes (part_in tag unsigned) at n (written tag (integer_octets (pos n)))
 unfolding unsigned
 unsigned-written tag at n few =

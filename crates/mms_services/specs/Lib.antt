@@ -18,3 +18,4 @@ pub mod Pdus
 pub mod Numbered
 pub mod Lawful
 pub mod PduOctets
+pub mod Held
