@@ -1,0 +1,38 @@
+-- Requests of services (ISO 9506-2, ConfirmedServiceRequest).
+use Rattle.std.specs.Prelude.{ℕ, ◌/◌, Bool, ◌==◌}
+use Rattle.ber_values.specs.Grammars.{Grammar, map_in, branch_in, first_is, refused, skip}
+use Rattle.ber_values.specs.Parts.{choose_in, contents_as}
+use Rattle.mms_services.specs.declared.request.Request.{Request}
+use Rattle.mms_services.specs.declared.request.Request.TheVariants as services
+use Rattle.mms_services.specs.NameLists.{name_list_request}
+use Rattle.mms_services.specs.Identities.{identify_request}
+use Rattle.mms_services.specs.Reads.{read_request}
+use Rattle.mms_services.specs.Writes.{write_request}
+use Rattle.mms_services.specs.Defines.{define_request}
+use Rattle.mms_services.specs.MemberLists.{members_request}
+use Rattle.mms_services.specs.Deletes.{delete_request}
+
+-- whether an element with this first octet is of the context class
+abbrev pub is_context : ℕ → Bool
+is_context first = first / 64 == 2
+
+-- any other service: an element of the context class with a sound head
+unfoldable pub unknown_request : Grammar Request
+unknown_request = branch_in (first_is is_context) (map_in (λ u. services.Unknown) skip) refused
+
+-- a service of named variable lists, or another one
+unfoldable pub set_request : Grammar Request
+set_request =
+    choose_in 171 (contents_as services.Define define_request)
+    (choose_in 172 (contents_as services.MembersOf members_request)
+    (choose_in 173 (contents_as services.Delete delete_request)
+    unknown_request))
+
+-- a service, by its tag
+unfoldable pub one_request : Grammar Request
+one_request =
+    choose_in 161 (contents_as services.NameList name_list_request)
+    (choose_in 130 (contents_as (λ u. services.Identify) identify_request)
+    (choose_in 164 (contents_as services.Read read_request)
+    (choose_in 165 (contents_as services.Write write_request)
+    set_request)))
