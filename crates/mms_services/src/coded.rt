@@ -8,10 +8,10 @@ use crate::missing::{short, surplus};
 use ber_values::{BerFault, take_part};
 
 /// The tag with the number 0 of those that are particular to their container.
-const FIRST_TAG: u8 = 0x80;
+pub(crate) const FIRST_TAG: u8 = 0x80;
 
 /// A code, and the number of the tag that it has.
-#[derive(Clone, Copy, Debug, PartialEq, Eq)]
+#[derive(Clone, Copy)]
 pub(crate) struct Coded {
     pub number: u8,
     pub code: u8,

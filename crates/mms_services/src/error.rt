@@ -4,7 +4,7 @@ ghost use Rattle.plain_text.specs.Extends.{Extends};
 ghost use Rattle.mms_services.specs.Errors.{error_class, service_error, error_pdu};
 ghost use Rattle.mms_services.specs.Errors.{service_error_octets, error_pdu_octets};
 
-use crate::coded::{Coded, take_coded};
+use crate::coded::{Coded, FIRST_TAG, take_coded};
 use ber_values::{
     BerFault, Part, natural_len, octets_from, skip_parts, take_end, take_part, write_natural,
 };
@@ -30,9 +30,7 @@ const SERVICE_ERROR: u8 = 0xA2;
 /// The tag of the error's class and code.
 const ERROR_CLASS: u8 = 0xA0;
 
-/// The first and the last tag of a class.
-const FIRST_CLASS: u8 = 0x80;
-
+/// The last tag of a class.
 const LAST_CLASS: u8 = 0x8F;
 
 /// The error that the contents of an element are.
@@ -78,7 +76,7 @@ fn error_class_from(part: &Part<'_>) -> Result<Coded, BerFault>
     requires { part.now.head.body + length part.now.contents.now < 2 ^ 64 }
     ensures { result ≡ error_class.reading part.now.head part.now.contents.now }
 {
-    let (error, next, rest) = take_coded(part.contents, part.head.body, FIRST_CLASS, LAST_CLASS)?;
+    let (error, next, rest) = take_coded(part.contents, part.head.body, FIRST_TAG, LAST_CLASS)?;
     take_end(rest, next)?;
     Ok(error)
 }
@@ -108,13 +106,5 @@ fn put_service_error(out: &mut Vec<u8>, class: u8, code: u8) -> Result<(), Alloc
     ensures ok { OnOk result (out.new.items ≡ out.old.items ++ service_error_octets class code) }
     ensures err { OnErr result (out.new.items ≡ out.old.items) }
 {
-    out.extend_from_slice(&[
-        SERVICE_ERROR,
-        5,
-        ERROR_CLASS,
-        3,
-        FIRST_CLASS + class,
-        1,
-        code,
-    ])
+    out.extend_from_slice(&[SERVICE_ERROR, 5, ERROR_CLASS, 3, FIRST_TAG + class, 1, code])
 }

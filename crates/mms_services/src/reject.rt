@@ -8,7 +8,7 @@ ghost use Rattle.ber_values.specs.Leaves.{unsigned};
 ghost use Rattle.mms_services.specs.Rejects.{reject_pdu, some_invoke_octets, reason_octets};
 ghost use Rattle.mms_services.specs.Rejects.{reject_pdu_octets};
 
-use crate::coded::take_coded;
+use crate::coded::{FIRST_TAG, take_coded};
 use ber_values::{BerFault, Part, has_tag, natural_len, take_end, take_part, write_natural};
 use std::alloc::AllocError;
 
@@ -25,9 +25,6 @@ pub struct RejectPdu {
 
 /// The tag of the number of the request.
 const INVOKE: u8 = 0x80;
-
-/// The tag with the number 0.
-const FIRST_TAG: u8 = 0x80;
 
 /// The first and the last tag of a kind.
 const FIRST_KIND: u8 = 0x81;
