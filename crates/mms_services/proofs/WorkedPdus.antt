@@ -1,5 +1,5 @@
 -- PDUs as two control centres send them, computed.
-use Rattle.std.proofs.Common.{◌≡◌, ◌×◌, [], ◌∷◌, false, Some, None, Ok, Err, pos, refl}
+use Rattle.std.proofs.Common.{◌≡◌, [], ◌∷◌, false, Some, None, Ok, Err, pos, refl}
 use Rattle.ber_values.specs.declared.fault.Why.TheVariants as whys
 use Rattle.ber_values.specs.Faults.{fault_at}
 use Rattle.ber_values.specs.Tags.{tag_in, length_in}
