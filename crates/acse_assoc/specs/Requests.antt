@@ -1,4 +1,5 @@
--- AARQ (ISO 8650-1, AARQ-apdu): its elements rise, and those that count for nothing are passed over.
+-- AARQ (ISO 8650-1, AARQ-apdu): its elements rise, and those that count for nothing are passed
+-- over.
 use Rattle.std.specs.Prelude.{ℕ, ◌+◌, List, Option, Some, None}
 use Rattle.ber_values.specs.Grammars.{Grammar, then_in, map_in}
 use Rattle.ber_values.specs.Parts.{Contents, part_in, all_in}

@@ -1,4 +1,5 @@
--- AARE (ISO 8650-1, AARE-apdu): its elements rise, and those that count for nothing are passed over.
+-- AARE (ISO 8650-1, AARE-apdu): its elements rise, and those that count for nothing are passed
+-- over.
 use Rattle.std.specs.Prelude.{ℕ, ◌+◌, ◌==◌, Option, Some, if◌then◌else◌}
 use Rattle.ber_values.specs.Grammars.{Grammar, then_in, map_in}
 use Rattle.ber_values.specs.Parts.{Contents, part_in, all_in}

@@ -186,7 +186,8 @@ impl<'a> Part<'a> {
     /// The octets of the object identifier that the contents are: one to 32.
     #[tactic(auto, unfolding(crate::specs::Leaves::oid, crate::specs::TextContents::oid_in))]
     pub fn oid_octets(&self) -> Result<&'a [u8], BerFault>
-        ensures exact { Gives (λ o. o.now) result (oid.reading self.now.head self.now.contents.now) }
+        ensures exact { Gives (λ o. o.now) result
+            (oid.reading self.now.head self.now.contents.now) }
         ensures sized { IfOk result (λ o. IsOid o.now) }
     {
         match self.contents.len() {

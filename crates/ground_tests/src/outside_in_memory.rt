@@ -79,6 +79,7 @@ fn reads_what_was_put(rt: HostRuntime) -> Result<(), Fail> {
     let text = read_text(rt.alloc(), &mut source, 9)?.map_err(|_| "read")?;
     assert_eq!(rt; text.as_slice(), b"text".as_slice());
     outside.close_in(source);
+    assert!(rt; outside.open_in("in").is_some());
     assert_eq!(rt; outside.faults(), 0);
     Ok(())
 }
@@ -104,6 +105,7 @@ fn writes_where_room_was_put(rt: HostRuntime) -> Result<(), Fail> {
     let mut outside = one_of_each(rt.alloc())?;
     let mut sink = outside.open_out("out").ok_or("out")?;
     write_all(&mut sink, b"text")?;
+    assert_eq!(rt; taken(&outside, "out"), None);
     outside.close_out(sink);
     assert_eq!(rt; taken(&outside, "out"), Some(b"text".as_slice()));
     Ok(())

@@ -20,8 +20,8 @@ pub fn offers_have_one_reading()
         → HasOneReading (Taken (List Offered)) (offers.begins at octets) (offers.fault at octets) }
 {}
 
-/// Octets have one reading as a PPDU, whatever id is wanted: exactly one holds, they are exactly one, or they have exactly
-/// one first fault.
+/// Octets have one reading as a PPDU, whatever id is wanted: exactly one holds, they are exactly
+/// one, or they have exactly one first fault.
 pub fn ppdus_have_one_reading()
     ensures { (wanted : Option ℕ) (at : ℕ) (octets : List ℕ) → HasOneReading (Taken Ppdu)
         ((ppdu wanted).begins at octets) ((ppdu wanted).fault at octets) }
@@ -35,7 +35,8 @@ pub fn written_offers_are_read()
         (taken os (at + length (offers_octets os)) rest) }
 {}
 
-/// What is written for a PPDU of the context that is wanted is read back as the same PPDU, with its body where that was written.
+/// What is written for a PPDU of the context that is wanted is read back as the same PPDU, with its
+/// body where that was written.
 pub fn written_ppdus_are_read()
     ensures { (wanted : Option ℕ) (p : Ppdu) (body : List ℕ) (at : ℕ)
         → IsWritable p → IsHeld p → IsAsWanted wanted p → length body ≤ MOST_BODY

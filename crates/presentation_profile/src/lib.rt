@@ -17,7 +17,8 @@ pub use laws::{
     written_ppdus_are_read,
 };
 pub use offers::{
-    LARGEST_ID, MOST_OFFERS, Offered, Offers, are_offers, offers_len, read_offers, take_offers, write_offers,
+    LARGEST_ID, MOST_OFFERS, Offered, Offers, are_offers, offers_len, read_offers, take_offers,
+    write_offers,
 };
 pub use ppdu::{Ppdu, read_ppdu, write_ppdu};
 pub use results::Results;

@@ -1,6 +1,6 @@
 -- What a run owes, as its inputs are read one after another.
 use Rattle.std.proofs.Common.{◌≡◌, ℕ, Bool, true, false, ◌||◌, ◌<◌, ◌≤◌, cond, List, [], ◌∷◌}
-use Rattle.std.proofs.Common.{length, Option, Some, None}
+use Rattle.std.proofs.Common.{length, Some}
 use Rattle.std.proofs.Common.{refl, sym, ◌∙◌, ap, subst, arith}
 use Rattle.std.specs.Prelude.{Result, Ok, Err, Vec, bytes_eq, codes, nat_lt}
 use Rattle.std.specs.declared.alloc.Global.{Global}

@@ -1,13 +1,13 @@
 -- What a play says, line by line, and through a sink that gathers it.
-use Rattle.std.proofs.Common.{◌≡◌, ◌≢◌, ℕ, Bool, true, false, List, [], ◌∷◌, ◌++◌, length, take}
+use Rattle.std.proofs.Common.{◌≡◌, ◌≢◌, ℕ, Bool, true, false, List, [], ◌++◌, take}
 use Rattle.std.proofs.Common.{drop, refl, sym, ◌∙◌, ap, subst}
-use Rattle.std.specs.Prelude.{Result, Ok, Err, codes, flat_map}
+use Rattle.std.specs.Prelude.{Ok, Err, codes}
 use Rattle.std.proofs.Common.{take-append-drop}
 use Rattle.std.proofs.lemmas.List.Concat.{flat_map-append}
 use Rattle.outside.specs.declared.sink.SinkFailed.{SinkFailed}
 use Rattle.outside.specs.Sink.{SinkTold, Appends, AppendsAll, AppendsPart}
 use Rattle.outside.specs.Buffered.{buffered_told, Finishes}
-use Rattle.outside.proofs.Writing.{Appends-as, Appends-append, AppendsPart-all, AppendsPart-append}
+use Rattle.outside.proofs.Writing.{Appends-append, AppendsPart-append}
 use Rattle.outside.proofs.Writing.{AppendsPart-front}
 use Rattle.outside.proofs.Buffering.{buffered_empty, unbuffered, handed_all, handed_part}
 use Rattle.command_io.specs.declared.status.Status.{Status}

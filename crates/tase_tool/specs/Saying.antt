@@ -1,5 +1,5 @@
 -- What each command says, and which inputs it opens, from the octets of its inputs.
-use Rattle.std.specs.Prelude.{ℕ, Bool, true, false, nat_lt, if◌then◌else◌, List, [], ◌∷◌, ◌++◌}
+use Rattle.std.specs.Prelude.{ℕ, true, false, nat_lt, if◌then◌else◌, List, [], ◌∷◌, ◌++◌}
 use Rattle.std.specs.Prelude.{length}
 use Rattle.std.specs.Prelude.{Option, Some, None, Result, Ok, Err, codes, bytes_eq}
 use Rattle.command_io.specs.declared.status.Status.TheVariants.{Done, Usage, Input, Outside}

@@ -1,5 +1,5 @@
 -- How the program starts: its words as the system gives them, and the run of these.
-use Rattle.std.specs.Prelude.{◌≡◌, ◌≢◌, ℕ, List, [], drop, map, string_bytes, String}
+use Rattle.std.specs.Prelude.{◌≡◌, ◌≢◌, [], drop, map, string_bytes, String}
 use Rattle.std.specs.Prelude.{Result, Ok, Err, Vec, IsErr, IsOkAnd, IfOk}
 use Rattle.std.specs.declared.alloc.AllocError.{AllocError}
 use Rattle.std.specs.declared.alloc.Global.{Global}

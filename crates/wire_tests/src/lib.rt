@@ -5,6 +5,8 @@
 #[cfg(test)]
 mod association;
 #[cfg(test)]
+mod fixed_answers;
+#[cfg(test)]
 mod offers;
 #[cfg(test)]
 mod presentation;

@@ -49,8 +49,8 @@ const DATA_ROLES: &[u8] = b"TSTSTFUTE";
 /// What is wrong where one octet, at this place, became `to`, which is FF or 00. By its role:
 /// a tag `T`, which may be no other; a first length octet of a container that wants an element
 /// `S`, of contents that can't be empty `F`, of contents that may be empty `E`, and a second length
-/// octet `M`; the id of an offer, and that of a connect's user data, which is ACSE's, `N`; the id of
-/// other user data `U`; the mode `V`; the tag of a name in a
+/// octet `M`; the id of an offer, and that of a connect's user data, which is ACSE's, `N`; the id
+/// of other user data `U`; the mode `V`; the tag of a name in a
 /// result `R`, in whose place any element may stand. All other contents may be any.
 fn changed(role: u8, to: u8, place: usize) -> Option<BerFault> {
     let (place, why) = match (role, to) {
@@ -234,8 +234,25 @@ fn an_accept(rt: HostRuntime) -> Result<(), Fail> {
 
 #[test]
 fn data(rt: HostRuntime) -> Result<(), Fail> {
-    let rows: [(&[u8], u32, Span); 5] = [
+    let rows: [(&[u8], u32, Span); 7] = [
         (&DATA, 3, Span { from: 9, to: 16 }),
+        // the same with a longer length, and the answer to it
+        (
+            &[
+                0x61, 0x81, 0x0E, 0x30, 0x0C, 2, 1, 3, 0xA0, 7, 0xA0, 5, 2, 1, 1, 0x82, 0,
+            ],
+            3,
+            Span { from: 10, to: 17 },
+        ),
+        (
+            &[
+                0x61, 0x20, 0x30, 0x1E, 2, 1, 3, 0xA0, 0x19, 0xA1, 0x17, 2, 1, 1, 0xA2, 0x12, 0x80,
+                6, 0x43, 0x45, 0x4E, 0x54, 0x52, 0x45, 0x81, 5, 0x54, 0x41, 0x53, 0x45, 0x32, 0x82,
+                1, 0x31,
+            ],
+            3,
+            Span { from: 9, to: 34 },
+        ),
         // a body of no octets, and the least and the largest id
         (
             &[0x61, 7, 0x30, 5, 2, 1, 0, 0xA0, 0],

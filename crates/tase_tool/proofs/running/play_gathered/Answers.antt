@@ -1,4 +1,4 @@
-use Rattle.std.proofs.Common.{false, [], reverse, sym, subst}
+use Rattle.std.proofs.Common.{false, reverse, sym, subst}
 use Rattle.std.specs.Str.Lines.{lines}
 use Rattle.outside.specs.Sink.{AppendsPart}
 use Rattle.outside.specs.Buffered.{buffered_told, Finishes}
