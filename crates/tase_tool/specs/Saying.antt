@@ -100,7 +100,8 @@ second_text texts first second =
 
 -- the duty to tell the PDU that the capture under a name holds
 abbrev pub decode_duty : List ℕ → Text → Duty
-decode_duty name text = text_duty (codes "in") (λ octets. capture_said (capture_in octets)) name text
+decode_duty name text =
+    text_duty (codes "in") (λ octets. capture_said (capture_in octets)) name text
 
 -- what a run of these words owes, by what is told under each name
 abbrev pub duty_of : Option Asked → (List ℕ → Text) → Duty

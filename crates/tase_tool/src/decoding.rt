@@ -54,7 +54,8 @@ fn decode_pdu<O: Outside>(alloc: Global, outside: &mut O, octets: &[u8]) -> Stat
 
 // Prints the name of a PDU and the number of its octets.
 fn tell_pdu<O: Outside>(alloc: Global, outside: &mut O, pdu: &MmsPdu, len: usize) -> Status
-    ensures { IsRun (duty_to_say true (prints Status.Done (own.pdu_line (own.pdu_name pdu.now) len)))
+    ensures { IsRun
+        (duty_to_say true (prints Status.Done (own.pdu_line (own.pdu_name pdu.now) len)))
         (O.told outside.old) (O.told outside.new) result }
 {
     match pdu_line(alloc, pdu_name(pdu), len) {
@@ -65,7 +66,8 @@ fn tell_pdu<O: Outside>(alloc: Global, outside: &mut O, pdu: &MmsPdu, len: usize
 
 // Prints the first rule that octets break, and where.
 fn tell_fault<O: Outside>(alloc: Global, outside: &mut O, place: usize, why: Why) -> Status
-    ensures { IsRun (duty_to_say true (prints Status.Input (own.fault_line place (own.why_name why))))
+    ensures { IsRun
+        (duty_to_say true (prints Status.Input (own.fault_line place (own.why_name why))))
         (O.told outside.old) (O.told outside.new) result }
 {
     match fault_line(alloc, place, why_name(why)) {
