@@ -15,17 +15,16 @@ use Rattle.command_io.specs.declared.input.InputEnd.{InputEnd}
 use Rattle.command_io.specs.declared.input.InputEnd.TheVariants.{Refused, Outside, Memory}
 use Rattle.command_io.specs.declared.input.TheConstants.{TEXT_LIMIT}
 use Rattle.command_io.specs.Saying.{Text, untold, missing, told, emptied, text_of, texts_of}
-use Rattle.command_io.specs.Saying.{duty_to_say}
+use Rattle.command_io.specs.Saying.{Said, duty_to_say}
 use Rattle.command_io.specs.Inputs.{IsInput, ReadsInput}
 use Rattle.command_io.specs.Runs.{IsRun}
 use Rattle.command_io.proofs.Running.{Follows, same_said, nothing_told, IsRun-then, IsRun-unread}
 use Rattle.bilateral.specs.Rows.{CentreRows}
 use Rattle.bilateral.specs.Reading.{centre_in}
 use Rattle.bilateral.specs.declared.fault.TableFault.{TableFault}
-use Rattle.tase_replay.specs.Play.{scenario_of}
 use Rattle.tase_tool.specs.Words.{replays}
-use Rattle.tase_tool.specs.Saying.{refused, centre_or_refusal, tables_read, setup_of, played_said}
-use Rattle.tase_tool.specs.Saying.{scenario_said, said_of, scenario_duty, duty_over, duty_after}
+use Rattle.tase_tool.specs.Saying.{refused, centre_or_refusal, tables_read, within_limit, said_of}
+use Rattle.tase_tool.specs.Saying.{text_duty, scenario_said, scenario_duty, duty_over, duty_after}
 use Rattle.tase_tool.specs.Saying.{opening, second_text, duty_of}
 use Rattle.tase_tool.specs.Tables.{IsCentreFrom, IsRead, IsTables, ReadsTables}
 
@@ -47,17 +46,16 @@ tables_past octets h =
     ap (λ b. cond b (Err Long) (centre_or_refusal (centre_in octets)))
     (is_less TEXT_LIMIT (length octets) h)
 
-scenario_within : (rows : CentreRows) (octets : List ℕ) → length octets ≤ TEXT_LIMIT
-    → scenario_said rows octets ≡ played_said (scenario_of (setup_of rows) octets)
-scenario_within rows octets h =
-    ap (λ b. cond b (refused (codes "scenario") Long)
-    (played_said (scenario_of (setup_of rows) octets))) (is_within TEXT_LIMIT (length octets) h)
+-- what is said of a text within the limit, and of one past it
+said_within : (input : List ℕ) (say : List ℕ → Said) (octets : List ℕ)
+    → length octets ≤ TEXT_LIMIT → within_limit input say octets ≡ say octets
+said_within input say octets h =
+    ap (λ b. cond b (refused input Long) (say octets)) (is_within TEXT_LIMIT (length octets) h)
 
-scenario_past : (rows : CentreRows) (octets : List ℕ) → TEXT_LIMIT < length octets
-    → scenario_said rows octets ≡ refused (codes "scenario") Long
-scenario_past rows octets h =
-    ap (λ b. cond b (refused (codes "scenario") Long)
-    (played_said (scenario_of (setup_of rows) octets))) (is_less TEXT_LIMIT (length octets) h)
+said_past : (input : List ℕ) (say : List ℕ → Said) (octets : List ℕ)
+    → TEXT_LIMIT < length octets → within_limit input say octets ≡ refused input Long
+said_past input say octets h =
+    ap (λ b. cond b (refused input Long) (say octets)) (is_less TEXT_LIMIT (length octets) h)
 
 bad_centre : (read : Result CentreRows TableFault) (line : ℕ)
     → IsCentreFrom (Err (Refused (BadLine line))) read → centre_or_refusal read ≡ Err (BadLine line)
@@ -202,7 +200,7 @@ module _ (b m a : OutsideTold) (tables scenario : List ℕ) where
           tables (scenario_duty rows scenario (texts_of m scenario)))
           (sym told_tables)
           (same_said
-          (ap (said_of (λ octets. Some (scenario_said rows octets)))
+          (ap (said_of (λ octets. Some (within_limit (codes "scenario") (scenario_said rows) octets)))
           (second_read rows reads)) refl)
 
   -- with refused tables
@@ -247,55 +245,49 @@ module _ (b m a : OutsideTold) (tables scenario : List ℕ) where
       (after_is_command (texts_of b tables) scenario (second_text (texts_of b) tables scenario))
       refl reads.opens
 
-module _ (b m a : OutsideTold) (rows : CentreRows) (name : List ℕ) where
-  -- the run of a scenario that is there
-  pub IsRun-scenario : (text : Vec ℕ Global) (status : Status) → ReadsInput b m name (Ok text)
-      → IsRun (duty_to_say true (played_said (scenario_of (setup_of rows) text.items))) m a status
-      → IsRun (scenario_duty rows name (texts_of b name)) b a status
-  IsRun-scenario text status reads run =
-      IsRun-then (scenario_duty rows name (texts_of b name))
-      (duty_to_say true (played_said (scenario_of (setup_of rows) text.items)))
+module _ (b m a : OutsideTold) (input : List ℕ) (say : List ℕ → Said) (name : List ℕ) where
+  -- the run over a text that is there
+  pub IsRun-text : (text : Vec ℕ Global) (status : Status) → ReadsInput b m name (Ok text)
+      → IsRun (duty_to_say true (say text.items)) m a status
+      → IsRun (text_duty input say name (texts_of b name)) b a status
+  IsRun-text text status reads run =
+      IsRun-then (text_duty input say name (texts_of b name)) (duty_to_say true (say text.items))
       b m a name status
       refl refl (follows (texts_of b name) reads.text) reads.opens run
     where
       follows : (t : Text) → IsInput (Ok text) t
-          → Follows (scenario_duty rows name t) name
-          (duty_to_say true (played_said (scenario_of (setup_of rows) text.items)))
-      follows untold input = nothing_told [] refl refl
-      follows missing input = absurd cc
-      follows (told octets) input =
-          same_said
-          (ap Some
-          (scenario_within rows octets input.1
-          ∙ ap (λ o. played_said (scenario_of (setup_of rows) o)) input.0)) refl
+          → Follows (text_duty input say name t) name (duty_to_say true (say text.items))
+      follows untold is = nothing_told [] refl refl
+      follows missing is = absurd cc
+      follows (told octets) is =
+          same_said (ap Some (said_within input say octets is.1 ∙ ap say is.0)) refl
 
-  -- of a refused one
-  pub IsRun-refused_scenario : (refusal : Refusal) (status : Status)
+  -- over a refused one
+  pub IsRun-refused_text : (refusal : Refusal) (status : Status)
       → ReadsInput b m name (Err (Refused refusal))
-      → IsRun (duty_to_say true (refused (codes "scenario") refusal)) m a status
-      → IsRun (scenario_duty rows name (texts_of b name)) b a status
-  IsRun-refused_scenario refusal status reads run =
-      IsRun-then (scenario_duty rows name (texts_of b name))
-      (duty_to_say true (refused (codes "scenario") refusal)) b m a name status
+      → IsRun (duty_to_say true (refused input refusal)) m a status
+      → IsRun (text_duty input say name (texts_of b name)) b a status
+  IsRun-refused_text refusal status reads run =
+      IsRun-then (text_duty input say name (texts_of b name))
+      (duty_to_say true (refused input refusal)) b m a name status
       refl refl (follows refusal (texts_of b name) reads.text) reads.opens run
     where
       follows : (r : Refusal) (t : Text) → IsInput (Err (Refused r)) t
-          → Follows (scenario_duty rows name t) name
-          (duty_to_say true (refused (codes "scenario") r))
-      follows r untold input = nothing_told [] refl refl
-      follows r missing input = absurd cc
-      follows Long (told octets) input = same_said (ap Some (scenario_past rows octets input)) refl
-      follows (BadLine line) (told octets) input = absurd input
+          → Follows (text_duty input say name t) name (duty_to_say true (refused input r))
+      follows r untold is = nothing_told [] refl refl
+      follows r missing is = absurd cc
+      follows Long (told octets) is = same_said (ap Some (said_past input say octets is)) refl
+      follows (BadLine line) (told octets) is = absurd is
 
-  -- and of one that isn't there
-  pub IsRun-scenario_outside : ReadsInput b m name (Err Outside)
-      → IsRun (scenario_duty rows name (texts_of b name)) b m statuses.Outside
-  IsRun-scenario_outside reads =
-      IsRun-unread (scenario_duty rows name (texts_of b name))
+  -- and over one that isn't there
+  pub IsRun-text_outside : ReadsInput b m name (Err Outside)
+      → IsRun (text_duty input say name (texts_of b name)) b m statuses.Outside
+  IsRun-text_outside reads =
+      IsRun-unread (text_duty input say name (texts_of b name))
       b m name [] statuses.Outside tt refl refl reads.opens
 
-  pub IsRun-scenario_memory : ReadsInput b m name (Err Memory)
-      → IsRun (scenario_duty rows name (texts_of b name)) b m statuses.Memory
-  IsRun-scenario_memory reads =
-      IsRun-unread (scenario_duty rows name (texts_of b name))
+  pub IsRun-text_memory : ReadsInput b m name (Err Memory)
+      → IsRun (text_duty input say name (texts_of b name)) b m statuses.Memory
+  IsRun-text_memory reads =
+      IsRun-unread (text_duty input say name (texts_of b name))
       b m name [] statuses.Memory tt refl refl reads.opens

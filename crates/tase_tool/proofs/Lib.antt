@@ -1,2 +1,3 @@
 mod Duties
 mod Playing
+mod Telling

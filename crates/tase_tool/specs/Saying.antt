@@ -8,13 +8,15 @@ use Rattle.command_io.specs.declared.input.Refusal.TheVariants.{Long, BadLine}
 use Rattle.command_io.specs.declared.input.TheConstants.{TEXT_LIMIT}
 use Rattle.command_io.specs.Saying.{Said, prints, refusal_text, Text, untold, missing, told}
 use Rattle.command_io.specs.Saying.{emptied, Duty}
+use Rattle.capture_text.specs.Captures.{capture_in}
 use Rattle.bilateral.specs.Rows.{CentreRows}
 use Rattle.bilateral.specs.Reading.{centre_in}
 use Rattle.bilateral.specs.declared.fault.TableFault.{TableFault}
 use Rattle.tase_views.specs.Setup.{Setup}
 use Rattle.tase_replay.specs.Play.{Played, End, done, bad_line, shown_of, scenario_of}
 use Rattle.tase_tool.specs.declared.running.TheConstants.{HISTORY_LIMIT}
-use Rattle.tase_tool.specs.Words.{Asked, replays}
+use Rattle.tase_tool.specs.Words.{Asked, replays, decodes_pdu}
+use Rattle.tase_tool.specs.Decoding.{capture_said}
 
 abbrev pub usage : Said
 usage = prints Usage (codes "usage" ++ 10 ∷ [])
@@ -46,9 +48,12 @@ abbrev pub setup_of : CentreRows → Setup
 setup_of rows = record { centre = rows; limit = HISTORY_LIMIT }
 
 abbrev pub scenario_said : CentreRows → List ℕ → Said
-scenario_said rows text =
-    if nat_lt TEXT_LIMIT (length text) then refused (codes "scenario") Long
-    else played_said (scenario_of (setup_of rows) text)
+scenario_said rows text = played_said (scenario_of (setup_of rows) text)
+
+-- what is said of an input's text, which has at most so many octets
+abbrev pub within_limit : List ℕ → (List ℕ → Said) → List ℕ → Said
+within_limit input say text =
+    if nat_lt TEXT_LIMIT (length text) then refused input Long else say text
 
 -- what is said of an input's octets, where they are told; without the input a fault outside, and
 -- nothing is printed
@@ -57,13 +62,17 @@ said_of say untold = None
 said_of say missing = Some (prints Outside [])
 said_of say (told octets) = say octets
 
--- the duty to play the text under a name over these tables
-abbrev pub scenario_duty : CentreRows → List ℕ → Text → Duty
-scenario_duty rows name text = record {
+-- the duty to read the text under a name, which is this input, and to say something of it
+abbrev pub text_duty : List ℕ → (List ℕ → Said) → List ℕ → Text → Duty
+text_duty input say name text = record {
   is_command = true;
-  says = said_of (λ octets. Some (scenario_said rows octets)) text;
+  says = said_of (λ octets. Some (within_limit input say octets)) text;
   inputs = name ∷ [];
 }
+
+-- the duty to play the text under a name over these tables
+abbrev pub scenario_duty : CentreRows → List ℕ → Text → Duty
+scenario_duty rows name text = text_duty (codes "scenario") (scenario_said rows) name text
 
 -- over tables that are read, and with refused ones
 abbrev pub duty_over : Result CentreRows Refusal → List ℕ → Text → Duty
@@ -89,8 +98,14 @@ abbrev pub second_text : (List ℕ → Text) → List ℕ → List ℕ → Text
 second_text texts first second =
     if bytes_eq second first then emptied (texts first) else texts second
 
+-- the duty to tell the PDU that the capture under a name holds
+abbrev pub decode_duty : List ℕ → Text → Duty
+decode_duty name text =
+    text_duty (codes "in") (λ octets. capture_said (capture_in octets)) name text
+
 -- what a run of these words owes, by what is told under each name
 abbrev pub duty_of : Option Asked → (List ℕ → Text) → Duty
 duty_of None texts = record { is_command = false; says = Some usage; inputs = [] }
 duty_of (Some (replays tables scenario)) texts =
     opening tables (duty_after (texts tables) scenario (second_text texts tables scenario))
+duty_of (Some (decodes_pdu capture)) texts = decode_duty capture (texts capture)

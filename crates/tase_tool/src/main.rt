@@ -2,6 +2,7 @@
 //! status.
 #![tactic(auto)]
 
+mod decoding;
 mod running;
 mod starting;
 mod tables;

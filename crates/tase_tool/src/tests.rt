@@ -1,3 +1,4 @@
+mod decoding;
 mod faults;
 mod files;
 mod lines;

@@ -1,0 +1,123 @@
+//! The command `decode --pdu`: which PDU a capture holds.
+ghost use Rattle.std.specs.Prelude.{◌≡◌, IfOk, string_bytes, true};
+ghost use Rattle.command_io.specs.Saying.{texts_of, prints, duty_to_say};
+ghost use Rattle.command_io.specs.Runs.{IsRun};
+ghost use Rattle.capture_text.specs.Captures.{capture_in};
+ghost use Rattle.tase_tool.specs.Decoding.{capture_said, pdu_said};
+ghost use Rattle.tase_tool.specs.Decoding as own;
+ghost use Rattle.tase_tool.specs.Saying.{decode_duty};
+
+use ber_values::Why;
+use capture_text::read_capture;
+use command_io::{InputEnd, Refusal, Status, print, read_input, refuse};
+use mms_services::{MmsPdu, read_pdu};
+use outside::Outside;
+use std::alloc::{AllocError, Global};
+
+/// Reads a capture, and prints which PDU its octets are, or the first rule that they break.
+pub(crate) fn run_decode<O: Outside>(alloc: Global, outside: &mut O, capture: &str) -> Status
+    ensures { let told = O.told outside.old in
+        IsRun (decode_duty capture.now (texts_of told capture.now))
+        told (O.told outside.new) result }
+{
+    match read_input(alloc, outside, capture) {
+        Ok(text) => decode_capture(alloc, outside, &text),
+        Err(InputEnd::Refused(refusal)) => refuse(alloc, outside, "in", refusal),
+        Err(InputEnd::Outside) => Status::Outside,
+        Err(InputEnd::Memory) => Status::Memory,
+    }
+}
+
+// Tells the PDU that a capture holds.
+fn decode_capture<O: Outside>(alloc: Global, outside: &mut O, text: &[u8]) -> Status
+    ensures { IsRun (duty_to_say true (capture_said (capture_in text.now)))
+        (O.told outside.old) (O.told outside.new) result }
+{
+    match read_capture(alloc, text) {
+        Ok(Ok(octets)) => decode_pdu(alloc, outside, &octets),
+        Ok(Err(line)) => refuse(alloc, outside, "in", Refusal::BadLine(line)),
+        Err(AllocError) => Status::Memory,
+    }
+}
+
+// Tells the PDU that octets are.
+fn decode_pdu<O: Outside>(alloc: Global, outside: &mut O, octets: &[u8]) -> Status
+    ensures { IsRun (duty_to_say true (pdu_said octets.now))
+        (O.told outside.old) (O.told outside.new) result }
+{
+    match read_pdu(alloc, octets) {
+        Ok(Ok(pdu)) => tell_pdu(alloc, outside, &pdu, octets.len()),
+        Ok(Err(fault)) => tell_fault(alloc, outside, fault.place, fault.why),
+        Err(AllocError) => Status::Memory,
+    }
+}
+
+// Prints the name of a PDU and the number of its octets.
+fn tell_pdu<O: Outside>(alloc: Global, outside: &mut O, pdu: &MmsPdu, len: usize) -> Status
+    ensures { IsRun
+        (duty_to_say true (prints Status.Done (own.pdu_line (own.pdu_name pdu.now) len)))
+        (O.told outside.old) (O.told outside.new) result }
+{
+    match pdu_line(alloc, pdu_name(pdu), len) {
+        Ok(line) => print(outside, Status::Done, line.as_bytes()),
+        Err(AllocError) => Status::Memory,
+    }
+}
+
+// Prints the first rule that octets break, and where.
+fn tell_fault<O: Outside>(alloc: Global, outside: &mut O, place: usize, why: Why) -> Status
+    ensures { IsRun
+        (duty_to_say true (prints Status.Input (own.fault_line place (own.why_name why))))
+        (O.told outside.old) (O.told outside.new) result }
+{
+    match fault_line(alloc, place, why_name(why)) {
+        Ok(line) => print(outside, Status::Input, line.as_bytes()),
+        Err(AllocError) => Status::Memory,
+    }
+}
+
+// `pdu NAME LENGTH`.
+fn pdu_line(alloc: Global, name: &str, len: usize) -> Result<String, AllocError>
+    ensures { IfOk result (λ text. string_bytes text ≡ own.pdu_line name.now len) }
+{
+    format!(in alloc; "pdu {name} {len}\n")
+}
+
+// `fault mms PLACE WHY`.
+fn fault_line(alloc: Global, place: usize, why: &str) -> Result<String, AllocError>
+    ensures { IfOk result (λ text. string_bytes text ≡ own.fault_line place why.now) }
+{
+    format!(in alloc; "fault mms {place} {why}\n")
+}
+
+// The name of a kind of PDU.
+fn pdu_name(pdu: &MmsPdu) -> &'static str
+    ensures { result.now ≡ own.pdu_name pdu.now }
+{
+    match pdu {
+        MmsPdu::Request { .. } => "request",
+        MmsPdu::Response { .. } => "response",
+        MmsPdu::Error(_) => "error",
+        MmsPdu::Report(_) => "report",
+        MmsPdu::Reject(_) => "reject",
+        MmsPdu::Initiate(_) => "initiate",
+        MmsPdu::Initiated(_) => "initiated",
+        MmsPdu::InitiateError => "initiateerror",
+        MmsPdu::Conclude => "conclude",
+        MmsPdu::Concluded => "concluded",
+    }
+}
+
+// The name of a reason.
+fn why_name(why: Why) -> &'static str
+    ensures { result.now ≡ own.why_name why }
+{
+    match why {
+        Why::Short => "short",
+        Why::Length => "length",
+        Why::Tag => "tag",
+        Why::Value => "value",
+        Why::Order => "order",
+        Why::Long => "long",
+    }
+}
