@@ -1,7 +1,7 @@
 //! Lawful PDUs as they are written, worked out by hand from the productions of ISO 9506-2. A row is
 //! octets in hexadecimal, and a letter for each: `t` is a tag, `l` a length, `v` contents that may
 //! not be FF, `o` contents that may.
-ghost use Rattle.std.specs.Prelude.{◌≡◌, true};
+ghost use Rattle.std.specs.Prelude.{◌≡◌, true, IfOk};
 ghost use Rattle.mms_services.specs.Initiates.{IsFullInitiate};
 ghost use Rattle.mms_services.specs.Lawful.{IsLawfulPdu, IsLawfulRequest};
 ghost use Rattle.mms_services.specs.PduOctets.{IsWritable, IsWritableRequest};
