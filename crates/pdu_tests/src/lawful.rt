@@ -152,21 +152,27 @@ fn may_be_written(pdu: &MmsPdu) -> bool
     }
 }
 
-/// Appends a PDU; where memory ran out, `out` is as before, and it is appended then.
-fn write(out: &mut Vec<u8>, pdu: &MmsPdu) -> Result<(), Fail>
+/// Appends a PDU, and answers its length; where memory ran out, `out` is as before, and it is
+/// appended then.
+fn write(out: &mut Vec<u8>, pdu: &MmsPdu) -> Result<usize, Fail>
     requires { IsLawfulPdu pdu.now }
 {
-    if !may_be_written(pdu) || pdu_len(pdu) > 1_000 {
+    if !may_be_written(pdu) {
         return Err("no PDU to write".into());
+    }
+    let len = pdu_len(pdu);
+    if len > 1_000 {
+        return Err("a long PDU".into());
     }
     let before = out.len();
     if write_pdu(out, pdu).is_ok() {
-        return Ok(());
+        return Ok(len);
     }
     if out.len() != before {
         return Err("not as before".into());
     }
-    Ok(write_pdu(out, pdu)?)
+    write_pdu(out, pdu)?;
+    Ok(len)
 }
 
 #[test]
@@ -174,10 +180,10 @@ fn written(rt: HostRuntime) -> Result<(), Fail> {
     for row in &LAWFUL {
         let (octets, _) = row_of(rt.alloc(), row)?;
         let pdu = read(rt.alloc(), octets.as_slice())?.ok().ok_or("a PDU")?;
-        assert_eq!(rt; pdu_len(&pdu), octets.len(), "{row}");
         let mut out = Vec::new(rt.alloc());
-        write(&mut out, &pdu)?;
+        let len = write(&mut out, &pdu)?;
         assert_eq!(rt; out.as_slice(), octets.as_slice(), "{row}");
+        assert_eq!(rt; len, octets.len(), "{row}");
     }
     Ok(())
 }
