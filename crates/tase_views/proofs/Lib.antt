@@ -1,4 +1,4 @@
-pub mod Names
 pub mod Seen
 pub mod Alike
 pub mod Reseated
+pub mod Worked

@@ -1,9 +1,10 @@
 -- The history of a node, and the associations of its seats.
-use Rattle.std.specs.Prelude.{ℕ, ◌+◌, ◌==◌, ◌&&◌, if◌then◌else◌, Bool, false, List, [], ◌∷◌, Option}
-use Rattle.std.specs.Prelude.{Some, None}
+use Rattle.std.specs.Prelude.{ℕ, ◌+◌, ◌==◌, ◌&&◌, if◌then◌else◌, Bool, true, false, List, [], ◌∷◌}
+use Rattle.std.specs.Prelude.{length, Option, Some, None}
 use Rattle.sbo_device.specs.declared.key.Key.{Key}
 use Rattle.tase_views.specs.declared.event.EventKind.{EventKind}
-use Rattle.tase_views.specs.declared.event.EventKind.TheVariants.{Open, Request, Update}
+use Rattle.tase_views.specs.declared.event.EventKind.TheVariants.{Open, Request, Take, Close}
+use Rattle.tase_views.specs.declared.event.EventKind.TheVariants.{Update, Stop}
 use Rattle.tase_views.specs.declared.event.Entry.{Entry}
 
 -- the accepted events with their seats, the newest first
@@ -14,7 +15,10 @@ Past = List Entry
 abbrev pub counts_open : EventKind → ℕ → ℕ
 counts_open (Open opener) peer = if opener == peer then 1 else 0
 counts_open (Request call) peer = 0
+counts_open Take peer = 0
+counts_open Close peer = 0
 counts_open (Update point value) peer = 0
+counts_open Stop peer = 0
 
 -- how many associations a peer has opened
 abbrev pub opens_in : Past → ℕ → ℕ
@@ -30,7 +34,10 @@ next_key past peer = record { peer = peer; ordinal = opens_in past peer }
 abbrev pub association_after : EventKind → Past → Option Key → Option Key
 association_after (Open peer) past before = Some (next_key past peer)
 association_after (Request call) past before = before
+association_after Take past before = before
+association_after Close past before = None
 association_after (Update point value) past before = before
+association_after Stop past before = before
 
 -- the open association of a seat
 abbrev pub association_in : Past → ℕ → Option Key
@@ -43,17 +50,33 @@ association_in (entry ∷ past) who =
 abbrev pub key_at : EventKind → Past → ℕ → Option Key
 key_at (Open peer) past who = Some (next_key past peer)
 key_at (Request call) past who = association_in past who
+key_at Take past who = association_in past who
+key_at Close past who = association_in past who
 key_at (Update point value) past who = association_in past who
+key_at Stop past who = association_in past who
 
 -- whether an association is this one
 abbrev pub is_key : Key → Option Key → Bool
 is_key key None = false
 is_key key (Some other) = (other.peer == key.peer) && (other.ordinal == key.ordinal)
 
--- the entries of an association, the newest first: its open, and the others of its seat for as long
--- as it is open there
+-- the entries of an association, the newest first: its open, and the others of its seat up to its
+-- close, which is one of them
 abbrev pub entries_of : Key → Past → Past
 entries_of key [] = []
 entries_of key (entry ∷ past) =
     if is_key key (key_at entry.event past entry.who) then entry ∷ entries_of key past
     else entries_of key past
+
+abbrev pub is_stop : EventKind → Bool
+is_stop (Open peer) = false
+is_stop (Request call) = false
+is_stop Take = false
+is_stop Close = false
+is_stop (Update point value) = false
+is_stop Stop = true
+
+-- the place of the stop of a history, if it has one; the oldest entry stands at 0
+abbrev pub stop_in : Past → Option ℕ
+stop_in [] = None
+stop_in (entry ∷ past) = if is_stop entry.event then Some (length past) else stop_in past

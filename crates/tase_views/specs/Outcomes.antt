@@ -1,6 +1,7 @@
 -- When a node may answer an event so: each refusal exactly where its cause holds, and the right
 -- answer elsewhere.
-use Rattle.std.specs.Prelude.{◌≡◌, ℕ, Bool, ◌&&◌, nat_lt, if◌then◌else◌, length, Option, Some, None}
+use Rattle.std.specs.Prelude.{◌≡◌, ℕ, ◌+◌, Bool, true, false, not, ◌&&◌, ◌||◌, nat_lt}
+use Rattle.std.specs.Prelude.{if◌then◌else◌, List, [], ◌∷◌, length, Option, Some, None, option_map}
 use Rattle.std.specs.Prelude.{is_some, Result, Ok, Err}
 use Rattle.tase_points.specs.Same.{same_kind}
 use Rattle.tase_points.specs.Points.{kind_of}
@@ -8,14 +9,17 @@ use Rattle.tase_points.specs.Sample.{Sample}
 use Rattle.bilateral.specs.Rows.{CentreRows, point_of}
 use Rattle.sbo_device.specs.declared.key.Key.{Key}
 use Rattle.tase_views.specs.declared.event.EventKind.{EventKind}
-use Rattle.tase_views.specs.declared.event.EventKind.TheVariants.{Open, Request, Update}
+use Rattle.tase_views.specs.declared.event.EventKind.TheVariants.{Open, Request, Take, Close}
+use Rattle.tase_views.specs.declared.event.EventKind.TheVariants.{Update, Stop}
 use Rattle.tase_views.specs.declared.reply.Answer.{Answer}
 use Rattle.tase_views.specs.declared.reply.Answer.TheVariants.{Noted}
 use Rattle.tase_views.specs.declared.fault.StepFault.{StepFault}
-use Rattle.tase_views.specs.declared.fault.StepFault.TheVariants.{Memory, NoAssociation, Already}
+use Rattle.tase_views.specs.declared.fault.StepFault.TheVariants.{Memory, Stopped, HistoryFull}
+use Rattle.tase_views.specs.declared.fault.StepFault.TheVariants.{NoAssociation, Already}
 use Rattle.tase_views.specs.declared.fault.StepFault.TheVariants.{UnknownName}
 use Rattle.tase_views.specs.Setup.{Setup}
-use Rattle.tase_views.specs.History.{Past, association_in, key_at}
+use Rattle.tase_views.specs.History.{Past, association_in, key_at, is_stop, stop_in}
+use Rattle.tase_views.specs.Weights.{weight, weight_of}
 use Rattle.tase_views.specs.OwnTable.{own_table}
 use Rattle.tase_views.specs.View.{view_of}
 use Rattle.tase_views.specs.Answers.{answer_to}
@@ -25,15 +29,60 @@ abbrev pub is_known : CentreRows → ℕ → Sample → Bool
 is_known rows point value =
     nat_lt point (length rows.points) && same_kind (kind_of value.body) (point_of rows point).kind
 
+abbrev pub is_close : EventKind → Bool
+is_close (Open peer) = false
+is_close (Request call) = false
+is_close Take = false
+is_close Close = true
+is_close (Update point value) = false
+is_close Stop = false
+
+-- whether an event is taken whatever the history weighs, and without memory: a close and a stop
+abbrev pub is_ending : EventKind → Bool
+is_ending event = is_close event || is_stop event
+
+-- after a stop, which stands at this place, only closes are taken
+abbrev pub stop_refusal : Past → EventKind → Option StepFault
+stop_refusal past event =
+    if is_close event then None else option_map (λ place. Stopped place) (stop_in past)
+
+-- an open wants a seat without an association; a request, a take and a close want one with it
+abbrev pub seat_refusal : Option Key → EventKind → Option StepFault
+seat_refusal found (Open peer) = if is_some found then Some Already else None
+seat_refusal found (Request call) = if is_some found then None else Some NoAssociation
+seat_refusal found Take = if is_some found then None else Some NoAssociation
+seat_refusal found Close = if is_some found then None else Some NoAssociation
+seat_refusal found (Update point value) = None
+seat_refusal found Stop = None
+
+-- an open wants a peer of the centre, an update a point and a value of its kind
+abbrev pub name_refusal : CentreRows → EventKind → Option StepFault
+name_refusal rows (Open peer) =
+    if nat_lt peer (length rows.tables) then None else Some UnknownName
+name_refusal rows (Request call) = None
+name_refusal rows Take = None
+name_refusal rows Close = None
+name_refusal rows (Update point value) =
+    if is_known rows point value then None else Some UnknownName
+name_refusal rows Stop = None
+
+-- with the event the history may not weigh more than the limit
+abbrev pub weight_refusal : Setup → Past → EventKind → Option StepFault
+weight_refusal setup past event =
+    if not (is_ending event) && nat_lt setup.limit (weight_of past + weight event)
+    then Some (HistoryFull (weight_of past + weight event) setup.limit) else None
+
+-- the first refusal, if there is one
+abbrev pub first_refusal : List (Option StepFault) → Option StepFault
+first_refusal [] = None
+first_refusal (Some fault ∷ refusals) = Some fault
+first_refusal (None ∷ refusals) = first_refusal refusals
+
 -- why an event of a seat is refused after this past, if it is
 abbrev pub refusal_of : Setup → Past → ℕ → EventKind → Option StepFault
-refusal_of setup past who (Open peer) =
-    if is_some (association_in past who) then Some Already
-    else (if nat_lt peer (length setup.centre.tables) then None else Some UnknownName)
-refusal_of setup past who (Request call) =
-    if is_some (association_in past who) then None else Some NoAssociation
-refusal_of setup past who (Update point value) =
-    if is_known setup.centre point value then None else Some UnknownName
+refusal_of setup past who event =
+    first_refusal (stop_refusal past event ∷ seat_refusal (association_in past who) event
+    ∷ name_refusal setup.centre event ∷ weight_refusal setup past event ∷ [])
 
 -- the answer to an event of this association, from nothing but the peer's own table and its view
 abbrev pub answer_by : CentreRows → Past → EventKind → Option Key → Answer
@@ -48,15 +97,18 @@ answer_of setup past who event = answer_by setup.centre past event (key_at event
 abbrev pub IsAnswer : Setup → Past → ℕ → EventKind → Answer → Type 0
 IsAnswer setup past who event answer = answer ≡ answer_of setup past who event
 
--- a refusal that isn't for want of memory is the event's own
-abbrev pub IsRefusal : Option StepFault → StepFault → Type 0
-IsRefusal refusal Memory = Unit {0}
-IsRefusal refusal NoAssociation = refusal ≡ Some NoAssociation
-IsRefusal refusal Already = refusal ≡ Some Already
-IsRefusal refusal UnknownName = refusal ≡ Some UnknownName
+-- a refusal that isn't for want of memory is the event's own; a close and a stop take no memory
+abbrev pub IsRefusal : EventKind → Option StepFault → StepFault → Type 0
+IsRefusal event refusal Memory = is_ending event ≡ false
+IsRefusal event refusal (Stopped place) = refusal ≡ Some (Stopped place)
+IsRefusal event refusal (HistoryFull weight limit) = refusal ≡ Some (HistoryFull weight limit)
+IsRefusal event refusal NoAssociation = refusal ≡ Some NoAssociation
+IsRefusal event refusal Already = refusal ≡ Some Already
+IsRefusal event refusal UnknownName = refusal ≡ Some UnknownName
 
 -- the right outcome of an event of a seat after this past
 abbrev pub IsRightOutcome : Setup → Past → ℕ → EventKind → Result Answer StepFault → Type 0
 IsRightOutcome setup past who event (Ok answer) =
     (refusal_of setup past who event ≡ None) × IsAnswer setup past who event answer
-IsRightOutcome setup past who event (Err fault) = IsRefusal (refusal_of setup past who event) fault
+IsRightOutcome setup past who event (Err fault) =
+    IsRefusal event (refusal_of setup past who event) fault

@@ -5,12 +5,13 @@ use Rattle.tase_points.specs.declared.kind.Kind.{Kind}
 use Rattle.tase_points.specs.declared.layout.TheConstants.{COV_MODULUS}
 use Rattle.tase_points.specs.Sample.{Sample}
 use Rattle.tase_points.specs.Values.{unknown_sample, is_change}
-use Rattle.tase_views.specs.View.{Seen, own, updated, View}
+use Rattle.tase_views.specs.View.{Seen, own, updated, stopped, View}
 
 -- the new value of the point with this name that an item is, where it is one
 abbrev pub update_of : List ℕ → Seen → Option Sample
 update_of name (own ordinal act) = None
 update_of name (updated point value) = if bytes_eq point name then Some value else None
+update_of name stopped = None
 
 -- the values that a point was given, the newest first
 abbrev pub values_in : View → List ℕ → List Sample

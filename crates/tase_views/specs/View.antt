@@ -2,28 +2,47 @@
 use Rattle.std.specs.Prelude.{ℕ, ◌==◌, if◌then◌else◌, List, [], ◌∷◌, ◌++◌, map, reverse, Option}
 use Rattle.std.specs.Prelude.{Some, None, is_some, filter_map}
 use Rattle.tase_points.specs.Sample.{Sample}
+use Rattle.mms_data.specs.Datum.{Datum}
 use Rattle.mms_data.specs.ObjectName.{ObjectName}
 use Rattle.bilateral.specs.Rows.{CentreRows, table_of, point_of, place_of_see}
 use Rattle.sbo_device.specs.declared.key.Key.{Key}
 use Rattle.tase_views.specs.declared.call.CallKind.{CallKind}
-use Rattle.tase_views.specs.declared.call.CallKind.TheVariants.{Read}
+use Rattle.tase_views.specs.declared.call.CallKind.TheVariants.{Identify, Read, Write, NameList, Odd}
 use Rattle.tase_views.specs.declared.event.EventKind.{EventKind}
-use Rattle.tase_views.specs.declared.event.EventKind.TheVariants.{Open, Request, Update}
+use Rattle.tase_views.specs.declared.event.EventKind.TheVariants.{Open, Request, Take, Close}
+use Rattle.tase_views.specs.declared.event.EventKind.TheVariants.{Update, Stop}
 use Rattle.tase_views.specs.History.{Past, key_at}
 
--- what an association does
+-- what an association does: it is opened, takes reports, is closed, reads or writes a variable, or
+-- makes another call
 pub data Act : Type 0 where
   opens : Act
+  takes : Act
+  closes : Act
   reads : ObjectName → Act
+  writes : ObjectName → Datum → Act
+  calls : CallKind → Act
 
--- an act of an association, or a new value of a point, by its number
+-- an act of an association, a new value of a point, by its number, or the stop of the node
 pub data Move : Type 0 where
   acts : Key → Act → Move
   updates : ℕ → Sample → Move
+  stops : Move
 
--- the acts of a call, one for each variable of a read, the newest first
+-- the writes of names, each with the value at its place
+abbrev pub writes_of : List ObjectName → List Datum → List Act
+writes_of [] values = []
+writes_of (name ∷ names) [] = []
+writes_of (name ∷ names) (value ∷ values) = writes name value ∷ writes_of names values
+
+-- the acts of a call, one for each variable of a read or a write and one for every other call, the
+-- newest first
 abbrev pub acts_of_call : CallKind → List Act
-acts_of_call (Read names) = reverse (map reads names)
+acts_of_call Identify = calls Identify ∷ []
+acts_of_call (Read names echo) = reverse (map reads names)
+acts_of_call (Write names values) = reverse (writes_of names values)
+acts_of_call (NameList class scope after) = calls (NameList class scope after) ∷ []
+acts_of_call (Odd kind code) = calls (Odd kind code) ∷ []
 
 -- acts of an association; a seat without one does nothing
 abbrev pub moves_by : Option Key → List Act → List Move
@@ -34,7 +53,10 @@ moves_by (Some key) acts_of = map (acts key) acts_of
 abbrev pub moves_of_event : EventKind → Option Key → List Move
 moves_of_event (Open peer) key = moves_by key (opens ∷ [])
 moves_of_event (Request call) key = moves_by key (acts_of_call call)
+moves_of_event Take key = moves_by key (takes ∷ [])
+moves_of_event Close key = moves_by key (closes ∷ [])
 moves_of_event (Update point value) key = updates point value ∷ []
+moves_of_event Stop key = stops ∷ []
 
 -- the moves of a history, the newest first
 abbrev pub moves_in : Past → List Move
@@ -42,18 +64,21 @@ moves_in [] = []
 moves_in (entry ∷ past) =
     moves_of_event entry.event (key_at entry.event past entry.who) ++ moves_in past
 
--- A move as a peer sees it: an act of its own association with this ordinal, or a new value of a
--- point, by its name.
+-- A move as a peer sees it: an act of its own association with this ordinal, a new value of a
+-- point, by its name, or the stop.
 pub data Seen : Type 0 where
   own : ℕ → Act → Seen
   updated : List ℕ → Sample → Seen
+  stopped : Seen
 
--- an act of the peer's own associations, or an update of a point that its table names; nothing else
+-- an act of the peer's own associations, an update of a point that its table names, or the stop;
+-- nothing else
 abbrev pub seen_by : CentreRows → ℕ → Move → Option Seen
 seen_by rows peer (acts key act) = if key.peer == peer then Some (own key.ordinal act) else None
 seen_by rows peer (updates point value) =
     if is_some (place_of_see (table_of rows peer) point)
     then Some (updated (point_of rows point).name value) else None
+seen_by rows peer stops = Some stopped
 
 -- what a peer sees of a history, the newest first
 abbrev pub View : Type 0

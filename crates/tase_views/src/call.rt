@@ -1,18 +1,53 @@
-ghost use Rattle.std.specs.Prelude.{◌≡◌};
+ghost use Rattle.std.specs.Prelude.{◌≡◌, IfOk};
 ghost use Rattle.tase_views.specs.Calls.{IsCall};
 
-use mms_data::Names;
+use ber_values::Visible;
+use item_list::ItemList;
+use mms_data::{MmsData, Names, Scope};
 use std::alloc::AllocError;
 use std::marker::Model;
+
+/// The class of named variables in a list of names (ISO 9506-2, `ObjectClass`).
+pub const NAMED_VARIABLES: u64 = 0;
+
+/// The class of named variable lists, which are the data sets.
+pub const NAMED_VARIABLE_LISTS: u64 = 2;
+
+/// The class of domains.
+pub const DOMAINS: u64 = 9;
+
+/// Values in order.
+pub type Values = ItemList<MmsData>;
 
 /// What a peer may ask (ISO 9506-2, the services of the profile).
 #[derive(Debug, Drop)]
 pub enum CallKind {
+    /// Who the node is.
+    Identify,
     /// Reads the named variables in order.
-    Read { names: Names },
+    Read {
+        names: Names,
+        /// Whether the reply is to repeat the names.
+        echo: bool,
+    },
+    /// Writes each named variable the value at the same place, in order.
+    Write { names: Names, values: Values },
+    /// The names of the objects of a class in a scope.
+    NameList {
+        /// The number of the class.
+        class: i64,
+        scope: Scope,
+        /// The name after which the list goes on.
+        after: Option<Visible>,
+    },
+    /// A request that no service of the profile is: the kind and the code of the reject that
+    /// answers it.
+    Odd { kind: u8, code: u8 },
 }
 
-/// A call of a peer: a [`CallKind`] with at least one name in each of its lists of names.
+/// A call of a peer: a [`CallKind`] with at least one name in each of its lists of names, as many
+/// lawful values as names, one to 64 octets in each name, and the kind and code 1 and 1 or 5 and 1
+/// of an odd one.
 #[derive(Debug, Drop)]
 pub struct Call {
     kind: CallKind,
@@ -22,6 +57,10 @@ impl Model for Call {
     ghost use Rattle.tase_views.specs.declared.call.CallKind.{CallKind};
 
     ghost Value = { CallKind };
+
+    ghost use Rattle.tase_views.specs.CallCode.{call_code};
+
+    ghost coded = { call_code };
 
     ghost use Rattle.tase_views.specs.Calls.{IsCall};
 
@@ -51,10 +90,38 @@ impl Clone for Call {
 
     fn clone(&self) -> Result<Call, AllocError> {
         let kind = match &self.kind {
-            CallKind::Read { names } => CallKind::Read {
+            CallKind::Identify => CallKind::Identify,
+            CallKind::Read { names, echo } => CallKind::Read {
                 names: names.clone()?,
+                echo: *echo,
+            },
+            CallKind::Write { names, values } => CallKind::Write {
+                names: names.clone()?,
+                values: values.clone()?,
+            },
+            CallKind::NameList {
+                class,
+                scope,
+                after,
+            } => CallKind::NameList {
+                class: *class,
+                scope: scope.clone()?,
+                after: copy_of(after)?,
+            },
+            CallKind::Odd { kind, code } => CallKind::Odd {
+                kind: *kind,
+                code: *code,
             },
         };
         Ok(Call { kind })
+    }
+}
+
+fn copy_of(name: &Option<Visible>) -> Result<Option<Visible>, AllocError>
+    ensures { IfOk result (λ copy. copy ≡ name.now) }
+{
+    match name {
+        Some(name) => Ok(Some(name.clone()?)),
+        None => Ok(None),
     }
 }

@@ -12,8 +12,14 @@ pub enum EventKind {
     Open { peer: u32 },
     /// The peer of an open association asks something.
     Request { call: Call },
+    /// The peer of an open association takes the reports that were made for it.
+    Take,
+    /// An open association ends.
+    Close,
     /// The centre's own systems give a point, by its number, a value.
     Update { point: u32, value: PointValue },
+    /// The node stops: afterwards it takes closes alone.
+    Stop,
 }
 
 /// An event of a node: an [`EventKind`].
@@ -26,6 +32,10 @@ impl Model for Event {
     ghost use Rattle.tase_views.specs.declared.event.EventKind.{EventKind};
 
     ghost Value = { EventKind };
+
+    ghost use Rattle.tase_views.specs.EventCode.{event_code};
+
+    ghost coded = { event_code };
 
     ghost view = { λ event. event.kind };
 }
@@ -53,10 +63,13 @@ impl Clone for Event {
             EventKind::Request { call } => EventKind::Request {
                 call: call.clone()?,
             },
+            EventKind::Take => EventKind::Take,
+            EventKind::Close => EventKind::Close,
             EventKind::Update { point, value } => EventKind::Update {
                 point: *point,
                 value: *value,
             },
+            EventKind::Stop => EventKind::Stop,
         };
         Ok(Event { kind })
     }

@@ -8,7 +8,11 @@ use std::alloc::{AllocError, AllocFailed};
 pub enum StepFault {
     /// Memory ran out.
     Memory,
-    /// A request of a seat without an open association.
+    /// The history has a stop, at this place, which counts from 0.
+    Stopped { at: u64 },
+    /// The history would weigh so many octets, and may weigh at most `limit`.
+    HistoryFull { weight: u64, limit: u64 },
+    /// A request, a take or a close of a seat without an open association.
     NoAssociation,
     /// An open of a seat that has an open association already.
     Already,

@@ -1,4 +1,4 @@
-//! Events, calls and replies of a TASE.2 node, their texts, and the definitions by which the node
+//! Events, calls and replies of a TASE.2 node, what events weigh, and the definitions by which the node
 //! is judged: associations, a peer's own table, a peer's view of the history, and the answer to
 //! each event.
 #![tactic(auto)]
@@ -8,11 +8,15 @@ mod event;
 mod fault;
 mod laws;
 mod reply;
-mod texts;
+mod weight;
 
-pub use call::{Call, CallKind};
+pub use call::{Call, CallKind, DOMAINS, NAMED_VARIABLE_LISTS, NAMED_VARIABLES, Values};
 pub use event::{Entry, Event, EventKind};
 pub use fault::StepFault;
 pub use laws::{others_are_unseen, seats_are_unseen, two_worlds, views_are_of_entries};
-pub use reply::{Answer, OBJECT_NON_EXISTENT, Reply, ReplyKind, Results};
-pub use texts::{read_call, spell_reply};
+pub use reply::{
+    ACCESS_DENIED, ACCESS_ERRORS, Answer, NAMES_LIMIT, NON_EXISTENT, OBJECT_ACCESS_DENIED,
+    OBJECT_NON_EXISTENT, ObjectNames, ReadSpec, Reply, ReplyKind, Report, Reports, Results,
+    WriteResults,
+};
+pub use weight::MOST_WEIGHT;

@@ -1,25 +1,71 @@
 ghost use Rattle.std.specs.Prelude.{◌≡◌};
+ghost use Rattle.tase_views.specs.Replies.{IsReply};
 
+use ber_values::Visible;
 use item_list::ItemList;
-use mms_data::Outcome;
+use mms_data::{Names, Outcome};
 use sbo_device::Key;
 use std::marker::Model;
 
-/// The reason of a read that a name doesn't exist (ISO 9506-2, `DataAccessError`:
+/// The reason of an access that a name doesn't exist (ISO 9506-2, `DataAccessError`:
 /// object-non-existent).
 pub const OBJECT_NON_EXISTENT: u8 = 10;
+
+/// The reason of an access that the peer may not have it (`DataAccessError`:
+/// object-access-denied).
+pub const OBJECT_ACCESS_DENIED: u8 = 3;
+
+/// The class of errors of access (ISO 9506-2, `ServiceError`: access).
+pub const ACCESS_ERRORS: u8 = 7;
+
+/// The error of access that an object doesn't exist (object-non-existent).
+pub const NON_EXISTENT: u8 = 2;
+
+/// The error of access that the peer may not have it (object-access-denied).
+pub const ACCESS_DENIED: u8 = 3;
+
+/// The most names of one list of names.
+pub const NAMES_LIMIT: usize = 100;
 
 /// The outcomes of the variables of a read, in order.
 pub type Results = ItemList<Outcome>;
 
+/// What came of each variable of a write, in order: none where it was written, else the number of
+/// the reason, a `DataAccessError`.
+pub type WriteResults = ItemList<Option<u8>>;
+
+/// The names of objects.
+pub type ObjectNames = ItemList<Visible>;
+
+/// What a read named.
+#[derive(Drop)]
+pub enum ReadSpec {
+    /// These variables.
+    List(Names),
+}
+
 /// What a call is answered.
 #[derive(Drop)]
 pub enum ReplyKind {
-    /// To a read: an outcome for each variable.
-    Results { results: Results },
+    /// To an identify: the node's name.
+    Identified,
+    /// To a read: what it named, where it asked for that, and an outcome for each variable.
+    Results {
+        spec: Option<ReadSpec>,
+        results: Results,
+    },
+    /// To a write: what came of each variable.
+    Written(WriteResults),
+    /// To a list of names: names in the order of their octets, and whether more follow.
+    NamesAre { names: ObjectNames, more: bool },
+    /// The call failed: an error's class and code (ISO 9506-2, `ServiceError`).
+    Error { class: u8, code: u8 },
+    /// The call isn't one: a reject's kind and code (ISO 9506-2, `RejectPDU`).
+    Reject { kind: u8, code: u8 },
 }
 
-/// The reply to a call: a [`ReplyKind`].
+/// The reply to a call: a [`ReplyKind`] with at least one name in what a read named, one to 64
+/// octets in each name, an error's class up to 15, and a reject's kind from 1 to 15.
 #[derive(Drop)]
 pub struct Reply {
     kind: ReplyKind,
@@ -34,22 +80,35 @@ impl Model for Reply {
 
     ghost coded = { reply_code };
 
+    ghost use Rattle.tase_views.specs.Replies.{IsReply};
+
     ghost view = { λ reply. reply.kind };
+
+    ghost invariant = { λ reply. IsReply reply.kind };
 }
 
 impl Reply {
     pub fn new(kind: ReplyKind) -> Reply
+        requires { IsReply kind }
         ensures { result ≡ kind }
     {
         Reply { kind }
     }
 
     pub fn kind(&self) -> &ReplyKind
-        ensures { result.now ≡ self.now }
+        ensures value { result.now ≡ self.now }
+        ensures lawful { IsReply self.now }
     {
         &self.kind
     }
 }
+
+/// A report to a peer. No kind of report is made yet.
+#[derive(Drop)]
+pub enum Report {}
+
+/// Reports in the order in which they were made.
+pub type Reports = ItemList<Report>;
 
 /// The node's answer to an event.
 #[derive(Drop)]
@@ -58,6 +117,10 @@ pub enum Answer {
     Opened { key: Key },
     /// To a request.
     Reply(Reply),
-    /// To an update: it was taken.
+    /// To a take: the reports that were made for the association since its last take.
+    Reports(Reports),
+    /// To a close: the association is closed.
+    Closed,
+    /// To an update or a stop: it was taken.
     Noted,
 }

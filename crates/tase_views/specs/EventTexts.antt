@@ -1,0 +1,69 @@
+-- The texts of calls and events, which weigh a history.
+use Rattle.std.specs.Prelude.{ℕ, if◌then◌else◌, Bool, List, [], ◌∷◌, ◌++◌, flat_map, Option, Some}
+use Rattle.std.specs.Prelude.{None, codes, decimal}
+use Rattle.std.specs.Fmt.{signed_decimal}
+use Rattle.plain_text.specs.Octets.{hex_text}
+use Rattle.plain_text.specs.Escaped.{escaped_text}
+use Rattle.tase_points.specs.declared.body.Body.{Body}
+use Rattle.tase_points.specs.declared.body.Body.TheVariants.{State, Discrete, Real}
+use Rattle.tase_points.specs.Sample.{Sample}
+use Rattle.mms_data.specs.Datum.{Datum}
+use Rattle.mms_data.specs.ObjectName.{ObjectName}
+use Rattle.mms_text.specs.Texts.{data_text, scope_text, name_text}
+use Rattle.tase_views.specs.declared.call.CallKind.{CallKind}
+use Rattle.tase_views.specs.declared.call.CallKind.TheVariants.{Identify, Read, Write, NameList, Odd}
+use Rattle.tase_views.specs.declared.event.EventKind.{EventKind}
+use Rattle.tase_views.specs.declared.event.EventKind.TheVariants.{Open, Request, Take, Close}
+use Rattle.tase_views.specs.declared.event.EventKind.TheVariants.{Update, Stop}
+
+-- a name after a space
+abbrev pub next_name : ObjectName → List ℕ
+next_name name = 32 ∷ name_text name
+
+-- each name with the value at its place, after a space
+abbrev pub assigned_text : List ObjectName → List Datum → List ℕ
+assigned_text [] values = []
+assigned_text (name ∷ names) [] = []
+assigned_text (name ∷ names) (value ∷ values) =
+    next_name name ++ 61 ∷ data_text value ++ assigned_text names values
+
+-- the name after which a list of names goes on, after a space
+abbrev pub after_text : Option (List ℕ) → List ℕ
+after_text None = []
+after_text (Some after) = 32 ∷ escaped_text after
+
+-- the first word of a read; with a plus the reply is to repeat the names
+abbrev pub read_verb : Bool → List ℕ
+read_verb echo = if echo then codes "read+" else codes "read"
+
+-- `identify`, `read NAME ..`, `read+ NAME ..`, `write NAME=DATA ..`, `names CLASS SCOPE`,
+-- `names CLASS SCOPE AFTER` or `odd KIND CODE`
+abbrev pub call_text : CallKind → List ℕ
+call_text Identify = codes "identify"
+call_text (Read names echo) = read_verb echo ++ flat_map next_name names
+call_text (Write names values) = codes "write" ++ assigned_text names values
+call_text (NameList class scope after) =
+    codes "names " ++ signed_decimal class ++ 32 ∷ scope_text scope ++ after_text after
+call_text (Odd kind code) = codes "odd " ++ decimal kind ++ 32 ∷ decimal code
+
+-- `s` and a state, `d` and a discrete value, `r` and the eight digits of a real one
+abbrev pub body_text : Body → List ℕ
+body_text (State s) = codes "s" ++ decimal s
+body_text (Discrete d) = codes "d" ++ signed_decimal d
+body_text (Real r) = codes "r" ++ hex_text r
+
+-- `BODY FLAGS SECONDS MILLIS`
+abbrev pub value_text : Sample → List ℕ
+value_text value =
+    body_text value.body ++ 32 ∷ hex_text (value.flags ∷ []) ++ 32 ∷ decimal value.seconds
+    ++ 32 ∷ decimal value.millis
+
+-- `open PEER`, `call CALL`, `take`, `close`, `update POINT VALUE` or `stop`; peers and points by
+-- their numbers
+abbrev pub event_text : EventKind → List ℕ
+event_text (Open peer) = codes "open " ++ decimal peer
+event_text (Request call) = codes "call " ++ call_text call
+event_text Take = codes "take"
+event_text Close = codes "close"
+event_text (Update point value) = codes "update " ++ decimal point ++ 32 ∷ value_text value
+event_text Stop = codes "stop"
