@@ -3,7 +3,8 @@ use Rattle.std.proofs.Common.{◌≡◌, ◌==◌, ℕ, ◌+◌, [], ◌∷◌, 
 use Rattle.std.proofs.lemmas.Bool.{cases_eq, eq-eqb, ne_eqb}
 use Rattle.sbo_device.specs.declared.key.Key.{Key}
 use Rattle.tase_views.specs.declared.event.EventKind.{EventKind}
-use Rattle.tase_views.specs.declared.event.EventKind.TheVariants.{Open, Request, Update}
+use Rattle.tase_views.specs.declared.event.EventKind.TheVariants.{Open, Request, Take, Close}
+use Rattle.tase_views.specs.declared.event.EventKind.TheVariants.{Update, Stop}
 use Rattle.tase_views.specs.History.{Past, counts_open, opens_in, association_after, association_in}
 use Rattle.tase_views.specs.History.{key_at}
 use Rattle.tase_views.specs.View.{moves_in}
@@ -26,7 +27,10 @@ after-reseated : (seat : ℕ → ℕ) (past : Past) (event : EventKind) (before 
     → association_after event (reseated seat past) before ≡ association_after event past before
 after-reseated seat past (Open peer) before = rw (opens_in-reseated seat past peer) refl
 after-reseated seat past (Request call) before = refl
+after-reseated seat past Take before = refl
+after-reseated seat past Close before = refl
 after-reseated seat past (Update point value) before = refl
+after-reseated seat past Stop before = refl
 
 association_in-reseated : (seat : ℕ → ℕ) → IsInjective seat → (past : Past) (who : ℕ)
     → association_in (reseated seat past) (seat who) ≡ association_in past who
@@ -42,8 +46,11 @@ key_at-reseated : (seat : ℕ → ℕ) → IsInjective seat → (past : Past) (w
     → key_at event (reseated seat past) (seat who) ≡ key_at event past who
 key_at-reseated seat apart past who (Open peer) = rw (opens_in-reseated seat past peer) refl
 key_at-reseated seat apart past who (Request call) = association_in-reseated seat apart past who
+key_at-reseated seat apart past who Take = association_in-reseated seat apart past who
+key_at-reseated seat apart past who Close = association_in-reseated seat apart past who
 key_at-reseated seat apart past who (Update point value) =
     association_in-reseated seat apart past who
+key_at-reseated seat apart past who Stop = association_in-reseated seat apart past who
 
 pub moves_in-reseated : (seat : ℕ → ℕ) → IsInjective seat → (past : Past)
     → moves_in (reseated seat past) ≡ moves_in past

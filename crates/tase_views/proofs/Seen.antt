@@ -1,15 +1,18 @@
 -- What a peer sees of one more entry of a history.
-use Rattle.std.proofs.Common.{◌≡◌, ◌==◌, ℕ, false, List, [], ◌∷◌, ◌++◌, map, Option, Some, None}
+use Rattle.std.proofs.Common.{◌≡◌, ◌==◌, ℕ, true, false, List, [], ◌∷◌, ◌++◌, map, Option, Some, None}
 use Rattle.std.proofs.Common.{refl, ap, ◌∙◌}
 use Rattle.std.specs.List.{filter_map}
+use Rattle.std.proofs.lemmas.Bool.{true≢false}
 use Rattle.std.proofs.lemmas.List.Elements.{filter_map-append}
 use Rattle.bilateral.specs.Rows.{CentreRows}
 use Rattle.sbo_device.specs.declared.key.Key.{Key}
 use Rattle.tase_views.specs.declared.event.EventKind.{EventKind}
-use Rattle.tase_views.specs.declared.event.EventKind.TheVariants.{Open, Request, Update}
+use Rattle.tase_views.specs.declared.event.EventKind.TheVariants.{Open, Request, Take, Close}
+use Rattle.tase_views.specs.declared.event.EventKind.TheVariants.{Update, Stop}
 use Rattle.tase_views.specs.declared.event.Entry.{Entry}
 use Rattle.tase_views.specs.History.{Past, key_at}
-use Rattle.tase_views.specs.View.{Act, opens, acts, acts_of_call, moves_by, moves_of_event}
+use Rattle.tase_views.specs.View.{Act, opens, takes, closes, acts, acts_of_call, moves_by}
+use Rattle.tase_views.specs.View.{moves_of_event}
 use Rattle.tase_views.specs.View.{moves_in, seen_by, View, view_of}
 use Rattle.tase_views.specs.Concerns.{is_of, concerns}
 
@@ -30,7 +33,10 @@ unseen_event : (rows : CentreRows) (peer : ℕ) (event : EventKind) (key : Optio
     → filter_map (seen_by rows peer) (moves_of_event event key) ≡ []
 unseen_event rows peer (Open opener) key apart = unseen_by rows peer key (opens ∷ []) apart
 unseen_event rows peer (Request call) key apart = unseen_by rows peer key (acts_of_call call) apart
+unseen_event rows peer Take key apart = unseen_by rows peer key (takes ∷ []) apart
+unseen_event rows peer Close key apart = unseen_by rows peer key (closes ∷ []) apart
 unseen_event rows peer (Update point value) key apart = rw apart refl
+unseen_event rows peer Stop key apart = absurd (true≢false apart)
 
 -- what is seen of an entry stands before what is seen of the past
 pub view_of-entry : (rows : CentreRows) (peer : ℕ) (past : Past) (entry : Entry)
