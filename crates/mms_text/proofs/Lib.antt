@@ -10,3 +10,4 @@ pub mod TextLevels
 pub mod TextBreaks
 pub mod TextReading
 pub mod WorkedTexts
+pub mod TextLengths

@@ -219,7 +219,7 @@ Alone-seen rows peer full part entry own alone = λ who apart.
     else association_in full who) ≡ false → (if b
     then association_after entry.event part (association_in part who)
     else association_in part who) ≡ None) [
-      true ↦ λ away. after entry.event who own away
+      | true ↦ λ away. after entry.event who own away
       | false ↦ λ away. alone who away
     ] apart
   where

@@ -2,3 +2,4 @@ pub mod Seen
 pub mod Alike
 pub mod Reseated
 pub mod Worked
+pub mod TextLengths

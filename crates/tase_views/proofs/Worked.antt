@@ -216,10 +216,10 @@ unfolding digits
 odd-text = refl
 
 update-text : event_text (Update 0 (record {
-      body = bodies.State 2;
-      flags = 0;
-      seconds = 1700000000;
-      millis = 0;
-    })) ≡ codes "update 0 s2 00 1700000000 0"
+  body = bodies.State 2;
+  flags = 0;
+  seconds = 1700000000;
+  millis = 0;
+})) ≡ codes "update 0 s2 00 1700000000 0"
 unfolding digits
 update-text = refl

@@ -1,9 +1,9 @@
 -- The names of the objects that there are for a peer (ISO 9506-2, GetNameList).
-use Rattle.std.specs.Prelude.{ℕ, ℤ, pos, ◌<◌, nat_lt, Bool, true, false, not, ◌&&◌, ◌==◌}
+use Rattle.std.specs.Prelude.{ℕ, ℤ, nat_lt, Bool, true, false, not, ◌&&◌}
 use Rattle.std.specs.Prelude.{if◌then◌else◌, List, [], ◌∷◌, length, map, filter, take, Option, Some}
 use Rattle.std.specs.Prelude.{None, bytes_eq}
 use Rattle.std.specs.Cmp.Lexicographic.{slice_cmp}
-use Rattle.std.specs.Ordering.{is_lt, nat_cmp}
+use Rattle.std.specs.Ordering.{is_lt, nat_cmp, int_eq}
 use Rattle.mms_data.specs.declared.object_name.Scope.{Scope}
 use Rattle.mms_data.specs.declared.object_name.Scope.TheVariants.{Vmd, Domain, Association}
 use Rattle.tase_views.specs.declared.call.TheConstants.{NAMED_VARIABLES, NAMED_VARIABLE_LISTS}
@@ -38,11 +38,6 @@ is_after (Some after) name = is_below after name
 abbrev pub first_of : List (List ℕ) → ReplyKind
 first_of names = NamesAre (take NAMES_LIMIT names) (nat_lt NAMES_LIMIT (length names))
 
--- whether a class is this one
-abbrev pub is_class : ℕ → ℤ → Bool
-is_class wanted (pos class) = class == wanted
-is_class wanted class = false
-
 abbrev pub is_vmd : Scope → Bool
 is_vmd Vmd = true
 is_vmd (Domain domain) = false
@@ -63,9 +58,9 @@ variables_in table scope =
 -- whole device, and no lists of variables
 abbrev pub objects_in : OwnTable → ℤ → Scope → Option (List (List ℕ))
 objects_in table class scope =
-    if is_class NAMED_VARIABLES class then Some (variables_in table scope)
-    else (if is_class DOMAINS class && is_vmd scope then Some (table.domain ∷ [])
-    else (if is_class NAMED_VARIABLE_LISTS class then Some [] else None))
+    if int_eq class NAMED_VARIABLES then Some (variables_in table scope)
+    else (if int_eq class DOMAINS && is_vmd scope then Some (table.domain ∷ [])
+    else (if int_eq class NAMED_VARIABLE_LISTS then Some [] else None))
 
 -- of these names those after a name, in order; no other class may be listed
 abbrev pub listed : Option (List ℕ) → Option (List (List ℕ)) → ReplyKind

@@ -8,13 +8,13 @@ use std::alloc::AllocError;
 use std::marker::Model;
 
 /// The class of named variables in a list of names (ISO 9506-2, `ObjectClass`).
-pub const NAMED_VARIABLES: u64 = 0;
+pub const NAMED_VARIABLES: i64 = 0;
 
 /// The class of named variable lists, which are the data sets.
-pub const NAMED_VARIABLE_LISTS: u64 = 2;
+pub const NAMED_VARIABLE_LISTS: i64 = 2;
 
 /// The class of domains.
-pub const DOMAINS: u64 = 9;
+pub const DOMAINS: i64 = 9;
 
 /// Values in order.
 pub type Values = ItemList<MmsData>;
@@ -31,7 +31,10 @@ pub enum CallKind {
         echo: bool,
     },
     /// Writes each named variable the value at the same place, in order.
-    Write { names: Names, values: Values },
+    Write {
+        names: Names,
+        values: Values,
+    },
     /// The names of the objects of a class in a scope.
     NameList {
         /// The number of the class.
@@ -42,7 +45,10 @@ pub enum CallKind {
     },
     /// A request that no service of the profile is: the kind and the code of the reject that
     /// answers it.
-    Odd { kind: u8, code: u8 },
+    Odd {
+        kind: u8,
+        code: u8,
+    },
 }
 
 /// A call of a peer: a [`CallKind`] with at least one name in each of its lists of names, as many

@@ -4,15 +4,16 @@ ghost use Rattle.tase_points.specs.Sample.{Sample};
 ghost use Rattle.bilateral.specs.Rows.{CentreRows, table_of, place_of_see};
 ghost use Rattle.sbo_device.specs.declared.key.Key.{Key};
 ghost use Rattle.tase_views.specs.declared.call.CallKind.{CallKind as AnyCall};
-ghost use Rattle.tase_views.specs.declared.event.EventKind.TheVariants.{Open, Request, Update};
+ghost use Rattle.tase_views.specs.declared.event.EventKind.TheVariants.{Open, Request, Take};
+ghost use Rattle.tase_views.specs.declared.event.EventKind.TheVariants.{Close, Update};
 ghost use Rattle.tase_views.specs.History.{Past, association_in};
 ghost use Rattle.tase_views.specs.OwnTable.{own_table};
 ghost use Rattle.tase_views.specs.View.{view_of};
 ghost use Rattle.tase_views.specs.Concerns.{entries_for, reseated, IsInjective};
 ghost use Rattle.tase_views.specs.Answers.{reply_to};
 
-/// An open or a request of another peer leaves a peer's view as it was, and so does an update of a
-/// point that the peer's table doesn't name.
+/// An open, a request, a take or a close of another peer leaves a peer's view as it was, and so does
+/// an update of a point that the peer's table doesn't name.
 pub fn others_are_unseen()
     ensures open { (rows : CentreRows) (past : Past) (peer other who : ℕ) → other ≢ peer
         → view_of rows peer (record { who = who; event = Open other } ∷ past)
@@ -20,6 +21,14 @@ pub fn others_are_unseen()
     ensures request { (rows : CentreRows) (past : Past) (peer who : ℕ) (key : Key) (call : AnyCall)
         → association_in past who ≡ Some key → key.peer ≢ peer
         → view_of rows peer (record { who = who; event = Request call } ∷ past)
+        ≡ view_of rows peer past }
+    ensures take { (rows : CentreRows) (past : Past) (peer who : ℕ) (key : Key)
+        → association_in past who ≡ Some key → key.peer ≢ peer
+        → view_of rows peer (record { who = who; event = Take } ∷ past)
+        ≡ view_of rows peer past }
+    ensures close { (rows : CentreRows) (past : Past) (peer who : ℕ) (key : Key)
+        → association_in past who ≡ Some key → key.peer ≢ peer
+        → view_of rows peer (record { who = who; event = Close } ∷ past)
         ≡ view_of rows peer past }
     ensures update { (rows : CentreRows) (past : Past) (peer who point : ℕ) (value : Sample)
         → place_of_see (table_of rows peer) point ≡ None

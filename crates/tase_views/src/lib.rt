@@ -8,7 +8,7 @@ mod event;
 mod fault;
 mod laws;
 mod reply;
-mod weight;
+mod weights;
 
 pub use call::{Call, CallKind, DOMAINS, NAMED_VARIABLE_LISTS, NAMED_VARIABLES, Values};
 pub use event::{Entry, Event, EventKind};
@@ -19,4 +19,4 @@ pub use reply::{
     OBJECT_NON_EXISTENT, ObjectNames, ReadSpec, Reply, ReplyKind, Report, Reports, Results,
     WriteResults,
 };
-pub use weight::MOST_WEIGHT;
+pub use weights::weight;

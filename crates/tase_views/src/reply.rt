@@ -57,11 +57,20 @@ pub enum ReplyKind {
     /// To a write: what came of each variable.
     Written(WriteResults),
     /// To a list of names: names in the order of their octets, and whether more follow.
-    NamesAre { names: ObjectNames, more: bool },
+    NamesAre {
+        names: ObjectNames,
+        more: bool,
+    },
     /// The call failed: an error's class and code (ISO 9506-2, `ServiceError`).
-    Error { class: u8, code: u8 },
+    Error {
+        class: u8,
+        code: u8,
+    },
     /// The call isn't one: a reject's kind and code (ISO 9506-2, `RejectPDU`).
-    Reject { kind: u8, code: u8 },
+    Reject {
+        kind: u8,
+        code: u8,
+    },
 }
 
 /// The reply to a call: a [`ReplyKind`] with at least one name in what a read named, one to 64

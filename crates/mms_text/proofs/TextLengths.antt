@@ -1,0 +1,42 @@
+-- Lengths of the texts of data: of values without members, and of members one by one.
+use Rattle.std.proofs.Common.{◌≡◌, ◌==◌, ℕ, zero, suc, ◌+◌, ◌*◌, ◌<◌, ◌≤◌, Bool, true, false, List}
+use Rattle.std.proofs.Common.{[], ◌∷◌, ◌++◌, length, take, get_or, refl, sym, ap, ◌∙◌, arith}
+use Rattle.std.specs.Prelude.{if◌then◌else◌, decimal}
+use Rattle.std.specs.Fmt.{signed_decimal}
+use Rattle.std.proofs.lemmas.Bool.{ne_eqb}
+use Rattle.std.proofs.lemmas.List.{length-append}
+use Rattle.plain_text.specs.Octets.{hex_text}
+use Rattle.plain_text.specs.Lengths.{capped}
+use Rattle.plain_text.proofs.TextLengths.{capped-sum, length-hex_text}
+use Rattle.mms_data.specs.Datum.{Datum, data_of, structure, array}
+use Rattle.mms_text.specs.Texts.{data_text, members_text}
+use Rattle.mms_text.proofs.Spelled.{members_text-take_one, members_text-take_more}
+
+-- the text of the members up to one, by that of those before it
+members_text-length : (ds : List Datum) (i : ℕ) (d : Datum) → i < length ds
+    → length (members_text (data_of (take (i + 1) ds)))
+    ≡ length (members_text (data_of (take i ds)))
+    + ((if i == 0 then 0 else 1) + length (data_text (get_or ds i d)))
+members_text-length ds zero d within =
+    ap length (members_text-take_one ds 0 d within refl)
+    ∙ length-append (members_text (data_of (take 0 ds))) (data_text (get_or ds 0 d))
+    ∙ omega arith
+members_text-length ds (suc i) d within =
+    let later : (suc i == 0) ≡ false = ne_eqb (suc i) 0 (λ e. omega arith) in
+    rw later (ap length (members_text-take_more ds (suc i) d within (omega arith))
+    ∙ length-append (members_text (data_of (take (suc i) ds))) (44 ∷ data_text (get_or ds (suc i) d))
+    ∙ omega arith)
+
+pub capped-member : (ds : List Datum) (i : ℕ) (d : Datum) → i < length ds
+    → capped (capped (length (members_text (data_of (take i ds))))
+    + capped ((if i == 0 then 0 else 1) + capped (length (data_text (get_or ds i d)))))
+    ≡ capped (length (members_text (data_of (take (i + 1) ds))))
+capped-member ds i d within = omega (arith, members_text-length ds i d within)
+
+pub ruleset member_lengths = (capped-member)
+
+-- members in brackets
+pub bracketed-length : (a b : ℕ) (os : List ℕ) (n : ℕ) → n ≡ capped (length os)
+    → capped (2 + n) ≡ capped (length ((a ∷ []) ++ os ++ (b ∷ [])))
+bracketed-length a b os n e =
+    omega (arith, e, length-append ((a ∷ []) ++ os) (b ∷ []), length-append (a ∷ []) os)

@@ -1,0 +1,136 @@
+//! What events weigh in a history.
+ghost use Rattle.std.specs.Prelude.{◌≡◌, ◌≤◌, length, flat_map};
+ghost use Rattle.plain_text.specs.Lengths.{capped};
+ghost use Rattle.plain_text.specs.declared.lengths.TheConstants.{MOST_LEN};
+ghost use Rattle.tase_views.specs.declared.event.EventKind.TheVariants.{Update};
+ghost use Rattle.tase_views.specs.declared.call.CallKind.{CallKind as AnyCall};
+ghost use Rattle.tase_views.specs.EventTexts.{call_text, read_verb, next_name};
+ghost use Rattle.tase_views.specs.EventTexts.{assigned_text, after_text, body_text, value_text};
+ghost use Rattle.tase_views.specs.Weights.{weight};
+
+use crate::call::{Call, CallKind};
+use crate::event::{Event, EventKind};
+use ber_values::Visible;
+use mms_data::{MmsData, Name, Scope};
+use mms_text::{data_text_len, name_text_len, scope_text_len};
+use plain_text::{add_len, decimal_len, escaped_len, signed_decimal_len};
+use tase_points::{Body, PointValue};
+
+/// What an event weighs: the number of octets of its text, or 2^62 where that is longer.
+pub fn weight(event: &Event) -> u64
+    ensures value { result ≡ weight event.now }
+    ensures most { result ≤ MOST_LEN }
+{
+    match event.kind() {
+        EventKind::Open { peer } => 5 + decimal_len(u64::from(*peer)),
+        EventKind::Request { call } => add_len(5, call_len(call)),
+        EventKind::Take => 4,
+        EventKind::Close => 5,
+        EventKind::Update { point, value } => update_len(*point, value),
+        EventKind::Stop => 4,
+    }
+}
+
+/// How many octets the text of an update has.
+fn update_len(point: u32, value: &PointValue) -> u64
+    ensures { result ≡ weight (Update point value.now) }
+{
+    8 + decimal_len(u64::from(point)) + value_len(value)
+}
+
+/// How many octets the text of a point's value has.
+fn value_len(value: &PointValue) -> u64
+    ensures exact { result ≡ length (value_text value.now) }
+    ensures few { result ≤ 66 }
+{
+    body_len(&value.body())
+        + 4
+        + decimal_len(u64::from(value.seconds()))
+        + 1
+        + decimal_len(u64::from(value.millis()))
+}
+
+fn body_len(body: &Body) -> u64
+    ensures exact { result ≡ length (body_text body.now) }
+    ensures few { result ≤ 22 }
+{
+    match body {
+        Body::State(state) => 1 + decimal_len(u64::from(*state)),
+        Body::Discrete(discrete) => 1 + signed_decimal_len(i64::from(*discrete)),
+        Body::Real(_) => 9,
+    }
+}
+
+/// How many octets the text of a call has, or 2^62 where it has as many or more.
+fn call_len(call: &Call) -> u64
+    ensures { result ≡ capped (length (call_text call.now)) }
+{
+    match call.kind() {
+        CallKind::Identify => 8,
+        CallKind::Read { names, echo } => add_len(verb_len(*echo), names_len(names.as_slice())),
+        CallKind::Write { names, values } => {
+            add_len(5, assigned_len(names.as_slice(), values.as_slice()))
+        }
+        CallKind::NameList {
+            class,
+            scope,
+            after,
+        } => list_len(*class, scope, after),
+        CallKind::Odd { kind, code } => odd_len(*kind, *code),
+    }
+}
+
+fn verb_len(echo: bool) -> u64
+    ensures exact { result ≡ length (read_verb echo) }
+    ensures few { result ≤ 5 }
+{
+    if echo { 5 } else { 4 }
+}
+
+/// Names, each after a space.
+#[tactic(auto, using(crate::proofs::TextLengths::next_names))]
+fn names_len(names: &[Name]) -> u64
+    ensures { result ≡ capped (length (flat_map next_name names.now)) }
+{
+    let mut len = 0;
+    for name in names {
+        len = add_len(len, 1 + name_text_len(name));
+    }
+    len
+}
+
+/// Names with their values, each after a space.
+#[tactic(auto, using(crate::proofs::TextLengths::next_values))]
+fn assigned_len(names: &[Name], values: &[MmsData]) -> u64
+    requires { length values.now ≡ length names.now }
+    ensures { result ≡ capped (length (assigned_text names.now values.now)) }
+{
+    let mut len = 0;
+    for (place, name) in names.iter().enumerate() {
+        let value = data_text_len(&values[place]);
+        len = add_len(len, add_len(2 + name_text_len(name), value));
+    }
+    len
+}
+
+fn list_len(class: i64, scope: &Scope, after: &Option<Visible>) -> u64
+    ensures { result ≡ capped (length (call_text (AnyCall.NameList class scope.now after.now))) }
+{
+    7 + signed_decimal_len(class) + scope_text_len(scope) + after_len(after)
+}
+
+fn after_len(after: &Option<Visible>) -> u64
+    ensures exact { result ≡ length (after_text after.now) }
+    ensures few { result ≤ 193 }
+{
+    match after {
+        Some(after) => 1 + escaped_len(after.as_slice()),
+        None => 0,
+    }
+}
+
+fn odd_len(kind: u8, code: u8) -> u64
+    ensures { result ≡ capped (length (call_text (AnyCall.Odd kind code))) }
+{
+    5 + decimal_len(u64::from(kind)) + decimal_len(u64::from(code))
+}
