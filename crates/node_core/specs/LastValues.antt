@@ -3,7 +3,8 @@ use Rattle.std.specs.Prelude.{ℕ, ◌==◌, if◌then◌else◌, List, Option, 
 use Rattle.tase_points.specs.Sample.{Sample}
 use Rattle.bilateral.specs.Rows.{CentreRows, point_of}
 use Rattle.tase_views.specs.declared.event.EventKind.{EventKind}
-use Rattle.tase_views.specs.declared.event.EventKind.TheVariants.{Open, Request, Update}
+use Rattle.tase_views.specs.declared.event.EventKind.TheVariants.{Open, Request, Take, Close}
+use Rattle.tase_views.specs.declared.event.EventKind.TheVariants.{Update, Stop}
 use Rattle.tase_views.specs.History.{Past}
 use Rattle.tase_views.specs.Values.{last_of, changes_of}
 
@@ -11,7 +12,10 @@ use Rattle.tase_views.specs.Values.{last_of, changes_of}
 abbrev pub value_given : ℕ → EventKind → Option Sample
 value_given p (Open peer) = None
 value_given p (Request call) = None
+value_given p Take = None
+value_given p Close = None
 value_given p (Update point value) = if point == p then Some value else None
+value_given p Stop = None
 
 -- the values that a point was given, the newest first
 abbrev pub values_given : Past → ℕ → List Sample

@@ -1,8 +1,10 @@
 //! One step of a TASE.2 node: from an event to its answer and one more entry in the history.
 #![tactic(auto)]
 
+mod listing;
 mod naming;
 mod node;
+mod refusals;
 mod store;
 
 pub use node::Node;

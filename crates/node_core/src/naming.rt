@@ -3,12 +3,10 @@ ghost use Rattle.std.specs.Prelude.{MatchOption};
 ghost use Rattle.bilateral.specs.Rows.{IsCentre, table_of, place_of_see};
 ghost use Rattle.tase_views.specs.OwnTable.{OwnTable, own_table, own_point, is_scope_of};
 ghost use Rattle.tase_views.specs.OwnTable.{point_named};
-ghost use Rattle.tase_views.specs.Outcomes.{is_known};
 
 use ber_values::Visible;
 use bilateral::{Centre, See};
 use mms_data::{Name, Scope};
-use tase_points::PointValue;
 
 /// The row of a peer's table that a name stands for.
 pub fn find_named<'a>(centre: &'a Centre, peer: u32, name: &Name) -> Option<&'a See>
@@ -29,7 +27,7 @@ pub fn find_named<'a>(centre: &'a Centre, peer: u32, name: &Name) -> Option<&'a 
 }
 
 /// Whether a scope is where a point is found, for a peer with this domain.
-fn is_found_in(domain: &Visible, scope: &Scope, vmd: bool) -> bool
+pub fn is_found_in(domain: &Visible, scope: &Scope, vmd: bool) -> bool
     ensures { (table : OwnTable) → table.domain ≡ domain.now
         → result ≡ is_scope_of table scope.now vmd }
 {
@@ -38,11 +36,4 @@ fn is_found_in(domain: &Visible, scope: &Scope, vmd: bool) -> bool
         Scope::Domain(name) => !vmd && name == domain,
         Scope::Association => false,
     }
-}
-
-/// Whether a point is the centre's, and a value of its kind.
-pub fn is_known(centre: &Centre, point: u32, value: &PointValue) -> bool
-    ensures known { result ≡ is_known centre.now point value.now }
-{
-    point < centre.points() && value.body().kind().is_same(centre.point(point).kind)
 }

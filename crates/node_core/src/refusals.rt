@@ -1,0 +1,82 @@
+//! Why an event is refused.
+ghost use Rattle.std.specs.Prelude.{◌≡◌, ◌≤◌, ◌^◌};
+ghost use Rattle.tase_views.specs.Setup.{Setup};
+ghost use Rattle.tase_views.specs.History.{Past, stop_in};
+ghost use Rattle.tase_views.specs.Weights.{weight_of};
+ghost use Rattle.tase_views.specs.Outcomes as causes;
+
+use bilateral::Centre;
+use sbo_device::Key;
+use tase_points::PointValue;
+use tase_views::{Event, EventKind, StepFault, weight};
+
+/// Whether an event is taken whatever the history weighs, and without memory.
+fn is_ending(event: &Event) -> bool
+    ensures { result ≡ causes.is_ending event.now }
+{
+    matches!(event.kind(), EventKind::Close | EventKind::Stop)
+}
+
+/// Refuses all but a close after a stop, by its place.
+pub fn stop_refusal(stop: Option<u64>, event: &Event) -> Option<StepFault>
+    ensures { (past : Past) → stop ≡ stop_in past → result ≡ causes.stop_refusal past event.now }
+{
+    match event.kind() {
+        EventKind::Close => None,
+        _ => stop.map(|at| StepFault::Stopped { at }),
+    }
+}
+
+/// Refuses an open of a seat with this association, and what needs one of a seat without.
+pub fn seat_refusal(found: Option<Key>, event: &Event) -> Option<StepFault>
+    ensures { result ≡ causes.seat_refusal found event.now }
+{
+    match event.kind() {
+        EventKind::Open { .. } => found.map(|_| StepFault::Already),
+        EventKind::Request { .. } | EventKind::Take | EventKind::Close => no_association(found),
+        EventKind::Update { .. } | EventKind::Stop => None,
+    }
+}
+
+fn no_association(found: Option<Key>) -> Option<StepFault>
+    ensures { result ≡ causes.seat_refusal found EventKind.Take }
+{
+    if found.is_some() {
+        None
+    } else {
+        Some(StepFault::NoAssociation)
+    }
+}
+
+/// Refuses a peer or a point that the centre hasn't, and a value of another kind than its point's.
+pub fn name_refusal(centre: &Centre, event: &Event) -> Option<StepFault>
+    ensures { result ≡ causes.name_refusal centre.now event.now }
+{
+    let known = match event.kind() {
+        EventKind::Open { peer } => *peer < centre.peers(),
+        EventKind::Update { point, value } => is_known(centre, *point, value),
+        _ => true,
+    };
+    if known { None } else { Some(StepFault::UnknownName) }
+}
+
+/// Whether a point is the centre's, and a value of its kind.
+fn is_known(centre: &Centre, point: u32, value: &PointValue) -> bool
+    ensures known { result ≡ causes.is_known centre.now point value.now }
+{
+    point < centre.points() && value.body().kind().is_same(centre.point(point).kind)
+}
+
+/// Refuses an event with which a history of this weight would weigh more than the limit.
+pub fn weight_refusal(before: u64, limit: u64, event: &Event) -> Option<StepFault>
+    requires { before ≤ 2 ^ 62 }
+    ensures { (setup : Setup) (past : Past) → limit ≡ setup.limit → before ≡ weight_of past
+        → result ≡ causes.weight_refusal setup past event.now }
+{
+    let weight = before + weight(event);
+    if !is_ending(event) && limit < weight {
+        Some(StepFault::HistoryFull { weight, limit })
+    } else {
+        None
+    }
+}
