@@ -2,6 +2,7 @@
 ghost use Rattle.std.specs.Prelude.{◌≡◌, ◌≤◌, length, flat_map};
 ghost use Rattle.plain_text.specs.Lengths.{capped};
 ghost use Rattle.plain_text.specs.declared.lengths.TheConstants.{MOST_LEN};
+ghost use Rattle.tase_points.specs.declared.body.Body.{Body as AnyBody};
 ghost use Rattle.tase_views.specs.declared.event.EventKind.TheVariants.{Update};
 ghost use Rattle.tase_views.specs.declared.call.CallKind.{CallKind as AnyCall};
 ghost use Rattle.tase_views.specs.EventTexts.{call_text, read_verb, next_name};
@@ -41,7 +42,7 @@ fn update_len(point: u32, value: &PointValue) -> u64
 /// How many octets the text of a point's value has.
 fn value_len(value: &PointValue) -> u64
     ensures exact { result ≡ length (value_text value.now) }
-    ensures few { result ≤ 66 }
+    ensures few { result ≤ 67 }
 {
     body_len(&value.body())
         + 4
@@ -57,8 +58,15 @@ fn body_len(body: &Body) -> u64
     match body {
         Body::State(state) => 1 + decimal_len(u64::from(*state)),
         Body::Discrete(discrete) => 1 + signed_decimal_len(i64::from(*discrete)),
-        Body::Real(_) => 9,
+        Body::Real(real) => real_len(real),
     }
+}
+
+fn real_len(real: &[u8; 4]) -> u64
+    ensures exact { result ≡ length (body_text (AnyBody.Real real.now)) }
+    ensures few { result ≤ 9 }
+{
+    9
 }
 
 /// How many octets the text of a call has, or 2^62 where it has as many or more.
@@ -88,7 +96,6 @@ fn verb_len(echo: bool) -> u64
 }
 
 /// Names, each after a space.
-#[tactic(auto, using(crate::proofs::TextLengths::next_names))]
 fn names_len(names: &[Name]) -> u64
     ensures { result ≡ capped (length (flat_map next_name names.now)) }
 {
@@ -100,7 +107,6 @@ fn names_len(names: &[Name]) -> u64
 }
 
 /// Names with their values, each after a space.
-#[tactic(auto, using(crate::proofs::TextLengths::next_values))]
 fn assigned_len(names: &[Name], values: &[MmsData]) -> u64
     requires { length values.now ≡ length names.now }
     ensures { result ≡ capped (length (assigned_text names.now values.now)) }
