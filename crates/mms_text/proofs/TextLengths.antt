@@ -6,8 +6,8 @@ use Rattle.std.specs.Fmt.{signed_decimal}
 use Rattle.std.proofs.lemmas.Bool.{ne_eqb}
 use Rattle.std.proofs.lemmas.List.{length-append}
 use Rattle.plain_text.specs.Octets.{hex_text}
-use Rattle.plain_text.specs.Lengths.{capped}
-use Rattle.plain_text.proofs.TextLengths.{capped-sum, length-hex_text}
+use Rattle.plain_lengths.specs.Lengths.{capped}
+use Rattle.plain_lengths.proofs.TextLengths.{capped-sum, length-hex_text}
 use Rattle.mms_data.specs.Datum.{Datum, data_of, structure, array}
 use Rattle.mms_text.specs.Texts.{data_text, members_text}
 use Rattle.mms_text.proofs.Spelled.{members_text-take_one, members_text-take_more}

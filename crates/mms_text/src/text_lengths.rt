@@ -1,12 +1,12 @@
 //! Lengths of the texts of names and of data, which take no memory.
 ghost use Rattle.std.specs.Prelude.{◌≡◌, ◌*◌, ◌==◌, ◌≤◌, if◌then◌else◌, length};
-ghost use Rattle.plain_text.specs.Lengths.{capped};
+ghost use Rattle.plain_lengths.specs.Lengths.{capped};
 ghost use Rattle.mms_data.specs.Datum.{Datum, data_of};
 ghost use Rattle.mms_text.specs.Texts.{data_text, members_text, scope_text, name_text};
 
 use ber_values::BitString;
 use mms_data::{DataKind, DataList, MmsData, Name, Scope};
-use plain_text::{MOST_LEN, add_len, decimal_len, escaped_len, signed_decimal_len};
+use plain_lengths::{MOST_LEN, add_len, decimal_len, escaped_len, signed_decimal_len};
 
 /// How many octets the text of a scope has.
 pub fn scope_text_len(scope: &Scope) -> u64

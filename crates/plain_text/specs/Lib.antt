@@ -4,4 +4,3 @@ pub mod Escaped
 pub mod Extends
 pub mod Lines
 pub mod Words
-pub mod Lengths

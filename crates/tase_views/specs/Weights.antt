@@ -1,6 +1,6 @@
 -- What a history weighs.
 use Rattle.std.specs.Prelude.{ℕ, ◌+◌, [], ◌∷◌, length}
-use Rattle.plain_text.specs.Lengths.{capped}
+use Rattle.plain_lengths.specs.Lengths.{capped}
 use Rattle.tase_views.specs.declared.event.EventKind.{EventKind}
 use Rattle.tase_views.specs.History.{Past}
 use Rattle.tase_views.specs.EventTexts.{event_text}

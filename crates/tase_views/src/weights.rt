@@ -1,7 +1,7 @@
 //! What events weigh in a history.
 ghost use Rattle.std.specs.Prelude.{◌≡◌, ◌≤◌, length, flat_map};
-ghost use Rattle.plain_text.specs.Lengths.{capped};
-ghost use Rattle.plain_text.specs.declared.lengths.TheConstants.{MOST_LEN};
+ghost use Rattle.plain_lengths.specs.Lengths.{capped};
+ghost use Rattle.plain_lengths.specs.declared.lengths.TheConstants.{MOST_LEN};
 ghost use Rattle.tase_points.specs.declared.body.Body.{Body as AnyBody};
 ghost use Rattle.tase_views.specs.declared.event.EventKind.TheVariants.{Update};
 ghost use Rattle.tase_views.specs.declared.call.CallKind.{CallKind as AnyCall};
@@ -14,7 +14,7 @@ use crate::event::{Event, EventKind};
 use ber_values::Visible;
 use mms_data::{MmsData, Name, Scope};
 use mms_text::{data_text_len, name_text_len, scope_text_len};
-use plain_text::{add_len, decimal_len, escaped_len, signed_decimal_len};
+use plain_lengths::{add_len, decimal_len, escaped_len, signed_decimal_len};
 use tase_points::{Body, PointValue};
 
 /// What an event weighs: the number of octets of its text, or 2^62 where that is longer.

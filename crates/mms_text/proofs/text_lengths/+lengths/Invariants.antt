@@ -1,6 +1,6 @@
 -- The length of the members so far; a value is deeper than its members.
 use Rattle.std.proofs.Common.{◌≡◌, ◌+◌, ◌*◌, length, take}
-use Rattle.plain_text.specs.Lengths.{capped}
+use Rattle.plain_lengths.specs.Lengths.{capped}
 use Rattle.mms_data.specs.Datum.{data_of, depth, deepest}
 use Rattle.mms_text.specs.Texts.{members_text}
 use Rattle.mms_text.proofs.text_lengths.+lengths.Given as goal

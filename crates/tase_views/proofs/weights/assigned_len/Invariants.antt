@@ -1,5 +1,5 @@
 use Rattle.std.proofs.Common.{◌≡◌, length, take}
-use Rattle.plain_text.specs.Lengths.{capped}
+use Rattle.plain_lengths.specs.Lengths.{capped}
 use Rattle.tase_views.specs.EventTexts.{assigned_text}
 use Rattle.tase_views.proofs.weights.assigned_len.Given as goal
 

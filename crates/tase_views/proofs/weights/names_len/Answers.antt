@@ -1,6 +1,6 @@
 use Rattle.std.proofs.Common.{length, take_all, ap, ◌∙◌, arith}
 use Rattle.std.specs.List.{flat_map}
-use Rattle.plain_text.specs.Lengths.{capped}
+use Rattle.plain_lengths.specs.Lengths.{capped}
 use Rattle.mms_text.specs.Texts.{name_text}
 use Rattle.tase_views.specs.EventTexts.{next_name}
 use Rattle.tase_views.proofs.TextLengths.{length-names}

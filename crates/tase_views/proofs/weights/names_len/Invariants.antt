@@ -1,6 +1,6 @@
 use Rattle.std.proofs.Common.{◌≡◌, length, take}
 use Rattle.std.specs.List.{flat_map}
-use Rattle.plain_text.specs.Lengths.{capped}
+use Rattle.plain_lengths.specs.Lengths.{capped}
 use Rattle.tase_views.specs.EventTexts.{next_name}
 use Rattle.tase_views.proofs.weights.names_len.Given as goal
 

@@ -5,9 +5,9 @@ use Rattle.std.specs.Prelude.{decimal}
 use Rattle.std.proofs.lemmas.List.{length-append}
 use Rattle.std.proofs.lemmas.Fmt.{decimal_step, decimal_digit, length-decimal-le}
 use Rattle.std.proofs.lemmas.Fmt.{decimal_nonempty}
-use Rattle.plain_text.specs.declared.lengths.TheConstants.{MOST_LEN}
+use Rattle.plain_lengths.specs.declared.lengths.TheConstants.{MOST_LEN}
 use Rattle.plain_text.specs.Octets.{hex_text, hex_pair}
-use Rattle.plain_text.specs.Lengths.{capped}
+use Rattle.plain_lengths.specs.Lengths.{capped}
 
 -- sums of capped lengths are capped sums
 pub capped-sum : (a b : ℕ) → capped (capped a + capped b) ≡ capped (a + b)
