@@ -2,11 +2,12 @@
 use Rattle.std.specs.Prelude.{ℕ, Bool, true, false, not, ◌&&◌, ◌||◌, ◌==◌, nat_le, nat_eq}
 use Rattle.std.specs.Prelude.{if◌then◌else◌, List, [], ◌∷◌, length, Option, Some, None, Result, Ok}
 use Rattle.std.specs.Prelude.{Err}
-use Rattle.std.specs.Prelude.{bytes_eq, codes}
+use Rattle.std.specs.Prelude.{bytes_eq, codes, option_and_then}
 use Rattle.std.specs.Option.{option_map}
 use Rattle.std.specs.List.{slice_split, list_any, list_all, starts_with, ends_with}
 use Rattle.std.specs.Char.{is_ascii_alphabetic, is_ascii_alphanumeric}
 use Rattle.plain_text.specs.Words.{each_in}
+use Rattle.plain_text.specs.Numbers.{number_in, if_passes}
 use Rattle.ber_values.specs.Dotted.{dotted_in}
 use Rattle.tase_points.specs.declared.kind.Kind.{Kind}
 use Rattle.tase_points.specs.declared.kind.Kind.TheVariants.{State, Discrete, Real}
@@ -96,3 +97,11 @@ layout_in word = layout_from (each_in component_in (slice_split (λ octet. octet
 abbrev pub title_in : List ℕ → Option (Option (List ℕ))
 title_in word =
     if bytes_eq word (codes "*") then Some None else option_map Some (dotted_in word)
+
+-- a number from `least` on, without it where it is above `most`
+abbrev pub limit_of : ℕ → ℕ → ℕ → Option (Option ℕ)
+limit_of least most n = if nat_le least n then Some (if_passes (λ k. nat_le k most) n) else None
+
+-- the limit that a word is
+abbrev pub limit_in : ℕ → ℕ → List ℕ → Option (Option ℕ)
+limit_in least most word = option_and_then (limit_of least most) (number_in word)

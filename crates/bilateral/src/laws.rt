@@ -1,7 +1,7 @@
 ghost use Rattle.std.specs.Prelude.{◌≡◌, ◌⊎◌, ℕ, List};
 ghost use Rattle.bilateral.specs.declared.fault.TableFault.{TableFault as Fault};
 ghost use Rattle.bilateral.specs.Rows.{CentreRows};
-ghost use Rattle.bilateral.specs.Reading.{Spells, HasFault};
+ghost use Rattle.bilateral.specs.Spelling.{Spells, HasFault};
 
 /// The law of one reading: a text spells exactly one centre, or has exactly one first bad line.
 pub fn one_reading()

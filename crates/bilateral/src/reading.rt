@@ -1,7 +1,7 @@
 ghost use Rattle.std.specs.Prelude.{◌≡◌, Ok, Err, IfOk, OnOk, MatchResult};
 ghost use Rattle.bilateral.specs.Rows.{IsCentre};
 ghost use Rattle.bilateral.specs.Reading.{centre_in, after_line};
-ghost use Rattle.bilateral.specs.Store.{rows_of, IsStore};
+ghost use Rattle.bilateral.specs.Store.{so_far, IsStore};
 
 use crate::centre::Centre;
 use crate::fault::{TableFault, TableWhy};
@@ -39,8 +39,8 @@ fn take_line(
     requires { IsStore store.old }
     ensures value { IfOk result
         (λ taken. MatchResult taken
-        (λ _. after_line (rows_of store.old) line.now ≡ Ok (rows_of store.new))
-        (λ why. after_line (rows_of store.old) line.now ≡ Err why)) }
+        (λ _. after_line (so_far store.old) line.now ≡ Ok (so_far store.new))
+        (λ why. after_line (so_far store.old) line.now ≡ Err why)) }
     ensures store { IfOk result (λ taken. OnOk taken (IsStore store.new)) }
 {
     if is_skipped(line) {
