@@ -7,3 +7,6 @@ pub mod Taken
 pub mod Grown
 pub mod Stores
 pub mod Digits
+pub mod Sections
+pub mod Told
+pub mod Spelled

@@ -2,7 +2,7 @@ use Rattle.std.proofs.Common.{◌≡◌, length}
 use Rattle.std.specs.Str.Lines.{lines}
 use Rattle.bilateral.specs.Reading.{after_lines, centre_in}
 use Rattle.bilateral.specs.Store.{so_far, IsStore}
-use Rattle.bilateral.proofs.reading.read_centre.Given as goal
+use Rattle.bilateral.proofs.reading.read_lines.Given as goal
 
 abbrev pub invariant-loop-first : goal.invariant-loop-first
 invariant-loop-first l = record {
