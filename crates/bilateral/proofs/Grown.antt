@@ -23,8 +23,8 @@ use Rattle.bilateral.specs.declared.rows.TheConstants.{DEVICE_LIMIT, SEE_LIMIT, 
 use Rattle.bilateral.specs.declared.rows.TheConstants.{SLOT_LIMIT, SET_LIMIT, PENDING_LEAST}
 use Rattle.bilateral.specs.declared.rows.TheConstants.{PENDING_LIMIT}
 use Rattle.tase_points.specs.declared.layout.Component.{Component}
-use Rattle.bilateral.specs.Words.{is_name}
-use Rattle.bilateral.specs.Devices.{IsForm}
+use Rattle.table_words.specs.Words.{is_name}
+use Rattle.table_words.specs.Devices.{IsForm}
 use Rattle.bilateral.specs.Rows.{CentreRows, IsCentre, IsTable, IsDevice, place_of_point}
 use Rattle.bilateral.specs.Rows.{place_of_device, place_of_see, place_of_control, table_of}
 use Rattle.bilateral.specs.Rows.{no_table, no_point, no_device}

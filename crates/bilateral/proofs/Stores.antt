@@ -11,7 +11,7 @@ use Rattle.bilateral.specs.declared.rows.Control.{Control as ControlRow}
 use Rattle.bilateral.specs.declared.rows.Table.{Table}
 use Rattle.bilateral.specs.declared.rows.TheConstants.{SEE_LIMIT, DEVICE_LIMIT}
 use Rattle.bilateral.specs.declared.store.Store.{Store}
-use Rattle.bilateral.specs.Words.{is_name}
+use Rattle.table_words.specs.Words.{is_name}
 use Rattle.bilateral.specs.Lines.{IsLawful}
 use Rattle.bilateral.specs.Rows.{CentreRows, IsCentre, IsTable, place_of_see, place_of_control}
 use Rattle.bilateral.specs.Rows.{table_of, no_table}

@@ -13,8 +13,8 @@ use Rattle.bilateral.specs.declared.rows.TheConstants.{SLOT_DEFAULT, SET_LIMIT, 
 use Rattle.bilateral.specs.declared.rows.TheConstants.{PENDING_LEAST, PENDING_LIMIT}
 use Rattle.bilateral.specs.declared.rows.TheConstants.{PENDING_DEFAULT}
 use Rattle.tase_points.specs.declared.kind.Kind.TheVariants.{State}
-use Rattle.bilateral.specs.Words.{is_name, is_identifier}
-use Rattle.bilateral.specs.Devices.{IsForm}
+use Rattle.table_words.specs.Words.{is_name, is_identifier}
+use Rattle.table_words.specs.Devices.{IsForm}
 use Rattle.bilateral.specs.Lines.{form_of}
 
 -- the points and devices of a centre and its peers' bilateral tables, each numbered from 0 in the

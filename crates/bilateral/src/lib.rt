@@ -10,14 +10,12 @@ mod faults;
 mod given;
 mod index;
 mod laws;
-mod layouts;
 mod limit_line;
 mod line;
 mod reading;
 mod rows;
 mod see_line;
 mod store;
-mod words;
 
 pub use centre::{Centre, peer_of};
 pub use fault::{TableFault, TableWhy};
@@ -29,4 +27,4 @@ pub use rows::{
     PENDING_LIMIT, POINT_LIMIT, PointRow, SEE_LIMIT, SET_DEFAULT, SET_LIMIT, SLOT_DEFAULT,
     SLOT_LIMIT, SPAN_LIMIT, See, Sees, Table,
 };
-pub use words::{IDENTIFIER_LIMIT, NAME_LIMIT};
+pub use table_words::{IDENTIFIER_LIMIT, NAME_LIMIT};

@@ -3,11 +3,10 @@ ghost use Rattle.std.specs.Prelude.{◌≡◌, IfOk, IfSome};
 ghost use Rattle.plain_text.specs.Words.{words};
 ghost use Rattle.bilateral.specs.Lines.{see_line, IsLawful};
 
-use crate::layouts::{LayoutWhy, read_layout};
 use crate::line::TableLine;
-use crate::words::{is_name, read_scope, visible_word};
 use plain_text::three_words;
 use std::alloc::{AllocError, Global};
+use table_words::{LayoutWhy, is_name, read_layout, read_scope, visible_word};
 
 /// `NAME SCOPE LAYOUT`.
 pub fn read_see(alloc: Global, text: &[u8]) -> Result<Option<TableLine>, AllocError>

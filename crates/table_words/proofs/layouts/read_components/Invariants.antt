@@ -3,8 +3,8 @@ use Rattle.std.specs.Option.{option_map, option_map_or, option_copied}
 use Rattle.std.specs.List.{slice_split}
 use Rattle.plain_text.specs.Words.{parts_after}
 use Rattle.plain_text.specs.Words.{each_in}
-use Rattle.bilateral.specs.Words.{component_in}
-use Rattle.bilateral.proofs.layouts.read_components.Given as goal
+use Rattle.table_words.specs.Words.{component_in}
+use Rattle.table_words.proofs.layouts.read_components.Given as goal
 
 abbrev pub invariant-loop-rest : goal.invariant-loop-rest
 invariant-loop-rest l = record {

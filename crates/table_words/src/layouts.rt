@@ -4,8 +4,8 @@ ghost use Rattle.std.specs.Option.{option_map};
 ghost use Rattle.std.specs.List.{list_any, slice_split};
 ghost use Rattle.plain_text.specs.Words.{each_in};
 ghost use Rattle.tase_points.specs.Same.{same_component};
-ghost use Rattle.bilateral.specs.Words.{layout_in, component_in};
-ghost use Rattle.bilateral.specs.Words as own;
+ghost use Rattle.table_words.specs.Words.{layout_in, component_in};
+ghost use Rattle.table_words.specs.Words as own;
 
 use crate::words::read_component;
 use plain_text::next_part;

@@ -3,7 +3,7 @@ ghost use Rattle.std.specs.Prelude.{◌≡◌, ◌==◌, ◌||◌, IfOk};
 ghost use Rattle.std.specs.List.{list_all};
 ghost use Rattle.std.specs.Char.{is_ascii_alphanumeric};
 ghost use Rattle.ber_values.specs.Visible.{IsVisible};
-ghost use Rattle.bilateral.specs.Words as own;
+ghost use Rattle.table_words.specs.Words as own;
 
 use ber_values::{Oid, Visible, read_dotted};
 use std::alloc::{AllocError, Global};

@@ -6,7 +6,7 @@ use Rattle.std.specs.Option.{option_map}
 use Rattle.plain_text.specs.Numbers.{integer_within}
 use Rattle.sbo_device.specs.declared.kind.CommandKind.{CommandKind}
 use Rattle.sbo_device.specs.declared.kind.CommandKind.TheVariants.{Command, Setpoint}
-use Rattle.bilateral.specs.declared.device_line.DeviceForm.{DeviceForm}
+use Rattle.table_words.specs.declared.device_form.DeviceForm.{DeviceForm}
 
 -- the signed number of 16 bits that a word is
 abbrev pub short_in : List ℕ → Option ℤ

@@ -1,7 +1,7 @@
 use Rattle.std.proofs.Common.{◌<◌, sym, ap, ◌∙◌, length}
-use Rattle.bilateral.specs.Words.{is_distinct}
-use Rattle.bilateral.proofs.Components.{IsLayout-from_distinct}
-use Rattle.bilateral.proofs.layouts.read_layout.Goals as goal
+use Rattle.table_words.specs.Words.{is_distinct}
+use Rattle.table_words.proofs.Components.{IsLayout-from_distinct}
+use Rattle.table_words.proofs.layouts.read_layout.Goals as goal
 
 pub new-requires : goal.new-requires
 new-requires c =

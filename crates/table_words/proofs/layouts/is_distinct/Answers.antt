@@ -1,6 +1,6 @@
 use Rattle.std.proofs.Common.{sym}
-use Rattle.bilateral.proofs.Components.{is_distinct-at, is_distinct-take}
-use Rattle.bilateral.proofs.layouts.is_distinct.Goals as goal
+use Rattle.table_words.proofs.Components.{is_distinct-at, is_distinct-take}
+use Rattle.table_words.proofs.layouts.is_distinct.Goals as goal
 
 pub returns-then-contains : goal.returns-then-contains
 returns-then-contains c =

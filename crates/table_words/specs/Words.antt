@@ -14,9 +14,9 @@ use Rattle.tase_points.specs.declared.kind.Kind.TheVariants.{State, Discrete, Re
 use Rattle.tase_points.specs.declared.layout.Component.{Component}
 use Rattle.tase_points.specs.declared.layout.Component.TheVariants.{Value, Time, Millis, Flags, Cov}
 use Rattle.tase_points.specs.Same.{same_component}
-use Rattle.bilateral.specs.declared.layouts.LayoutWhy.{LayoutWhy}
-use Rattle.bilateral.specs.declared.layouts.LayoutWhy.TheVariants.{Part, Twice}
-use Rattle.bilateral.specs.declared.words.TheConstants.{NAME_LIMIT, IDENTIFIER_LIMIT}
+use Rattle.table_words.specs.declared.layouts.LayoutWhy.{LayoutWhy}
+use Rattle.table_words.specs.declared.layouts.LayoutWhy.TheVariants.{Part, Twice}
+use Rattle.table_words.specs.declared.words.TheConstants.{NAME_LIMIT, IDENTIFIER_LIMIT}
 
 -- names that the protocol uses itself
 abbrev pub special_names : List (List ℕ)

@@ -1,5 +1,5 @@
 -- Components in order: whether one stands twice.
-use Rattle.std.proofs.Common.{◌≡◌, ◌≢◌, ℕ, ◌<◌, Bool, true, false, not, ◌&&◌, ◌||◌, List, [], ◌∷◌}
+use Rattle.std.proofs.Common.{◌≡◌, ◌≢◌, ℕ, zero, suc, ◌<◌, Bool, true, false, not, ◌&&◌, ◌||◌, List, [], ◌∷◌}
 use Rattle.std.proofs.Common.{◌++◌, length, get_or, take, drop, ◌+◌, AllPairs, refl, sym, ap, ◌∙◌}
 use Rattle.std.proofs.Common.{arith}
 use Rattle.std.specs.List.{list_any}
@@ -10,10 +10,17 @@ use Rattle.std.proofs.lemmas.Bool.{false≢true, both_ways, and_parts, and_from,
 use Rattle.std.proofs.lemmas.Bool.{or_left, or_right, not-true}
 use Rattle.tase_points.specs.declared.layout.Component.{Component}
 use Rattle.tase_points.specs.Layouts.{IsLayout}
-use Rattle.bilateral.proofs.Positions.{list_any-false}
 use Rattle.tase_points.specs.Same.{same_component}
 use Rattle.tase_points.proofs.Same.{same_component-same}
-use Rattle.bilateral.specs.Words.{is_distinct}
+use Rattle.table_words.specs.Words.{is_distinct}
+
+-- where no element passes, none at any place does
+list_any-false : {X : Type 0} (p : X → Bool) (xs : List X) (k : ℕ) (d : X)
+    → list_any p xs ≡ false → k < length xs → p (get_or xs k d) ≡ false
+list_any-false p [] k d none below = absurd (omega arith)
+list_any-false p (x ∷ xs) zero d none below = (or_parts (p x) (list_any p xs) none).0
+list_any-false p (x ∷ xs) (suc k) d none below =
+    list_any-false p xs k d (or_parts (p x) (list_any p xs) none).1 (omega arith)
 
 -- the four facts of tests that a list of components needs
 distinct_more : (twice later : Bool) (rest : Bool) → (not twice && rest) ≡ true → later ≡ false

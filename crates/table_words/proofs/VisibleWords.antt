@@ -6,8 +6,8 @@ use Rattle.std.specs.Char.{is_ascii_alphabetic, is_ascii_alphanumeric}
 use Rattle.std.proofs.lemmas.Bool.{false≢true, and_parts, and_from, leb-true}
 use Rattle.std.proofs.lemmas.Bool.Decides.{nat_tests}
 use Rattle.ber_values.specs.Visible.{IsVisible, is_visible_octet}
-use Rattle.bilateral.specs.declared.words.TheConstants.{NAME_LIMIT, IDENTIFIER_LIMIT}
-use Rattle.bilateral.specs.Words.{is_name, is_plain_name, is_identifier}
+use Rattle.table_words.specs.declared.words.TheConstants.{NAME_LIMIT, IDENTIFIER_LIMIT}
+use Rattle.table_words.specs.Words.{is_name, is_plain_name, is_identifier}
 
 list_all-weaker : (p q : ℕ → Bool) → ((x : ℕ) → p x ≡ true → q x ≡ true) → (xs : List ℕ)
     → list_all p xs ≡ true → list_all q xs ≡ true
