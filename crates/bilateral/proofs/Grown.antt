@@ -1,34 +1,40 @@
 -- Rows that a line was added to: they are lawful, and the indexes that note it find what a search
 -- finds.
-use Rattle.std.proofs.Common.{◌≡◌, ◌≢◌, ℕ, zero, suc, ◌-◌, ◌<◌, ◌≤◌, Bool, true, false, ◌&&◌, ◌==◌}
-use Rattle.std.proofs.Common.{cond, eqb, List, [], ◌∷◌, ◌++◌, length, get_or, set, AllPairs, All}
-use Rattle.std.proofs.Common.{IsTrue, Option, Some, None, unwrap_or, position, refl, sym, ap, subst}
-use Rattle.std.proofs.Common.{◌∙◌, inl, inr, arith, bytes_eq}
+use Rattle.std.proofs.Common.{◌≡◌, ◌≢◌, ℕ, zero, suc, ◌-◌, ◌<◌, ◌≤◌, Bool, true, false, not, ◌&&◌}
+use Rattle.std.proofs.Common.{◌==◌, cond, eqb, leb, List, [], ◌∷◌, ◌++◌, length, get_or, set}
+use Rattle.std.proofs.Common.{AllPairs, All, IsTrue, Option, Some, None, unwrap_or, position, refl}
+use Rattle.std.proofs.Common.{sym, ap, subst, ◌∙◌, inl, inr, arith, bytes_eq}
 use Rattle.std.specs.Option.{option_eq}
-use Rattle.std.specs.List.{list_any}
 use Rattle.std.specs.Cmp.Lexicographic.{bytes_decides}
 use Rattle.std.proofs.lemmas.Bool.{cases_eq, cases_Bool, cond-true, cond-false, both_ways, eq-eqb}
-use Rattle.std.proofs.lemmas.Bool.{ne_eqb, eqb-true, and_left}
+use Rattle.std.proofs.lemmas.Bool.{ne_eqb, eqb-true, and_left, and_parts, not-false, leb-true}
+use Rattle.std.proofs.lemmas.Bool.{false≢true}
 use Rattle.std.proofs.lemmas.List.{length-set, length_push, get_or-set_same, get_or-set_other}
 use Rattle.std.proofs.lemmas.List.{get_or_default}
 use Rattle.std.proofs.lemmas.List.Elements.{All-push, All-set, All-get_or}
 use Rattle.std.proofs.lemmas.List.Quantifiers.{all_pairs_push, position-Some}
-use Rattle.bilateral.specs.declared.line.TableLine.TheVariants.{Point, Peer, See}
+use Rattle.bilateral.specs.declared.line.TableLine.TheVariants.{Point, Device, Peer, See, Control}
 use Rattle.bilateral.specs.declared.rows.PointRow.{PointRow}
+use Rattle.bilateral.specs.declared.rows.DeviceRow.{DeviceRow}
 use Rattle.bilateral.specs.declared.rows.See.{See as SeeRow}
+use Rattle.bilateral.specs.declared.rows.Control.{Control as ControlRow}
 use Rattle.bilateral.specs.declared.rows.Table.{Table}
-use Rattle.bilateral.specs.declared.rows.TheConstants.{SEE_LIMIT}
-use Rattle.tase_points.specs.declared.kind.Kind.TheVariants.{State}
+use Rattle.bilateral.specs.declared.rows.TheConstants.{DEVICE_LIMIT, SEE_LIMIT, SPAN_LIMIT}
+use Rattle.bilateral.specs.declared.rows.TheConstants.{SLOT_LIMIT, SET_LIMIT, PENDING_LEAST}
+use Rattle.bilateral.specs.declared.rows.TheConstants.{PENDING_LIMIT}
 use Rattle.tase_points.specs.declared.layout.Component.{Component}
-use Rattle.bilateral.specs.Words.{is_name}
-use Rattle.bilateral.specs.Rows.{CentreRows, IsCentre, IsTable, place_of_point, place_of_peer}
-use Rattle.bilateral.specs.Rows.{place_of_see, table_of, no_table}
-use Rattle.bilateral.specs.Reading.{with_row, with_see, last_peer, seen_in_last}
-use Rattle.bilateral.specs.Lines.{IsLawful}
+use Rattle.table_words.specs.Words.{is_name}
+use Rattle.table_words.specs.Devices.{IsForm}
+use Rattle.bilateral.specs.Rows.{CentreRows, IsCentre, IsTable, IsDevice, place_of_point}
+use Rattle.bilateral.specs.Rows.{place_of_device, place_of_see, place_of_control, table_of}
+use Rattle.bilateral.specs.Rows.{no_table, no_point, no_device}
+use Rattle.bilateral.specs.Reading.{SoFar, with_row, with_see, with_control, with_slots, with_sets}
+use Rattle.bilateral.specs.Reading.{with_pending, with_last, last_peer, last_table, seen_in_last}
+use Rattle.bilateral.specs.Reading.{controlled_in_last}
+use Rattle.bilateral.specs.Lines.{IsLawful, form_of}
 use Rattle.plain_text.proofs.Parts.{position-None}
-use Rattle.bilateral.proofs.Positions.{position-push_here, position-push_other, position-set}
-use Rattle.bilateral.proofs.Positions.{list_any-false}
-use Rattle.bilateral.proofs.Taken.{IsNewPoint, IsNewPeer, IsNewSee}
+use Rattle.bilateral.proofs.Positions.{position-push_here, position-push_other}
+use Rattle.bilateral.proofs.Taken.{IsNewPoint, IsNewDevice, IsNewPeer, IsNewSee, IsNewControl}
 
 -- a key that is found nowhere differs from every row's
 fresh_key : {X : Type 0} (key : X → List ℕ) (rows : List X) (wanted : List ℕ)
@@ -44,11 +50,11 @@ option_eq-same None = refl
 option_eq-same (Some octets) = (bytes_decides octets octets).1 refl
 
 fresh_title : (tables : List Table) (title : Option (List ℕ))
-    → list_any (λ other. option_eq bytes_eq other.title title) tables ≡ false → (k : ℕ) (d : Table)
+    → position (λ table. option_eq bytes_eq table.title title) tables ≡ None → (k : ℕ) (d : Table)
     → k < length tables → (get_or tables k d).title ≢ title
 fresh_title tables title none k d below same =
     both_ways (option_eq bytes_eq (get_or tables k d).title title)
-    (list_any-false (λ other. option_eq bytes_eq other.title title) tables k d none below)
+    (position-None (λ table. option_eq bytes_eq table.title title) tables none k d below)
     (ap (λ t. option_eq bytes_eq t title) same ∙ option_eq-same title)
 
 no_tables_all : (P : Table → Type 0) (tables : List Table) → length tables ≡ 0 → All P tables
@@ -56,46 +62,116 @@ no_tables_all P tables none = λ k d below. absurd (omega arith)
 
 -- a point more
 pub IsCentre-with_point : (rows : CentreRows) (point : PointRow) → IsCentre rows
-    → IsTrue (is_name point.name) → IsNewPoint rows point → IsCentre (with_row rows (Point point))
+    → IsTrue (is_name point.name) → IsNewPoint rows point
+    → IsCentre (record rows { points = rows.points ++ point ∷ [] })
 IsCentre-with_point rows point lawful named new = record {
   names = all_pairs_push (λ a b. a.name ≢ b.name) rows.points point lawful.names
       (fresh_key (λ r. r.name) rows.points point.name new.fresh);
   named = All-push (λ row. IsTrue (is_name row.name)) rows.points point lawful.named named;
+  device_names = lawful.device_names;
+  devices = lawful.devices;
+  apart = λ k d below.
+      All-push (λ p. p.name ≢ (get_or rows.devices k d).name) rows.points point
+      (lawful.apart k d below)
+      (λ same. fresh_key (λ r. r.name) rows.devices point.name new.apart k d below (sym same));
   keys = lawful.keys;
   titles = lawful.titles;
-  tables = no_tables_all (IsTable (length (rows.points ++ point ∷ []))) rows.tables new.no_tables;
+  tables =
+      no_tables_all (IsTable (length (rows.points ++ point ∷ [])) (length rows.devices))
+      rows.tables new.no_tables;
   point_limit = omega (arith, length_push rows.points point, new.room);
+  device_limit = lawful.device_limit;
   peer_limit = lawful.peer_limit;
 }
 
--- a new table has no rows
-IsTable-new : (count : ℕ) (table : Table) → IsLawful (Peer table) → IsTable count table
-IsTable-new count table lawful = record {
-  known = subst (λ sees. All (λ see. see.point < count) sees) (sym lawful.3)
+right_span : (direct : Bool) (span : ℕ) → (IsTrue direct → span ≡ 0)
+    → (not direct && not (leb 1 span && leb span SPAN_LIMIT)) ≡ false
+    → (direct ≡ false → 1 ≤ span) × (span ≤ SPAN_LIMIT)
+right_span true span none right =
+    let zero_span : span ≡ 0 = none refl in
+    (λ e. absurd (false≢true (sym e)), omega arith)
+right_span false span none right =
+    let both = and_parts (leb 1 span) (leb span SPAN_LIMIT) (not-false _ right) in
+    (λ e. leb-true 1 span both.0, leb-true span SPAN_LIMIT both.1)
+
+IsDevice-new : (device : DeviceRow) → IsLawful (Device device) → (rows : CentreRows)
+    → IsNewDevice rows device → IsDevice device
+IsDevice-new device lawful rows new =
+    let spans = right_span device.direct device.span lawful.1.no_span new.span in
+    record { named = lawful.0; form = lawful.1; some_span = spans.0; span = spans.1 }
+
+-- a device more
+pub IsCentre-with_device : (rows : CentreRows) (device : DeviceRow) → IsCentre rows
+    → IsLawful (Device device) → IsNewDevice rows device
+    → IsCentre (record rows { devices = rows.devices ++ device ∷ [] })
+IsCentre-with_device rows device lawful words new = record {
+  names = lawful.names;
+  named = lawful.named;
+  device_names = all_pairs_push (λ a b. a.name ≢ b.name) rows.devices device lawful.device_names
+      (fresh_key (λ r. r.name) rows.devices device.name new.fresh);
+  devices =
+      All-push IsDevice rows.devices device lawful.devices (IsDevice-new device words rows new);
+  apart =
+      All-push (λ d. All (λ p. p.name ≢ d.name) rows.points) rows.devices device lawful.apart
+      (fresh_key (λ r. r.name) rows.points device.name new.apart);
+  keys = lawful.keys;
+  titles = lawful.titles;
+  tables =
+      no_tables_all (IsTable (length rows.points) (length (rows.devices ++ device ∷ [])))
+      rows.tables new.no_tables;
+  point_limit = lawful.point_limit;
+  device_limit = omega (arith, length_push rows.devices device, new.room);
+  peer_limit = lawful.peer_limit;
+}
+
+-- a new table has no rows, and limits within bounds
+IsTable-new : (points devices : ℕ) (table : Table) → IsLawful (Peer table)
+    → IsTable points devices table
+IsTable-new points devices table lawful = record {
+  known = subst (λ sees. All (λ see. see.point < points) sees) (sym lawful.3.0)
       (λ k d below. absurd (omega arith));
-  once = subst (λ sees. AllPairs (λ a b. a.point ≢ b.point) sees) (sym lawful.3)
+  once = subst (λ sees. AllPairs (λ a b. a.point ≢ b.point) sees) (sym lawful.3.0)
       (λ i j d before below. absurd (omega arith));
-  limit = subst (λ sees. length sees ≤ SEE_LIMIT) (sym lawful.3) (omega arith);
+  limit = subst (λ sees. length sees ≤ SEE_LIMIT) (sym lawful.3.0) (omega arith);
+  known_devices =
+      subst (λ controls. All (λ c. c.device < devices) controls) (sym lawful.3.1)
+      (λ k d below. absurd (omega arith));
+  devices_once =
+      subst (λ controls. AllPairs (λ a b. a.device ≢ b.device) controls) (sym lawful.3.1)
+      (λ i j d before below. absurd (omega arith));
+  control_limit =
+      subst (λ controls. length controls ≤ DEVICE_LIMIT) (sym lawful.3.1) (omega arith);
   key = lawful.0;
   domain = lawful.1;
   id = lawful.2;
+  slots_least = omega (arith, lawful.3.2);
+  slots = omega (arith, lawful.3.2);
+  sets_least = omega (arith, lawful.3.3);
+  sets = omega (arith, lawful.3.3);
+  pending_least = omega (arith, lawful.3.4);
+  pending = omega (arith, lawful.3.4);
 }
 
 -- a peer more
 pub IsCentre-with_peer : (rows : CentreRows) (table : Table) → IsCentre rows
-    → IsLawful (Peer table) → IsNewPeer rows table → IsCentre (with_row rows (Peer table))
+    → IsLawful (Peer table) → IsNewPeer rows table
+    → IsCentre (record rows { tables = rows.tables ++ table ∷ [] })
 IsCentre-with_peer rows table lawful words new = record {
   names = lawful.names;
   named = lawful.named;
+  device_names = lawful.device_names;
+  devices = lawful.devices;
+  apart = lawful.apart;
   keys = all_pairs_push (λ a b. a.key ≢ b.key) rows.tables table lawful.keys
       (fresh_key (λ t. t.key) rows.tables table.key new.fresh);
   titles =
       all_pairs_push (λ a b. a.title ≢ b.title) rows.tables table lawful.titles
       (fresh_title rows.tables table.title new.title);
   tables =
-      All-push (IsTable (length rows.points)) rows.tables table lawful.tables
-      (IsTable-new (length rows.points) table words);
+      All-push (IsTable (length rows.points) (length rows.devices)) rows.tables table
+      lawful.tables (IsTable-new (length rows.points) (length rows.devices) table words);
   point_limit = lawful.point_limit;
+  device_limit = lawful.device_limit;
   peer_limit = omega (arith, length_push rows.tables table, new.room);
 }
 
@@ -121,117 +197,232 @@ AllPairs-kept f tables i table within same pairs = λ j k d before below equal.
     (sym (kept f tables i table within same j d (omega arith)) ∙ equal
     ∙ kept f tables i table within same k d (omega arith))
 
+-- the last table is lawful
+pub IsTable-last : (rows : CentreRows) → IsCentre rows → 0 < length rows.tables
+    → IsTable (length rows.points) (length rows.devices) (last_table rows)
+IsTable-last rows lawful some =
+    All-get_or (IsTable (length rows.points) (length rows.devices)) rows.tables
+    (length rows.tables - 1) no_table (omega arith) lawful.tables
+
+-- another last table, with the same key and title
+pub IsCentre-with_last : (rows : CentreRows) (table : Table) → IsCentre rows
+    → 0 < length rows.tables → table.key ≡ (last_table rows).key
+    → table.title ≡ (last_table rows).title
+    → IsTable (length rows.points) (length rows.devices) table → IsCentre (with_last rows table)
+IsCentre-with_last rows table lawful some same_key same_title is_table =
+    let last = length rows.tables - 1 in
+    let within : length rows.tables - 1 < length rows.tables = omega arith in
+    record {
+      names = lawful.names;
+      named = lawful.named;
+      device_names = lawful.device_names;
+      devices = lawful.devices;
+      apart = lawful.apart;
+      keys = AllPairs-kept (λ t. t.key) rows.tables last table within same_key lawful.keys;
+      titles = AllPairs-kept (λ t. t.title) rows.tables last table within same_title lawful.titles;
+      tables =
+          All-set (IsTable (length rows.points) (length rows.devices)) rows.tables last table
+          is_table lawful.tables;
+      point_limit = lawful.point_limit;
+      device_limit = lawful.device_limit;
+      peer_limit = omega (arith, length-set rows.tables last table, lawful.peer_limit);
+    }
+
 -- a table with a row more, for a point that is there and has no row yet
-IsTable-with_see : (count : ℕ) (table : Table) (see : SeeRow) → IsTable count table
-    → see.point < count → place_of_see table see.point ≡ None → length table.sees < SEE_LIMIT
-    → IsTable count (with_see table see)
-IsTable-with_see count table see lawful known fresh room = record {
-  known = All-push (λ s. s.point < count) table.sees see lawful.known known;
+pub IsTable-with_see : (points devices : ℕ) (table : Table) (see : SeeRow)
+    → IsTable points devices table → see.point < points → place_of_see table see.point ≡ None
+    → length table.sees < SEE_LIMIT → IsTable points devices (with_see table see)
+IsTable-with_see points devices table see lawful known fresh room = record {
+  known = All-push (λ s. s.point < points) table.sees see lawful.known known;
   once = all_pairs_push (λ a b. a.point ≢ b.point) table.sees see lawful.once
       (λ k d below same. both_ways (eqb (get_or table.sees k d).point see.point)
       (position-None (λ s. s.point == see.point) table.sees fresh k d below) (eq-eqb _ _ same));
   limit = omega (arith, length_push table.sees see, room);
+  known_devices = lawful.known_devices;
+  devices_once = lawful.devices_once;
+  control_limit = lawful.control_limit;
   key = lawful.key;
   domain = lawful.domain;
   id = lawful.id;
+  slots_least = lawful.slots_least;
+  slots = lawful.slots;
+  sets_least = lawful.sets_least;
+  sets = lawful.sets;
+  pending_least = lawful.pending_least;
+  pending = lawful.pending;
 }
 
--- what a line that can be taken adds
-pub with_row-see : (rows : CentreRows) (name : List ℕ) (vmd : Bool)
-    (layout : Option (List Component)) (point : ℕ) (components : List Component)
-    → IsNewSee rows name layout point components
-    → with_row rows (See name vmd layout)
-    ≡ seen_in_last rows (record { point = point; vmd = vmd; layout = components })
-with_row-see rows name vmd layout point components new =
-    ap (λ place. seen_in_last rows
-    (record { point = unwrap_or place 0; vmd = vmd; layout = unwrap_or layout [] })) new.known
-    ∙ ap (λ shown. seen_in_last rows
-    (record { point = point; vmd = vmd; layout = unwrap_or shown [] })) new.shown
+-- the same for a device
+pub IsTable-with_control : (points devices : ℕ) (table : Table) (row : ControlRow)
+    → IsTable points devices table → row.device < devices
+    → place_of_control table row.device ≡ None → length table.controls < DEVICE_LIMIT
+    → IsTable points devices (with_control table row)
+IsTable-with_control points devices table row lawful known fresh room = record {
+  known = lawful.known;
+  once = lawful.once;
+  limit = lawful.limit;
+  known_devices = All-push (λ s. s.device < devices) table.controls row lawful.known_devices known;
+  devices_once = all_pairs_push (λ a b. a.device ≢ b.device) table.controls row lawful.devices_once
+      (λ k d below same. both_ways (eqb (get_or table.controls k d).device row.device)
+      (position-None (λ s. s.device == row.device) table.controls fresh k d below)
+      (eq-eqb _ _ same));
+  control_limit = omega (arith, length_push table.controls row, room);
+  key = lawful.key;
+  domain = lawful.domain;
+  id = lawful.id;
+  slots_least = lawful.slots_least;
+  slots = lawful.slots;
+  sets_least = lawful.sets_least;
+  sets = lawful.sets;
+  pending_least = lawful.pending_least;
+  pending = lawful.pending;
+}
 
-pub IsCentre-with_see : (rows : CentreRows) (see : SeeRow) → IsCentre rows → 0 < length rows.tables
-    → see.point < length rows.points
-    → place_of_see (table_of rows (last_peer rows)) see.point ≡ None
-    → length (table_of rows (last_peer rows)).sees < SEE_LIMIT
-    → IsCentre (seen_in_last rows see)
-IsCentre-with_see rows see lawful some known fresh room =
-    let last = length rows.tables - 1 in
-    let within : length rows.tables - 1 < length rows.tables = omega arith in
-    let table = with_see (table_of rows (last_peer rows)) see in
+-- a table with another limit
+pub IsTable-with_slots : (points devices : ℕ) (table : Table) (number : ℕ)
+    → IsTable points devices table → 1 ≤ number → number ≤ SLOT_LIMIT
+    → IsTable points devices (with_slots table number)
+IsTable-with_slots points devices table number lawful least most =
     record {
-      names = lawful.names;
-      named = lawful.named;
-      keys = AllPairs-kept (λ t. t.key) rows.tables last table within refl lawful.keys;
-      titles = AllPairs-kept (λ t. t.title) rows.tables last table within refl lawful.titles;
-      tables = All-set (IsTable (length rows.points)) rows.tables last table
-          (IsTable-with_see (length rows.points) (table_of rows (last_peer rows)) see
-          (All-get_or (IsTable (length rows.points))
-          rows.tables last no_table within lawful.tables) known fresh room) lawful.tables;
-      point_limit = lawful.point_limit;
-      peer_limit = omega (arith, length-set rows.tables last table, lawful.peer_limit);
+      known = lawful.known;
+      once = lawful.once;
+      limit = lawful.limit;
+      known_devices = lawful.known_devices;
+      devices_once = lawful.devices_once;
+      control_limit = lawful.control_limit;
+      key = lawful.key;
+      domain = lawful.domain;
+      id = lawful.id;
+      slots_least = least;
+      slots = most;
+      sets_least = lawful.sets_least;
+      sets = lawful.sets;
+      pending_least = lawful.pending_least;
+      pending = lawful.pending;
     }
 
--- the rows of tables, where one without rows is added
-sees-pushed : (tables : List Table) (table : Table) → table.sees ≡ [] → (peer : ℕ)
-    → (get_or (tables ++ table ∷ []) peer no_table).sees ≡ (get_or tables peer no_table).sees
-sees-pushed [] table bare zero = bare
-sees-pushed [] table bare (suc peer) = refl
-sees-pushed (t ∷ ts) table bare zero = refl
-sees-pushed (t ∷ ts) table bare (suc peer) = sees-pushed ts table bare peer
+pub IsTable-with_sets : (points devices : ℕ) (table : Table) (number : ℕ)
+    → IsTable points devices table → 1 ≤ number → number ≤ SET_LIMIT
+    → IsTable points devices (with_sets table number)
+IsTable-with_sets points devices table number lawful least most =
+    record {
+      known = lawful.known;
+      once = lawful.once;
+      limit = lawful.limit;
+      known_devices = lawful.known_devices;
+      devices_once = lawful.devices_once;
+      control_limit = lawful.control_limit;
+      key = lawful.key;
+      domain = lawful.domain;
+      id = lawful.id;
+      slots_least = lawful.slots_least;
+      slots = lawful.slots;
+      sets_least = least;
+      sets = most;
+      pending_least = lawful.pending_least;
+      pending = lawful.pending;
+    }
 
-pub place_of_see-with_peer : (rows : CentreRows) (table : Table) → table.sees ≡ []
-    → (peer point : ℕ)
-    → place_of_see (table_of (with_row rows (Peer table)) peer) point
-    ≡ place_of_see (table_of rows peer) point
-place_of_see-with_peer rows table bare peer point =
-    ap (position (λ see. see.point == point)) (sees-pushed rows.tables table bare peer)
+pub IsTable-with_pending : (points devices : ℕ) (table : Table) (number : ℕ)
+    → IsTable points devices table → PENDING_LEAST ≤ number → number ≤ PENDING_LIMIT
+    → IsTable points devices (with_pending table number)
+IsTable-with_pending points devices table number lawful least most =
+    record {
+      known = lawful.known;
+      once = lawful.once;
+      limit = lawful.limit;
+      known_devices = lawful.known_devices;
+      devices_once = lawful.devices_once;
+      control_limit = lawful.control_limit;
+      key = lawful.key;
+      domain = lawful.domain;
+      id = lawful.id;
+      slots_least = lawful.slots_least;
+      slots = lawful.slots;
+      sets_least = lawful.sets_least;
+      sets = lawful.sets;
+      pending_least = least;
+      pending = most;
+    }
 
-here_or_later : (sees : List SeeRow) (see : SeeRow) (q : ℕ)
-    → position (λ s. s.point == see.point) sees ≡ None
-    → cond (eqb see.point q) (Some (length sees)) (position (λ s. s.point == q) sees)
-    ≡ position (λ s. s.point == q) (sees ++ see ∷ [])
-here_or_later sees see q fresh =
-    elim (cases_Bool (eqb see.point q)) [
-      | inl same ↦ cond-true (eqb see.point q) _ _ same
-          ∙ sym (position-push_here (λ s. s.point == q) sees see
-          (ap (λ p. position (λ s. s.point == p) sees) (sym (eqb-true see.point q same)) ∙ fresh)
-          same)
-      | inr differs ↦ cond-false (eqb see.point q) _ _ differs
-          ∙ sym (position-push_other (λ s. s.point == q) sees see differs)
-    ]
-
--- the place of a new row is found, and all others where they were
-pub place_of_see-with_see : (rows : CentreRows) (see : SeeRow) → 0 < length rows.tables
-    → place_of_see (table_of rows (last_peer rows)) see.point ≡ None → (p q : ℕ)
-    → cond ((last_peer rows == p) && (see.point == q))
-    (Some (length (table_of rows (last_peer rows)).sees)) (place_of_see (table_of rows p) q)
-    ≡ place_of_see (table_of (seen_in_last rows see) p) q
-place_of_see-with_see rows see some fresh p q =
+-- what another last table leaves as it was is so in every peer's table
+pub kept_of : {V : Type 0} (f : Table → V) (rows : CentreRows) (table : Table)
+    → 0 < length rows.tables → f table ≡ f (last_table rows) → (peer : ℕ)
+    → f (table_of (with_last rows table) peer) ≡ f (table_of rows peer)
+kept_of f rows table some same peer =
     let last = length rows.tables - 1 in
     let within : length rows.tables - 1 < length rows.tables = omega arith in
-    let table = table_of rows (last_peer rows) in
-    elim (cases_eq p last) [
-      | inl here ↦ subst
-          (λ k. cond (eqb last k && eqb see.point q) (Some (length table.sees))
-          (place_of_see (table_of rows k) q)
-          ≡ place_of_see (table_of (seen_in_last rows see) k) q) (sym here)
-          (ap (λ b. cond (b && eqb see.point q) (Some (length table.sees)) (place_of_see table q))
-          (eq-eqb last last refl) ∙ here_or_later table.sees see q fresh
-          ∙ ap (λ t. place_of_see t q)
-          (sym (get_or-set_same rows.tables last (with_see table see) no_table within)))
-      | inr other ↦ cond-false _ _ _
-          (and_left (eqb last p) (eqb see.point q) (ne_eqb last p (λ e. other (sym e))))
-          ∙ ap (λ t. place_of_see t q)
-          (sym (get_or-set_other rows.tables last p (with_see table see) no_table other))
+    elim (cases_eq peer last) [
+      | inl here ↦ subst (λ k. f (get_or (set rows.tables last table) k no_table)
+          ≡ f (get_or rows.tables k no_table)) (sym here)
+          (ap f (get_or-set_same rows.tables last table no_table within) ∙ same)
+      | inr other ↦ ap f (get_or-set_other rows.tables last peer table no_table other)
     ]
 
-pub place_of_peer-with_see : (rows : CentreRows) (see : SeeRow) (key : List ℕ)
-    → place_of_peer (seen_in_last rows see) key ≡ place_of_peer rows key
-place_of_peer-with_see rows see key =
-    position-set (λ t. bytes_eq t.key key) rows.tables (length rows.tables - 1)
-    (with_see (table_of rows (last_peer rows)) see) no_table refl
+-- the rows of tables, where one without rows is added
+pushed : {V : Type 0} (f : Table → List V) (tables : List Table) (table : Table) → f table ≡ []
+    → f no_table ≡ [] → (peer : ℕ)
+    → f (get_or (tables ++ table ∷ []) peer no_table) ≡ f (get_or tables peer no_table)
+pushed f [] table none default zero = none ∙ sym default
+pushed f [] table none default (suc peer) = refl
+pushed f (t ∷ tables) table none default zero = refl
+pushed f (t ∷ tables) table none default (suc peer) = pushed f tables table none default peer
+
+pub kept_with_peer : {V : Type 0} (f : Table → List V) (rows : CentreRows) (table : Table)
+    → f table ≡ [] → f no_table ≡ [] → (peer : ℕ)
+    → f (table_of (record rows { tables = rows.tables ++ table ∷ [] }) peer)
+    ≡ f (table_of rows peer)
+kept_with_peer f rows table none default peer = pushed f rows.tables table none default peer
+
+-- a row at the end, or the rows before it
+here_or_later : {X : Type 0} (number : X → ℕ) (rows : List X) (row : X) (q : ℕ)
+    → position (λ r. number r == number row) rows ≡ None
+    → cond (number row == q) (Some (length rows)) (position (λ r. number r == q) rows)
+    ≡ position (λ r. number r == q) (rows ++ row ∷ [])
+here_or_later number rows row q fresh =
+    elim (cases_Bool (eqb (number row) q)) [
+      | inl same ↦ cond-true (eqb (number row) q) _ _ same
+          ∙ sym (position-push_here (λ r. number r == q) rows row
+          (ap (λ p. position (λ r. number r == p) rows) (sym (eqb-true (number row) q same)) ∙ fresh)
+          same)
+      | inr differs ↦ cond-false (eqb (number row) q) _ _ differs
+          ∙ sym (position-push_other (λ r. number r == q) rows row differs)
+    ]
+
+-- the place of a new row of the last table is found, and all others where they were
+pub place-with_row : {X : Type 0} (list : Table → List X) (number : X → ℕ) (rows : CentreRows)
+    (table : Table) (row : X) → 0 < length rows.tables
+    → list table ≡ list (last_table rows) ++ row ∷ []
+    → position (λ r. number r == number row) (list (last_table rows)) ≡ None → (p q : ℕ)
+    → cond ((last_peer rows == p) && (number row == q)) (Some (length (list (last_table rows))))
+    (position (λ r. number r == q) (list (table_of rows p)))
+    ≡ position (λ r. number r == q) (list (table_of (with_last rows table) p))
+place-with_row list number rows table row some grown fresh p q =
+    let last = length rows.tables - 1 in
+    let within : length rows.tables - 1 < length rows.tables = omega arith in
+    elim (cases_eq p last) [
+      | inl here ↦ subst
+          (λ k. cond (eqb last k && eqb (number row) q) (Some (length (list (last_table rows))))
+          (position (λ r. number r == q) (list (table_of rows k)))
+          ≡ position (λ r. number r == q) (list (table_of (with_last rows table) k))) (sym here)
+          (ap (λ b. cond (b && eqb (number row) q) (Some (length (list (last_table rows))))
+          (position (λ r. number r == q) (list (last_table rows))))
+          (eq-eqb last last refl) ∙ here_or_later number (list (last_table rows)) row q fresh
+          ∙ ap (position (λ r. number r == q)) (sym grown)
+          ∙ ap (λ t. position (λ r. number r == q) (list t))
+          (sym (get_or-set_same rows.tables last table no_table within)))
+      | inr other ↦ cond-false _ _ _
+          (and_left (eqb last p) (eqb (number row) q) (ne_eqb last p (λ e. other (sym e))))
+          ∙ ap (λ t. position (λ r. number r == q) (list t))
+          (sym (get_or-set_other rows.tables last p table no_table other))
+    ]
 
 pub point_known : (rows : CentreRows) (name : List ℕ) (point : ℕ)
     → place_of_point rows name ≡ Some point → point < length rows.points
 point_known rows name point found =
-    (position-Some (λ row. bytes_eq row.name name) rows.points point
-    (record { name = []; kind = State }) found).0
+    (position-Some (λ row. bytes_eq row.name name) rows.points point no_point found).0
+
+pub device_known : (rows : CentreRows) (name : List ℕ) (device : ℕ)
+    → place_of_device rows name ≡ Some device → device < length rows.devices
+device_known rows name device found =
+    (position-Some (λ row. bytes_eq row.name name) rows.devices device no_device found).0

@@ -1,8 +1,10 @@
-pub mod Components
-pub mod VisibleWords
-pub mod NameIndexes
 pub mod Positions
+pub mod OneReading
+pub mod Names
 pub mod Taken
 pub mod Grown
 pub mod Stores
-pub mod OneReading
+pub mod Sections
+pub mod Told
+pub mod Spelled
+mod Worked

@@ -1,11 +1,5 @@
 -- What a reading answers is one thing or the other.
-use Rattle.std.proofs.Common.{◌≡◌, ◌⊎◌, Result, Ok, Err, refl, inl, inr}
-
--- a value, or an error
-pub cases_of_result : {A E : Type 0} (r : Result A E)
-    → ((a : A) × (r ≡ Ok a)) ⊎ ((e : E) × (r ≡ Err e))
-cases_of_result (Ok a) = inl (a, refl)
-cases_of_result (Err e) = inr (e, refl)
+use Rattle.std.proofs.Common.{◌≡◌, Result, Ok, Err}
 
 pub not_value_and_error : {A E : Type 0} (r : Result A E) (a : A) (e : E) → r ≡ Ok a → r ≡ Err e → ⊥
 not_value_and_error r a e is_value is_error = cc

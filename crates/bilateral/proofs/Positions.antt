@@ -10,21 +10,13 @@ use Rattle.std.proofs.lemmas.List.{length-set}
 use Rattle.std.proofs.lemmas.List.Folds.{position_or_len-set}
 use Rattle.std.proofs.lemmas.Iterator.Adapters.{position_from-zero}
 
--- where no element passes, none at any place does
-pub list_any-false : {X : Type 0} (p : X → Bool) (xs : List X) (k : ℕ) (d : X)
-    → list_any p xs ≡ false → k < length xs → p (get_or xs k d) ≡ false
-list_any-false p [] k d none below = absurd (omega arith)
-list_any-false p (x ∷ xs) zero d none below = (or_parts (p x) (list_any p xs) none).0
-list_any-false p (x ∷ xs) (suc k) d none below =
-    list_any-false p xs k d (or_parts (p x) (list_any p xs) none).1 (omega arith)
-
 from-push_other : {X : Type 0} (p : X → Bool) (n : ℕ) (xs : List X) (y : X) → p y ≡ false
     → position_from p n (xs ++ y ∷ []) ≡ position_from p n xs
 from-push_other p n [] y fails = cond-false (p y) (Some n) None fails
 from-push_other p n (x ∷ xs) y fails =
     ap (cond (p x) (Some n)) (from-push_other p (n + 1) xs y fails)
 
-found_later : {X : Type 0} (p : X → Bool) (n : ℕ) (x : X) (rest : Option ℕ) (test : Bool)
+pub found_later : {X : Type 0} (p : X → Bool) (n : ℕ) (x : X) (rest : Option ℕ) (test : Bool)
     → p x ≡ test → cond test (Some n) rest ≡ None → (test ≡ false) × (rest ≡ None)
 found_later p n x rest true is none = absurd cc
 found_later p n x rest false is none = (refl, none)

@@ -1,12 +1,17 @@
--- Indexes: where a name or a row stands.
-use Rattle.std.specs.Prelude.{ℕ, ◌&&◌, ◌==◌, List, Option, bytes_eq, Vec}
+-- Indexes: the names in order, and where a row stands.
+use Rattle.std.specs.Prelude.{ℕ, ◌&&◌, ◌==◌, List, Option, bytes_eq, Vec, map, position}
 use Rattle.std.specs.Global.{Global}
 use Rattle.std.specs.HashMap.{HashMap, get_by}
+use Rattle.indexmap.specs.IndexSet.{IndexSet, keys}
 
--- the place that an index has for a name
-abbrev pub place_by : {S : Type 0} → HashMap (Vec ℕ Global) ℕ S → List ℕ → Option ℕ
-place_by index name = get_by (λ key. bytes_eq name key.items) index
+-- the names of a set, in order
+abbrev pub names_in : {S : Type 0} → IndexSet (Vec ℕ Global) S → List (List ℕ)
+names_in names = map (λ key. key.items) (keys names)
 
--- the place that an index has for a peer's row of a point
+-- where a name stands among names
+abbrev pub place_among : List (List ℕ) → List ℕ → Option ℕ
+place_among names name = position (λ other. bytes_eq other name) names
+
+-- the place that an index has for a peer's row of a point or device
 abbrev pub row_by : {S : Type 0} → HashMap (ℕ × ℕ) ℕ S → ℕ → ℕ → Option ℕ
-row_by index peer point = get_by (λ key. (peer == key.0) && (point == key.1)) index
+row_by index peer item = get_by (λ key. (peer == key.0) && (item == key.1)) index

@@ -1,14 +1,24 @@
 -- The lines of a table text.
-use Rattle.std.specs.Prelude.{◌≡◌, ℕ, Bool, IsTrue, ◌&&◌, if◌then◌else◌, List, [], ◌∷◌, Option}
-use Rattle.std.specs.Prelude.{Some, None, Result, Ok, Err, option_and_then, bytes_eq, codes}
+use Rattle.std.specs.Prelude.{◌≡◌, ℕ, Bool, true, false, IsTrue, ◌&&◌, if◌then◌else◌, List, []}
+use Rattle.std.specs.Prelude.{◌∷◌, Option, Some, None, Result, Ok, Err, option_and_then, bytes_eq}
+use Rattle.std.specs.Prelude.{codes, ◌≤◌, IfSome}
 use Rattle.std.specs.Option.{option_map}
 use Rattle.plain_text.specs.Words.{words_in}
 use Rattle.tase_points.specs.declared.layout.Component.{Component}
-use Rattle.bilateral.specs.declared.layouts.LayoutWhy.{LayoutWhy}
-use Rattle.bilateral.specs.declared.layouts.LayoutWhy.TheVariants.{Part, Twice}
+use Rattle.table_words.specs.declared.layouts.LayoutWhy.{LayoutWhy}
+use Rattle.table_words.specs.declared.layouts.LayoutWhy.TheVariants.{Part, Twice}
+use Rattle.table_words.specs.declared.device_form.DeviceForm.{DeviceForm}
 use Rattle.bilateral.specs.declared.line.TableLine.{TableLine}
-use Rattle.bilateral.specs.declared.line.TableLine.TheVariants.{Point, Peer, See}
-use Rattle.bilateral.specs.Words.{is_name, is_identifier, kind_in, scope_in, layout_in, title_in}
+use Rattle.bilateral.specs.declared.line.TableLine.TheVariants.{Point, Device, Peer, Slots, Sets}
+use Rattle.bilateral.specs.declared.line.TableLine.TheVariants.{Pending, See, Control}
+use Rattle.bilateral.specs.declared.rows.DeviceRow.{DeviceRow}
+use Rattle.bilateral.specs.declared.rows.Table.{Table}
+use Rattle.bilateral.specs.declared.rows.TheConstants.{SLOT_LIMIT, SLOT_DEFAULT, SET_LIMIT}
+use Rattle.bilateral.specs.declared.rows.TheConstants.{SET_DEFAULT, PENDING_LEAST, PENDING_LIMIT}
+use Rattle.bilateral.specs.declared.rows.TheConstants.{PENDING_DEFAULT}
+use Rattle.table_words.specs.Words.{is_name, is_identifier, kind_in, scope_in, layout_in, title_in}
+use Rattle.table_words.specs.Words.{limit_in}
+use Rattle.table_words.specs.Devices.{order_in, IsForm}
 
 -- `point NAME KIND`, past its first word
 abbrev pub point_line : List (List ℕ) → Option TableLine
@@ -17,14 +27,57 @@ point_line (name ∷ kind ∷ []) =
     else None
 point_line _ = None
 
+-- a device with this name
+abbrev pub named_device : List ℕ → DeviceForm → DeviceRow
+named_device name form = record {
+  name = name;
+  kind = form.kind;
+  direct = form.direct;
+  checkback = form.checkback;
+  span = form.span;
+}
+
+-- `device NAME COMMAND sbo CHECKBACK MS` and `device NAME COMMAND direct`
+abbrev pub device_line : List (List ℕ) → Option TableLine
+device_line [] = None
+device_line (name ∷ more) =
+    if is_name name then option_map (λ form. Device (named_device name form)) (order_in more)
+    else None
+
 -- `peer KEY TITLE DOMAIN ID`
 abbrev pub peer_line : List (List ℕ) → Option TableLine
 peer_line (key ∷ title ∷ domain ∷ id ∷ []) =
     if is_identifier key && is_identifier domain && is_identifier id
     then option_map
-    (λ t. Peer (record { key = key; title = t; domain = domain; id = id; sees = [] }))
+    (λ t. Peer
+    (record {
+      key = key;
+      title = t;
+      domain = domain;
+      id = id;
+      sees = [];
+      controls = [];
+      slots = SLOT_DEFAULT;
+      sets = SET_DEFAULT;
+      pending = PENDING_DEFAULT;
+    }))
     (title_in title) else None
 peer_line _ = None
+
+-- a limit's line, by its one word
+abbrev pub limit_line : (Option ℕ → TableLine) → ℕ → ℕ → List (List ℕ) → Option TableLine
+limit_line form least most (number ∷ []) = option_map form (limit_in least most number)
+limit_line form least most _ = None
+
+-- `slots N`, `sets N` and `pending N`
+abbrev pub slots_line : List (List ℕ) → Option TableLine
+slots_line more = limit_line Slots 1 SLOT_LIMIT more
+
+abbrev pub sets_line : List (List ℕ) → Option TableLine
+sets_line more = limit_line Sets 1 SET_LIMIT more
+
+abbrev pub pending_line : List (List ℕ) → Option TableLine
+pending_line more = limit_line Pending PENDING_LEAST PENDING_LIMIT more
 
 -- a row's line by its layout: without one where a component stands twice
 abbrev pub see_with : List ℕ → Bool → Result (List Component) LayoutWhy → Option TableLine
@@ -40,22 +93,72 @@ see_line (name ∷ scope ∷ layout ∷ []) =
     else None
 see_line _ = None
 
+-- whether a device's tag may be written: nothing more, or `tag`
+abbrev pub tag_in : List (List ℕ) → Option Bool
+tag_in [] = Some false
+tag_in (word ∷ []) = if bytes_eq word (codes "tag") then Some true else None
+tag_in _ = None
+
+-- `control NAME` and `control NAME tag`
+abbrev pub control_line : List (List ℕ) → Option TableLine
+control_line [] = None
+control_line (name ∷ more) =
+    if is_name name then option_map (λ tag. Control name tag) (tag_in more) else None
+
+-- what a line of a table says, by its first word
+abbrev pub table_told_by : List ℕ → List (List ℕ) → Option TableLine
+table_told_by first more =
+    if bytes_eq first (codes "see") then see_line more
+    else (if bytes_eq first (codes "control") then control_line more
+    else (if bytes_eq first (codes "slots") then slots_line more
+    else (if bytes_eq first (codes "sets") then sets_line more
+    else (if bytes_eq first (codes "pending") then pending_line more else None))))
+
+-- what a line says, by its first word
+abbrev pub told_by : List ℕ → List (List ℕ) → Option TableLine
+told_by first more =
+    if bytes_eq first (codes "point") then point_line more
+    else (if bytes_eq first (codes "device") then device_line more
+    else (if bytes_eq first (codes "peer") then peer_line more
+    else table_told_by first more))
+
 -- what words say, by the first of them
 abbrev pub line_of : List (List ℕ) → Option TableLine
 line_of [] = None
-line_of (first ∷ more) =
-    if bytes_eq first (codes "point") then point_line more
-    else (if bytes_eq first (codes "peer") then peer_line more
-    else (if bytes_eq first (codes "see") then see_line more else None))
+line_of (first ∷ more) = told_by first more
 
 -- what a line says, where it is one of the forms
 abbrev pub line_in : List ℕ → Option TableLine
 line_in line = option_and_then line_of (words_in line)
 
--- a line's names and identifiers are such, and a new table has no rows
+-- what a device says beside its name
+abbrev pub form_of : DeviceRow → DeviceForm
+form_of row = record {
+  kind = row.kind;
+  direct = row.direct;
+  checkback = row.checkback;
+  span = row.span;
+}
+
+-- a new table has no rows, and the limits where nothing is said
+abbrev pub IsNewTable : Table → Type 0
+IsNewTable table =
+    (table.sees ≡ []) × (table.controls ≡ []) × (table.slots ≡ SLOT_DEFAULT)
+    × (table.sets ≡ SET_DEFAULT) × (table.pending ≡ PENDING_DEFAULT)
+
+-- a limit that a line gives is one
+abbrev pub IsLimit : ℕ → ℕ → Option ℕ → Type 0
+IsLimit least most number = IfSome number (λ n. (least ≤ n) × (n ≤ most))
+
+-- a line's names and identifiers are such, a new table has no rows, and limits are limits
 abbrev pub IsLawful : TableLine → Type 0
 IsLawful (Point point) = IsTrue (is_name point.name)
+IsLawful (Device row) = IsTrue (is_name row.name) × IsForm (form_of row)
 IsLawful (Peer table) =
     IsTrue (is_identifier table.key) × IsTrue (is_identifier table.domain)
-    × IsTrue (is_identifier table.id) × (table.sees ≡ [])
+    × IsTrue (is_identifier table.id) × IsNewTable table
+IsLawful (Slots number) = IsLimit 1 SLOT_LIMIT number
+IsLawful (Sets number) = IsLimit 1 SET_LIMIT number
+IsLawful (Pending number) = IsLimit PENDING_LEAST PENDING_LIMIT number
 IsLawful (See name vmd layout) = Unit {0}
+IsLawful (Control name tag) = Unit {0}

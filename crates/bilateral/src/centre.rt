@@ -1,13 +1,15 @@
 ghost use Rattle.std.specs.Prelude.{◌≡◌, ◌<◌, length, Some, slice_get};
-ghost use Rattle.bilateral.specs.Rows.{IsCentre, place_of_point, place_of_peer, place_of_see};
-ghost use Rattle.bilateral.specs.Rows.{table_of};
+ghost use Rattle.std.specs.Option.{option_copied};
+ghost use Rattle.bilateral.specs.Rows.{IsCentre, place_of_point, place_of_device, place_of_peer};
+ghost use Rattle.bilateral.specs.Rows.{place_of_title, place_of_see, place_of_control, table_of};
 
-use crate::rows::{PointRow, Table};
+use crate::rows::{DeviceRow, PointRow, Table};
 use crate::store::Store;
+use ber_values::Oid;
 use std::marker::Model;
 
-/// The points of a centre and its peers' tables. Points and peers are numbered from 0 in the order
-/// of the file.
+/// The points and devices of a centre and its peers' tables. Points, devices and peers are numbered
+/// from 0 in the order of the file.
 #[derive(Debug, Drop)]
 pub struct Centre {
     store: Store,
@@ -42,6 +44,14 @@ impl Centre {
         self.store.points.len() as u32
     }
 
+    /// How many devices there are.
+    pub fn devices(&self) -> u32
+        ensures count { result ≡ length self.now.devices }
+        ensures lawful { IsCentre self.now }
+    {
+        self.store.devices.len() as u32
+    }
+
     /// How many peers there are.
     pub fn peers(&self) -> u32
         ensures count { result ≡ length self.now.tables }
@@ -56,6 +66,14 @@ impl Centre {
         ensures { slice_get self.now.points point ≡ Some result.now }
     {
         &self.store.points[point as usize]
+    }
+
+    /// The device with this number.
+    pub fn device(&self, device: u32) -> &DeviceRow
+        requires { device < length self.now.devices }
+        ensures { slice_get self.now.devices device ≡ Some result.now }
+    {
+        &self.store.devices[device as usize]
     }
 
     /// The table of the peer with this number.
@@ -73,6 +91,13 @@ impl Centre {
         self.store.find_point(name)
     }
 
+    /// The number of the device with this name.
+    pub fn find_device(&self, name: &[u8]) -> Option<u32>
+        ensures { result ≡ place_of_device self.now name.now }
+    {
+        self.store.find_device(name)
+    }
+
     /// The number of the peer with this key.
     pub fn find_peer(&self, key: &[u8]) -> Option<u32>
         ensures { result ≡ place_of_peer self.now key.now }
@@ -87,4 +112,26 @@ impl Centre {
     {
         self.store.find_see(peer, point)
     }
+    /// Where the peer's table has its row for a device.
+    pub fn find_control(&self, peer: u32, device: u32) -> Option<u32>
+        requires { peer < length self.now.tables }
+        ensures { result ≡ place_of_control (table_of self.now peer) device }
+    {
+        self.store.find_control(peer, device)
+    }
+
+    /// The number of the peer with this title, or of the one that has none.
+    fn find_title(&self, title: Option<&Oid>) -> Option<u32>
+        ensures { result ≡ place_of_title self.now (option_copied title.entry) }
+    {
+        self.store.find_title(title)
+    }
+}
+
+/// The number of the peer that calls by this title; without a title, of the peer whose table serves
+/// callers that give none.
+pub fn peer_of(centre: &Centre, title: Option<&Oid>) -> Option<u32>
+    ensures { result ≡ place_of_title centre.now (option_copied title.entry) }
+{
+    centre.find_title(title)
 }

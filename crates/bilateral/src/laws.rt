@@ -1,7 +1,8 @@
-ghost use Rattle.std.specs.Prelude.{◌≡◌, ◌⊎◌, ℕ, List};
+ghost use Rattle.std.specs.Prelude.{◌≡◌, ◌⊎◌, ◌↔◌, ℕ, List, Ok, Err};
 ghost use Rattle.bilateral.specs.declared.fault.TableFault.{TableFault as Fault};
 ghost use Rattle.bilateral.specs.Rows.{CentreRows};
-ghost use Rattle.bilateral.specs.Reading.{Spells, HasFault};
+ghost use Rattle.bilateral.specs.Reading.{centre_in};
+ghost use Rattle.bilateral.specs.Spelling.{Spells, HasFault};
 
 /// The law of one reading: a text spells exactly one centre, or has exactly one first bad line.
 pub fn one_reading()
@@ -12,4 +13,8 @@ pub fn one_reading()
     ensures one_centre { (text : List ℕ) (a b : CentreRows) → Spells text a → Spells text b
         → a ≡ b }
     ensures one_fault { (text : List ℕ) (a b : Fault) → HasFault text a → HasFault text b → a ≡ b }
+    ensures reader_finds_centres { (text : List ℕ) (rows : CentreRows)
+        → (centre_in text ≡ Ok rows) ↔ Spells text rows }
+    ensures reader_finds_faults { (text : List ℕ) (fault : Fault)
+        → (centre_in text ≡ Err fault) ↔ HasFault text fault }
 {}

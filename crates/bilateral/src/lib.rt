@@ -1,22 +1,30 @@
-//! The bilateral tables of a control centre: its points, and for each peer what that peer may see
-//! (IEC 60870-6-503, bilateral agreements and tables).
+//! The bilateral tables of a control centre: its points and devices, and for each peer what that
+//! peer may see and operate (IEC 60870-6-503, bilateral agreements and tables).
 #![tactic(auto)]
 
+mod adding;
 mod centre;
+mod device_line;
 mod fault;
+mod faults;
+mod given;
 mod index;
 mod laws;
-mod layouts;
+mod limit_line;
 mod line;
 mod reading;
 mod rows;
+mod see_line;
 mod store;
-mod words;
 
-pub use centre::Centre;
+pub use centre::{Centre, peer_of};
 pub use fault::{TableFault, TableWhy};
 pub use laws::one_reading;
 pub use line::TableLine;
 pub use reading::read_centre;
-pub use rows::{PEER_LIMIT, POINT_LIMIT, PointRow, SEE_LIMIT, See, Sees, Table};
-pub use words::{IDENTIFIER_LIMIT, NAME_LIMIT};
+pub use rows::{
+    Control, Controls, DEVICE_LIMIT, DeviceRow, PEER_LIMIT, PENDING_DEFAULT, PENDING_LEAST,
+    PENDING_LIMIT, POINT_LIMIT, PointRow, SEE_LIMIT, SET_DEFAULT, SET_LIMIT, SLOT_DEFAULT,
+    SLOT_LIMIT, SPAN_LIMIT, See, Sees, Table,
+};
+pub use table_words::{IDENTIFIER_LIMIT, NAME_LIMIT};

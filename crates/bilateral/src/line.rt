@@ -1,13 +1,18 @@
 ghost use Rattle.std.specs.Prelude.{◌≡◌, IfOk, IfSome};
 ghost use Rattle.plain_text.specs.Words.{words};
-ghost use Rattle.bilateral.specs.Lines.{line_in, point_line, peer_line, see_line, IsLawful};
+ghost use Rattle.bilateral.specs.Lines.{line_in, told_by, point_line, peer_line, IsLawful};
+ghost use Rattle.bilateral.specs.Lines.{table_told_by};
 
-use crate::layouts::{LayoutWhy, read_layout};
-use crate::rows::{PointRow, Sees, Table};
-use crate::words::{is_identifier, is_name, read_kind, read_scope, read_title, visible_word};
+use crate::device_line::{read_control, read_device};
+use crate::limit_line::{read_pending, read_sets, read_slots};
+use crate::rows::{
+    Controls, DeviceRow, PENDING_DEFAULT, PointRow, SET_DEFAULT, SLOT_DEFAULT, Sees, Table,
+};
+use crate::see_line::read_see;
 use ber_values::Visible;
-use plain_text::{four_words, is_spaced, next_word, three_words, two_words};
+use plain_text::{four_words, is_spaced, next_word, two_words};
 use std::alloc::{AllocError, Global};
+use table_words::{is_identifier, is_name, read_kind, read_title, visible_word};
 use tase_points::Layout;
 
 /// What one line of a table text says.
@@ -15,13 +20,27 @@ use tase_points::Layout;
 pub enum TableLine {
     /// `point NAME KIND`.
     Point(PointRow),
+    /// `device NAME COMMAND sbo CHECKBACK MS` or `device NAME COMMAND direct`. A span below 0
+    /// counts as 0.
+    Device(DeviceRow),
     /// `peer KEY TITLE DOMAIN ID`: a table without rows.
     Peer(Table),
+    /// `slots N`, without a number past the limit.
+    Slots(Option<u32>),
+    /// `sets N`, without a number past the limit.
+    Sets(Option<u32>),
+    /// `pending N`, without a number past the limit.
+    Pending(Option<u64>),
     /// `see NAME SCOPE LAYOUT`, without a layout where a component stands twice.
     See {
         name: Visible,
         vmd: bool,
         layout: Option<Layout>,
+    },
+    /// `control NAME` or `control NAME tag`.
+    Control {
+        name: Visible,
+        tag: bool,
     },
 }
 
@@ -36,12 +55,44 @@ pub fn read_line(alloc: Global, line: &[u8]) -> Result<Option<TableLine>, AllocE
     let Some((first, more)) = next_word(line) else {
         return Ok(None);
     };
+    read_form(alloc, first, more)
+}
+
+/// A line by its first word.
+fn read_form(alloc: Global, first: &[u8], more: &[u8]) -> Result<Option<TableLine>, AllocError>
+    ensures value { IfOk result (λ said. said ≡ told_by first.now (words more.now)) }
+    ensures lawful { IfOk result (λ said. IfSome said IsLawful) }
+{
     if first == b"point".as_slice() {
         read_point(alloc, more)
+    } else if first == b"device".as_slice() {
+        read_device(alloc, more)
     } else if first == b"peer".as_slice() {
         read_peer(alloc, more)
-    } else if first == b"see".as_slice() {
+    } else {
+        read_table_form(alloc, first, more)
+    }
+}
+
+/// A line of a table, by its first word.
+fn read_table_form(
+    alloc: Global,
+    first: &[u8],
+    more: &[u8],
+) -> Result<Option<TableLine>, AllocError>
+    ensures value { IfOk result (λ said. said ≡ table_told_by first.now (words more.now)) }
+    ensures lawful { IfOk result (λ said. IfSome said IsLawful) }
+{
+    if first == b"see".as_slice() {
         read_see(alloc, more)
+    } else if first == b"control".as_slice() {
+        read_control(alloc, more)
+    } else if first == b"slots".as_slice() {
+        Ok(read_slots(more))
+    } else if first == b"sets".as_slice() {
+        Ok(read_sets(more))
+    } else if first == b"pending".as_slice() {
+        Ok(read_pending(more))
     } else {
         Ok(None)
     }
@@ -85,29 +136,10 @@ fn read_peer(alloc: Global, text: &[u8]) -> Result<Option<TableLine>, AllocError
         domain: visible_word(alloc, domain)?,
         id: visible_word(alloc, id)?,
         sees: Sees::new(alloc),
+        controls: Controls::new(alloc),
+        slots: SLOT_DEFAULT,
+        sets: SET_DEFAULT,
+        pending: PENDING_DEFAULT,
     };
     Ok(Some(TableLine::Peer(table)))
-}
-
-/// `NAME SCOPE LAYOUT`.
-fn read_see(alloc: Global, text: &[u8]) -> Result<Option<TableLine>, AllocError>
-    ensures value { IfOk result (λ said. said ≡ see_line (words text.now)) }
-    ensures lawful { IfOk result (λ said. IfSome said IsLawful) }
-{
-    let Some((name, scope, layout)) = three_words(text) else {
-        return Ok(None);
-    };
-    if !is_name(name) {
-        return Ok(None);
-    }
-    let Some(vmd) = read_scope(scope) else {
-        return Ok(None);
-    };
-    let layout = match read_layout(alloc, layout)? {
-        Ok(layout) => Some(layout),
-        Err(LayoutWhy::Twice) => None,
-        Err(LayoutWhy::Part) => return Ok(None),
-    };
-    let name = visible_word(alloc, name)?;
-    Ok(Some(TableLine::See { name, vmd, layout }))
 }

@@ -1,7 +1,9 @@
 ghost use Rattle.std.specs.Prelude.{◌≡◌, Ok, Err, IfOk, OnOk, MatchResult};
-ghost use Rattle.bilateral.specs.Rows.{IsCentre};
+ghost use Rattle.bilateral.specs.declared.fault.TableFault.{TableFault as Fault};
+ghost use Rattle.bilateral.specs.Rows.{CentreRows, IsCentre};
+ghost use Rattle.bilateral.specs.Spelling.{Spells, HasFault};
 ghost use Rattle.bilateral.specs.Reading.{centre_in, after_line};
-ghost use Rattle.bilateral.specs.Store.{rows_of, IsStore};
+ghost use Rattle.bilateral.specs.Store.{so_far, IsStore};
 
 use crate::centre::Centre;
 use crate::fault::{TableFault, TableWhy};
@@ -11,9 +13,22 @@ use plain_text::{is_skipped, next_line};
 use std::alloc::{AllocError, Global};
 
 /// Reads the text of a centre's tables, or answers its first bad line. Lines count from 1, and the
-/// count stands
-/// still at 2^64 - 1; empty lines and lines that begin with `#` are skipped.
+/// count stands still at 2^64 - 1; empty lines and lines that begin with `#` are skipped.
 pub fn read_centre(alloc: Global, text: &[u8]) -> Result<Result<Centre, TableFault>, AllocError>
+    ensures found { IfOk result
+        (λ read. MatchResult read (Spells text.now) (HasFault text.now)) }
+    ensures only { (rows : CentreRows) → Spells text.now rows
+        → IfOk result (λ read. read ≡ Ok rows) }
+    ensures fault { (fault : Fault) → HasFault text.now fault
+        → IfOk result (λ read. read ≡ Err fault) }
+    ensures value { IfOk result (λ read. read ≡ centre_in text.now) }
+    ensures lawful { IfOk result (λ read. IfOk read IsCentre) }
+{
+    read_lines(alloc, text)
+}
+
+/// Reads the lines one after another.
+fn read_lines(alloc: Global, text: &[u8]) -> Result<Result<Centre, TableFault>, AllocError>
     ensures value { IfOk result (λ read. read ≡ centre_in text.now) }
     ensures lawful { IfOk result (λ read. IfOk read IsCentre) }
 {
@@ -39,8 +54,8 @@ fn take_line(
     requires { IsStore store.old }
     ensures value { IfOk result
         (λ taken. MatchResult taken
-        (λ _. after_line (rows_of store.old) line.now ≡ Ok (rows_of store.new))
-        (λ why. after_line (rows_of store.old) line.now ≡ Err why)) }
+        (λ _. after_line (so_far store.old) line.now ≡ Ok (so_far store.new))
+        (λ why. after_line (so_far store.old) line.now ≡ Err why)) }
     ensures store { IfOk result (λ taken. OnOk taken (IsStore store.new)) }
 {
     if is_skipped(line) {

@@ -1,10 +1,14 @@
 //! The rows of a centre's tables.
 use ber_values::{Oid, Visible};
 use item_list::ItemList;
+use sbo_device::CommandKind;
 use tase_points::{Kind, Layout};
 
 /// The most points of a centre.
 pub const POINT_LIMIT: usize = 20000;
+
+/// The most devices of a centre.
+pub const DEVICE_LIMIT: usize = 2000;
 
 /// The most peers of a centre.
 pub const PEER_LIMIT: usize = 256;
@@ -12,12 +16,50 @@ pub const PEER_LIMIT: usize = 256;
 /// The most rows of a table.
 pub const SEE_LIMIT: usize = 5000;
 
+/// The longest span of a selection, in milliseconds.
+pub const SPAN_LIMIT: u64 = 86400000;
+
+/// The most transfer sets that a table offers.
+pub const SLOT_LIMIT: u64 = 16;
+
+/// The transfer sets that a table offers where it doesn't say.
+pub const SLOT_DEFAULT: u32 = 8;
+
+/// The most data sets of a peer.
+pub const SET_LIMIT: u64 = 64;
+
+/// The data sets that a peer may define where its table doesn't say.
+pub const SET_DEFAULT: u32 = 64;
+
+/// The fewest pending octets of a connection that a table may allow.
+pub const PENDING_LEAST: u64 = 1024;
+
+/// The most pending octets of a connection.
+pub const PENDING_LIMIT: u64 = 16777216;
+
+/// The pending octets of a connection where its table doesn't say.
+pub const PENDING_DEFAULT: u64 = 1048576;
+
 /// A point of the centre.
 #[derive(Debug, Drop)]
 pub struct PointRow {
     /// One to [`NAME_LIMIT`](crate::NAME_LIMIT) octets.
     pub name: Visible,
     pub kind: Kind,
+}
+
+/// A control point of the centre (IEC 60870-6-503, device control).
+#[derive(Debug, Drop)]
+pub struct DeviceRow {
+    /// One to [`NAME_LIMIT`](crate::NAME_LIMIT) octets.
+    pub name: Visible,
+    pub kind: CommandKind,
+    /// Operated without a selection; `checkback` and `span` are 0 then.
+    pub direct: bool,
+    /// The number by which a selection is answered.
+    pub checkback: i16,
+    /// How long a selection holds, in milliseconds.
+    pub span: u64,
 }
 
 /// What a peer's table says of one point.
@@ -35,6 +77,18 @@ pub struct See {
 /// The points of one table, in the order of the file.
 pub type Sees = ItemList<See>;
 
+/// What a peer's table says of one device.
+#[derive(Debug, Drop)]
+pub struct Control {
+    /// The number of the device.
+    pub device: u32,
+    /// Whether the peer may write the device's tag.
+    pub tag: bool,
+}
+
+/// The devices of one table, in the order of the file.
+pub type Controls = ItemList<Control>;
+
 /// The bilateral table of one peer.
 #[derive(Debug, Drop)]
 pub struct Table {
@@ -47,4 +101,12 @@ pub struct Table {
     /// The identifier of the bilateral table.
     pub id: Visible,
     pub sees: Sees,
+    pub controls: Controls,
+    /// How many transfer sets the peer is offered: 1 to [`SLOT_LIMIT`].
+    pub slots: u32,
+    /// How many data sets the peer may define: 1 to [`SET_LIMIT`].
+    pub sets: u32,
+    /// The octets that may wait for the peer on a connection: [`PENDING_LEAST`] to
+    /// [`PENDING_LIMIT`].
+    pub pending: u64,
 }

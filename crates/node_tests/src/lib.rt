@@ -9,8 +9,6 @@ mod shown;
 #[cfg(test)]
 mod steps;
 #[cfg(test)]
-mod table_lines;
-#[cfg(test)]
 mod tables;
 #[cfg(test)]
 mod texts;

@@ -1,12 +1,10 @@
-use Rattle.std.proofs.Common.{◌≡◌, ap, ◌∙◌, Some, cond, bytes_eq, rules}
-use Rattle.bilateral.specs.Index.{place_by}
-use Rattle.bilateral.proofs.NameIndexes.{place_by-noted}
+use Rattle.std.proofs.Common.{◌≡◌, rules}
+use Rattle.indexmap.specs.IndexSet.{keys}
+use Rattle.bilateral.proofs.Names.{names-inserted}
 use Rattle.bilateral.proofs.index.note_name.Goals as goal
 
 pub returns : goal.returns
-returns c = λ other.
-    let same : c.in_ok-key.key.items ≡ c.args.name.now = search rules in
-    place_by-noted c.in_ok-key.key c.args.index.now c.insert.new.self c.args.place
-    c.in_ok-insert.ensures.updates other
-    ∙ ap (λ name. cond (bytes_eq name other) (Some c.args.place) (place_by c.args.index.now other))
-    same
+returns c =
+    let same : c.in_ok-name.name.items ≡ c.args.name.now = search rules in
+    names-inserted (keys c.args.names.now) (keys c.insert.new.self) c.in_ok-name.name
+    c.args.name.now c.in_ok-insert.ensures.keys same c.requires

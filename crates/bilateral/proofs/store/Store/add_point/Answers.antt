@@ -1,12 +1,21 @@
-use Rattle.std.proofs.Common.{◌≡◌, ◌++◌, ◌∷◌, [], refl, arith}
+use Rattle.std.proofs.Common.{◌≡◌, refl, ◌++◌, ◌∷◌, [], None, sym, ap, ◌∙◌}
+use Rattle.bilateral.specs.Index.{names_in, place_among}
+use Rattle.bilateral.proofs.Names.{place-by_key}
+use Rattle.bilateral.proofs.Taken.{IsNewPoint-from_no_fault}
 use Rattle.bilateral.proofs.Stores.{IsStore-with_point}
+use Rattle.bilateral.specs.Store.{rows_of, so_far}
+use Rattle.bilateral.specs.Rows.{place_of_point}
 use Rattle.bilateral.proofs.store.Store.add_point.Goals as goal
+
+pub note_name-requires : goal.note_name-requires
+note_name-requires c =
+    place-by_key (λ row. row.name) c.args.self.now.points.items (names_in c.args.self.now.point_names)
+    c.as_slice.result.now c.requires.store.names.points
+    ∙ ap (λ name. place_of_point (rows_of c.args.self.now) name) c.as_slice.ensures.value
+    ∙ (IsNewPoint-from_no_fault (so_far c.args.self.now) c.args.point c.requires.taken).fresh
 
 pub returns-clause-store : goal.returns-clause-store
 returns-clause-store c =
-    let pushed : c.push.new.self.items ≡ c.args.self.now.points.items
-    ++ c.args.point ∷ [] = c.in_ok-push.ensures.items in
-    IsStore-with_point c.args.self.now _ c.args.point c.len-place.result c.as_slice.result.now
-    c.requires.store c.requires.lawful c.requires.taken
-    (omega (arith, c.args.self.now.points.ok.0))
-    c.as_slice.ensures.value pushed refl c.in_ok-note_name.ensures refl refl
+    IsStore-with_point c.args.self.now _ c.args.point c.as_slice.result.now c.requires.store
+    c.requires.lawful c.requires.taken c.as_slice.ensures.value c.in_ok-push.ensures.items
+    c.in_ok-note_name.ensures refl

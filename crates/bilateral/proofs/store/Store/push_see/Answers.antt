@@ -20,4 +20,4 @@ returns-clause-store c =
     c.requires.room
     last (c.len-place.ensures
     ∙ ap (λ (t : Table). length t.sees) (at ∙ ap (λ k. get_or tables k no_table) last))
-    (grind (arith, common_steps)) c.in_ok-note_row.ensures refl refl
+    (grind (arith, common_steps)) c.in_ok-note_row.ensures refl

@@ -1,0 +1,151 @@
+-- What lines say, with one line more at the end.
+use Rattle.std.proofs.Common.{◌≡◌, ℕ, zero, suc, ◌+◌, ◌-◌, ◌<◌, Bool, true, false, cond, List, []}
+use Rattle.std.proofs.Common.{◌∷◌, ◌++◌, length, map, get_or, set, Option, Some, None, is_some, refl}
+use Rattle.std.proofs.Common.{sym, ap, ◌∙◌, arith}
+use Rattle.std.specs.Prelude.{filter_map}
+use Rattle.std.specs.List.{cons_option}
+use Rattle.std.proofs.lemmas.List.{append-nil, map-append}
+use Rattle.std.proofs.lemmas.List.Elements.{filter_map-append}
+use Rattle.bilateral.specs.declared.line.TableLine.{TableLine}
+use Rattle.bilateral.specs.declared.rows.Table.{Table}
+use Rattle.bilateral.specs.Spelling.{peer_in, own_lines, sections, Section, begun, last_or}
+
+-- a change of the last element
+abbrev pub on_last : {A : Type 0} → (A → A) → List A → List A
+on_last f [] = []
+on_last f (x ∷ []) = f x ∷ []
+on_last f (x ∷ y ∷ more) = x ∷ on_last f (y ∷ more)
+
+-- a line more in a section
+abbrev pub with_own : TableLine → Section → Section
+with_own line part = (part.0, part.1 ++ line ∷ [])
+
+-- a line that is no peer's, where no peer's line follows
+own-push_last : (line : TableLine) → peer_in line ≡ None → (said : List TableLine)
+    → sections said ≡ [] → own_lines (said ++ line ∷ []) ≡ own_lines said ++ line ∷ []
+own-push_last line other [] none = ap (λ p. cond (is_some p) [] (line ∷ [])) other
+own-push_last line other (x ∷ said) none =
+    step (peer_in x) (own-push_last line other said) none
+  where
+    step : (p : Option Table)
+        → (sections said ≡ [] → own_lines (said ++ line ∷ []) ≡ own_lines said ++ line ∷ [])
+        → begun p (own_lines said) (sections said) ≡ []
+        → cond (is_some p) [] (x ∷ own_lines (said ++ line ∷ []))
+        ≡ cond (is_some p) [] (x ∷ own_lines said) ++ line ∷ []
+    step None later none = ap (λ lines. x ∷ lines) (later none)
+    step (Some table) later none = absurd cc
+
+-- a line behind a peer's line that follows
+own-push_later : (line : TableLine) → (said : List TableLine) (part : Section)
+    (more : List Section) → sections said ≡ part ∷ more
+    → own_lines (said ++ line ∷ []) ≡ own_lines said
+own-push_later line [] part more there = absurd cc
+own-push_later line (x ∷ said) part more there =
+    step (peer_in x) (own-push_later line said part more) there
+  where
+    step : (p : Option Table)
+        → (sections said ≡ part ∷ more → own_lines (said ++ line ∷ []) ≡ own_lines said)
+        → begun p (own_lines said) (sections said) ≡ part ∷ more
+        → cond (is_some p) [] (x ∷ own_lines (said ++ line ∷ []))
+        ≡ cond (is_some p) [] (x ∷ own_lines said)
+    step None later there = ap (λ lines. x ∷ lines) (later there)
+    step (Some table) later there = refl
+
+-- a line that is no peer's stands in the last section
+pub sections-push_line : (line : TableLine) → peer_in line ≡ None → (said : List TableLine)
+    → sections (said ++ line ∷ []) ≡ on_last (with_own line) (sections said)
+sections-push_line line other [] = ap (λ p. begun p [] []) other
+sections-push_line line other (x ∷ said) =
+    step (peer_in x) (sections-push_line line other said)
+  where
+    first : (table : Table) (parts parts_new : List Section) (own own_new : List TableLine)
+        → (parts ≡ [] → own_new ≡ own ++ line ∷ [])
+        → ((part : Section) (more : List Section) → parts ≡ part ∷ more → own_new ≡ own)
+        → parts_new ≡ on_last (with_own line) parts
+        → (table, own_new) ∷ parts_new ≡ on_last (with_own line) ((table, own) ∷ parts)
+    first table [] parts_new own own_new at_end later same =
+        ap (λ ps. (table, own_new) ∷ ps) same ∙ ap (λ o. (table, o) ∷ []) (at_end refl)
+    first table (part ∷ more) parts_new own own_new at_end later same =
+        ap (λ ps. (table, own_new) ∷ ps) same
+        ∙ ap (λ o. (table, o) ∷ on_last (with_own line) (part ∷ more)) (later part more refl)
+
+    step : (p : Option Table)
+        → sections (said ++ line ∷ []) ≡ on_last (with_own line) (sections said)
+        → begun p (own_lines (said ++ line ∷ [])) (sections (said ++ line ∷ []))
+        ≡ on_last (with_own line) (begun p (own_lines said) (sections said))
+    step None same = same
+    step (Some table) same =
+        first table (sections said) (sections (said ++ line ∷ [])) (own_lines said)
+        (own_lines (said ++ line ∷ [])) (own-push_last line other said)
+        (own-push_later line said) same
+
+-- the lines before a new peer's line
+own-push_peer : (line : TableLine) (table : Table) → peer_in line ≡ Some table
+    → (said : List TableLine) → own_lines (said ++ line ∷ []) ≡ own_lines said
+own-push_peer line table is [] = ap (λ p. cond (is_some p) [] (line ∷ [])) is
+own-push_peer line table is (x ∷ said) =
+    ap (λ lines. cond (is_some (peer_in x)) [] (x ∷ lines)) (own-push_peer line table is said)
+
+-- a new peer's line begins a section
+pub sections-push_peer : (line : TableLine) (table : Table) → peer_in line ≡ Some table
+    → (said : List TableLine) → sections (said ++ line ∷ []) ≡ sections said ++ (table, []) ∷ []
+sections-push_peer line table is [] = ap (λ p. begun p [] []) is
+sections-push_peer line table is (x ∷ said) =
+    ap (λ own. begun (peer_in x) own (sections (said ++ line ∷ [])))
+    (own-push_peer line table is said)
+    ∙ ap (begun (peer_in x) (own_lines said)) (sections-push_peer line table is said)
+    ∙ joined (peer_in x)
+  where
+    joined : (p : Option Table)
+        → begun p (own_lines said) (sections said ++ (table, []) ∷ [])
+        ≡ begun p (own_lines said) (sections said) ++ (table, []) ∷ []
+    joined None = refl
+    joined (Some other) = refl
+
+pub map-on_last : {A B : Type 0} (f : A → B) (h : A → A) (g : B → B)
+    → ((x : A) → f (h x) ≡ g (f x)) → (xs : List A) → map f (on_last h xs) ≡ on_last g (map f xs)
+map-on_last f h g same [] = refl
+map-on_last f h g same (x ∷ []) = ap (λ y. y ∷ []) (same x)
+map-on_last f h g same (x ∷ y ∷ more) = ap (λ ys. f x ∷ ys) (map-on_last f h g same (y ∷ more))
+
+-- the change of the last element, by its place
+pub on_last-at : {A : Type 0} (g : A → A) (xs : List A) (n : ℕ) (d : A) → length xs ≡ n + 1
+    → on_last g xs ≡ set xs n (g (get_or xs n d))
+on_last-at g [] n d size = absurd (omega arith)
+on_last-at g (x ∷ []) zero d size = refl
+on_last-at g (x ∷ []) (suc n) d size = absurd (omega arith)
+on_last-at g (x ∷ y ∷ more) zero d size = absurd (omega arith)
+on_last-at g (x ∷ y ∷ more) (suc n) d size =
+    ap (λ ys. x ∷ ys) (on_last-at g (y ∷ more) n d (omega arith))
+
+pub last_or-push : {A : Type 0} (xs : List A) (x d : A) → last_or d (xs ++ x ∷ []) ≡ x
+last_or-push [] x d = refl
+last_or-push (y ∷ xs) x d = last_or-push xs x y
+
+-- the lines of the last section, with a line more
+pub last_own-push : (line : TableLine) (d : List TableLine) (parts : List Section) (part : Section)
+    (more : List Section) → parts ≡ part ∷ more
+    → last_or d (map (λ p. p.1) (on_last (with_own line) parts))
+    ≡ last_or d (map (λ p. p.1) parts) ++ line ∷ []
+last_own-push line d [] part more there = absurd cc
+last_own-push line d (p ∷ []) part more there = refl
+last_own-push line d (p ∷ q ∷ rest) part more there =
+    last_own-push line p.1 (q ∷ rest) q rest refl
+
+pub filter_map-push_none : {X Y : Type 0} (h : X → Option Y) (xs : List X) (x : X) → h x ≡ None
+    → filter_map h (xs ++ x ∷ []) ≡ filter_map h xs
+filter_map-push_none h xs x none =
+    filter_map-append h xs (x ∷ []) ∙ ap (λ ys. filter_map h xs ++ ys) (of_one h x none)
+    ∙ append-nil (filter_map h xs)
+  where
+    of_one : {X Y : Type 0} (h : X → Option Y) (x : X) → h x ≡ None → filter_map h (x ∷ []) ≡ []
+    of_one h x none = ap (λ o. cons_option o []) none
+
+pub filter_map-push_some : {X Y : Type 0} (h : X → Option Y) (xs : List X) (x : X) (y : Y)
+    → h x ≡ Some y → filter_map h (xs ++ x ∷ []) ≡ filter_map h xs ++ y ∷ []
+filter_map-push_some h xs x y some =
+    filter_map-append h xs (x ∷ []) ∙ ap (λ ys. filter_map h xs ++ ys) (of_one h x y some)
+  where
+    of_one : {X Y : Type 0} (h : X → Option Y) (x : X) (y : Y) → h x ≡ Some y
+        → filter_map h (x ∷ []) ≡ y ∷ []
+    of_one h x y some = ap (λ o. cons_option o []) some

@@ -1,0 +1,6 @@
+use Rattle.std.proofs.Common.{sym}
+use Rattle.table_words.proofs.VisibleWords.{IsVisible-from_name}
+use Rattle.bilateral.proofs.device_line.read_control.Goals as goal
+
+pub visible_word-requires : goal.visible_word-requires
+visible_word-requires c = IsVisible-from_name c.in-Some.name.now (sym c.if-not-is_name.ensures)

@@ -1,0 +1,18 @@
+use Rattle.std.proofs.Common.{◌≡◌, ◌-◌, ◌<◌, ◌∙◌, refl, arith, length}
+use Rattle.std.proofs.lemmas.Grind.{common_steps}
+use Rattle.bilateral.specs.Reading.{with_slots, last_table, with_last}
+use Rattle.bilateral.specs.Store.{rows_of}
+use Rattle.bilateral.proofs.Taken.{limit_taken}
+use Rattle.bilateral.proofs.Grown.{IsTable-with_slots}
+use Rattle.bilateral.proofs.Stores.{IsStore-with_limit}
+use Rattle.bilateral.proofs.store.Store.add_slots.Goals as goal
+
+pub returns-clause-store : goal.returns-clause-store
+returns-clause-store c =
+    let rows = rows_of c.args.self.now in
+    let table = with_slots (last_table rows) c.in-Some.number in
+    let taken = limit_taken rows c.args.self.now.given.slots c.args.number c.requires.taken in
+    let limits = rw c.in-Some.is at c.requires.lawful in
+    IsStore-with_limit c.args.self.now _ table c.requires.store taken.0
+    (grind (arith, common_steps)) refl refl refl refl
+    (λ lawful. IsTable-with_slots _ _ _ _ lawful limits.0 limits.1) refl
