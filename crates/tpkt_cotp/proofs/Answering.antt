@@ -174,7 +174,7 @@ answers_again role heard given t f some s =
     answers_stopped role heard given t f some both.1 both.0
 
 -- each TPKT has octets
-tpkt_some : (tpdu : Tpdu) (octets : List ℕ) → SpellsTpkt tpdu octets → 0 < length octets
+pub tpkt_some : (tpdu : Tpdu) (octets : List ℕ) → SpellsTpkt tpdu octets → 0 < length octets
 tpkt_some (request r) octets s = let l = ap length s.1.is in omega (arith, l)
 tpkt_some (confirm c) octets s = let l = ap length s.is in omega (arith, l)
 tpkt_some disconnect octets s = let l = ap length s.is in omega (arith, l)
