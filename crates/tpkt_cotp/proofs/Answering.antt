@@ -107,7 +107,7 @@ answers_message role heard given old new m none r s = stands_of role heard
     (given ++ message_seen m ∷ []) new (ap (λ (l : Line). l.fault) s.is ∙ none)
     (stands_message role heard given old new (message_seen m) r s)
 
-settled_of : (t : Line) → t.fault ≡ None → length t.unread ≤ 65534
+pub settled_of : (t : Line) → t.fault ≡ None → length t.unread ≤ 65534
     → tpkt_in t.turn (length t.held) t.unread ≡ Ok None → IsSettled t
 settled_of t none few read = (
   few,

@@ -22,7 +22,7 @@ use Rattle.tpkt_cotp.proofs.ExactTpkt.{tpkt_found}
 use Rattle.tpkt_cotp.proofs.Again.{tpkt_again}
 use Rattle.tpkt_cotp.proofs.Stays.{tpkt_broken}
 use Rattle.tpkt_cotp.proofs.LineLemmas.{nothing_read}
-use Rattle.tpkt_cotp.proofs.Answering.{tpkt_some}
+use Rattle.tpkt_cotp.proofs.Answering.{tpkt_some, settled_of}
 
 -- octets that are passed over
 stream_from-passed : (turn : Turn) (start place : ℕ) (held : List ℕ) (passed : ℕ) (octets : List ℕ)
@@ -181,6 +181,7 @@ steps_nowhere old new clear s =
           (stream_from old.turn old.start old.place old.held 0 old.unread)) clear
           ∙ stream_from-read old.turn old.start old.place old.held old.unread
           ∙ ap (by_tpkt old.start old.place old.held old.unread (goes_behind old.unread)) s.read,
+      settled_of old clear s.few s.read,
     )
 
 pub steps_broken : (old new : Line) (f : CotpFault) → old.fault ≡ None → StepsBroken old f new
@@ -209,5 +210,5 @@ hands_after old mid new (Ok (Some m)) same start h =
     λ more. same more ∙ h more ∙ ap (λ (n : ℕ). with_message (record
     { message = message_seen m; place = n; next = new.start }) (stream_of (fed new more)))
     (sym start)
-hands_after old mid new (Ok None) same start h = (λ more. same more ∙ h.0 more, h.1)
+hands_after old mid new (Ok None) same start h = (λ more. same more ∙ h.0 more, h.1, h.2)
 hands_after old mid new (Err f) same start h = λ more. (same more ∙ (h more).0, (h more).1)
