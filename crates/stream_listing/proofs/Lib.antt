@@ -1,1 +1,2 @@
-mod OneMessage
+pub mod Listing
+pub mod OneHeard

@@ -1,3 +1,5 @@
+pub mod OneMessage
 pub mod Names
 pub mod Lines
 pub mod Hearing
+pub mod Listings

@@ -4,8 +4,9 @@
 
 mod hearing;
 mod lines;
+mod lister;
 
 mod names;
 
-
+pub use lister::Lister;
 pub use names::{MessageName, layer_name, name_of_pdu, why_name};

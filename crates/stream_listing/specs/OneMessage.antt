@@ -1,4 +1,5 @@
-use Rattle.std.proofs.Common.{ℕ, List}
+use Rattle.std.specs.Prelude.{ℕ, List}
+use Rattle.tpkt_cotp.proofs.Streaming.{stream_found}
 use Rattle.stack_messages.specs.declared.expecting.Expecting.{Expecting}
 use Rattle.stack_messages.specs.Meanings.{HasOneMeaning}
 use Rattle.stack_messages.specs.Messages.{message}
