@@ -60,7 +60,7 @@ new_listed t octets stream is =
 abbrev listing_with : Bool → List ℕ → Listing
 listing_with broken text = record { text = text; broken = broken }
 
-with_text-twice : (a b : List ℕ) (listing : Listing)
+pub with_text-twice : (a b : List ℕ) (listing : Listing)
     → with_text a (with_text b listing) ≡ with_text (a ++ b) listing
 with_text-twice a b listing =
     ap (listing_with listing.broken) (sym (append_assoc a b listing.text))

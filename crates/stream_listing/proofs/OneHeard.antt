@@ -5,7 +5,7 @@ use Rattle.stack_messages.specs.declared.fault.StackFault.{StackFault}
 use Rattle.stack_messages.specs.declared.heard.Heard.{Heard}
 use Rattle.stack_messages.specs.Meanings.{Meaning, HasOneMeaning, IsReadAs}
 use Rattle.stack_messages.specs.Messages.{message}
-use Rattle.stream_listing.specs.OneMessage.{one_message}
+use Rattle.stack_messages.proofs.OneMessage.{one_message}
 use Rattle.stream_listing.specs.Hearing.{the_one, heard_in}
 
 one_read : {X : Type 0} (meaning : Meaning X) (one : HasOneMeaning meaning)

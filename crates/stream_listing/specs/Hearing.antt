@@ -15,7 +15,7 @@ use Rattle.stack_messages.specs.Messages.{message}
 use Rattle.stream_listing.specs.declared.hearing.Told.{Told}
 use Rattle.stream_listing.specs.declared.names.MessageName.TheVariants as names
 use Rattle.stream_listing.specs.Names.{heard_name}
-use Rattle.stream_listing.specs.OneMessage.{one_message}
+use Rattle.stack_messages.proofs.OneMessage.{one_message}
 
 -- the one thing that octets say, or their first fault
 abbrev pub the_one : {X : Type 0} (meaning : Meaning X) → HasOneMeaning meaning → Result X StackFault

@@ -1,4 +1,3 @@
-pub mod OneMessage
 pub mod Names
 pub mod Lines
 pub mod Hearing
