@@ -43,7 +43,7 @@ next_capped : (i j : ℕ) → min i (2 ^ 64 - 1) ≡ min j (2 ^ 64 - 1)
 next_capped i j same = omega arith
 
 -- lines that are numbered from two numbers that are equal up to there
-first_bad : (i j : ℕ) (lines : List (List ℕ)) → min i (2 ^ 64 - 1) ≡ min j (2 ^ 64 - 1)
+pub first_bad : (i j : ℕ) (lines : List (List ℕ)) → min i (2 ^ 64 - 1) ≡ min j (2 ^ 64 - 1)
     → capped (position_from is_bad i lines) ≡ capped (position_from is_bad j lines)
 first_bad i j [] same = refl
 first_bad i j (line ∷ more) same =

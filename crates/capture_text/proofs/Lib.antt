@@ -1,2 +1,4 @@
 pub mod Joined
+pub mod Digits
+pub mod Walking
 mod Worked

@@ -4,7 +4,10 @@
 ghost use Rattle.std.specs.Prelude.{◌≡◌, Ok, Err, IfOk, MatchResult, option_map};
 ghost use Rattle.capture_text.specs.Captures.{capture_in, line_octets};
 
+mod pieces;
+
 use hex::FromHexError;
+pub use pieces::{Pieces, read_pieces};
 use plain_text::{is_skipped, next_line};
 use std::alloc::{AllocError, Global};
 

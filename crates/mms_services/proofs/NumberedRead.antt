@@ -84,3 +84,33 @@ numbers_read octets (Err f) gives invoke = (
       let read = (numbered_reads 0 octets).only t (number_taken octets invoke h) in
       absurd (not_both t f (sym read ∙ gives)),
 )
+
+-- octets are a request with a number, or with none
+pub one_number : (octets : List ℕ) → (found : Option ℕ) × IsInvokeOf octets found
+one_number octets = here (numbered_request.reading 0 octets) refl
+  where
+    read_of : (invoke : ℕ) (h : HasInvoke octets invoke)
+        → numbered_request.reading 0 octets
+        ≡ Ok (taken invoke h.request.head.next h.request.rest)
+    read_of invoke h = (numbered_reads 0 octets).only
+        (taken invoke h.request.head.next h.request.rest) (number_taken octets invoke h)
+    here : (read : Result (Taken ℕ) BerFault) → numbered_request.reading 0 octets ≡ read
+        → (found : Option ℕ) × IsInvokeOf octets found
+    here (Ok t) at = (
+      Some t.value,
+      λ invoke. (
+        λ e. subst (HasInvoke octets) (some_is t.value invoke e)
+            (number_begun octets t ((numbered_reads 0 octets).found t at)),
+        λ h. ap (λ (v : Taken ℕ). Some v.value)
+            (Ok_is t (taken invoke h.request.head.next h.request.rest)
+            (sym at ∙ read_of invoke h)),
+      ),
+    )
+    here (Err f) at = (
+      None,
+      λ invoke. (
+        λ e. absurd (none_is invoke e),
+        λ h. absurd (not_both (taken invoke h.request.head.next h.request.rest) f
+            (sym (read_of invoke h) ∙ at)),
+      ),
+    )

@@ -1,3 +1,4 @@
 mod Duties
+mod Listed
 mod Playing
 mod Telling

@@ -8,14 +8,15 @@ use Rattle.mms_services.specs.declared.fault.MmsFault.{MmsFault}
 use Rattle.mms_services.specs.declared.pdu.MmsPdu.{MmsPdu}
 use Rattle.mms_services.specs.Pdus.{pdu, without_invoke}
 use Rattle.mms_services.proofs.PdusRead.{pdu_reads}
-use Rattle.tase_tool.specs.Decoding.{pdu_name, why_name, pdu_line, fault_line}
+use Rattle.stream_listing.specs.Names.{name_text, pdu_name, why_name}
+use Rattle.tase_tool.specs.Decoding.{pdu_line, fault_line}
 use Rattle.tase_tool.specs.Decoding.{read_said, pdu_said}
 
 module _ (octets : List ℕ) where
   -- what a public reader answers by its contract is the grammar's reading
   pub said_of_pdu : (p : MmsPdu)
       → IsReadBy pdu (taken_whole 0 octets) 0 octets (without_invoke (Ok p))
-      → pdu_said octets ≡ prints Done (pdu_line (pdu_name p) (length octets))
+      → pdu_said octets ≡ prints Done (pdu_line (name_text (pdu_name p)) (length octets))
   said_of_pdu p reads =
       ap (read_said (length octets))
       ((pdu_reads 0 octets).only (taken_whole 0 octets p) reads.found)

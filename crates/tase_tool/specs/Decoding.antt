@@ -4,34 +4,10 @@ use Rattle.command_io.specs.declared.status.Status.TheVariants.{Done, Input}
 use Rattle.command_io.specs.declared.input.Refusal.TheVariants.{BadLine}
 use Rattle.command_io.specs.Saying.{Said, prints, refusal_text}
 use Rattle.ber_values.specs.declared.fault.BerFault.{BerFault}
-use Rattle.ber_values.specs.declared.fault.Why.{Why}
-use Rattle.ber_values.specs.declared.fault.Why.TheVariants as whys
 use Rattle.ber_values.specs.Reading.{Taken}
 use Rattle.mms_services.specs.declared.pdu.MmsPdu.{MmsPdu}
-use Rattle.mms_services.specs.declared.pdu.MmsPdu.TheVariants as pdus
 use Rattle.mms_services.specs.Pdus.{pdu}
-
--- the name of a kind of PDU
-abbrev pub pdu_name : MmsPdu → List ℕ
-pdu_name (pdus.Request invoke request) = codes "request"
-pdu_name (pdus.Response invoke response) = codes "response"
-pdu_name (pdus.Error error) = codes "error"
-pdu_name (pdus.Report report) = codes "report"
-pdu_name (pdus.Reject reject) = codes "reject"
-pdu_name (pdus.Initiate initiate) = codes "initiate"
-pdu_name (pdus.Initiated initiate) = codes "initiated"
-pdu_name pdus.InitiateError = codes "initiateerror"
-pdu_name pdus.Conclude = codes "conclude"
-pdu_name pdus.Concluded = codes "concluded"
-
--- the name of a reason
-abbrev pub why_name : Why → List ℕ
-why_name whys.Short = codes "short"
-why_name whys.Length = codes "length"
-why_name whys.Tag = codes "tag"
-why_name whys.Value = codes "value"
-why_name whys.Order = codes "order"
-why_name whys.Long = codes "long"
+use Rattle.stream_listing.specs.Names.{name_text, pdu_name, why_name}
 
 -- `pdu NAME LENGTH`
 abbrev pub pdu_line : List ℕ → ℕ → List ℕ
@@ -43,7 +19,7 @@ fault_line place why = codes "fault mms " ++ decimal place ++ codes " " ++ why +
 
 -- what is said of octets, of which so many were read to a PDU, or to their first fault
 abbrev pub read_said : ℕ → Result (Taken MmsPdu) BerFault → Said
-read_said len (Ok taken) = prints Done (pdu_line (pdu_name taken.value) len)
+read_said len (Ok taken) = prints Done (pdu_line (name_text (pdu_name taken.value)) len)
 read_said len (Err fault) = prints Input (fault_line fault.place (why_name fault.why))
 
 -- the PDU that all octets are, or the first rule that they break

@@ -15,8 +15,9 @@ use Rattle.bilateral.specs.declared.fault.TableFault.{TableFault}
 use Rattle.tase_views.specs.Setup.{Setup}
 use Rattle.tase_replay.specs.Play.{Played, End, done, bad_line, shown_of, scenario_of}
 use Rattle.tase_tool.specs.declared.running.TheConstants.{HISTORY_LIMIT}
-use Rattle.tase_tool.specs.Words.{Asked, replays, decodes_pdu}
+use Rattle.tase_tool.specs.Words.{Asked, replays, lists_stream, decodes_pdu}
 use Rattle.tase_tool.specs.Decoding.{capture_said}
+use Rattle.tase_tool.specs.Listing.{stream_said}
 
 abbrev pub usage : Said
 usage = prints Usage (codes "usage" ++ 10 ∷ [])
@@ -103,9 +104,14 @@ abbrev pub decode_duty : List ℕ → Text → Duty
 decode_duty name text =
     text_duty (codes "in") (λ octets. capture_said (capture_in octets)) name text
 
+-- the duty to list the messages of the stream that the capture under a name holds
+abbrev pub list_duty : List ℕ → Text → Duty
+list_duty name text = text_duty (codes "in") (λ octets. stream_said (capture_in octets)) name text
+
 -- what a run of these words owes, by what is told under each name
 abbrev pub duty_of : Option Asked → (List ℕ → Text) → Duty
 duty_of None texts = record { is_command = false; says = Some usage; inputs = [] }
 duty_of (Some (replays tables scenario)) texts =
     opening tables (duty_after (texts tables) scenario (second_text texts tables scenario))
+duty_of (Some (lists_stream capture)) texts = list_duty capture (texts capture)
 duty_of (Some (decodes_pdu capture)) texts = decode_duty capture (texts capture)

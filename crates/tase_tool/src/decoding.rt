@@ -6,6 +6,7 @@ ghost use Rattle.capture_text.specs.Captures.{capture_in};
 ghost use Rattle.tase_tool.specs.Decoding.{capture_said, pdu_said};
 ghost use Rattle.tase_tool.specs.Decoding as own;
 ghost use Rattle.tase_tool.specs.Saying.{decode_duty};
+ghost use Rattle.stream_listing.specs.Names.{name_text, pdu_name, why_name};
 
 use ber_values::Why;
 use capture_text::read_capture;
@@ -13,6 +14,7 @@ use command_io::{InputEnd, Refusal, Status, print, read_input, refuse};
 use mms_services::{MmsPdu, read_pdu};
 use outside::Outside;
 use std::alloc::{AllocError, Global};
+use stream_listing::{name_of_pdu, why_name};
 
 /// Reads a capture, and prints which PDU its octets are, or the first rule that they break.
 pub(crate) fn run_decode<O: Outside>(alloc: Global, outside: &mut O, capture: &str) -> Status
@@ -55,10 +57,10 @@ fn decode_pdu<O: Outside>(alloc: Global, outside: &mut O, octets: &[u8]) -> Stat
 // Prints the name of a PDU and the number of its octets.
 fn tell_pdu<O: Outside>(alloc: Global, outside: &mut O, pdu: &MmsPdu, len: usize) -> Status
     ensures { IsRun
-        (duty_to_say true (prints Status.Done (own.pdu_line (own.pdu_name pdu.now) len)))
+        (duty_to_say true (prints Status.Done (own.pdu_line (name_text (pdu_name pdu.now)) len)))
         (O.told outside.old) (O.told outside.new) result }
 {
-    match pdu_line(alloc, pdu_name(pdu), len) {
+    match pdu_line(alloc, name_of_pdu(pdu).as_str(), len) {
         Ok(line) => print(outside, Status::Done, line.as_bytes()),
         Err(AllocError) => Status::Memory,
     }
@@ -67,7 +69,7 @@ fn tell_pdu<O: Outside>(alloc: Global, outside: &mut O, pdu: &MmsPdu, len: usize
 // Prints the first rule that octets break, and where.
 fn tell_fault<O: Outside>(alloc: Global, outside: &mut O, place: usize, why: Why) -> Status
     ensures { IsRun
-        (duty_to_say true (prints Status.Input (own.fault_line place (own.why_name why))))
+        (duty_to_say true (prints Status.Input (own.fault_line place (why_name why))))
         (O.told outside.old) (O.told outside.new) result }
 {
     match fault_line(alloc, place, why_name(why)) {
@@ -88,36 +90,4 @@ fn fault_line(alloc: Global, place: usize, why: &str) -> Result<String, AllocErr
     ensures { IfOk result (λ text. string_bytes text ≡ own.fault_line place why.now) }
 {
     format!(in alloc; "fault mms {place} {why}\n")
-}
-
-// The name of a kind of PDU.
-fn pdu_name(pdu: &MmsPdu) -> &'static str
-    ensures { result.now ≡ own.pdu_name pdu.now }
-{
-    match pdu {
-        MmsPdu::Request { .. } => "request",
-        MmsPdu::Response { .. } => "response",
-        MmsPdu::Error(_) => "error",
-        MmsPdu::Report(_) => "report",
-        MmsPdu::Reject(_) => "reject",
-        MmsPdu::Initiate(_) => "initiate",
-        MmsPdu::Initiated(_) => "initiated",
-        MmsPdu::InitiateError => "initiateerror",
-        MmsPdu::Conclude => "conclude",
-        MmsPdu::Concluded => "concluded",
-    }
-}
-
-// The name of a reason.
-fn why_name(why: Why) -> &'static str
-    ensures { result.now ≡ own.why_name why }
-{
-    match why {
-        Why::Short => "short",
-        Why::Length => "length",
-        Why::Tag => "tag",
-        Why::Value => "value",
-        Why::Order => "order",
-        Why::Long => "long",
-    }
 }

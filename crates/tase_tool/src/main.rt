@@ -3,6 +3,7 @@
 #![tactic(auto)]
 
 mod decoding;
+mod listing;
 mod running;
 mod starting;
 mod tables;

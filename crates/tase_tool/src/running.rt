@@ -9,6 +9,7 @@ ghost use Rattle.tase_tool.specs.Saying.{setup_of, scenario_said, scenario_duty,
 ghost use Rattle.tase_tool.specs.Saying.{played_said};
 
 use crate::decoding::run_decode;
+use crate::listing::run_listing;
 use crate::tables::read_tables;
 use crate::words::{Command, read_command};
 use bilateral::Centre;
@@ -23,15 +24,16 @@ use tase_replay::{ReplayEnd, replay};
 pub(crate) const HISTORY_LIMIT: u64 = 134_217_728;
 
 /// Runs the command of these words: `replay TABLES SCENARIO` plays a scenario over tables and
-/// prints the replies, `decode --pdu IN` tells which PDU (ISO 9506-2) a capture holds. All is
-/// printed on standard output, which is `-` of the outside's sinks.
+/// prints the replies, `decode IN` lists the messages of a captured stream of either end of a
+/// connection, `decode --pdu IN` tells which PDU (ISO 9506-2) a capture holds. All is printed on
+/// standard output, which is `-` of the outside's sinks.
 ///
 /// What it answers and prints is, where the outside tells its octets, what the definitions say of
 /// those octets alone:
 /// the tables that the first text spells, and over them what the scenario shows, each reply from
-/// the asking peer's own
-/// table and its view of the history; or the PDU that the octets of a capture are, or the first
-/// rule that they break.
+/// the asking peer's own table and its view of the history; or the messages that the octets of a
+/// capture are, each with its place, and the first rule that they break; or the PDU that they are,
+/// or that rule.
 pub fn run<O: Outside>(alloc: Global, words: &[String], outside: &mut O) -> Status
     ensures { let told = O.told outside.old in
         IsRun (duty_of (asked_in (map string_bytes words.now)) (texts_of told))
@@ -39,6 +41,7 @@ pub fn run<O: Outside>(alloc: Global, words: &[String], outside: &mut O) -> Stat
 {
     match read_command(words) {
         Some(Command::Replay { tables, scenario }) => run_replay(alloc, outside, tables, scenario),
+        Some(Command::Decode { capture }) => run_listing(alloc, outside, capture),
         Some(Command::DecodePdu { capture }) => run_decode(alloc, outside, capture),
         None => print(outside, Status::Usage, b"usage\n"),
     }

@@ -46,7 +46,7 @@ nothing_said turn at octets end =
     }
 
 -- a part more of a TSDU
-opens_part : (turn : Turn) (sections : List Section) (octets rest : List ℕ) (p : Tpkt)
+pub opens_part : (turn : Turn) (sections : List Section) (octets rest : List ℕ) (p : Tpkt)
     (more : List ℕ) → (o : Opens turn sections octets rest)
     → (b : Begins turn (length (held_of sections)) rest p) → p.tpdu ≡ part false more
     → Opens turn (sections ++ record { held = more; octets = b.spelling } ∷ []) octets b.rest

@@ -107,7 +107,7 @@ answers_message role heard given old new m none r s = stands_of role heard
     (given ++ message_seen m ∷ []) new (ap (λ (l : Line). l.fault) s.is ∙ none)
     (stands_message role heard given old new (message_seen m) r s)
 
-settled_of : (t : Line) → t.fault ≡ None → length t.unread ≤ 65534
+pub settled_of : (t : Line) → t.fault ≡ None → length t.unread ≤ 65534
     → tpkt_in t.turn (length t.held) t.unread ≡ Ok None → IsSettled t
 settled_of t none few read = (
   few,
@@ -174,7 +174,7 @@ answers_again role heard given t f some s =
     answers_stopped role heard given t f some both.1 both.0
 
 -- each TPKT has octets
-tpkt_some : (tpdu : Tpdu) (octets : List ℕ) → SpellsTpkt tpdu octets → 0 < length octets
+pub tpkt_some : (tpdu : Tpdu) (octets : List ℕ) → SpellsTpkt tpdu octets → 0 < length octets
 tpkt_some (request r) octets s = let l = ap length s.1.is in omega (arith, l)
 tpkt_some (confirm c) octets s = let l = ap length s.is in omega (arith, l)
 tpkt_some disconnect octets s = let l = ap length s.is in omega (arith, l)

@@ -17,5 +17,8 @@ pub mod Always
 pub mod Pieces
 pub mod FaultReading
 pub mod FaultFirst
+pub mod Going
+pub mod Streaming
 pub mod Worked
+mod WorkedStreams
 pub mod WrittenTpdus

@@ -79,7 +79,7 @@ pub record SameStream (ms ns : List Message) (w v r q : List ℕ) : Type 0 where
   pub whole : w ≡ v
   pub rest : r ≡ q
 
-same_stream : (turn : Turn) (at : ℕ) (ms ns : List Message) (w v r q : List ℕ)
+pub same_stream : (turn : Turn) (at : ℕ) (ms ns : List Message) (w v r q : List ℕ)
     → SpellsMessages turn at ms w → SpellsMessages turn at ns v → w ++ r ≡ v ++ q
     → NoMessage (turn_after turn ms) (at + length w) r
     → NoMessage (turn_after turn ns) (at + length v) q → SameStream ms ns w v r q

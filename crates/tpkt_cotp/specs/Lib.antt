@@ -7,6 +7,8 @@ pub mod Streams
 pub mod Sound
 pub mod Seen
 pub mod Lines
+pub mod Places
+pub mod Goings
 pub mod Steps
 pub mod Written
 pub mod Runs

@@ -7,6 +7,7 @@ ghost use Rattle.tpkt_cotp.specs.declared.turn.Turn.{Turn};
 ghost use Rattle.tpkt_cotp.specs.declared.turn.Turn.TheVariants.{Transfer};
 ghost use Rattle.tpkt_cotp.specs.declared.tpdu.ConnectRequest.{ConnectRequest};
 ghost use Rattle.tpkt_cotp.specs.Streams.{Message, tsdu, capped, SpellsMessage, Says, Stops};
+ghost use Rattle.tpkt_cotp.specs.Places.{Stream, left, stopped, messages_of, IsStream, stream_in};
 ghost use Rattle.tpkt_cotp.specs.Written.{IsCut, IsOffer, request_octets, written_request};
 ghost use Rattle.tpkt_cotp.specs.Written.{confirm_octets, answered};
 ghost use Rattle.tpkt_cotp.specs.Sound.{AreSelectors};
@@ -28,6 +29,29 @@ pub fn one_reading()
     ensures never_both { (role : Role) (octets : List ℕ) (messages others : List Message)
         (rest : List ℕ) (f : CotpFault)
         → Says role octets messages rest → Stops role octets others f → ⊥ }
+{}
+
+/// Of all octets of a stream, its messages, where they stand, and its end are a function of the
+/// octets: the one of which it holds that they are spelled so.
+pub fn one_stream()
+    ensures found { (role : Role) (octets : List ℕ)
+        → IsStream role octets (stream_in role octets) }
+    ensures only { (role : Role) (octets : List ℕ) (stream : Stream)
+        → IsStream role octets stream → stream ≡ stream_in role octets }
+    ensures says { (role : Role) (octets : List ℕ) (messages : List Message) (rest : List ℕ)
+        → Says role octets messages rest
+        → (messages_of (stream_in role octets).messages ≡ messages)
+        × ((count : ℕ) × ((stream_in role octets).end ≡ left count)) }
+    ensures left { (role : Role) (octets : List ℕ) (count : ℕ)
+        → (stream_in role octets).end ≡ left count
+        → (rest : List ℕ) × Says role octets (messages_of (stream_in role octets).messages) rest }
+    ensures stops { (role : Role) (octets : List ℕ) (messages : List Message) (f : CotpFault)
+        → Stops role octets messages f
+        → (messages_of (stream_in role octets).messages ≡ messages)
+        × ((stream_in role octets).end ≡ stopped f) }
+    ensures stopped { (role : Role) (octets : List ℕ) (f : CotpFault)
+        → (stream_in role octets).end ≡ stopped f
+        → Stops role octets (messages_of (stream_in role octets).messages) f }
 {}
 
 /// No message begins another.

@@ -4,6 +4,9 @@ ghost use Rattle.std.specs.Prelude.{OnErr, OnSome};
 ghost use Rattle.tpkt_cotp.specs.declared.turn.Role.{Role};
 ghost use Rattle.tpkt_cotp.specs.Streams.{Message};
 ghost use Rattle.tpkt_cotp.specs.Lines.{Line, IsSettled, HoldsFew, Stands, Answers, fed};
+ghost use Rattle.tpkt_cotp.specs.Streams.{capped};
+ghost use Rattle.tpkt_cotp.specs.Places.{stream_in};
+ghost use Rattle.tpkt_cotp.specs.Goings.{stream_of, HandsOut};
 
 use crate::fault::CotpFault;
 use crate::limits::{PIECE_LIMIT, TPKT_LIMIT};
@@ -53,6 +56,9 @@ impl Transport {
         ensures stands { Stands role [] [] result }
         ensures settled { IsSettled result }
         ensures few { HoldsFew result }
+        // All that it will hand out is what the stream says.
+        ensures hands_out { (octets : List ℕ) → stream_of (fed result octets)
+            ≡ stream_in role octets }
     {
         Transport {
             alloc,
@@ -87,6 +93,7 @@ impl Transport {
         ensures ok { (role : Role) (heard : List ℕ) (given : List Message)
             → Stands role heard given self.old
             → OnOk result (Stands role (heard ++ piece.now) given self.new) }
+        ensures fed { OnOk result (self.new ≡ fed self.old piece.now) }
         ensures err { OnErr result (self.new ≡ self.old) }
     {
         self.take_in(piece)
@@ -99,6 +106,8 @@ impl Transport {
         ensures ok { (role : Role) (heard : List ℕ) (given : List Message)
             → Stands role heard given self.old
             → IfOk result (λ answer. Answers role heard given answer self.new) }
+        // It is the first of what was to be handed out, and stands where `start` says.
+        ensures hands_out { IfOk result (λ answer. HandsOut self.old answer self.new) }
         ensures shorter { IfOk result (λ answer. IfOk answer (λ message. OnSome message
             (length self.new.unread < length self.old.unread))) }
         ensures err { OnErr result (self.new ≡ self.old) }
@@ -128,6 +137,22 @@ impl Transport {
                 Ok(answer)
             }
         }
+    }
+
+    /// The place where the first message begins that was not yet handed out: the octets of the
+    /// stream before it, at most 2^64 - 1.
+    pub fn start(&self) -> u64
+        ensures { result ≡ self.now.start }
+    {
+        self.start
+    }
+
+    /// The octets of the stream from there on, as far as they were fed.
+    pub fn left(&self) -> u64
+        ensures { result ≡ capped (self.now.place + length self.now.unread) - self.now.start }
+    {
+        let end = self.place.saturating_add(self.unread.len() as u64);
+        end.saturating_sub(self.start)
     }
 
     /// What it holds: at most one TSDU, and a TPKT that isn't whole and a piece.

@@ -5,6 +5,7 @@ ghost use Rattle.tpkt_cotp.specs.declared.turn.Role.{Role};
 ghost use Rattle.tpkt_cotp.specs.Streams.{Message, capped};
 ghost use Rattle.tpkt_cotp.specs.Lines.{Line, IsWithin, line_of, Stands, Answers};
 ghost use Rattle.tpkt_cotp.specs.Steps.{Steps};
+ghost use Rattle.tpkt_cotp.specs.Goings.{HandsOut};
 
 use crate::fault::CotpFault;
 use crate::message::{TransportIn, take_tpdu};
@@ -90,6 +91,9 @@ impl Walk {
         ensures ok { (role : Role) (heard : List ℕ) (given : List Message)
             → Stands role heard given (line_of self.old part.old.items octets.now)
             → IfOk result (λ answer. Answers role heard given answer
+            (line_of self.new part.new.items octets.now)) }
+        ensures hands_out { IfOk result (λ answer.
+            HandsOut (line_of self.old part.old.items octets.now) answer
             (line_of self.new part.new.items octets.now)) }
         ensures shorter { IfOk result (λ answer. IfOk answer (λ message. OnSome message
             (self.old.passed < self.new.passed))) }

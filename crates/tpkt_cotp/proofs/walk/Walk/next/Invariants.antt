@@ -1,12 +1,15 @@
 use Rattle.std.proofs.Common.{◌≡◌, ◌-◌, ◌≤◌, ℕ, List, None, length, take}
 use Rattle.tpkt_cotp.specs.declared.turn.Role.{Role}
 use Rattle.tpkt_cotp.specs.Streams.{Message}
-use Rattle.tpkt_cotp.specs.Lines.{Line, IsWithin, line_of, Reads, Stands}
+use Rattle.tpkt_cotp.specs.Lines.{Line, IsWithin, line_of, Reads, Stands, fed}
+use Rattle.tpkt_cotp.specs.Goings.{stream_of}
 use Rattle.tpkt_cotp.proofs.walk.Walk.next.Given as goal
 
 -- no rule was broken, it stands where it stood, and holds what it held
 pub record Keeps (old t : Line) : Type 0 where
   pub clear : t.fault ≡ None
+  pub start : old.start ≡ t.start
+  pub goes : (more : List ℕ) → stream_of (fed old more) ≡ stream_of (fed t more)
   pub begins : take (length old.held) t.held ≡ old.held
   pub reads : (role : Role) (heard : List ℕ) (given : List Message) → Stands role heard given old
       → Reads role heard given t

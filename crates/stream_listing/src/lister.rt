@@ -1,0 +1,184 @@
+//! The listing of a captured stream that comes in pieces.
+ghost use Rattle.std.specs.Prelude.{◌≡◌, ◌≤◌, false, ℕ, List, length, IfOk};
+ghost use Rattle.std.specs.Bool.{OnFalse};
+ghost use Rattle.tpkt_cotp.specs.declared.limits.TheConstants.{PIECE_LIMIT};
+ghost use Rattle.tpkt_cotp.specs.Seen.{message_seen};
+ghost use Rattle.stream_listing.specs.Hearing as spec;
+ghost use Rattle.stream_listing.specs.Hearing.{told_in};
+ghost use Rattle.stream_listing.specs.Listings as listings;
+ghost use Rattle.stream_listing.specs.Listings.{listing_of, state, yet_listed, Lists, ListsPiece};
+ghost use Rattle.stream_listing.specs.Listings.{Finishes, IsListed, IsAtRest};
+
+use crate::hearing::tell;
+use crate::lines::{put_fault, put_message, put_rest};
+use stack_messages::{Layer, StackFault};
+use std::alloc::{AllocError, Global};
+use std::marker::Model;
+use tpkt_cotp::{CotpFault, Role, Transport, TransportIn};
+
+/// Lists the messages of a captured stream of either end of a connection, which comes in pieces.
+/// It holds at most what a transport holds.
+#[derive(Drop)]
+pub struct Lister {
+    alloc: Global,
+    transport: Transport,
+    context: Option<u32>,
+    ended: bool,
+}
+
+impl Model for Lister {
+    ghost use Rattle.std.specs.Prelude.{◌≡◌, false};
+    ghost use Rattle.tpkt_cotp.specs.Lines.{IsSettled};
+    ghost use Rattle.stream_listing.specs.Listings.{State};
+
+    ghost Value = { State };
+
+    ghost view = { λ l. record {
+      line = l.transport;
+      context = l.context;
+      ended = l.ended;
+    } };
+
+    ghost invariant = { λ l. l.ended ≡ false → IsSettled l.transport };
+}
+
+impl Lister {
+    /// A lister at the start of a stream.
+    pub fn new(alloc: Global) -> Lister
+        ensures { (octets : List ℕ) → yet_listed result octets ≡ listing_of octets }
+    {
+        Lister {
+            alloc,
+            transport: Transport::new(alloc, Role::Either),
+            context: None,
+            ended: false,
+        }
+    }
+
+    /// Takes the next piece of the stream, at most 65,536 octets, and appends the lines of the
+    /// messages that are whole with it: `at PLACE NAME LENGTH`, or `fault LAYER PLACE WHY`, after
+    /// which there are none.
+    pub fn feed(self, piece: &[u8], out: &mut Vec<u8>) -> Result<Lister, AllocError>
+        requires { length piece.now ≤ PIECE_LIMIT }
+        ensures { IfOk result (λ lister.
+            ListsPiece self lister piece.now out.old.items out.new.items) }
+    {
+        let Lister {
+            alloc,
+            mut transport,
+            mut context,
+            ended,
+        } = self;
+        if ended {
+            return Ok(Lister {
+                alloc,
+                transport,
+                context,
+                ended,
+            });
+        }
+        transport.feed(piece)?;
+        let ended = list_all(alloc, &mut transport, &mut context, out)?;
+        Ok(Lister {
+            alloc,
+            transport,
+            context,
+            ended,
+        })
+    }
+
+    /// Says that the stream has ended: appends `rest COUNT`, where octets are left that are no
+    /// whole message. Answers whether a fault was told.
+    pub fn finish(self, out: &mut Vec<u8>) -> Result<bool, AllocError>
+        ensures { IfOk result (λ broken. Finishes self out.old.items out.new.items broken) }
+    {
+        let Lister {
+            alloc,
+            mut transport,
+            mut context,
+            ended,
+        } = self;
+        if ended {
+            return Ok(true);
+        }
+        if list_all(alloc, &mut transport, &mut context, out)? {
+            return Ok(true);
+        }
+        put_rest(out, transport.left())?;
+        Ok(false)
+    }
+}
+
+/// Lists the messages that are whole; answers whether there was a fault.
+fn list_all(
+    alloc: Global,
+    transport: &mut Transport,
+    context: &mut Option<u32>,
+    out: &mut Vec<u8>,
+) -> Result<bool, AllocError>
+    ensures lists { IfOk result (λ broken. Lists (state transport.old context.old false)
+        (state transport.new context.new broken) out.old.items out.new.items) }
+    ensures settled { IfOk result (λ broken. OnFalse broken (IsAtRest transport.new)) }
+{
+    loop {
+        let place = transport.start();
+        match transport.next()? {
+            Ok(Some(message)) => {
+                let size = transport.start().saturating_sub(place);
+                if list_message(alloc, &message, place, size, context, out)? {
+                    return Ok(true);
+                }
+            }
+            Ok(None) => return Ok(false),
+            Err(fault) => {
+                put_fault(out, transport_fault(fault))?;
+                return Ok(true);
+            }
+        }
+    }
+}
+
+/// Lists a message of so many octets; answers whether it has a fault.
+fn list_message(
+    alloc: Global,
+    message: &TransportIn,
+    place: u64,
+    size: u64,
+    context: &mut Option<u32>,
+    out: &mut Vec<u8>,
+) -> Result<bool, AllocError>
+    ensures { IfOk result (λ broken. IsListed (told_in context.old (message_seen message.now))
+        place size context.old context.new out.old.items out.new.items broken) }
+{
+    match tell(alloc, *context, message)? {
+        Ok(told) => {
+            put_message(out, place, told.name, size)?;
+            *context = first_of(*context, told.context);
+            Ok(false)
+        }
+        Err(fault) => {
+            put_fault(out, fault)?;
+            Ok(true)
+        }
+    }
+}
+
+fn first_of(context: Option<u32>, other: Option<u32>) -> Option<u32>
+    ensures { result ≡ spec.first_of context other }
+{
+    match context {
+        Some(context) => Some(context),
+        None => other,
+    }
+}
+
+/// A fault of the transport.
+fn transport_fault(fault: CotpFault) -> StackFault
+    ensures { result ≡ listings.transport_fault fault }
+{
+    StackFault {
+        layer: Layer::Transport,
+        place: fault.place,
+        why: fault.why,
+    }
+}
