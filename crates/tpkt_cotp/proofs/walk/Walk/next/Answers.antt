@@ -3,7 +3,7 @@ use Rattle.std.proofs.lemmas.List.{length-drop}
 use Rattle.tpkt_cotp.specs.Seen.{message_seen}
 use Rattle.tpkt_cotp.proofs.Standing.{stands_part}
 use Rattle.tpkt_cotp.proofs.Answering.{answers_message, answers_rest, answers_broken, steps_shorter}
-use Rattle.tpkt_cotp.proofs.Answering.{message_shorter, clear_part, begins_part}
+use Rattle.tpkt_cotp.proofs.Answering.{message_sound, message_shorter, clear_part, begins_part}
 use Rattle.tpkt_cotp.proofs.walk.Walk.next.Goals as goal
 
 pub loop-message-smaller : goal.loop-message-smaller
@@ -59,3 +59,8 @@ returns-in-Message-clause-shorter c =
     let d = length-drop c.loop-message.self.passed c.args.octets.now in
     let f = length-drop c.step.new.self.passed c.args.octets.now in
     omega (arith, e, d, f, c.loop-message.invariant.2)
+
+pub returns-in-Message-clause-sound : goal.returns-in-Message-clause-sound
+returns-in-Message-clause-sound c =
+    let s = rw c.in-Message.is at c.in_ok-step.ensures.ok in
+    message_sound _ _ (message_seen c.in-Message.message) s
