@@ -1,0 +1,2 @@
+pub mod FrontsKept
+pub mod TurnLaws

@@ -1,0 +1,2 @@
+//! Both ends of an association: octets of a stream to messages, and messages to octets.
+#![tactic(auto)]
