@@ -11,7 +11,7 @@ mod ppdu;
 mod results;
 mod user_data;
 
-pub use agreement::{Agreed, ContextFault, agree};
+pub use agreement::{ACSE, Agreed, ContextFault, MMS, agree, results_of};
 pub use laws::{
     offers_have_one_reading, ppdus_have_one_reading, written_offers_are_read,
     written_ppdus_are_read,

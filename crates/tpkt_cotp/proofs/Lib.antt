@@ -19,3 +19,4 @@ pub mod FaultReading
 pub mod FaultFirst
 pub mod Worked
 pub mod WrittenTpdus
+pub mod Wires

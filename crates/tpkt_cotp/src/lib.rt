@@ -18,7 +18,7 @@ mod writing;
 
 pub use fault::CotpFault;
 pub use laws::{
-    no_message_begins_another, one_reading, what_was_said_stays, written_is_said,
+    no_message_begins_another, one_cut, one_reading, what_was_said_stays, written_is_said,
     written_is_spelled,
 };
 pub use limits::{PIECE_LIMIT, SELECTOR_LIMIT, TPKT_LIMIT, TSDU_LIMIT};
