@@ -1,2 +1,5 @@
 pub mod Fronts
 pub mod InTurn
+pub mod Told
+pub mod Expectations
+pub mod Tellings
