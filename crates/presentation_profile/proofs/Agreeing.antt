@@ -5,7 +5,7 @@ use Rattle.std.proofs.lemmas.Bool.{false≢true, ne_eqb}
 use Rattle.std.proofs.lemmas.List.Elements.{filter-append, filter_more}
 use Rattle.presentation_profile.specs.declared.offers.Offered.{Offered}
 use Rattle.presentation_profile.specs.declared.agreement.Agreed.{Agreed}
-use Rattle.presentation_profile.specs.Agreements.{is_of, offers_of, IsOnly, Agrees, acse_of}
+use Rattle.presentation_profile.specs.Agreements.{is_of, offers_of, IsOnly, Agrees, acse_of, mms_of}
 
 one_more : (name : List ℕ) (xs : List Offered) (i : ℕ) (d : Offered) → i < length xs → is_of name (get_or xs i d) ≡ true → offers_of name (take (i + 1) xs) ≡ offers_of name (take i xs) ++ get_or xs i d ∷ []
 one_more name xs i d lt e = filter_more (is_of name) xs i d lt ∙ ap (λ b. offers_of name (take i xs) ++ cond b (get_or xs i d ∷ []) []) e
@@ -23,3 +23,6 @@ only-twice name xs i d (Some id) lt e some is = only-second name xs i d id lt e 
 -- the id that is agreed on is the one that user data have
 pub acse_agreed : (contexts : List Offered) (agreed : Agreed) → Agrees contexts agreed → Some agreed.acse ≡ acse_of contexts
 acse_agreed contexts agreed a = rw (a.one_acse, a.one_mms, ne_eqb a.acse.id a.mms.id a.differ) (ap (λ (x : Agreed). Some x.acse) a.ids)
+
+pub mms_agreed : (contexts : List Offered) (agreed : Agreed) → Agrees contexts agreed → Some agreed.mms ≡ mms_of contexts
+mms_agreed contexts agreed a = rw (a.one_acse, a.one_mms, ne_eqb a.acse.id a.mms.id a.differ) (ap (λ (x : Agreed). Some x.mms) a.ids)

@@ -1,4 +1,5 @@
 pub mod OffersRead
+pub mod ResultsRead
 pub mod PpdusRead
 pub mod Sizes
 pub mod OffersWritten

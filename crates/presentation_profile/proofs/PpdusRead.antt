@@ -1,17 +1,21 @@
 -- Reading PPDUs is exact.
-use Rattle.std.proofs.Common.{ℕ, Option, List, [], ◌∷◌}
+use Rattle.std.proofs.Common.{ℕ, Bool, true, false, Option, List, [], ◌∷◌}
+use Rattle.ber_values.specs.Reading.{Taken}
+use Rattle.ber_values.specs.Parts.{Contents, IsContentsGrammar}
 use Rattle.ber_values.specs.Grammars.{Grammar, IsGrammar, has_tag, is_other}
+use Rattle.ber_values.proofs.Reading.{IsReading-then}
 use Rattle.ber_values.specs.Leaves.{selector, oid, octet}
-use Rattle.ber_values.proofs.Grammars.{gives_reads, then_reads, map_reads, branch_reads, pass_reads, whole_reads, part_reads, choose_reads, maybe_reads, all_reads}
+use Rattle.ber_values.proofs.Grammars.{gives_reads, then_reads, map_reads, branch_reads, pass_reads, whole_reads, part_reads, choose_reads, maybe_reads, all_reads, where_reads, as_reads}
 use Rattle.ber_values.proofs.Lists.{list_reads}
 use Rattle.ber_values.proofs.Leaves.{selector_contents, oid_contents, octet_contents, fixed_contents}
 use Rattle.presentation_profile.specs.Offers.{offers}
 use Rattle.presentation_profile.specs.Others.{others, after_others, before_others, selector_in}
 use Rattle.ber_values.specs.Externals.{external}
 use Rattle.ber_values.proofs.Externals.{external_contents}
-use Rattle.presentation_profile.specs.Agreements.{acse_of}
+use Rattle.presentation_profile.specs.declared.expected.Expected.{Expected}
+use Rattle.presentation_profile.specs.Expecting.{connect_id, accept_id, carry_id, are_judged}
 use Rattle.presentation_profile.specs.UserData.{user_data}
-use Rattle.presentation_profile.specs.Results.{result_contents, one_result, results}
+use Rattle.presentation_profile.specs.Results.{result_contents, one_result, may_be, any_results, from_place, first_in, accepting_results, results}
 use Rattle.presentation_profile.specs.Ppdus.{connect_named, connect_of, connect_selectors, connect, accept_named, accept_of, accept, has_results, parameters, mode, set_up_contents, set_up, carry_of, ppdu}
 use Rattle.presentation_profile.proofs.OffersRead.{offers_read}
 
@@ -36,17 +40,33 @@ unfolding user_data
 user_data_reads wanted =
     part_reads 97 _ (all_reads _ (part_reads 48 (external wanted) (external_contents wanted)))
 
-result_reads : IsGrammar one_result
+result_reads : (accepting : Bool) → IsGrammar (one_result accepting)
 unfolding one_result result_contents
-result_reads =
+result_reads accepting =
     part_reads 48 _ (all_reads _
-    (then_reads _ _ (part_reads 128 octet octet_contents) (λ result.
+    (then_reads _ _ (part_reads 128 _ (where_reads (may_be accepting) octet octet_contents)) (λ result.
     then_reads _ _ (maybe_reads 129 oid oid_contents) (λ name.
     map_reads (λ u. result) _ (pass_reads (is_other 0 255 (128 ∷ 129 ∷ [])))))))
 
-pub results_read : IsGrammar results
+any_read : IsContentsGrammar any_results
+any_read = list_reads 0 (one_result false) (result_reads false)
+
+first_reads : {X Y : Type 0} (g : Grammar X) (next : X → Contents Y) → IsGrammar g → ((x : X) → IsContentsGrammar (next x)) → IsContentsGrammar (first_in g next)
+unfolding first_in
+first_reads {X} {Y} g next one two head octets =
+    IsReading-then (Taken X) Y (g.begins head.body octets) (g.fault head.body octets) (g.reading head.body octets) (λ t y. (next t.value).spells t.next y t.rest) (λ t f. (next t.value).fault (from_place head t.next) t.rest f) (λ t. (next t.value).reading (from_place head t.next) t.rest)
+    (one head.body octets) (λ t s. two t.value (from_place head t.next) t.rest)
+
+accepting_read : IsContentsGrammar accepting_results
+unfolding accepting_results
+accepting_read =
+    first_reads (one_result true) _ (result_reads true) (λ one.
+    first_reads (one_result true) _ (result_reads true) (λ two.
+    as_reads (λ others. one ∷ two ∷ others) any_results any_read))
+
+pub results_read : (accepting : Bool) → IsGrammar (results accepting)
 unfolding results
-results_read = part_reads 165 _ (list_reads 0 one_result result_reads)
+results_read accepting = branch_reads (λ octets. accepting) _ _ (part_reads 165 _ accepting_read) (part_reads 165 _ any_read)
 
 selectors_read : IsGrammar connect_selectors
 unfolding connect_selectors
@@ -54,37 +74,37 @@ selectors_read =
     after_read connect_named _ (then_reads _ _ (selector_reads 129) (λ calling.
     after_read connect_named _ (selector_reads 130)))
 
-connect_reads : IsGrammar connect
+connect_reads : (e : Expected) → IsGrammar (connect e)
 unfolding connect
-connect_reads =
+connect_reads e =
     then_reads _ _ selectors_read (λ called.
     then_reads _ _ (after_read connect_named offers offers_read) (λ contexts.
     map_reads (connect_of called contexts) _
-    (after_read connect_named _ (before_read connect_named (user_data (acse_of contexts)) (user_data_reads (acse_of contexts))))))
+    (after_read connect_named _ (before_read connect_named (user_data (connect_id e contexts)) (user_data_reads (connect_id e contexts))))))
 
-accept_reads : (wanted : Option ℕ) → IsGrammar (accept wanted)
+accept_reads : (e : Expected) → IsGrammar (accept e)
 unfolding accept
-accept_reads wanted =
+accept_reads e =
     then_reads _ _ (after_read accept_named _ (selector_reads 131)) (λ called.
-    then_reads _ _ (after_read accept_named results results_read) (λ found.
+    then_reads _ _ (after_read accept_named _ (results_read (are_judged e))) (λ found.
     map_reads (accept_of called found) _
-    (after_read accept_named _ (before_read accept_named (user_data wanted) (user_data_reads wanted)))))
+    (after_read accept_named _ (before_read accept_named (user_data (accept_id e)) (user_data_reads (accept_id e))))))
 
-parameters_read : (wanted : Option ℕ) → IsGrammar (parameters wanted)
+parameters_read : (e : Expected) → IsGrammar (parameters e)
 unfolding parameters
-parameters_read wanted = part_reads 162 _ (all_reads _ (branch_reads has_results (accept wanted) connect (accept_reads wanted) connect_reads))
+parameters_read e = part_reads 162 _ (all_reads _ (branch_reads has_results (accept e) (connect e) (accept_reads e) (connect_reads e)))
 
 mode_reads : IsGrammar mode
 unfolding mode
 mode_reads = part_reads 160 _ (all_reads _ (part_reads 128 _ (fixed_contents (1 ∷ []))))
 
-set_up_reads : (wanted : Option ℕ) → IsGrammar (set_up wanted)
+set_up_reads : (e : Expected) → IsGrammar (set_up e)
 unfolding set_up set_up_contents
-set_up_reads wanted =
+set_up_reads e =
     part_reads 49 _ (all_reads _ (branch_reads (has_tag 160) _ _
-    (then_reads _ _ mode_reads (λ u. parameters_read wanted))
-    (then_reads _ _ (parameters_read wanted) (λ p. map_reads (λ u. p) _ mode_reads))))
+    (then_reads _ _ mode_reads (λ u. parameters_read e))
+    (then_reads _ _ (parameters_read e) (λ p. map_reads (λ u. p) _ mode_reads))))
 
-pub ppdu_reads : (wanted : Option ℕ) → IsGrammar (ppdu wanted)
+pub ppdu_reads : (e : Expected) → IsGrammar (ppdu e)
 unfolding ppdu
-ppdu_reads wanted = whole_reads _ (branch_reads (has_tag 97) _ (set_up wanted) (map_reads carry_of (user_data wanted) (user_data_reads wanted)) (set_up_reads wanted))
+ppdu_reads e = whole_reads _ (branch_reads (has_tag 97) _ (set_up e) (map_reads carry_of (user_data (carry_id e)) (user_data_reads (carry_id e))) (set_up_reads e))

@@ -17,7 +17,8 @@ use Rattle.tpkt_cotp.specs.Selectors.{IsSelector}
 use Rattle.presentation_profile.specs.declared.user_data.TheConstants.{MOST_BODY}
 use Rattle.ber_values.specs.declared.external.External.{External}
 use Rattle.ber_values.specs.Externals.{external_of, is_wanted}
-use Rattle.presentation_profile.specs.Agreements.{acse_of}
+use Rattle.presentation_profile.specs.declared.expected.Expected.{Expected}
+use Rattle.presentation_profile.specs.Expecting.{connect_id, accept_id, carry_id, are_judged}
 use Rattle.presentation_profile.specs.declared.offers.Offered.{Offered}
 use Rattle.presentation_profile.specs.declared.offers.TheConstants.{MOST_OFFERS}
 use Rattle.presentation_profile.specs.declared.ppdu.Ppdu.{Ppdu}
@@ -27,7 +28,7 @@ use Rattle.presentation_profile.specs.Others.{others, after_others, before_other
 use Rattle.presentation_profile.specs.UserData.{user_data}
 use Rattle.presentation_profile.specs.Results.{results}
 use Rattle.presentation_profile.specs.Ppdus.{connect_named, connect_selectors, connect, accept_named, accept, come_to_results, has_results, parameters, mode, set_up_contents, set_up, carry_of, ppdu}
-use Rattle.presentation_profile.specs.Written.{offers_octets, user_octets, results_octets, selector_octets, calling_octets, connect_octets, accept_octets, mode_octets, set_up_octets, ppdu_octets, AreOffers, IsWritable, HasSelector, IsHeld, IsAsWanted, last_span, as_written}
+use Rattle.presentation_profile.specs.Written.{offers_octets, user_octets, results_octets, selector_octets, calling_octets, connect_octets, accept_octets, mode_octets, set_up_octets, ppdu_octets, AreOffers, IsWritable, HasSelector, IsHeld, IsAsExpected, AreAccepting, last_span, as_written}
 use Rattle.presentation_profile.proofs.OffersWritten.{offers-writes, offers-few}
 use Rattle.presentation_profile.proofs.Sizes.{calling-sized, mode-sized, connect-sized, accept-sized}
 use Rattle.presentation_profile.proofs.UserWritten.{user-writes, results-write, body_within, results-few, user-few}
@@ -101,11 +102,11 @@ span-moved from at last whole body ends within after =
     ap (λ (k : ℕ). record { from = k; to = from + length last }) start
     ∙ ap (λ (k : ℕ). record { from = at + (length whole - length body); to = k }) ends
 
-connect-begins : (called : Option (List ℕ)) (contexts : List Offered) (at id : ℕ) (body : List ℕ) → HasSelector called → AreOffers contexts → All (λ o. IsOid o.abstract_name) contexts → id < 2 ^ 32 → length body ≤ MOST_BODY → is_wanted (acse_of contexts) id ≡ true
+connect-begins : (e : Expected) (called : Option (List ℕ)) (contexts : List Offered) (at id : ℕ) (body : List ℕ) → HasSelector called → AreOffers contexts → All (λ o. IsOid o.abstract_name) contexts → id < 2 ^ 32 → length body ≤ MOST_BODY → is_wanted (connect_id e contexts) id ≡ true
     → (place : ℕ) → place ≡ at + length calling_octets + length (selector_octets 130 called) + length (offers_octets contexts)
-    → connect.begins at (connect_octets called contexts id body) (taken (Connect called contexts id (last_span place (user_octets id body) body)) (place + length (user_octets id body)) [])
+    → (connect e).begins at (connect_octets called contexts id body) (taken (Connect called contexts id (last_span place (user_octets id body) body)) (place + length (user_octets id body)) [])
 unfolding connect connect_octets then_in map_in after_others offers_octets
-connect-begins called contexts at id body held are named few size right place is =
+connect-begins e called contexts at id body held are named few size right place is =
     let user = user_octets id body in
     let second = at + length calling_octets + length (selector_octets 130 called) in
     let value : External = external_of id (last_span place user body) in (
@@ -114,20 +115,20 @@ connect-begins called contexts at id body held are named few size right place is
       (
         taken contexts place user,
         (taken tt second (offers_octets contexts ++ user), none_other connect_named second 164 _ refl, subst (λ (k : ℕ). offers.begins second (offers_octets contexts ++ user) (taken contexts k user)) (sym is) (offers-writes second contexts are named user)),
-        (taken value (place + length user) [], last-begins (acse_of contexts) connect_named place id body refl few size right, refl),
+        (taken value (place + length user) [], last-begins (connect_id e contexts) connect_named place id body refl few size right, refl),
       ),
     )
 
-connect-ends : (called : Option (List ℕ)) (contexts : List Offered) (at id : ℕ) (body : List ℕ) → HasSelector called → AreOffers contexts → All (λ o. IsOid o.abstract_name) contexts → id < 2 ^ 32 → length body ≤ MOST_BODY → is_wanted (acse_of contexts) id ≡ true
-    → Ends connect at (Connect called contexts id (last_span at (connect_octets called contexts id body) body)) (connect_octets called contexts id body)
-connect-ends called contexts at id body held are named few size right =
+connect-ends : (e : Expected) (called : Option (List ℕ)) (contexts : List Offered) (at id : ℕ) (body : List ℕ) → HasSelector called → AreOffers contexts → All (λ o. IsOid o.abstract_name) contexts → id < 2 ^ 32 → length body ≤ MOST_BODY → is_wanted (connect_id e contexts) id ≡ true
+    → Ends (connect e) at (Connect called contexts id (last_span at (connect_octets called contexts id body) body)) (connect_octets called contexts id body)
+connect-ends e called contexts at id body held are named few size right =
     let user = user_octets id body in
     let whole = connect_octets called contexts id body in
     let place = at + length calling_octets + length (selector_octets 130 called) + length (offers_octets contexts) in
     let ends : place + length user ≡ at + length whole = omega (arith, connect-sized called contexts id (length (selector_octets 130 called)) (length (offers_octets contexts)) (length user) body refl refl refl, calling-sized) in
-    subst (λ (k : ℕ). connect.begins at whole (taken (Connect called contexts id (last_span at whole body)) k [])) ends
-    (subst (λ (s : Span). connect.begins at whole (taken (Connect called contexts id s) (place + length user) [])) (span-moved place at user whole body ends (body_within id body) (omega arith))
-    (connect-begins called contexts at id body held are named few size right place refl))
+    subst (λ (k : ℕ). (connect e).begins at whole (taken (Connect called contexts id (last_span at whole body)) k [])) ends
+    (subst (λ (s : Span). (connect e).begins at whole (taken (Connect called contexts id s) (place + length user) [])) (span-moved place at user whole body ends (body_within id body) (omega arith))
+    (connect-begins e called contexts at id body held are named few size right place refl))
 
 -- ---- an accept
 
@@ -136,11 +137,11 @@ unfolding after_others then_in
 responding-begins None at after held = (taken tt at (165 ∷ after), none_other accept_named at 165 after refl, subst (λ (k : ℕ). (selector_in 131).begins at (165 ∷ after) (taken None k (165 ∷ after))) (let none : at ≡ at + 0 = omega arith in none) (no_selector 131 at 165 after refl))
 responding-begins (Some octets) at after held = (taken tt at (written 131 octets ++ (165 ∷ after)), none_other accept_named at 131 _ refl, selector-writes 131 at octets held (165 ∷ after))
 
-accept-begins : (wanted : Option ℕ) (called : Option (List ℕ)) (found : List ℕ) (at id : ℕ) (body : List ℕ) → HasSelector called → length found ≤ MOST_OFFERS → id < 2 ^ 32 → length body ≤ MOST_BODY → is_wanted wanted id ≡ true
+accept-begins : (e : Expected) (called : Option (List ℕ)) (found : List ℕ) (at id : ℕ) (body : List ℕ) → HasSelector called → length found ≤ MOST_OFFERS → id < 2 ^ 32 → length body ≤ MOST_BODY → is_wanted (accept_id e) id ≡ true → (are_judged e ≡ true → AreAccepting found)
     → (place : ℕ) → place ≡ at + length (selector_octets 131 called) + length (results_octets found)
-    → (accept wanted).begins at (accept_octets called found id body) (taken (Accept called found id (last_span place (user_octets id body) body)) (place + length (user_octets id body)) [])
+    → (accept e).begins at (accept_octets called found id body) (taken (Accept called found id (last_span place (user_octets id body) body)) (place + length (user_octets id body)) [])
 unfolding accept accept_octets then_in map_in after_others results_octets
-accept-begins wanted called found at id body held most few size right place is =
+accept-begins e called found at id body held most few size right ok place is =
     let user = user_octets id body in
     let second = at + length (selector_octets 131 called) in
     let value : External = external_of id (last_span place user body) in (
@@ -148,21 +149,21 @@ accept-begins wanted called found at id body held most few size right place is =
       responding-begins called at _ held,
       (
         taken found place user,
-        (taken tt second (results_octets found ++ user), none_other accept_named second 165 _ refl, subst (λ (k : ℕ). results.begins second (results_octets found ++ user) (taken found k user)) (sym is) (results-write second found most user)),
-        (taken value (place + length user) [], last-begins wanted accept_named place id body refl few size right, refl),
+        (taken tt second (results_octets found ++ user), none_other accept_named second 165 _ refl, subst (λ (k : ℕ). (results (are_judged e)).begins second (results_octets found ++ user) (taken found k user)) (sym is) (results-write (are_judged e) second found most ok user)),
+        (taken value (place + length user) [], last-begins (accept_id e) accept_named place id body refl few size right, refl),
       ),
     )
 
-accept-ends : (wanted : Option ℕ) (called : Option (List ℕ)) (found : List ℕ) (at id : ℕ) (body : List ℕ) → HasSelector called → length found ≤ MOST_OFFERS → id < 2 ^ 32 → length body ≤ MOST_BODY → is_wanted wanted id ≡ true
-    → Ends (accept wanted) at (Accept called found id (last_span at (accept_octets called found id body) body)) (accept_octets called found id body)
-accept-ends wanted called found at id body held most few size right =
+accept-ends : (e : Expected) (called : Option (List ℕ)) (found : List ℕ) (at id : ℕ) (body : List ℕ) → HasSelector called → length found ≤ MOST_OFFERS → id < 2 ^ 32 → length body ≤ MOST_BODY → is_wanted (accept_id e) id ≡ true → (are_judged e ≡ true → AreAccepting found)
+    → Ends (accept e) at (Accept called found id (last_span at (accept_octets called found id body) body)) (accept_octets called found id body)
+accept-ends e called found at id body held most few size right ok =
     let user = user_octets id body in
     let whole = accept_octets called found id body in
     let place = at + length (selector_octets 131 called) + length (results_octets found) in
     let ends : place + length user ≡ at + length whole = omega (arith, accept-sized called found id (length (selector_octets 131 called)) (length (results_octets found)) (length user) body refl refl refl) in
-    subst (λ (k : ℕ). (accept wanted).begins at whole (taken (Accept called found id (last_span at whole body)) k [])) ends
-    (subst (λ (s : Span). (accept wanted).begins at whole (taken (Accept called found id s) (place + length user) [])) (span-moved place at user whole body ends (body_within id body) (omega arith))
-    (accept-begins wanted called found at id body held most few size right place refl))
+    subst (λ (k : ℕ). (accept e).begins at whole (taken (Accept called found id (last_span at whole body)) k [])) ends
+    (subst (λ (s : Span). (accept e).begins at whole (taken (Accept called found id s) (place + length user) [])) (span-moved place at user whole body ends (body_within id body) (omega arith))
+    (accept-begins e called found at id body held most few size right ok place refl))
 
 -- ---- which of the two
 
@@ -225,73 +226,73 @@ parameters_after : (at : ℕ) (contents : List ℕ) → at ≤ parameters_place 
 unfolding parameters_place
 parameters_after at contents = omega arith
 
-set_up-writes : (wanted : Option ℕ) (at : ℕ) (contents : List ℕ) (p : Ppdu) → length contents < 2 ^ 31 → Ends (branch_in has_results (accept wanted) connect) (parameters_place at contents) p contents → Writes (set_up wanted) at p (set_up_octets contents)
+set_up-writes : (e : Expected) (at : ℕ) (contents : List ℕ) (p : Ppdu) → length contents < 2 ^ 31 → Ends (branch_in has_results (accept e) (connect e)) (parameters_place at contents) p contents → Writes (set_up e) at p (set_up_octets contents)
 unfolding set_up set_up_octets set_up_contents parameters branch_in parameters_place mode_octets
-set_up-writes wanted at contents p few e =
+set_up-writes e at contents p few done =
     let last = written 162 contents in
     let place = at + 1 + length (length_octets (length (mode_octets ++ last))) in
     part-writes 49 _ at p (mode_octets ++ last) (omega (arith, few, length-append mode_octets last, length-written 162 contents, part_size-most (length contents), mode-sized))
     (all-spelled _ place p (mode_octets ++ last)
     (inl (
       refl,
-      then-ends mode (λ u. parameters wanted) place tt mode_octets p last (mode-writes place)
-          (ends_of (parameters wanted) (place + length mode_octets) p last
-          (part-writes 162 _ (place + length mode_octets) p contents (omega (arith, few)) (all-spelled (branch_in has_results (accept wanted) connect) _ p contents e))),
+      then-ends mode (λ u. parameters e) place tt mode_octets p last (mode-writes place)
+          (ends_of (parameters e) (place + length mode_octets) p last
+          (part-writes 162 _ (place + length mode_octets) p contents (omega (arith, few)) (all-spelled (branch_in has_results (accept e) (connect e)) _ p contents done))),
     )))
 
-set_up-ends : (wanted : Option ℕ) (at : ℕ) (contents : List ℕ) (p : Ppdu) → Writes (set_up wanted) at p (set_up_octets contents) → Ends (ppdu wanted) at p (set_up_octets contents)
+set_up-ends : (e : Expected) (at : ℕ) (contents : List ℕ) (p : Ppdu) → Writes (set_up e) at p (set_up_octets contents) → Ends (ppdu e) at p (set_up_octets contents)
 unfolding ppdu branch_in set_up_octets
-set_up-ends wanted at contents p w = whole-begins _ at p (set_up_octets contents) (inr (refl, ends_of (set_up wanted) at p (set_up_octets contents) w))
+set_up-ends e at contents p w = whole-begins _ at p (set_up_octets contents) (inr (refl, ends_of (set_up e) at p (set_up_octets contents) w))
 
-is_connect : (wanted : Option ℕ) (at : ℕ) (contents : List ℕ) (p : Ppdu) → has_results contents ≡ false → Ends connect at p contents → Ends (branch_in has_results (accept wanted) connect) at p contents
+is_connect : (e : Expected) (at : ℕ) (contents : List ℕ) (p : Ppdu) → has_results contents ≡ false → Ends (connect e) at p contents → Ends (branch_in has_results (accept e) (connect e)) at p contents
 unfolding branch_in
-is_connect wanted at contents p first e = inr (first, e)
+is_connect e at contents p first done = inr (first, done)
 
-is_accept : (wanted : Option ℕ) (at : ℕ) (contents : List ℕ) (p : Ppdu) → has_results contents ≡ true → Ends (accept wanted) at p contents → Ends (branch_in has_results (accept wanted) connect) at p contents
+is_accept : (e : Expected) (at : ℕ) (contents : List ℕ) (p : Ppdu) → has_results contents ≡ true → Ends (accept e) at p contents → Ends (branch_in has_results (accept e) (connect e)) at p contents
 unfolding branch_in
-is_accept wanted at contents p first e = inl (first, e)
+is_accept e at contents p first done = inl (first, done)
 
 selector-few : (tag : ℕ) (called : Option (List ℕ)) → HasSelector called → length (selector_octets tag called) ≤ 34
 selector-few tag None held = omega arith
 selector-few tag (Some octets) held = omega (arith, held.1, short-sized tag octets (omega (arith, held.1)))
 
-connect-whole : (wanted : Option ℕ) (called : Option (List ℕ)) (contexts : List Offered) (at id : ℕ) (body : List ℕ) → HasSelector called → AreOffers contexts → All (λ o. IsOid o.abstract_name) contexts → id < 2 ^ 32 → length body ≤ MOST_BODY → is_wanted (acse_of contexts) id ≡ true
-    → Ends (ppdu wanted) at (Connect called contexts id (last_span at (set_up_octets (connect_octets called contexts id body)) body)) (set_up_octets (connect_octets called contexts id body))
-connect-whole wanted called contexts at id body held are named few size right =
+connect-whole : (e : Expected) (called : Option (List ℕ)) (contexts : List Offered) (at id : ℕ) (body : List ℕ) → HasSelector called → AreOffers contexts → All (λ o. IsOid o.abstract_name) contexts → id < 2 ^ 32 → length body ≤ MOST_BODY → is_wanted (connect_id e contexts) id ≡ true
+    → Ends (ppdu e) at (Connect called contexts id (last_span at (set_up_octets (connect_octets called contexts id body)) body)) (set_up_octets (connect_octets called contexts id body))
+connect-whole e called contexts at id body held are named few size right =
     let contents = connect_octets called contexts id body in
     let place = parameters_place at contents in
     let sized = connect-sized called contexts id (length (selector_octets 130 called)) (length (offers_octets contexts)) (length (user_octets id body)) body refl refl refl in
     let small : length contents < 2 ^ 31 = omega (arith, sized, selector-few 130 called held, offers-few contexts are named, user-few id body few size, size) in
     let within : length body ≤ length contents = omega (arith, sized, body_within id body) in
     let first = connect-first called contexts id body held (omega (arith, small)) in
-    set_up-ends wanted at contents (Connect called contexts id (last_span at (set_up_octets contents) body))
-    (subst (λ (s : Span). Writes (set_up wanted) at (Connect called contexts id s) (set_up_octets contents)) (span-moved place at contents (set_up_octets contents) body (parameters_last at contents) within (parameters_after at contents))
-    (set_up-writes wanted at contents (Connect called contexts id (last_span place contents body)) small
-    (is_connect wanted place contents (Connect called contexts id (last_span place contents body)) first (connect-ends called contexts place id body held are named few size right))))
+    set_up-ends e at contents (Connect called contexts id (last_span at (set_up_octets contents) body))
+    (subst (λ (s : Span). Writes (set_up e) at (Connect called contexts id s) (set_up_octets contents)) (span-moved place at contents (set_up_octets contents) body (parameters_last at contents) within (parameters_after at contents))
+    (set_up-writes e at contents (Connect called contexts id (last_span place contents body)) small
+    (is_connect e place contents (Connect called contexts id (last_span place contents body)) first (connect-ends e called contexts place id body held are named few size right))))
 
-accept-whole : (wanted : Option ℕ) (called : Option (List ℕ)) (found : List ℕ) (at id : ℕ) (body : List ℕ) → HasSelector called → length found ≤ MOST_OFFERS → id < 2 ^ 32 → length body ≤ MOST_BODY → is_wanted wanted id ≡ true
-    → Ends (ppdu wanted) at (Accept called found id (last_span at (set_up_octets (accept_octets called found id body)) body)) (set_up_octets (accept_octets called found id body))
-accept-whole wanted called found at id body held most few size right =
+accept-whole : (e : Expected) (called : Option (List ℕ)) (found : List ℕ) (at id : ℕ) (body : List ℕ) → HasSelector called → length found ≤ MOST_OFFERS → id < 2 ^ 32 → length body ≤ MOST_BODY → is_wanted (accept_id e) id ≡ true → (are_judged e ≡ true → AreAccepting found)
+    → Ends (ppdu e) at (Accept called found id (last_span at (set_up_octets (accept_octets called found id body)) body)) (set_up_octets (accept_octets called found id body))
+accept-whole e called found at id body held most few size right ok =
     let contents = accept_octets called found id body in
     let place = parameters_place at contents in
     let sized = accept-sized called found id (length (selector_octets 131 called)) (length (results_octets found)) (length (user_octets id body)) body refl refl refl in
     let small : length contents < 2 ^ 31 = omega (arith, sized, selector-few 131 called held, results-few found most, user-few id body few size, size) in
     let within : length body ≤ length contents = omega (arith, sized, body_within id body) in
     let first = accept-first called found id body held (omega (arith, small)) in
-    set_up-ends wanted at contents (Accept called found id (last_span at (set_up_octets contents) body))
-    (subst (λ (s : Span). Writes (set_up wanted) at (Accept called found id s) (set_up_octets contents)) (span-moved place at contents (set_up_octets contents) body (parameters_last at contents) within (parameters_after at contents))
-    (set_up-writes wanted at contents (Accept called found id (last_span place contents body)) small
-    (is_accept wanted place contents (Accept called found id (last_span place contents body)) first (accept-ends wanted called found place id body held most few size right))))
+    set_up-ends e at contents (Accept called found id (last_span at (set_up_octets contents) body))
+    (subst (λ (s : Span). Writes (set_up e) at (Accept called found id s) (set_up_octets contents)) (span-moved place at contents (set_up_octets contents) body (parameters_last at contents) within (parameters_after at contents))
+    (set_up-writes e at contents (Accept called found id (last_span place contents body)) small
+    (is_accept e place contents (Accept called found id (last_span place contents body)) first (accept-ends e called found place id body held most few size right ok))))
 
-carry-whole : (wanted : Option ℕ) (at id : ℕ) (body : List ℕ) → id < 2 ^ 32 → length body ≤ MOST_BODY → is_wanted wanted id ≡ true → Ends (ppdu wanted) at (Carry id (last_span at (user_octets id body) body)) (user_octets id body)
+carry-whole : (e : Expected) (at id : ℕ) (body : List ℕ) → id < 2 ^ 32 → length body ≤ MOST_BODY → is_wanted (carry_id e) id ≡ true → Ends (ppdu e) at (Carry id (last_span at (user_octets id body) body)) (user_octets id body)
 unfolding ppdu branch_in user_octets
-carry-whole wanted at id body few size right =
+carry-whole e at id body few size right =
     let user = external_of id (last_span at (user_octets id body) body) in
     whole-begins _ at (Carry id (last_span at (user_octets id body) body)) (user_octets id body)
-    (inl (refl, map-ends carry_of (user_data wanted) at user (user_octets id body) (ends_of (user_data wanted) at user (user_octets id body) (user-writes wanted at id body few size right))))
+    (inl (refl, map-ends carry_of (user_data (carry_id e)) at user (user_octets id body) (ends_of (user_data (carry_id e)) at user (user_octets id body) (user-writes (carry_id e) at id body few size right))))
 
 -- what is written for a PPDU is one, with the body at its end
-pub ppdu-begins : (wanted : Option ℕ) (p : Ppdu) (body : List ℕ) (at : ℕ) → IsWritable p → IsHeld p → IsAsWanted wanted p → length body ≤ MOST_BODY → (ppdu wanted).begins at (ppdu_octets p body) (taken_whole at (ppdu_octets p body) (as_written at p body))
-ppdu-begins wanted (Connect called contexts id old) body at are held right size = connect-whole wanted called contexts at id body held.0 are held.1.0 held.1.1 size right
-ppdu-begins wanted (Accept called found id old) body at most held right size = accept-whole wanted called found at id body held.0 most held.1 size right
-ppdu-begins wanted (Carry id old) body at any held right size = carry-whole wanted at id body held size right
+pub ppdu-begins : (e : Expected) (p : Ppdu) (body : List ℕ) (at : ℕ) → IsWritable p → IsHeld p → IsAsExpected e p → length body ≤ MOST_BODY → (ppdu e).begins at (ppdu_octets p body) (taken_whole at (ppdu_octets p body) (as_written at p body))
+ppdu-begins e (Connect called contexts id old) body at are held right size = connect-whole e called contexts at id body held.0 are held.1.0 held.1.1 size right
+ppdu-begins e (Accept called found id old) body at most held right size = accept-whole e called found at id body held.0 most held.1 size right.0 right.1
+ppdu-begins e (Carry id old) body at any held right size = carry-whole e at id body held size right

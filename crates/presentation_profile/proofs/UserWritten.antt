@@ -1,11 +1,11 @@
 -- What is written for user data and for results is read back.
-use Rattle.std.proofs.Common.{◌≡◌, ℕ, ◌+◌, ◌-◌, ◌*◌, ◌≤◌, ◌<◌, ◌^◌, eqb, true, Option, Some, None, List, [], ◌∷◌, ◌++◌, length, flat_map, pos, refl, sym, ap, subst, ◌∙◌, inl, inr, arith}
+use Rattle.std.proofs.Common.{◌≡◌, ℕ, ◌+◌, ◌-◌, ◌*◌, ◌≤◌, ◌<◌, ◌^◌, eqb, Bool, true, false, Option, Some, None, List, [], ◌∷◌, ◌++◌, length, flat_map, pos, refl, sym, ap, subst, ◌∙◌, inl, inr, arith}
 use Rattle.std.proofs.lemmas.List.{length-append}
 use Rattle.std.proofs.lemmas.Bool.{eqb-true, cond_both}
 use Rattle.ber_values.specs.declared.fault.Span.{Span}
 use Rattle.ber_values.specs.Writing.{written, integer_octets, length_octets}
 use Rattle.ber_values.specs.Grammars.{taken, gives, then_in, map_in, branch_in, is_other}
-use Rattle.ber_values.specs.Parts.{part_in, maybe_in, all_in}
+use Rattle.ber_values.specs.Parts.{part_in, maybe_in, all_in, contents_where, contents_as}
 use Rattle.ber_values.specs.Leaves.{oid, span_at, octet}
 use Rattle.ber_values.proofs.Capped.{short-sized, length-written, part_size-most}
 use Rattle.ber_values.proofs.WrittenParts.{Writes, ends_of, part-writes, all-spelled, none_passed, WritesEach, WriteAll, list-spelled}
@@ -15,8 +15,8 @@ use Rattle.ber_values.specs.Externals.{external_of, is_wanted, external, externa
 use Rattle.ber_values.proofs.Externals.{external-spelled}
 use Rattle.ber_values.proofs.Externals as externals
 use Rattle.presentation_profile.specs.UserData.{user_data}
-use Rattle.presentation_profile.specs.Results.{result_contents, one_result, results}
-use Rattle.presentation_profile.specs.Written.{user_octets, accepted_octets, refused_octets, result_octets, results_octets, last_span}
+use Rattle.presentation_profile.specs.Results.{may_be, result_contents, one_result, any_results, first_in, accepting_results, results}
+use Rattle.presentation_profile.specs.Written.{AreAccepting, user_octets, accepted_octets, refused_octets, result_octets, results_octets, last_span}
 use Rattle.presentation_profile.proofs.OffersWritten.{id-few, oid-spelled, ber_is}
 
 -- ---- user data
@@ -68,13 +68,18 @@ user-writes wanted at id body few size is =
 
 -- ---- results
 
-octet-spelled : (at value : ℕ) → octet.spells at value (value ∷ [])
-unfolding octet
-octet-spelled at value = refl
+octet-spelled : (accepting : Bool) (at value : ℕ) → may_be accepting value ≡ true → (contents_where (may_be accepting) octet).spells at value (value ∷ [])
+unfolding contents_where octet
+octet-spelled accepting at value right = (value, refl, (right, refl))
 
-accepted-spelled : (at : ℕ) → result_contents.spells at 0 (written 128 (0 ∷ []) ++ written 129 (81 ∷ 1 ∷ []))
+-- a result that accepts may stand anywhere
+zero_may : (accepting : Bool) → may_be accepting 0 ≡ true
+zero_may true = refl
+zero_may false = refl
+
+accepted-spelled : (accepting : Bool) (at : ℕ) → (result_contents accepting).spells at 0 (written 128 (0 ∷ []) ++ written 129 (81 ∷ 1 ∷ []))
 unfolding result_contents maybe_in branch_in map_in then_in
-accepted-spelled at =
+accepted-spelled accepting at =
     let first = written 128 (0 ∷ []) in
     let last = written 129 (81 ∷ 1 ∷ []) in
     let next = at + length first in
@@ -82,7 +87,7 @@ accepted-spelled at =
     let ends : end ≡ at + length (first ++ last) = omega (arith, length-append first last) in
     all-spelled _ at 0 (first ++ last) (
       taken 0 next last,
-      part-writes 128 octet at 0 (0 ∷ []) (omega arith) (octet-spelled _ 0) last,
+      part-writes 128 _ at 0 (0 ∷ []) (omega arith) (octet-spelled accepting _ 0 (zero_may accepting)) last,
       (
         taken (Some (81 ∷ 1 ∷ [])) end [],
         inl (refl, (taken (81 ∷ 1 ∷ []) end [], ends_of (part_in 129 oid) next (81 ∷ 1 ∷ []) last (part-writes 129 oid next (81 ∷ 1 ∷ []) (81 ∷ 1 ∷ []) (omega arith) (oid-spelled _ (81 ∷ 1 ∷ []) ber_is)), refl)),
@@ -90,14 +95,14 @@ accepted-spelled at =
       ),
     )
 
-refused-spelled : (at value : ℕ) → result_contents.spells at value (written 128 (value ∷ []))
+refused-spelled : (at value : ℕ) → (result_contents false).spells at value (written 128 (value ∷ []))
 unfolding result_contents maybe_in branch_in map_in then_in gives
 refused-spelled at value =
     let first = written 128 (value ∷ []) in
     let end = at + length first in
     all-spelled _ at value first (
       taken value end [],
-      ends_of (part_in 128 octet) at value first (part-writes 128 octet at value (value ∷ []) (omega arith) (octet-spelled _ value)),
+      ends_of (part_in 128 (contents_where (may_be false) octet)) at value first (part-writes 128 _ at value (value ∷ []) (omega arith) (octet-spelled false _ value refl)),
       (
         taken None end [],
         inr (refl, refl),
@@ -108,13 +113,13 @@ refused-spelled at value =
 accepted-few : length (written 128 (0 ∷ []) ++ written 129 (81 ∷ 1 ∷ [])) ≡ 7
 accepted-few = omega (arith, length-append (written 128 (0 ∷ [])) (written 129 (81 ∷ 1 ∷ [])), short-sized 128 (0 ∷ []) (omega arith), short-sized 129 (81 ∷ 1 ∷ []) (omega arith))
 
-accepted-writes : (at : ℕ) → Writes one_result at 0 accepted_octets
+accepted-writes : (accepting : Bool) (at : ℕ) → Writes (one_result accepting) at 0 accepted_octets
 unfolding one_result accepted_octets
-accepted-writes at = part-writes 48 result_contents at 0 _ (omega (arith, accepted-few)) (accepted-spelled _)
+accepted-writes accepting at = part-writes 48 (result_contents accepting) at 0 _ (omega (arith, accepted-few)) (accepted-spelled accepting _)
 
-refused-writes : (at value : ℕ) → Writes one_result at value (refused_octets value)
+refused-writes : (at value : ℕ) → Writes (one_result false) at value (refused_octets value)
 unfolding one_result refused_octets
-refused-writes at value = part-writes 48 result_contents at value _ (omega (arith, short-sized 128 (value ∷ []) (omega arith))) (refused-spelled _ value)
+refused-writes at value = part-writes 48 (result_contents false) at value _ (omega (arith, short-sized 128 (value ∷ []) (omega arith))) (refused-spelled _ value)
 
 accepted-sized : length accepted_octets ≡ 9
 unfolding accepted_octets
@@ -124,14 +129,14 @@ refused-sized : (value : ℕ) → length (refused_octets value) ≡ 5
 unfolding refused_octets
 refused-sized value = omega (arith, short-sized 128 (value ∷ []) (omega arith), short-sized 48 (written 128 (value ∷ [])) (omega (arith, short-sized 128 (value ∷ []) (omega arith))))
 
-result-writes : (value : ℕ) → WritesEach one_result result_octets value
+result-writes : (value : ℕ) → WritesEach (one_result false) result_octets value
 result-writes value = record {
   some = cond_both (eqb value 0) accepted_octets (refused_octets value) (λ os. 0 < length os) (λ e. omega (arith, accepted-sized)) (λ e. omega (arith, refused-sized value));
-  writes = λ at. cond_both (eqb value 0) accepted_octets (refused_octets value) (Writes one_result at value)
-      (λ e. subst (λ (v : ℕ). Writes one_result at v accepted_octets) (sym (eqb-true value 0 e)) (accepted-writes at)) (λ e. refused-writes at value);
+  writes = λ at. cond_both (eqb value 0) accepted_octets (refused_octets value) (Writes (one_result false) at value)
+      (λ e. subst (λ (v : ℕ). Writes (one_result false) at v accepted_octets) (sym (eqb-true value 0 e)) (accepted-writes false at)) (λ e. refused-writes at value);
 }
 
-each-write : (found : List ℕ) → WriteAll one_result result_octets found
+each-write : (found : List ℕ) → WriteAll (one_result false) result_octets found
 each-write [] = tt
 each-write (value ∷ found) = (result-writes value, each-write found)
 
@@ -142,12 +147,31 @@ each-few : (found : List ℕ) → length (flat_map result_octets found) ≤ 9 * 
 each-few [] = omega arith
 each-few (value ∷ found) = omega (arith, each-few found, result-few value, length-append (result_octets value) (flat_map result_octets found))
 
+any-spelled : (at : ℕ) (found : List ℕ) → any_results.spells at found (flat_map result_octets found)
+any-spelled at found = list-spelled (one_result false) result_octets 0 at found (omega arith) (each-write found)
+
+-- two that accept, and others
+accepting-spelled : (at : ℕ) (others : List ℕ) → accepting_results.spells at (0 ∷ 0 ∷ others) (flat_map result_octets (0 ∷ 0 ∷ others))
+unfolding accepting_results first_in contents_as
+accepting-spelled at others =
+    let rest = flat_map result_octets others in
+    let one = at + length accepted_octets in
+    let two = one + length accepted_octets in (
+      taken 0 one (accepted_octets ++ rest),
+      accepted-writes true at (accepted_octets ++ rest),
+      (taken 0 two rest, accepted-writes true one rest, (others, any-spelled two others, refl)),
+    )
+
 -- what is written for results begins what follows it
-pub results-write : (at : ℕ) (found : List ℕ) → length found ≤ MOST_OFFERS → Writes results at found (results_octets found)
-unfolding results results_octets
-results-write at found few =
-    part-writes 165 _ at found (flat_map result_octets found) (omega (arith, each-few found, few))
-    (list-spelled one_result result_octets 0 _ found (omega arith) (each-write found))
+pub results-write : (accepting : Bool) (at : ℕ) (found : List ℕ) → length found ≤ MOST_OFFERS → (accepting ≡ true → AreAccepting found) → Writes (results accepting) at found (results_octets found)
+unfolding results branch_in results_octets
+results-write false at found few right rest =
+    inr (refl, part-writes 165 any_results at found (flat_map result_octets found) (omega (arith, each-few found, few)) (any-spelled _ found) rest)
+results-write true at found few right rest =
+    inl (refl, part-writes 165 accepting_results at found (flat_map result_octets found) (omega (arith, each-few found, few)) (accepting-of _ found (right refl)) rest)
+  where
+    accepting-of : (at : ℕ) (found : List ℕ) → AreAccepting found → accepting_results.spells at found (flat_map result_octets found)
+    accepting-of at found is = subst (λ (xs : List ℕ). accepting_results.spells at xs (flat_map result_octets xs)) (sym is.1) (accepting-spelled at is.0)
 
 pub results-few : (found : List ℕ) → length found ≤ MOST_OFFERS → length (results_octets found) ≤ 150
 unfolding results_octets

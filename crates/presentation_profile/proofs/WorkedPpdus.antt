@@ -1,5 +1,7 @@
 -- PPDUs as two control centres send them, computed.
-use Rattle.std.proofs.Common.{◌≡◌, List, ℕ, [], ◌∷◌, true, Some, None, Ok, refl}
+use Rattle.std.proofs.Common.{◌≡◌, List, ℕ, [], ◌∷◌, true, false, Some, Ok, Err, refl}
+use Rattle.ber_values.specs.declared.fault.Why.TheVariants as whys
+use Rattle.ber_values.specs.Faults.{fault_at}
 use Rattle.ber_values.specs.Tags.{tag_in, length_in}
 use Rattle.ber_values.specs.Numbers.{unsigned_in}
 use Rattle.ber_values.specs.TextContents.{oid_in}
@@ -8,12 +10,13 @@ use Rattle.ber_values.specs.Grammars.{taken, gives, then_in, map_in, branch_in, 
 use Rattle.ber_values.specs.Parts.{whole_in, sized_part_in, parted_in, part_in, choose_in, maybe_in, contents_as, contents_where, all_in}
 use Rattle.ber_values.specs.Lists.{more_in, list_in, count_in}
 use Rattle.ber_values.specs.Leaves as leaves
+use Rattle.presentation_profile.specs.declared.expected.Expected.TheVariants as expects
 use Rattle.presentation_profile.specs.declared.ppdu.Ppdu.TheVariants.{Connect, Accept, Carry}
 use Rattle.presentation_profile.specs.Offers.{transfers, offered, offer_contents, offer, offers}
 use Rattle.presentation_profile.specs.Others.{others, after_others, before_others, selector_in}
 use Rattle.ber_values.specs.Externals.{external}
 use Rattle.presentation_profile.specs.UserData.{user_data}
-use Rattle.presentation_profile.specs.Results.{result_contents, one_result, results}
+use Rattle.presentation_profile.specs.Results.{result_contents, one_result, first_in, accepting_results, results}
 use Rattle.presentation_profile.specs.Ppdus.{connect_selectors, connect, accept, parameters, mode, set_up_contents, set_up, ppdu}
 
 -- a connect, after the 24 octets of its session, whose body has 77 octets
@@ -28,7 +31,7 @@ connect_octets =
     130 ∷ 1 ∷ 5 ∷ 131 ∷ 1 ∷ 5 ∷ 164 ∷ 22 ∷ 128 ∷ 1 ∷ 1 ∷ 129 ∷ 3 ∷ 5 ∷ 241 ∷ 0 ∷ 130 ∷ 12 ∷ 3 ∷
     238 ∷ 28 ∷ 0 ∷ 0 ∷ 4 ∷ 8 ∷ 0 ∷ 0 ∷ 121 ∷ 239 ∷ 24 ∷ []
 
-connect_read : (ppdu None).reading 24 connect_octets ≡ Ok (taken
+connect_read : (ppdu expects.Connect).reading 24 connect_octets ≡ Ok (taken
     (Connect (Some (0 ∷ 0 ∷ 0 ∷ 1 ∷ [])) (offered 1 (82 ∷ 1 ∷ 0 ∷ 1 ∷ []) true ∷ offered 3 (40 ∷ 202 ∷ 34 ∷ 2 ∷ 1 ∷ []) true ∷ []) 1 (record { from = 93; to = 170 }))
     170 [])
 unfolding connect_octets ppdu whole_in set_up set_up_contents mode parameters connect connect_selectors after_others before_others others selector_in user_data external offers offer offer_contents transfers part_in parted_in sized_part_in length_in tag_in head_in gives then_in map_in branch_in refused skip by_length pass_within pass_in choose_in maybe_in contents_as contents_where all_in more_in list_in count_in leaves.unsigned_within leaves.unsigned leaves.oid leaves.span leaves.selector leaves.selector_in leaves.fixed unsigned_in oid_in
@@ -45,12 +48,22 @@ accept_octets =
     ∷ 1 ∷ 129 ∷ 3 ∷ 5 ∷ 225 ∷ 0 ∷ 130 ∷ 12 ∷ 3 ∷ 108 ∷ 28 ∷ 0 ∷ 0 ∷ 0 ∷ 0 ∷ 0 ∷ 0 ∷ 0 ∷ 1 ∷ 16
     ∷ []
 
-accept_read : (ppdu None).reading 24 accept_octets ≡ Ok (taken
+accept_read : (ppdu (expects.Accept (Some 1))).reading 24 accept_octets ≡ Ok (taken
     (Accept (Some (0 ∷ 0 ∷ 0 ∷ 1 ∷ [])) (0 ∷ 0 ∷ []) 1 (record { from = 68; to = 140 })) 140 [])
-unfolding accept_octets ppdu whole_in set_up set_up_contents mode parameters accept results one_result result_contents after_others before_others others selector_in user_data external part_in parted_in sized_part_in length_in tag_in head_in gives then_in map_in branch_in refused skip by_length pass_within pass_in choose_in maybe_in contents_as contents_where all_in more_in list_in count_in leaves.unsigned leaves.oid leaves.octet leaves.octet_in leaves.span leaves.selector leaves.selector_in leaves.fixed unsigned_in oid_in
+unfolding accept_octets ppdu whole_in set_up set_up_contents mode parameters accept results accepting_results first_in one_result result_contents after_others before_others others selector_in user_data external part_in parted_in sized_part_in length_in tag_in head_in gives then_in map_in branch_in refused skip by_length pass_within pass_in choose_in maybe_in contents_as contents_where all_in more_in list_in count_in leaves.unsigned leaves.oid leaves.octet leaves.octet_in leaves.span leaves.selector leaves.selector_in leaves.fixed unsigned_in oid_in
 accept_read = refl
 
+-- the results of an accept, where they are judged: 0 0, then 0 1, 0 alone, none, and 0 0 1
+results_read : ((results true).reading 9 (165 ∷ 10 ∷ 48 ∷ 3 ∷ 128 ∷ 1 ∷ 0 ∷ 48 ∷ 3 ∷ 128 ∷ 1 ∷ 0 ∷ []) ≡ Ok (taken (0 ∷ 0 ∷ []) 21 []))
+    × ((results true).reading 9 (165 ∷ 10 ∷ 48 ∷ 3 ∷ 128 ∷ 1 ∷ 0 ∷ 48 ∷ 3 ∷ 128 ∷ 1 ∷ 1 ∷ []) ≡ Err (fault_at 20 whys.Value))
+    × ((results true).reading 9 (165 ∷ 5 ∷ 48 ∷ 3 ∷ 128 ∷ 1 ∷ 0 ∷ []) ≡ Err (fault_at 16 whys.Short))
+    × ((results true).reading 9 (165 ∷ 0 ∷ []) ≡ Err (fault_at 11 whys.Short))
+    × ((results true).reading 9 (165 ∷ 15 ∷ 48 ∷ 3 ∷ 128 ∷ 1 ∷ 0 ∷ 48 ∷ 3 ∷ 128 ∷ 1 ∷ 0 ∷ 48 ∷ 3 ∷ 128 ∷ 1 ∷ 1 ∷ []) ≡ Ok (taken (0 ∷ 0 ∷ 1 ∷ []) 26 []))
+    × ((results false).reading 9 (165 ∷ 10 ∷ 48 ∷ 3 ∷ 128 ∷ 1 ∷ 0 ∷ 48 ∷ 3 ∷ 128 ∷ 1 ∷ 1 ∷ []) ≡ Ok (taken (0 ∷ 1 ∷ []) 21 []))
+unfolding results accepting_results first_in one_result result_contents part_in parted_in sized_part_in length_in tag_in head_in gives then_in map_in branch_in refused skip by_length pass_within pass_in choose_in maybe_in contents_as contents_where all_in more_in list_in count_in leaves.oid leaves.octet leaves.octet_in oid_in
+results_read = (refl, refl, refl, refl, refl, refl)
+
 -- data of context 3, with a body of three octets
-carry_read : (ppdu None).reading 4 (97 ∷ 10 ∷ 48 ∷ 8 ∷ 2 ∷ 1 ∷ 3 ∷ 160 ∷ 3 ∷ 1 ∷ 2 ∷ 3 ∷ []) ≡ Ok (taken (Carry 3 (record { from = 13; to = 16 })) 16 [])
+carry_read : (ppdu (expects.Carry 3)).reading 4 (97 ∷ 10 ∷ 48 ∷ 8 ∷ 2 ∷ 1 ∷ 3 ∷ 160 ∷ 3 ∷ 1 ∷ 2 ∷ 3 ∷ []) ≡ Ok (taken (Carry 3 (record { from = 13; to = 16 })) 16 [])
 unfolding ppdu whole_in user_data external part_in parted_in sized_part_in length_in gives then_in map_in branch_in refused choose_in maybe_in all_in contents_where leaves.unsigned leaves.oid leaves.span unsigned_in oid_in
 carry_read = refl

@@ -54,6 +54,15 @@ acse_among _ _ = None
 abbrev pub acse_of : List Offered → Option ℕ
 acse_of contexts = acse_among (offers_of acse_name contexts) (offers_of mms_name contexts)
 
+-- the same of MMS
+abbrev pub mms_among : List Offered → List Offered → Option ℕ
+mms_among (acse ∷ []) (mms ∷ []) = if acse.id == mms.id then None else Some mms.id
+mms_among _ _ = None
+
+-- the id of MMS's context, where contexts are agreed on
+abbrev pub mms_of : List Offered → Option ℕ
+mms_of contexts = mms_among (offers_of acse_name contexts) (offers_of mms_name contexts)
+
 -- what is agreed on, or the first of these that holds: a name stands twice, ACSE has none, MMS none
 pub record IsAgreement (contexts : List Offered) (result : Result Agreed ContextFault) : Type 0
   where

@@ -14,7 +14,8 @@ use Rattle.presentation_profile.specs.Offers.{offers}
 use Rattle.presentation_profile.specs.Others.{others, after_others, before_others, selector_in}
 use Rattle.presentation_profile.specs.Results.{results}
 use Rattle.presentation_profile.specs.UserData.{user_data}
-use Rattle.presentation_profile.specs.Agreements.{acse_of}
+use Rattle.presentation_profile.specs.declared.expected.Expected.{Expected}
+use Rattle.presentation_profile.specs.Expecting.{connect_id, accept_id, carry_id, are_judged}
 
 -- the elements that a connect names: the calling and the called selector, and the offers
 abbrev pub connect_named : List ℕ
@@ -28,15 +29,14 @@ unfoldable pub connect_selectors : Grammar (Option (List ℕ))
 connect_selectors = after_others connect_named (then_in (selector_in 129) (λ calling.
     after_others connect_named (selector_in 130)))
 
--- the selectors, the offers and the user data of a connect: of ACSE's context, where contexts are
--- agreed on, or else of any
-unfoldable pub connect : Grammar Ppdu
-connect =
+-- the selectors, the offers and the user data of a connect
+unfoldable pub connect : Expected → Grammar Ppdu
+connect e =
     then_in connect_selectors (λ called.
     then_in (after_others connect_named offers) (λ contexts.
     map_in (connect_of called contexts)
     (after_others connect_named (before_others connect_named
-    (user_data (acse_of contexts))))))
+    (user_data (connect_id e contexts))))))
 
 -- the elements that an accept names: the selector that responds, and the results
 abbrev pub accept_named : List ℕ
@@ -46,12 +46,12 @@ abbrev pub accept_of : Option (List ℕ) → List ℕ → External → Ppdu
 accept_of called found user = Accept called found user.id user.body
 
 -- the selector, the results and the user data of an accept
-unfoldable pub accept : Option ℕ → Grammar Ppdu
-accept wanted =
+unfoldable pub accept : Expected → Grammar Ppdu
+accept e =
     then_in (after_others accept_named (selector_in 131)) (λ called.
-    then_in (after_others accept_named results) (λ found.
+    then_in (after_others accept_named (results (are_judged e))) (λ found.
     map_in (accept_of called found)
-    (after_others accept_named (before_others accept_named (user_data wanted)))))
+    (after_others accept_named (before_others accept_named (user_data (accept_id e))))))
 
 -- whether results stand where passing over elements came to
 abbrev pub come_to_results : Result (Taken (Unit {0})) BerFault → Bool
@@ -63,22 +63,22 @@ abbrev pub has_results : List ℕ → Bool
 has_results octets = come_to_results ((others (164 ∷ 165 ∷ [])).reading 0 octets)
 
 -- the parameters of the normal mode: an accept where results come first, else a connect
-unfoldable pub parameters : Option ℕ → Grammar Ppdu
-parameters wanted = part_in 162 (all_in (branch_in has_results (accept wanted) connect))
+unfoldable pub parameters : Expected → Grammar Ppdu
+parameters e = part_in 162 (all_in (branch_in has_results (accept e) (connect e)))
 
 -- the normal mode
 unfoldable pub mode : Grammar (Unit {0})
 mode = part_in 160 (all_in (part_in 128 (fixed (1 ∷ []))))
 
 -- the mode and the parameters, in either order
-unfoldable pub set_up_contents : Option ℕ → Contents Ppdu
-set_up_contents wanted = all_in (branch_in (has_tag 160)
-    (then_in mode (λ u. parameters wanted))
-    (then_in (parameters wanted) (λ p. map_in (λ u. p) mode)))
+unfoldable pub set_up_contents : Expected → Contents Ppdu
+set_up_contents e = all_in (branch_in (has_tag 160)
+    (then_in mode (λ u. parameters e))
+    (then_in (parameters e) (λ p. map_in (λ u. p) mode)))
 
 -- what sets up a connection
-unfoldable pub set_up : Option ℕ → Grammar Ppdu
-set_up wanted = part_in 49 (set_up_contents wanted)
+unfoldable pub set_up : Expected → Grammar Ppdu
+set_up e = part_in 49 (set_up_contents e)
 
 abbrev pub carry_of : External → Ppdu
 carry_of user = Carry user.id user.body
@@ -89,8 +89,7 @@ body_of (Connect _ _ _ body) = body
 body_of (Accept _ _ _ body) = body
 body_of (Carry _ body) = body
 
--- user data alone, or else what sets up a connection, up to the end; user data and an accept are of
--- the context with the id that is wanted, if one is
-unfoldable pub ppdu : Option ℕ → Grammar Ppdu
-ppdu wanted =
-    whole_in (branch_in (has_tag 97) (map_in carry_of (user_data wanted)) (set_up wanted))
+-- user data alone, or else what sets up a connection, up to the end
+unfoldable pub ppdu : Expected → Grammar Ppdu
+ppdu e =
+    whole_in (branch_in (has_tag 97) (map_in carry_of (user_data (carry_id e))) (set_up e))

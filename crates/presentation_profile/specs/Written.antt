@@ -8,7 +8,8 @@ use Rattle.ber_values.specs.Externals.{external_octets, is_wanted}
 use Rattle.ber_values.specs.Lengths.{part_size}
 use Rattle.ber_values.specs.Writing.{head_octets, written, integer_octets}
 use Rattle.tpkt_cotp.specs.Selectors.{IsSelector}
-use Rattle.presentation_profile.specs.Agreements.{acse_of}
+use Rattle.presentation_profile.specs.declared.expected.Expected.{Expected}
+use Rattle.presentation_profile.specs.Expecting.{connect_id, accept_id, carry_id, are_judged}
 use Rattle.presentation_profile.specs.declared.offers.Offered.{Offered}
 use Rattle.presentation_profile.specs.declared.offers.TheConstants.{MOST_OFFERS, LARGEST_ID}
 use Rattle.presentation_profile.specs.declared.ppdu.Ppdu.{Ppdu}
@@ -128,8 +129,13 @@ IsHeld (Connect called contexts id _) = HasSelector called
 IsHeld (Accept called found id _) = HasSelector called × (id < 2 ^ 32)
 IsHeld (Carry id _) = id < 2 ^ 32
 
--- the id is that of ACSE's context in a connect, and else the one that is wanted, if one is
-abbrev pub IsAsWanted : Option ℕ → Ppdu → Type 0
-IsAsWanted wanted (Connect called contexts id _) = is_wanted (acse_of contexts) id ≡ true
-IsAsWanted wanted (Accept called found id _) = is_wanted wanted id ≡ true
-IsAsWanted wanted (Carry id _) = is_wanted wanted id ≡ true
+-- the first two results accept
+abbrev pub AreAccepting : List ℕ → Type 0
+AreAccepting found = (others : List ℕ) × (found ≡ 0 ∷ 0 ∷ others)
+
+-- what is expected of a PPDU of its kind
+abbrev pub IsAsExpected : Expected → Ppdu → Type 0
+IsAsExpected e (Connect called contexts id _) = is_wanted (connect_id e contexts) id ≡ true
+IsAsExpected e (Accept called found id _) =
+    (is_wanted (accept_id e) id ≡ true) × (are_judged e ≡ true → AreAccepting found)
+IsAsExpected e (Carry id _) = is_wanted (carry_id e) id ≡ true

@@ -11,6 +11,7 @@ ghost use Rattle.presentation_profile.specs.Ppdus.{body_of};
 ghost use Rattle.ber_values.specs.Externals.{IsSpanWithin};
 ghost use Rattle.presentation_profile.specs.Written.{accept_octets};
 
+use crate::expected::{Expected, accept_id, are_judged};
 use crate::offers::MOST_OFFERS;
 use crate::others::{put_selector, selector_len, skip_others, take_last_data, take_selector};
 use crate::ppdu::Ppdu;
@@ -26,12 +27,12 @@ const RESPONDING: u8 = 0x83;
 /// The elements that an accept names, before its user data.
 const NAMED: [u8; 2] = [RESPONDING, RESULTS];
 
-/// The accept that the contents of an element are, of the context with the id that is wanted.
+/// The accept that the contents of an element are, which has what is expected of it.
 #[tactic(auto, using(ber_values::proofs::Passed::drop_on), unfolding(crate::specs::Ppdus::accept, crate::specs::Others::after_others, ber_values::specs::Parts::all_in, ber_values::specs::Grammars::then_in, ber_values::specs::Grammars::map_in))]
-pub(crate) fn accept_from(alloc: Global, part: &Part<'_>, wanted: Option<u32>) -> Result<Ppdu, Stop>
+pub(crate) fn accept_from(alloc: Global, part: &Part<'_>, expected: Expected) -> Result<Ppdu, Stop>
     requires { part.now.head.body + length part.now.contents.now < 2 ^ 64 }
     ensures exact { Answers (λ p. p) result
-        ((all_in (accept wanted)).reading part.now.head part.now.contents.now) }
+        ((all_in (accept expected)).reading part.now.head part.now.contents.now) }
     ensures body { IfOk result (λ p. IsSpanWithin part.now.head.body
         (part.now.head.body + length part.now.contents.now) (body_of p)) }
 {
@@ -39,9 +40,9 @@ pub(crate) fn accept_from(alloc: Global, part: &Part<'_>, wanted: Option<u32>) -
     let rest = octets_from(part.contents, part.head.body, at);
     let next = skip_others(rest, at, &NAMED)?;
     let rest = octets_from(rest, at, next);
-    let (results, at) = take_results(alloc, rest, next)?;
+    let (results, at) = take_results(alloc, rest, next, are_judged(expected))?;
     let rest = octets_from(rest, next, at);
-    let (user, end) = take_last_data(rest, at, &NAMED, wanted)?;
+    let (user, end) = take_last_data(rest, at, &NAMED, accept_id(expected))?;
     take_end(octets_from(rest, at, end), end)?;
     Ok(Ppdu::Accept {
         called,

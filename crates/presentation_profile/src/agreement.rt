@@ -2,7 +2,7 @@
 ghost use Rattle.std.specs.Prelude.{◌≡◌, ◌↔◌, ◌≤◌, ◌∷◌, [], length, IsTrue, IfOk};
 ghost use Rattle.presentation_profile.specs.declared.offers.Offered.{Offered};
 ghost use Rattle.presentation_profile.specs.Agreements.{IsAgreement, IsOnly, offers_of, is_of};
-ghost use Rattle.presentation_profile.specs.Agreements.{acse_of, result_of, results_of};
+ghost use Rattle.presentation_profile.specs.Agreements.{acse_of, mms_of, result_of, results_of};
 
 use crate::offers::Offered;
 use crate::results::Results;
@@ -98,6 +98,16 @@ pub(crate) fn acse_id(contexts: &[Offered]) -> Option<u32>
 {
     match agree(contexts) {
         Ok(agreed) => Some(agreed.acse),
+        Err(_) => None,
+    }
+}
+
+/// The id of MMS's context, where contexts are agreed on.
+pub fn mms_id(contexts: &[Offered]) -> Option<u32>
+    ensures { result ≡ mms_of contexts.now }
+{
+    match agree(contexts) {
+        Ok(agreed) => Some(agreed.mms),
         Err(_) => None,
     }
 }

@@ -10,7 +10,7 @@ ghost use Rattle.presentation_profile.specs.Ppdus.{body_of};
 ghost use Rattle.ber_values.specs.Externals.{IsSpanWithin};
 ghost use Rattle.presentation_profile.specs.Written.{AreOffers, calling_octets, connect_octets};
 
-use crate::agreement::acse_id;
+use crate::expected::{Expected, connect_id};
 use crate::offers::{OFFERS, Offers, offers_len, put_offers, take_offers};
 use crate::others::{put_selector, selector_len, skip_others, take_last_data, take_selector};
 use crate::ppdu::Ppdu;
@@ -28,12 +28,12 @@ const CALLED: u8 = 0x82;
 /// The elements that a connect names, before its user data.
 const NAMED: [u8; 3] = [CALLING, CALLED, OFFERS];
 
-/// The connect that the contents of an element are.
+/// The connect that the contents of an element are, which has what is expected of it.
 #[tactic(auto, using(ber_values::proofs::Passed::drop_on), unfolding(crate::specs::Ppdus::connect, crate::specs::Others::after_others, ber_values::specs::Parts::all_in, ber_values::specs::Grammars::then_in, ber_values::specs::Grammars::map_in))]
-pub(crate) fn connect_from(alloc: Global, part: &Part<'_>) -> Result<Ppdu, Stop>
+pub(crate) fn connect_from(alloc: Global, part: &Part<'_>, expected: Expected) -> Result<Ppdu, Stop>
     requires { part.now.head.body + length part.now.contents.now < 2 ^ 64 }
     ensures exact { Answers (λ p. p) result
-        ((all_in connect).reading part.now.head part.now.contents.now) }
+        ((all_in (connect expected)).reading part.now.head part.now.contents.now) }
     ensures body { IfOk result (λ p. IsSpanWithin part.now.head.body
         (part.now.head.body + length part.now.contents.now) (body_of p)) }
 {
@@ -43,7 +43,8 @@ pub(crate) fn connect_from(alloc: Global, part: &Part<'_>) -> Result<Ppdu, Stop>
     let rest = octets_from(rest, at, next);
     let (contexts, at) = take_offers(alloc, rest, next)?;
     let rest = octets_from(rest, next, at);
-    let (user, end) = take_last_data(rest, at, &NAMED, acse_id(contexts.as_slice()))?;
+    let id = connect_id(expected, contexts.as_slice());
+    let (user, end) = take_last_data(rest, at, &NAMED, id)?;
     take_end(octets_from(rest, at, end), end)?;
     Ok(Ppdu::Connect {
         called,

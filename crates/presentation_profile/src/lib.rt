@@ -4,6 +4,7 @@
 mod accept;
 mod agreement;
 mod connect;
+mod expected;
 mod laws;
 mod offers;
 mod others;
@@ -11,7 +12,8 @@ mod ppdu;
 mod results;
 mod user_data;
 
-pub use agreement::{ACSE, Agreed, ContextFault, MMS, agree, results_of};
+pub use agreement::{ACSE, Agreed, ContextFault, MMS, agree, mms_id, results_of};
+pub use expected::Expected;
 pub use laws::{
     offers_have_one_reading, ppdus_have_one_reading, written_offers_are_read,
     written_ppdus_are_read,

@@ -17,6 +17,7 @@ ghost use Rattle.presentation_profile.specs.Written.{set_up_octets, ppdu_octets}
 
 use crate::accept::{accept_from, accept_len, put_accept};
 use crate::connect::{connect_from, connect_len, put_connect};
+use crate::expected::{Expected, carry_id};
 use crate::offers::{MOST_OFFERS, OFFERS, Offers};
 use crate::others::skip_others;
 use crate::results::{RESULTS, Results};
@@ -63,51 +64,49 @@ const MODE: u8 = 0xA0;
 const PARAMETERS: u8 = 0xA2;
 
 /// The PPDU that the octets from `at` to `end` are (ISO 8823-1, CP-type, CPA-type, User-data), or
-/// where they break a rule first, and which. Places count the octets of `tsdu`. The body of a
-/// connect is of the context of ACSE that its own offers agree on, or of any where they don't; the
-/// body of an accept and of user data is of the context with the id that is wanted, or of any where
-/// none is.
+/// where they break a rule first, and which. Places count the octets of `tsdu`. One of the kind that
+/// is expected has what is expected of it; of another kind it is read all the same.
 pub fn read_ppdu(
     alloc: Global,
     tsdu: &[u8],
     at: usize,
     end: usize,
-    wanted: Option<u32>,
+    expected: Expected,
 ) -> Result<Result<Ppdu, BerFault>, AllocError>
     requires start { at ≤ end }
     requires stop { end ≤ length tsdu.now }
-    ensures exact { IfOk result (λ read. IsReadBy (ppdu wanted)
+    ensures exact { IfOk result (λ read. IsReadBy (ppdu expected)
         (taken_whole at (slice_range tsdu.now at end)) at (slice_range tsdu.now at end) read) }
     ensures body { IfOk result (λ read. IfOk read (λ p. IsSpanWithin at end (body_of p))) }
 {
-    ppdu_from(alloc, &tsdu[at..end], at, wanted)
+    ppdu_from(alloc, &tsdu[at..end], at, expected)
 }
 
 fn ppdu_from(
     alloc: Global,
     octets: &[u8],
     at: usize,
-    wanted: Option<u32>,
+    expected: Expected,
 ) -> Result<Result<Ppdu, BerFault>, AllocError>
     requires { at + length octets.now < 2 ^ 64 }
     ensures exact { IfOk result
-        (λ read. IsReadBy (ppdu wanted) (taken_whole at octets.now) at octets.now read) }
+        (λ read. IsReadBy (ppdu expected) (taken_whole at octets.now) at octets.now read) }
     ensures body { IfOk result (λ read. IfOk read
         (λ p. IsSpanWithin at (at + length octets.now) (body_of p))) }
 {
-    settle(whole_ppdu(alloc, octets, at, wanted))
+    settle(whole_ppdu(alloc, octets, at, expected))
 }
 
 /// The PPDU that octets are, of which the first has the place `at`.
 #[tactic(auto, unfolding(crate::specs::Ppdus::ppdu, crate::specs::Ppdus::set_up, ber_values::specs::Parts::whole_in, ber_values::specs::Parts::part_in, ber_values::specs::Grammars::branch_in, ber_values::specs::Grammars::map_in))]
-fn whole_ppdu(alloc: Global, octets: &[u8], at: usize, wanted: Option<u32>) -> Result<Ppdu, Stop>
+fn whole_ppdu(alloc: Global, octets: &[u8], at: usize, expected: Expected) -> Result<Ppdu, Stop>
     requires { at + length octets.now < 2 ^ 64 }
     ensures exact { Answers (taken_whole at octets.now) result
-        ((ppdu wanted).reading at octets.now) }
+        ((ppdu expected).reading at octets.now) }
     ensures body { IfOk result (λ p. IsSpanWithin at (at + length octets.now) (body_of p)) }
 {
     if has_tag(octets, USER_DATA) {
-        let (user, next) = take_user_data(octets, at, wanted)?;
+        let (user, next) = take_user_data(octets, at, carry_id(expected))?;
         take_end(octets_from(octets, at, next), next)?;
         return Ok(Ppdu::Carry {
             id: user.id,
@@ -115,17 +114,17 @@ fn whole_ppdu(alloc: Global, octets: &[u8], at: usize, wanted: Option<u32>) -> R
         });
     }
     let part = take_part(octets, at, SET_UP)?;
-    let ppdu = set_up_from(alloc, &part, wanted)?;
+    let ppdu = set_up_from(alloc, &part, expected)?;
     take_end(part.rest, part.head.next)?;
     Ok(ppdu)
 }
 
 /// The mode and the parameters that the contents of an element are.
 #[tactic(auto, unfolding(crate::specs::Ppdus::set_up_contents, ber_values::specs::Parts::all_in, ber_values::specs::Grammars::branch_in, ber_values::specs::Grammars::then_in, ber_values::specs::Grammars::map_in))]
-fn set_up_from(alloc: Global, part: &Part<'_>, wanted: Option<u32>) -> Result<Ppdu, Stop>
+fn set_up_from(alloc: Global, part: &Part<'_>, expected: Expected) -> Result<Ppdu, Stop>
     requires { part.now.head.body + length part.now.contents.now < 2 ^ 64 }
     ensures exact { Answers (λ p. p) result
-        ((set_up_contents wanted).reading part.now.head part.now.contents.now) }
+        ((set_up_contents expected).reading part.now.head part.now.contents.now) }
     ensures body { IfOk result (λ p. IsSpanWithin part.now.head.body
         (part.now.head.body + length part.now.contents.now) (body_of p)) }
 {
@@ -133,11 +132,11 @@ fn set_up_from(alloc: Global, part: &Part<'_>, wanted: Option<u32>) -> Result<Pp
     if has_tag(part.contents, MODE) {
         let next = take_mode(part.contents, at)?;
         let rest = octets_from(part.contents, at, next);
-        let (ppdu, end) = take_parameters(alloc, rest, next, wanted)?;
+        let (ppdu, end) = take_parameters(alloc, rest, next, expected)?;
         take_end(octets_from(rest, next, end), end)?;
         return Ok(ppdu);
     }
-    let (ppdu, next) = take_parameters(alloc, part.contents, at, wanted)?;
+    let (ppdu, next) = take_parameters(alloc, part.contents, at, expected)?;
     let rest = octets_from(part.contents, at, next);
     let end = take_mode(rest, next)?;
     take_end(octets_from(rest, next, end), end)?;
@@ -165,33 +164,33 @@ fn take_parameters(
     alloc: Global,
     octets: &[u8],
     at: usize,
-    wanted: Option<u32>,
+    expected: Expected,
 ) -> Result<(Ppdu, usize), Stop>
     requires { at + length octets.now < 2 ^ 64 }
     ensures exact { Answers (taken_from at octets.now) result
-        ((parameters wanted).reading at octets.now) }
+        ((parameters expected).reading at octets.now) }
     ensures within { IfOk result (λ x. (at < x.1) × (x.1 ≤ at + length octets.now)) }
     ensures body { IfOk result (λ x. IsSpanWithin at x.1 (body_of x.0)) }
 {
     let part = take_part(octets, at, PARAMETERS)?;
-    let ppdu = parameters_from(alloc, &part, wanted)?;
+    let ppdu = parameters_from(alloc, &part, expected)?;
     Ok((ppdu, part.head.next))
 }
 
 /// The connect or accept that the contents of an element are.
 #[tactic(auto, unfolding(ber_values::specs::Parts::all_in, ber_values::specs::Grammars::branch_in))]
-fn parameters_from(alloc: Global, part: &Part<'_>, wanted: Option<u32>) -> Result<Ppdu, Stop>
+fn parameters_from(alloc: Global, part: &Part<'_>, expected: Expected) -> Result<Ppdu, Stop>
     requires { part.now.head.body + length part.now.contents.now < 2 ^ 64 }
     ensures exact { Answers (λ p. p) result
-        ((all_in (branch_in has_results (accept wanted) connect)).reading
+        ((all_in (branch_in has_results (accept expected) (connect expected))).reading
         part.now.head part.now.contents.now) }
     ensures body { IfOk result (λ p. IsSpanWithin part.now.head.body
         (part.now.head.body + length part.now.contents.now) (body_of p)) }
 {
     if has_results(part.contents) {
-        accept_from(alloc, part, wanted)
+        accept_from(alloc, part, expected)
     } else {
-        connect_from(alloc, part)
+        connect_from(alloc, part, expected)
     }
 }
 

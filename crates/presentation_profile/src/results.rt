@@ -1,22 +1,25 @@
 //! What became of the contexts that were offered (ISO 8823-1,
 //! Presentation-context-definition-result-list).
 ghost use Rattle.std.specs.Prelude.{◌≡◌, ◌+◌, ◌<◌, ◌≤◌, ◌^◌, ◌++◌, length, flat_map, IfOk};
-ghost use Rattle.std.specs.Prelude.{◌≢◌, ◌-◌, ◌%◌, drop, option_copied, OnOk, OnErr};
+ghost use Rattle.std.specs.Prelude.{◌≢◌, ◌-◌, ◌%◌, false, drop, option_copied, OnOk, OnErr};
 ghost use Rattle.ber_values.specs.Grammars.{taken};
 ghost use Rattle.ber_values.specs.Parts.{maybe_in};
 ghost use Rattle.ber_values.specs.Leaves.{oid};
 ghost use Rattle.plain_text.specs.Extends.{Extends};
 ghost use Rattle.ber_values.specs.Faults.{Gives};
 ghost use Rattle.ber_values.specs.Stops.{Answers};
-ghost use Rattle.ber_values.specs.Lists.{list_in};
 ghost use Rattle.ber_values.specs.Readers.{taken_from};
+ghost use Rattle.ber_values.specs.Lists.{more_in};
+ghost use Rattle.ber_values.specs.Parts.{contents_where};
+ghost use Rattle.ber_values.specs.Leaves.{octet};
 ghost use Rattle.presentation_profile.specs.Results.{result_contents, one_result, results};
+ghost use Rattle.presentation_profile.specs.Results.{may_be, any_results, accepting_results};
 ghost use Rattle.presentation_profile.specs.Written.{accepted_octets, refused_octets};
 ghost use Rattle.presentation_profile.specs.Written.{result_octets, results_octets};
 
 use crate::offers::{BER, MOST_OFFERS};
 use ber_values::{
-    BerFault, Part, Stop, has_tag, octets_from, part_len, skip_parts, take_end, take_part,
+    BerFault, Part, Stop, Why, has_tag, octets_from, part_len, skip_parts, take_end, take_part,
     write_head,
 };
 use item_list::ItemList;
@@ -35,33 +38,65 @@ const RESULT: u8 = 0x80;
 const NAME: u8 = 0x81;
 
 /// The results at the front of octets, of which the first has the place `at`, and the place after
-/// them.
-#[tactic(auto, unfolding(crate::specs::Results::results, ber_values::specs::Parts::part_in))]
+/// them. The first two have to accept where they are judged.
+#[tactic(auto, unfolding(crate::specs::Results::results, ber_values::specs::Parts::part_in, ber_values::specs::Grammars::branch_in))]
 pub(crate) fn take_results(
     alloc: Global,
     octets: &[u8],
     at: usize,
+    judged: bool,
 ) -> Result<(Results, usize), Stop>
     requires { at + length octets.now < 2 ^ 64 }
-    ensures exact { Answers (taken_from at octets.now) result (results.reading at octets.now) }
+    ensures exact { Answers (taken_from at octets.now) result
+        ((results judged).reading at octets.now) }
     ensures within { IfOk result (λ x. (at < x.1) × (x.1 ≤ at + length octets.now)) }
 {
     let part = take_part(octets, at, RESULTS)?;
-    let results = results_in(alloc, &part)?;
+    let results = if judged {
+        accepting_in(alloc, &part)?
+    } else {
+        results_in(alloc, &part)?
+    };
     Ok((results, part.head.next))
 }
 
 /// The results that the contents of an element are.
+#[tactic(auto, unfolding(ber_values::specs::Lists::list_in))]
 fn results_in(alloc: Global, part: &Part<'_>) -> Result<Results, Stop>
     requires { part.now.head.body + length part.now.contents.now < 2 ^ 64 }
     ensures { Answers (λ rs. rs) result
-        ((list_in 0 one_result).reading part.now.head part.now.contents.now) }
+        (any_results.reading part.now.head part.now.contents.now) }
 {
+    more_results(Results::new(alloc), part.contents, part.head.body)
+}
+
+/// The results that the contents of an element are, of which the first two accept.
+fn accepting_in(alloc: Global, part: &Part<'_>) -> Result<Results, Stop>
+    requires { part.now.head.body + length part.now.contents.now < 2 ^ 64 }
+    ensures { Answers (λ rs. rs) result
+        (accepting_results.reading part.now.head part.now.contents.now) }
+{
+    let (one, at) = take_result(part.contents, part.head.body, true)?;
+    let rest = octets_from(part.contents, part.head.body, at);
+    let (two, next) = take_result(rest, at, true)?;
+    let rest = octets_from(rest, at, next);
     let mut results = Results::new(alloc);
-    let mut at = part.head.body;
-    let mut rest = part.contents;
+    results.push(one)?;
+    results.push(two)?;
+    more_results(results, rest, next)
+}
+
+/// These results, and those that octets are.
+fn more_results(results: Results, octets: &[u8], at: usize) -> Result<Results, Stop>
+    requires { at + length octets.now < 2 ^ 64 }
+    ensures { Answers (λ rs. rs) result
+        (more_in (one_result false) 0 (length octets.now) results at octets.now) }
+{
+    let mut results = results;
+    let mut at = at;
+    let mut rest = octets;
     while !rest.is_empty() {
-        let (one, next) = take_result(rest, at)?;
+        let (one, next) = take_result(rest, at, false)?;
         results.push(one)?;
         rest = octets_from(rest, at, next);
         at = next;
@@ -69,30 +104,49 @@ fn results_in(alloc: Global, part: &Part<'_>) -> Result<Results, Stop>
     Ok(results)
 }
 
-/// The result at the front of octets, and the place after it.
+/// The result at the front of octets, which has to accept where it is judged, and the place after
+/// it.
 #[tactic(auto, unfolding(crate::specs::Results::one_result, ber_values::specs::Parts::part_in))]
-fn take_result(octets: &[u8], at: usize) -> Result<(u8, usize), BerFault>
+fn take_result(octets: &[u8], at: usize, judged: bool) -> Result<(u8, usize), BerFault>
     requires { at + length octets.now < 2 ^ 64 }
-    ensures exact { Gives (taken_from at octets.now) result (one_result.reading at octets.now) }
+    ensures exact { Gives (taken_from at octets.now) result
+        ((one_result judged).reading at octets.now) }
     ensures within { IfOk result (λ x. (at < x.1) × (x.1 ≤ at + length octets.now)) }
 {
     let part = take_part(octets, at, 0x30)?;
-    let result = result_from(&part)?;
+    let result = result_from(&part, judged)?;
     Ok((result, part.head.next))
 }
 
 /// The result in this element.
 #[tactic(auto, unfolding(crate::specs::Results::result_contents, ber_values::specs::Parts::part_in, ber_values::specs::Parts::all_in, ber_values::specs::Grammars::then_in, ber_values::specs::Grammars::map_in))]
-fn result_from(part: &Part<'_>) -> Result<u8, BerFault>
+fn result_from(part: &Part<'_>, judged: bool) -> Result<u8, BerFault>
     requires { part.now.head.body + length part.now.contents.now < 2 ^ 64 }
-    ensures { result ≡ result_contents.reading part.now.head part.now.contents.now }
+    ensures { result ≡ (result_contents judged).reading part.now.head part.now.contents.now }
 {
     let value_part = take_part(part.contents, part.head.body, RESULT)?;
-    let value = value_part.octet()?;
+    let value = judged_octet(&value_part, judged)?;
     let (_name, next) = maybe_name(value_part.rest, value_part.head.next, NAME)?;
     let rest = octets_from(value_part.rest, value_part.head.next, next);
     let end = skip_parts(rest, next, 0, 0xFF, &[RESULT, NAME])?;
     take_end(octets_from(rest, next, end), end)?;
+    Ok(value)
+}
+
+/// The octet that alone stands in this element: 0, where it is judged.
+#[tactic(auto, unfolding(ber_values::specs::Parts::contents_where))]
+fn judged_octet(part: &Part<'_>, judged: bool) -> Result<u8, BerFault>
+    requires { part.now.head.body + length part.now.contents.now < 2 ^ 64 }
+    ensures { result
+        ≡ (contents_where (may_be judged) octet).reading part.now.head part.now.contents.now }
+{
+    let value = part.octet()?;
+    if judged && value != 0 {
+        return Err(BerFault {
+            place: part.head.body,
+            why: Why::Value,
+        });
+    }
     Ok(value)
 }
 

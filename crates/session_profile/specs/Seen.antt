@@ -1,5 +1,9 @@
 -- What the code holds, without where it lies in memory.
-use Rattle.std.specs.Prelude.{◌≡◌, ℕ, ◌+◌, ◌≤◌, List, length, option_copied}
+use Rattle.std.specs.Prelude.{◌≡◌, ℕ, ◌+◌, ◌≤◌, List, length, Option, Some, None, option_copied}
+use Rattle.ber_values.specs.declared.fault.Span.{Span}
+use Rattle.ber_values.specs.Externals.{IsSpanWithin}
+use Rattle.session_profile.specs.declared.spdu.Spdu.{Spdu}
+use Rattle.session_profile.specs.declared.spdu.Spdu.TheVariants as spdus
 use Rattle.ber_values.specs.declared.fault.BerFault.{BerFault}
 use Rattle.session_profile.specs.declared.fault.SessionFault.{SessionFault}
 use Rattle.ber_values.specs.Faults.{fault_at}
@@ -47,3 +51,15 @@ fault_of f = fault_at f.place f.why
 -- and back
 abbrev pub session_fault_of : BerFault → SessionFault
 session_fault_of f = record { place = f.place; why = f.why }
+
+-- octets, if there are any, stand between two places
+abbrev pub IsSomeWithin : ℕ → ℕ → Option Span → Type 0
+IsSomeWithin at end None = Unit {0}
+IsSomeWithin at end (Some span) = IsSpanWithin at end span
+
+-- the body of an SPDU, if it has one, stands in a TSDU of so many octets
+abbrev pub IsBodyWithin : ℕ → Spdu → Type 0
+IsBodyWithin end (spdus.Connect called body) = IsSpanWithin 0 end body
+IsBodyWithin end (spdus.Accept called body) = IsSpanWithin 0 end body
+IsBodyWithin end (spdus.Carry body) = IsSpanWithin 0 end body
+IsBodyWithin end _ = Unit {0}

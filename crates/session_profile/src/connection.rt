@@ -1,5 +1,5 @@
 //! The parameters of connect and accept (ISO 8327-1, CONNECT SPDU and ACCEPT SPDU).
-ghost use Rattle.std.specs.Prelude.{◌≡◌, ◌+◌, ◌-◌, ◌^◌, ◌<◌, ◌≤◌, ◌++◌, length, take, slice_index};
+ghost use Rattle.std.specs.Prelude.{◌≡◌, ℕ, ◌+◌, ◌-◌, ◌^◌, ◌<◌, ◌≤◌, ◌++◌, length, take, slice_index};
 ghost use Rattle.std.specs.Prelude.{IfOk, IfSome, OnOk, OnErr};
 ghost use Rattle.ber_values.specs.Faults.{Gives};
 ghost use Rattle.session_profile.specs.Parameters.{judged_by};
@@ -11,7 +11,8 @@ ghost use Rattle.session_profile.specs.Writing.{calling, called_octets, called_a
 ghost use Rattle.session_profile.specs.Writing.{front_octets, connect_octets, accept_octets};
 ghost use Rattle.session_profile.specs.Writing.{HasSelector};
 ghost use Rattle.session_profile.specs.Seen.{parameter_of, taken_of, seen_of, connection_seen};
-ghost use Rattle.session_profile.specs.Seen.{IsWithin};
+ghost use Rattle.ber_values.specs.Externals.{IsSpanWithin};
+ghost use Rattle.session_profile.specs.Seen.{IsWithin, IsSomeWithin};
 
 use crate::length::fault;
 use crate::parameter::{Parameter, element_len, put_element, put_head, read_parameter};
@@ -143,6 +144,10 @@ fn with_one<'a>(seen: Seen<'a>, parameter: &Parameter<'a>) -> Seen<'a>
     requires called { parameter.now.identifier ≡ 52 → length parameter.now.contents.now ≤ 32 }
     ensures exact { seen_of result ≡ with_one (seen_of seen.entry) (parameter_of parameter.now) }
     ensures called { IfSome result.called (λ octets. length octets.now ≤ 32) }
+    ensures within { (start end : ℕ) → start ≤ parameter.now.body
+        → parameter.now.body + length parameter.now.contents.now ≤ end
+        → IsSomeWithin start end seen.entry.user_data
+        → IsSomeWithin start end result.user_data }
 {
     match parameter.identifier {
         ITEM => Seen { item: true, ..seen },
@@ -207,6 +212,8 @@ fn finish<'a>(seen: Seen<'a>, at: usize) -> Result<Connection<'a>, BerFault>
     ensures exact { Gives connection_seen result
         (whole_or_short (connection.value (seen_of seen.entry)) at) }
     ensures called { IfOk result (λ c. IfSome c.called (λ octets. length octets.now ≤ 32)) }
+    ensures within { (start end : ℕ) → IsSomeWithin start end seen.entry.user_data
+        → IfOk result (λ c. IsSpanWithin start end c.body) }
 {
     match seen.user_data {
         Some(body) if seen.item => Ok(Connection {
@@ -222,6 +229,7 @@ pub(crate) fn read_connection(octets: &[u8], at: usize) -> Result<Connection<'_>
     requires { at + length octets.now < 2 ^ 64 }
     ensures exact { Gives connection_seen result (all_in connection at octets.now) }
     ensures called { IfOk result (λ c. IfSome c.called (λ octets. length octets.now ≤ 32)) }
+    ensures within { IfOk result (λ c. IsSpanWithin at (at + length octets.now) c.body) }
 {
     let mut seen = NOTHING;
     let mut place = at;

@@ -1,6 +1,6 @@
 //! SPDUs (ISO 8327-1, 8.3).
 ghost use Rattle.std.specs.Prelude.{◌≡◌, ◌≢◌, ◌+◌, ◌^◌, ◌<◌, ◌≤◌, ◌↔◌, ◌-◌, ◌++◌, ◌∷◌, [], Ok, Err};
-ghost use Rattle.std.specs.Prelude.{length, take, option_copied, IfOk, OnOk, OnErr, IfSome};
+ghost use Rattle.std.specs.Prelude.{ℕ, length, take, option_copied, IfOk, OnOk, OnErr, IfSome};
 ghost use Rattle.ber_values.specs.Faults.{fault_at, Gives};
 ghost use Rattle.ber_values.specs.Leaves.{span_at};
 ghost use Rattle.ber_values.specs.Stops.{Answers};
@@ -8,6 +8,7 @@ ghost use Rattle.session_profile.specs.declared.fault.SessionFault.{SessionFault
 ghost use Rattle.session_profile.specs.declared.spdu.Spdu.{Spdu};
 ghost use Rattle.session_profile.specs.Connections.{called_of};
 ghost use Rattle.session_profile.specs.Seen.{parameter_of, fault_of, session_fault_of};
+ghost use Rattle.session_profile.specs.Seen.{IsBodyWithin};
 ghost use Rattle.session_profile.specs.Writing.{released, refuse_octets, release_octets};
 ghost use Rattle.session_profile.specs.Writing.{abort_octets, carry_octets, written_form};
 ghost use Rattle.session_profile.specs.Writing.{as_written, IsWritable};
@@ -84,7 +85,8 @@ fn read_octet(octets: &[u8], at: usize, want: u8) -> Result<&[u8], BerFault>
 /// The SPDU after the first octet of a data transfer.
 fn read_carry(octets: &[u8]) -> Result<Spdu, BerFault>
     requires { 4 + length octets.now < 2 ^ 64 }
-    ensures { result ≡ front_in 1 (0 ∷ 1 ∷ 0 ∷ []) octets.now carried }
+    ensures exact { result ≡ front_in 1 (0 ∷ 1 ∷ 0 ∷ []) octets.now carried }
+    ensures body { IfOk result (λ spdu. IsBodyWithin (1 + length octets.now) spdu) }
 {
     let rest = read_octet(octets, 1, CARRY[1])?;
     let rest = read_octet(rest, 2, CARRY[2])?;
@@ -112,7 +114,8 @@ fn selector_from(alloc: Global, octets: Option<&[u8]>) -> Result<Option<Selector
 
 /// The SPDU of a code whose contents aren't looked at.
 fn read_plain(code: u8) -> Result<Spdu, BerFault>
-    ensures { result ≡ plain_in code }
+    ensures exact { result ≡ plain_in code }
+    ensures body { (end : ℕ) → IfOk result (λ spdu. IsBodyWithin end spdu) }
 {
     match code {
         REFUSE => Ok(Spdu::Refuse),
@@ -137,7 +140,9 @@ fn is_code(code: u8) -> bool
 #[tactic(auto, unfolding(crate::specs::Spdus::coded_in))]
 fn read_coded(alloc: Global, whole: &Parameter<'_>) -> Result<Spdu, Stop>
     requires { whole.now.body + length whole.now.contents.now < 2 ^ 64 }
-    ensures { Answers (λ spdu. spdu) result (coded_in (parameter_of whole.now)) }
+    ensures exact { Answers (λ spdu. spdu) result (coded_in (parameter_of whole.now)) }
+    ensures body { IfOk result (λ spdu.
+        IsBodyWithin (whole.now.body + length whole.now.contents.now) spdu) }
 {
     match whole.identifier {
         CONNECT => {
@@ -162,7 +167,8 @@ fn read_coded(alloc: Global, whole: &Parameter<'_>) -> Result<Spdu, Stop>
 #[tactic(auto, unfolding(crate::specs::Spdus::whole_in))]
 fn read_whole(alloc: Global, tsdu: &[u8]) -> Result<Spdu, Stop>
     requires { length tsdu.now < 2 ^ 63 }
-    ensures { Answers (λ spdu. spdu) result (whole_in tsdu.now) }
+    ensures exact { Answers (λ spdu. spdu) result (whole_in tsdu.now) }
+    ensures body { IfOk result (λ spdu. IsBodyWithin (length tsdu.now) spdu) }
 {
     let whole = read_parameter(tsdu, 0)?;
     let spdu = read_coded(alloc, &whole)?;
@@ -172,7 +178,8 @@ fn read_whole(alloc: Global, tsdu: &[u8]) -> Result<Spdu, Stop>
 
 #[tactic(auto, unfolding(crate::specs::Spdus::spdu_in))]
 fn read_any(alloc: Global, tsdu: &[u8]) -> Result<Spdu, Stop>
-    ensures { Answers (λ spdu. spdu) result (spdu_in tsdu.now) }
+    ensures exact { Answers (λ spdu. spdu) result (spdu_in tsdu.now) }
+    ensures body { IfOk result (λ spdu. IsBodyWithin (length tsdu.now) spdu) }
 {
     match tsdu {
         [] => Err(Stop::Fault(fault(0, Why::Short))),
@@ -183,7 +190,8 @@ fn read_any(alloc: Global, tsdu: &[u8]) -> Result<Spdu, Stop>
 }
 
 fn read_exactly(alloc: Global, tsdu: &[u8]) -> Result<Result<Spdu, BerFault>, AllocError>
-    ensures { IfOk result (λ read. read ≡ spdu_in tsdu.now) }
+    ensures exact { IfOk result (λ read. read ≡ spdu_in tsdu.now) }
+    ensures body { IfOk result (λ read. IfOk read (λ spdu. IsBodyWithin (length tsdu.now) spdu)) }
 {
     settle(read_any(alloc, tsdu))
 }
@@ -207,6 +215,8 @@ pub fn read_spdu(alloc: Global, tsdu: &[u8]) -> Result<Result<Spdu, SessionFault
     // A fault is the first one from the left.
     ensures fault { (fault : SessionFault) → IfOk result (λ read.
         (read ≡ Err fault) ↔ SpduFault tsdu.now (fault_of fault)) }
+    // A body stands in the TSDU.
+    ensures body { IfOk result (λ read. IfOk read (λ spdu. IsBodyWithin (length tsdu.now) spdu)) }
 {
     match read_exactly(alloc, tsdu)? {
         Ok(spdu) => Ok(Ok(spdu)),

@@ -2,8 +2,8 @@
 //! centres, written by hand after ISO 8823-1; whatever else stands here is worked out by hand.
 use ber_values::{BerFault, Oid, Span, Why};
 use presentation_profile::{
-    Agreed, ContextFault, MOST_BODY, Offered, Offers, Ppdu, Results, agree, are_offers, offers_len,
-    read_ppdu, write_offers, write_ppdu,
+    Agreed, ContextFault, Expected, MOST_BODY, Offered, Offers, Ppdu, Results, agree, are_offers,
+    offers_len, read_ppdu, write_offers, write_ppdu,
 };
 use std::alloc::{AllocError, Global};
 use std::process::Abort;
@@ -77,7 +77,7 @@ fn read_changed(rt: &impl Abort, alloc: Global, octets: &[u8], roles: &[u8]) -> 
         let role = roles.get(place).copied().unwrap_or(b'.');
         for to in [0xFF, 0] {
             let other = with_octet(alloc, octets, place, to)?;
-            let read = read_ppdu(alloc, &other, 0, other.len(), None)?;
+            let read = read_ppdu(alloc, &other, 0, other.len(), Expected::Connect)?;
             assert_eq!(rt; read.err(), changed(role, to, place), "{to} at {place}");
         }
     }
@@ -105,29 +105,37 @@ fn with_octet(
     Ok(other)
 }
 
-/// User data are of the context that is wanted; in a connect of the one that its offers agree on as
-/// ACSE's, whatever is wanted, or of any where they don't agree.
+/// Where a PPDU is of the kind that is expected, its user data are of the context that is known; in a
+/// connect of the one that its offers agree on as ACSE's, or of any where they don't agree. Of a PPDU
+/// of another kind the id isn't judged.
 #[test]
-fn wanted_contexts(rt: HostRuntime) -> Result<(), Fail> {
+fn expected_contexts(rt: HostRuntime) -> Result<(), Fail> {
     // MMS's id in place of ACSE's; and with another last octet of MMS's name, so that none is MMS
     let of_mms = with_octet(rt.alloc(), &CONNECT, 66, 3)?;
     let refused = with_octet(rt.alloc(), &of_mms, 53, 9)?;
     let cut_off = [0x61, 5, 0x30, 3, 2, 1, 3];
-    let rows: [(&[u8], Option<u32>, Option<usize>); 10] = [
-        (&CONNECT, Some(3), None),
-        (&of_mms, Some(3), Some(66)),
-        (&refused, Some(1), None),
-        (&ACCEPT, Some(1), None),
-        (&ACCEPT, Some(3), Some(41)),
-        (&DATA, Some(3), None),
-        (&DATA, Some(1), Some(6)),
-        (&DATA, Some(0), Some(6)),
-        (&DATA, None, None),
+    let acse = Expected::Accept { acse: Some(1) };
+    let rows: [(&[u8], Expected, Option<usize>); 16] = [
+        (&CONNECT, Expected::Connect, None),
+        (&of_mms, Expected::Connect, Some(66)),
+        (&refused, Expected::Connect, None),
+        (&of_mms, acse, None),
+        (&of_mms, Expected::Carry { id: 1 }, None),
+        (&ACCEPT, acse, None),
+        (&ACCEPT, Expected::Accept { acse: Some(3) }, Some(41)),
+        (&ACCEPT, Expected::Accept { acse: None }, None),
+        (&ACCEPT, Expected::Connect, None),
+        (&ACCEPT, Expected::Carry { id: 3 }, None),
+        (&DATA, Expected::Carry { id: 3 }, None),
+        (&DATA, Expected::Carry { id: 1 }, Some(6)),
+        (&DATA, Expected::Carry { id: 0 }, Some(6)),
+        (&DATA, acse, None),
+        (&DATA, Expected::Connect, None),
         // a wrong id is judged before the value that is missing behind it
-        (&cut_off, Some(1), Some(6)),
+        (&cut_off, Expected::Carry { id: 1 }, Some(6)),
     ];
-    for (octets, wanted, place) in rows {
-        let read = read_ppdu(rt.alloc(), octets, 0, octets.len(), wanted)?;
+    for (octets, expected, place) in rows {
+        let read = read_ppdu(rt.alloc(), octets, 0, octets.len(), expected)?;
         let fault = place.map(|place| BerFault {
             place,
             why: Why::Value,
@@ -145,7 +153,7 @@ fn read_cut_off(rt: &impl Abort, alloc: Global, octets: &[u8], head: usize) -> R
         } else {
             (1, Why::Length)
         };
-        let read = read_ppdu(alloc, octets, 0, kept, None)?;
+        let read = read_ppdu(alloc, octets, 0, kept, Expected::Connect)?;
         assert_eq!(rt; read.err(), Some(BerFault { place, why }), "{kept}");
     }
     Ok(())
@@ -185,7 +193,7 @@ fn a_connect(rt: HostRuntime) -> Result<(), Fail> {
     let mut around = [9].to_vec(rt.alloc())?;
     around.extend_from_slice(&CONNECT)?;
     around.push(9)?;
-    let read = read_ppdu(rt.alloc(), &around, 1, 147, None)?;
+    let read = read_ppdu(rt.alloc(), &around, 1, 147, Expected::Connect)?;
     let Some(
         Ppdu::Connect {
             called,
@@ -212,7 +220,7 @@ fn a_connect(rt: HostRuntime) -> Result<(), Fail> {
 
 #[test]
 fn an_accept(rt: HostRuntime) -> Result<(), Fail> {
-    let read = read_ppdu(rt.alloc(), &ACCEPT, 0, ACCEPT.len(), None)?;
+    let read = read_ppdu(rt.alloc(), &ACCEPT, 0, ACCEPT.len(), Expected::Connect)?;
     let Some(
         Ppdu::Accept {
             called,
@@ -280,7 +288,7 @@ fn data(rt: HostRuntime) -> Result<(), Fail> {
         ),
     ];
     for (octets, id, body) in rows {
-        let read = read_ppdu(rt.alloc(), octets, 0, octets.len(), None)?;
+        let read = read_ppdu(rt.alloc(), octets, 0, octets.len(), Expected::Connect)?;
         let Some(
             Ppdu::Carry {
                 id: found,
@@ -364,7 +372,7 @@ fn the_longest_body(rt: HostRuntime) -> Result<(), Fail> {
     write_ppdu(&mut out, &carry, &body)?;
     // three heads, each with a length of three octets, and the id
     assert_eq!(rt; out.len(), 65_415);
-    let read = read_ppdu(rt.alloc(), &out, 0, out.len(), None)?;
+    let read = read_ppdu(rt.alloc(), &out, 0, out.len(), Expected::Connect)?;
     let Some(Ppdu::Carry { id, body }) = read.ok() else {
         assert!(rt; false, "no data");
         return Ok(());

@@ -1,7 +1,7 @@
 //! Octets that are no PPDU, each with the place where it breaks first and why, worked out by hand
 //! after ISO 8823-1 and ISO 8825-1.
 use ber_values::{BerFault, Why};
-use presentation_profile::{Ppdu, read_ppdu};
+use presentation_profile::{Expected, Ppdu, read_ppdu};
 use std::alloc::{AllocError, Global};
 use std::process::Abort;
 use std::test::*;
@@ -77,7 +77,7 @@ fn connects(rt: HostRuntime) -> Result<(), Fail> {
     ];
     for (parts, place, why) in rows {
         let octets = set_up(rt.alloc(), parts)?;
-        let read = read_ppdu(rt.alloc(), &octets, 0, octets.len(), None)?;
+        let read = read_ppdu(rt.alloc(), &octets, 0, octets.len(), Expected::Connect)?;
         assert_eq!(rt; read.err(), Some(BerFault { place, why }));
     }
     Ok(())
@@ -194,7 +194,7 @@ fn offers_and_user_data(rt: HostRuntime) -> Result<(), Fail> {
     ];
     for (parts, place, why) in rows {
         let octets = set_up(rt.alloc(), parts)?;
-        let read = read_ppdu(rt.alloc(), &octets, 0, octets.len(), None)?;
+        let read = read_ppdu(rt.alloc(), &octets, 0, octets.len(), Expected::Connect)?;
         assert_eq!(rt; read.err(), Some(BerFault { place, why }));
     }
     Ok(())
@@ -251,8 +251,68 @@ fn accepts(rt: HostRuntime) -> Result<(), Fail> {
     ];
     for (parts, place, why) in rows {
         let octets = set_up(rt.alloc(), parts)?;
-        let read = read_ppdu(rt.alloc(), &octets, 0, octets.len(), None)?;
+        let read = read_ppdu(rt.alloc(), &octets, 0, octets.len(), Expected::Connect)?;
         assert_eq!(rt; read.err(), Some(BerFault { place, why }));
+    }
+    Ok(())
+}
+
+/// The two contexts on offer are accepted: results that say so.
+const RESULTS: &[u8] = &[0xA5, 10, 0x30, 3, 0x80, 1, 0, 0x30, 3, 0x80, 1, 0];
+
+/// The first two results of an accept have to be 0 where the contexts on offer are known, each in
+/// its place; further ones may be any.
+#[test]
+fn judged_results(rt: HostRuntime) -> Result<(), Fail> {
+    let known = Expected::Accept { acse: Some(1) };
+    let other = Expected::Accept { acse: Some(3) };
+    let second = &[0xA5, 10, 0x30, 3, 0x80, 1, 0, 0x30, 3, 0x80, 1, 1];
+    let one = &[0xA5, 5, 0x30, 3, 0x80, 1, 1];
+    let rows: [(&[u8], Expected, Option<(usize, Why)>); 16] = [
+        (RESULTS, known, None),
+        (second, known, Some((20, Why::Value))),
+        (one, known, Some((15, Why::Value))),
+        (RESULT, known, Some((16, Why::Short))),
+        (&[0xA5, 0], known, Some((11, Why::Short))),
+        // a third one, and a faulty third one
+        (
+            &[
+                0xA5, 15, 0x30, 3, 0x80, 1, 0, 0x30, 3, 0x80, 1, 0, 0x30, 3, 0x80, 1, 1,
+            ],
+            known,
+            None,
+        ),
+        (
+            &[0xA5, 12, 0x30, 3, 0x80, 1, 0, 0x30, 3, 0x80, 1, 0, 0x30, 0],
+            known,
+            Some((23, Why::Short)),
+        ),
+        // a length before the value, and the value before the name
+        (
+            &[0xA5, 9, 0x30, 3, 0x80, 1, 0, 0x30, 2, 0x80, 0],
+            known,
+            Some((19, Why::Length)),
+        ),
+        (
+            &[0xA5, 7, 0x30, 5, 0x80, 1, 1, 0x81, 0],
+            known,
+            Some((15, Why::Value)),
+        ),
+        // the results before the id
+        (second, other, Some((20, Why::Value))),
+        (RESULTS, other, Some((27, Why::Value))),
+        // what isn't known or expected isn't judged
+        (second, Expected::Accept { acse: None }, None),
+        (&[0xA5, 0], Expected::Accept { acse: None }, None),
+        (one, Expected::Connect, None),
+        (second, Expected::Carry { id: 3 }, None),
+        (&[0xA5, 0], Expected::Carry { id: 1 }, None),
+    ];
+    for (results, expected, fault) in rows {
+        let octets = set_up(rt.alloc(), &[results, USER])?;
+        let read = read_ppdu(rt.alloc(), &octets, 0, octets.len(), expected)?;
+        let fault = fault.map(|(place, why)| BerFault { place, why });
+        assert_eq!(rt; read.err(), fault);
     }
     Ok(())
 }
@@ -309,7 +369,7 @@ fn wholes(rt: HostRuntime) -> Result<(), Fail> {
     ];
     for (parts, place, why) in rows {
         let octets = joined(rt.alloc(), parts)?;
-        let read = read_ppdu(rt.alloc(), &octets, 0, octets.len(), None)?;
+        let read = read_ppdu(rt.alloc(), &octets, 0, octets.len(), Expected::Connect)?;
         assert_eq!(rt; read.err(), Some(BerFault { place, why }));
     }
     Ok(())
@@ -335,10 +395,10 @@ fn long_selectors(rt: HostRuntime) -> Result<(), Fail> {
     });
     for (tag, list) in [(0x81, OFFER), (0x82, OFFER), (0x83, RESULT)] {
         let octets = with_selector(rt.alloc(), tag, 33, list)?;
-        let read = read_ppdu(rt.alloc(), &octets, 0, octets.len(), None)?;
+        let read = read_ppdu(rt.alloc(), &octets, 0, octets.len(), Expected::Connect)?;
         assert_eq!(rt; read.err(), too_long);
         let octets = with_selector(rt.alloc(), tag, 32, list)?;
-        let read = read_ppdu(rt.alloc(), &octets, 0, octets.len(), None)?;
+        let read = read_ppdu(rt.alloc(), &octets, 0, octets.len(), Expected::Connect)?;
         assert_eq!(rt; read.err(), None);
     }
     Ok(())
@@ -362,14 +422,14 @@ fn offers(alloc: Global, count: u8) -> Result<Vec<u8>, AllocError> {
 #[test]
 fn a_seventeenth_offer(rt: HostRuntime) -> Result<(), Fail> {
     let octets = offers(rt.alloc(), 16)?;
-    let read = read_ppdu(rt.alloc(), &octets, 0, octets.len(), None)?;
+    let read = read_ppdu(rt.alloc(), &octets, 0, octets.len(), Expected::Connect)?;
     let Some(Ppdu::Connect { contexts, .. }) = read.ok() else {
         assert!(rt; false, "no connect");
         return Ok(());
     };
     assert_eq!(rt; contexts.len(), 16);
     let octets = offers(rt.alloc(), 17)?;
-    let read = read_ppdu(rt.alloc(), &octets, 0, octets.len(), None)?;
+    let read = read_ppdu(rt.alloc(), &octets, 0, octets.len(), Expected::Connect)?;
     let want = BerFault {
         place: 174,
         why: Why::Tag,
@@ -386,7 +446,7 @@ fn kind_of(
     parts: &[&[u8]],
 ) -> Result<(u8, Option<u8>, usize, usize), Fail> {
     let octets = set_up(alloc, parts)?;
-    match read_ppdu(alloc, &octets, 0, octets.len(), None)?
+    match read_ppdu(alloc, &octets, 0, octets.len(), Expected::Connect)?
         .ok()
         .ok_or("a PPDU")?
     {
@@ -495,7 +555,7 @@ fn mode_at_the_end(rt: HostRuntime) -> Result<(), Fail> {
         rt.alloc(),
         &[&[0x31, 28, 0xA2, 21], OFFER, USER, &[0xA0, 3, 0x80, 1, 1]],
     )?;
-    let read = read_ppdu(rt.alloc(), &octets, 0, octets.len(), None)?;
+    let read = read_ppdu(rt.alloc(), &octets, 0, octets.len(), Expected::Connect)?;
     let Some(Ppdu::Connect { id, body, .. }) = read.ok() else {
         assert!(rt; false, "no connect");
         return Ok(());

@@ -6,5 +6,5 @@ use Rattle.presentation_profile.proofs.PpdusRead.{ppdu_reads}
 use Rattle.presentation_profile.proofs.laws.ppdus_have_one_reading.Goals as goal
 
 pub returns : goal.returns
-returns c wanted at octets = HasOneReading-from (Taken Ppdu) ((ppdu wanted).begins at octets)
-    ((ppdu wanted).fault at octets) ((ppdu wanted).reading at octets) (ppdu_reads wanted at octets)
+returns c e at octets = HasOneReading-from (Taken Ppdu) ((ppdu e).begins at octets)
+    ((ppdu e).fault at octets) ((ppdu e).reading at octets) (ppdu_reads e at octets)

@@ -8,8 +8,8 @@ use Rattle.presentation_profile.proofs.ppdu.ppdu_from.Goals as goal
 
 pub returns-clause-exact : goal.returns-clause-exact
 returns-clause-exact c =
-    rw c.settle.ensures (settled_by (ppdu c.args.wanted) (taken_whole c.args.at c.args.octets.now) c.args.at
-    c.args.octets.now c.whole_ppdu.result (ppdu_reads c.args.wanted) c.whole_ppdu.ensures.exact)
+    rw c.settle.ensures (settled_by (ppdu c.args.expected) (taken_whole c.args.at c.args.octets.now) c.args.at
+    c.args.octets.now c.whole_ppdu.result (ppdu_reads c.args.expected) c.whole_ppdu.ensures.exact)
 
 pub returns-clause-body : goal.returns-clause-body
 returns-clause-body c =

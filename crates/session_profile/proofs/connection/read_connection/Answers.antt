@@ -1,4 +1,4 @@
-use Rattle.std.proofs.Common.{◌∙◌, ◌<◌, Result, Err, ap, sym, subst, refl, length, arith}
+use Rattle.std.proofs.Common.{◌∙◌, ◌<◌, ◌+◌, Result, Err, ap, sym, subst, refl, length, arith}
 use Rattle.std.proofs.lemmas.Bool.{eqb-true, eqb-false}
 use Rattle.std.proofs.lemmas.Result.{err_from_is_err_and}
 use Rattle.ber_values.specs.declared.fault.BerFault.{BerFault}
@@ -11,7 +11,7 @@ use Rattle.session_profile.proofs.connection.read_connection.Goals as goal
 
 pub loop-rest-init : goal.loop-rest-init
 unfolding all_in connection
-loop-rest-init c = (refl, c.requires, tt)
+loop-rest-init c = (refl, c.requires, tt, (omega arith, refl), tt)
 
 pub returns-in_err-parameter-clause-exact : goal.returns-in_err-parameter-clause-exact
 returns-in_err-parameter-clause-exact c =
@@ -26,9 +26,12 @@ loop-rest-preserved c =
     let lt : 0 < length c.loop-rest.rest.now = omega (arith, eqb-false (length c.loop-rest.rest.now) 0 (sym c.loop-rest-test.ensures)) in
     let w = c.in_ok-parameter.ensures.within in
     let e = rest_step connection (seen_of c.loop-rest.seen) c.loop-rest.place c.loop-rest.rest.now (taken_of c.in_ok-parameter.parameter) lt c.in_ok-parameter.ensures.exact in
-    (c.loop-rest.invariant.0 ∙ e ∙ ap (λ (s : Seen). rest_in connection s c.in_ok-parameter.parameter.next c.in_ok-parameter.parameter.rest.now) (sym c.with_one-seen.ensures.exact), omega (arith, w.rest, c.loop-rest.invariant.1), c.with_one-seen.ensures.called)
+    (c.loop-rest.invariant.0 ∙ e ∙ ap (λ (s : Seen). rest_in connection s c.in_ok-parameter.parameter.next c.in_ok-parameter.parameter.rest.now) (sym c.with_one-seen.ensures.exact), omega (arith, w.rest, c.loop-rest.invariant.1), c.with_one-seen.ensures.called, (omega (arith, w.after_length, w.next, w.place, c.loop-rest.invariant.3.0), w.rest ∙ c.loop-rest.invariant.3.1), c.with_one-seen.ensures.within c.args.at (c.args.at + length c.args.octets.now) (omega (arith, w.after_length, c.loop-rest.invariant.3.0)) (omega (arith, w.next, w.rest, c.loop-rest.invariant.3.1)) c.loop-rest.invariant.4)
 
 pub returns-clause-exact : goal.returns-clause-exact
 returns-clause-exact c =
     let e = rest_end connection (seen_of c.loop-rest.seen) c.loop-rest.place c.loop-rest.rest.now (eqb-true (length c.loop-rest.rest.now) 0 (sym c.loop-rest-test.ensures)) in
     subst (λ (read : Result Connection BerFault). Gives connection_seen c.finish.result read) (sym (c.loop-rest.invariant.0 ∙ e)) c.finish.ensures.exact
+
+pub returns-clause-within : goal.returns-clause-within
+returns-clause-within c = c.finish.ensures.within c.args.at (c.args.at + length c.args.octets.now) c.loop-rest.invariant.4

@@ -1,0 +1,5 @@
+pub mod Meanings
+pub mod Turns
+pub mod Layers
+pub mod Setting
+pub mod Messages
