@@ -93,7 +93,7 @@ pub fn results_of(alloc: Global, contexts: &[Offered]) -> Result<Results, AllocE
 }
 
 /// The id of ACSE's context, where contexts are agreed on.
-pub(crate) fn acse_id(contexts: &[Offered]) -> Option<u32>
+pub fn acse_id(contexts: &[Offered]) -> Option<u32>
     ensures { result ≡ acse_of contexts.now }
 {
     match agree(contexts) {

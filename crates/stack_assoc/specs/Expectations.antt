@@ -1,16 +1,16 @@
 -- What may come behind the messages that a stream has told so far (ISO 8073, ISO 8327-1, ISO 9506-2).
-use Rattle.std.specs.Prelude.{ℕ, Bool, true, false, not, ◌&&◌, ◌||◌, List, Option, Some, None, is_some}
+use Rattle.std.specs.Prelude.{ℕ, Bool, true, false, not, ◌&&◌, List, [], Option, Some, None, is_some}
 use Rattle.std.specs.Prelude.{nat_le, length, if◌then◌else◌}
 use Rattle.std.specs.List.{list_any}
-use Rattle.std.specs.Option.{option_map_or}
-use Rattle.presentation_profile.specs.declared.offers.Offered.{Offered}
+use Rattle.stack_wire.specs.declared.setup.Setup.{Setup}
+use Rattle.stack_wire.specs.Setups.{cut_size}
 use Rattle.presentation_profile.specs.Agreements.{acse_of, mms_of, results_of}
 use Rattle.stack_messages.specs.declared.expecting.Expecting.{Expecting}
 use Rattle.stack_messages.specs.declared.expecting.Phase.{Phase}
 use Rattle.stack_messages.specs.declared.expecting.Phase.TheVariants as phases
 use Rattle.stack_messages.specs.declared.heard.Connecting.{Connecting}
 use Rattle.stack_assoc.specs.Told.{Told, Role, called, calling, side_of, first_in, connect_in}
-use Rattle.stack_assoc.specs.Told.{accept_in, confirm_in, is_refuse, is_conclude, is_concluded}
+use Rattle.stack_assoc.specs.Told.{accept_in, confirm_in, size_in, is_refuse, is_conclude, is_concluded}
 
 -- at the called end none stands until a connect has come, and it is concluded once a conclude has;
 -- at the calling end it ends at once where no connect confirm has come or a refuse has, none stands
@@ -26,23 +26,38 @@ phase_after (calling title said) told =
         else phases.Unassociated)
     else phases.Ending
 
--- the ids of the contexts of ACSE and MMS: at the called end those that the first connect's offers
--- agree on, else 1 and 3; at the calling end 1 and 3
+-- what the connect fixed of what is said after it, the first one where there were several: its
+-- selectors, a result for each of its offers, and the ids of the contexts of ACSE and MMS that its
+-- offers agree on, else 1 and 3
 abbrev pub id_or : ℕ → Option ℕ → ℕ
 id_or other None = other
 id_or other (Some id) = id
 
-abbrev pub offers_of : Option Connecting → (List Offered → Option ℕ) → Option ℕ
-offers_of None id = None
-offers_of (Some c) id = id c.contexts
+abbrev pub setup_by : ℕ → Option Connecting → Setup
+setup_by size None = record {
+  size = size;
+  session = None;
+  presentation = None;
+  results = [];
+  acse = 1;
+  mms = 3;
+}
+setup_by size (Some c) = record {
+  size = size;
+  session = c.session;
+  presentation = c.presentation;
+  results = results_of c.contexts;
+  acse = id_or 1 (acse_of c.contexts);
+  mms = id_or 3 (mms_of c.contexts);
+}
 
-abbrev pub acse_after : Role → List Told → ℕ
-acse_after called told = id_or 1 (offers_of (first_in connect_in told) acse_of)
-acse_after (calling title said) told = 1
+-- the size of TPDUs by the connect request or confirm, 1,024 where neither has come
+abbrev pub size_by : Option (Option ℕ) → ℕ
+size_by None = 1024
+size_by (Some size) = cut_size size
 
-abbrev pub mms_after : Role → List Told → ℕ
-mms_after called told = id_or 3 (offers_of (first_in connect_in told) mms_of)
-mms_after (calling title said) told = 3
+abbrev pub setup_after : List Told → Setup
+setup_after told = setup_by (size_by (first_in size_in told)) (first_in connect_in told)
 
 -- a conclude response is awaited where conclude was said before so many messages came, and none has
 -- come
@@ -60,7 +75,7 @@ abbrev pub expecting_after : Role → List Told → Expecting
 expecting_after role told = record {
   side = side_of role;
   phase = phase_after role told;
-  acse = acse_after role told;
-  mms = mms_after role told;
+  acse = (setup_after told).acse;
+  mms = (setup_after told).mms;
   awaited = awaited_after role told;
 }

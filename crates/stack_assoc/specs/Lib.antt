@@ -3,3 +3,6 @@ pub mod InTurn
 pub mod Told
 pub mod Expectations
 pub mod Tellings
+pub mod Handing
+pub mod Knowing
+pub mod Courses

@@ -1,5 +1,5 @@
 -- What the messages of a stream tell, and who reads them.
-use Rattle.std.specs.Prelude.{◌≡◌, ℕ, ◌+◌, Bool, true, false, List, [], ◌∷◌, Option, Some, None}
+use Rattle.std.specs.Prelude.{ℕ, Bool, true, false, List, [], ◌∷◌, Option, Some, None}
 use Rattle.tpkt_cotp.specs.declared.tpdu.ConnectRequest.{ConnectRequest}
 use Rattle.tpkt_cotp.specs.declared.tpdu.ConnectConfirm.{ConnectConfirm}
 use Rattle.tpkt_cotp.specs.declared.turn.Role as transport
@@ -49,9 +49,11 @@ abbrev pub first_in : {A B : Type 0} → (A → Option B) → List A → Option 
 first_in f [] = None
 first_in f (x ∷ xs) = or_else (f x) (first_in f xs)
 
-abbrev pub request_in : Told → Option ConnectRequest
-request_in (asked r) = Some r
-request_in _ = None
+-- what a connect request or confirm says of the size of TPDUs
+abbrev pub size_in : Told → Option (Option ℕ)
+size_in (asked r) = Some r.parameters.size
+size_in (confirmed c) = Some c.parameters.size
+size_in _ = None
 
 abbrev pub confirm_in : Told → Option ConnectConfirm
 confirm_in (confirmed c) = Some c

@@ -1,2 +1,8 @@
 //! Both ends of an association: octets of a stream to messages, and messages to octets.
 #![tactic(auto)]
+
+mod input;
+mod known;
+mod standing;
+
+pub use input::{StackIn, StackState};
