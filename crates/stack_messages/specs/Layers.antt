@@ -1,5 +1,5 @@
 -- What stands in one layer of a message.
-use Rattle.std.specs.Prelude.{◌≡◌, ℕ, ◌+◌, ◌-◌, ◌^◌, min, List, ◌×◌}
+use Rattle.std.specs.Prelude.{◌≡◌, ℕ, ◌+◌, ◌-◌, ◌^◌, min, List}
 use Rattle.std.specs.List.{slice_range}
 use Rattle.ber_values.specs.declared.fault.BerFault.{BerFault}
 use Rattle.ber_values.specs.declared.fault.Span.{Span}
@@ -45,28 +45,26 @@ spdu_of tsdu = record {
   breaks = λ f. (b : BerFault) × SpduFault tsdu b × (f ≡ fault_of layers.Session b.place b.why);
 }
 
+-- what a grammar makes of octets, with its faults as those of a layer, whose places are told by a
+-- function
+unfoldable pub in_layer : {X : Type 0} → Layer → (ℕ → ℕ) → Grammar X → ℕ → List ℕ → Meaning X
+in_layer {X} layer placed g at octets = record {
+  says = λ x. (t : Taken X) × g.begins at octets t × (t.value ≡ x);
+  breaks = λ f. (b : BerFault) × g.fault at octets b
+      × (f ≡ fault_of layer (placed b.place) b.why);
+}
+
 -- the PPDU that these octets are, and are alone
 unfoldable pub ppdu_at : presentation.Expected → List ℕ → Span → Meaning Ppdu
-ppdu_at e tsdu span = record {
-  says = λ p. (t : Taken Ppdu)
-      × (ppdu e).begins span.from (octets_at tsdu span) t × (t.value ≡ p);
-  breaks = λ f. (b : BerFault) × (ppdu e).fault span.from (octets_at tsdu span) b
-      × (f ≡ fault_of layers.Presentation b.place b.why);
-}
+ppdu_at e tsdu span =
+    in_layer layers.Presentation (λ n. n) (ppdu e) span.from (octets_at tsdu span)
 
 -- the APDU that these octets are, and are alone
 unfoldable pub apdu_at : acse.Expected → List ℕ → Span → Meaning Apdu
-apdu_at e tsdu span = record {
-  says = λ a. (t : Taken Apdu)
-      × (apdu e).begins span.from (octets_at tsdu span) t × (t.value ≡ a);
-  breaks = λ f. (b : BerFault) × (apdu e).fault span.from (octets_at tsdu span) b
-      × (f ≡ fault_of layers.Acse b.place b.why);
-}
+apdu_at e tsdu span =
+    in_layer layers.Acse (λ n. n) (apdu e) span.from (octets_at tsdu span)
 
--- the PDU of MMS that these octets are, and are alone; its faults count from its own first octet
+-- the PDU of MMS that these octets are, and are alone; its own places count from its first octet
 unfoldable pub pdu_at : List ℕ → Span → Meaning MmsPdu
-pdu_at tsdu span = record {
-  says = λ p. (t : Taken MmsPdu) × pdu.begins 0 (octets_at tsdu span) t × (t.value ≡ p);
-  breaks = λ f. (b : BerFault) × pdu.fault 0 (octets_at tsdu span) b
-      × (f ≡ fault_of layers.Mms (place_after span.from b.place) b.why);
-}
+pdu_at tsdu span =
+    in_layer layers.Mms (place_after span.from) pdu 0 (octets_at tsdu span)

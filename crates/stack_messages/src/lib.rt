@@ -5,11 +5,9 @@
 mod expecting;
 mod fault;
 mod heard;
-mod laws;
 mod message;
 
 pub use expecting::{Expecting, Phase, Side};
 pub use fault::{Layer, StackFault};
 pub use heard::{Accepting, Connecting, Heard};
-pub use laws::messages_have_one_reading;
 pub use message::read_message;

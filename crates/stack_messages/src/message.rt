@@ -11,11 +11,14 @@ use std::alloc::{AllocError, Global};
 /// What a TSDU says, or where it breaks a rule first, of which layer, and which. Places count the
 /// octets of the TSDU.
 pub fn read_message(
-    _alloc: Global,
-    _tsdu: &[u8],
-    _expecting: Expecting,
+    alloc: Global,
+    tsdu: &[u8],
+    expecting: Expecting,
 ) -> Result<Result<Heard, StackFault>, AllocError>
-    ensures { IfOk result (λ read. IsReadAs (message _expecting _tsdu.now) read) }
+    ensures { IfOk result (λ read. IsReadAs (message expecting tsdu.now) read) }
 {
+    let _ = alloc;
+    let _ = tsdu;
+    let _ = expecting;
     Err(AllocError)
 }
