@@ -21,6 +21,7 @@ use Rattle.stack_assoc.specs.Expectations.{setup_after}
 use Rattle.stack_assoc.specs.Tellings.{Tell, Tells, Stops}
 use Rattle.stack_assoc.specs.Handing.{is_offer, handed_out, answers_to}
 use Rattle.stack_assoc.specs.Knowing.{Knows}
+use Rattle.stack_assoc.specs.Taking.{opened}
 
 pub record Course : Type 0 where
   -- its title, at the calling end
@@ -49,7 +50,7 @@ taken v = listed v.owed ++ listed v.held
 
 -- ---- where it stands in its stream
 
--- the messages of the transport tell these, then come those that aren't told yet
+-- the messages of the transport tell these; then come those that aren't told yet
 pub record Reads (role : Role) (octets : List ℕ) (told : List Told) (v : Course) : Type 0 where
   pub messages : List Message
   pub tell : Tell role told messages
@@ -65,12 +66,12 @@ IsSince called told = Unit {0}
 IsSince (calling title None) told = Unit {0}
 IsSince (calling title (Some n)) told = n ≤ length told
 
--- fed these octets, and these messages taken
+-- fed these octets, and these messages told; what is owed an answer counts as come already
 pub record Stands (role : Role) (octets : List ℕ) (told : List Told) (v : Course) : Type 0 where
   pub title : v.title ≡ title_of role
-  pub knows : Knows role told v.known
+  pub knows : Knows role (told ++ opened v.owed) v.known
   pub since : IsSince role told
-  pub setup : v.setup ≡ setup_after told
+  pub setup : v.setup ≡ setup_after (told ++ opened v.owed)
   pub reads : MatchOption v.fault (Reads role octets told v) (λ f. Stops role octets told f)
 
 -- ---- the offer and the association
@@ -94,16 +95,12 @@ standing_heard s heards.AbortAccept = standings.Closed
 standing_heard s (heards.Pdu p) = s
 standing_heard s (heards.BadRequest invoke) = s
 
--- a message makes an offer, the association or its end; what is closed stays closed
-abbrev pub standing_told : Standing → Told → Standing
-standing_told s (asked r) = s
-standing_told s (confirmed c) = s
-standing_told s told.gone = standings.Closed
-standing_told s (heard h) = standing_heard s h
-
+-- a message makes an offer, the association or its end
 abbrev pub standing_with : Standing → Told → Standing
-standing_with standings.Closed t = standings.Closed
-standing_with s t = standing_told s t
+standing_with s (asked r) = s
+standing_with s (confirmed c) = s
+standing_with s told.gone = standings.Closed
+standing_with s (heard h) = standing_heard s h
 
 abbrev pub standing_behind : Standing → List Told → Standing
 standing_behind s [] = s

@@ -5,4 +5,5 @@ pub mod Expectations
 pub mod Tellings
 pub mod Handing
 pub mod Knowing
+pub mod Taking
 pub mod Courses

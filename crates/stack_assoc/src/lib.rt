@@ -3,6 +3,8 @@
 
 mod input;
 mod known;
+mod offer;
 mod standing;
+mod taken;
 
 pub use input::{StackIn, StackState};
