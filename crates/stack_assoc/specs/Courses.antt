@@ -13,6 +13,7 @@ use Rattle.stack_assoc.specs.declared.input.StackIn.{StackIn}
 use Rattle.stack_assoc.specs.declared.input.StackState.{StackState}
 use Rattle.stack_assoc.specs.declared.input.StackState.TheVariants as states
 use Rattle.stack_assoc.specs.declared.known.Known.{Known}
+use Rattle.stack_assoc.specs.declared.taken.Opening.{Opening}
 use Rattle.stack_assoc.specs.declared.standing.Standing.{Standing}
 use Rattle.stack_assoc.specs.declared.standing.Standing.TheVariants as standings
 use Rattle.stack_assoc.specs.Told.{Told, asked, confirmed, heard, Role, called, calling, end_of}
@@ -21,7 +22,7 @@ use Rattle.stack_assoc.specs.Expectations.{setup_after}
 use Rattle.stack_assoc.specs.Tellings.{Tell, Tells, Stops}
 use Rattle.stack_assoc.specs.Handing.{is_offer, handed_out, answers_to}
 use Rattle.stack_assoc.specs.Knowing.{Knows}
-use Rattle.stack_assoc.specs.Taking.{opened}
+use Rattle.stack_assoc.specs.Taking.{opened, opening_listed}
 
 pub record Course : Type 0 where
   -- its title, at the calling end
@@ -30,7 +31,7 @@ pub record Course : Type 0 where
   pub line : Line
   -- what the transport gave that isn't told yet: a connect request or confirm whose answer is owed,
   -- and the message behind it
-  pub owed : Option Message
+  pub owed : Option Opening
   pub held : Option Message
   -- what has come
   pub known : Known
@@ -46,7 +47,7 @@ listed None = []
 listed (Some m) = m ∷ []
 
 abbrev pub taken : Course → List Message
-taken v = listed v.owed ++ listed v.held
+taken v = opening_listed v.owed ++ listed v.held
 
 -- ---- where it stands in its stream
 

@@ -7,3 +7,4 @@ pub mod Handing
 pub mod Knowing
 pub mod Taking
 pub mod Courses
+pub mod Steps

@@ -39,15 +39,14 @@ abbrev pub opening_told : Opening → Told
 opening_told (openings.Request r) = asked r
 opening_told (openings.Confirm c) = confirmed c
 
-abbrev pub opened_by : Message → List Told
-opened_by (asks r) = asked r ∷ []
-opened_by (confirms c) = confirmed c ∷ []
-opened_by _ = []
-
 -- what is known of it already
-abbrev pub opened : Option Message → List Told
+abbrev pub opened : Option Opening → List Told
 opened None = []
-opened (Some m) = opened_by m
+opened (Some o) = opening_told o ∷ []
+
+abbrev pub opening_listed : Option Opening → List Message
+opening_listed None = []
+opening_listed (Some o) = opening_seen o ∷ []
 
 abbrev pub results_heard : Heard → List ℕ
 results_heard (heards.Connect c) = results_of c.contexts
@@ -63,7 +62,7 @@ Says e (Some (tsdu place octets)) (saids.Broken f) = (message e octets).breaks f
 Says e _ _ = ⊥
 
 -- the octets that answer an opening
-abbrev pub owed_octets : Side → Option Message → ℕ → Option (List ℕ) → List ℕ
-owed_octets sides.Called (Some (asks r)) size title = confirm_octets r
-owed_octets sides.Calling (Some (confirms c)) size title = wire size (connect_tsdu title)
+abbrev pub owed_octets : Side → Option Opening → ℕ → Option (List ℕ) → List ℕ
+owed_octets sides.Called (Some (openings.Request r)) size title = confirm_octets r
+owed_octets sides.Calling (Some (openings.Confirm c)) size title = wire size (connect_tsdu title)
 owed_octets _ _ size title = []

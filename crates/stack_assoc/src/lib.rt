@@ -4,7 +4,11 @@
 mod input;
 mod known;
 mod offer;
+mod stack;
 mod standing;
 mod taken;
+mod taking;
+mod telling;
 
 pub use input::{StackIn, StackState};
+pub use stack::Stack;

@@ -1,6 +1,8 @@
 //! What the transport gave that isn't told yet.
-ghost use Rattle.std.specs.Prelude.{◌≡◌, IfOk};
-ghost use Rattle.stack_assoc.specs.Taking.{results_heard};
+ghost use Rattle.std.specs.Prelude.{◌≡◌, IfOk, Some};
+ghost use Rattle.tpkt_cotp.specs.Sound.{IsSound, IsSize};
+ghost use Rattle.stack_assoc.specs.Told.{size_in};
+ghost use Rattle.stack_assoc.specs.Taking.{results_heard, opening_seen, opening_told};
 
 use presentation_profile::{Results, results_of};
 use stack_messages::{Heard, StackFault};
@@ -50,5 +52,19 @@ pub(crate) fn results_heard(alloc: Global, heard: &Heard) -> Result<Results, All
     match heard {
         Heard::Connect(connecting) => results_of(alloc, connecting.contexts.as_slice()),
         _ => Ok(Results::new(alloc)),
+    }
+}
+
+impl Opening {
+    /// The size of TPDUs that it names, as a power of two.
+    pub(crate) fn size(&self) -> Option<u8>
+        requires { IsSound (opening_seen self.now) }
+        ensures value { size_in (opening_told self.now) ≡ Some result }
+        ensures sized { IsSize result }
+    {
+        match self {
+            Opening::Request(request) => request.parameters.size,
+            Opening::Confirm(confirm) => confirm.parameters.size,
+        }
     }
 }
