@@ -12,7 +12,7 @@ mod ppdu;
 mod results;
 mod user_data;
 
-pub use agreement::{Agreed, ContextFault, agree, mms_id};
+pub use agreement::{ACSE, Agreed, ContextFault, MMS, acse_id, agree, mms_id, results_of};
 pub use expected::Expected;
 pub use laws::{
     offers_have_one_reading, ppdus_have_one_reading, written_offers_are_read,

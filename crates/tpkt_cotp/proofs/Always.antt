@@ -273,11 +273,11 @@ written_said size at octets written c few =
           (ap (λ (os : List ℕ). os ++ c.last) held ∙ sym c.are);
     }
 
--- the first messages of what goes on
-abbrev Continues : List Message → List Message → Type 0
+-- messages begin with these
+abbrev pub Continues : List Message → List Message → Type 0
 Continues ms ns = (others : List Message) × (ns ≡ ms ++ others)
 
-goes_on : (turn : Turn) (at : ℕ) (ms ns : List Message) (w v r q : List ℕ)
+pub goes_on : (turn : Turn) (at : ℕ) (ms ns : List Message) (w v r q : List ℕ)
     → SpellsMessages turn at ms w → SpellsMessages turn at ns v → w ++ r ≡ v ++ q
     → NoMessage (turn_after turn ns) (at + length v) q → Continues ms ns
 goes_on turn at [] ns w v r q one two is neither = (ns, refl)

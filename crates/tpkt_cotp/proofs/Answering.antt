@@ -1,5 +1,5 @@
 -- What a transport answers is right.
-use Rattle.std.proofs.Common.{◌≡◌, ℕ, ◌<◌, ◌≤◌, List, [], ◌∷◌, ◌++◌, length, take, drop, Option}
+use Rattle.std.proofs.Common.{◌≡◌, ℕ, ◌<◌, ◌≤◌, true, false, List, [], ◌∷◌, ◌++◌, length, take, drop, Option}
 use Rattle.std.proofs.Common.{Some, None, MatchOption, Ok, Err, sym, ap, subst, ◌∙◌, arith}
 use Rattle.std.proofs.Common.{append_assoc}
 use Rattle.std.proofs.lemmas.List.{length-append, length-drop, length-take, take-append-le}
@@ -11,12 +11,14 @@ use Rattle.tpkt_cotp.specs.declared.turn.Turn.TheVariants as turns
 use Rattle.tpkt_cotp.specs.Tpdus.{Tpdu, request, confirm, disconnect, part, Tpkt, SpellsTpkt}
 use Rattle.tpkt_cotp.specs.Readings.{tpkt_in}
 use Rattle.tpkt_cotp.specs.Streams.{Message, Section, held_of, octets_of, Opens, BreaksRule}
-use Rattle.tpkt_cotp.specs.Streams.{turn_after, Stops, part_after, IsPartial}
+use Rattle.tpkt_cotp.specs.Streams.{turn_after, Stops, part_after, IsPartial, message_of}
+use Rattle.tpkt_cotp.specs.Sound.{IsSoundTpdu, IsSound}
 use Rattle.tpkt_cotp.specs.Seen.{message_seen}
 use Rattle.tpkt_cotp.specs.Lines.{Line, Reads, Stands, IsSettled, Answers, fed}
 use Rattle.tpkt_cotp.specs.Steps.{StepsPart, StepsMessage, StepsNowhere, StepsBroken}
 use Rattle.tpkt_cotp.proofs.Exact.{Begins}
 use Rattle.tpkt_cotp.proofs.ExactTpkt.{tpkt_found}
+use Rattle.tpkt_cotp.proofs.Cuts.{sound_of}
 use Rattle.tpkt_cotp.proofs.Stays.{tpkt_broken}
 use Rattle.tpkt_cotp.proofs.FaultReading.{fault_found}
 use Rattle.tpkt_cotp.proofs.FaultFirst.{fault_first}
@@ -173,6 +175,10 @@ answers_again role heard given t f some s =
     (λ f. Stops role heard given f × (t.unread ≡ []))) some s in
     answers_stopped role heard given t f some both.1 both.0
 
+abbrev IsSoundAnswer : Option Message → Type 0
+IsSoundAnswer (Some m) = IsSound m
+IsSoundAnswer None = Unit {0}
+
 -- each TPKT has octets
 pub tpkt_some : (tpdu : Tpdu) (octets : List ℕ) → SpellsTpkt tpdu octets → 0 < length octets
 tpkt_some (request r) octets s = let l = ap length s.1.is in omega (arith, l)
@@ -201,6 +207,20 @@ pub message_shorter : (old new : Line) (m : Message) → StepsMessage old m new
 message_shorter old new m s = unread_shorter old s.tpkt new.unread
     (tpkt_found old.turn (length old.held) old.unread s.tpkt s.read)
     (ap (λ (l : Line). l.unread) s.is)
+
+-- what is handed out may be answered
+sound_end : (at : ℕ) (held : List ℕ) (tpdu : Tpdu) (m : Message) → IsSoundTpdu tpdu
+    → message_of at held tpdu ≡ Some m → IsSound m
+sound_end at held (request r) m sound is = subst IsSoundAnswer is sound
+sound_end at held (confirm c) m sound is = subst IsSoundAnswer is sound
+sound_end at held disconnect m sound is = subst IsSoundAnswer is tt
+sound_end at held (part true more) m sound is = subst IsSoundAnswer is tt
+sound_end at held (part false more) m sound is = absurd cc
+
+pub message_sound : (old new : Line) (m : Message) → StepsMessage old m new → IsSound m
+message_sound old new m s =
+    let b = tpkt_found old.turn (length old.held) old.unread s.tpkt s.read in
+    sound_end old.start old.held s.tpkt.tpdu m (sound_of s.tpkt.tpdu b.spelling b.spelled) s.ends
 
 pub clear_part : (old new : Line) → old.fault ≡ None → StepsPart old new → new.fault ≡ None
 clear_part old new none s = ap (λ (l : Line). l.fault) s.is ∙ none

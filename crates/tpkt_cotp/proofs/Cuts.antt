@@ -1,6 +1,6 @@
--- What isn't whole is shorter than its TPKT; what is whole has selectors of their length.
+-- What isn't whole is shorter than its TPKT; what is whole has lawful selectors and sizes.
 use Rattle.std.proofs.Common.{◌≡◌, ◌≢◌, ℕ, zero, suc, ◌+◌, ◌-◌, ◌*◌, ◌<◌, ◌≤◌, Bool, true, false}
-use Rattle.std.proofs.Common.{not, ◌&&◌, cond, eqb, ltb, leb, List, [], ◌∷◌, length, take, get_or}
+use Rattle.std.proofs.Common.{not, ◌&&◌, ◌||◌, cond, eqb, ltb, leb, List, [], ◌∷◌, length, take, get_or}
 use Rattle.std.proofs.Common.{Option, Some, None, Ok, Err, refl, sym, subst, arith}
 use Rattle.std.proofs.lemmas.Bool.{cond_both, eqb-true, eqb-false, ltb-true, ltb-false, leb-true}
 use Rattle.std.proofs.lemmas.Bool.{leb-false, and_parts}
@@ -14,7 +14,7 @@ use Rattle.tpkt_cotp.specs.Turns.{kind_of, may_come, is_count}
 use Rattle.tpkt_cotp.specs.Tpdus.{Tpdu, request, confirm, disconnect, part, Tpkt, Parameter, AddUp}
 use Rattle.tpkt_cotp.specs.Tpdus.{is_twice, is_length_of, is_value_of, with_value, no_parameters}
 use Rattle.tpkt_cotp.specs.Tpdus.{SpellsTpkt}
-use Rattle.tpkt_cotp.specs.Sound.{AreSelectors, IsSoundTpdu}
+use Rattle.tpkt_cotp.specs.Sound.{AreSound, IsSoundTpdu}
 use Rattle.tpkt_cotp.specs.Readings.{Read, Taken, broken, ◌>>=◌, tpkt_of, value_in, parameter_in}
 use Rattle.tpkt_cotp.specs.Readings.{parameters_in, connect_with, marked_in, part_in, disconnect_in}
 use Rattle.tpkt_cotp.specs.Readings.{connect_in, body_in, known_in, tpdu_in, sized_in, tpkt_in}
@@ -222,14 +222,15 @@ tpkt_cut turn total octets h l is = subst (λ (r : Read Tpkt). Cut (length octet
 
 -- a code's test as an equation
 code_cases : (P : Parameters → Type 0) (seen : Parameters) (code : ℕ) (value : List ℕ)
-    → P (record seen { size = Some (get_or value 0 0) })
+    → ((code ≡ 192) → P (record seen { size = Some (get_or value 0 0) }))
     → ((code ≡ 193) → P (record seen { calling = Some value }))
     → ((code ≡ 194) → P (record seen { called = Some value })) → P seen
     → P (with_value seen code value)
 code_cases P seen code value size calling called other =
     cond_both (eqb code 192) (record seen { size = Some (get_or value 0 0) })
     (cond (eqb code 193) (record seen { calling = Some value })
-    (cond (eqb code 194) (record seen { called = Some value }) seen)) P (λ e. size)
+    (cond (eqb code 194) (record seen { called = Some value }) seen)) P
+    (λ e. size (eqb-true code 192 e))
     (λ n1. cond_both (eqb code 193) (record seen { calling = Some value })
     (cond (eqb code 194) (record seen { called = Some value }) seen) P
     (λ e. calling (eqb-true code 193 e))
@@ -240,29 +241,45 @@ selector_length : (count : ℕ) → (leb 1 count && leb count 32) ≡ true → (
 selector_length count e = let both = and_parts (leb 1 count) (leb count 32) e in
     (leb-true 1 count both.0, leb-true count 32 both.1)
 
-selectors_add : (before : Parameters) (ps : List Parameter) (all : Parameters)
-    → AreSelectors before → AddUp before ps all → AreSelectors all
-selectors_add before [] all sound adds = subst AreSelectors (sym adds) sound
-selectors_add before (p ∷ ps) all sound adds =
-    selectors_add (with_value before p.code p.value) ps all
-    (code_cases AreSelectors before p.code p.value sound
+size_value : (size : ℕ) → (not (eqb 192 192) || leb 7 size && leb size 13) ≡ true
+    → (7 ≤ size) × (size ≤ 13)
+size_value size e = let both = and_parts (leb 7 size) (leb size 13) e in
+    (leb-true 7 size both.0, leb-true size 13 both.1)
+
+parameters_add : (before : Parameters) (ps : List Parameter) (all : Parameters)
+    → AreSound before → AddUp before ps all → AreSound all
+parameters_add before [] all sound adds = subst AreSound (sym adds) sound
+parameters_add before (p ∷ ps) all sound adds =
+    parameters_add (with_value before p.code p.value) ps all
+    (code_cases AreSound before p.code p.value
     (λ is. (
-      selector_length (length p.value) (subst
-          (λ (code : ℕ). is_length_of code (length p.value) ≡ true) is adds.1),
+      sound.0,
+      size_value (get_or p.value 0 0)
+          (subst (λ (code : ℕ). is_value_of code (get_or p.value 0 0) ≡ true) is adds.2),
+    ))
+    (λ is. (
+      (
+        selector_length (length p.value)
+            (subst (λ (code : ℕ). is_length_of code (length p.value) ≡ true) is adds.1),
+        sound.0.1,
+      ),
       sound.1,
     ))
     (λ is. (
-      sound.0,
-      selector_length (length p.value)
-          (subst (λ (code : ℕ). is_length_of code (length p.value) ≡ true) is adds.1),
+      (
+        sound.0.0,
+        selector_length (length p.value)
+            (subst (λ (code : ℕ). is_length_of code (length p.value) ≡ true) is adds.1),
+      ),
+      sound.1,
     ))
     sound)
     adds.3
 
 pub sound_of : (tpdu : Tpdu) (octets : List ℕ) → SpellsTpkt tpdu octets → IsSoundTpdu tpdu
-sound_of (request r) octets s = selectors_add no_parameters s.1.parameters r.parameters (tt, tt)
+sound_of (request r) octets s = parameters_add no_parameters s.1.parameters r.parameters ((tt, tt), tt)
     s.1.adds_up
-sound_of (confirm c) octets s = selectors_add no_parameters s.parameters c.parameters (tt, tt)
+sound_of (confirm c) octets s = parameters_add no_parameters s.parameters c.parameters ((tt, tt), tt)
     s.adds_up
 sound_of disconnect octets s = tt
 sound_of (part last held) octets s = tt

@@ -22,3 +22,4 @@ pub mod Streaming
 pub mod Worked
 mod WorkedStreams
 pub mod WrittenTpdus
+pub mod Wires

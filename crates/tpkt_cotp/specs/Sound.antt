@@ -1,14 +1,29 @@
--- Selectors that are read have their length.
-use Rattle.std.specs.Prelude.{IfSome}
+-- Selectors and sizes that are read are lawful.
+use Rattle.std.specs.Prelude.{ℕ, ◌≤◌, Option, IfSome}
 use Rattle.tpkt_cotp.specs.declared.tpdu.Parameters.{Parameters}
 use Rattle.tpkt_cotp.specs.Selectors.{IsSelector}
 use Rattle.tpkt_cotp.specs.Tpdus.{Tpdu, request, confirm, disconnect, part}
+use Rattle.tpkt_cotp.specs.Streams.{Message, asks, confirms, gone, tsdu}
 
 abbrev pub AreSelectors : Parameters → Type 0
 AreSelectors p = IfSome p.calling IsSelector × IfSome p.called IsSelector
 
+-- a size is a power of two from 2^7 to 2^13
+abbrev pub IsSize : Option ℕ → Type 0
+IsSize size = IfSome size (λ n. (7 ≤ n) × (n ≤ 13))
+
+abbrev pub AreSound : Parameters → Type 0
+AreSound p = AreSelectors p × IsSize p.size
+
 abbrev pub IsSoundTpdu : Tpdu → Type 0
-IsSoundTpdu (request r) = AreSelectors r.parameters
-IsSoundTpdu (confirm c) = AreSelectors c.parameters
+IsSoundTpdu (request r) = AreSound r.parameters
+IsSoundTpdu (confirm c) = AreSound c.parameters
 IsSoundTpdu disconnect = Unit {0}
 IsSoundTpdu (part _ _) = Unit {0}
+
+-- what is handed out may be answered
+abbrev pub IsSound : Message → Type 0
+IsSound (asks r) = AreSound r.parameters
+IsSound (confirms c) = AreSound c.parameters
+IsSound gone = Unit {0}
+IsSound (tsdu _ _) = Unit {0}

@@ -1,7 +1,7 @@
 -- What the writers write (RFC 1006, section 6; ISO 8073, 13).
-use Rattle.std.specs.Prelude.{◌≡◌, ℕ, ◌+◌, ◌-◌, ◌/◌, ◌%◌, ◌<◌, ◌≤◌, Bool, true, false, List, []}
-use Rattle.std.specs.Prelude.{◌∷◌, ◌++◌, length, flat_map, Option, Some, None, min, if◌then◌else◌}
-use Rattle.std.specs.Prelude.{IfSome, option_map}
+use Rattle.std.specs.Prelude.{◌≡◌, ℕ, zero, suc, ◌+◌, ◌-◌, ◌*◌, ◌/◌, ◌%◌, ◌<◌, ◌≤◌, Bool, true}
+use Rattle.std.specs.Prelude.{false, List, [], ◌∷◌, ◌++◌, length, take, drop, flat_map, Option, Some}
+use Rattle.std.specs.Prelude.{None, min, IfSome, option_map, if◌then◌else◌}
 use Rattle.std.specs.List.{AllByRecursion}
 use Rattle.tpkt_cotp.specs.declared.tpdu.Parameters.{Parameters}
 use Rattle.tpkt_cotp.specs.declared.tpdu.ConnectRequest.{ConnectRequest}
@@ -56,6 +56,20 @@ pub record IsCut (size : ℕ) (octets written : List ℕ) : Type 0 where
   pub fits : length last ≤ size - 3
   pub are : octets ≡ joined parts ++ last
   pub written_is : written ≡ parts_octets parts ++ part_octets true last
+
+-- so many parts of this length, from the front
+abbrev pub parts_of : ℕ → ℕ → List ℕ → List (List ℕ)
+parts_of zero full octets = []
+parts_of (suc count) full octets = take full octets ∷ parts_of count full (drop full octets)
+
+-- how many full parts come before the last one, which isn't empty
+abbrev pub count_before : ℕ → ℕ → ℕ
+count_before full len = (len - 1) / full
+
+-- the octets of the TPKTs in which a TSDU goes out, where TPDUs have at most so many octets
+unfoldable pub wire : ℕ → List ℕ → List ℕ
+wire size tsdu = parts_octets (parts_of (count_before (size - 3) (length tsdu)) (size - 3) tsdu)
+    ++ part_octets true (drop (count_before (size - 3) (length tsdu) * (size - 3)) tsdu)
 
 -- the request that is written
 abbrev pub written_request : ℕ → ConnectRequest

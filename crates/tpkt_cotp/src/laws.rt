@@ -8,7 +8,7 @@ ghost use Rattle.tpkt_cotp.specs.declared.turn.Turn.TheVariants.{Transfer};
 ghost use Rattle.tpkt_cotp.specs.declared.tpdu.ConnectRequest.{ConnectRequest};
 ghost use Rattle.tpkt_cotp.specs.Streams.{Message, tsdu, capped, SpellsMessage, Says, Stops};
 ghost use Rattle.tpkt_cotp.specs.Places.{Stream, left, stopped, messages_of, IsStream, stream_in};
-ghost use Rattle.tpkt_cotp.specs.Written.{IsCut, IsOffer, request_octets, written_request};
+ghost use Rattle.tpkt_cotp.specs.Written.{IsCut, IsOffer, request_octets, written_request, wire};
 ghost use Rattle.tpkt_cotp.specs.Written.{confirm_octets, answered};
 ghost use Rattle.tpkt_cotp.specs.Sound.{AreSelectors};
 ghost use Rattle.tpkt_cotp.specs.Tpdus.{request, confirm, SpellsTpkt};
@@ -75,11 +75,19 @@ pub fn what_was_said_stays()
         → Stops role octets messages f → Stops role (octets ++ more) messages f }
 {}
 
+/// A TSDU is cut in one way, which is the written form.
+pub fn one_cut()
+    ensures cut { (size : ℕ) (octets : List ℕ) → 4 ≤ size → 0 < length octets
+        → IsCut size octets (wire size octets) }
+    ensures only { (size : ℕ) (octets written : List ℕ) → IsCut size octets written
+        → written ≡ wire size octets }
+{}
+
 /// What is written for a TSDU says exactly this TSDU, wherever it stands after the first TPDU.
 pub fn written_is_said()
-    ensures { (size at : ℕ) (octets written : List ℕ) → IsCut size octets written
+    ensures { (size at : ℕ) (octets : List ℕ) → 4 ≤ size → 0 < length octets
         → length octets ≤ TSDU_LIMIT
-        → SpellsMessage Transfer at (tsdu (capped at) octets) written }
+        → SpellsMessage Transfer at (tsdu (capped at) octets) (wire size octets) }
 {}
 
 /// What is written for a request and for the answer to an offer is spelled so.

@@ -18,8 +18,8 @@ mod writing;
 
 pub use fault::CotpFault;
 pub use laws::{
-    no_message_begins_another, one_reading, one_stream, what_was_said_stays, written_is_said,
-    written_is_spelled,
+    no_message_begins_another, one_cut, one_reading, one_stream, what_was_said_stays,
+    written_is_said, written_is_spelled,
 };
 pub use limits::{PIECE_LIMIT, SELECTOR_LIMIT, TPKT_LIMIT, TSDU_LIMIT};
 pub use message::TransportIn;

@@ -1,8 +1,10 @@
 //! The transport over a stream that comes in any pieces: octets in, whole messages out.
 ghost use Rattle.std.specs.Prelude.{◌≡◌, ℕ, ◌+◌, ◌-◌, ◌≤◌, ◌<◌, List, [], ◌++◌, length, IfOk, OnOk};
-ghost use Rattle.std.specs.Prelude.{OnErr, OnSome};
+ghost use Rattle.std.specs.Prelude.{OnErr, OnSome, IfSome};
 ghost use Rattle.tpkt_cotp.specs.declared.turn.Role.{Role};
 ghost use Rattle.tpkt_cotp.specs.Streams.{Message};
+ghost use Rattle.tpkt_cotp.specs.Seen.{message_seen};
+ghost use Rattle.tpkt_cotp.specs.Sound.{IsSound};
 ghost use Rattle.tpkt_cotp.specs.Lines.{Line, IsSettled, HoldsFew, Stands, Answers, fed};
 ghost use Rattle.tpkt_cotp.specs.Streams.{capped};
 ghost use Rattle.tpkt_cotp.specs.Places.{stream_in};
@@ -110,6 +112,9 @@ impl Transport {
         ensures hands_out { IfOk result (λ answer. HandsOut self.old answer self.new) }
         ensures shorter { IfOk result (λ answer. IfOk answer (λ message. OnSome message
             (length self.new.unread < length self.old.unread))) }
+        // A connect request or confirm that is handed out may be answered.
+        ensures sound { IfOk result (λ answer. IfOk answer (λ message. IfSome message
+            (λ m. IsSound (message_seen m)))) }
         ensures err { OnErr result (self.new ≡ self.old) }
     {
         if let Some(fault) = self.fault {

@@ -1,11 +1,13 @@
 //! One TPKT after another over octets that have come, up to the end of a message.
 ghost use Rattle.std.specs.Prelude.{◌≡◌, ℕ, ◌+◌, ◌<◌, List, length, take, drop, IfOk, OnOk, OnErr};
-ghost use Rattle.std.specs.Prelude.{OnSome, None};
+ghost use Rattle.std.specs.Prelude.{OnSome, IfSome, None};
 ghost use Rattle.tpkt_cotp.specs.declared.turn.Role.{Role};
 ghost use Rattle.tpkt_cotp.specs.Streams.{Message, capped};
 ghost use Rattle.tpkt_cotp.specs.Lines.{Line, IsWithin, line_of, Stands, Answers};
 ghost use Rattle.tpkt_cotp.specs.Steps.{Steps};
 ghost use Rattle.tpkt_cotp.specs.Goings.{HandsOut};
+ghost use Rattle.tpkt_cotp.specs.Seen.{message_seen};
+ghost use Rattle.tpkt_cotp.specs.Sound.{IsSound};
 
 use crate::fault::CotpFault;
 use crate::message::{TransportIn, take_tpdu};
@@ -97,6 +99,8 @@ impl Walk {
             (line_of self.new part.new.items octets.now)) }
         ensures shorter { IfOk result (λ answer. IfOk answer (λ message. OnSome message
             (self.old.passed < self.new.passed))) }
+        ensures sound { IfOk result (λ answer. IfOk answer (λ message. IfSome message
+            (λ m. IsSound (message_seen m)))) }
         ensures within { IsWithin self.new part.new.items octets.now }
         ensures err { OnErr result (take (length part.old.items) part.new.items ≡ part.old.items) }
     {

@@ -5,7 +5,7 @@ ghost use Rattle.tpkt_cotp.specs.declared.limits.TheConstants.{SELECTOR_LIMIT, T
 ghost use Rattle.tpkt_cotp.specs.Selectors.{IsSelector};
 ghost use Rattle.tpkt_cotp.specs.Written.{request_octets, size_octets, selector_octets};
 ghost use Rattle.tpkt_cotp.specs.Written.{answer_octets, confirm_head, confirm_octets, part_octets};
-ghost use Rattle.tpkt_cotp.specs.Written.{IsCut, IsOffer};
+ghost use Rattle.tpkt_cotp.specs.Written.{IsCut, IsOffer, wire};
 
 use crate::selector::Selector;
 use crate::tpdu::{ConnectRequest, Parameters};
@@ -205,8 +205,7 @@ fn put_tsdu(out: &mut Vec<u8>, size: u16, octets: &[u8]) -> Result<(), AllocErro
 pub fn write_tsdu(out: &mut Vec<u8>, size: u16, octets: &[u8]) -> Result<(), AllocError>
     requires sized { (128 ≤ size) × (size ≤ 1024) }
     requires some { (1 ≤ length octets.now) × (length octets.now ≤ TSDU_LIMIT) }
-    ensures ok { OnOk result ((written : List ℕ) × IsCut size octets.now written
-        × (out.new.items ≡ out.old.items ++ written)) }
+    ensures ok { OnOk result (out.new.items ≡ out.old.items ++ wire size octets.now) }
     ensures err { OnErr result (out.new.items ≡ out.old.items) }
 {
     let mark = out.len();

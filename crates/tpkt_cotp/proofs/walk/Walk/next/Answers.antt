@@ -5,6 +5,7 @@ use Rattle.tpkt_cotp.specs.Lines.{Line}
 use Rattle.tpkt_cotp.proofs.Standing.{stands_part}
 use Rattle.tpkt_cotp.proofs.Answering.{answers_message, answers_rest, answers_broken, steps_shorter}
 use Rattle.tpkt_cotp.proofs.Answering.{message_shorter, clear_part, begins_part}
+use Rattle.tpkt_cotp.proofs.Answering.{message_sound}
 use Rattle.tpkt_cotp.proofs.Going.{steps_part, steps_message, steps_nowhere, steps_broken}
 use Rattle.tpkt_cotp.proofs.Going.{hands_after}
 use Rattle.tpkt_cotp.proofs.walk.Walk.next.Goals as goal
@@ -84,3 +85,8 @@ returns-in-Message-clause-shorter c =
     let d = length-drop c.loop-message.self.passed c.args.octets.now in
     let f = length-drop c.step.new.self.passed c.args.octets.now in
     omega (arith, e, d, f, c.loop-message.invariant.2)
+
+pub returns-in-Message-clause-sound : goal.returns-in-Message-clause-sound
+returns-in-Message-clause-sound c =
+    let s = rw c.in-Message.is at c.in_ok-step.ensures.ok in
+    message_sound _ _ (message_seen c.in-Message.message) s

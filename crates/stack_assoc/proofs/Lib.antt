@@ -1,0 +1,4 @@
+pub mod FrontsKept
+pub mod TurnLaws
+pub mod KnowingMore
+pub mod Readings

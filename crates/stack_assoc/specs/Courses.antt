@@ -1,0 +1,167 @@
+-- An end of an association as contracts see it, and where it stands in its stream.
+use Rattle.std.specs.Prelude.{◌≡◌, ℕ, ◌≤◌, Bool, true, false, List, [], ◌∷◌, ◌++◌, length}
+use Rattle.std.specs.Prelude.{Option, Some, None, MatchOption, Result, Ok, Err}
+use Rattle.std.specs.Prelude.{MatchBool}
+use Rattle.tpkt_cotp.specs.Streams.{Message, asks, confirms, gone, tsdu}
+use Rattle.tpkt_cotp.specs.Lines.{Line}
+use Rattle.tpkt_cotp.specs.Lines as transport
+use Rattle.stack_messages.specs.declared.fault.StackFault.{StackFault}
+use Rattle.stack_messages.specs.declared.heard.Heard.{Heard}
+use Rattle.stack_messages.specs.declared.heard.Heard.TheVariants as heards
+use Rattle.stack_wire.specs.declared.setup.Setup.{Setup}
+use Rattle.stack_assoc.specs.declared.input.StackIn.{StackIn}
+use Rattle.stack_assoc.specs.declared.input.StackState.{StackState}
+use Rattle.stack_assoc.specs.declared.input.StackState.TheVariants as states
+use Rattle.stack_assoc.specs.declared.known.Known.{Known}
+use Rattle.stack_assoc.specs.declared.taken.Opening.{Opening}
+use Rattle.stack_assoc.specs.declared.standing.Standing.{Standing}
+use Rattle.stack_assoc.specs.declared.standing.Standing.TheVariants as standings
+use Rattle.stack_assoc.specs.Told.{Told, asked, confirmed, heard, Role, called, calling, end_of}
+use Rattle.stack_assoc.specs.Told as told
+use Rattle.stack_assoc.specs.Expectations.{setup_after}
+use Rattle.stack_assoc.specs.Tellings.{Tell, Tells, Stops}
+use Rattle.stack_assoc.specs.Handing.{is_offer, handed_out, answers_to}
+use Rattle.stack_assoc.specs.Knowing.{Knows}
+use Rattle.stack_assoc.specs.Taking.{opened, opening_listed}
+
+pub record Course : Type 0 where
+  -- its title, at the calling end
+  pub title : Option (List ℕ)
+  -- the transport
+  pub line : Line
+  -- what the transport gave that isn't told yet: a connect request or confirm whose answer is owed,
+  -- and the message behind it
+  pub owed : Option Opening
+  pub held : Option Message
+  -- what has come
+  pub known : Known
+  -- what the connect fixed
+  pub setup : Setup
+  -- the offer and the association
+  pub standing : Standing
+  -- the rule that was broken
+  pub fault : Option StackFault
+
+abbrev pub listed : Option Message → List Message
+listed None = []
+listed (Some m) = m ∷ []
+
+abbrev pub taken : Course → List Message
+taken v = opening_listed v.owed ++ listed v.held
+
+-- ---- where it stands in its stream
+
+-- the messages of the transport tell these; then come those that aren't told yet
+pub record Reads (role : Role) (octets : List ℕ) (told : List Told) (v : Course) : Type 0 where
+  pub messages : List Message
+  pub tell : Tell role told messages
+  pub stands : transport.Stands (end_of role) octets (messages ++ taken v) v.line
+
+abbrev pub title_of : Role → Option (List ℕ)
+title_of called = None
+title_of (calling title said) = title
+
+-- conclude was said after so many of these messages
+abbrev pub IsSince : Role → List Told → Type 0
+IsSince called told = Unit {0}
+IsSince (calling title None) told = Unit {0}
+IsSince (calling title (Some n)) told = n ≤ length told
+
+-- fed these octets, and these messages told; what is owed an answer counts as come already
+pub record Stands (role : Role) (octets : List ℕ) (told : List Told) (v : Course) : Type 0 where
+  pub title : v.title ≡ title_of role
+  pub knows : Knows role (told ++ opened v.owed) v.known
+  pub since : IsSince role told
+  pub setup : v.setup ≡ setup_after (told ++ opened v.owed)
+  pub reads : MatchOption v.fault (Reads role octets told v) (λ f. Stops role octets told f)
+
+-- ---- the offer and the association
+
+abbrev pub offered_by : Bool → Standing
+offered_by true = standings.Offered
+offered_by false = standings.BadlyOffered
+
+abbrev pub finishing : Standing → Standing
+finishing standings.Accepted = standings.Finishing
+finishing s = s
+
+abbrev pub standing_heard : Standing → Heard → Standing
+standing_heard s (heards.Connect c) = offered_by (is_offer c)
+standing_heard s (heards.Accept a) = standings.Accepted
+standing_heard s heards.Refuse = standings.Closed
+standing_heard s heards.Finish = finishing s
+standing_heard s heards.Disconnect = standings.Closed
+standing_heard s heards.Abort = standings.Closed
+standing_heard s heards.AbortAccept = standings.Closed
+standing_heard s (heards.Pdu p) = s
+standing_heard s (heards.BadRequest invoke) = s
+
+-- a message makes an offer, the association or its end
+abbrev pub standing_with : Standing → Told → Standing
+standing_with s (asked r) = s
+standing_with s (confirmed c) = s
+standing_with s told.gone = standings.Closed
+standing_with s (heard h) = standing_heard s h
+
+abbrev pub standing_behind : Standing → List Told → Standing
+standing_behind s [] = s
+standing_behind s (t ∷ told) = standing_behind (standing_with s t) told
+
+-- an offer stands unanswered
+abbrev pub is_offered : Standing → Bool
+is_offered standings.Offered = true
+is_offered standings.BadlyOffered = true
+is_offered _ = false
+
+-- the association stands, unless the stream has broken a rule
+abbrev pub is_accepted : Standing → Bool
+is_accepted standings.Accepted = true
+is_accepted standings.Finishing = true
+is_accepted _ = false
+
+abbrev pub state_by : Standing → StackState
+state_by standings.Waiting = states.Waiting
+state_by standings.Offered = states.Offered
+state_by standings.BadlyOffered = states.Offered
+state_by standings.Accepted = states.Accepted
+state_by standings.Finishing = states.Accepted
+state_by standings.Closed = states.Ended
+
+abbrev pub state_with : Option StackFault → Standing → StackState
+state_with None s = state_by s
+state_with (Some f) s = states.Ended
+
+abbrev pub state_of : Course → StackState
+state_of v = state_with v.fault v.standing
+
+-- ---- what is taken next
+
+-- no whole message is left unread, or the stream has stopped
+abbrev pub IsSettled : Course → Type 0
+IsSettled v = MatchOption v.fault (transport.IsSettled v.line) (λ f. Unit {0})
+
+-- these messages more were taken, and answered
+pub record Goes (role : Role) (octets : List ℕ) (told later : List Told) (old : Course)
+    (out : List ℕ) (new : Course) (written : List ℕ) : Type 0 where
+  pub stands : Stands role octets (told ++ later) new
+  pub standing : new.standing ≡ standing_behind old.standing later
+  pub answered : written ≡ out ++ answers_to role later
+
+-- nothing is handed out: an offer stands unanswered, so that nothing is taken; or all whole messages
+-- were taken
+abbrev pub NothingLeft : Role → List ℕ → List Told → List Told → Course → Course → Type 0
+NothingLeft role octets told later old new =
+    MatchBool (is_offered old.standing) (later ≡ [])
+    (((rest : List ℕ) × Tells role octets (told ++ later) rest) × IsSettled new)
+
+-- an answer is right: what the next message hands out; or none; or the rule that is broken
+abbrev pub Answers : Role → List ℕ → List Told → Course → List ℕ
+    → Result (Option StackIn) StackFault → Course → List ℕ → Type 0
+Answers role octets told old out (Ok (Some input)) new written = (later : List Told)
+    × Goes role octets told later old out new written × (handed_out later ≡ input ∷ [])
+Answers role octets told old out (Ok None) new written = (later : List Told)
+    × Goes role octets told later old out new written × (handed_out later ≡ [])
+    × NothingLeft role octets told later old new
+Answers role octets told old out (Err f) new written = (later : List Told)
+    × Goes role octets told later old out new written × (handed_out later ≡ [])
+    × Stops role octets (told ++ later) f

@@ -1,0 +1,63 @@
+-- What is handed out of the messages that come, and what is answered at once.
+use Rattle.std.specs.Prelude.{ℕ, ℤ, pos, int_lt, Bool, true, false, not, ◌&&◌, ◌||◌, List, []}
+use Rattle.std.specs.Prelude.{Option, Some, None, is_some, filter_map, flat_map, bytes_eq}
+use Rattle.std.specs.Prelude.{if◌then◌else◌}
+use Rattle.tpkt_cotp.specs.Written.{confirm_octets, wire}
+use Rattle.presentation_profile.specs.Agreements.{acse_of}
+use Rattle.acse_assoc.specs.Writing.{mms_context}
+use Rattle.mms_services.specs.declared.initiate.Initiate.{Initiate}
+use Rattle.mms_services.specs.declared.initiate.TheConstants.{LEAST_DETAIL}
+use Rattle.stack_messages.specs.declared.heard.Connecting.{Connecting}
+use Rattle.stack_messages.specs.declared.heard.Heard.{Heard}
+use Rattle.stack_messages.specs.declared.heard.Heard.TheVariants as heards
+use Rattle.stack_wire.specs.Setups.{cut_size}
+use Rattle.stack_wire.specs.Tsdus.{connect_tsdu}
+use Rattle.stack_assoc.specs.declared.input.StackIn.{StackIn}
+use Rattle.stack_assoc.specs.declared.input.StackIn.TheVariants as inputs
+use Rattle.stack_assoc.specs.Told.{Told, asked, confirmed, gone, heard, Role, called, calling}
+
+-- too little is offered of one of the parameters, so that nothing can be granted
+abbrev pub is_below : ℤ → Option ℤ → Bool
+is_below least None = false
+is_below least (Some number) = int_lt number least
+
+abbrev pub is_too_little : Initiate → Bool
+is_too_little i = int_lt i.version (pos 1) || (int_lt i.calling (pos 1) || (int_lt i.called (pos 1)
+    || (is_below LEAST_DETAIL i.detail || is_below (pos 1) i.nesting)))
+
+-- a connect that may be accepted: its offers agree, it is of MMS, and enough is offered
+abbrev pub is_offer : Connecting → Bool
+is_offer c = is_some (acse_of c.contexts)
+    && (bytes_eq c.context mms_context && not (is_too_little c.initiate))
+
+abbrev pub heard_in : Heard → StackIn
+heard_in (heards.Connect c) = if is_offer c then inputs.Offer c.title c.initiate else inputs.BadOffer
+heard_in (heards.Accept a) = inputs.Accepted a.initiate
+heard_in heards.Refuse = inputs.Refused
+heard_in heards.Finish = inputs.Released
+heard_in heards.Disconnect = inputs.Released
+heard_in heards.Abort = inputs.Aborted
+heard_in heards.AbortAccept = inputs.Aborted
+heard_in (heards.Pdu p) = inputs.Pdu p
+heard_in (heards.BadRequest invoke) = inputs.BadRequest invoke
+
+-- what is handed out of a message: nothing of a connect request or confirm
+abbrev pub stack_in : Told → Option StackIn
+stack_in (asked r) = None
+stack_in (confirmed c) = None
+stack_in gone = Some inputs.Aborted
+stack_in (heard h) = Some (heard_in h)
+
+abbrev pub handed_out : List Told → List StackIn
+handed_out told = filter_map stack_in told
+
+-- the octets that answer a message at once: the called end confirms a connect request, the calling
+-- end sends its connect behind a connect confirm
+abbrev pub answer_to : Role → Told → List ℕ
+answer_to called (asked r) = confirm_octets r
+answer_to (calling title said) (confirmed c) =
+    wire (cut_size c.parameters.size) (connect_tsdu title)
+answer_to _ _ = []
+
+abbrev pub answers_to : Role → List Told → List ℕ
+answers_to role told = flat_map (answer_to role) told

@@ -1,0 +1,10 @@
+pub mod Fronts
+pub mod InTurn
+pub mod Told
+pub mod Expectations
+pub mod Tellings
+pub mod Handing
+pub mod Knowing
+pub mod Taking
+pub mod Courses
+pub mod Steps

@@ -1,0 +1,166 @@
+-- One step of an end: it takes from the transport, reads, and tells.
+use Rattle.std.specs.Prelude.{◌≡◌, ℕ, ◌+◌, ◌≤◌, Bool, true, false, List, [], ◌∷◌, ◌++◌, length, ◌⊎◌}
+use Rattle.std.specs.Prelude.{Option, Some, None, IsSome, Result, Ok, Err}
+use Rattle.tpkt_cotp.specs.declared.fault.CotpFault.{CotpFault}
+use Rattle.tpkt_cotp.specs.declared.turn.Role as tpkt
+use Rattle.tpkt_cotp.specs.Streams as transport
+use Rattle.tpkt_cotp.specs.Streams.{Message}
+use Rattle.tpkt_cotp.specs.Lines as lines
+use Rattle.presentation_profile.specs.declared.offers.TheConstants.{MOST_OFFERS}
+use Rattle.presentation_profile.specs.Agreements.{acse_of}
+use Rattle.stack_messages.specs.declared.expecting.Side.{Side}
+use Rattle.stack_messages.specs.declared.fault.StackFault.{StackFault}
+use Rattle.stack_messages.specs.declared.heard.Heard.{Heard}
+use Rattle.stack_messages.specs.declared.heard.Heard.TheVariants as heards
+use Rattle.stack_assoc.specs.declared.input.StackIn.{StackIn}
+use Rattle.stack_assoc.specs.declared.input.StackIn.TheVariants as inputs
+use Rattle.stack_assoc.specs.declared.standing.Standing.TheVariants as standings
+use Rattle.stack_assoc.specs.declared.taken.Opening.{Opening}
+use Rattle.stack_assoc.specs.declared.taken.Came.{Came}
+use Rattle.stack_assoc.specs.declared.taken.Came.TheVariants as cames
+use Rattle.stack_assoc.specs.declared.taken.Said.{Said}
+use Rattle.stack_assoc.specs.declared.taken.Said.TheVariants as saids
+use Rattle.stack_assoc.specs.Told.{Told, heard, Role, end_of}
+use Rattle.stack_assoc.specs.Expectations.{setup_by, id_or}
+use Rattle.stack_assoc.specs.Tellings.{Tell, transport_fault}
+use Rattle.stack_assoc.specs.Handing.{heard_in}
+use Rattle.stack_assoc.specs.Knowing.{nothing_known, known_with, setup_with}
+use Rattle.stack_assoc.specs.Taking.{opening_told, results_heard}
+use Rattle.stack_assoc.specs.Courses.{Course, taken, Stands, standing_with}
+
+-- at the start of a stream
+pub record IsNew (side : Side) (role : tpkt.Role) (title : Option (List ℕ)) (v : Course) : Type 0
+  where
+    pub title : v.title ≡ title
+    pub line : lines.Stands role [] [] v.line
+    pub settled : lines.IsSettled v.line
+    pub owed : v.owed ≡ None
+    pub held : v.held ≡ None
+    pub known : v.known ≡ nothing_known side
+    pub setup : v.setup ≡ setup_by 1024 None
+    pub standing : v.standing ≡ standings.Waiting
+    pub fault : v.fault ≡ None
+
+-- an opening more
+abbrev pub opened_with : Opening → Course → Course
+opened_with o v = record v {
+  owed = Some o;
+  known = known_with v.known (opening_told o);
+  setup = setup_with v.known v.setup (opening_told o);
+}
+
+-- octets and messages that are left, to be read
+abbrev pub one_if : Option Message → ℕ
+one_if None = 0
+one_if (Some m) = 1
+
+abbrev pub left_of : Course → ℕ
+left_of v = length v.line.unread + one_if v.held
+
+-- but for the transport all is as it was
+pub record OnlyReads (old new : Course) : Type 0 where
+  pub title : new.title ≡ old.title
+  pub owed : new.owed ≡ old.owed
+  pub held : new.held ≡ old.held
+  pub known : new.known ≡ old.known
+  pub setup : new.setup ≡ old.setup
+  pub standing : new.standing ≡ old.standing
+  pub fault : new.fault ≡ old.fault
+
+-- a message was taken, and nothing was told
+pub record OnlyTakes (old new : Course) : Type 0 where
+  pub title : new.title ≡ old.title
+  pub side : new.known.side ≡ old.known.side
+  pub standing : new.standing ≡ old.standing
+  pub fault : new.fault ≡ old.fault
+  pub fewer : left_of new ≤ left_of old
+
+abbrev pub Moves : Course → Came → Course → Type 0
+Moves old cames.Message new = OnlyTakes old new
+Moves old cames.Nothing new = OnlyReads old new
+Moves old (cames.Fault f) new = OnlyReads old new
+
+-- all messages so far were taken, and then there is a rest
+pub record HasRest (role : Role) (octets : List ℕ) (told : List Told) (v : Course) : Type 0 where
+  pub messages : List Message
+  pub rest : List ℕ
+  pub tell : Tell role told messages
+  pub says : transport.Says (end_of role) octets (messages ++ taken v) rest
+  pub settled : lines.IsSettled v.line
+
+-- all messages so far were taken, and then this rule is broken
+pub record HasBroken (role : Role) (octets : List ℕ) (told : List Told) (fault : StackFault)
+    (v : Course) : Type 0 where
+  pub messages : List Message
+  pub broken : CotpFault
+  pub tell : Tell role told messages
+  pub stops : transport.Stops (end_of role) octets (messages ++ taken v) broken
+  pub is : fault ≡ transport_fault broken
+
+abbrev pub LeavesOff : Role → List ℕ → List Told → Came → Course → Type 0
+LeavesOff role octets told cames.Message v = Unit {0}
+LeavesOff role octets told cames.Nothing v = HasRest role octets told v
+LeavesOff role octets told (cames.Fault f) v = HasBroken role octets told f v
+
+-- one message of the transport was taken: one to be read, or the opening
+abbrev pub IsTaken : Course → Came → Course → Type 0
+IsTaken old cames.Message new = IsSome new.held ⊎ ((old.owed ≡ None) × IsSome new.owed)
+IsTaken old _ new = Unit {0}
+
+pub record TakesOne (role : Role) (octets : List ℕ) (told : List Told) (old : Course) (came : Came)
+    (new : Course) : Type 0 where
+  pub stands : Stands role octets told new
+  pub leaves : LeavesOff role octets told came new
+  pub taken : IsTaken old came new
+
+-- the next message to be read was taken
+abbrev pub IsThere : Came → Course → Type 0
+IsThere cames.Message v = IsSome v.held
+IsThere _ v = v.held ≡ None
+
+pub record Takes (role : Role) (octets : List ℕ) (told : List Told) (came : Came) (new : Course) :
+    Type 0 where
+  pub stands : Stands role octets told new
+  pub leaves : LeavesOff role octets told came new
+  pub there : IsThere came new
+
+-- ---- telling
+
+-- a connect has at most sixteen offers, with ids of 16 bits
+abbrev pub IsModest : Heard → Type 0
+IsModest (heards.Connect c) = (length c.contexts ≤ MOST_OFFERS)
+    × (id_or 1 (acse_of c.contexts) ≤ 65535)
+IsModest _ = Unit {0}
+
+-- what is said of a message is fit to be told
+abbrev pub IsTellable : Said → Type 0
+IsTellable (saids.Heard h results) = IsModest h × (results ≡ results_heard h)
+IsTellable _ = Unit {0}
+
+abbrev pub told_heard : Heard → Course → Course
+told_heard h v = record v {
+  held = None;
+  known = known_with v.known (heard h);
+  setup = setup_with v.known v.setup (heard h);
+  standing = standing_with v.standing (heard h);
+}
+
+abbrev pub left_with : Came → Course → Course
+left_with (cames.Fault f) v = record v { fault = Some f }
+left_with _ v = v
+
+abbrev pub told_with : Came → Said → Course → Course
+told_with came saids.Nothing v = left_with came v
+told_with came saids.Gone v = record v { held = None; standing = standings.Closed }
+told_with came (saids.Heard h results) v = told_heard h v
+told_with came (saids.Broken f) v = record v { held = None; fault = Some f }
+
+abbrev pub left_answer : Came → Result (Option StackIn) StackFault
+left_answer (cames.Fault f) = Err f
+left_answer _ = Ok None
+
+abbrev pub told_answer : Came → Said → Result (Option StackIn) StackFault
+told_answer came saids.Nothing = left_answer came
+told_answer came saids.Gone = Ok (Some inputs.Aborted)
+told_answer came (saids.Heard h results) = Ok (Some (heard_in h))
+told_answer came (saids.Broken f) = Err f

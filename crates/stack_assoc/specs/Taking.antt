@@ -1,0 +1,68 @@
+-- What the transport gave, and what it says.
+use Rattle.std.specs.Prelude.{◌≡◌, ℕ, Bool, true, false, List, [], ◌∷◌, ◌++◌, Option, Some, None}
+use Rattle.std.specs.Prelude.{IsSome}
+use Rattle.tpkt_cotp.specs.declared.fault.CotpFault.{CotpFault}
+use Rattle.tpkt_cotp.specs.Streams as transport
+use Rattle.tpkt_cotp.specs.Streams.{Message, asks, confirms, tsdu}
+use Rattle.tpkt_cotp.specs.Lines as lines
+use Rattle.tpkt_cotp.specs.Written.{confirm_octets, wire}
+use Rattle.presentation_profile.specs.Agreements.{results_of}
+use Rattle.stack_messages.specs.declared.expecting.Expecting.{Expecting}
+use Rattle.stack_messages.specs.declared.expecting.Side.{Side}
+use Rattle.stack_messages.specs.declared.expecting.Side.TheVariants as sides
+use Rattle.stack_messages.specs.declared.fault.StackFault.{StackFault}
+use Rattle.stack_messages.specs.declared.heard.Heard.{Heard}
+use Rattle.stack_messages.specs.declared.heard.Heard.TheVariants as heards
+use Rattle.stack_messages.specs.Messages.{message}
+use Rattle.stack_wire.specs.Tsdus.{connect_tsdu}
+use Rattle.stack_assoc.specs.declared.taken.Opening.{Opening}
+use Rattle.stack_assoc.specs.declared.taken.Opening.TheVariants as openings
+use Rattle.stack_assoc.specs.declared.taken.Following.{Following}
+use Rattle.stack_assoc.specs.declared.taken.Following.TheVariants as followings
+use Rattle.stack_assoc.specs.declared.taken.Came.{Came}
+use Rattle.stack_assoc.specs.declared.taken.Came.TheVariants as cames
+use Rattle.stack_assoc.specs.declared.taken.Said.{Said}
+use Rattle.stack_assoc.specs.declared.taken.Said.TheVariants as saids
+use Rattle.stack_assoc.specs.Told.{Told, Role, end_of, asked, confirmed}
+use Rattle.stack_assoc.specs.Tellings.{Tell, Tells, Stops}
+
+abbrev pub opening_seen : Opening → Message
+opening_seen (openings.Request r) = asks r
+opening_seen (openings.Confirm c) = confirms c
+
+abbrev pub following_seen : Following → Message
+following_seen followings.Gone = transport.gone
+following_seen (followings.Tsdu place octets) = tsdu place octets.items
+
+-- what an opening tells
+abbrev pub opening_told : Opening → Told
+opening_told (openings.Request r) = asked r
+opening_told (openings.Confirm c) = confirmed c
+
+-- what is known of it already
+abbrev pub opened : Option Opening → List Told
+opened None = []
+opened (Some o) = opening_told o ∷ []
+
+abbrev pub opening_listed : Option Opening → List Message
+opening_listed None = []
+opening_listed (Some o) = opening_seen o ∷ []
+
+abbrev pub results_heard : Heard → List ℕ
+results_heard (heards.Connect c) = results_of c.contexts
+results_heard _ = []
+
+-- what a message says
+abbrev pub Says : Expecting → Option Message → Said → Type 0
+Says e None saids.Nothing = Unit {0}
+Says e (Some transport.gone) saids.Gone = Unit {0}
+Says e (Some (tsdu place octets)) (saids.Heard h results) =
+    (message e octets).says h × (results ≡ results_heard h)
+Says e (Some (tsdu place octets)) (saids.Broken f) = (message e octets).breaks f
+Says e _ _ = ⊥
+
+-- the octets that answer an opening
+abbrev pub owed_octets : Side → Option Opening → ℕ → Option (List ℕ) → List ℕ
+owed_octets sides.Called (Some (openings.Request r)) size title = confirm_octets r
+owed_octets sides.Calling (Some (openings.Confirm c)) size title = wire size (connect_tsdu title)
+owed_octets _ _ size title = []

@@ -1,0 +1,14 @@
+//! Both ends of an association: octets of a stream to messages, and messages to octets.
+#![tactic(auto)]
+
+mod input;
+mod known;
+mod offer;
+mod stack;
+mod standing;
+mod taken;
+mod taking;
+mod telling;
+
+pub use input::{StackIn, StackState};
+pub use stack::Stack;

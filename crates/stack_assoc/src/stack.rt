@@ -1,0 +1,177 @@
+//! An end of an association over a stream that comes in any pieces: octets in, messages out.
+ghost use Rattle.std.specs.Prelude.{◌≡◌, ℕ, ◌+◌, ◌≤◌, ◌<◌, List, [], ◌∷◌, ◌++◌, length, None, false};
+ghost use Rattle.std.specs.Prelude.{IfOk, OnOk, OnErr, OnSome};
+ghost use Rattle.tpkt_cotp.specs.declared.limits.TheConstants.{PIECE_LIMIT};
+ghost use Rattle.tpkt_cotp.specs.Written.{request_octets};
+ghost use Rattle.stack_assoc.specs.declared.input.StackState.TheVariants as states;
+ghost use Rattle.stack_assoc.specs.Told.{Told, Role, called, calling};
+ghost use Rattle.stack_assoc.specs.Expectations.{setup_by};
+ghost use Rattle.stack_assoc.specs.Courses.{Stands, IsSettled, is_offered, Answers, state_of};
+ghost use Rattle.stack_assoc.specs.Steps.{IsNew, left_of};
+
+use crate::input::{StackIn, StackState};
+use crate::known::Known;
+use crate::standing::Standing;
+use crate::taken::{Following, Opening};
+use ber_values::Oid;
+use presentation_profile::Results;
+use stack_messages::{Side, StackFault};
+use stack_wire::Setup;
+use std::alloc::{AllocError, Global};
+use std::marker::Model;
+use tpkt_cotp::{Role, Transport, write_cr};
+
+/// An end of an association. It holds at most one TSDU more than its transport.
+#[derive(Drop)]
+pub struct Stack {
+    pub(crate) alloc: Global,
+    pub(crate) title: Option<Oid>,
+    pub(crate) transport: Transport,
+    /// A connect request or confirm whose answer isn't out yet, and the message behind it.
+    pub(crate) owed: Option<Opening>,
+    pub(crate) held: Option<Following>,
+    pub(crate) known: Known,
+    pub(crate) setup: Setup,
+    pub(crate) standing: Standing,
+    pub(crate) fault: Option<StackFault>,
+}
+
+impl Model for Stack {
+    ghost use Rattle.std.specs.Prelude.{◌≤◌, option_map};
+    ghost use Rattle.stack_wire.specs.Setups.{IsSetup};
+    ghost use Rattle.stack_assoc.specs.Taking.{following_seen};
+    ghost use Rattle.stack_assoc.specs.Courses.{Course};
+
+    ghost Value = { Course };
+
+    ghost view = { λ s. record {
+      title = s.title;
+      line = s.transport;
+      owed = s.owed;
+      held = option_map following_seen s.held;
+      known = s.known;
+      setup = s.setup;
+      standing = s.standing;
+      fault = s.fault;
+    } };
+
+    ghost invariant = { λ s. IsSetup s.setup × (s.setup.acse ≤ 65535) };
+}
+
+/// What nothing has fixed yet.
+fn first_setup(alloc: Global) -> Setup
+    ensures { result ≡ setup_by 1024 None }
+{
+    Setup {
+        size: 1024,
+        session: None,
+        presentation: None,
+        results: Results::new(alloc),
+        acse: 1,
+        mms: 3,
+    }
+}
+
+impl Stack {
+    fn new(alloc: Global, role: Role, side: Side, title: Option<Oid>) -> Stack
+        ensures { IsNew side role title result }
+    {
+        Stack {
+            alloc,
+            title,
+            transport: Transport::new(alloc, role),
+            owed: None,
+            held: None,
+            known: Known::new(side),
+            setup: first_setup(alloc),
+            standing: Standing::Waiting,
+            fault: None,
+        }
+    }
+
+    /// The called end, at the start of a stream.
+    pub fn called(alloc: Global) -> Result<Stack, AllocError>
+        ensures { IfOk result (λ stack. Stands called [] [] stack × IsSettled stack
+            × (state_of stack ≡ states.Waiting)) }
+    {
+        Ok(Stack::new(alloc, Role::Called, Side::Called, None))
+    }
+
+    /// The calling end, at the start of a stream, with its title, if it has one. It appends its
+    /// connect request. After want of memory `out` is as before.
+    pub fn calling(
+        alloc: Global,
+        title: Option<Oid>,
+        out: &mut Vec<u8>,
+    ) -> Result<Stack, AllocError>
+        ensures ok { IfOk result (λ stack. Stands (calling title None) [] [] stack
+            × IsSettled stack × (state_of stack ≡ states.Waiting)) }
+        ensures out { OnOk result (out.new.items ≡ out.old.items ++ request_octets 1) }
+        ensures err { OnErr result (out.new.items ≡ out.old.items) }
+    {
+        write_cr(out, 1)?;
+        Ok(Stack::new(alloc, Role::Calling, Side::Calling, title))
+    }
+
+    /// How far the association has come.
+    pub fn state(&self) -> StackState
+        ensures { result ≡ state_of self.now }
+    {
+        match self.fault {
+            None => self.standing.state(),
+            Some(_) => StackState::Ended,
+        }
+    }
+
+    /// Takes the next piece of the stream, at most 65,536 octets, once `next` has answered that no
+    /// whole message is left, or a fault, and no offer stands unanswered. After a fault the octets
+    /// are dropped. After want of memory the stack is as before.
+    pub fn feed(&mut self, piece: &[u8]) -> Result<(), AllocError>
+        requires small { length piece.now ≤ PIECE_LIMIT }
+        requires settled { IsSettled self.old }
+        requires answered { is_offered self.old.standing ≡ false }
+        // The stream goes on by the piece.
+        ensures ok { (role : Role) (octets : List ℕ) (told : List Told)
+            → Stands role octets told self.old
+            → OnOk result (Stands role (octets ++ piece.now) told self.new) }
+        ensures state { OnOk result (state_of self.new ≡ state_of self.old) }
+        ensures err { OnErr result (self.new ≡ self.old) }
+    {
+        if self.fault.is_none() {
+            self.transport.feed(piece)?;
+        }
+        Ok(())
+    }
+
+    /// The next message of the stream so far that is handed out; none where no whole one is left, or
+    /// an offer stands unanswered; or the first rule that the stream breaks, once the messages
+    /// before it were handed out, and then again and again. It appends the answer to a connect
+    /// request or confirm of the transport. After want of memory `out` is as before, and the stack
+    /// stands where it stood.
+    pub fn next(
+        &mut self,
+        out: &mut Vec<u8>,
+    ) -> Result<Result<Option<StackIn>, StackFault>, AllocError>
+        ensures ok { (role : Role) (octets : List ℕ) (told : List Told)
+            → Stands role octets told self.old
+            → IfOk result (λ answer. Answers role octets told self.old out.old.items answer
+            self.new out.new.items) }
+        ensures shorter { IfOk result (λ answer. IfOk answer (λ input. OnSome input
+            (left_of self.new < left_of self.old))) }
+        ensures kept { (role : Role) (octets : List ℕ) (told : List Told)
+            → Stands role octets told self.old → OnErr result (Stands role octets told self.new) }
+        ensures state { OnErr result (state_of self.new ≡ state_of self.old) }
+        ensures out { OnErr result (out.new.items ≡ out.old.items) }
+    {
+        if let Some(fault) = self.fault {
+            return Ok(Err(fault));
+        }
+        if self.standing.is_offered() {
+            return Ok(Ok(None));
+        }
+        let came = self.take()?;
+        let said = self.read()?;
+        self.answer(out)?;
+        Ok(self.tell(came, said))
+    }
+}

@@ -1,0 +1,84 @@
+//! How an end stands to the offer and the association.
+ghost use Rattle.std.specs.Prelude.{◌≡◌, IsTrue, ◌↔◌};
+ghost use Rattle.stack_assoc.specs.Courses.{standing_with, state_by, is_offered, finishing};
+ghost use Rattle.stack_assoc.specs.Courses.{offered_by};
+ghost use Rattle.stack_assoc.specs.Handing.{is_offer};
+ghost use Rattle.stack_assoc.specs.Told.{heard};
+
+use crate::input::StackState;
+use crate::offer::is_offer;
+use stack_messages::Heard;
+
+/// How far an end has come with the offer and the association.
+#[derive(Clone, Copy, Debug, PartialEq, Eq)]
+pub(crate) enum Standing {
+    /// There is no offer yet, or, at the calling end, no answer.
+    Waiting,
+    /// An offer that may be accepted stands unanswered.
+    Offered,
+    /// An offer that can only be refused stands unanswered.
+    BadlyOffered,
+    /// The association stands.
+    Accepted,
+    /// The association stands, and the other end has asked for its release.
+    Finishing,
+    /// The association was refused, released or aborted.
+    Closed,
+}
+
+impl Standing {
+    /// Whether an offer stands unanswered.
+    pub(crate) fn is_offered(self) -> bool
+        ensures { result ≡ is_offered self }
+    {
+        match self {
+            Standing::Offered | Standing::BadlyOffered => true,
+            _ => false,
+        }
+    }
+
+    pub(crate) fn state(self) -> StackState
+        ensures { result ≡ state_by self }
+    {
+        match self {
+            Standing::Waiting => StackState::Waiting,
+            Standing::Offered | Standing::BadlyOffered => StackState::Offered,
+            Standing::Accepted | Standing::Finishing => StackState::Accepted,
+            Standing::Closed => StackState::Ended,
+        }
+    }
+
+    fn finishing(self) -> Standing
+        ensures { result ≡ finishing self }
+    {
+        match self {
+            Standing::Accepted => Standing::Finishing,
+            other => other,
+        }
+    }
+
+    /// Behind a message more.
+    pub(crate) fn with_heard(self, message: &Heard) -> Standing
+        ensures { result ≡ standing_with self (heard message.now) }
+    {
+        match message {
+            Heard::Connect(connecting) => offered(is_offer(connecting)),
+            Heard::Accept(_) => Standing::Accepted,
+            Heard::Finish => self.finishing(),
+            Heard::Refuse | Heard::Disconnect | Heard::Abort | Heard::AbortAccept => {
+                Standing::Closed
+            }
+            Heard::Pdu(_) | Heard::BadRequest { .. } => self,
+        }
+    }
+}
+
+fn offered(may_be_accepted: bool) -> Standing
+    ensures { result ≡ offered_by may_be_accepted }
+{
+    if may_be_accepted {
+        Standing::Offered
+    } else {
+        Standing::BadlyOffered
+    }
+}

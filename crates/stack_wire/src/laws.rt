@@ -1,0 +1,34 @@
+//! What holds of all that is written.
+ghost use Rattle.std.specs.Prelude.{ℕ, ◌≤◌, ◌<◌, Option, List, length};
+ghost use Rattle.ber_values.specs.Oid.{IsOid};
+ghost use Rattle.acse_assoc.specs.Writing.{IsTitle};
+ghost use Rattle.mms_services.specs.declared.initiate.Initiate.{Initiate};
+ghost use Rattle.mms_services.specs.declared.pdu.MmsPdu.{MmsPdu};
+ghost use Rattle.mms_services.specs.PduOctets.{pdu_len};
+ghost use Rattle.presentation_profile.specs.Written.{HasSelector};
+ghost use Rattle.stack_wire.specs.declared.setup.Setup.{Setup};
+ghost use Rattle.stack_wire.specs.Layouts.{AreLaidOut};
+ghost use Rattle.stack_wire.specs.Setups.{IsSetup};
+ghost use Rattle.stack_wire.specs.Said.{IsSaid};
+ghost use Rattle.stack_wire.specs.Tsdus.{connect_tsdu, accept_tsdu, refusal_tsdu, finish_tsdu};
+ghost use Rattle.stack_wire.specs.Tsdus.{release_tsdu, abort_tsdu, data_tsdu};
+
+/// With every id that a context may have, the finish, its answer, the abort and the refusal are the
+/// fixed octets, around the id.
+pub fn answers_are_laid_out()
+    ensures { (id : ℕ) → id ≤ 65535 → AreLaidOut id }
+{}
+
+/// The TPKTs in which something goes out say exactly its TSDU, wherever they stand after the first
+/// TPDU.
+pub fn what_is_written_is_said()
+    ensures connect { (title : Option (List ℕ)) → IsTitle title → IsSaid (connect_tsdu title) }
+    ensures accept { (setup : Setup) (answer : Initiate) → IsSetup setup
+        → HasSelector setup.session → HasSelector setup.presentation
+        → IsSaid (accept_tsdu setup answer) }
+    ensures refusal { (acse : ℕ) → IsSaid (refusal_tsdu acse) }
+    ensures finish { (acse : ℕ) → IsSaid (finish_tsdu acse) }
+    ensures release { (acse : ℕ) → IsSaid (release_tsdu acse) }
+    ensures abort { (acse : ℕ) → IsSaid (abort_tsdu acse) }
+    ensures pdu { (mms : ℕ) (pdu : MmsPdu) → pdu_len pdu ≤ 65000 → IsSaid (data_tsdu mms pdu) }
+{}

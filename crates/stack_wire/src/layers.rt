@@ -1,0 +1,62 @@
+//! A layer's written form in the body of the one below it.
+ghost use Rattle.std.specs.Prelude.{◌≡◌, ◌≢◌, ◌<◌, ◌≤◌, length, IfOk};
+ghost use Rattle.ber_values.specs.declared.lengths.TheConstants.{MOST_LENGTH};
+ghost use Rattle.acse_assoc.specs.Writing as acse;
+ghost use Rattle.mms_services.specs.PduOctets as mms;
+ghost use Rattle.presentation_profile.specs.Written as presentation;
+ghost use Rattle.session_profile.specs.Writing as session;
+ghost use Rattle.session_profile.specs.declared.spdu.Spdu.{Spdu};
+
+use acse_assoc::{Apdu, write_apdu};
+use ber_values::Span;
+use mms_services::{MmsPdu, write_pdu};
+use presentation_profile::{Ppdu, write_ppdu};
+use session_profile::{Spdu, write_spdu};
+use std::alloc::{AllocError, Global};
+
+/// The place of a body in a value that is written, which doesn't count.
+pub(crate) const NOWHERE: Span = Span { from: 0, to: 0 };
+
+/// The octets of a PDU.
+pub(crate) fn pdu_octets(alloc: Global, pdu: &MmsPdu) -> Result<Vec<u8>, AllocError>
+    requires writable { mms.IsWritable pdu.now }
+    requires bounded { mms.pdu_len pdu.now < MOST_LENGTH }
+    ensures { IfOk result (λ octets. octets.items ≡ mms.pdu_octets pdu.now) }
+{
+    let mut octets = Vec::new(alloc);
+    write_pdu(&mut octets, pdu)?;
+    Ok(octets)
+}
+
+/// The octets of an APDU with this body.
+pub(crate) fn apdu_octets(alloc: Global, apdu: &Apdu, body: &[u8]) -> Result<Vec<u8>, AllocError>
+    requires writable { acse.IsWritable apdu.now }
+    requires bounded { length body.now ≤ 65400 }
+    ensures { IfOk result (λ octets. octets.items ≡ acse.apdu_octets apdu.now body.now) }
+{
+    let mut octets = Vec::new(alloc);
+    write_apdu(&mut octets, apdu, body)?;
+    Ok(octets)
+}
+
+/// The octets of a PPDU with this body.
+pub(crate) fn ppdu_octets(alloc: Global, ppdu: &Ppdu, body: &[u8]) -> Result<Vec<u8>, AllocError>
+    requires writable { presentation.IsWritable ppdu.now }
+    requires bounded { length body.now ≤ 65400 }
+    ensures { IfOk result (λ octets. octets.items ≡ presentation.ppdu_octets ppdu.now body.now) }
+{
+    let mut octets = Vec::new(alloc);
+    write_ppdu(&mut octets, ppdu, body)?;
+    Ok(octets)
+}
+
+/// The octets of an SPDU with this body.
+pub(crate) fn spdu_octets(alloc: Global, spdu: &Spdu, body: &[u8]) -> Result<Vec<u8>, AllocError>
+    requires written { spdu.now ≢ Spdu.AbortAccept }
+    requires bounded { length body.now ≤ 65400 }
+    ensures { IfOk result (λ octets. octets.items ≡ session.written_form spdu.now body.now) }
+{
+    let mut octets = Vec::new(alloc);
+    write_spdu(&mut octets, spdu, body)?;
+    Ok(octets)
+}
