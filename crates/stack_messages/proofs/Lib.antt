@@ -1,0 +1,3 @@
+pub mod Exact
+pub mod LayersRead
+pub mod OneMeaning
