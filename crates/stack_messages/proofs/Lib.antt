@@ -1,2 +1,3 @@
+pub mod Exact
+pub mod LayersRead
 pub mod OneMeaning
-pub mod OneMessage
