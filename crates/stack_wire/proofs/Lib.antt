@@ -1,0 +1,4 @@
+pub mod Sizes
+pub mod Fits
+pub mod Fixed
+mod Worked
