@@ -75,7 +75,8 @@ pub(crate) fn carried(alloc: Global, acse: u32, apdu: &Apdu) -> Result<Vec<u8>, 
         id: acse,
         body: NOWHERE,
     };
-    ppdu_octets(alloc, &data, octets.as_slice())
+    let carried = ppdu_octets(alloc, &data, octets.as_slice())?;
+    Ok(carried)
 }
 
 /// The octets of an element of this tag, around these contents.
