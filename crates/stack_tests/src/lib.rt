@@ -1,5 +1,5 @@
-//! Tests of what goes through all layers of the wire, apart from their crates, so that none of these
-//! is proved a second time with its tests.
+//! Tests of what goes through all layers of the wire, apart from their crates, so that none of
+//! these is proved a second time with its tests.
 #![tactic(auto)]
 
 #[cfg(test)]

@@ -19,7 +19,8 @@ use Rattle.mms_services.specs.PduOctets.{pdu_octets, pdu_len}
 use Rattle.stack_wire.specs.declared.setup.Setup.{Setup}
 use Rattle.stack_wire.specs.Said.{IsTsdu, IsSaid}
 use Rattle.stack_wire.specs.Setups.{IsSetup}
-use Rattle.stack_wire.specs.Tsdus.{nowhere, own_parameters, own_request, own_offers, accepted, refused}
+use Rattle.stack_wire.specs.Tsdus.{nowhere, own_parameters, own_request, own_offers, accepted}
+use Rattle.stack_wire.specs.Tsdus.{refused}
 use Rattle.stack_wire.specs.Tsdus.{called_session, called_presentation, carried, connect_tsdu}
 use Rattle.stack_wire.specs.Tsdus.{accept_tsdu, refusal_tsdu, finish_tsdu, release_tsdu, abort_tsdu}
 use Rattle.stack_wire.specs.Tsdus.{data_tsdu}

@@ -1,7 +1,7 @@
 -- Most lengths of written forms.
-use Rattle.std.proofs.Common.{◌≡◌, ℕ, ◌+◌, ◌*◌, ◌<◌, ◌≤◌, ◌^◌, Bool, true, false, cond, ltb, eqb, List}
-use Rattle.std.proofs.Common.{[], ◌∷◌, ◌++◌, length, flat_map, Option, Some, None, IfSome, ℤ, pos}
-use Rattle.std.proofs.Common.{negsuc, refl, arith}
+use Rattle.std.proofs.Common.{◌≡◌, ℕ, ◌+◌, ◌*◌, ◌≤◌, ◌^◌, Bool, true, false, cond, ltb, eqb, List}
+use Rattle.std.proofs.Common.{[], ◌∷◌, ◌++◌, length, flat_map, Option, Some, None, ℤ, pos, negsuc}
+use Rattle.std.proofs.Common.{refl, arith}
 use Rattle.std.proofs.lemmas.List.{length-append}
 use Rattle.ber_values.specs.Oid.{IsOid}
 use Rattle.ber_values.specs.Externals.{external_octets}
@@ -42,7 +42,8 @@ integer-most : (value : ℤ) → length (integer_octets value) ≤ 8
 integer-most (pos n) = omega (arith, length-integer_octets (pos n), number_size-most n)
 integer-most (negsuc n) = omega (arith, length-integer_octets (negsuc n), number_size-most n)
 
-pub written-most : (tag : ℕ) (contents : List ℕ) → length (written tag contents) ≤ length contents + 6
+pub written-most : (tag : ℕ) (contents : List ℕ)
+    → length (written tag contents) ≤ length contents + 6
 written-most tag contents =
     omega (arith, length-written tag contents, part_size-most (length contents))
 
@@ -142,7 +143,8 @@ response-most result id body = omega (
 
 -- ---- presentation
 
-pub data-most : (id : ℕ) (body : List ℕ) → length (presentation.user_octets id body) ≤ length body + 32
+pub data-most : (id : ℕ) (body : List ℕ)
+    → length (presentation.user_octets id body) ≤ length body + 32
 unfolding presentation.user_octets
 data-most id body = omega (
   arith,
@@ -151,7 +153,8 @@ data-most id body = omega (
   external-most id body,
 )
 
-set_up-most : (contents : List ℕ) → length (presentation.set_up_octets contents) ≤ length contents + 17
+set_up-most : (contents : List ℕ)
+    → length (presentation.set_up_octets contents) ≤ length contents + 17
 unfolding presentation.set_up_octets
 set_up-most contents = omega (
   arith,

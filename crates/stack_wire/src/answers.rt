@@ -11,9 +11,7 @@ ghost use Rattle.stack_wire.specs.Setups.{IsSetup};
 ghost use Rattle.stack_wire.specs.Tsdus.{nowhere, accepted, refused, accept_tsdu, refusal_tsdu};
 ghost use Rattle.stack_wire.specs.Tsdus.{finish_tsdu, release_tsdu, data_tsdu};
 
-use crate::layers::{
-    NOWHERE, apdu_octets, carried, pdu_octets, ppdu_octets, spdu_octets, wrapped,
-};
+use crate::layers::{NOWHERE, apdu_octets, carried, pdu_octets, ppdu_octets, spdu_octets, wrapped};
 use crate::setup::Setup;
 use acse_assoc::{Apdu, AssociateResponse};
 use ber_values::External;
@@ -172,8 +170,8 @@ pub fn write_accept(
     write_tsdu(out, setup.size, tsdu.as_slice())
 }
 
-/// Appends the refusal of the called end, in ACSE's context, in TPDUs of at most `size` octets. After
-/// want of memory `out` is as before.
+/// Appends the refusal of the called end, in ACSE's context, in TPDUs of at most `size` octets.
+/// After want of memory `out` is as before.
 pub fn write_refusal(
     alloc: Global,
     out: &mut Vec<u8>,

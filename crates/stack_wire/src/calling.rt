@@ -145,8 +145,8 @@ fn connect_tsdu(alloc: Global, title: &Option<Oid>) -> Result<Vec<u8>, AllocErro
     Ok(tsdu)
 }
 
-/// Appends the connect of the calling end, with its title, if it has one, in TPDUs of at most `size`
-/// octets. After want of memory `out` is as before.
+/// Appends the connect of the calling end, with its title, if it has one, in TPDUs of at most
+/// `size` octets. After want of memory `out` is as before.
 pub fn write_connect(
     alloc: Global,
     out: &mut Vec<u8>,

@@ -57,8 +57,8 @@ fn is_response(pdu: &MmsPdu) -> bool
     }
 }
 
-/// The response as it goes out in TPDUs of this size; where memory ran out, what was there before is
-/// as it was, and it is said again.
+/// The response as it goes out in TPDUs of this size; where memory ran out, what was there before
+/// is as it was, and it is said again.
 fn said(alloc: Global, len: u16, size: u16) -> Result<Vec<u8>, Fail>
     requires len { len < 65000 }
     requires sized { (128 ≤ size) × (size ≤ 1024) }
@@ -103,13 +103,19 @@ fn seven_at(octets: &[u8], at: usize) -> &[u8] {
     }
 }
 
-/// Octets of a string, the size of TPDUs, the octets that go out behind three, and the place and the
-/// head of the last TPKT.
+/// Octets of a string, the size of TPDUs, the octets that go out behind three, and the place and
+/// the head of the last TPKT.
 const ROWS: [(u16, u16, usize, usize, [u8; 7]); 4] = [
     (2_962, 1024, 3_024, 2_059, [3, 0, 0x03, 0xC5, 2, 0xF0, 0x80]),
     (2_962, 128, 3_171, 3_039, [3, 0, 0x00, 0x84, 2, 0xF0, 0x80]),
     (2_963, 128, 3_179, 3_171, [3, 0, 0x00, 0x08, 2, 0xF0, 0x80]),
-    (64_981, 1024, 65_470, 64_767, [3, 0, 0x02, 0xBF, 2, 0xF0, 0x80]),
+    (
+        64_981,
+        1024,
+        65_470,
+        64_767,
+        [3, 0, 0x02, 0xBF, 2, 0xF0, 0x80],
+    ),
 ];
 
 #[test]
@@ -118,7 +124,11 @@ fn long_data(rt: HostRuntime) -> Result<(), Fail> {
         if len < 65_000 && 128 <= size && size <= 1024 {
             let out = said(rt.alloc(), len, size)?;
             assert_eq!(rt; out.len(), all, "{len} {size}");
-            assert_eq!(rt; seven_at(out.as_slice(), last), head.as_slice(), "{len} {size}");
+            assert_eq!(rt;
+                seven_at(out.as_slice(), last),
+                head.as_slice(),
+                "{len} {size}"
+            );
         }
     }
     Ok(())
@@ -132,8 +142,9 @@ fn long_data_is_said(rt: HostRuntime) -> Result<(), Fail> {
             let wanted = tsdu(rt.alloc(), len)?;
             let (_, octets) = out.as_slice().split_at(3.min(out.len()));
             let heard = heard(rt.alloc(), octets)?;
-            let [TransportIn::Connect(_), TransportIn::Tsdu { place, octets }] =
-                heard.messages.as_slice()
+            let [TransportIn::Connect(_), TransportIn::Tsdu { place, octets }] = heard
+                .messages
+                .as_slice()
             else {
                 return Err("no TSDU".into());
             };
