@@ -1,5 +1,5 @@
-//! Tests of messages through all layers, apart from their crates, so that none of these is proved a
-//! second time with its tests.
+//! Tests of what goes through all layers of the wire, apart from their crates, so that none of
+//! these is proved a second time with its tests.
 #![tactic(auto)]
 
 #[cfg(test)]
@@ -8,3 +8,5 @@ mod messages;
 mod rows;
 #[cfg(test)]
 mod texts;
+#[cfg(test)]
+mod wire;
