@@ -4,3 +4,7 @@ pub mod Names
 pub mod Steps
 pub mod Answered
 pub mod Outcomes
+pub mod Rooms
+pub mod Causes
+pub mod Sorted
+pub mod Listed
