@@ -2,7 +2,7 @@
 use Rattle.std.proofs.Common.{◌≡◌, ℕ, ◌+◌, ◌*◌, ◌^◌, ◌<◌, ◌≤◌, false, List, [], ◌∷◌, length, Option}
 use Rattle.std.proofs.Common.{Some, None, refl, ap, sym, ◌∙◌, arith}
 use Rattle.std.specs.Prelude.{decimal}
-use Rattle.plain_text.proofs.TextLengths.{length-decimal-some}
+use Rattle.plain_lengths.proofs.TextLengths.{length-decimal-some}
 use Rattle.tase_views.specs.declared.event.EventKind.{EventKind}
 use Rattle.tase_views.specs.declared.event.EventKind.TheVariants.{Open, Close, Stop}
 use Rattle.tase_views.specs.History.{Past, stop_in, is_stop}
