@@ -1,0 +1,60 @@
+-- The words of calls.
+use Rattle.std.specs.Prelude.{◌≡◌, ℕ, List, [], ◌∷◌, ◌++◌, map, Option, Some, None, codes, decimal}
+use Rattle.std.specs.Fmt.{signed_decimal}
+use Rattle.std.specs.List.{All}
+use Rattle.std.specs.Int.{w64}
+use Rattle.std.specs.Int.RustNames.{FitsSigned}
+use Rattle.plain_text.specs.Escaped.{escaped_text}
+use Rattle.mms_data.specs.Datum.{Datum}
+use Rattle.mms_data.specs.ObjectName.{ObjectName, IsName}
+use Rattle.mms_text.specs.Texts.{data_text, name_text, scope_text}
+use Rattle.mms_text.specs.TextRead.{HasText}
+use Rattle.tase_views.specs.declared.call.CallKind.{CallKind}
+use Rattle.tase_views.specs.declared.call.CallKind.TheVariants.{Identify, Read, Write, NameList, Odd}
+use Rattle.tase_views.specs.Calls.{IsCall}
+use Rattle.tase_views.specs.EventTexts.{read_verb}
+
+-- a name, and the value that it is to have
+abbrev pub assigned_word : ObjectName → Datum → List ℕ
+assigned_word name value = name_text name ++ 61 ∷ data_text value
+
+-- each name with the value at its place
+abbrev pub assigned_words : List ObjectName → List Datum → List (List ℕ)
+assigned_words [] values = []
+assigned_words (name ∷ names) [] = []
+assigned_words (name ∷ names) (value ∷ values) =
+    assigned_word name value ∷ assigned_words names values
+
+-- the name after which a list of names goes on
+abbrev pub after_words : Option (List ℕ) → List (List ℕ)
+after_words None = []
+after_words (Some after) = escaped_text after ∷ []
+
+-- `identify`, `read NAME ..`, `read+ NAME ..`, `write NAME=DATA ..`, `names CLASS SCOPE`,
+-- `names CLASS SCOPE AFTER` or `odd KIND CODE`
+abbrev pub call_words : CallKind → List (List ℕ)
+call_words Identify = codes "identify" ∷ []
+call_words (Read names echo) = read_verb echo ∷ map name_text names
+call_words (Write names values) = codes "write" ∷ assigned_words names values
+call_words (NameList class scope after) =
+    codes "names" ∷ signed_decimal class ∷ scope_text scope ∷ after_words after
+call_words (Odd kind code) = codes "odd" ∷ decimal kind ∷ decimal code ∷ []
+
+-- each part is one that a word spells: names of identifiers, data within their ranges, a class of
+-- 64 bits
+abbrev pub HasWords : CallKind → Type 0
+HasWords Identify = Unit {0}
+HasWords (Read names echo) = All IsName names
+HasWords (Write names values) = All IsName names × All HasText values
+HasWords (NameList class scope after) = FitsSigned w64 class
+HasWords (Odd kind code) = Unit {0}
+
+-- words spell a call
+pub record SpellsCall (words : List (List ℕ)) (call : CallKind) : Type 0 where
+  pub spelled : words ≡ call_words call
+  pub lawful : IsCall call
+  pub textual : HasWords call
+
+-- words spell some call
+abbrev pub AreCallWords : List (List ℕ) → Type 0
+AreCallWords words = (call : CallKind) × SpellsCall words call

@@ -1,0 +1,66 @@
+-- The lines of a feed: what the centre's own systems may ask of the node.
+use Rattle.std.specs.Prelude.{ℕ, nat_le, ◌==◌, if◌then◌else◌, pos, negsuc, List, [], ◌∷◌, Option}
+use Rattle.std.specs.Prelude.{Some, None, option_map, option_and_then, codes, bytes_eq}
+use Rattle.plain_text.specs.Numbers.{if_passes, number_up_to, integer_within, hex_octet, hex_octets}
+use Rattle.plain_text.specs.Words.{words_in}
+use Rattle.tase_points.specs.declared.body.Body.{Body}
+use Rattle.tase_points.specs.declared.body.Body.TheVariants.{State, Discrete, Real}
+use Rattle.tase_points.specs.declared.value.TheConstants.{STATE_LIMIT, FLAGS_LIMIT, SECONDS_LIMIT}
+use Rattle.tase_points.specs.declared.value.TheConstants.{MILLIS_LIMIT}
+use Rattle.tase_points.specs.Sample.{Sample}
+use Rattle.tase_points.specs.Points.{kind_of}
+use Rattle.tase_points.specs.Same.{same_kind}
+use Rattle.bilateral.specs.Rows.{CentreRows, place_of_point, point_of}
+use Rattle.tase_views.specs.declared.event.EventKind.{EventKind}
+use Rattle.tase_views.specs.declared.event.EventKind.TheVariants.{Update, Stop}
+
+-- a body: `s` and a state, `d` and a discrete value, `r` and the eight digits of a real one
+abbrev pub body_in : List ℕ → Option Body
+body_in [] = None
+body_in (letter ∷ rest) =
+    if letter == 115 then option_map State (number_up_to STATE_LIMIT rest)
+    else (if letter == 100 then
+    option_map Discrete (integer_within (negsuc 2147483647) (pos 2147483647) rest)
+    else (if letter == 114 then option_map Real (hex_octets 4 rest) else None))
+
+-- six bits of flags as two digits
+abbrev pub flags_in : List ℕ → Option ℕ
+flags_in word = option_and_then (if_passes (λ n. nat_le n FLAGS_LIMIT)) (hex_octet word)
+
+-- a value: body, flags, seconds and milliseconds
+abbrev pub value_in : List ℕ → List ℕ → List ℕ → List ℕ → Option Sample
+value_in body flags seconds millis =
+    option_and_then (λ b. option_and_then (λ f. option_and_then (λ s. option_map (λ m.
+    record { body = b; flags = f; seconds = s; millis = m })
+    (number_up_to MILLIS_LIMIT millis)) (number_up_to SECONDS_LIMIT seconds)) (flags_in flags))
+    (body_in body)
+
+-- the update of a point with a value of its kind
+abbrev pub update_of : CentreRows → ℕ → Sample → Option EventKind
+update_of rows point value =
+    if same_kind (kind_of value.body) (point_of rows point).kind then Some (Update point value)
+    else None
+
+-- `NAME BODY FLAGS SECONDS MILLIS` behind `update`
+abbrev pub update_in : CentreRows → List (List ℕ) → Option EventKind
+update_in rows (name ∷ body ∷ flags ∷ seconds ∷ millis ∷ []) =
+    option_and_then (λ point. option_and_then (λ value. update_of rows point value)
+    (value_in body flags seconds millis)) (place_of_point rows name)
+update_in rows words = None
+
+-- nothing behind `stop`
+abbrev pub stop_in : List (List ℕ) → Option EventKind
+stop_in [] = Some Stop
+stop_in (word ∷ words) = None
+
+-- `update NAME BODY FLAGS SECONDS MILLIS` or `stop`
+abbrev pub feed_words_in : CentreRows → List (List ℕ) → Option EventKind
+feed_words_in rows [] = None
+feed_words_in rows (verb ∷ words) =
+    if bytes_eq verb (codes "update") then update_in rows words
+    else (if bytes_eq verb (codes "stop") then stop_in words else None)
+
+-- the event of seat 0 that a line asks for, where it is one of the forms, names a point of the
+-- centre, and has a value of this point's kind
+abbrev pub feed_event_in : CentreRows → List ℕ → Option EventKind
+feed_event_in rows line = option_and_then (feed_words_in rows) (words_in line)

@@ -1,0 +1,6 @@
+pub mod ReplyTexts
+pub mod CallWords
+pub mod Breaks
+pub mod WordPlaces
+pub mod CallTexts
+pub mod FeedLines

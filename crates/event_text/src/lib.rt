@@ -1,0 +1,11 @@
+//! Texts of calls, events and replies, and the lines that a feed may hold.
+#![tactic(auto)]
+
+mod feed;
+mod reading;
+mod values;
+mod writing;
+
+pub use feed::read_feed_line;
+pub use reading::{read_call, read_call_words};
+pub use writing::{spell_call, spell_event, spell_reply};

@@ -1,0 +1,38 @@
+//! The texts of calls, events and replies, written.
+ghost use Rattle.std.specs.Prelude.{◌≡◌, ◌++◌, OnOk, OnErr};
+ghost use Rattle.tase_views.specs.EventTexts.{call_text, event_text};
+ghost use Rattle.event_text.specs.ReplyTexts.{reply_text};
+
+use std::alloc::AllocError;
+use tase_views::{Call, Event, Reply};
+
+/// Appends the text of a call: `identify`, `read NAME ..`, `read+ NAME ..`, `write NAME=DATA ..`,
+/// `names CLASS SCOPE`, `names CLASS SCOPE AFTER` or `odd KIND CODE`. After want of memory `out` is
+/// as before.
+pub fn spell_call(out: &mut Vec<u8>, call: &Call) -> Result<(), AllocError>
+    ensures ok { OnOk result (out.new.items ≡ out.old.items ++ call_text call.now) }
+    ensures err { OnErr result (out.new.items ≡ out.old.items) }
+{
+    Err(AllocError)
+}
+
+/// Appends the text of an event: `open PEER`, `call CALL`, `take`, `close`,
+/// `update POINT BODY FLAGS SECONDS MILLIS` or `stop`, with peers and points by their numbers. After
+/// want of memory `out` is as before.
+pub fn spell_event(out: &mut Vec<u8>, event: &Event) -> Result<(), AllocError>
+    ensures ok { OnOk result (out.new.items ≡ out.old.items ++ event_text event.now) }
+    ensures err { OnErr result (out.new.items ≡ out.old.items) }
+{
+    Err(AllocError)
+}
+
+/// Appends the text of a reply: `identify`; `read OUTCOME ..`, or `read+ OUTCOME ..` where the reply
+/// repeats what the read named; `write` with `ok` or `!N` for each variable; `names end ITEM ..` or
+/// `names more ITEM ..`; `error CLASS CODE`; `reject KIND CODE`. After want of memory `out` is as
+/// before.
+pub fn spell_reply(out: &mut Vec<u8>, reply: &Reply) -> Result<(), AllocError>
+    ensures ok { OnOk result (out.new.items ≡ out.old.items ++ reply_text reply.now) }
+    ensures err { OnErr result (out.new.items ≡ out.old.items) }
+{
+    Err(AllocError)
+}
