@@ -8,7 +8,8 @@ use Rattle.outside.specs.Sink.{SinkTold}
 use Rattle.outside.specs.Outside.{OutsideTold, Asks}
 use Rattle.outside.specs.Outside.{OpensOut, ClosesOut}
 use Rattle.command_io.specs.declared.status.Status.{Status}
-use Rattle.command_io.specs.declared.status.Status.TheVariants.{Done, Usage, Input, Outside, Memory}
+use Rattle.command_io.specs.declared.status.Status.TheVariants.{Done, Usage, Input, Outside, Full}
+use Rattle.command_io.specs.declared.status.Status.TheVariants.{Memory}
 use Rattle.command_io.specs.Statuses.{is_outside, is_whole, is_of_command, OnWhole}
 use Rattle.command_io.specs.Leaves.{SomeOf, Rises, Uses, source_faults, sink_faults, FailedAt}
 use Rattle.command_io.specs.Leaves.{FaultyAt, StandsAgain}
@@ -28,6 +29,7 @@ Tells-answered : (said : Said) (k l : SinkTold) (status : Status) → Tells said
 Tells-answered said k l Done tells = tells.0
 Tells-answered said k l Usage tells = tells.0
 Tells-answered said k l Input tells = tells.0
+Tells-answered said k l Full tells = tells.0
 Tells-answered said k l Outside tells = tt
 Tells-answered said k l Memory tells = tt
 
@@ -36,6 +38,7 @@ Tells-took : (said : Said) (k l : SinkTold) (status : Status) → Tells said k l
 Tells-took said k l Done tells = tells.1.taken
 Tells-took said k l Usage tells = tells.1.taken
 Tells-took said k l Input tells = tells.1.taken
+Tells-took said k l Full tells = tells.1.taken
 Tells-took said k l Outside tells = (tells.0, tells.1.taken)
 Tells-took said k l Memory tells = (tells.0, tells.1.taken)
 
@@ -44,6 +47,7 @@ Tells-faults : (said : Said) (k l : SinkTold) (status : Status) → Tells said k
 Tells-faults said k l Done tells = tells.1.faults
 Tells-faults said k l Usage tells = tells.1.faults
 Tells-faults said k l Input tells = tells.1.faults
+Tells-faults said k l Full tells = tells.1.faults
 Tells-faults said k l Outside tells = tells.1.faults
 Tells-faults said k l Memory tells = tells.1.faults
 
@@ -52,6 +56,7 @@ Tells-name : (said : Said) (k l : SinkTold) (status : Status) → Tells said k l
 Tells-name said k l Done tells = tells.1.name
 Tells-name said k l Usage tells = tells.1.name
 Tells-name said k l Input tells = tells.1.name
+Tells-name said k l Full tells = tells.1.name
 Tells-name said k l Outside tells = tells.1.name
 Tells-name said k l Memory tells = tells.1.name
 
@@ -64,6 +69,8 @@ answers_words Done status whole (inr lost) = λ usage. absurd cc
 answers_words Usage status whole either = either
 answers_words Input status whole (inl same) = λ usage. absurd cc
 answers_words Input status whole (inr lost) = λ usage. absurd cc
+answers_words Full status whole (inl same) = λ usage. absurd cc
+answers_words Full status whole (inr lost) = λ usage. absurd cc
 answers_words Outside status whole either = absurd cc
 answers_words Memory status whole either = absurd cc
 

@@ -9,7 +9,8 @@ use Rattle.outside.specs.Octets.{Adds}
 use Rattle.outside.specs.Sink.{SinkTold}
 use Rattle.outside.specs.Outside.{Standing, OutsideTold, Asks}
 use Rattle.command_io.specs.declared.status.Status.{Status}
-use Rattle.command_io.specs.declared.status.Status.TheVariants.{Done, Usage, Input, Outside, Memory}
+use Rattle.command_io.specs.declared.status.Status.TheVariants.{Done, Usage, Input, Outside, Full}
+use Rattle.command_io.specs.declared.status.Status.TheVariants.{Memory}
 use Rattle.command_io.specs.Statuses.{is_outside, OnWhole}
 use Rattle.command_io.specs.Leaves.{is_among, SomeOf, Rises, Uses}
 use Rattle.command_io.specs.Leaves.{source_faults, sink_faults, FailedAt, FaultyAt}
@@ -25,6 +26,7 @@ pub OnWhole-all : (status : Status) {P : Type 0} → P → OnWhole status P
 OnWhole-all Done p = p
 OnWhole-all Usage p = p
 OnWhole-all Input p = p
+OnWhole-all Full p = p
 OnWhole-all Outside p = tt
 OnWhole-all Memory p = tt
 
@@ -32,6 +34,7 @@ pub OnWhole-map : (status : Status) {P Q : Type 0} → (P → Q) → OnWhole sta
 OnWhole-map Done f h = f h
 OnWhole-map Usage f h = f h
 OnWhole-map Input f h = f h
+OnWhole-map Full f h = f h
 OnWhole-map Outside f h = tt
 OnWhole-map Memory f h = tt
 
@@ -51,6 +54,7 @@ pub IsComplete-from : (status : Status) (before now : ℕ) (said : Said)
 IsComplete-from Done before now said answered cause = λ none. inl (sym answered)
 IsComplete-from Usage before now said answered cause = λ none. inl (sym answered)
 IsComplete-from Input before now said answered cause = λ none. inl (sym answered)
+IsComplete-from Full before now said answered cause = λ none. inl (sym answered)
 IsComplete-from Outside before now said answered cause = λ none. absurd (none (cause refl))
 IsComplete-from Memory before now said answered cause = λ none. inr refl
 
@@ -71,6 +75,7 @@ pub Took-untold : (status : Status) (octets : List ℕ) → Took status None Non
 Took-untold Done octets = refl
 Took-untold Usage octets = refl
 Took-untold Input octets = refl
+Took-untold Full octets = refl
 Took-untold Outside octets = (0, refl)
 Took-untold Memory octets = (0, refl)
 
@@ -79,6 +84,7 @@ abbrev pub IsCut : Status → Type 0
 IsCut Done = ⊥
 IsCut Usage = ⊥
 IsCut Input = ⊥
+IsCut Full = ⊥
 IsCut Outside = Unit {0}
 IsCut Memory = Unit {0}
 
@@ -89,6 +95,7 @@ module _ (status : Status) (cut : IsCut status) (before after : List ℕ → Sta
   nothing_took Done is name octets = absurd is
   nothing_took Usage is name octets = absurd is
   nothing_took Input is name octets = absurd is
+  nothing_took Full is name octets = absurd is
   nothing_took Outside is name octets = (
     0,
     subst (λ t. Adds (taken_of (before name)) t []) (sym (same name))
@@ -104,6 +111,7 @@ module _ (status : Status) (cut : IsCut status) (before after : List ℕ → Sta
   cut_whole Done is P = absurd is
   cut_whole Usage is P = absurd is
   cut_whole Input is P = absurd is
+  cut_whole Full is P = absurd is
   cut_whole Outside is P = tt
   cut_whole Memory is P = tt
 
@@ -128,6 +136,7 @@ cut_words false status cut lost = inr (lost refl)
 cut_words true Done cut lost = absurd cut
 cut_words true Usage cut lost = absurd cut
 cut_words true Input cut lost = absurd cut
+cut_words true Full cut lost = absurd cut
 cut_words true Outside cut lost = λ same. absurd cc
 cut_words true Memory cut lost = λ same. absurd cc
 

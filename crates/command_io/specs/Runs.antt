@@ -5,7 +5,8 @@ use Rattle.outside.specs.Octets.{Adds}
 use Rattle.outside.specs.Sink.{SinkTold, AppendsAll, AppendsPart}
 use Rattle.outside.specs.Outside.{Standing, untold, missing, lent, there, OutsideTold, Asks}
 use Rattle.command_io.specs.declared.status.Status.{Status}
-use Rattle.command_io.specs.declared.status.Status.TheVariants.{Done, Usage, Input, Outside, Memory}
+use Rattle.command_io.specs.declared.status.Status.TheVariants.{Done, Usage, Input, Outside, Full}
+use Rattle.command_io.specs.declared.status.Status.TheVariants.{Memory}
 use Rattle.command_io.specs.Statuses.{is_outside, OnWhole}
 use Rattle.command_io.specs.Leaves.{Uses, Rises}
 use Rattle.command_io.specs.Saying.{Said, Duty}
@@ -26,6 +27,7 @@ abbrev pub Took : Status → Option (List ℕ) → Option (List ℕ) → List �
 Took Done before after octets = Adds before after octets
 Took Usage before after octets = Adds before after octets
 Took Input before after octets = Adds before after octets
+Took Full before after octets = Adds before after octets
 Took Outside before after octets = (count : ℕ) × Adds before after (take count octets)
 Took Memory before after octets = (count : ℕ) × Adds before after (take count octets)
 
@@ -85,5 +87,6 @@ abbrev pub Tells : Said → SinkTold → SinkTold → Status → Type 0
 Tells said before after Done = (said.status ≡ Done) × AppendsAll before after said.text
 Tells said before after Usage = (said.status ≡ Usage) × AppendsAll before after said.text
 Tells said before after Input = (said.status ≡ Input) × AppendsAll before after said.text
+Tells said before after Full = (said.status ≡ Full) × AppendsAll before after said.text
 Tells said before after Outside = AppendsPart before after said.text true
 Tells said before after Memory = AppendsPart before after said.text false

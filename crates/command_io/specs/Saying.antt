@@ -23,6 +23,10 @@ refusal_text input Long = codes "input " ++ input ++ codes " long" ++ 10 ∷ []
 refusal_text input (BadLine line) =
     codes "input " ++ input ++ codes " line " ++ decimal line ++ 10 ∷ []
 
+-- the line of a history that would weigh more than its limit
+abbrev pub full_text : ℕ → ℕ → List ℕ
+full_text weight limit = codes "full " ++ decimal weight ++ codes " " ++ decimal limit ++ 10 ∷ []
+
 -- what is told of an input: nothing, that it isn't there, or its octets
 pub data Text : Type 0 where
   untold : Text

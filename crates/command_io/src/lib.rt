@@ -8,5 +8,5 @@ mod output;
 mod status;
 
 pub use input::{InputEnd, Refusal, TEXT_LIMIT, read_input};
-pub use output::{OUTPUT, print, refuse, tell_refusal};
+pub use output::{OUTPUT, print, refuse, tell_full, tell_refusal};
 pub use status::Status;

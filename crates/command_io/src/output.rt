@@ -1,7 +1,7 @@
 //! What a command prints on standard output.
-ghost use Rattle.std.specs.Prelude.{◌≡◌, ◌⊎◌, IsTrue, true};
+ghost use Rattle.std.specs.Prelude.{◌≡◌, ◌⊎◌, IsTrue, true, IfOk, string_bytes};
 ghost use Rattle.command_io.specs.Statuses.{is_whole, is_of_command};
-ghost use Rattle.command_io.specs.Saying.{prints, refusal_text, duty_to_say};
+ghost use Rattle.command_io.specs.Saying.{prints, refusal_text, full_text, duty_to_say};
 ghost use Rattle.command_io.specs.Runs.{IsRun, Tells};
 
 use crate::input::{Refusal, refusal_line};
@@ -31,6 +31,25 @@ pub fn tell_refusal<K: Sink>(alloc: Global, sink: &mut K, input: &str, refusal: 
 {
     match refusal_line(alloc, input, refusal) {
         Ok(line) => tell(sink, Status::Input, line.as_bytes()),
+        Err(AllocError) => Status::Memory,
+    }
+}
+
+/// The line of a history that would weigh so many octets, and may weigh at most `limit`.
+fn full_line(alloc: Global, weight: u64, limit: u64) -> Result<String, AllocError>
+    ensures { IfOk result (λ text. string_bytes text ≡ full_text weight limit) }
+{
+    format!(in alloc; "full {weight} {limit}\n")
+}
+
+/// Writes to an open sink that the history would weigh so many octets, and may weigh at most
+/// `limit`.
+pub fn tell_full<K: Sink>(alloc: Global, sink: &mut K, weight: u64, limit: u64) -> Status
+    ensures { Tells (prints Status.Full (full_text weight limit))
+        (K.told sink.old) (K.told sink.new) result }
+{
+    match full_line(alloc, weight, limit) {
+        Ok(line) => tell(sink, Status::Full, line.as_bytes()),
         Err(AllocError) => Status::Memory,
     }
 }

@@ -14,6 +14,9 @@ pub enum Status {
     Input,
     /// 4: an object outside failed, or couldn't be opened.
     Outside,
+    /// 5: an event was refused since the history would have weighed more than its limit; the last
+    /// line printed has both numbers.
+    Full,
     /// 7: memory ran out.
     Memory,
 }
@@ -30,6 +33,7 @@ impl Status {
             Status::Usage => 2,
             Status::Input => 3,
             Status::Outside => 4,
+            Status::Full => 5,
             Status::Memory => 7,
         }
     }

@@ -6,9 +6,10 @@ use Rattle.tase_views.specs.declared.event.Entry.{Entry}
 use Rattle.tase_views.specs.declared.fault.StepFault.{StepFault}
 use Rattle.tase_views.specs.declared.fault.StepFault.TheVariants as faults
 use Rattle.tase_replay.specs.declared.playing.ReplayEnd.{ReplayEnd}
-use Rattle.tase_replay.specs.declared.playing.ReplayEnd.TheVariants.{Done, BadLine, SinkFault}
-use Rattle.tase_replay.specs.declared.playing.ReplayEnd.TheVariants.{Memory}
-use Rattle.tase_replay.specs.Play.{Step, Played, done, bad_line, steps_of, entries_in, printed_in}
+use Rattle.tase_replay.specs.declared.playing.ReplayEnd.TheVariants.{Done, BadLine, Full}
+use Rattle.tase_replay.specs.declared.playing.ReplayEnd.TheVariants.{SinkFault, Memory}
+use Rattle.tase_replay.specs.Play.{Step, Played, done, bad_line, history_full, steps_of}
+use Rattle.tase_replay.specs.Play.{entries_in, printed_in}
 
 -- all these steps were taken, and no write failed
 pub record TakesAll (steps : List Step) (history now : List Entry)
@@ -29,14 +30,17 @@ pub record TakesPart (steps : List Step) (history now : List Entry) (before afte
   -- the sink took a front part of what they print
   pub shown : AppendsPart before after (printed_in (take count steps)) failed
 
--- Done and a bad line come exactly where the scenario has none and has this one, with all before it
--- taken and shown;
--- a fault of the sink comes only where a write failed, which was the last.
+-- Done comes exactly where all lines may be taken, a bad line exactly where the scenario has this
+-- one first, and a full history exactly where the first line that may not be taken is one with
+-- whose event it would weigh so much; all before it is taken and shown. A fault of the sink comes
+-- only where a write failed, which was the last.
 abbrev pub IsPlayed : Played → List Entry → List Entry → SinkTold → SinkTold → ReplayEnd → Type 0
 IsPlayed played history now before after Done =
     (played.end ≡ done) × TakesAll (steps_of played) history now before after
 IsPlayed played history now before after (BadLine line) =
     (played.end ≡ bad_line line) × TakesAll (steps_of played) history now before after
+IsPlayed played history now before after (Full weight limit) =
+    (played.end ≡ history_full weight limit) × TakesAll (steps_of played) history now before after
 IsPlayed played history now before after SinkFault =
     TakesPart (steps_of played) history now before after true
 IsPlayed played history now before after Memory =
@@ -46,6 +50,7 @@ IsPlayed played history now before after Memory =
 abbrev pub IsShown : List ℕ → SinkTold → SinkTold → ReplayEnd → Type 0
 IsShown text before after Done = AppendsAll before after text
 IsShown text before after (BadLine line) = ⊥
+IsShown text before after (Full weight limit) = ⊥
 IsShown text before after SinkFault = AppendsPart before after text true
 IsShown text before after Memory = AppendsPart before after text false
 
@@ -58,6 +63,8 @@ entry_or_end number (Err none) = Err Memory
 -- how the line with this number ends whose event was refused
 abbrev pub end_of_refusal : ℕ → StepFault → ReplayEnd
 end_of_refusal number faults.Memory = Memory
+end_of_refusal number (faults.Stopped place) = BadLine number
+end_of_refusal number (faults.HistoryFull weight limit) = Full weight limit
 end_of_refusal number faults.NoAssociation = BadLine number
 end_of_refusal number faults.Already = BadLine number
 end_of_refusal number faults.UnknownName = BadLine number

@@ -12,7 +12,7 @@ all_concern rows peer (step ∷ steps) =
     concerns rows peer step.entry.event step.key && all_concern rows peer steps
 
 -- the lines that concern a peer: all but those of other peers, and the updates of points that its
--- table doesn't name
+-- table doesn't name; a stop concerns every peer
 abbrev pub lines_of : CentreRows → ℕ → Played → List (List ℕ)
 lines_of rows peer played =
     map (λ taken. taken.line) (filter (λ taken. all_concern rows peer taken.steps) played.taken)
@@ -21,8 +21,8 @@ lines_of rows peer played =
 abbrev pub replies_to : ℕ → Played → List ℕ
 replies_to peer played = printed_in (filter (λ step. is_of peer step.key) (steps_of played))
 
--- the replies to a peer are those of the scenario of the lines alone that concern it, none of which
--- is bad there
+-- the replies and reports to a peer are those of the scenario of the lines alone that were taken and
+-- concern it; all of these are taken there
 abbrev pub IsIsolated : Setup → ℕ → List (List ℕ) → Type 0
 IsIsolated setup peer scenario =
     let all : Played = played_of setup scenario in

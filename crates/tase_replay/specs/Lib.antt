@@ -1,3 +1,4 @@
+pub mod CallIn
 pub mod Lines
 pub mod Play
 pub mod Isolation

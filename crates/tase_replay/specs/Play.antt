@@ -1,28 +1,44 @@
 -- What a scenario gives: the lines that are taken, their entries and what is printed at each, and
 -- how it ends.
 use Rattle.std.specs.Prelude.{ℕ, ◌+◌, if◌then◌else◌, List, [], ◌∷◌, ◌++◌, map, flat_map, Option}
-use Rattle.std.specs.Prelude.{Some, None, is_some, codes, decimal}
+use Rattle.std.specs.Prelude.{Some, None, codes, decimal}
 use Rattle.std.specs.Str.Lines.{lines}
 use Rattle.plain_text.specs.Lines.{is_skipped}
 use Rattle.sbo_device.specs.declared.key.Key.{Key}
 use Rattle.tase_views.specs.declared.event.Entry.{Entry}
 use Rattle.tase_views.specs.declared.reply.ReplyKind.{ReplyKind}
 use Rattle.tase_views.specs.declared.reply.Answer.{Answer}
-use Rattle.tase_views.specs.declared.reply.Answer.TheVariants.{Opened, Reply, Noted}
+use Rattle.tase_views.specs.declared.reply.Report.{Report}
+use Rattle.tase_views.specs.declared.reply.Answer.TheVariants.{Opened, Reply, Reports, Closed}
+use Rattle.tase_views.specs.declared.reply.Answer.TheVariants.{Noted}
+use Rattle.tase_views.specs.declared.fault.StepFault.{StepFault}
+use Rattle.tase_views.specs.declared.fault.StepFault.TheVariants.{Memory, Stopped, HistoryFull}
+use Rattle.tase_views.specs.declared.fault.StepFault.TheVariants.{NoAssociation, Already}
+use Rattle.tase_views.specs.declared.fault.StepFault.TheVariants.{UnknownName}
 use Rattle.tase_views.specs.Setup.{Setup}
 use Rattle.tase_views.specs.History.{Past, key_at}
 use Rattle.tase_views.specs.Outcomes.{refusal_of, answer_of}
-use Rattle.tase_views.specs.Texts.{reply_text}
+use Rattle.event_text.specs.ReplyTexts.{reply_text}
 use Rattle.tase_replay.specs.Lines.{entry_in}
 
 -- a reply to a seat, as a line
 abbrev pub line_of_reply : ℕ → ReplyKind → List ℕ
 line_of_reply who reply = codes "reply " ++ decimal who ++ 32 ∷ reply_text reply ++ 10 ∷ []
 
--- what is printed of an answer to a seat: the reply to a request
+-- no report is made yet
+abbrev pub report_text : Report → List ℕ
+report_text report = elim report [ ]
+
+-- a report to a seat, as a line
+abbrev pub line_of_report : ℕ → Report → List ℕ
+line_of_report who report = codes "report " ++ decimal who ++ 32 ∷ report_text report ++ 10 ∷ []
+
+-- what is printed of an answer to a seat: the reply to a request, and the reports that are taken
 abbrev pub printed_of : ℕ → Answer → List ℕ
 printed_of who (Opened key) = []
 printed_of who (Reply reply) = line_of_reply who reply
+printed_of who (Reports reports) = flat_map (line_of_report who) reports
+printed_of who Closed = []
 printed_of who Noted = []
 
 -- an entry that was taken, the association that it is of, and what is printed at it
@@ -39,17 +55,28 @@ step_of setup past entry =
       printed = printed_of entry.who (answer_of setup past entry.who entry.event);
     }
 
--- what a line means after the lines before it: that it is bad, or what it gives, in order
+-- what a line means after the lines before it: that it is bad, that with its event the history
+-- would weigh so much, which is more than its limit, or what it gives, in order
 pub data Meaning : Type 0 where
   bad : Meaning
+  too_heavy : ℕ → ℕ → Meaning
   gives : List Step → Meaning
+
+-- a step that the node takes, or why it refuses it
+abbrev pub meaning_of : Step → Option StepFault → Meaning
+meaning_of step None = gives (step ∷ [])
+meaning_of step (Some Memory) = bad
+meaning_of step (Some (Stopped place)) = bad
+meaning_of step (Some (HistoryFull weight limit)) = too_heavy weight limit
+meaning_of step (Some NoAssociation) = bad
+meaning_of step (Some Already) = bad
+meaning_of step (Some UnknownName) = bad
 
 -- an entry that the node doesn't refuse
 abbrev pub accepted : Setup → Past → Option Entry → Meaning
 accepted setup past None = bad
 accepted setup past (Some entry) =
-    if is_some (refusal_of setup past entry.who entry.event) then bad
-    else gives (step_of setup past entry ∷ [])
+    meaning_of (step_of setup past entry) (refusal_of setup past entry.who entry.event)
 
 abbrev pub line_in : Setup → Past → List ℕ → Meaning
 line_in setup past line =
@@ -60,10 +87,12 @@ pub record Taken : Type 0 where
   pub line : List ℕ
   pub steps : List Step
 
--- how a scenario ends: after its last line, or at its first bad one, by its number
+-- how a scenario ends: after its last line; at its first bad one, by its number; or at an event
+-- with which the history would weigh so much, which is more than its limit
 pub data End : Type 0 where
   done : End
   bad_line : ℕ → End
+  history_full : ℕ → ℕ → End
 
 pub record Played : Type 0 where
   pub taken : List Taken
@@ -77,11 +106,13 @@ past_after past (step ∷ steps) = past_after (step.entry ∷ past) steps
 -- a line with this number and then the rest, which `rest` plays from a past
 abbrev pub play_line : List ℕ → ℕ → Past → Meaning → (Past → Played) → Played
 play_line line number past bad rest = record { taken = []; end = bad_line number }
+play_line line number past (too_heavy weight limit) rest =
+    record { taken = []; end = history_full weight limit }
 play_line line number past (gives steps) rest =
     let after : Played = rest (past_after past steps) in
     record { taken = record { line = line; steps = steps } ∷ after.taken; end = after.end }
 
--- each line after those before it, up to the first bad one; the first line has this number
+-- each line after those before it, up to the first that isn't taken; the first line has this number
 abbrev pub play : Setup → List (List ℕ) → Past → ℕ → Played
 play setup [] past number = record { taken = []; end = done }
 play setup (line ∷ more) past number =

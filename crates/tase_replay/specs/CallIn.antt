@@ -1,0 +1,104 @@
+-- The call that the words behind `say W` spell.
+use Rattle.std.specs.Prelude.{ℕ, ℤ, ◌+◌, ◌^◌, ◌-◌, ◌==◌, if◌then◌else◌, Bool, true, false, pos}
+use Rattle.std.specs.Prelude.{negsuc, List, [], ◌∷◌, length, map, slice_index, Option, Some, None}
+use Rattle.std.specs.Prelude.{option_map, option_and_then, codes, bytes_eq}
+use Rattle.std.proofs.Common.{take, drop, inl, inr}
+use Rattle.std.specs.List.{position}
+use Rattle.plain_text.specs.Numbers.{integer_within}
+use Rattle.plain_text.specs.Words.{each_in}
+use Rattle.mms_data.specs.Datum.{Datum}
+use Rattle.mms_data.specs.ObjectName.{ObjectName}
+use Rattle.mms_data.specs.declared.object_name.Scope.{Scope}
+use Rattle.mms_text.specs.NameIn.{identifier_in, is_separator, scope_in, name_in}
+use Rattle.mms_text.specs.TextRead.{HasOneTextReading}
+use Rattle.mms_text.proofs.TextReading.{one_text_reading}
+use Rattle.tase_views.specs.declared.call.CallKind.{CallKind}
+use Rattle.tase_views.specs.declared.call.CallKind.TheVariants.{Identify, Read, Write, NameList, Odd}
+
+-- the datum of a text that is the text of one
+abbrev pub datum_read : (text : List ℕ) → HasOneTextReading text → Option Datum
+datum_read text (inl one) = Some one.0.0
+datum_read text (inr broken) = None
+
+-- the datum whose text this is: each text is that of one datum, or of none
+unfoldable pub datum_in : List ℕ → Option Datum
+datum_in text = datum_read text (one_text_reading text)
+
+-- a name before a place, and a datum behind it
+abbrev pub assigned_at : List ℕ → ℕ → Option (ObjectName × Datum)
+assigned_at word place =
+    option_and_then (λ name. option_map (λ value. (name, value)) (datum_in (drop (place + 1) word)))
+    (name_in (take place word))
+
+-- `NAME=DATA`
+abbrev pub assigned_in : List ℕ → Option (ObjectName × Datum)
+assigned_in word = option_and_then (assigned_at word) (position (λ octet. octet == 61) word)
+
+-- a list with something in it
+abbrev pub if_some : {A : Type 0} → List A → Option (List A)
+if_some [] = None
+if_some (x ∷ xs) = Some (x ∷ xs)
+
+-- what one word or more stand for
+abbrev pub some_in : {A : Type 0} → (List ℕ → Option A) → List (List ℕ) → Option (List A)
+some_in read words = option_and_then if_some (each_in read words)
+
+-- `NAME ..` behind `read` or `read+`
+abbrev pub read_in : Bool → List (List ℕ) → Option CallKind
+read_in echo words = option_map (λ names. Read names echo) (some_in name_in words)
+
+-- `NAME=DATA ..` behind `write`
+abbrev pub write_in : List (List ℕ) → Option CallKind
+write_in words =
+    option_map (λ pairs. Write (map (λ p. p.0) pairs) (map (λ p. p.1) pairs))
+    (some_in assigned_in words)
+
+-- a number of 64 bits
+abbrev pub class_in : List ℕ → Option ℤ
+class_in word = integer_within (negsuc (2 ^ 63 - 1)) (pos (2 ^ 63 - 1)) word
+
+-- a scope that ends with the separator at a place
+abbrev pub scope_at : List ℕ → ℕ → Option Scope
+scope_at word place =
+    if place + 1 == length word then scope_in (take place word) (slice_index word place) else None
+
+-- `vmd:`, `DOMAIN/` or `aa:`
+abbrev pub scope_of_word : List ℕ → Option Scope
+scope_of_word word = option_and_then (scope_at word) (position is_separator word)
+
+-- nothing, or the name after which a list goes on
+abbrev pub after_in : List (List ℕ) → Option (Option (List ℕ))
+after_in [] = Some None
+after_in (word ∷ []) = option_map Some (identifier_in word)
+after_in (word ∷ next ∷ more) = None
+
+-- `CLASS SCOPE` or `CLASS SCOPE AFTER` behind `names`
+abbrev pub list_in : List (List ℕ) → Option CallKind
+list_in [] = None
+list_in (class ∷ []) = None
+list_in (class ∷ scope ∷ more) =
+    option_and_then (λ c. option_and_then (λ s. option_map (λ a. NameList c s a) (after_in more))
+    (scope_of_word scope)) (class_in class)
+
+-- nothing behind `identify`
+abbrev pub identify_in : List (List ℕ) → Option CallKind
+identify_in [] = Some Identify
+identify_in (word ∷ words) = None
+
+-- the call that words spell, but an odd one
+abbrev pub call_in : List (List ℕ) → Option CallKind
+call_in [] = None
+call_in (verb ∷ words) =
+    if bytes_eq verb (codes "read") then read_in false words
+    else (if bytes_eq verb (codes "read+") then read_in true words
+    else (if bytes_eq verb (codes "write") then write_in words
+    else (if bytes_eq verb (codes "names") then list_in words
+    else (if bytes_eq verb (codes "identify") then identify_in words else None))))
+
+-- a reject's kind and code in place of a call
+abbrev pub is_odd : CallKind → Bool
+is_odd Identify = false
+is_odd (Read names echo) = false
+is_odd (Write names values) = false
+is_odd (NameList class scope after) = false
+is_odd (Odd kind code) = true
