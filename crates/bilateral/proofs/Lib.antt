@@ -8,3 +8,5 @@ pub mod Sections
 pub mod Told
 pub mod Spelled
 mod Worked
+pub mod CleanWords
+pub mod LineTexts

@@ -1,21 +1,31 @@
 -- The written form of a centre: a line a row, points first, then devices, then the tables, each with
 -- its limits and rows.
-use Rattle.std.specs.Prelude.{ℕ, ◌+◌, ◌-◌, ◌*◌, ◌/◌, min, nat_le, Bool, if◌then◌else◌, List, []}
-use Rattle.std.specs.Prelude.{◌∷◌, ◌++◌, map, Option, Some, None, codes, decimal}
+use Rattle.std.specs.Prelude.{◌≡◌, ℕ, ◌+◌, ◌-◌, ◌*◌, ◌/◌, ◌<◌, ◌≤◌, min, nat_le, Bool, IsTrue}
+use Rattle.std.specs.Prelude.{if◌then◌else◌, List, [], ◌∷◌, ◌++◌, length, map, Option, Some, None}
+use Rattle.std.specs.Prelude.{unwrap_or, codes, decimal, not, ◌&&◌, ◌==◌}
 use Rattle.std.specs.Fmt.{signed_decimal}
-use Rattle.std.specs.List.{flat_map, join_with_byte}
+use Rattle.std.specs.List.{flat_map, join_with_byte, list_all}
 use Rattle.tase_points.specs.declared.kind.Kind.{Kind}
 use Rattle.tase_points.specs.declared.kind.Kind.TheVariants.{State, Discrete, Real}
 use Rattle.tase_points.specs.declared.layout.Component.{Component}
 use Rattle.tase_points.specs.declared.layout.Component.TheVariants.{Value, Time, Millis, Flags, Cov}
 use Rattle.sbo_device.specs.declared.kind.CommandKind.{CommandKind}
 use Rattle.sbo_device.specs.declared.kind.CommandKind.TheVariants.{Command, Setpoint}
-use Rattle.bilateral.specs.declared.rows.PointRow.{PointRow}
+use Rattle.table_words.specs.Words.{is_name, is_identifier, is_distinct, title_in}
+use Rattle.table_words.specs.Devices.{IsForm}
+use Rattle.bilateral.specs.declared.line.TableLine.{TableLine}
+use Rattle.bilateral.specs.declared.line.TableLine.TheVariants.{Point, Device, Peer, Slots, Sets}
+use Rattle.bilateral.specs.declared.line.TableLine.TheVariants.{Pending, See, Control}
+use Rattle.bilateral.specs.declared.rows.TheConstants.{SPAN_LIMIT, SLOT_LIMIT, SLOT_DEFAULT}
+use Rattle.bilateral.specs.declared.rows.TheConstants.{SET_LIMIT, SET_DEFAULT, PENDING_LEAST}
+use Rattle.bilateral.specs.declared.rows.TheConstants.{PENDING_LIMIT, PENDING_DEFAULT}
 use Rattle.bilateral.specs.declared.rows.DeviceRow.{DeviceRow}
-use Rattle.bilateral.specs.declared.rows.See.{See}
-use Rattle.bilateral.specs.declared.rows.Control.{Control}
+use Rattle.bilateral.specs.declared.rows.See.{See as SeeRow}
+use Rattle.bilateral.specs.declared.rows.Control.{Control as ControlRow}
 use Rattle.bilateral.specs.declared.rows.Table.{Table}
 use Rattle.bilateral.specs.Rows.{CentreRows, point_of, device_of}
+use Rattle.bilateral.specs.Lines.{form_of}
+use Rattle.bilateral.specs.Spelling.{filled}
 
 -- words joined by one space
 abbrev pub spaced : List (List ℕ) → List ℕ
@@ -64,46 +74,93 @@ mode_words row =
     if row.direct then codes "direct" ∷ []
     else codes "sbo" ∷ signed_decimal row.checkback ∷ decimal row.span ∷ []
 
-abbrev pub point_text : PointRow → List ℕ
-point_text row = spaced (codes "point" ∷ row.name ∷ kind_word row.kind ∷ [])
-
-abbrev pub device_text : DeviceRow → List ℕ
-device_text row = spaced (codes "device" ∷ row.name ∷ (command_words row.kind ++ mode_words row))
-
-abbrev pub peer_text : Table → List ℕ
-peer_text table =
-    spaced (codes "peer" ∷ table.key ∷ title_word table.title ∷ table.domain ∷ table.id ∷ [])
-
-abbrev pub limit_texts : Table → List (List ℕ)
-limit_texts table =
-    spaced (codes "slots" ∷ decimal table.slots ∷ [])
-    ∷ spaced (codes "sets" ∷ decimal table.sets ∷ [])
-    ∷ spaced (codes "pending" ∷ decimal table.pending ∷ []) ∷ []
-
 abbrev pub scope_word : Bool → List ℕ
 scope_word vmd = if vmd then codes "vmd" else codes "domain"
 
-abbrev pub see_text : CentreRows → See → List ℕ
-see_text rows see =
-    spaced (codes "see" ∷ (point_of rows see.point).name ∷ scope_word see.vmd
-    ∷ layout_word see.layout ∷ [])
+abbrev pub tag_words : Bool → List (List ℕ)
+tag_words tag = if tag then codes "tag" ∷ [] else []
 
-abbrev pub control_text : CentreRows → Control → List ℕ
-control_text rows control =
-    spaced (codes "control" ∷ (device_of rows control.device).name
-    ∷ (if control.tag then codes "tag" ∷ [] else []))
+-- the words of a line; of a limit past its end and of a layout with a component twice nothing is
+-- written
+abbrev pub line_words : TableLine → List (List ℕ)
+line_words (Point row) = codes "point" ∷ row.name ∷ kind_word row.kind ∷ []
+line_words (Device row) =
+    codes "device" ∷ row.name ∷ (command_words row.kind ++ mode_words row)
+line_words (Peer table) =
+    codes "peer" ∷ table.key ∷ title_word table.title ∷ table.domain ∷ table.id ∷ []
+line_words (Slots number) = codes "slots" ∷ decimal (unwrap_or number 0) ∷ []
+line_words (Sets number) = codes "sets" ∷ decimal (unwrap_or number 0) ∷ []
+line_words (Pending number) = codes "pending" ∷ decimal (unwrap_or number 0) ∷ []
+line_words (See name vmd layout) =
+    codes "see" ∷ name ∷ scope_word vmd ∷ layout_word (unwrap_or layout []) ∷ []
+line_words (Control name tag) = codes "control" ∷ name ∷ tag_words tag
 
-abbrev pub table_texts : CentreRows → Table → List (List ℕ)
-table_texts rows table =
-    peer_text table ∷ (limit_texts table ++ map (see_text rows) table.sees
-    ++ map (control_text rows) table.controls)
+-- the written form of a line
+abbrev pub line_text : TableLine → List ℕ
+line_text line = spaced (line_words line)
 
--- the lines of the written form
-abbrev pub centre_texts : CentreRows → List (List ℕ)
-centre_texts rows =
-    map point_text rows.points ++ map device_text rows.devices
-    ++ flat_map (table_texts rows) rows.tables
+-- a table without rows, and with the limits where nothing is said
+abbrev pub empty_table : Table → Table
+empty_table table = filled table [] [] SLOT_DEFAULT SET_DEFAULT PENDING_DEFAULT
 
--- the written form: each line with its end
+-- the lines of a table
+abbrev pub see_line_of : CentreRows → SeeRow → TableLine
+see_line_of rows see = See (point_of rows see.point).name see.vmd (Some see.layout)
+
+abbrev pub control_line_of : CentreRows → ControlRow → TableLine
+control_line_of rows control = Control (device_of rows control.device).name control.tag
+
+abbrev pub table_lines : CentreRows → Table → List TableLine
+table_lines rows table =
+    Peer (empty_table table) ∷ Slots (Some table.slots) ∷ Sets (Some table.sets)
+    ∷ Pending (Some table.pending)
+    ∷ (map (see_line_of rows) table.sees ++ map (control_line_of rows) table.controls)
+
+-- the lines of a centre, a line a row
+abbrev pub centre_lines : CentreRows → List TableLine
+centre_lines rows =
+    map Point rows.points
+    ++ (map Device rows.devices ++ flat_map (table_lines rows) rows.tables)
+
+-- the text of lines: each line with its end
+abbrev pub lines_text : List TableLine → List ℕ
+lines_text said = flat_map (λ line. line_text line ++ 10 ∷ []) said
+
+-- the written form of a centre: each line with its end
 abbrev pub tables_text : CentreRows → List ℕ
-tables_text rows = flat_map (λ line. line ++ 10 ∷ []) (centre_texts rows)
+tables_text rows = lines_text (centre_lines rows)
+
+-- some octets, none of them a blank or a control character
+abbrev pub is_solid : List ℕ → Bool
+is_solid word = not (length word == 0) && list_all (λ octet. nat_le 33 octet) word
+
+-- a limit that can be written
+abbrev pub IsWrittenLimit : ℕ → ℕ → Option ℕ → Type 0
+IsWrittenLimit least most None = ⊥
+IsWrittenLimit least most (Some n) = (least ≤ n) × (n ≤ most)
+
+-- a layout that can be written: components none of which stands twice
+abbrev pub IsWrittenLayout : Option (List Component) → Type 0
+IsWrittenLayout None = ⊥
+IsWrittenLayout (Some layout) = (0 < length layout) × IsTrue (is_distinct layout)
+
+-- a line that can be written: names, identifiers, numbers and layouts are such, and a title is one
+-- that a word spells as it is written
+abbrev pub IsWritable : TableLine → Type 0
+IsWritable (Point row) = IsTrue (is_name row.name)
+IsWritable (Device row) =
+    IsTrue (is_name row.name) × IsForm (form_of row) × (row.span ≤ SPAN_LIMIT)
+IsWritable (Peer table) =
+    IsTrue (is_identifier table.key) × IsTrue (is_identifier table.domain)
+    × IsTrue (is_identifier table.id) × (table ≡ empty_table table)
+    × IsTrue (is_solid (title_word table.title))
+    × (title_in (title_word table.title) ≡ Some table.title)
+IsWritable (Slots number) = IsWrittenLimit 1 SLOT_LIMIT number
+IsWritable (Sets number) = IsWrittenLimit 1 SET_LIMIT number
+IsWritable (Pending number) = IsWrittenLimit PENDING_LEAST PENDING_LIMIT number
+IsWritable (See name vmd layout) = IsTrue (is_name name) × IsWrittenLayout layout
+IsWritable (Control name tag) = IsTrue (is_name name)
+
+abbrev pub AreWritable : List TableLine → Type 0
+AreWritable [] = Unit {0}
+AreWritable (line ∷ more) = IsWritable line × AreWritable more

@@ -19,7 +19,7 @@ mod store;
 
 pub use centre::{Centre, peer_of};
 pub use fault::{TableFault, TableWhy};
-pub use laws::one_reading;
+pub use laws::{one_reading, written_tables_are_read};
 pub use line::TableLine;
 pub use reading::read_centre;
 pub use rows::{
