@@ -1,12 +1,12 @@
 -- The names that stand in a list: those of the rows of a table, each of them an identifier.
 use Rattle.std.proofs.Common.{◌≡◌, ◌==◌, ℕ, zero, suc, ◌+◌, ◌<◌, ◌≤◌, min, Bool, true, false, not}
 use Rattle.std.proofs.Common.{◌&&◌, cond, List, [], ◌∷◌, ◌++◌, map, take, length, get_or, Bor}
-use Rattle.std.proofs.Common.{Option, Some, None, refl, sym, ap, ◌∙◌, arith, ⊎_elim, take_all}
+use Rattle.std.proofs.Common.{Option, Some, None, refl, sym, ap, ◌∙◌, arith, ⊎_elim, take_all, append-nil}
 use Rattle.std.specs.Prelude.{if◌then◌else◌, filter, IsPermutation}
 use Rattle.std.specs.List.{All, filter_map, cons_option}
 use Rattle.std.specs.Option.{option_map}
 use Rattle.std.proofs.lemmas.Bool.{cases_lt, false≢true, and_parts, eq-eqb}
-use Rattle.std.proofs.lemmas.List.{get_or-map, take-map, length-map, take_more}
+use Rattle.std.proofs.lemmas.List.{get_or-map, take-map, length-map, take_more, map_push}
 use Rattle.std.proofs.lemmas.List.Elements.{All-head, All-tail, All-cons, filter_map-append}
 use Rattle.std.proofs.lemmas.Map.Views.{All-map-IsPermutation}
 use Rattle.mms_data.specs.declared.object_name.Scope.{Scope}
@@ -68,6 +68,22 @@ pub filter_map-more : {X Y : Type 0} (f : X → Option Y) (xs : List X) (i : ℕ
     ≡ filter_map f (take i xs) ++ cons_option (f (get_or xs i d)) []
 filter_map-more f xs i d within =
     rw (take_more xs i d within) (filter_map-append f (take i xs) (get_or xs i d ∷ []))
+
+-- a row that stands in the list, and one that doesn't
+pub row_pushed : {X : Type 0} (f : X → Option (List ℕ)) (xs : List X) (i : ℕ) (d : X)
+    (names : List (Bor (List ℕ))) (name : Bor (List ℕ)) → i < length xs
+    → f (get_or xs i d) ≡ Some name.now → names_of names ≡ filter_map f (take i xs)
+    → names_of (names ++ name ∷ []) ≡ filter_map f (take (i + 1) xs)
+row_pushed f xs i d names name within is so_far =
+    rw (filter_map-more f xs i d within, is, ← so_far)
+    (map_push (λ (n : Bor (List ℕ)). n.now) names name)
+
+pub row_passed : {X : Type 0} (f : X → Option (List ℕ)) (xs : List X) (i : ℕ) (d : X)
+    (names : List (Bor (List ℕ))) → i < length xs
+    → f (get_or xs i d) ≡ None → names_of names ≡ filter_map f (take i xs)
+    → names_of names ≡ filter_map f (take (i + 1) xs)
+row_passed f xs i d names within is so_far =
+    rw (filter_map-more f xs i d within, is) (so_far ∙ sym (append-nil (filter_map f (take i xs))))
 
 -- ---- names are identifiers
 
@@ -137,15 +153,13 @@ domain-named rows peer after lawful there =
 
 -- ---- the first names of a list
 
-pub identifier_at : (names : List (Bor (List ℕ))) (i : ℕ) (name : Bor (List ℕ))
-    → All IsIdentifier (names_of names) → i < length names → name ≡ get_or names i name
-    → IsIdentifier name.now
-identifier_at names i name all within is =
-    let here : get_or (names_of names) i [] ≡ (get_or names i name).now =
-    get_or-map (λ n. n.now) names i name [] within in
+pub identifier_here : (names : List (Bor (List ℕ))) (i : ℕ) (d : Bor (List ℕ))
+    → All IsIdentifier (names_of names) → i < length names → IsIdentifier (get_or names i d).now
+identifier_here names i d all within =
+    let here : get_or (names_of names) i [] ≡ (get_or names i d).now =
+    get_or-map (λ n. n.now) names i d [] within in
     let there : i < length (names_of names) = omega (arith, within, length-map names (λ n. n.now)) in
-    let same : (get_or names i name).now ≡ name.now = ap (λ (n : Bor (List ℕ)). n.now) (sym is) in
-    rw same at (rw here at (all i [] there))
+    rw here at (all i [] there)
 
 identifiers_taken : (n : ℕ) (names : List (List ℕ)) → All IsIdentifier names
     → All IsIdentifier (take n names)
