@@ -2,7 +2,8 @@
 use Rattle.std.proofs.Common.{◌≡◌, ◌==◌, ℕ, zero, suc, ◌+◌, ◌<◌, ◌≤◌, min, Bool, true, false, not}
 use Rattle.std.proofs.Common.{◌&&◌, cond, List, [], ◌∷◌, ◌++◌, map, take, length, get_or, Bor}
 use Rattle.std.proofs.Common.{Option, Some, None, refl, sym, ap, ◌∙◌, arith, ⊎_elim, take_all, append-nil}
-use Rattle.std.specs.Prelude.{if◌then◌else◌, filter, IsPermutation}
+use Rattle.std.specs.Prelude.{if◌then◌else◌, filter, IsPermutation, ℤ}
+use Rattle.std.specs.Ordering.{int_eq}
 use Rattle.std.specs.List.{All, filter_map, cons_option}
 use Rattle.std.specs.Option.{option_map}
 use Rattle.std.proofs.lemmas.Bool.{cases_lt, false≢true, and_parts, eq-eqb}
@@ -15,9 +16,13 @@ use Rattle.bilateral.specs.declared.rows.See.{See}
 use Rattle.bilateral.specs.Words.{is_name, is_identifier}
 use Rattle.bilateral.specs.Rows.{CentreRows, IsCentre, no_point, table_of, point_of}
 use Rattle.bilateral.proofs.VisibleWords.{IsVisible-from_name, IsVisible-from_identifier}
-use Rattle.tase_views.specs.declared.reply.TheConstants.{NAMES_LIMIT}
+use Rattle.tase_views.specs.declared.call.TheConstants.{NAMED_VARIABLES, NAMED_VARIABLE_LISTS}
+use Rattle.tase_views.specs.declared.call.TheConstants.{DOMAINS}
+use Rattle.tase_views.specs.declared.reply.ReplyKind.TheVariants.{Error}
+use Rattle.tase_views.specs.declared.reply.TheConstants.{NAMES_LIMIT, ACCESS_ERRORS, ACCESS_DENIED}
 use Rattle.tase_views.specs.OwnTable.{OwnPoint, OwnTable, own_point, own_table, is_scope_of}
-use Rattle.tase_views.specs.NameLists.{is_after, variables_in}
+use Rattle.tase_views.specs.NameLists.{is_after, variables_in, is_foreign, is_vmd, in_order}
+use Rattle.tase_views.specs.NameLists.{first_of, names_listed}
 use Rattle.node_core.proofs.Known.{table_is_lawful}
 
 abbrev pub names_of : List (Bor (List ℕ)) → List (List ℕ)
@@ -190,3 +195,30 @@ shown_names names n is =
     (λ many. let most : n ≡ NAMES_LIMIT = omega (arith, is, many) in
     rw most (sym (take-map (λ (name : Bor (List ℕ)). name.now) NAMES_LIMIT names)))
     (cases_lt (length names) NAMES_LIMIT)
+
+-- ---- the classes that may be listed
+
+pub listed_variables : (table : OwnTable) (class : ℤ) (scope : Scope) (after : Option (List ℕ))
+    → is_foreign table scope ≡ false → int_eq class NAMED_VARIABLES ≡ true
+    → names_listed table class scope after
+    ≡ first_of (in_order (filter (is_after after) (variables_in table scope)))
+listed_variables table class scope after own here = rw (own, here) refl
+
+pub listed_domain : (table : OwnTable) (class : ℤ) (scope : Scope) (after : Option (List ℕ))
+    → is_foreign table scope ≡ false → int_eq class NAMED_VARIABLES ≡ false
+    → int_eq class DOMAINS ≡ true → is_vmd scope ≡ true
+    → names_listed table class scope after
+    ≡ first_of (in_order (filter (is_after after) (table.domain ∷ [])))
+listed_domain table class scope after own other here whole = rw (own, other, here, whole) refl
+
+pub listed_lists : (table : OwnTable) (class : ℤ) (scope : Scope) (after : Option (List ℕ))
+    → is_foreign table scope ≡ false → int_eq class NAMED_VARIABLES ≡ false
+    → (int_eq class DOMAINS && is_vmd scope) ≡ false → int_eq class NAMED_VARIABLE_LISTS ≡ true
+    → names_listed table class scope after ≡ first_of []
+listed_lists table class scope after own other apart here = rw (own, other, apart, here) refl
+
+pub listed_nothing : (table : OwnTable) (class : ℤ) (scope : Scope) (after : Option (List ℕ))
+    → is_foreign table scope ≡ false → int_eq class NAMED_VARIABLES ≡ false
+    → (int_eq class DOMAINS && is_vmd scope) ≡ false → int_eq class NAMED_VARIABLE_LISTS ≡ false
+    → names_listed table class scope after ≡ Error ACCESS_ERRORS ACCESS_DENIED
+listed_nothing table class scope after own other apart away = rw (own, other, apart, away) refl
