@@ -1,12 +1,15 @@
 -- Each class that may be listed, and the others.
 use Rattle.std.proofs.Common.{◌≡◌, ℕ, Bool, true, false, ◌&&◌, List, [], ◌∷◌, map, filter, refl, sym, ap}
 use Rattle.std.proofs.Common.{◌∙◌, subst}
-use Rattle.std.specs.Prelude.{IfOk}
+use Rattle.std.specs.Prelude.{IfOk, ℤ}
+use Rattle.std.specs.Int.{w64}
 use Rattle.std.specs.List.{All}
 use Rattle.std.specs.Ordering.{int_eq}
+use Rattle.std.proofs.lemmas.Int.{to_z-of_z}
 use Rattle.mms_data.specs.ObjectName.{IsIdentifier}
 use Rattle.bilateral.specs.declared.rows.Table.{Table}
 use Rattle.bilateral.specs.Rows.{table_of}
+use Rattle.tase_views.specs.declared.call.TheConstants.{NAMED_VARIABLES, NAMED_VARIABLE_LISTS}
 use Rattle.tase_views.specs.declared.call.TheConstants.{DOMAINS}
 use Rattle.tase_views.specs.declared.reply.ReplyKind.{ReplyKind}
 use Rattle.tase_views.specs.OwnTable.{own_table}
@@ -34,13 +37,14 @@ returns-then-is_class-clause-value c =
     let rows = c.args.centre.now in
     let table = own_table rows c.args.peer in
     let same = table_of-slice_get rows c.args.peer c.table.result.now c.table.ensures in
+    let plain = to_z-of_z w64 c.args.class c.ranges.class in
     let own = sym (c.is_foreign.ensures table (ap (λ (t : Table). t.domain) same))
     ∙ c.if-is_foreign.false in
     subst (λ (kind : ReplyKind). IfOk c.first_of.result (λ reply. reply ≡ kind))
     (ap (λ (names : List (List ℕ)). first_of (in_order names))
     (ap (map (λ name. name.now)) c.as_mut_slice.ensures.value ∙ c.in_ok-names.ensures)
     ∙ sym (listed_variables table c.args.class c.args.scope.now c.args.after.now own
-    (sym c.is_class.ensures ∙ c.if-is_class.true)))
+    (sym (c.is_class.ensures ∙ ap (λ (z : ℤ). int_eq z NAMED_VARIABLES) plain) ∙ c.if-is_class.true)))
     c.first_of.ensures.value
 
 pub first_of-requires-then-is_vmd : goal.first_of-requires-then-is_vmd
@@ -59,6 +63,7 @@ returns-then-is_vmd-clause-value c =
     let table = own_table rows c.args.peer in
     let same = table_of-slice_get rows c.args.peer c.table.result.now c.table.ensures in
     let domain = ap (λ (t : Table). filter (is_after c.args.after.now) (t.domain ∷ [])) same in
+    let plain = to_z-of_z w64 c.args.class c.ranges.class in
     let own = sym (c.is_foreign.ensures table (ap (λ (t : Table). t.domain) same))
     ∙ c.if-is_foreign.false in
     subst (λ (kind : ReplyKind). IfOk c.first_of-then-is_vmd.result (λ reply. reply ≡ kind))
@@ -66,8 +71,8 @@ returns-then-is_vmd-clause-value c =
     (ap (map (λ name. name.now)) c.as_mut_slice-then-is_vmd.ensures.value
     ∙ c.in_ok-names-2.ensures ∙ sym domain)
     ∙ sym (listed_domain table c.args.class c.args.scope.now c.args.after.now own
-    (sym c.is_class.ensures ∙ c.if-is_class.false)
-    (sym c.is_class-2.ensures ∙ c.if-is_class-2.true)
+    (sym (c.is_class.ensures ∙ ap (λ (z : ℤ). int_eq z NAMED_VARIABLES) plain) ∙ c.if-is_class.false)
+    (sym (c.is_class-2.ensures ∙ ap (λ (z : ℤ). int_eq z DOMAINS) plain) ∙ c.if-is_class-2.true)
     (sym c.is_vmd.ensures ∙ c.if-is_vmd.true)))
     c.first_of-then-is_vmd.ensures.value
 
@@ -76,6 +81,7 @@ returns-then-is_class-3-clause-value c =
     let rows = c.args.centre.now in
     let table = own_table rows c.args.peer in
     let same = table_of-slice_get rows c.args.peer c.table.result.now c.table.ensures in
+    let plain = to_z-of_z w64 c.args.class c.ranges.class in
     let own = sym (c.is_foreign.ensures table (ap (λ (t : Table). t.domain) same))
     ∙ c.if-is_foreign.false in
     let apart : (int_eq c.args.class DOMAINS && is_vmd c.args.scope.now) ≡ false =
@@ -84,12 +90,12 @@ returns-then-is_class-3-clause-value c =
           and_apart _ _ (sym w.is_vmd.ensures ∙ w.if-is_vmd.false)
       | else-is_class-2-via-else-is_class-2 w ↦
           ap (λ (b : Bool). b && is_vmd c.args.scope.now)
-          (sym c.is_class-2.ensures ∙ w.if-is_class-2.false)
+          (sym (c.is_class-2.ensures ∙ ap (λ (z : ℤ). int_eq z DOMAINS) plain) ∙ w.if-is_class-2.false)
     ] in
     subst (λ (kind : ReplyKind). IfOk c.first_of-then-is_class-3.result (λ reply. reply ≡ kind))
     (sym (listed_lists table c.args.class c.args.scope.now c.args.after.now own
-    (sym c.is_class.ensures ∙ c.if-is_class.false) apart
-    (sym c.is_class-3.ensures ∙ c.if-is_class-3.true)))
+    (sym (c.is_class.ensures ∙ ap (λ (z : ℤ). int_eq z NAMED_VARIABLES) plain) ∙ c.if-is_class.false) apart
+    (sym (c.is_class-3.ensures ∙ ap (λ (z : ℤ). int_eq z NAMED_VARIABLE_LISTS) plain) ∙ c.if-is_class-3.true)))
     c.first_of-then-is_class-3.ensures.value
 
 pub returns-clause-value : goal.returns-clause-value
@@ -97,6 +103,7 @@ returns-clause-value c =
     let rows = c.args.centre.now in
     let table = own_table rows c.args.peer in
     let same = table_of-slice_get rows c.args.peer c.table.result.now c.table.ensures in
+    let plain = to_z-of_z w64 c.args.class c.ranges.class in
     let own = sym (c.is_foreign.ensures table (ap (λ (t : Table). t.domain) same))
     ∙ c.if-is_foreign.false in
     let apart : (int_eq c.args.class DOMAINS && is_vmd c.args.scope.now) ≡ false =
@@ -105,8 +112,8 @@ returns-clause-value c =
           and_apart _ _ (sym w.is_vmd.ensures ∙ w.if-is_vmd.false)
       | else-is_class-2-via-else-is_class-2 w ↦
           ap (λ (b : Bool). b && is_vmd c.args.scope.now)
-          (sym c.is_class-2.ensures ∙ w.if-is_class-2.false)
+          (sym (c.is_class-2.ensures ∙ ap (λ (z : ℤ). int_eq z DOMAINS) plain) ∙ w.if-is_class-2.false)
     ] in
     sym (listed_nothing table c.args.class c.args.scope.now c.args.after.now own
-    (sym c.is_class.ensures ∙ c.if-is_class.false) apart
-    (sym c.is_class-3.ensures ∙ c.if-is_class-3.false))
+    (sym (c.is_class.ensures ∙ ap (λ (z : ℤ). int_eq z NAMED_VARIABLES) plain) ∙ c.if-is_class.false) apart
+    (sym (c.is_class-3.ensures ∙ ap (λ (z : ℤ). int_eq z NAMED_VARIABLE_LISTS) plain) ∙ c.if-is_class-3.false))

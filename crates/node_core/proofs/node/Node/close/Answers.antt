@@ -21,7 +21,13 @@ invariant_of-self c =
     let one_less = c.close.ensures.count (rw (c.self.invariant.0.seated c.args.who) there) in
     let heavy : c.weight-weight.result ≡ weight Close =
     c.weight-weight.ensures.value ∙ ap weight c.requires.close in
-    rw (c.push_reserved.ensures.items, reverse_push, c.requires.close,
-      c.push_reserved.ensures.capacity, heavy)
-    (c.close.ensures.kept rows past c.self.invariant.0,
-    HasRoom-close _ past _ _ _ _ _ c.args.who one_less c.self.invariant.1)
+    rw (
+      c.push_reserved.ensures.items,
+      reverse_push,
+      c.requires.close,
+      c.push_reserved.ensures.capacity,
+      heavy,
+    ) (
+      c.close.ensures.kept rows past c.self.invariant.0,
+      HasRoom-close _ past _ _ _ _ _ c.args.who one_less c.self.invariant.1,
+    )

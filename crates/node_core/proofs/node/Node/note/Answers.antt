@@ -19,14 +19,20 @@ invariant_of-self-2 c =
     c.args.self.now c.args.who c.args.event event c.self.view_is refl c.requires.free in
     let fits : weight_of past + weight event ≤ c.self.inside.limit =
     light-fits setup past event (quiet-goes_on event c.requires.quiet) free.light in
-    rw (c.push_reserved.ensures.items, c.in_ok-reserve.ensures.items, reverse_push,
-      c.push_reserved.ensures.capacity, c.weight-weight.ensures.value)
-    (IsStored-noted rows past _ _ _ _ c.args.who event c.requires.quiet c.self.invariant.0,
-    HasRoom-noted _ past _ _ _ _ _ c.args.who event (quiet-is_no_stop event c.requires.quiet) fits
-    (omega (
-      arith,
-      c.in_ok-reserve.ensures.ok,
-      c.open_count.ensures.count,
-      length-reverse c.self.inside.history.items,
-      c.self.inside.history.ok,
-    )) c.self.invariant.1)
+    rw (
+      c.push_reserved.ensures.items,
+      c.in_ok-reserve.ensures.items,
+      reverse_push,
+      c.push_reserved.ensures.capacity,
+      c.weight-weight.ensures.value,
+    ) (
+      IsStored-noted rows past _ _ _ _ c.args.who event c.requires.quiet c.self.invariant.0,
+      HasRoom-noted _ past _ _ _ _ _ c.args.who event (quiet-is_no_stop event c.requires.quiet) fits
+          (omega (
+            arith,
+            c.in_ok-reserve.ensures.ok,
+            c.open_count.ensures.count,
+            length-reverse c.self.inside.history.items,
+            c.self.inside.history.ok,
+          )) c.self.invariant.1,
+    )

@@ -54,16 +54,24 @@ invariant_of-self-2 c =
     let stored = c.in_ok-key.ensures.ok rows past c.self.invariant.0 in
     let fits : weight_of past + weight (Open c.args.peer) ≤ c.self.inside.limit =
     light-fits setup past (Open c.args.peer) refl free.light in
-    rw (c.push_reserved.ensures.items, c.in_ok-reserve.ensures.items, reverse_push,
-      c.requires.open, c.push_reserved.ensures.capacity, heavy)
-    (stored, HasRoom-open _ past _ _ _ _ _ _ c.args.who c.args.peer (omega arith) fits
-    (omega (
-      arith,
-      c.in_ok-reserve.ensures.ok,
-      c.open_count.ensures.count,
-      length-reverse c.self.inside.history.items,
-      c.self.inside.history.ok,
-    )) one_more c.self.invariant.1)
+    rw (
+      c.push_reserved.ensures.items,
+      c.in_ok-reserve.ensures.items,
+      reverse_push,
+      c.requires.open,
+      c.push_reserved.ensures.capacity,
+      heavy,
+    ) (
+      stored,
+      HasRoom-open _ past _ _ _ _ _ _ c.args.who c.args.peer (omega arith) fits
+          (omega (
+            arith,
+            c.in_ok-reserve.ensures.ok,
+            c.open_count.ensures.count,
+            length-reverse c.self.inside.history.items,
+            c.self.inside.history.ok,
+          )) one_more c.self.invariant.1,
+    )
 
 pub returns-clause-answer : goal.returns-clause-answer
 returns-clause-answer c =

@@ -8,7 +8,8 @@ pub returns-clause-lawful : goal.returns-clause-lawful
 returns-clause-lawful c =
     let rows = c.args.self.now.setup.centre in
     let peer = c.args.key.peer in
-    rw (c.in_ok-spec.ensures, c.in_ok-results.ensures)
-    (echoed_named c.args.echo c.args.names.now c.requires.some,
-    outcomes_lawful (own_table rows peer) (view_of rows peer (reverse c.args.self.now.history))
-    c.args.key.ordinal c.args.names.now)
+    rw (c.in_ok-spec.ensures, c.in_ok-results.ensures) (
+      echoed_named c.args.echo c.args.names.now c.requires.some,
+      outcomes_lawful (own_table rows peer) (view_of rows peer (reverse c.args.self.now.history))
+          c.args.key.ordinal c.args.names.now,
+    )

@@ -28,7 +28,14 @@ invariant_of-self c =
       length-reverse c.self.inside.history.items,
       c.self.inside.history.ok,
     ) in
-    rw (c.push_reserved.ensures.items, reverse_push, c.requires.stop,
-      c.push_reserved.ensures.capacity, heavy, place)
-    (IsStored-stop rows past _ _ _ _ c.args.who c.self.invariant.0,
-    HasRoom-stop _ past _ _ _ _ c.args.who going c.self.invariant.1)
+    rw (
+      c.push_reserved.ensures.items,
+      reverse_push,
+      c.requires.stop,
+      c.push_reserved.ensures.capacity,
+      heavy,
+      place,
+    ) (
+      IsStored-stop rows past _ _ _ _ c.args.who c.self.invariant.0,
+      HasRoom-stop _ past _ _ _ _ c.args.who going c.self.invariant.1,
+    )

@@ -21,14 +21,22 @@ invariant_of-self-2 c =
     c.weight-weight.ensures.value ∙ ap weight c.requires.update in
     let fits : weight_of past + weight event ≤ c.self.inside.limit =
     light-fits setup past event refl free.light in
-    rw (c.push_reserved.ensures.items, c.in_ok-reserve.ensures.items, reverse_push,
-      c.requires.update, c.push_reserved.ensures.capacity, c.update.ensures.same_count, heavy)
-    (c.update.ensures.kept rows past c.self.invariant.0,
-    HasRoom-noted _ past _ _ _ _ _ c.args.who event refl fits
-    (omega (
-      arith,
-      c.in_ok-reserve.ensures.ok,
-      c.open_count.ensures.count,
-      length-reverse c.self.inside.history.items,
-      c.self.inside.history.ok,
-    )) c.self.invariant.1)
+    rw (
+      c.push_reserved.ensures.items,
+      c.in_ok-reserve.ensures.items,
+      reverse_push,
+      c.requires.update,
+      c.push_reserved.ensures.capacity,
+      c.update.ensures.same_count,
+      heavy,
+    ) (
+      c.update.ensures.kept rows past c.self.invariant.0,
+      HasRoom-noted _ past _ _ _ _ _ c.args.who event refl fits
+          (omega (
+            arith,
+            c.in_ok-reserve.ensures.ok,
+            c.open_count.ensures.count,
+            length-reverse c.self.inside.history.items,
+            c.self.inside.history.ok,
+          )) c.self.invariant.1,
+    )
