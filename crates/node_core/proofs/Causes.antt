@@ -1,6 +1,6 @@
 -- What follows where an event isn't refused, and that a refusal is never for want of memory.
 use Rattle.std.proofs.Common.{◌≡◌, ◌≢◌, ℕ, ◌+◌, ◌<◌, ◌≤◌, Bool, true, false, not, ◌&&◌, List, [], ◌∷◌}
-use Rattle.std.proofs.Common.{length, ltb, Option, Some, None, is_some, refl, sym, ap, ◌∙◌, arith}
+use Rattle.std.proofs.Common.{length, reverse, ltb, Option, Some, None, is_some, refl, sym, subst}
 use Rattle.std.specs.Prelude.{if◌then◌else◌, option_map}
 use Rattle.std.proofs.lemmas.Bool.{false≢true, true≢false, ltb-true, ltb-false}
 use Rattle.std.proofs.lemmas.Option.{none-some, same_Some}
@@ -15,11 +15,13 @@ use Rattle.tase_views.specs.declared.fault.StepFault.TheVariants.{Memory, Stoppe
 use Rattle.tase_views.specs.declared.fault.StepFault.TheVariants.{NoAssociation, Already}
 use Rattle.tase_views.specs.declared.fault.StepFault.TheVariants.{UnknownName}
 use Rattle.tase_views.specs.Setup.{Setup}
-use Rattle.tase_views.specs.History.{Past, association_in, stop_in}
+use Rattle.tase_views.specs.History.{Past, association_in, is_stop, stop_in}
 use Rattle.tase_views.specs.Weights.{weight, weight_of}
 use Rattle.tase_views.specs.Outcomes.{is_close, is_ending, is_known, stop_refusal, seat_refusal}
 use Rattle.tase_views.specs.Outcomes.{name_refusal, weight_refusal, first_refusal, refusal_of}
 use Rattle.tase_views.specs.Outcomes.{IsRefusal}
+use Rattle.node_core.specs.NodeState.{NodeState}
+use Rattle.node_core.specs.Stored.{IsQuiet}
 
 -- none of the four refusals has its cause
 pub record IsFree (setup : Setup) (past : Past) (who : ℕ) (event : EventKind) : Type 0 where
@@ -42,6 +44,17 @@ free_of setup past who event e =
     let parts = none_of (stop_refusal past event) (seat_refusal (association_in past who) event)
     (name_refusal setup.centre event) (weight_refusal setup past event) e in
     record { going = parts.0; seated = parts.1; named = parts.2; light = parts.3 }
+
+-- the same, seen by the parts of a node and of an event
+pub free_in : (seen now : NodeState) (who : ℕ) (event is : EventKind) → seen ≡ now → event ≡ is
+    → refusal_of now.setup (reverse now.history) who event ≡ None
+    → IsFree seen.setup (reverse seen.history) who is
+free_in seen now who event is same e free =
+    let P : NodeState → Type 0 = λ node.
+    refusal_of node.setup (reverse node.history) who event ≡ None in
+    let Q : EventKind → Type 0 = λ kind.
+    refusal_of seen.setup (reverse seen.history) who kind ≡ None in
+    free_of seen.setup (reverse seen.history) who is (subst Q e (subst P (sym same) free))
 
 -- a test, after which nothing is refused
 passes : (b : Bool) (fault : StepFault) → (if b then None else Some fault) ≡ None → b ≡ true
@@ -164,3 +177,21 @@ pub IsRefusal-of : (setup : Setup) (past : Past) (who : ℕ) (event : EventKind)
 IsRefusal-of setup past who event fault e =
     is_refusal event (refusal_of setup past who event) fault
     (rw e at (own_refusal setup past who event)) e
+
+-- ---- requests and takes
+
+pub quiet-goes_on : (event : EventKind) → IsQuiet event → is_ending event ≡ false
+quiet-goes_on (Open peer) quiet = absurd quiet
+quiet-goes_on (Request call) quiet = refl
+quiet-goes_on Take quiet = refl
+quiet-goes_on Close quiet = absurd quiet
+quiet-goes_on (Update point value) quiet = absurd quiet
+quiet-goes_on Stop quiet = absurd quiet
+
+pub quiet-is_no_stop : (event : EventKind) → IsQuiet event → is_stop event ≡ false
+quiet-is_no_stop (Open peer) quiet = absurd quiet
+quiet-is_no_stop (Request call) quiet = refl
+quiet-is_no_stop Take quiet = refl
+quiet-is_no_stop Close quiet = absurd quiet
+quiet-is_no_stop (Update point value) quiet = absurd quiet
+quiet-is_no_stop Stop quiet = absurd quiet

@@ -8,3 +8,4 @@ pub mod Rooms
 pub mod Causes
 pub mod Sorted
 pub mod Listed
+pub mod Lawful

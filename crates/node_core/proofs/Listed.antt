@@ -1,12 +1,13 @@
 -- The names that stand in a list: those of the rows of a table, each of them an identifier.
 use Rattle.std.proofs.Common.{◌≡◌, ◌==◌, ℕ, zero, suc, ◌+◌, ◌<◌, ◌≤◌, min, Bool, true, false, not}
 use Rattle.std.proofs.Common.{◌&&◌, cond, List, [], ◌∷◌, ◌++◌, map, take, length, get_or, Bor}
-use Rattle.std.proofs.Common.{Option, Some, None, refl, sym, ap, ◌∙◌, arith, ⊎_elim, take_all}
-use Rattle.std.specs.Prelude.{if◌then◌else◌, filter, IsPermutation}
+use Rattle.std.proofs.Common.{Option, Some, None, refl, sym, ap, ◌∙◌, arith, ⊎_elim, take_all, append-nil}
+use Rattle.std.specs.Prelude.{if◌then◌else◌, filter, IsPermutation, ℤ}
+use Rattle.std.specs.Ordering.{int_eq}
 use Rattle.std.specs.List.{All, filter_map, cons_option}
 use Rattle.std.specs.Option.{option_map}
 use Rattle.std.proofs.lemmas.Bool.{cases_lt, false≢true, and_parts, eq-eqb}
-use Rattle.std.proofs.lemmas.List.{get_or-map, take-map, length-map, take_more}
+use Rattle.std.proofs.lemmas.List.{get_or-map, take-map, length-map, take_more, map_push}
 use Rattle.std.proofs.lemmas.List.Elements.{All-head, All-tail, All-cons, filter_map-append}
 use Rattle.std.proofs.lemmas.Map.Views.{All-map-IsPermutation}
 use Rattle.mms_data.specs.declared.object_name.Scope.{Scope}
@@ -15,9 +16,13 @@ use Rattle.bilateral.specs.declared.rows.See.{See}
 use Rattle.bilateral.specs.Words.{is_name, is_identifier}
 use Rattle.bilateral.specs.Rows.{CentreRows, IsCentre, no_point, table_of, point_of}
 use Rattle.bilateral.proofs.VisibleWords.{IsVisible-from_name, IsVisible-from_identifier}
-use Rattle.tase_views.specs.declared.reply.TheConstants.{NAMES_LIMIT}
+use Rattle.tase_views.specs.declared.call.TheConstants.{NAMED_VARIABLES, NAMED_VARIABLE_LISTS}
+use Rattle.tase_views.specs.declared.call.TheConstants.{DOMAINS}
+use Rattle.tase_views.specs.declared.reply.ReplyKind.TheVariants.{Error}
+use Rattle.tase_views.specs.declared.reply.TheConstants.{NAMES_LIMIT, ACCESS_ERRORS, ACCESS_DENIED}
 use Rattle.tase_views.specs.OwnTable.{OwnPoint, OwnTable, own_point, own_table, is_scope_of}
-use Rattle.tase_views.specs.NameLists.{is_after, variables_in}
+use Rattle.tase_views.specs.NameLists.{is_after, variables_in, is_foreign, is_vmd, in_order}
+use Rattle.tase_views.specs.NameLists.{first_of, names_listed}
 use Rattle.node_core.proofs.Known.{table_is_lawful}
 
 abbrev pub names_of : List (Bor (List ℕ)) → List (List ℕ)
@@ -68,6 +73,22 @@ pub filter_map-more : {X Y : Type 0} (f : X → Option Y) (xs : List X) (i : ℕ
     ≡ filter_map f (take i xs) ++ cons_option (f (get_or xs i d)) []
 filter_map-more f xs i d within =
     rw (take_more xs i d within) (filter_map-append f (take i xs) (get_or xs i d ∷ []))
+
+-- a row that stands in the list, and one that doesn't
+pub row_pushed : {X : Type 0} (f : X → Option (List ℕ)) (xs : List X) (i : ℕ) (d : X)
+    (names : List (Bor (List ℕ))) (name : Bor (List ℕ)) → i < length xs
+    → f (get_or xs i d) ≡ Some name.now → names_of names ≡ filter_map f (take i xs)
+    → names_of (names ++ name ∷ []) ≡ filter_map f (take (i + 1) xs)
+row_pushed f xs i d names name within is so_far =
+    rw (filter_map-more f xs i d within, is, ← so_far)
+    (map_push (λ (n : Bor (List ℕ)). n.now) names name)
+
+pub row_passed : {X : Type 0} (f : X → Option (List ℕ)) (xs : List X) (i : ℕ) (d : X)
+    (names : List (Bor (List ℕ))) → i < length xs
+    → f (get_or xs i d) ≡ None → names_of names ≡ filter_map f (take i xs)
+    → names_of names ≡ filter_map f (take (i + 1) xs)
+row_passed f xs i d names within is so_far =
+    rw (filter_map-more f xs i d within, is) (so_far ∙ sym (append-nil (filter_map f (take i xs))))
 
 -- ---- names are identifiers
 
@@ -137,15 +158,13 @@ domain-named rows peer after lawful there =
 
 -- ---- the first names of a list
 
-pub identifier_at : (names : List (Bor (List ℕ))) (i : ℕ) (name : Bor (List ℕ))
-    → All IsIdentifier (names_of names) → i < length names → name ≡ get_or names i name
-    → IsIdentifier name.now
-identifier_at names i name all within is =
-    let here : get_or (names_of names) i [] ≡ (get_or names i name).now =
-    get_or-map (λ n. n.now) names i name [] within in
+pub identifier_here : (names : List (Bor (List ℕ))) (i : ℕ) (d : Bor (List ℕ))
+    → All IsIdentifier (names_of names) → i < length names → IsIdentifier (get_or names i d).now
+identifier_here names i d all within =
+    let here : get_or (names_of names) i [] ≡ (get_or names i d).now =
+    get_or-map (λ n. n.now) names i d [] within in
     let there : i < length (names_of names) = omega (arith, within, length-map names (λ n. n.now)) in
-    let same : (get_or names i name).now ≡ name.now = ap (λ (n : Bor (List ℕ)). n.now) (sym is) in
-    rw same at (rw here at (all i [] there))
+    rw here at (all i [] there)
 
 identifiers_taken : (n : ℕ) (names : List (List ℕ)) → All IsIdentifier names
     → All IsIdentifier (take n names)
@@ -176,3 +195,30 @@ shown_names names n is =
     (λ many. let most : n ≡ NAMES_LIMIT = omega (arith, is, many) in
     rw most (sym (take-map (λ (name : Bor (List ℕ)). name.now) NAMES_LIMIT names)))
     (cases_lt (length names) NAMES_LIMIT)
+
+-- ---- the classes that may be listed
+
+pub listed_variables : (table : OwnTable) (class : ℤ) (scope : Scope) (after : Option (List ℕ))
+    → is_foreign table scope ≡ false → int_eq class NAMED_VARIABLES ≡ true
+    → names_listed table class scope after
+    ≡ first_of (in_order (filter (is_after after) (variables_in table scope)))
+listed_variables table class scope after own here = rw (own, here) refl
+
+pub listed_domain : (table : OwnTable) (class : ℤ) (scope : Scope) (after : Option (List ℕ))
+    → is_foreign table scope ≡ false → int_eq class NAMED_VARIABLES ≡ false
+    → int_eq class DOMAINS ≡ true → is_vmd scope ≡ true
+    → names_listed table class scope after
+    ≡ first_of (in_order (filter (is_after after) (table.domain ∷ [])))
+listed_domain table class scope after own other here whole = rw (own, other, here, whole) refl
+
+pub listed_lists : (table : OwnTable) (class : ℤ) (scope : Scope) (after : Option (List ℕ))
+    → is_foreign table scope ≡ false → int_eq class NAMED_VARIABLES ≡ false
+    → (int_eq class DOMAINS && is_vmd scope) ≡ false → int_eq class NAMED_VARIABLE_LISTS ≡ true
+    → names_listed table class scope after ≡ first_of []
+listed_lists table class scope after own other apart here = rw (own, other, apart, here) refl
+
+pub listed_nothing : (table : OwnTable) (class : ℤ) (scope : Scope) (after : Option (List ℕ))
+    → is_foreign table scope ≡ false → int_eq class NAMED_VARIABLES ≡ false
+    → (int_eq class DOMAINS && is_vmd scope) ≡ false → int_eq class NAMED_VARIABLE_LISTS ≡ false
+    → names_listed table class scope after ≡ Error ACCESS_ERRORS ACCESS_DENIED
+listed_nothing table class scope after own other apart away = rw (own, other, apart, away) refl

@@ -130,10 +130,12 @@ Rise-with_name name (first ∷ names) rise =
         → Rise (with_name name names)
         → Rise (if b then first ∷ with_name name names else name ∷ first ∷ names)
     rising true lt all more = (all lt, more)
-    rising false ge all more =
-        (All-cons (IsAtMost name) first names ge
-        (All-weaker (IsAtMost first) (IsAtMost name) names
-        (λ other le. at_most_trans name first other ge le) rise.0), rise)
+    rising false ge all more = (
+      All-cons (IsAtMost name) first names ge
+          (All-weaker (IsAtMost first) (IsAtMost name) names
+          (λ other le. at_most_trans name first other ge le) rise.0),
+      rise,
+    )
 
 Rise-in_order : (names : List (List ℕ)) → Rise (in_order names)
 Rise-in_order [] = tt
@@ -182,9 +184,11 @@ Rise-neighbours (x ∷ []) next = ((λ k d within. absurd (omega (arith, within)
 Rise-neighbours (x ∷ y ∷ ys) next =
     let rest : Rise (y ∷ ys) = Rise-neighbours (y ∷ ys)
     (λ k d within. later k d (next (suc k) d (omega (arith, within)))) in
-    let first : IsAtMost x y = next 0 [] (omega arith) in
-    (All-cons (IsAtMost x) y ys first (All-weaker (IsAtMost y) (IsAtMost x) ys
-    (λ other le. at_most_trans x y other first le) rest.0), rest)
+    let first : IsAtMost x y = next 0 [] (omega arith) in (
+      All-cons (IsAtMost x) y ys first (All-weaker (IsAtMost y) (IsAtMost x) ys
+          (λ other le. at_most_trans x y other first le) rest.0),
+      rest,
+    )
   where
     later : (k : ℕ) (d : List ℕ)
         → IsAtMost (get_or (x ∷ y ∷ ys) (suc k) d) (get_or (x ∷ y ∷ ys) (suc k + 1) d)

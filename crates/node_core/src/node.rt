@@ -38,7 +38,7 @@ impl Model for Node {
     ghost use Rattle.std.specs.Prelude.{reverse, vec_capacity};
     ghost use Rattle.std.specs.Coded.{codes};
     ghost use Rattle.std.specs.Arc.{arc_value};
-    ghost use Rattle.tase_views.specs.EventCode.{event_code};
+    ghost use Rattle.mms_data.specs.contracts.data.MmsData as datum;
     ghost use Rattle.std.specs.HashMap.{hash_map_len};
     ghost use Rattle.node_core.specs.NodeState.{NodeState};
     ghost use Rattle.node_core.specs.Stored.{Keeps};
@@ -46,7 +46,7 @@ impl Model for Node {
 
     ghost Value = { NodeState };
 
-    ghost coded = { Prim.hlevel (codes, event_code) };
+    ghost coded = { Prim.hlevel (codes, datum.the_row.coded) };
 
     ghost view = { λ n. record {
       setup = record { centre = arc_value n.centre; limit = n.limit };

@@ -3,6 +3,10 @@
 #![tactic(auto)]
 
 #[cfg(test)]
+mod faults;
+#[cfg(test)]
+mod listing;
+#[cfg(test)]
 mod points;
 #[cfg(test)]
 mod shown;
@@ -10,5 +14,3 @@ mod shown;
 mod steps;
 #[cfg(test)]
 mod tables;
-#[cfg(test)]
-mod texts;

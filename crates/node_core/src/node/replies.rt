@@ -20,12 +20,7 @@ use tase_views::{
 
 impl Node {
     /// The reply to a call of an association.
-    pub(super) fn reply_to(
-        &self,
-        alloc: Global,
-        key: Key,
-        call: &Call,
-    ) -> Result<Reply, AllocError>
+    pub(super) fn reply_to(&self, alloc: Global, key: Key, call: &Call) -> Result<Reply, AllocError>
         requires { key.peer < length self.now.setup.centre.tables }
         ensures { let rows = self.now.setup.centre in IfOk result (λ reply. reply
             ≡ answers.reply_to (own_table rows key.peer)

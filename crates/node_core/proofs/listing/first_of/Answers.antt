@@ -19,8 +19,12 @@ returns-clause-value c =
     let order = in_order-sorted c.args.names.now sorted c.sort_unstable.ensures.permutation
     c.sort_unstable.ensures.sorted in
     let count : length (names_of sorted) ≡ length sorted = length-map sorted (λ n. n.now) in
-    rw (order, count, c.in_ok-copies.ensures,
-      shown_names sorted c.min-shown.result c.min-shown.ensures) refl
+    rw (
+      order,
+      count,
+      c.in_ok-copies.ensures,
+      shown_names sorted c.min-shown.result c.min-shown.ensures,
+    ) refl
 
 pub returns-clause-lawful : goal.returns-clause-lawful
 returns-clause-lawful c =
