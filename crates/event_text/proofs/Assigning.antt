@@ -2,12 +2,11 @@
 use Rattle.std.proofs.Common.{◌≡◌, ℕ, zero, suc, ◌+◌, ◌<◌, ◌==◌, List, [], ◌∷◌, ◌++◌, length, take, drop}
 use Rattle.std.proofs.Common.{get_or, position, Option, Some, None, refl, sym, ap, ◌∙◌, arith}
 use Rattle.std.specs.Prelude.{Result, Ok, Err, IfOk, IfSome}
-use Rattle.std.proofs.lemmas.List.{position-Some}
+use Rattle.std.proofs.lemmas.List.Quantifiers.{position-Some}
 use Rattle.mms_data.specs.Datum.{Datum}
 use Rattle.mms_data.specs.ObjectName.{ObjectName}
-use Rattle.mms_text.specs.Texts.{name_text, data_text}
+use Rattle.mms_text.specs.Texts.{name_text}
 use Rattle.mms_text.proofs.WordText.{is_same}
-use Rattle.event_text.specs.CallWords.{assigned_word}
 use Rattle.event_text.specs.Assigned.{equals_in, IsAssignment, AreParts}
 use Rattle.event_text.specs.Verbs.{IsAssignedWord}
 use Rattle.event_text.proofs.WordsRead.{parted, some_same}

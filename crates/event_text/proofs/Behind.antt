@@ -1,14 +1,13 @@
 -- What stands behind the first word of a call is what may stand behind this verb.
-use Rattle.std.proofs.Common.{◌≡◌, ◌⊎◌, ℕ, zero, suc, ◌<◌, Bool, true, false, List, [], ◌∷◌, ◌++◌, length}
+use Rattle.std.proofs.Common.{◌≡◌, ◌⊎◌, ℕ, suc, ◌<◌, Bool, true, false, List, [], ◌∷◌, length}
 use Rattle.std.proofs.Common.{map, Option, Some, None, codes, decimal, refl, sym, ap, subst, ◌∙◌}
-use Rattle.std.proofs.Common.{inl, inr, arith, drop, pos}
+use Rattle.std.proofs.Common.{inl, inr, arith, drop}
 use Rattle.std.specs.Prelude.{IfSome}
 use Rattle.std.specs.Fmt.{signed_decimal, digits}
 use Rattle.std.specs.List.{All}
 use Rattle.std.specs.Str.{bytes_eq}
 use Rattle.std.proofs.lemmas.List.Elements.{All-nil, All-cons, All-head, All-tail}
 use Rattle.std.proofs.lemmas.Slice.Eq.{bytes_eq-Decides}
-use Rattle.mms_data.specs.declared.object_name.Scope.TheVariants.{Vmd}
 use Rattle.mms_data.specs.Datum.{Datum}
 use Rattle.mms_data.specs.Lawful.{IsLawful}
 use Rattle.mms_data.specs.ObjectName.{ObjectName, IsName, IsIdentifier}
@@ -23,7 +22,7 @@ use Rattle.event_text.specs.CallWords.{call_words, assigned_words, after_words, 
 use Rattle.event_text.specs.CallWords.{SpellsCall, AreCallWords}
 use Rattle.event_text.specs.Breaks.{Breaks}
 use Rattle.event_text.specs.Assigned.{AreAssignments}
-use Rattle.event_text.specs.Verbs.{verb_text, verb_in, Behind, Each, OneOrMore, AtMostOne, NoWord}
+use Rattle.event_text.specs.Verbs.{verb_text, verb_in, Behind, Each, OneOrMore, AtMostOne}
 use Rattle.event_text.specs.Verbs.{IsNameWord, IsAssignedWord, IsAfterWord, IsOddKind}
 use Rattle.event_text.specs.declared.reading.verbs.Verb.{Verb}
 use Rattle.event_text.specs.declared.reading.verbs.Verb.TheVariants as verbs

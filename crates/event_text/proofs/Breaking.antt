@@ -1,7 +1,7 @@
 -- Where words break: from the words behind the first one to all of them.
-use Rattle.std.proofs.Common.{◌≡◌, ◌⊎◌, ℕ, zero, suc, ◌+◌, ◌<◌, ◌≤◌, List, [], ◌∷◌, ◌++◌, length, take}
-use Rattle.std.proofs.Common.{drop, refl, sym, subst, ap, ◌∙◌, inl, inr, arith, append_assoc, add-one}
-use Rattle.event_text.specs.Breaks.{Begins, Breaks}
+use Rattle.std.proofs.Common.{◌≡◌, ℕ, zero, suc, ◌<◌, ◌≤◌, List, [], ◌∷◌, ◌++◌, length, take}
+use Rattle.std.proofs.Common.{refl, subst, ap, arith, add-one}
+use Rattle.event_text.specs.Breaks.{Breaks}
 use Rattle.event_text.specs.Verbs.{Each, OneOrMore, Halts, one_more}
 use Rattle.event_text.specs.declared.reading.halt.Halt.{Halt}
 use Rattle.event_text.specs.declared.reading.halt.Halt.TheVariants as halts

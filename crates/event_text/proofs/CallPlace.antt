@@ -1,13 +1,13 @@
 -- A text breaks at one place, and where it breaks it spells no call.
-use Rattle.std.proofs.Common.{◌≡◌, ◌⊎◌, ℕ, Bool, true, false, List, Ok, Err, refl, sym, ap, subst, ◌∙◌}
+use Rattle.std.proofs.Common.{◌≡◌, ℕ, Bool, true, false, List, Err, sym, ap, ◌∙◌}
 use Rattle.std.proofs.Common.{inl, inr, IsTrue}
 use Rattle.std.specs.Prelude.{Result, ◌↔◌}
 use Rattle.plain_text.specs.Words.{words, is_spaced}
 use Rattle.tase_views.specs.declared.call.CallKind.{CallKind}
-use Rattle.event_text.specs.CallWords.{SpellsCall, AreCallWords}
+use Rattle.event_text.specs.CallWords.{AreCallWords}
 use Rattle.event_text.specs.Breaks.{Breaks}
-use Rattle.event_text.specs.WordPlaces.{word_place, blank_place}
-use Rattle.event_text.specs.CallTexts.{IsCallText, StrayBlankAt, WrongWordAt, CallBreaksAt}
+use Rattle.event_text.specs.WordPlaces.{word_place}
+use Rattle.event_text.specs.CallTexts.{IsCallText, CallBreaksAt}
 use Rattle.event_text.proofs.Breaking.{one_break}
 use Rattle.event_text.proofs.OneCall.{one_call}
 

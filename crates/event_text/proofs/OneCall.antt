@@ -1,21 +1,19 @@
 -- Words spell one call at most.
-use Rattle.std.proofs.Common.{◌≡◌, ◌⊎◌, ℕ, suc, ◌<◌, Bool, true, false, List, [], ◌∷◌, length, map}
-use Rattle.std.proofs.Common.{Option, Some, None, codes, decimal, refl, sym, ap, subst, ◌∙◌, inl, inr}
-use Rattle.std.proofs.Common.{arith, drop, ℤ}
+use Rattle.std.proofs.Common.{◌≡◌, ◌⊎◌, ℕ, true, false, List, [], ◌∷◌, length, map}
+use Rattle.std.proofs.Common.{Option, Some, None, codes, decimal, refl, sym, ap, ◌∙◌, inl, inr}
+use Rattle.std.proofs.Common.{arith, drop}
 use Rattle.std.specs.Prelude.{IfSome}
-use Rattle.std.specs.Fmt.{signed_decimal, digits}
 use Rattle.std.specs.List.{All}
 use Rattle.std.specs.Str.{bytes_eq}
 use Rattle.std.proofs.lemmas.List.Elements.{All-head, All-tail}
 use Rattle.mms_data.specs.Datum.{Datum}
-use Rattle.mms_data.specs.Lawful.{IsLawful}
 use Rattle.mms_data.specs.ObjectName.{ObjectName, IsName, IsIdentifier}
-use Rattle.mms_text.specs.Texts.{name_text, scope_text}
+use Rattle.mms_text.specs.Texts.{name_text}
 use Rattle.mms_text.specs.TextRead.{HasText}
 use Rattle.tase_views.specs.declared.call.CallKind.{CallKind}
 use Rattle.tase_views.specs.declared.call.CallKind.TheVariants.{Identify, Read, Write, NameList, Odd}
 use Rattle.tase_views.specs.Calls.{IsCall}
-use Rattle.event_text.specs.CallWords.{call_words, assigned_words, assigned_word, after_words}
+use Rattle.event_text.specs.CallWords.{assigned_words, after_words}
 use Rattle.event_text.specs.CallWords.{HasWords, SpellsCall}
 use Rattle.event_text.proofs.WordsRead.{same_name, same_assignment, same_class, same_scope}
 use Rattle.event_text.proofs.WordsRead.{same_after}

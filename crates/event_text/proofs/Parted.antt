@@ -1,8 +1,8 @@
 -- Words with a space between each two are the words of that text.
-use Rattle.std.proofs.Common.{◌≡◌, ℕ, zero, suc, ◌-◌, ◌<◌, ◌&&◌, ◌==◌, nat_le, Bool, true, false, not}
-use Rattle.std.proofs.Common.{List, [], ◌∷◌, ◌++◌, length, flat_map, filter, get_or, refl, sym, ap, ◌∙◌}
-use Rattle.std.proofs.Common.{arith, append-nil, IsTrue}
-use Rattle.std.specs.List.{list_all, list_any, All, slice_split}
+use Rattle.std.proofs.Common.{◌≡◌, ℕ, suc, ◌-◌, ◌<◌, ◌==◌, true, false}
+use Rattle.std.proofs.Common.{List, [], ◌∷◌, ◌++◌, length, flat_map, filter, get_or, refl, ap, ◌∙◌}
+use Rattle.std.proofs.Common.{arith, append-nil}
+use Rattle.std.specs.List.{list_any, All}
 use Rattle.std.proofs.lemmas.Bool.{and_parts}
 use Rattle.std.proofs.lemmas.Bool.Decides.{nat_tests}
 use Rattle.std.proofs.lemmas.List.Elements.{All-nil, All-cons}

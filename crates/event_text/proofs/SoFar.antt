@@ -1,5 +1,5 @@
 -- Names with values that were read, and the words that are still to be read.
-use Rattle.std.proofs.Common.{◌≡◌, ℕ, suc, ◌+◌, ◌<◌, ◌≤◌, List, [], ◌∷◌, ◌++◌, length, map, refl, sym}
+use Rattle.std.proofs.Common.{◌≡◌, ℕ, suc, ◌+◌, ◌<◌, ◌≤◌, List, [], ◌∷◌, ◌++◌, length, refl, sym, true}
 use Rattle.std.proofs.Common.{ap, ◌∙◌, arith, append_assoc}
 use Rattle.std.specs.List.{All}
 use Rattle.std.proofs.lemmas.List.{length-append}
@@ -8,10 +8,9 @@ use Rattle.plain_text.specs.Words.{words}
 use Rattle.mms_data.specs.Datum.{Datum, boolean}
 use Rattle.mms_data.specs.Lawful.{IsLawful}
 use Rattle.mms_data.specs.ObjectName.{ObjectName, IsName}
-use Rattle.mms_text.specs.Texts.{name_text}
 use Rattle.mms_text.specs.TextRead.{HasText}
 use Rattle.event_text.specs.CallWords.{assigned_word, assigned_words}
-use Rattle.event_text.specs.Assigned.{IsAssignment, AreAssignments}
+use Rattle.event_text.specs.Assigned.{IsAssignment}
 use Rattle.event_text.specs.Breaks.{Breaks}
 use Rattle.event_text.specs.Verbs.{OneOrMore, IsAssignedWord}
 use Rattle.event_text.proofs.Breaking.{breaks-among, breaks-none}

@@ -1,8 +1,7 @@
 -- The texts and the places of words computed on worked rows, apart from all code.
-use Rattle.std.proofs.Common.{◌≡◌, ℕ, List, [], ◌∷◌, Option, Some, None, true, false, pos, negsuc, refl}
+use Rattle.std.proofs.Common.{◌≡◌, [], ◌∷◌, Some, None, true, false, pos, negsuc, refl}
 use Rattle.std.specs.Prelude.{codes}
 use Rattle.std.specs.Fmt.{digits}
-use Rattle.plain_text.specs.Words.{words, is_spaced}
 use Rattle.tase_points.specs.declared.kind.Kind.TheVariants as kinds
 use Rattle.tase_points.specs.declared.body.Body.TheVariants as bodies
 use Rattle.bilateral.specs.Rows.{CentreRows}

@@ -1,9 +1,9 @@
 -- The text of a call spells that call.
-use Rattle.std.proofs.Common.{◌≡◌, ◌⊎◌, ℕ, suc, ◌<◌, ◌≤◌, ◌^◌, Bool, true, false, List, [], ◌∷◌, ◌++◌}
+use Rattle.std.proofs.Common.{◌≡◌, ◌⊎◌, ℕ, ◌<◌, ◌^◌, Bool, true, false, List, [], ◌∷◌, ◌++◌}
 use Rattle.std.proofs.Common.{length, map, flat_map, Option, Some, None, codes, decimal, refl, sym, ap}
-use Rattle.std.proofs.Common.{◌∙◌, arith, append_assoc, append-nil, subst, inl, inr, ℤ, pos, negsuc}
+use Rattle.std.proofs.Common.{◌∙◌, arith, append_assoc, append-nil, inl, inr, ℤ, pos, negsuc}
 use Rattle.std.specs.Prelude.{IfSome}
-use Rattle.std.specs.Fmt.{signed_decimal, digits}
+use Rattle.std.specs.Fmt.{signed_decimal}
 use Rattle.std.specs.List.{All}
 use Rattle.std.specs.Int.{w64}
 use Rattle.std.specs.Int.RustNames.{FitsSigned}
@@ -21,15 +21,15 @@ use Rattle.mms_text.specs.TextRead.{HasText}
 use Rattle.tase_views.specs.declared.call.CallKind.{CallKind}
 use Rattle.tase_views.specs.declared.call.CallKind.TheVariants.{Identify, Read, Write, NameList, Odd}
 use Rattle.tase_views.specs.Calls.{IsCall}
-use Rattle.tase_views.specs.EventTexts.{call_text, next_name, assigned_text, after_text, read_verb}
-use Rattle.event_text.specs.CallWords.{call_words, assigned_words, assigned_word, after_words}
-use Rattle.event_text.specs.CallWords.{HasWords, SpellsCall}
+use Rattle.tase_views.specs.EventTexts.{call_text, next_name, assigned_text, after_text}
+use Rattle.event_text.specs.CallWords.{assigned_words, after_words}
+use Rattle.event_text.specs.CallWords.{HasWords}
 use Rattle.event_text.specs.CallTexts.{IsCallText}
 use Rattle.event_text.specs.Verbs.{verb_text}
 use Rattle.event_text.specs.declared.reading.verbs.Verb.{Verb}
 use Rattle.event_text.specs.declared.reading.verbs.Verb.TheVariants as verbs
 use Rattle.event_text.proofs.Behind.{verb_of, others_of, call_words-are}
-use Rattle.event_text.proofs.Graphic.{AreGraphic, both_graphic, escaped_graphic, signed_graphic}
+use Rattle.event_text.proofs.Graphic.{both_graphic, escaped_graphic, signed_graphic}
 use Rattle.event_text.proofs.Graphic.{scope_graphic, name_graphic, data_graphic, decimal_graphic}
 use Rattle.event_text.proofs.Parted.{IsPrinted, ArePrinted, after_spaces, words-parted}
 use Rattle.event_text.proofs.Parted.{spaced-parted}

@@ -1,30 +1,24 @@
 -- Words that are read as nothing are nothing, and one right word of each kind.
-use Rattle.std.proofs.Common.{◌≡◌, ◌⊎◌, ℕ, suc, ◌+◌, ◌<◌, ◌≤◌, Bool, true, false, List, [], ◌∷◌, ◌++◌}
-use Rattle.std.proofs.Common.{length, map, take, drop, Option, Some, None, pos, codes, decimal, refl}
-use Rattle.std.proofs.Common.{sym, ap, subst, ◌∙◌, inl, inr, arith, append_assoc, append-nil}
-use Rattle.std.specs.Prelude.{IfSome, IfOk, Result, Ok, Err, is_some, IsTrue}
+use Rattle.std.proofs.Common.{◌≡◌, ◌⊎◌, ℕ, suc, ◌+◌, ◌<◌, ◌≤◌, true, false, List, [], ◌∷◌, ◌++◌}
+use Rattle.std.proofs.Common.{length, map, Some, None, pos, codes, decimal, refl}
+use Rattle.std.proofs.Common.{sym, ap, ◌∙◌, inl, inr, arith, append_assoc}
 use Rattle.std.specs.Fmt.{signed_decimal}
 use Rattle.std.specs.List.{All}
 use Rattle.std.specs.Str.{bytes_eq}
 use Rattle.std.proofs.lemmas.List.{length-append}
 use Rattle.std.proofs.lemmas.List.Elements.{All-nil, All-cons, All-append, All-head, All-tail}
 use Rattle.std.proofs.lemmas.Slice.Eq.{bytes_eq-Decides}
-use Rattle.mms_data.specs.declared.object_name.Scope.{Scope}
 use Rattle.mms_data.specs.declared.object_name.Scope.TheVariants.{Vmd}
-use Rattle.mms_data.specs.Datum.{Datum, boolean}
-use Rattle.mms_data.specs.Lawful.{IsLawful}
-use Rattle.mms_data.specs.ObjectName.{ObjectName, IsName, IsScope, IsIdentifier}
+use Rattle.mms_data.specs.Datum.{boolean}
+use Rattle.mms_data.specs.ObjectName.{ObjectName, IsName}
 use Rattle.mms_text.specs.NameIn.{name_in, identifier_in}
-use Rattle.mms_text.specs.Texts.{name_text, scope_text, data_text}
-use Rattle.mms_text.specs.TextRead.{HasText}
+use Rattle.mms_text.specs.Texts.{name_text}
 use Rattle.mms_text.proofs.ReadName.{name_in-name_text, identifier_in-escaped_text}
-use Rattle.mms_text.proofs.ReadName.{identifier_in-found}
 use Rattle.mms_text.proofs.LeafRead.{integer-read}
 use Rattle.mms_text.proofs.TextBreaks.{lawful}
 use Rattle.mms_text.proofs.WordText.{chosen}
-use Rattle.plain_text.specs.Escaped.{escaped_text}
 use Rattle.event_text.specs.Breaks.{Breaks}
-use Rattle.event_text.specs.CallWords.{after_words, assigned_word, assigned_words}
+use Rattle.event_text.specs.CallWords.{assigned_word}
 use Rattle.event_text.specs.Verbs.{IsNameWord, IsAssignedWord, IsClassWord, IsScopeWord}
 use Rattle.event_text.specs.Verbs.{IsAfterWord, IsOddKind, IsOddCode, Then, NoWord, AtMostOne}
 use Rattle.event_text.specs.Verbs.{OneOrMore, Each, class_in, scope_in, odd_kind_in, Halts, one_more}

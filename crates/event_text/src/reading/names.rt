@@ -88,7 +88,10 @@ fn read_assignment(alloc: Global, word: &[u8]) -> Result<Option<Assignment>, All
         → IfOk result (λ read. IsTrue (is_some read)) }
 {
     match find_equals(word) {
-        Some(place) => read_parts(alloc, split_parts(word, place)),
+        Some(place) => {
+            let (before, after) = split_parts(word, place);
+            read_parts(alloc, before, after)
+        }
         None => Ok(None),
     }
 }
@@ -110,16 +113,16 @@ fn split_parts(word: &[u8], place: usize) -> (&[u8], &[u8])
 }
 
 /// The name and the value that two texts are.
-fn read_parts(alloc: Global, parts: (&[u8], &[u8])) -> Result<Option<Assignment>, AllocError>
+fn read_parts(alloc: Global, before: &[u8], after: &[u8]) -> Result<Option<Assignment>, AllocError>
     ensures found { IfOk result (λ read. IfSome read
-        (λ a. AreParts parts.0.now parts.1.now a.name a.value)) }
-    ensures only { (name : ObjectName) (value : Datum) → AreParts parts.0.now parts.1.now name value
+        (λ a. AreParts before.now after.now a.name a.value)) }
+    ensures only { (name : ObjectName) (value : Datum) → AreParts before.now after.now name value
         → IfOk result (λ read. IsTrue (is_some read)) }
 {
-    let Some(name) = read_name(alloc, parts.0)? else {
+    let Some(name) = read_name(alloc, before)? else {
         return Ok(None);
     };
-    match read_data_text(alloc, parts.1)? {
+    match read_data_text(alloc, after)? {
         Ok(value) => Ok(Some(Assignment { name, value })),
         Err(_) => Ok(None),
     }

@@ -1,4 +1,4 @@
-use Rattle.std.proofs.Common.{◌≡◌, true, refl, arith}
+use Rattle.std.proofs.Common.{◌≡◌, true, arith}
 use Rattle.std.proofs.lemmas.Grind.{common_steps}
 use Rattle.plain_text.specs.Words.{is_spaced}
 use Rattle.event_text.proofs.CallPlace.{place-fault}
@@ -10,4 +10,4 @@ returns-in-Err-clause-fault c place =
     let spaced : is_spaced text ≡ true = grind (arith, common_steps) in
     let count = c.in-Err.count in
     place-fault text count c.word_place.result place spaced c.word_place.ensures
-    ((c.in-Err.ensures.fault count).0 refl)
+    ((c.in_ok-call.ensures.fault count).0 c.in-Err.is)

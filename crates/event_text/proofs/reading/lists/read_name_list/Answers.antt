@@ -1,4 +1,6 @@
 use Rattle.std.proofs.Common.{◌≡◌, ◌∷◌, None, Some, codes, sym, ◌∙◌, rules}
+use Rattle.std.specs.Int.{w64}
+use Rattle.std.proofs.lemmas.Int.{to_z-of_z}
 use Rattle.plain_text.specs.Words.{words}
 use Rattle.event_text.specs.Verbs.{class_in, Then, AtMostOne, IsClassWord, IsScopeWord, IsAfterWord}
 use Rattle.event_text.proofs.WordsRead.{class_in-found}
@@ -21,7 +23,7 @@ returns-in-Ok-clause-found c =
     let found : Some class ≡ class_in word = search rules in
     let s = class_in-found word class (sym found) in
     let f = c.in-Ok.ensures.found in
-    rw c.new.ensures (record {
+    rw (c.new.ensures, to_z-of_z w64 class s.1) (record {
       spelled = λ i. codes "names" ∷ (c.in-Some.ensures.some ∙ (λ j. s.0 j ∷ f.spelled j)) i;
       lawful = (f.named, f.after_named);
       textual = s.1;

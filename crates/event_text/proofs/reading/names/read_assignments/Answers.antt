@@ -1,4 +1,4 @@
-use Rattle.std.proofs.Common.{◌≡◌, length, arith}
+use Rattle.std.proofs.Common.{◌≡◌, false, true, length, arith}
 use Rattle.event_text.proofs.SoFar.{assigned-break, assigned-empty, assigned-more}
 use Rattle.event_text.proofs.Assigning.{assigned-word}
 use Rattle.event_text.proofs.reading.names.read_assignments.Goals as goal
@@ -9,7 +9,7 @@ returns-in_default-2-clause-fault c =
     assigned-break c.args.text.now c.loop-word.rest.now c.in-Some.after.now word c.loop-word.names
     c.loop-word.values c.len.result c.loop-word.invariant c.in-Some.ensures.some c.len.ensures
     (λ w. let some = c.in_ok-assignment.ensures.only w.name w.value (assigned-word word w) in
-    rw c.in_default-2.is at some)
+    let wrong : false ≡ true = rw c.in_default-2.is at some in absurd cc)
 
 pub loop-word-preserved : goal.loop-word-preserved
 loop-word-preserved c =

@@ -1,6 +1,5 @@
 -- The names and values so far stand before the words that are still to be read.
 use Rattle.std.proofs.Common.{length}
-use Rattle.plain_text.specs.Words.{words}
 use Rattle.event_text.proofs.SoFar.{AssignedSoFar}
 use Rattle.event_text.proofs.reading.names.read_assignments.Given as goal
 

@@ -1,4 +1,4 @@
-use Rattle.std.proofs.Common.{◌≡◌, ◌++◌, ◌∷◌, None, length, map, ap, ◌∙◌, arith, rules}
+use Rattle.std.proofs.Common.{◌≡◌, ◌++◌, None, length, map, ap, ◌∙◌, arith, rules}
 use Rattle.plain_text.specs.Words.{words}
 use Rattle.mms_text.specs.NameIn.{name_in}
 use Rattle.mms_text.specs.Texts.{name_text}
