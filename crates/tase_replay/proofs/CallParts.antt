@@ -146,7 +146,7 @@ scope_of_word-text (Domain domain) h =
           (identifier_foreign is_separator separator_foreign domain h) refl,
       last,
       take-append_seam name (47 ∷ []),
-      get_or-append_seam name (47 ∷ []) 0,
+      get_or-append_seam name 47 [] 0,
       identifier_in-escaped_text domain h,
     ) refl
 scope_of_word-text Association h = refl

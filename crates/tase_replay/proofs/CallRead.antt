@@ -129,8 +129,8 @@ paired (name ∷ names) (value ∷ values) = (name, value) ∷ paired names valu
 -- names and values, one of each
 record ArePaired (names : List ObjectName) (values : List Datum) : Type 0 where
   pub words : assigned_words names values ≡ map word_of_pair (paired names values)
-  pub names : names_of (paired names values) ≡ names
-  pub values : values_of (paired names values) ≡ values
+  pub firsts : names_of (paired names values) ≡ names
+  pub seconds : values_of (paired names values) ≡ values
   pub all : All IsAssigned (paired names values)
   pub many : length (paired names values) ≡ length names
 
@@ -138,8 +138,8 @@ pair_up : (names : List ObjectName) (values : List Datum) → length values ≡ 
     → All IsName names → All HasText values → ArePaired names values
 pair_up [] [] many named textual = record {
   words = refl;
-  names = refl;
-  values = refl;
+  firsts = refl;
+  seconds = refl;
   all = λ k d h. absurd (omega arith);
   many = refl;
 }
@@ -150,8 +150,8 @@ pair_up (name ∷ names) (value ∷ values) many named textual =
     (All-tail HasText value values textual) in
     record {
       words = ap (λ ws. word_of_pair (name, value) ∷ ws) rest.words;
-      names = ap (λ ns. name ∷ ns) rest.names;
-      values = ap (λ vs. value ∷ vs) rest.values;
+      firsts = ap (λ ns. name ∷ ns) rest.firsts;
+      seconds = ap (λ vs. value ∷ vs) rest.seconds;
       all = All-cons IsAssigned (name, value) (paired names values)
           (All-head IsName name names named, All-head HasText value values textual) rest.all;
       many = omega (arith, rest.many);
@@ -172,8 +172,8 @@ write_in-words names values some many named textual =
     ) refl in
     ap write_in pairs.words
     ∙ ap (option_map (λ ps. Write (names_of ps) (values_of ps))) read
-    ∙ ap (λ ns. Some (Write ns (values_of (paired names values)))) pairs.names
-    ∙ ap (λ vs. Some (Write names vs)) pairs.values
+    ∙ ap (λ ns. Some (Write ns (values_of (paired names values)))) pairs.firsts
+    ∙ ap (λ vs. Some (Write names vs)) pairs.seconds
 
 list_in-found : (words : List (List ℕ)) (call : CallKind) → list_in words ≡ Some call
     → Said (codes "names" ∷ words) call

@@ -13,9 +13,10 @@ use Rattle.tase_views.specs.Setup.{Setup}
 use Rattle.tase_views.specs.History.{Past}
 use Rattle.tase_views.specs.Outcomes.{refusal_of, answer_of, IsRefusal}
 use Rattle.tase_replay.specs.declared.playing.ReplayEnd.{ReplayEnd}
-use Rattle.tase_replay.specs.declared.playing.ReplayEnd.TheVariants.{Done, BadLine, SinkFault}
-use Rattle.tase_replay.specs.declared.playing.ReplayEnd.TheVariants.{Memory}
-use Rattle.tase_replay.specs.Play.{Step, step_of, printed_of, Meaning, bad, gives, accepted}
+use Rattle.tase_replay.specs.declared.playing.ReplayEnd.TheVariants.{Done, BadLine, Full}
+use Rattle.tase_replay.specs.declared.playing.ReplayEnd.TheVariants.{SinkFault, Memory}
+use Rattle.tase_replay.specs.Play.{Step, step_of, printed_of, Meaning, bad, gives, meaning_of}
+use Rattle.tase_replay.specs.Play.{accepted}
 use Rattle.tase_replay.specs.Play.{line_in, play_line, play_alone, ends_there, steps_of}
 use Rattle.tase_replay.specs.Lines.{entry_in}
 use Rattle.tase_replay.specs.Ends.{IsPlayed, IsShown, entry_or_end, end_of_refusal}
@@ -56,6 +57,8 @@ IsPlayed-shown line number past step history now before after Done grown shown =
 )
 IsPlayed-shown line number past step history now before after (BadLine at) grown shown =
     absurd shown
+IsPlayed-shown line number past step history now before after (Full weight limit) grown shown =
+    absurd shown
 IsPlayed-shown line number past step history now before after SinkFault grown shown =
     record {
       count = 1;
@@ -73,6 +76,19 @@ IsPlayed-shown line number past step history now before after Memory grown shown
           (sym (append-nil step.printed)) shown;
     }
 
+-- an event that was refused so, or taken
+judged : (setup : Setup) (line : List ℕ) (number : ℕ) (past : Past) (entry : Entry)
+    (refusal : Option StepFault) (history now : List Entry) (before after : SinkTold)
+    (end : ReplayEnd) → refusal_of setup past entry.who entry.event ≡ refusal
+    → IsPlayed (play_line line number past (meaning_of (step_of setup past entry) refusal)
+    ends_there) history now before after end
+    → IsPlayed (play_line line number past (accepted setup past (Some entry)) ends_there) history
+    now before after end
+judged setup line number past entry refusal history now before after end is played =
+    subst (λ (r : Option StepFault). IsPlayed
+    (play_line line number past (meaning_of (step_of setup past entry) r) ends_there) history now
+    before after end) (sym is) played
+
 -- an event that was taken, and its answer printed
 pub IsPlayed-taken : (setup : Setup) (line : List ℕ) (number : ℕ) (past : Past) (entry : Entry)
     (answer : Answer) (history now : List Entry) (before after : SinkTold) (end : ReplayEnd)
@@ -83,24 +99,39 @@ pub IsPlayed-taken : (setup : Setup) (line : List ℕ) (number : ℕ) (past : Pa
     now before after end
 IsPlayed-taken setup line number past entry answer history now before after end allowed is grown
     shown =
-    rw allowed (IsPlayed-shown line number past (step_of setup past entry) history now before after
+    judged setup line number past entry None history now before after end allowed
+    (IsPlayed-shown line number past (step_of setup past entry) history now before after
     end grown
     (subst (λ (a : Answer). IsShown (printed_of entry.who a) before after end) is shown))
 
 -- an event that was refused
 pub IsPlayed-refused : (setup : Setup) (line : List ℕ) (number : ℕ) (past : Past) (entry : Entry)
     (fault : StepFault) (history : List Entry) (sink : SinkTold)
-    → IsRefusal (refusal_of setup past entry.who entry.event) fault
+    → IsRefusal entry.event (refusal_of setup past entry.who entry.event) fault
     → IsPlayed (play_line line number past (accepted setup past (Some entry)) ends_there) history
     history sink sink (end_of_refusal number fault)
 IsPlayed-refused setup line number past entry faults.Memory history sink refused =
     IsPlayed-none line number past (accepted setup past (Some entry)) history sink
-IsPlayed-refused setup line number past entry faults.NoAssociation history sink refused =
-    rw refused (refl, TakesAll-none history sink)
-IsPlayed-refused setup line number past entry faults.Already history sink refused =
-    rw refused (refl, TakesAll-none history sink)
-IsPlayed-refused setup line number past entry faults.UnknownName history sink refused =
-    rw refused (refl, TakesAll-none history sink)
+IsPlayed-refused setup line number past entry (faults.Stopped place) history sink
+    refused =
+    judged setup line number past entry (Some (faults.Stopped place)) history history sink sink
+    (BadLine number) refused (refl, TakesAll-none history sink)
+IsPlayed-refused setup line number past entry (faults.HistoryFull weight limit) history sink
+    refused =
+    judged setup line number past entry (Some (faults.HistoryFull weight limit)) history history sink sink
+    (Full weight limit) refused (refl, TakesAll-none history sink)
+IsPlayed-refused setup line number past entry faults.NoAssociation history sink
+    refused =
+    judged setup line number past entry (Some faults.NoAssociation) history history sink sink
+    (BadLine number) refused (refl, TakesAll-none history sink)
+IsPlayed-refused setup line number past entry faults.Already history sink
+    refused =
+    judged setup line number past entry (Some faults.Already) history history sink sink
+    (BadLine number) refused (refl, TakesAll-none history sink)
+IsPlayed-refused setup line number past entry faults.UnknownName history sink
+    refused =
+    judged setup line number past entry (Some faults.UnknownName) history history sink sink
+    (BadLine number) refused (refl, TakesAll-none history sink)
 
 -- what a line that isn't skipped means, by what is read of it
 line_in-read : (setup : Setup) (line : List ℕ) (past : Past) (found : Option Entry)

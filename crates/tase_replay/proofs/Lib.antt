@@ -1,5 +1,10 @@
+pub mod Foreign
+pub mod CallParts
+pub mod CallRead
 pub mod Taking
 pub mod Reached
 pub mod Entering
+pub mod Keeping
 pub mod Isolation
+pub mod Reports
 mod Worked

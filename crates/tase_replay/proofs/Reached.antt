@@ -8,9 +8,10 @@ use Rattle.outside.specs.Sink.{SinkTold}
 use Rattle.tase_views.specs.declared.event.Entry.{Entry}
 use Rattle.tase_views.specs.History.{Past}
 use Rattle.tase_replay.specs.declared.playing.ReplayEnd.{ReplayEnd}
-use Rattle.tase_replay.specs.declared.playing.ReplayEnd.TheVariants.{Done, BadLine, SinkFault}
-use Rattle.tase_replay.specs.declared.playing.ReplayEnd.TheVariants.{Memory}
-use Rattle.tase_replay.specs.Play.{Step, Meaning, bad, gives, Taken, done, bad_line, Played}
+use Rattle.tase_replay.specs.declared.playing.ReplayEnd.TheVariants.{Done, BadLine, Full}
+use Rattle.tase_replay.specs.declared.playing.ReplayEnd.TheVariants.{SinkFault, Memory}
+use Rattle.tase_replay.specs.Play.{Step, Meaning, bad, too_heavy, gives, Taken, End, done, bad_line}
+use Rattle.tase_replay.specs.Play.{history_full, Played}
 use Rattle.tase_replay.specs.Play.{past_after, play_line, ends_there, steps_of, entries_in}
 use Rattle.tase_replay.specs.Ends.{TakesAll, TakesPart, IsPlayed}
 use Rattle.tase_replay.proofs.Taking.{TakesAll-none, TakesAll-append, TakesPart-append}
@@ -78,6 +79,11 @@ Reached-more line number bad rest all history now later before after next reache
   where
     done_or_bad : bad_line number ≡ done → ⊥
     done_or_bad e = absurd cc
+Reached-more line number (too_heavy weight limit) rest all history now later before after next
+    reached played = absurd (done_or_full played.0)
+  where
+    done_or_full : history_full weight limit ≡ done → ⊥
+    done_or_full e = absurd cc
 Reached-more line number (gives steps) rest all history now later before after next reached played =
     let taken : Taken = record { line = line; steps = steps } in
     let past : past_after (reverse now) steps ≡ reverse later =
@@ -103,6 +109,7 @@ steps_of-line : (line : List ℕ) (number : ℕ) (past : Past) (meaning : Meanin
     × (steps_of (play_line line number past meaning rest)
     ≡ steps_of (play_line line number past meaning ends_there) ++ more)
 steps_of-line line number past bad rest = ([], refl)
+steps_of-line line number past (too_heavy weight limit) rest = ([], refl)
 steps_of-line line number past (gives steps) rest = (
   steps_of (rest (past_after past steps)),
   ap (λ (these : List Step). these ++ steps_of (rest (past_after past steps)))
@@ -126,26 +133,36 @@ Reached-part line number meaning rest all history now later before after next fa
     next failed reached.takes
     (TakesPart-front alone first.0 now later after next failed part))
 
--- a bad line is the last
-Reached-bad : (line : List ℕ) (number : ℕ) (meaning : Meaning) (rest : Past → Played) (all : Played)
-    (history now later : List Entry) (before after next : SinkTold) (at : ℕ)
-    → Reached all (play_line line number (reverse now) meaning rest) history now before after
-    → IsPlayed (play_line line number (reverse now) meaning ends_there) now later after next
-    (BadLine at)
-    → IsPlayed all history later before next (BadLine at)
-Reached-bad line number bad rest all history now later before after next at reached played = (
-  ap (λ (p : Played). p.end) reached.whole ∙ played.0,
+-- a line that isn't taken is the last
+Reached-ended : (line : List ℕ) (number : ℕ) (meaning : Meaning) (rest : Past → Played)
+    (all : Played) (history now later : List Entry) (before after next : SinkTold) (end : End)
+    → (end ≡ done → ⊥) → Reached all (play_line line number (reverse now) meaning rest) history now
+    before after
+    → (play_line line number (reverse now) meaning ends_there).end ≡ end
+    → TakesAll (steps_of (play_line line number (reverse now) meaning ends_there)) now later after
+    next
+    → (all.end ≡ end) × TakesAll (steps_of all) history later before next
+Reached-ended line number bad rest all history now later before after next end other reached ends
+    takes = (
+  ap (λ (p : Played). p.end) reached.whole ∙ ends,
   subst (λ (these : List Step). TakesAll these history later before next)
       (sym (steps_of-continued all (play_line line number (reverse now) bad rest) reached.lines
       reached.whole))
       (TakesAll-append (steps_in reached.lines) [] history now later before after next reached.takes
-      played.1),
+      takes),
 )
-Reached-bad line number (gives steps) rest all history now later before after next at reached
-    played = absurd (done_or_bad played.0)
-  where
-    done_or_bad : done ≡ bad_line at → ⊥
-    done_or_bad e = absurd cc
+Reached-ended line number (too_heavy weight limit) rest all history now later before after next end
+    other reached ends takes = (
+  ap (λ (p : Played). p.end) reached.whole ∙ ends,
+  subst (λ (these : List Step). TakesAll these history later before next)
+      (sym (steps_of-continued all
+      (play_line line number (reverse now) (too_heavy weight limit) rest) reached.lines
+      reached.whole))
+      (TakesAll-append (steps_in reached.lines) [] history now later before after next reached.takes
+      takes),
+)
+Reached-ended line number (gives steps) rest all history now later before after next end other
+    reached ends takes = absurd (other (sym ends))
 
 -- a line that ends the play ends all so
 pub Reached-last : (line : List ℕ) (number : ℕ) (meaning : Meaning) (rest : Past → Played)
@@ -158,7 +175,12 @@ Reached-last line number meaning rest all history now later before after next Do
     played = absurd (other refl)
 Reached-last line number meaning rest all history now later before after next
     (BadLine at) other reached played =
-    Reached-bad line number meaning rest all history now later before after next at reached played
+    Reached-ended line number meaning rest all history now later before after next (bad_line at)
+    (λ e. absurd cc) reached played.0 played.1
+Reached-last line number meaning rest all history now later before after next
+    (Full weight limit) other reached played =
+    Reached-ended line number meaning rest all history now later before after next
+    (history_full weight limit) (λ e. absurd cc) reached played.0 played.1
 Reached-last line number meaning rest all history now later before after next SinkFault other
     reached played =
     Reached-part line number meaning rest all history now later before after next true reached

@@ -1,14 +1,27 @@
 -- The definitions computed on worked scenarios, apart from all code: what each shows, by
 -- computation alone.
-use Rattle.std.proofs.Common.{◌≡◌, ℕ, ◌^◌, List, [], ◌∷◌, ◌++◌, refl}
+use Rattle.std.proofs.Common.{◌≡◌, ℕ, ◌^◌, List, [], ◌∷◌, ◌++◌, Option, Some, pos, refl, ap, arith}
+use Rattle.std.proofs.Common.{rules, lit<}
 use Rattle.std.specs.Prelude.{codes, Result, Ok, Err}
 use Rattle.std.specs.List.{flat_map}
 use Rattle.std.specs.Fmt.{digits}
 use Rattle.bilateral.specs.Rows.{CentreRows}
 use Rattle.bilateral.specs.Reading.{centre_in, no_rows}
 use Rattle.tase_views.specs.Setup.{Setup}
-use Rattle.tase_replay.specs.Play.{Played, done, bad_line, shown_of, scenario_of}
+use Rattle.mms_data.specs.Datum.{Datum, integer, bits}
+use Rattle.mms_data.specs.declared.object_name.Scope.TheVariants.{Domain}
+use Rattle.mms_data.specs.ObjectName.{ObjectName}
+use Rattle.mms_text.specs.TextRead.{HasText}
+use Rattle.tase_views.specs.declared.call.CallKind.TheVariants.{Write}
+use Rattle.tase_views.specs.declared.event.EventKind.TheVariants.{Request}
+use Rattle.tase_views.specs.declared.event.Entry.{Entry}
+use Rattle.tase_views.specs.History.{Past}
+use Rattle.tase_replay.specs.CallIn.{datum_in}
+use Rattle.tase_replay.specs.Lines.{entry_in}
+use Rattle.tase_replay.specs.Play.{Played, done, bad_line, history_full, shown_of, scenario_of}
+use Rattle.tase_replay.specs.Play.{accepted, line_in, play_line, ends_there}
 use Rattle.tase_replay.specs.Isolation.{lines_of, replies_to}
+use Rattle.tase_replay.proofs.CallParts.{datum_in-text}
 
 -- lines, each with its end
 abbrev text_of : List (List ℕ) → List ℕ
@@ -45,6 +58,7 @@ unfolding digits
 two_peers-shown = refl
 
 two_peers-end : (played two_peers).end ≡ done
+unfolding digits
 two_peers-end = refl
 
 -- names that don't exist, and those of another's table
@@ -75,15 +89,117 @@ abbrev refused : List (List ℕ)
 refused = codes "open 1 A" ∷ codes "say 1 read DOMA/LOAD1" ∷ codes "open 1 B" ∷ []
 
 refused-end : (played refused).end ≡ bad_line 3
+unfolding digits
 refused-end = refl
 
 refused-shown : shown_of (played refused) ≡ text_of (codes "reply 1 read {i0,u0}" ∷ [])
 unfolding digits
 refused-shown = refl
 
+-- the names that there are for a peer
+abbrev listed : List (List ℕ)
+listed = codes "open 1 A" ∷ codes "say 1 names 9 vmd:" ∷ codes "say 1 names 0 DOMB/"
+    ∷ codes "say 1 names 0 aa:" ∷ codes "say 1 names 0 DOMA/"
+    ∷ codes "say 1 names 0 DOMA/ BUS1" ∷ []
+
+listed-shown : shown_of (played listed)
+    ≡ text_of (codes "reply 1 names end DOMA" ∷ codes "reply 1 error 7 2"
+    ∷ codes "reply 1 names end" ∷ codes "reply 1 names end BUS1 LOAD1"
+    ∷ codes "reply 1 names end LOAD1" ∷ [])
+unfolding digits
+listed-shown = refl
+
+-- who the node is, a read whose reply repeats the names, reports, a close and another open
+abbrev reopened : List (List ℕ)
+reopened = codes "open 1 A" ∷ codes "say 1 identify" ∷ codes "say 1 read+ DOMA/BUS1"
+    ∷ codes "take 1" ∷ codes "close 1" ∷ codes "open 1 B" ∷ codes "say 1 read vmd:FREQ1" ∷ []
+
+reopened-shown : shown_of (played reopened)
+    ≡ text_of (codes "reply 1 identify" ∷ codes "reply 1 read+ b8.30"
+    ∷ codes "reply 1 read f00000000" ∷ [])
+unfolding digits
+reopened-shown = refl
+
+reopened-end : (played reopened).end ≡ done
+unfolding digits
+reopened-end = refl
+
+-- after a stop closes alone are taken: the fourth line is the first bad one
+abbrev stopped : List (List ℕ)
+stopped = codes "open 1 A" ∷ codes "stop" ∷ codes "close 1" ∷ codes "open 1 A" ∷ []
+
+stopped-end : (played stopped).end ≡ bad_line 4
+unfolding digits
+stopped-end = refl
+
+-- seats without an association, and an odd call
+unseated-end : (played (codes "take 1" ∷ [])).end ≡ bad_line 1
+unfolding digits
+unseated-end = refl
+
+closed-end : (played (codes "open 1 A" ∷ codes "close 1" ∷ codes "close 1" ∷ [])).end ≡ bad_line 3
+unfolding digits
+closed-end = refl
+
+odd-end : (played (codes "open 1 A" ∷ codes "say 1 odd 5 1" ∷ [])).end ≡ bad_line 2
+unfolding digits
+odd-end = refl
+
+-- a history that may weigh 40 octets: the third event is the first that it has no room for
+abbrev light : Setup
+light = record { centre = setup.centre; limit = 40 }
+
+abbrev heavy : List (List ℕ)
+heavy = codes "open 1 A" ∷ codes "update BUS1 s2 00 1700000000 0" ∷ codes "say 1 read DOMA/BUS1" ∷ []
+
+heavy-end : (scenario_of light (text_of heavy)).end ≡ history_full 52 40
+unfolding digits
+heavy-end = refl
+
+-- writes of a point and of a name that doesn't exist
+abbrev write_line : List ℕ
+write_line = codes "say 1 write DOMA/BUS1=b8.80 DOMA/NOPE=i1"
+
+abbrev name_a : List ℕ → ObjectName
+name_a item = record { scope = Domain (codes "DOMA"); item = item }
+
+abbrev write_entry : Entry
+write_entry = record {
+  who = 1;
+  event = Request (Write (name_a (codes "BUS1") ∷ name_a (codes "NOPE") ∷ [])
+      (bits (record { count = 8; octets = 128 ∷ [] }) ∷ integer (pos 1) ∷ []));
+}
+
+bits_read : datum_in (codes "b8.80") ≡ Some (bits (record { count = 8; octets = 128 ∷ [] }))
+unfolding digits
+bits_read = datum_in-text (bits (record { count = 8; octets = 128 ∷ [] })) (record {
+  shallow = omega arith;
+  parts = search (rules, lit<);
+})
+
+one_read : datum_in (codes "i1") ≡ Some (integer (pos 1))
+unfolding digits
+one_read = datum_in-text (integer (pos 1)) (record {
+  shallow = omega arith;
+  parts = search (rules, lit<);
+})
+
+write_line-entry : entry_in setup.centre write_line ≡ Some write_entry
+write_line-entry = rw (bits_read, one_read) refl
+
+written-shown : shown_of (played (codes "open 1 A" ∷ write_line ∷ []))
+    ≡ text_of (codes "reply 1 write !3 !10" ∷ [])
+unfolding digits
+written-shown =
+    ap (λ (found : Option Entry). shown_of (play_line (codes "open 1 A") 1 []
+    (line_in setup [] (codes "open 1 A"))
+    (λ (after : Past). play_line write_line 2 after (accepted setup after found) ends_there)))
+    write_line-entry
+
 -- the lines that concern the first peer, and the replies to it
 two_peers-lines : lines_of setup.centre 0 (played two_peers) ≡ codes "open 1 A"
     ∷ codes "update BUS1 s2 00 1700000000 0" ∷ codes "say 1 read DOMA/BUS1" ∷ []
+unfolding digits
 two_peers-lines = refl
 
 two_peers-replies : replies_to 0 (played two_peers) ≡ text_of (codes "reply 1 read b8.80" ∷ [])

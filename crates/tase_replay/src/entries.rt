@@ -1,12 +1,16 @@
-ghost use Rattle.std.specs.Prelude.{◌≡◌, IfOk};
+ghost use Rattle.std.specs.Prelude.{◌≡◌, if◌then◌else◌, IfOk, None, Some, option_map};
 ghost use Rattle.plain_text.specs.Words.{words};
-ghost use Rattle.tase_replay.specs.Lines.{entry_in, open_in, update_in, say_in};
+ghost use Rattle.tase_replay.specs.CallIn.{call_in, is_odd};
+ghost use Rattle.tase_replay.specs.Lines.{seat_in, entry_by, open_in, say_in, seated_in, entry_in};
 
-use crate::values::{read_seat, read_value};
 use bilateral::Centre;
-use plain_text::{is_spaced, next_word};
+use event_text::{read_call_words, read_feed_line};
+use plain_text::{is_spaced, next_word, read_number};
 use std::alloc::{AllocError, Global};
-use tase_views::{Entry, Event, EventKind, read_call};
+use tase_views::{Call, CallKind, Entry, Event, EventKind};
+
+/// The highest number of a peer's seat.
+const SEAT_LIMIT: u64 = 4_294_967_295;
 
 /// The entry that a line asks for, where it is one of the forms and names what the centre has.
 pub(crate) fn read_entry(
@@ -24,13 +28,23 @@ pub(crate) fn read_entry(
     };
     if verb == b"open".as_slice() {
         Ok(read_open(centre, rest))
-    } else if verb == b"update".as_slice() {
-        Ok(read_update(centre, rest))
     } else if verb == b"say".as_slice() {
         read_say(alloc, rest)
+    } else if verb == b"take".as_slice() {
+        Ok(read_seated(rest, Event::new(EventKind::Take)))
+    } else if verb == b"close".as_slice() {
+        Ok(read_seated(rest, Event::new(EventKind::Close)))
     } else {
-        Ok(None)
+        Ok(fed(read_feed_line(alloc, centre, line)?))
     }
+}
+
+/// The seat of a peer that a word is, from 1 on.
+fn read_seat(word: &[u8]) -> Option<u64>
+    ensures { result ≡ seat_in word.now }
+{
+    let seat = read_number(word, SEAT_LIMIT)?;
+    if seat >= 1 { Some(seat) } else { None }
 }
 
 /// `W KEY` behind `open`: a peer opens an association.
@@ -48,21 +62,23 @@ fn read_open(centre: &Centre, text: &[u8]) -> Option<Entry>
     Some(Entry { who, event })
 }
 
-/// `NAME BODY FLAGS SECONDS MILLIS` behind `update`: a point takes a value.
-fn read_update(centre: &Centre, text: &[u8]) -> Option<Entry>
-    ensures { result ≡ update_in centre.now (words text.now) }
+/// `W` behind `take` or `close`: a peer takes reports, or its association ends.
+fn read_seated(text: &[u8], event: Event) -> Option<Entry>
+    ensures { result ≡ seated_in event (words text.now) }
 {
-    let (name, rest) = next_word(text)?;
-    let (body, rest) = next_word(rest)?;
-    let (flags, rest) = next_word(rest)?;
-    let (seconds, rest) = next_word(rest)?;
-    let (millis, rest) = next_word(rest)?;
+    let (seat, rest) = next_word(text)?;
     if next_word(rest).is_some() {
         return None;
     }
-    let point = centre.find_point(name)?;
-    let value = read_value(body, flags, seconds, millis)?;
-    let event = Event::new(EventKind::Update { point, value });
+    let who = read_seat(seat)?;
+    Some(Entry { who, event })
+}
+
+/// An event of the centre's own systems.
+fn fed(event: Option<Event>) -> Option<Entry>
+    ensures { result ≡ option_map (λ fed. entry_by fed 0) event }
+{
+    let event = event?;
     Some(Entry { who: 0, event })
 }
 
@@ -76,9 +92,32 @@ fn read_say(alloc: Global, text: &[u8]) -> Result<Option<Entry>, AllocError>
     let Some(who) = read_seat(seat) else {
         return Ok(None);
     };
-    let Some(call) = read_call(alloc, rest)? else {
+    let Some(call) = read_said(alloc, rest)? else {
         return Ok(None);
     };
     let event = Event::new(EventKind::Request { call });
     Ok(Some(Entry { who, event }))
+}
+
+/// The call that words are, where they are one that may be said.
+fn read_said(alloc: Global, text: &[u8]) -> Result<Option<Call>, AllocError>
+    ensures { IfOk result (λ call. call ≡ call_in (words text.now)) }
+{
+    match read_call_words(alloc, text)? {
+        Ok(call) => Ok(unless_odd(call)),
+        Err(_) => Ok(None),
+    }
+}
+
+/// A call, unless it is an odd one.
+fn unless_odd(call: Call) -> Option<Call>
+    ensures { result ≡ if is_odd call then None else Some call }
+{
+    match call.kind() {
+        CallKind::Odd { .. } => None,
+        CallKind::Identify
+        | CallKind::Read { .. }
+        | CallKind::Write { .. }
+        | CallKind::NameList { .. } => Some(call),
+    }
 }

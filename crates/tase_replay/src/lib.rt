@@ -7,16 +7,18 @@
 //! - `open W KEY`: the peer with this key opens an association at seat W, a number from 1 to
 //!   4,294,967,295;
 //! - `say W CALL`: the peer of seat W asks something, and `reply W REPLY` is printed;
+//! - `take W`: the peer of seat W takes its reports, and `report W REPORT` is printed for each;
+//! - `close W`: the association of seat W ends;
 //! - `update NAME BODY FLAGS SECONDS MILLIS`: the centre's own systems give a point a value. BODY
 //!   is `s` and a state, `d` and a discrete value or `r` and the eight hexadecimal digits of a real
-//!   one; FLAGS are two such digits.
+//!   one; FLAGS are two such digits;
+//! - `stop`: the node stops; afterwards only `close` lines are taken.
 #![tactic(auto)]
 
 mod entries;
 mod laws;
 mod playing;
 mod printing;
-mod values;
 
-pub use laws::peers_are_isolated;
+pub use laws::{calls_are_spelled, peers_are_isolated};
 pub use playing::{ReplayEnd, replay};

@@ -20,6 +20,9 @@ pub enum ReplayEnd {
     /// The first line that isn't in the grammar or whose event the node refuses. Lines count from
     /// 1.
     BadLine { line: u64 },
+    /// With the event of a line the history would weigh so many octets, and may weigh at most
+    /// `limit`.
+    Full { weight: u64, limit: u64 },
     /// The sink failed.
     SinkFault,
     /// Memory ran out.
@@ -27,7 +30,8 @@ pub enum ReplayEnd {
 }
 
 /// Plays a scenario on a node: takes each line's event after those before it, and prints the reply
-/// to each request. At the first bad line it stops; what was printed before stands.
+/// to each request and the reports that are taken. At the first bad line it stops, and at the first
+/// event with which the history would be too heavy; what was printed and taken before stands.
 pub fn replay<K: Sink>(alloc: Global, node: &mut Node, scenario: &[u8], sink: &mut K) -> ReplayEnd
     ensures played { IsPlayed (play node.old.setup (lines scenario.now)
         (reverse node.old.history) 1)
@@ -82,7 +86,7 @@ fn entry_read(read: Result<Option<Entry>, AllocError>, number: u64) -> Result<En
     }
 }
 
-/// Takes the entry of the line with this number, and prints the reply where it is a request.
+/// Takes the entry of the line with this number, and prints what it is answered.
 fn play_entry<K: Sink>(
     alloc: Global,
     node: &mut Node,
@@ -110,9 +114,11 @@ fn refused(fault: StepFault, number: u64) -> ReplayEnd
 {
     match fault {
         StepFault::Memory => ReplayEnd::Memory,
-        StepFault::NoAssociation | StepFault::Already | StepFault::UnknownName => {
-            ReplayEnd::BadLine { line: number }
-        }
+        StepFault::HistoryFull { weight, limit } => ReplayEnd::Full { weight, limit },
+        StepFault::Stopped { .. }
+        | StepFault::NoAssociation
+        | StepFault::Already
+        | StepFault::UnknownName => ReplayEnd::BadLine { line: number },
     }
 }
 
@@ -122,6 +128,8 @@ fn print_answer<K: Sink>(who: u64, answer: &Answer, sink: &mut K, text: &mut Vec
 {
     match answer {
         Answer::Reply(reply) => print_reply(who, reply, sink, text),
-        Answer::Opened { .. } | Answer::Noted => ReplayEnd::Done,
+        // No kind of report is made yet, so there is none to print.
+        Answer::Reports(_) => ReplayEnd::Done,
+        Answer::Opened { .. } | Answer::Closed | Answer::Noted => ReplayEnd::Done,
     }
 }

@@ -4,9 +4,10 @@ ghost use Rattle.tase_replay.specs.Ends.{IsShown, end_of_write};
 
 use crate::playing::ReplayEnd;
 use outside::{Sink, SinkFailed, write_all};
+use event_text::spell_reply;
 use plain_text::push_decimal;
 use std::alloc::AllocError;
-use tase_views::{Reply, spell_reply};
+use tase_views::Reply;
 
 /// Prints a reply to a seat as a line. `text` is where the line is put together; what it held is
 /// gone.

@@ -11,18 +11,20 @@ use Rattle.outside.proofs.Writing.{Appends-append, AppendsPart-append}
 use Rattle.outside.proofs.Writing.{AppendsPart-front}
 use Rattle.outside.proofs.Buffering.{buffered_empty, unbuffered, handed_all, handed_part}
 use Rattle.command_io.specs.declared.status.Status.{Status}
-use Rattle.command_io.specs.declared.status.Status.TheVariants.{Done, Usage, Input, Outside, Memory}
+use Rattle.command_io.specs.declared.status.Status.TheVariants.{Done, Usage, Input, Outside, Full}
+use Rattle.command_io.specs.declared.status.Status.TheVariants.{Memory}
 use Rattle.command_io.specs.declared.input.Refusal.TheVariants.{BadLine}
-use Rattle.command_io.specs.Saying.{Said, prints, refusal_text}
+use Rattle.command_io.specs.Saying.{Said, prints, refusal_text, full_text}
 use Rattle.command_io.specs.Runs.{Tells}
-use Rattle.tase_replay.specs.Play.{Step, Played, End, done, bad_line, printed_in, shown_of}
-use Rattle.tase_replay.specs.Play.{steps_of}
+use Rattle.tase_replay.specs.Play.{Step, Played, End, done, bad_line, history_full, printed_in}
+use Rattle.tase_replay.specs.Play.{shown_of, steps_of}
 use Rattle.tase_tool.specs.Saying.{said_at, played_said}
 
 -- nothing but standard output is written
 pub plays_alone : (shown : List ℕ) (end : End) → (said_at shown end).files ≡ []
 plays_alone shown done = refl
 plays_alone shown (bad_line line) = refl
+plays_alone shown (history_full weight limit) = refl
 
 -- a play is no answer to words that are no command
 pub plays_command : (shown : List ℕ) (end : End) (k l : SinkTold) (status : Status)
@@ -30,27 +32,37 @@ pub plays_command : (shown : List ℕ) (end : End) (k l : SinkTold) (status : St
 plays_command shown done k l Done tells = λ same. absurd cc
 plays_command shown done k l Usage tells = absurd (let e = tells.0 in cc)
 plays_command shown done k l Input tells = λ same. absurd cc
+plays_command shown done k l Full tells = λ same. absurd cc
 plays_command shown done k l Outside tells = λ same. absurd cc
 plays_command shown done k l Memory tells = λ same. absurd cc
 plays_command shown (bad_line line) k l Done tells = λ same. absurd cc
 plays_command shown (bad_line line) k l Usage tells = absurd (let e = tells.0 in cc)
 plays_command shown (bad_line line) k l Input tells = λ same. absurd cc
+plays_command shown (bad_line line) k l Full tells = λ same. absurd cc
 plays_command shown (bad_line line) k l Outside tells = λ same. absurd cc
 plays_command shown (bad_line line) k l Memory tells = λ same. absurd cc
+plays_command shown (history_full weight limit) k l Done tells = λ same. absurd cc
+plays_command shown (history_full weight limit) k l Usage tells = absurd (let e = tells.0 in cc)
+plays_command shown (history_full weight limit) k l Input tells = λ same. absurd cc
+plays_command shown (history_full weight limit) k l Outside tells = λ same. absurd cc
+plays_command shown (history_full weight limit) k l Full tells = λ same. absurd cc
+plays_command shown (history_full weight limit) k l Memory tells = λ same. absurd cc
 
 -- a refusal after what was shown
-pub Tells-after : (k m l : SinkTold) (shown refusal : List ℕ) (status : Status)
+pub Tells-after : (answer : Status) (k m l : SinkTold) (shown refusal : List ℕ) (status : Status)
     → AppendsAll k m shown
-    → Tells (prints Input refusal) m l status → Tells (prints Input (shown ++ refusal)) k l status
-Tells-after k m l shown refusal Done all tells =
+    → Tells (prints answer refusal) m l status → Tells (prints answer (shown ++ refusal)) k l status
+Tells-after answer k m l shown refusal Done all tells =
     (tells.0, Appends-append k m l shown refusal false all tells.1)
-Tells-after k m l shown refusal Usage all tells =
+Tells-after answer k m l shown refusal Usage all tells =
     (tells.0, Appends-append k m l shown refusal false all tells.1)
-Tells-after k m l shown refusal Input all tells =
+Tells-after answer k m l shown refusal Input all tells =
     (tells.0, Appends-append k m l shown refusal false all tells.1)
-Tells-after k m l shown refusal Outside all tells =
+Tells-after answer k m l shown refusal Outside all tells =
     AppendsPart-append k m l shown refusal true all tells
-Tells-after k m l shown refusal Memory all tells =
+Tells-after answer k m l shown refusal Full all tells =
+    (tells.0, Appends-append k m l shown refusal false all tells.1)
+Tells-after answer k m l shown refusal Memory all tells =
     AppendsPart-append k m l shown refusal false all tells
 
 -- a front part of what is shown is one of what is said
@@ -59,6 +71,8 @@ said_front : (k l : SinkTold) (shown : List ℕ) (end : End) (failed : Bool)
 said_front k l shown done failed part = part
 said_front k l shown (bad_line line) failed part =
     AppendsPart-front k l shown (refusal_text (codes "scenario") (BadLine line)) failed part
+said_front k l shown (history_full weight limit) failed part =
+    AppendsPart-front k l shown (full_text weight limit) failed part
 
 -- what the first steps print is a front part of what all print
 steps_front : (steps : List Step) (count : ℕ)
@@ -111,6 +125,11 @@ module _ (k m l : SinkTold) (gathered : List ℕ) (held : k.held ≡ 0) where
     handed_all k m l gathered handed.0 said.text tt (from_sink said.text false tells.1)
         handed.1,
   )
+  Tells-handed said Full other tells handed = (
+    tells.0,
+    handed_all k m l gathered handed.0 said.text tt (from_sink said.text false tells.1)
+        handed.1,
+  )
   Tells-handed said Outside other tells handed = absurd (other refl)
   Tells-handed said Memory other tells handed = (
     tells.0,
@@ -129,6 +148,9 @@ module _ (k m l : SinkTold) (gathered : List ℕ) (held : k.held ≡ 0) where
       handed_part k m l gathered handed.0 said.text failed held (from_sink said.text false tells.1)
       handed.1
   Tells-unhanded said Input failed other tells handed =
+      handed_part k m l gathered handed.0 said.text failed held (from_sink said.text false tells.1)
+      handed.1
+  Tells-unhanded said Full failed other tells handed =
       handed_part k m l gathered handed.0 said.text failed held (from_sink said.text false tells.1)
       handed.1
   Tells-unhanded said Outside failed other tells handed = absurd (other refl)

@@ -2,18 +2,19 @@
 use Rattle.std.specs.Prelude.{ℕ, true, false, nat_lt, if◌then◌else◌, List, [], ◌∷◌, ◌++◌}
 use Rattle.std.specs.Prelude.{length}
 use Rattle.std.specs.Prelude.{Option, Some, None, Result, Ok, Err, codes, bytes_eq}
-use Rattle.command_io.specs.declared.status.Status.TheVariants.{Done, Usage, Input, Outside}
+use Rattle.command_io.specs.declared.status.Status.TheVariants.{Done, Usage, Input, Outside, Full}
 use Rattle.command_io.specs.declared.input.Refusal.{Refusal}
 use Rattle.command_io.specs.declared.input.Refusal.TheVariants.{Long, BadLine}
 use Rattle.command_io.specs.declared.input.TheConstants.{TEXT_LIMIT}
-use Rattle.command_io.specs.Saying.{Said, prints, refusal_text, Text, untold, missing, told}
-use Rattle.command_io.specs.Saying.{emptied, Duty}
+use Rattle.command_io.specs.Saying.{Said, prints, refusal_text, full_text, Text, untold, missing}
+use Rattle.command_io.specs.Saying.{told, emptied, Duty}
 use Rattle.capture_text.specs.Captures.{capture_in}
 use Rattle.bilateral.specs.Rows.{CentreRows}
 use Rattle.bilateral.specs.Reading.{centre_in}
 use Rattle.bilateral.specs.declared.fault.TableFault.{TableFault}
 use Rattle.tase_views.specs.Setup.{Setup}
-use Rattle.tase_replay.specs.Play.{Played, End, done, bad_line, shown_of, scenario_of}
+use Rattle.tase_replay.specs.Play.{Played, End, done, bad_line, history_full, shown_of}
+use Rattle.tase_replay.specs.Play.{scenario_of}
 use Rattle.tase_tool.specs.declared.running.TheConstants.{HISTORY_LIMIT}
 use Rattle.tase_tool.specs.Words.{Asked, replays, lists_stream, decodes_pdu}
 use Rattle.tase_tool.specs.Decoding.{capture_said}
@@ -35,11 +36,13 @@ abbrev pub tables_read : List ℕ → Result CentreRows Refusal
 tables_read text =
     if nat_lt TEXT_LIMIT (length text) then Err Long else centre_or_refusal (centre_in text)
 
--- all that a scenario shows; at its first bad line what the lines before it show, and the refusal
+-- all that a scenario shows; at its first bad line, or where the history is full, what the lines
+-- before it show, and the refusal
 abbrev pub said_at : List ℕ → End → Said
 said_at shown done = prints Done shown
 said_at shown (bad_line line) =
     prints Input (shown ++ refusal_text (codes "scenario") (BadLine line))
+said_at shown (history_full weight limit) = prints Full (shown ++ full_text weight limit)
 
 abbrev pub played_said : Played → Said
 played_said played = said_at (shown_of played) played.end

@@ -13,7 +13,9 @@ use crate::listing::run_listing;
 use crate::tables::read_tables;
 use crate::words::{Command, read_command};
 use bilateral::Centre;
-use command_io::{InputEnd, OUTPUT, Refusal, Status, print, read_input, refuse, tell_refusal};
+use command_io::{
+    InputEnd, OUTPUT, Refusal, Status, print, read_input, refuse, tell_full, tell_refusal,
+};
 use node_core::Node;
 use outside::{BufferedSink, Outside, Sink, SinkFailed};
 use std::alloc::{AllocError, Global};
@@ -29,11 +31,11 @@ pub(crate) const HISTORY_LIMIT: u64 = 134_217_728;
 /// standard output, which is `-` of the outside's sinks.
 ///
 /// What it answers and prints is, where the outside tells its octets, what the definitions say of
-/// those octets alone:
-/// the tables that the first text spells, and over them what the scenario shows, each reply from
-/// the asking peer's own table and its view of the history; or the messages that the octets of a
-/// capture are, each with its place, and the first rule that they break; or the PDU that they are,
-/// or that rule.
+/// those octets alone: the tables that the first text spells, and over them what the scenario
+/// shows, each reply from the asking peer's own table and its view of the history, up to the first
+/// bad line or the first event with which the history would weigh more than 134,217,728 octets,
+/// which is told so; or the messages that the octets of a capture are, each with its place, and the
+/// first rule that they break; or the PDU that they are, or that rule.
 pub fn run<O: Outside>(alloc: Global, words: &[String], outside: &mut O) -> Status
     ensures { let told = O.told outside.old in
         IsRun (duty_of (asked_in (map string_bytes words.now)) (texts_of told))
@@ -137,8 +139,8 @@ fn play_gathered<K: Sink + Drop>(alloc: Global, node: Node, scenario: &[u8], sin
     }
 }
 
-// Plays a scenario on a node, and prints the refusal of a bad line after what the lines before it
-// show.
+// Plays a scenario on a node, and prints the refusal of a bad line, or of an event for which the
+// history has no room, after what the lines before it show.
 fn play_on<K: Sink>(alloc: Global, node: Node, scenario: &[u8], sink: &mut K) -> Status
     ensures { let played = play node.setup (lines scenario.now) (reverse node.history) 1 in
         Tells (played_said played) (K.told sink.old) (K.told sink.new) result }
@@ -149,6 +151,7 @@ fn play_on<K: Sink>(alloc: Global, node: Node, scenario: &[u8], sink: &mut K) ->
         ReplayEnd::BadLine { line } => {
             tell_refusal(alloc, sink, "scenario", Refusal::BadLine(line))
         }
+        ReplayEnd::Full { weight, limit } => tell_full(alloc, sink, weight, limit),
         ReplayEnd::SinkFault => Status::Outside,
         ReplayEnd::Memory => Status::Memory,
     }
