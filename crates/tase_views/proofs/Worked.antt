@@ -1,6 +1,6 @@
 -- The definitions computed on worked histories, apart from all code.
 use Rattle.std.proofs.Common.{◌≡◌, ℕ, ◌^◌, List, [], ◌∷◌, Option, Some, None, true, false, pos}
-use Rattle.std.proofs.Common.{reverse, refl}
+use Rattle.std.proofs.Common.{refl}
 use Rattle.std.specs.Prelude.{codes}
 use Rattle.std.specs.Fmt.{digits}
 use Rattle.tase_points.specs.declared.kind.Kind.TheVariants.{State, Discrete, Real}
@@ -20,16 +20,14 @@ use Rattle.tase_views.specs.declared.event.Entry.{Entry}
 use Rattle.tase_views.specs.declared.fault.StepFault.TheVariants.{Stopped, HistoryFull}
 use Rattle.tase_views.specs.declared.fault.StepFault.TheVariants.{NoAssociation, Already}
 use Rattle.tase_views.specs.declared.fault.StepFault.TheVariants.{UnknownName}
-use Rattle.tase_views.specs.declared.reply.ReadSpec.TheVariants as specs
-use Rattle.tase_views.specs.declared.reply.ReplyKind.{ReplyKind}
 use Rattle.tase_views.specs.declared.reply.ReplyKind.TheVariants.{NamesAre, Error, Written}
 use Rattle.tase_views.specs.declared.reply.ReplyKind.TheVariants.{Identified, Reject}
 use Rattle.tase_views.specs.declared.reply.Answer.{Answer}
-use Rattle.tase_views.specs.declared.reply.Answer.TheVariants.{Reply, Closed, Noted, Reports}
+use Rattle.tase_views.specs.declared.reply.Answer.TheVariants.{Reply, Closed, Reports}
 use Rattle.tase_views.specs.Setup.{Setup}
 use Rattle.tase_views.specs.History.{Past, association_in}
-use Rattle.tase_views.specs.View.{view_of, own, updated, stopped, opens, takes, closes, reads}
-use Rattle.tase_views.specs.View.{writes, calls}
+use Rattle.tase_views.specs.View.{view_of, own, stopped, opens, closes}
+use Rattle.tase_views.specs.View.{writes}
 use Rattle.tase_views.specs.EventTexts.{call_text, event_text}
 use Rattle.tase_views.specs.Weights.{weight_of}
 use Rattle.tase_views.specs.Outcomes.{refusal_of, answer_of}
@@ -45,6 +43,10 @@ table_a =
       id = codes "TBLA";
       sees = record { point = 1; vmd = false; layout = Value ∷ Cov ∷ [] }
           ∷ record { point = 0; vmd = false; layout = Value ∷ [] } ∷ [];
+      controls = [];
+      slots = 8;
+      sets = 64;
+      pending = 1048576;
     }
 
 abbrev table_b : Table
@@ -55,6 +57,10 @@ table_b =
       domain = codes "DOMB";
       id = codes "TBLB";
       sees = record { point = 2; vmd = true; layout = Value ∷ [] } ∷ [];
+      controls = [];
+      slots = 8;
+      sets = 64;
+      pending = 1048576;
     }
 
 abbrev rows : CentreRows
@@ -63,6 +69,7 @@ rows =
       points = record { name = codes "BUS1"; kind = State }
           ∷ record { name = codes "LOAD1"; kind = Discrete }
           ∷ record { name = codes "FREQ1"; kind = Real } ∷ [];
+      devices = [];
       tables = table_a ∷ table_b ∷ [];
     }
 

@@ -1,4 +1,4 @@
-use Rattle.std.proofs.Common.{◌≡◌, length, take, take_all, ap, ◌∙◌, arith}
+use Rattle.std.proofs.Common.{length, take, take_all, ap, ◌∙◌, arith}
 use Rattle.plain_lengths.specs.Lengths.{capped}
 use Rattle.mms_text.specs.Texts.{name_text, data_text}
 use Rattle.tase_views.specs.EventTexts.{assigned_text}
