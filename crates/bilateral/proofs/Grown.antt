@@ -25,7 +25,7 @@ use Rattle.bilateral.specs.declared.rows.TheConstants.{PENDING_LIMIT}
 use Rattle.tase_points.specs.declared.layout.Component.{Component}
 use Rattle.table_words.specs.Words.{is_name}
 use Rattle.table_words.specs.Devices.{IsForm}
-use Rattle.bilateral.specs.Rows.{CentreRows, IsCentre, IsTable, IsDevice, place_of_point}
+use Rattle.bilateral.specs.Rows.{CentreRows, IsCentre, IsTable, IsControlling, IsDevice, place_of_point}
 use Rattle.bilateral.specs.Rows.{place_of_device, place_of_see, place_of_control, table_of}
 use Rattle.bilateral.specs.Rows.{no_table, no_point, no_device}
 use Rattle.bilateral.specs.Reading.{SoFar, with_row, with_see, with_control, with_slots, with_sets}
@@ -77,8 +77,8 @@ IsCentre-with_point rows point lawful named new = record {
   keys = lawful.keys;
   titles = lawful.titles;
   tables =
-      no_tables_all (IsTable (length (rows.points ++ point ∷ [])) (length rows.devices))
-      rows.tables new.no_tables;
+      no_tables_all (IsTable (length (rows.points ++ point ∷ []))) rows.tables new.no_tables;
+  controls = lawful.controls;
   point_limit = omega (arith, length_push rows.points point, new.room);
   device_limit = lawful.device_limit;
   peer_limit = lawful.peer_limit;
@@ -116,31 +116,23 @@ IsCentre-with_device rows device lawful words new = record {
       (fresh_key (λ r. r.name) rows.points device.name new.apart);
   keys = lawful.keys;
   titles = lawful.titles;
-  tables =
-      no_tables_all (IsTable (length rows.points) (length (rows.devices ++ device ∷ [])))
-      rows.tables new.no_tables;
+  tables = lawful.tables;
+  controls =
+      no_tables_all (IsControlling (length (rows.devices ++ device ∷ []))) rows.tables
+      new.no_tables;
   point_limit = lawful.point_limit;
   device_limit = omega (arith, length_push rows.devices device, new.room);
   peer_limit = lawful.peer_limit;
 }
 
 -- a new table has no rows, and limits within bounds
-IsTable-new : (points devices : ℕ) (table : Table) → IsLawful (Peer table)
-    → IsTable points devices table
-IsTable-new points devices table lawful = record {
+IsTable-new : (points : ℕ) (table : Table) → IsLawful (Peer table) → IsTable points table
+IsTable-new points table lawful = record {
   known = subst (λ sees. All (λ see. see.point < points) sees) (sym lawful.3.0)
       (λ k d below. absurd (omega arith));
   once = subst (λ sees. AllPairs (λ a b. a.point ≢ b.point) sees) (sym lawful.3.0)
       (λ i j d before below. absurd (omega arith));
   limit = subst (λ sees. length sees ≤ SEE_LIMIT) (sym lawful.3.0) (omega arith);
-  known_devices =
-      subst (λ controls. All (λ c. c.device < devices) controls) (sym lawful.3.1)
-      (λ k d below. absurd (omega arith));
-  devices_once =
-      subst (λ controls. AllPairs (λ a b. a.device ≢ b.device) controls) (sym lawful.3.1)
-      (λ i j d before below. absurd (omega arith));
-  control_limit =
-      subst (λ controls. length controls ≤ DEVICE_LIMIT) (sym lawful.3.1) (omega arith);
   key = lawful.0;
   domain = lawful.1;
   id = lawful.2;
@@ -150,6 +142,16 @@ IsTable-new points devices table lawful = record {
   sets = omega (arith, lawful.3.3);
   pending_least = omega (arith, lawful.3.4);
   pending = omega (arith, lawful.3.4);
+}
+
+IsControlling-new : (devices : ℕ) (table : Table) → IsLawful (Peer table)
+    → IsControlling devices table
+IsControlling-new devices table lawful = record {
+  known = subst (λ controls. All (λ c. c.device < devices) controls) (sym lawful.3.1)
+      (λ k d below. absurd (omega arith));
+  once = subst (λ controls. AllPairs (λ a b. a.device ≢ b.device) controls) (sym lawful.3.1)
+      (λ i j d before below. absurd (omega arith));
+  limit = subst (λ controls. length controls ≤ DEVICE_LIMIT) (sym lawful.3.1) (omega arith);
 }
 
 -- a peer more
@@ -168,8 +170,11 @@ IsCentre-with_peer rows table lawful words new = record {
       all_pairs_push (λ a b. a.title ≢ b.title) rows.tables table lawful.titles
       (fresh_title rows.tables table.title new.title);
   tables =
-      All-push (IsTable (length rows.points) (length rows.devices)) rows.tables table
-      lawful.tables (IsTable-new (length rows.points) (length rows.devices) table words);
+      All-push (IsTable (length rows.points)) rows.tables table lawful.tables
+      (IsTable-new (length rows.points) table words);
+  controls =
+      All-push (IsControlling (length rows.devices)) rows.tables table lawful.controls
+      (IsControlling-new (length rows.devices) table words);
   point_limit = lawful.point_limit;
   device_limit = lawful.device_limit;
   peer_limit = omega (arith, length_push rows.tables table, new.room);
@@ -199,17 +204,32 @@ AllPairs-kept f tables i table within same pairs = λ j k d before below equal.
 
 -- the last table is lawful
 pub IsTable-last : (rows : CentreRows) → IsCentre rows → 0 < length rows.tables
-    → IsTable (length rows.points) (length rows.devices) (last_table rows)
+    → IsTable (length rows.points) (last_table rows)
 IsTable-last rows lawful some =
-    All-get_or (IsTable (length rows.points) (length rows.devices)) rows.tables
-    (length rows.tables - 1) no_table (omega arith) lawful.tables
+    All-get_or (IsTable (length rows.points)) rows.tables (length rows.tables - 1) no_table
+    (omega arith) lawful.tables
+
+pub IsControlling-last : (rows : CentreRows) → IsCentre rows → 0 < length rows.tables
+    → IsControlling (length rows.devices) (last_table rows)
+IsControlling-last rows lawful some =
+    All-get_or (IsControlling (length rows.devices)) rows.tables (length rows.tables - 1) no_table
+    (omega arith) lawful.controls
+
+-- another table with the same rows for devices
+pub IsControlling-same : (devices : ℕ) (table other : Table) → other.controls ≡ table.controls
+    → IsControlling devices table → IsControlling devices other
+IsControlling-same devices table other same lawful = record {
+  known = subst (λ controls. All (λ c. c.device < devices) controls) (sym same) lawful.known;
+  once = subst (λ controls. AllPairs (λ a b. a.device ≢ b.device) controls) (sym same) lawful.once;
+  limit = subst (λ controls. length controls ≤ DEVICE_LIMIT) (sym same) lawful.limit;
+}
 
 -- another last table, with the same key and title
 pub IsCentre-with_last : (rows : CentreRows) (table : Table) → IsCentre rows
     → 0 < length rows.tables → table.key ≡ (last_table rows).key
-    → table.title ≡ (last_table rows).title
-    → IsTable (length rows.points) (length rows.devices) table → IsCentre (with_last rows table)
-IsCentre-with_last rows table lawful some same_key same_title is_table =
+    → table.title ≡ (last_table rows).title → IsTable (length rows.points) table
+    → IsControlling (length rows.devices) table → IsCentre (with_last rows table)
+IsCentre-with_last rows table lawful some same_key same_title is_table is_controlling =
     let last = length rows.tables - 1 in
     let within : length rows.tables - 1 < length rows.tables = omega arith in
     record {
@@ -221,26 +241,25 @@ IsCentre-with_last rows table lawful some same_key same_title is_table =
       keys = AllPairs-kept (λ t. t.key) rows.tables last table within same_key lawful.keys;
       titles = AllPairs-kept (λ t. t.title) rows.tables last table within same_title lawful.titles;
       tables =
-          All-set (IsTable (length rows.points) (length rows.devices)) rows.tables last table
-          is_table lawful.tables;
+          All-set (IsTable (length rows.points)) rows.tables last table is_table lawful.tables;
+      controls =
+          All-set (IsControlling (length rows.devices)) rows.tables last table is_controlling
+          lawful.controls;
       point_limit = lawful.point_limit;
       device_limit = lawful.device_limit;
       peer_limit = omega (arith, length-set rows.tables last table, lawful.peer_limit);
     }
 
 -- a table with a row more, for a point that is there and has no row yet
-pub IsTable-with_see : (points devices : ℕ) (table : Table) (see : SeeRow)
-    → IsTable points devices table → see.point < points → place_of_see table see.point ≡ None
-    → length table.sees < SEE_LIMIT → IsTable points devices (with_see table see)
-IsTable-with_see points devices table see lawful known fresh room = record {
+pub IsTable-with_see : (points : ℕ) (table : Table) (see : SeeRow) → IsTable points table
+    → see.point < points → place_of_see table see.point ≡ None → length table.sees < SEE_LIMIT
+    → IsTable points (with_see table see)
+IsTable-with_see points table see lawful known fresh room = record {
   known = All-push (λ s. s.point < points) table.sees see lawful.known known;
   once = all_pairs_push (λ a b. a.point ≢ b.point) table.sees see lawful.once
       (λ k d below same. both_ways (eqb (get_or table.sees k d).point see.point)
       (position-None (λ s. s.point == see.point) table.sees fresh k d below) (eq-eqb _ _ same));
   limit = omega (arith, length_push table.sees see, room);
-  known_devices = lawful.known_devices;
-  devices_once = lawful.devices_once;
-  control_limit = lawful.control_limit;
   key = lawful.key;
   domain = lawful.domain;
   id = lawful.id;
@@ -253,20 +272,26 @@ IsTable-with_see points devices table see lawful known fresh room = record {
 }
 
 -- the same for a device
-pub IsTable-with_control : (points devices : ℕ) (table : Table) (row : ControlRow)
-    → IsTable points devices table → row.device < devices
+pub IsControlling-with_control : (devices : ℕ) (table : Table) (row : ControlRow)
+    → IsControlling devices table → row.device < devices
     → place_of_control table row.device ≡ None → length table.controls < DEVICE_LIMIT
-    → IsTable points devices (with_control table row)
-IsTable-with_control points devices table row lawful known fresh room = record {
-  known = lawful.known;
-  once = lawful.once;
-  limit = lawful.limit;
-  known_devices = All-push (λ s. s.device < devices) table.controls row lawful.known_devices known;
-  devices_once = all_pairs_push (λ a b. a.device ≢ b.device) table.controls row lawful.devices_once
+    → IsControlling devices (with_control table row)
+IsControlling-with_control devices table row lawful known fresh room = record {
+  known = All-push (λ s. s.device < devices) table.controls row lawful.known known;
+  once = all_pairs_push (λ a b. a.device ≢ b.device) table.controls row lawful.once
       (λ k d below same. both_ways (eqb (get_or table.controls k d).device row.device)
       (position-None (λ s. s.device == row.device) table.controls fresh k d below)
       (eq-eqb _ _ same));
-  control_limit = omega (arith, length_push table.controls row, room);
+  limit = omega (arith, length_push table.controls row, room);
+}
+
+-- a row for a device leaves the rest of a table as it was
+pub IsTable-with_control : (points : ℕ) (table : Table) (row : ControlRow) → IsTable points table
+    → IsTable points (with_control table row)
+IsTable-with_control points table row lawful = record {
+  known = lawful.known;
+  once = lawful.once;
+  limit = lawful.limit;
   key = lawful.key;
   domain = lawful.domain;
   id = lawful.id;
@@ -279,71 +304,57 @@ IsTable-with_control points devices table row lawful known fresh room = record {
 }
 
 -- a table with another limit
-pub IsTable-with_slots : (points devices : ℕ) (table : Table) (number : ℕ)
-    → IsTable points devices table → 1 ≤ number → number ≤ SLOT_LIMIT
-    → IsTable points devices (with_slots table number)
-IsTable-with_slots points devices table number lawful least most =
-    record {
-      known = lawful.known;
-      once = lawful.once;
-      limit = lawful.limit;
-      known_devices = lawful.known_devices;
-      devices_once = lawful.devices_once;
-      control_limit = lawful.control_limit;
-      key = lawful.key;
-      domain = lawful.domain;
-      id = lawful.id;
-      slots_least = least;
-      slots = most;
-      sets_least = lawful.sets_least;
-      sets = lawful.sets;
-      pending_least = lawful.pending_least;
-      pending = lawful.pending;
-    }
+pub IsTable-with_slots : (points : ℕ) (table : Table) (number : ℕ) → IsTable points table
+    → 1 ≤ number → number ≤ SLOT_LIMIT → IsTable points (with_slots table number)
+IsTable-with_slots points table number lawful least most = record {
+  known = lawful.known;
+  once = lawful.once;
+  limit = lawful.limit;
+  key = lawful.key;
+  domain = lawful.domain;
+  id = lawful.id;
+  slots_least = least;
+  slots = most;
+  sets_least = lawful.sets_least;
+  sets = lawful.sets;
+  pending_least = lawful.pending_least;
+  pending = lawful.pending;
+}
 
-pub IsTable-with_sets : (points devices : ℕ) (table : Table) (number : ℕ)
-    → IsTable points devices table → 1 ≤ number → number ≤ SET_LIMIT
-    → IsTable points devices (with_sets table number)
-IsTable-with_sets points devices table number lawful least most =
-    record {
-      known = lawful.known;
-      once = lawful.once;
-      limit = lawful.limit;
-      known_devices = lawful.known_devices;
-      devices_once = lawful.devices_once;
-      control_limit = lawful.control_limit;
-      key = lawful.key;
-      domain = lawful.domain;
-      id = lawful.id;
-      slots_least = lawful.slots_least;
-      slots = lawful.slots;
-      sets_least = least;
-      sets = most;
-      pending_least = lawful.pending_least;
-      pending = lawful.pending;
-    }
+pub IsTable-with_sets : (points : ℕ) (table : Table) (number : ℕ) → IsTable points table
+    → 1 ≤ number → number ≤ SET_LIMIT → IsTable points (with_sets table number)
+IsTable-with_sets points table number lawful least most = record {
+  known = lawful.known;
+  once = lawful.once;
+  limit = lawful.limit;
+  key = lawful.key;
+  domain = lawful.domain;
+  id = lawful.id;
+  slots_least = lawful.slots_least;
+  slots = lawful.slots;
+  sets_least = least;
+  sets = most;
+  pending_least = lawful.pending_least;
+  pending = lawful.pending;
+}
 
-pub IsTable-with_pending : (points devices : ℕ) (table : Table) (number : ℕ)
-    → IsTable points devices table → PENDING_LEAST ≤ number → number ≤ PENDING_LIMIT
-    → IsTable points devices (with_pending table number)
-IsTable-with_pending points devices table number lawful least most =
-    record {
-      known = lawful.known;
-      once = lawful.once;
-      limit = lawful.limit;
-      known_devices = lawful.known_devices;
-      devices_once = lawful.devices_once;
-      control_limit = lawful.control_limit;
-      key = lawful.key;
-      domain = lawful.domain;
-      id = lawful.id;
-      slots_least = lawful.slots_least;
-      slots = lawful.slots;
-      sets_least = lawful.sets_least;
-      sets = lawful.sets;
-      pending_least = least;
-      pending = most;
-    }
+pub IsTable-with_pending : (points : ℕ) (table : Table) (number : ℕ) → IsTable points table
+    → PENDING_LEAST ≤ number → number ≤ PENDING_LIMIT
+    → IsTable points (with_pending table number)
+IsTable-with_pending points table number lawful least most = record {
+  known = lawful.known;
+  once = lawful.once;
+  limit = lawful.limit;
+  key = lawful.key;
+  domain = lawful.domain;
+  id = lawful.id;
+  slots_least = lawful.slots_least;
+  slots = lawful.slots;
+  sets_least = lawful.sets_least;
+  sets = lawful.sets;
+  pending_least = least;
+  pending = most;
+}
 
 -- what another last table leaves as it was is so in every peer's table
 pub kept_of : {V : Type 0} (f : Table → V) (rows : CentreRows) (table : Table)
@@ -383,7 +394,8 @@ here_or_later number rows row q fresh =
     elim (cases_Bool (eqb (number row) q)) [
       | inl same ↦ cond-true (eqb (number row) q) _ _ same
           ∙ sym (position-push_here (λ r. number r == q) rows row
-          (ap (λ p. position (λ r. number r == p) rows) (sym (eqb-true (number row) q same)) ∙ fresh)
+          (ap (λ p. position (λ r. number r == p) rows) (sym (eqb-true (number row) q same))
+          ∙ fresh)
           same)
       | inr differs ↦ cond-false (eqb (number row) q) _ _ differs
           ∙ sym (position-push_other (λ r. number r == q) rows row differs)

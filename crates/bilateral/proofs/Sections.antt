@@ -1,6 +1,7 @@
 -- What lines say, with one line more at the end.
 use Rattle.std.proofs.Common.{◌≡◌, ℕ, zero, suc, ◌+◌, ◌-◌, ◌<◌, Bool, true, false, cond, List, []}
-use Rattle.std.proofs.Common.{◌∷◌, ◌++◌, length, map, get_or, set, Option, Some, None, is_some, refl}
+use Rattle.std.proofs.Common.{◌∷◌, ◌++◌, length, map, get_or, set, Option, Some, None, is_some}
+use Rattle.std.proofs.Common.{refl}
 use Rattle.std.proofs.Common.{sym, ap, ◌∙◌, arith}
 use Rattle.std.specs.Prelude.{filter_map}
 use Rattle.std.specs.List.{cons_option}

@@ -1,7 +1,9 @@
--- The reader finds the centre that a text spells, or its first bad line, and whatever is one of these
--- it finds.
-use Rattle.std.proofs.Common.{◌≡◌, ◌⊎◌, inl, inr, ℕ, ◌+◌, ◌-◌, ◌^◌, min, Bool, true, false, not, cond, List, []}
-use Rattle.std.proofs.Common.{◌∷◌, ◌++◌, length, filter, Option, Some, None, unwrap_or, refl, sym, ap}
+-- The reader finds the centre that a text spells, or its first bad line, and whatever is one of
+-- these it finds.
+use Rattle.std.proofs.Common.{◌≡◌, ◌⊎◌, inl, inr, ℕ, ◌+◌, ◌-◌, ◌^◌, min, Bool, true, false, not}
+use Rattle.std.proofs.Common.{cond, List, []}
+use Rattle.std.proofs.Common.{◌∷◌, ◌++◌, length, filter, Option, Some, None, unwrap_or, refl, sym}
+use Rattle.std.proofs.Common.{ap}
 use Rattle.std.proofs.Common.{subst, ◌∙◌, arith, append_assoc}
 use Rattle.std.specs.Prelude.{Result, Ok, Err, IfOk, MatchResult, option_and_then}
 use Rattle.std.specs.Option.{option_map}
@@ -16,7 +18,8 @@ use Rattle.bilateral.specs.declared.line.TableLine.{TableLine}
 use Rattle.bilateral.specs.Rows.{CentreRows}
 use Rattle.bilateral.specs.Lines.{line_in}
 use Rattle.bilateral.specs.Reasons.{SoFar, row_fault, form_fault, line_fault}
-use Rattle.bilateral.specs.Reading.{with_row, unless, after_said, after_line, and_go_on, next_number}
+use Rattle.bilateral.specs.Reading.{with_row, unless, after_said, after_line, and_go_on}
+use Rattle.bilateral.specs.Reading.{next_number}
 use Rattle.bilateral.specs.Reading.{after_lines, at_start, centre_in}
 use Rattle.bilateral.specs.Spelling.{told, AllStand, SpellLines, SpellRows, IsFirstBad, Spells}
 use Rattle.bilateral.specs.Spelling.{HasFault}
@@ -121,16 +124,17 @@ taken_line : (before : List (List ℕ)) (line : List ℕ) (rest : List (List ℕ
     → IsAnswer (before ++ line ∷ rest)
     (and_go_on number (unless why (with_row (told said) x))
     (λ next. after_lines next (next_number number) rest))
-taken_line before line rest said number spelled same later x told_line is (Some why) fault = record {
-  before = before;
-  line = line;
-  after = rest;
-  parts = refl;
-  said = said;
-  spelled = spelled;
-  reason = reason_of (told said) line (Some x) told_line is ∙ fault;
-  number = same;
-}
+taken_line before line rest said number spelled same later x told_line is (Some why)
+    fault = record {
+      before = before;
+      line = line;
+      after = rest;
+      parts = refl;
+      said = said;
+      spelled = spelled;
+      reason = reason_of (told said) line (Some x) told_line is ∙ fault;
+      number = same;
+    }
 taken_line before line rest said number spelled same later x told_line is None fault =
     subst (λ s. IsAnswer (before ++ line ∷ rest) (after_lines s (next_number number) rest))
     (told-push said x fault)

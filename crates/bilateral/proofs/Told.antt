@@ -1,6 +1,7 @@
 -- What the reader has after a line is what the lines say with this one at the end.
 use Rattle.std.proofs.Common.{◌≡◌, ℕ, ◌+◌, ◌-◌, ◌<◌, Bool, true, false, ◌||◌, List, [], ◌∷◌, ◌++◌}
-use Rattle.std.proofs.Common.{length, map, set, get_or, Option, Some, None, unwrap_or, position, refl}
+use Rattle.std.proofs.Common.{length, map, set, get_or, Option, Some, None, unwrap_or, position}
+use Rattle.std.proofs.Common.{refl}
 use Rattle.std.proofs.Common.{sym, ap, ◌∙◌, arith, bytes_eq, append_assoc}
 use Rattle.std.specs.Prelude.{filter_map, option_and_then}
 use Rattle.std.specs.Option.{option_map}
@@ -59,7 +60,8 @@ given-push own line =
     same_given _ _ _ _ _ _ (any-push is_slots own line) (any-push is_sets own line)
     (any-push is_pending own line)
 
-same_filled : (table : Table) (sees sees_new : List SeeRow) (controls controls_new : List ControlRow)
+same_filled : (table : Table) (sees sees_new : List SeeRow)
+    (controls controls_new : List ControlRow)
     (slots slots_new sets sets_new pending pending_new : ℕ) → sees_new ≡ sees
     → controls_new ≡ controls → slots_new ≡ slots → sets_new ≡ sets → pending_new ≡ pending
     → filled table sees_new controls_new slots_new sets_new pending_new
@@ -73,7 +75,8 @@ same_filled table sees sees_new controls controls_new slots slots_new sets sets_
     ∙ ap (filled table sees controls slots sets) e
 
 -- the table of a section with a line more, by what the line gives it
-module _ (points : List PointRow) (devices : List DeviceRow) (line : TableLine) (part : Section) where
+module _ (points : List PointRow) (devices : List DeviceRow) (line : TableLine)
+    (part : Section) where
   same_sees : see_in points line ≡ None
       → part.0.sees ++ filter_map (see_in points) (part.1 ++ line ∷ [])
       ≡ part.0.sees ++ filter_map (see_in points) part.1

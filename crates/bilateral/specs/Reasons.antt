@@ -78,7 +78,8 @@ is_again so_far (Control name tag) =
 
 -- a span that no selection may have
 abbrev pub is_wrong_span : DeviceRow → Bool
-is_wrong_span device = not device.direct && not (nat_le 1 device.span && nat_le device.span SPAN_LIMIT)
+is_wrong_span device =
+    not device.direct && not (nat_le 1 device.span && nat_le device.span SPAN_LIMIT)
 
 -- one row too many, or a number past its limit
 abbrev pub is_too_much : SoFar → TableLine → Bool

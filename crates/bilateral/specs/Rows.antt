@@ -55,14 +55,11 @@ pub record IsDevice (row : DeviceRow) : Type 0 where
   pub some_span : row.direct ≡ false → 1 ≤ row.span
   pub span : row.span ≤ SPAN_LIMIT
 
--- the rows of one table: points and devices that are there, none twice, identifiers and limits
-pub record IsTable (point_count device_count : ℕ) (table : Table) : Type 0 where
+-- the rows of one table: points that are there, none twice, identifiers and limits
+pub record IsTable (point_count : ℕ) (table : Table) : Type 0 where
   pub known : All (λ see. see.point < point_count) table.sees
   pub once : AllPairs (λ a b. a.point ≢ b.point) table.sees
   pub limit : length table.sees ≤ SEE_LIMIT
-  pub known_devices : All (λ control. control.device < device_count) table.controls
-  pub devices_once : AllPairs (λ a b. a.device ≢ b.device) table.controls
-  pub control_limit : length table.controls ≤ DEVICE_LIMIT
   pub key : IsTrue (is_identifier table.key)
   pub domain : IsTrue (is_identifier table.domain)
   pub id : IsTrue (is_identifier table.id)
@@ -72,6 +69,12 @@ pub record IsTable (point_count device_count : ℕ) (table : Table) : Type 0 whe
   pub sets : table.sets ≤ SET_LIMIT
   pub pending_least : PENDING_LEAST ≤ table.pending
   pub pending : table.pending ≤ PENDING_LIMIT
+
+-- the rows of one table for devices: devices that are there, none twice
+pub record IsControlling (device_count : ℕ) (table : Table) : Type 0 where
+  pub known : All (λ control. control.device < device_count) table.controls
+  pub once : AllPairs (λ a b. a.device ≢ b.device) table.controls
+  pub limit : length table.controls ≤ DEVICE_LIMIT
 
 -- what every centre keeps: names, keys and titles that differ, and lawful names and tables
 pub record IsCentre (rows : CentreRows) : Type 0 where
@@ -83,7 +86,8 @@ pub record IsCentre (rows : CentreRows) : Type 0 where
   pub apart : All (λ device. All (λ point. point.name ≢ device.name) rows.points) rows.devices
   pub keys : AllPairs (λ a b. a.key ≢ b.key) rows.tables
   pub titles : AllPairs (λ a b. a.title ≢ b.title) rows.tables
-  pub tables : All (IsTable (length rows.points) (length rows.devices)) rows.tables
+  pub tables : All (IsTable (length rows.points)) rows.tables
+  pub controls : All (IsControlling (length rows.devices)) rows.tables
   pub point_limit : length rows.points ≤ POINT_LIMIT
   pub device_limit : length rows.devices ≤ DEVICE_LIMIT
   pub peer_limit : length rows.tables ≤ PEER_LIMIT

@@ -1,5 +1,5 @@
--- What a table text spells: its lines are forms, each of which may stand behind those before it, and
--- its rows are what these lines say. A text that spells nothing has a first bad line.
+-- What a table text spells: its lines are forms, each of which may stand behind those before it,
+-- and its rows are what these lines say. A text that spells nothing has a first bad line.
 use Rattle.std.specs.Prelude.{◌≡◌, ℕ, ◌+◌, ◌-◌, ◌^◌, min, Bool, true, false, not, if◌then◌else◌}
 use Rattle.std.specs.Prelude.{List, [], ◌∷◌, ◌++◌, length, map, filter, filter_map, Option, Some}
 use Rattle.std.specs.Prelude.{None, is_some, option_and_then, position, bytes_eq}

@@ -1,5 +1,5 @@
--- The written form of a centre: a line a row, points first, then devices, then the tables, each with
--- its limits and rows.
+-- The written form of a centre: a line a row, points first, then devices, then the tables, each
+-- with its limits and rows.
 use Rattle.std.specs.Prelude.{◌≡◌, ℕ, ◌+◌, ◌-◌, ◌*◌, ◌/◌, ◌<◌, ◌≤◌, min, nat_le, Bool, IsTrue}
 use Rattle.std.specs.Prelude.{if◌then◌else◌, List, [], ◌∷◌, ◌++◌, length, map, Option, Some, None}
 use Rattle.std.specs.Prelude.{unwrap_or, codes, decimal, not, ◌&&◌, ◌==◌}

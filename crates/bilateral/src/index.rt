@@ -1,5 +1,5 @@
-//! Names and keys in the order of the file, and indexes beside the rows, so that no search goes over
-//! all of them.
+//! Names and keys in the order of the file, and indexes beside the rows, so that no search goes
+//! over all of them.
 ghost use Rattle.std.specs.Prelude.{◌≡◌, ◌<◌, ◌^◌, ◌&&◌, ◌==◌, ◌++◌, [], ◌∷◌, ℕ, Some, None};
 ghost use Rattle.std.specs.Prelude.{length, if◌then◌else◌, OnOk};
 ghost use Rattle.bilateral.specs.Index.{names_in, place_among, row_by};

@@ -91,7 +91,8 @@ impl Store {
 /// The place of the table with a title, or of the one that has none.
 fn title_place(tables: &[Table], title: Option<&Oid>) -> Option<usize>
     ensures place { result
-        ≡ position (λ table. option_eq bytes_eq table.title (option_copied title.entry)) tables.now }
+        ≡ position (λ table. option_eq bytes_eq table.title (option_copied title.entry))
+        tables.now }
     ensures within { IfSome result (λ place. place < length tables.now) }
 {
     tables

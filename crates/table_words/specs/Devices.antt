@@ -27,7 +27,8 @@ range_of low high = if int_le low high then Some (Setpoint low high) else None
 
 -- `LOW HIGH`
 abbrev pub range_in : List ℕ → List ℕ → Option CommandKind
-range_in low high = option_and_then (λ l. option_and_then (range_of l) (short_in high)) (short_in low)
+range_in low high =
+    option_and_then (λ l. option_and_then (range_of l) (short_in high)) (short_in low)
 
 -- what follows `direct`: nothing
 abbrev pub direct_form : CommandKind → List (List ℕ) → Option DeviceForm

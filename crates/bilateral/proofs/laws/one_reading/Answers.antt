@@ -24,7 +24,9 @@ returns-clause-one_fault c = λ text a b first second.
     (bad-found (lines text) b second)
 
 pub returns-clause-reader_finds_centres : goal.returns-clause-reader_finds_centres
-returns-clause-reader_finds_centres c = λ text rows. (spells-if text rows, spelled-found (lines text) rows)
+returns-clause-reader_finds_centres c = λ text rows.
+    (spells-if text rows, spelled-found (lines text) rows)
 
 pub returns-clause-reader_finds_faults : goal.returns-clause-reader_finds_faults
-returns-clause-reader_finds_faults c = λ text fault. (fault-if text fault, bad-found (lines text) fault)
+returns-clause-reader_finds_faults c = λ text fault.
+    (fault-if text fault, bad-found (lines text) fault)

@@ -9,7 +9,8 @@ use Rattle.bilateral.proofs.store.Store.add_device.Goals as goal
 
 pub note_name-requires : goal.note_name-requires
 note_name-requires c =
-    place-by_key (λ row. row.name) c.args.self.now.devices.items (names_in c.args.self.now.device_names)
+    place-by_key (λ row. row.name) c.args.self.now.devices.items
+    (names_in c.args.self.now.device_names)
     c.as_slice.result.now c.requires.store.names.devices
     ∙ ap (λ name. place_of_device (rows_of c.args.self.now) name) c.as_slice.ensures.value
     ∙ (IsNewDevice-from_no_fault (so_far c.args.self.now) c.args.device c.requires.taken).fresh

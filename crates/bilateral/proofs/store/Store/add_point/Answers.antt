@@ -9,7 +9,8 @@ use Rattle.bilateral.proofs.store.Store.add_point.Goals as goal
 
 pub note_name-requires : goal.note_name-requires
 note_name-requires c =
-    place-by_key (λ row. row.name) c.args.self.now.points.items (names_in c.args.self.now.point_names)
+    place-by_key (λ row. row.name) c.args.self.now.points.items
+    (names_in c.args.self.now.point_names)
     c.as_slice.result.now c.requires.store.names.points
     ∙ ap (λ name. place_of_point (rows_of c.args.self.now) name) c.as_slice.ensures.value
     ∙ (IsNewPoint-from_no_fault (so_far c.args.self.now) c.args.point c.requires.taken).fresh

@@ -15,4 +15,4 @@ returns-clause-store c =
     let limits = rw c.in-Some.is at c.requires.lawful in
     IsStore-with_limit c.args.self.now _ table c.requires.store taken.0
     (grind (arith, common_steps)) refl refl refl refl
-    (λ lawful. IsTable-with_slots _ _ _ _ lawful limits.0 limits.1) refl
+    (λ lawful. IsTable-with_slots _ _ _ lawful limits.0 limits.1) refl

@@ -5,5 +5,6 @@ use Rattle.bilateral.proofs.store.Store.find_point.Goals as goal
 
 pub returns : goal.returns
 returns c = c.find_name.ensures
-    ∙ place-by_key (λ row. row.name) c.args.self.now.points.items (names_in c.args.self.now.point_names)
+    ∙ place-by_key (λ row. row.name) c.args.self.now.points.items
+    (names_in c.args.self.now.point_names)
     c.args.name.now c.requires.names.points
