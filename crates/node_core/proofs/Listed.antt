@@ -1,7 +1,8 @@
 -- The names that stand in a list: those of the rows of a table, each of them an identifier.
 use Rattle.std.proofs.Common.{◌≡◌, ◌==◌, ℕ, zero, suc, ◌+◌, ◌<◌, ◌≤◌, min, Bool, true, false, not}
 use Rattle.std.proofs.Common.{◌&&◌, cond, List, [], ◌∷◌, ◌++◌, map, take, length, get_or, Bor}
-use Rattle.std.proofs.Common.{Option, Some, None, refl, sym, ap, ◌∙◌, arith, ⊎_elim, take_all, append-nil}
+use Rattle.std.proofs.Common.{Option, Some, None, refl, sym, ap, ◌∙◌, arith, ⊎_elim, take_all}
+use Rattle.std.proofs.Common.{append-nil}
 use Rattle.std.specs.Prelude.{if◌then◌else◌, filter, IsPermutation, ℤ}
 use Rattle.std.specs.Ordering.{int_eq}
 use Rattle.std.specs.List.{All, filter_map, cons_option}
@@ -148,7 +149,8 @@ domain-named rows peer after lawful there =
     chosen (is_after after (own_table rows peer).domain)
   where
     word : IsIdentifier (own_table rows peer).domain
-    word = IsIdentifier-word (own_table rows peer).domain (table_is_lawful rows peer lawful there).domain
+    word = IsIdentifier-word (own_table rows peer).domain
+        (table_is_lawful rows peer lawful there).domain
 
     chosen : (b : Bool)
         → All IsIdentifier (if b then (own_table rows peer).domain ∷ [] else [])
@@ -163,7 +165,8 @@ pub identifier_here : (names : List (Bor (List ℕ))) (i : ℕ) (d : Bor (List �
 identifier_here names i d all within =
     let here : get_or (names_of names) i [] ≡ (get_or names i d).now =
     get_or-map (λ n. n.now) names i d [] within in
-    let there : i < length (names_of names) = omega (arith, within, length-map names (λ n. n.now)) in
+    let there : i < length (names_of names) = omega (arith, within, length-map names
+        (λ n. n.now)) in
     rw here at (all i [] there)
 
 identifiers_taken : (n : ℕ) (names : List (List ℕ)) → All IsIdentifier names

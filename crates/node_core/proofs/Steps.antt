@@ -99,7 +99,8 @@ IsStored-quiet rows past values counts opens found who event unopened ungiven un
       open_count = s.open_count;
       last = λ p there. rw (ungiven p) (s.last p there);
       changed = λ p there. rw (ungiven p) (s.changed p there);
-      opened = λ p there. rw (unopened p) (s.opened p there ∙ ap Some (sym (zero-add (opens_in past p))));
+      opened = λ p there. rw (unopened p) (s.opened p there ∙ ap Some (sym (zero-add
+          (opens_in past p))));
       seated = λ asked. rw (unseated (association_in past asked)) (elim (who == asked) as
           (λ b. found asked ≡ (if b then association_in past asked else association_in past asked))
           [ true ↦ s.seated asked | false ↦ s.seated asked ]);

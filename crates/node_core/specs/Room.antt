@@ -9,9 +9,10 @@ stops_left None = 1
 stops_left (Some place) = 0
 
 -- The weight and the place of the stop are those of this past; there is room for the close of each
--- seat that has an association and for the stop; and the weight is bounded with these closes and this stop,
--- which are taken whatever the history weighs.
-pub record HasRoom (limit : ℕ) (past : Past) (capacity seats weight : ℕ) (stop : Option ℕ) : Type 0 where
+-- seat that has an association and for the stop; and the weight is bounded with these closes and
+-- this stop, which are taken whatever the history weighs.
+pub record HasRoom (limit : ℕ) (past : Past) (capacity seats weight : ℕ)
+    (stop : Option ℕ) : Type 0 where
   pub bounded : limit ≤ 2 ^ 31
   pub weighs : weight ≡ weight_of past
   pub stopped : stop ≡ stop_in past

@@ -49,4 +49,9 @@ length-decimal-some n small = decimal_nonempty n small
 
 pub length-hex_text : (os : List ℕ) → length (hex_text os) ≡ 2 * length os
 length-hex_text [] = refl
-length-hex_text (o ∷ os) = omega (arith, length-hex_text os, length-append (hex_pair o) (hex_text os))
+length-hex_text (o ∷ os) = omega (
+  arith,
+  length-hex_text os,
+  length-append (hex_pair o)
+      (hex_text os),
+)

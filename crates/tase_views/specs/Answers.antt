@@ -8,7 +8,8 @@ use Rattle.mms_data.specs.declared.outcome.Outcome.TheVariants.{Good, Fail}
 use Rattle.point_data.specs.Shown.{shown_as}
 use Rattle.sbo_device.specs.declared.key.Key.{Key}
 use Rattle.tase_views.specs.declared.call.CallKind.{CallKind}
-use Rattle.tase_views.specs.declared.call.CallKind.TheVariants.{Identify, Read, Write, NameList, Odd}
+use Rattle.tase_views.specs.declared.call.CallKind.TheVariants.{Identify, Read, Write, NameList}
+use Rattle.tase_views.specs.declared.call.CallKind.TheVariants.{Odd}
 use Rattle.tase_views.specs.declared.event.EventKind.{EventKind}
 use Rattle.tase_views.specs.declared.event.EventKind.TheVariants.{Open, Request, Take, Close}
 use Rattle.tase_views.specs.declared.event.EventKind.TheVariants.{Update, Stop}

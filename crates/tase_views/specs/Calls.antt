@@ -4,7 +4,8 @@ use Rattle.std.specs.List.{All}
 use Rattle.mms_data.specs.Lawful.{IsLawful}
 use Rattle.mms_data.specs.ObjectName.{IsScope, IsIdentifier}
 use Rattle.tase_views.specs.declared.call.CallKind.{CallKind}
-use Rattle.tase_views.specs.declared.call.CallKind.TheVariants.{Identify, Read, Write, NameList, Odd}
+use Rattle.tase_views.specs.declared.call.CallKind.TheVariants.{Identify, Read, Write, NameList}
+use Rattle.tase_views.specs.declared.call.CallKind.TheVariants.{Odd}
 
 -- a list of names has a name, a write has as many lawful values as names, a domain and a name after
 -- which a list goes on are identifiers, and an odd call gives the reject 1 1 or 5 1

@@ -11,7 +11,8 @@ use Rattle.mms_data.specs.Datum.{Datum}
 use Rattle.mms_data.specs.ObjectName.{ObjectName}
 use Rattle.mms_text.specs.Texts.{data_text, scope_text, name_text}
 use Rattle.tase_views.specs.declared.call.CallKind.{CallKind}
-use Rattle.tase_views.specs.declared.call.CallKind.TheVariants.{Identify, Read, Write, NameList, Odd}
+use Rattle.tase_views.specs.declared.call.CallKind.TheVariants.{Identify, Read, Write, NameList}
+use Rattle.tase_views.specs.declared.call.CallKind.TheVariants.{Odd}
 use Rattle.tase_views.specs.declared.event.EventKind.{EventKind}
 use Rattle.tase_views.specs.declared.event.EventKind.TheVariants.{Open, Request, Take, Close}
 use Rattle.tase_views.specs.declared.event.EventKind.TheVariants.{Update, Stop}

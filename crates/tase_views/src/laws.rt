@@ -12,8 +12,8 @@ ghost use Rattle.tase_views.specs.View.{view_of};
 ghost use Rattle.tase_views.specs.Concerns.{entries_for, reseated, IsInjective};
 ghost use Rattle.tase_views.specs.Answers.{reply_to};
 
-/// An open, a request, a take or a close of another peer leaves a peer's view as it was, and so does
-/// an update of a point that the peer's table doesn't name.
+/// An open, a request, a take or a close of another peer leaves a peer's view as it was, and so
+/// does an update of a point that the peer's table doesn't name.
 pub fn others_are_unseen()
     ensures open { (rows : CentreRows) (past : Past) (peer other who : ℕ) → other ≢ peer
         → view_of rows peer (record { who = who; event = Open other } ∷ past)

@@ -1,6 +1,6 @@
-//! Events, calls and replies of a TASE.2 node, what events weigh, and the definitions by which the node
-//! is judged: associations, a peer's own table, a peer's view of the history, and the answer to
-//! each event.
+//! Events, calls and replies of a TASE.2 node, what events weigh, and the definitions by which the
+//! node is judged: associations, a peer's own table, a peer's view of the history, and the answer
+//! to each event.
 #![tactic(auto)]
 
 mod call;

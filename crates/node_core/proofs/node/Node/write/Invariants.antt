@@ -6,4 +6,5 @@ use Rattle.node_core.proofs.node.Node.write.Given as goal
 abbrev pub invariant-loop-name : goal.invariant-loop-name
 invariant-loop-name l =
     let table = own_table l.self.setup.centre l.key.peer in
-    l.results ≡ map (λ name. write_of_point (point_named table name)) (take l.name-index l.name-items)
+    l.results ≡ map (λ name. write_of_point (point_named table name))
+        (take l.name-index l.name-items)
