@@ -164,7 +164,8 @@ flags-read flags h =
     small flags h = let k : is_octet flags ≡ true = grind (arith, nat_tests, h) in rw k refl
 
     first_octet : (o : Option ℕ) (n : ℕ)
-        → option_and_then (λ octet. option_map (λ octets. octet ∷ octets) (Some [])) o ≡ Some (n ∷ [])
+        → option_and_then (λ octet. option_map (λ octets. octet ∷ octets) (Some [])) o
+        ≡ Some (n ∷ [])
         → o ≡ Some n
     first_octet None n e = absurd cc
     first_octet (Some m) n e = cc
