@@ -15,7 +15,8 @@ use Rattle.mms_text.specs.Texts.{name_text, scope_text}
 use Rattle.mms_text.specs.TextRead.{HasText}
 use Rattle.mms_text.proofs.WordText.{chosen}
 use Rattle.tase_views.specs.declared.call.CallKind.{CallKind}
-use Rattle.tase_views.specs.declared.call.CallKind.TheVariants.{Identify, Read, Write, NameList, Odd}
+use Rattle.tase_views.specs.declared.call.CallKind.TheVariants.{Identify, Read, Write, NameList}
+use Rattle.tase_views.specs.declared.call.CallKind.TheVariants.{Odd}
 use Rattle.tase_views.specs.Calls.{IsCall}
 use Rattle.tase_views.specs.EventTexts.{read_verb}
 use Rattle.event_text.specs.CallWords.{call_words, assigned_words, after_words, HasWords}

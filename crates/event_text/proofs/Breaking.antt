@@ -79,7 +79,8 @@ order : (a b : ℕ) → (a < b → ⊥) → (b < a → ⊥) → a ≡ b
 order zero zero h k = refl
 order zero (suc b) h k = absurd (h (omega arith))
 order (suc a) zero h k = absurd (k (omega arith))
-order (suc a) (suc b) h k = ap suc (order a b (λ l. h (omega (arith, l))) (λ l. k (omega (arith, l))))
+order (suc a) (suc b) h k =
+    ap suc (order a b (λ l. h (omega (arith, l))) (λ l. k (omega (arith, l))))
 
 -- words break at one place
 pub one_break : (P : Words → Type 0) (words : Words) (a b : ℕ) → Breaks P words a

@@ -12,4 +12,5 @@ pub mod Graphic
 pub mod Parted
 pub mod CallPlace
 pub mod Written
+pub mod ValueWords
 pub mod Worked

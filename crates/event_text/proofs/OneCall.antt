@@ -11,7 +11,8 @@ use Rattle.mms_data.specs.ObjectName.{ObjectName, IsName, IsIdentifier}
 use Rattle.mms_text.specs.Texts.{name_text}
 use Rattle.mms_text.specs.TextRead.{HasText}
 use Rattle.tase_views.specs.declared.call.CallKind.{CallKind}
-use Rattle.tase_views.specs.declared.call.CallKind.TheVariants.{Identify, Read, Write, NameList, Odd}
+use Rattle.tase_views.specs.declared.call.CallKind.TheVariants.{Identify, Read, Write, NameList}
+use Rattle.tase_views.specs.declared.call.CallKind.TheVariants.{Odd}
 use Rattle.tase_views.specs.Calls.{IsCall}
 use Rattle.event_text.specs.CallWords.{assigned_words, after_words}
 use Rattle.event_text.specs.CallWords.{HasWords, SpellsCall}
@@ -97,7 +98,8 @@ number-is (Write names values) = refl
 number-is (NameList class scope after) = refl
 number-is (Odd kind code) = refl
 
-same_others : (a b : CallKind) → kind_number a ≡ kind_number b → verb_of a ≡ verb_of b → others_of a ≡ others_of b → IsCall a
+same_others : (a b : CallKind) → kind_number a ≡ kind_number b → verb_of a ≡ verb_of b
+    → others_of a ≡ others_of b → IsCall a
     → HasWords a → IsCall b → HasWords b → a ≡ b
 same_others Identify Identify r v e h t k u = refl
 same_others (Read x true) (Read y true) r v e h t k u =
@@ -128,4 +130,5 @@ one_call words a b x y =
       lawful = y.lawful;
       textual = y.textual;
     }) in
-    same_others a b (sym (number-is a) ∙ ap verb_number s.0 ∙ number-is b) s.0 s.1 x.lawful x.textual y.lawful y.textual
+    same_others a b (sym (number-is a) ∙ ap verb_number s.0 ∙ number-is b) s.0 s.1 x.lawful x.textual
+    y.lawful y.textual

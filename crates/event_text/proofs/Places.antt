@@ -24,7 +24,8 @@ passed test place count number end e = rw e refl
 
 pub found-here : (test : ℕ → Bool) (place number end : ℕ) → place < end → test place ≡ true
     → number ≡ 0 → found_from test place (end - place) number end ≡ place
-found-here test place number end below e none = rw none (here test place (end - place) end (omega (arith, below)) e)
+found-here test place number end below e none =
+    rw none (here test place (end - place) end (omega (arith, below)) e)
 
 pub found-later : (test : ℕ → Bool) (place number end : ℕ) → place < end → test place ≡ true
     → 0 < number

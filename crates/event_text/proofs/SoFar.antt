@@ -1,5 +1,6 @@
 -- Names with values that were read, and the words that are still to be read.
-use Rattle.std.proofs.Common.{◌≡◌, ℕ, suc, ◌+◌, ◌<◌, ◌≤◌, List, [], ◌∷◌, ◌++◌, length, refl, sym, true}
+use Rattle.std.proofs.Common.{◌≡◌, ℕ, suc, ◌+◌, ◌<◌, ◌≤◌, List, [], ◌∷◌, ◌++◌, length, refl, sym}
+use Rattle.std.proofs.Common.{true}
 use Rattle.std.proofs.Common.{ap, ◌∙◌, arith, append_assoc}
 use Rattle.std.specs.List.{All}
 use Rattle.std.proofs.lemmas.List.{length-append}
@@ -59,8 +60,10 @@ assigned-more text rest after word names values name value s e shorter a = recor
       ∙ sym (append_assoc (assigned_words names values) (assigned_word name value ∷ [])
       (words after))
       ∙ ap (λ t. t ++ words after) (sym (assigned_words-push names values name value s.many));
-  many = rw (length-append values (value ∷ []), length-append names (name ∷ [])) (omega (arith, s.many));
-  named = All-append IsName names (name ∷ []) s.named (All-cons IsName name [] a.named (All-nil IsName));
+  many = rw (length-append values (value ∷ []), length-append names (name ∷ []))
+      (omega (arith, s.many));
+  named = All-append IsName names (name ∷ []) s.named
+      (All-cons IsName name [] a.named (All-nil IsName));
   lawful = All-append IsLawful values (value ∷ []) s.lawful
       (All-cons IsLawful value [] a.lawful (All-nil IsLawful));
   textual = All-append HasText values (value ∷ []) s.textual
@@ -85,7 +88,8 @@ assigned-break text rest after word names values count s e count_is wrong =
       s.parts ∙ ap (λ t. assigned_words names values ++ t) e,
       count_is ∙ sym (length-assigned_words names values s.many),
     )
-    (breaks-among IsAssignedWord (assigned_word some_name (boolean true)) fine_assigned (assigned_words names values) word (words after)
+    (breaks-among IsAssignedWord (assigned_word some_name (boolean true)) fine_assigned
+    (assigned_words names values) word (words after)
     (assigned_each names values s.named s.lawful s.textual) wrong)
 
 pub assigned-empty : (text rest : List ℕ) (names : List ObjectName) (values : List Datum)

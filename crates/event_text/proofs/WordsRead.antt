@@ -187,7 +187,8 @@ same_assignment a b x y h k t u e =
     let count : length (name_text a) ≡ length (name_text b) =
     some_same _ _ (sym p.0 ∙ ap equals_in e ∙ q.0) in
     let name : name_text a ≡ name_text b =
-    sym p.1 ∙ ap (λ n. take n (assigned_word a x)) count ∙ ap (take (length (name_text b))) e ∙ q.1 in
+    sym p.1 ∙ ap (λ n. take n (assigned_word a x)) count
+    ∙ ap (take (length (name_text b))) e ∙ q.1 in
     let value : data_text x ≡ data_text y =
     sym p.2 ∙ ap (λ n. drop (n + 1) (assigned_word a x)) count
     ∙ ap (drop (length (name_text b) + 1)) e ∙ q.2 in

@@ -9,7 +9,8 @@ use Rattle.mms_data.specs.declared.object_name.Scope.TheVariants.{Vmd, Domain, A
 use Rattle.mms_data.specs.declared.outcome.Outcome.TheVariants.{Good, Fail}
 use Rattle.mms_data.specs.ObjectName.{ObjectName}
 use Rattle.mms_data.specs.Datum.{boolean, integer, text}
-use Rattle.tase_views.specs.declared.call.CallKind.TheVariants.{Identify, Read, Write, NameList, Odd}
+use Rattle.tase_views.specs.declared.call.CallKind.TheVariants.{Identify, Read, Write, NameList}
+use Rattle.tase_views.specs.declared.call.CallKind.TheVariants.{Odd}
 use Rattle.tase_views.specs.declared.event.EventKind.TheVariants.{Open, Request, Take, Close}
 use Rattle.tase_views.specs.declared.event.EventKind.TheVariants.{Update, Stop}
 use Rattle.tase_views.specs.declared.reply.ReadSpec.TheVariants as specs

@@ -1,6 +1,7 @@
 -- The text of a call spells that call.
 use Rattle.std.proofs.Common.{◌≡◌, ◌⊎◌, ℕ, ◌<◌, ◌^◌, Bool, true, false, List, [], ◌∷◌, ◌++◌}
-use Rattle.std.proofs.Common.{length, map, flat_map, Option, Some, None, codes, decimal, refl, sym, ap}
+use Rattle.std.proofs.Common.{length, map, flat_map, Option, Some, None, codes, decimal, refl, sym}
+use Rattle.std.proofs.Common.{ap}
 use Rattle.std.proofs.Common.{◌∙◌, arith, append_assoc, append-nil, inl, inr, ℤ, pos, negsuc}
 use Rattle.std.specs.Prelude.{IfSome}
 use Rattle.std.specs.Fmt.{signed_decimal}
@@ -19,7 +20,8 @@ use Rattle.mms_data.specs.ObjectName.{ObjectName, IsName, IsScope, IsIdentifier}
 use Rattle.mms_text.specs.Texts.{data_text, name_text, scope_text}
 use Rattle.mms_text.specs.TextRead.{HasText}
 use Rattle.tase_views.specs.declared.call.CallKind.{CallKind}
-use Rattle.tase_views.specs.declared.call.CallKind.TheVariants.{Identify, Read, Write, NameList, Odd}
+use Rattle.tase_views.specs.declared.call.CallKind.TheVariants.{Identify, Read, Write, NameList}
+use Rattle.tase_views.specs.declared.call.CallKind.TheVariants.{Odd}
 use Rattle.tase_views.specs.Calls.{IsCall}
 use Rattle.tase_views.specs.EventTexts.{call_text, next_name, assigned_text, after_text}
 use Rattle.event_text.specs.CallWords.{assigned_words, after_words}

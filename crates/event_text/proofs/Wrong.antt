@@ -21,7 +21,8 @@ use Rattle.event_text.specs.Breaks.{Breaks}
 use Rattle.event_text.specs.CallWords.{assigned_word}
 use Rattle.event_text.specs.Verbs.{IsNameWord, IsAssignedWord, IsClassWord, IsScopeWord}
 use Rattle.event_text.specs.Verbs.{IsAfterWord, IsOddKind, IsOddCode, Then, NoWord, AtMostOne}
-use Rattle.event_text.specs.Verbs.{OneOrMore, Each, class_in, scope_in, odd_kind_in, Halts, one_more}
+use Rattle.event_text.specs.Verbs.{OneOrMore, Each, class_in, scope_in, odd_kind_in, Halts}
+use Rattle.event_text.specs.Verbs.{one_more}
 use Rattle.event_text.specs.declared.reading.halt.Halt.{Halt}
 use Rattle.event_text.proofs.Breaking.{breaks-none, breaks-first, breaks-behind, breaks-among}
 use Rattle.event_text.proofs.Breaking.{halts-behind}

@@ -10,7 +10,8 @@ use Rattle.mms_data.specs.ObjectName.{ObjectName, IsName}
 use Rattle.mms_text.specs.Texts.{data_text, name_text, scope_text}
 use Rattle.mms_text.specs.TextRead.{HasText}
 use Rattle.tase_views.specs.declared.call.CallKind.{CallKind}
-use Rattle.tase_views.specs.declared.call.CallKind.TheVariants.{Identify, Read, Write, NameList, Odd}
+use Rattle.tase_views.specs.declared.call.CallKind.TheVariants.{Identify, Read, Write, NameList}
+use Rattle.tase_views.specs.declared.call.CallKind.TheVariants.{Odd}
 use Rattle.tase_views.specs.Calls.{IsCall}
 use Rattle.tase_views.specs.EventTexts.{read_verb}
 

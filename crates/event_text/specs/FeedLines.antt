@@ -1,6 +1,12 @@
 -- The lines of a feed: what the centre's own systems may ask of the node.
 use Rattle.std.specs.Prelude.{ℕ, nat_le, ◌==◌, if◌then◌else◌, pos, negsuc, List, [], ◌∷◌, Option}
-use Rattle.std.specs.Prelude.{Some, None, option_map, option_and_then, codes, bytes_eq}
+use Rattle.std.specs.Prelude.{◌≡◌, Some, None, option_map, option_and_then, codes, bytes_eq, length}
+use Rattle.std.specs.Prelude.{decimal, IsTrue}
+use Rattle.std.specs.Int.{w32}
+use Rattle.std.specs.Int.RustNames.{FitsSigned}
+use Rattle.std.specs.List.{list_all}
+use Rattle.plain_text.specs.Octets.{hex_text}
+use Rattle.plain_text.specs.Escaped.{is_octet}
 use Rattle.plain_text.specs.Numbers.{if_passes, number_up_to, integer_within, hex_octet, hex_octets}
 use Rattle.plain_text.specs.Words.{words_in}
 use Rattle.tase_points.specs.declared.body.Body.{Body}
@@ -10,9 +16,11 @@ use Rattle.tase_points.specs.declared.value.TheConstants.{MILLIS_LIMIT}
 use Rattle.tase_points.specs.Sample.{Sample}
 use Rattle.tase_points.specs.Points.{kind_of}
 use Rattle.tase_points.specs.Same.{same_kind}
+use Rattle.tase_points.specs.Values.{IsSample}
 use Rattle.bilateral.specs.Rows.{CentreRows, place_of_point, point_of}
 use Rattle.tase_views.specs.declared.event.EventKind.{EventKind}
 use Rattle.tase_views.specs.declared.event.EventKind.TheVariants.{Update, Stop}
+use Rattle.tase_views.specs.EventTexts.{body_text}
 
 -- a body: `s` and a state, `d` and a discrete value, `r` and the eight digits of a real one
 abbrev pub body_in : List ℕ → Option Body
@@ -64,3 +72,19 @@ feed_words_in rows (verb ∷ words) =
 -- centre, and has a value of this point's kind
 abbrev pub feed_event_in : CentreRows → List ℕ → Option EventKind
 feed_event_in rows line = option_and_then (feed_words_in rows) (words_in line)
+
+-- each part is one that a word spells: the ranges of every value, a discrete value of 32 bits, the
+-- four octets of a real one
+abbrev pub IsWordBody : Body → Type 0
+IsWordBody (State s) = Unit {0}
+IsWordBody (Discrete d) = FitsSigned w32 d
+IsWordBody (Real r) = (length r ≡ 4) × IsTrue (list_all is_octet r)
+
+-- words are a value's body, its flags, its seconds and its milliseconds
+pub record AreValueWords (body flags seconds millis : List ℕ) (value : Sample) : Type 0 where
+  pub body_is : body ≡ body_text value.body
+  pub flags_are : flags ≡ hex_text (value.flags ∷ [])
+  pub seconds_are : seconds ≡ decimal value.seconds
+  pub millis_are : millis ≡ decimal value.millis
+  pub ranges : IsSample value
+  pub textual : IsWordBody value.body

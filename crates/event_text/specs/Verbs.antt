@@ -1,6 +1,8 @@
 -- The first word of a call, and the words that may stand behind it.
-use Rattle.std.specs.Prelude.{◌≡◌, ℕ, ◌⊎◌, ◌==◌, ◌+◌, ◌-◌, if◌then◌else◌, List, [], ◌∷◌, length, slice_index}
-use Rattle.std.specs.Prelude.{Option, Some, None, option_map, IfSome, codes, bytes_eq, ℤ, pos, negsuc, ◌^◌}
+use Rattle.std.specs.Prelude.{◌≡◌, ℕ, ◌⊎◌, ◌==◌, ◌+◌, ◌-◌, if◌then◌else◌, List, [], ◌∷◌, length}
+use Rattle.std.specs.Prelude.{slice_index}
+use Rattle.std.specs.Prelude.{Option, Some, None, option_map, IfSome, codes, bytes_eq, ℤ, pos}
+use Rattle.std.specs.Prelude.{negsuc, ◌^◌}
 use Rattle.std.proofs.Common.{take}
 use Rattle.std.specs.Fmt.{signed_decimal}
 use Rattle.std.specs.Int.{w64}

@@ -1,10 +1,13 @@
-//! What holds of all texts of calls.
-ghost use Rattle.std.specs.Prelude.{◌≡◌, ℕ, List};
+//! What holds of all texts of calls, and of all values in a feed.
+ghost use Rattle.std.specs.Prelude.{◌≡◌, ◌↔◌, ℕ, List, Some};
+ghost use Rattle.tase_points.specs.Sample.{Sample};
 ghost use Rattle.tase_views.specs.declared.call.CallKind.{CallKind as AnyCall};
 ghost use Rattle.tase_views.specs.Calls.{IsCall};
 ghost use Rattle.tase_views.specs.EventTexts.{call_text};
-ghost use Rattle.event_text.specs.CallWords.{HasWords};
+ghost use Rattle.event_text.specs.CallWords.{HasWords, SpellsCall, AreCallWords};
+ghost use Rattle.event_text.specs.Breaks.{Breaks};
 ghost use Rattle.event_text.specs.CallTexts.{IsCallText, CallBreaksAt};
+ghost use Rattle.event_text.specs.FeedLines.{value_in, AreValueWords};
 
 /// The text that is written of a call spells that call, so it is read back, and a text spells one
 /// call at most or breaks at one place at most.
@@ -17,4 +20,19 @@ pub fn written_calls_are_read()
         → CallBreaksAt text a → CallBreaksAt text b → a ≡ b }
     ensures either { (text : List ℕ) (call : AnyCall) (place : ℕ)
         → IsCallText text call → CallBreaksAt text place → ⊥ }
+{}
+
+/// Words spell one call at most, and break behind one number of them at most.
+pub fn call_words_have_one_reading()
+    ensures one { (words : List (List ℕ)) (a b : AnyCall)
+        → SpellsCall words a → SpellsCall words b → a ≡ b }
+    ensures count { (words : List (List ℕ)) (a b : ℕ)
+        → Breaks AreCallWords words a → Breaks AreCallWords words b → a ≡ b }
+{}
+
+/// The words of a value in a feed are read as this value exactly where they are its text's.
+pub fn values_are_their_words()
+    ensures { (body flags seconds millis : List ℕ) (value : Sample)
+        → (value_in body flags seconds millis ≡ Some value)
+        ↔ AreValueWords body flags seconds millis value }
 {}

@@ -29,8 +29,8 @@ pub fn spell_call(out: &mut Vec<u8>, call: &Call) -> Result<(), AllocError>
 }
 
 /// Appends the text of an event: `open PEER`, `call CALL`, `take`, `close`,
-/// `update POINT BODY FLAGS SECONDS MILLIS` or `stop`, with peers and points by their numbers. After
-/// want of memory `out` is as before.
+/// `update POINT BODY FLAGS SECONDS MILLIS` or `stop`, with peers and points by their numbers.
+/// After want of memory `out` is as before.
 pub fn spell_event(out: &mut Vec<u8>, event: &Event) -> Result<(), AllocError>
     ensures ok { OnOk result (out.new.items ≡ out.old.items ++ event_text event.now) }
     ensures err { OnErr result (out.new.items ≡ out.old.items) }
@@ -43,10 +43,10 @@ pub fn spell_event(out: &mut Vec<u8>, event: &Event) -> Result<(), AllocError>
     spelled
 }
 
-/// Appends the text of a reply: `identify`; `read OUTCOME ..`, or `read+ OUTCOME ..` where the reply
-/// repeats what the read named; `write` with `ok` or `!N` for each variable; `names end ITEM ..` or
-/// `names more ITEM ..`; `error CLASS CODE`; `reject KIND CODE`. After want of memory `out` is as
-/// before.
+/// Appends the text of a reply: `identify`; `read OUTCOME ..`, or `read+ OUTCOME ..` where the
+/// reply repeats what the read named; `write` with `ok` or `!N` for each variable;
+/// `names end ITEM ..` or `names more ITEM ..`; `error CLASS CODE`; `reject KIND CODE`. After want
+/// of memory `out` is as before.
 pub fn spell_reply(out: &mut Vec<u8>, reply: &Reply) -> Result<(), AllocError>
     ensures ok { OnOk result (out.new.items ≡ out.old.items ++ reply_text reply.now) }
     ensures err { OnErr result (out.new.items ≡ out.old.items) }

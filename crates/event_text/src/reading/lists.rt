@@ -1,5 +1,6 @@
 //! The parts of a list of names and of an odd call.
-ghost use Rattle.std.specs.Prelude.{◌≡◌, ◌∷◌, ◌≤◌, [], length, codes, IfOk, IfErr, IfSome, OnOk, bytes_eq};
+ghost use Rattle.std.specs.Prelude.{◌≡◌, ◌∷◌, ◌≤◌, [], length, codes, IfOk, IfErr, IfSome, OnOk};
+ghost use Rattle.std.specs.Prelude.{bytes_eq};
 ghost use Rattle.plain_text.specs.Words.{words};
 ghost use Rattle.mms_data.specs.ObjectName.{IsScope, IsIdentifier};
 ghost use Rattle.mms_text.specs.NameIn.{identifier_in};
