@@ -1,10 +1,11 @@
 -- What a read gives: by what a node keeps beside its history, and for several names each as for
 -- one.
 use Rattle.std.proofs.Common.{◌≡◌, ℕ, ◌%◌, true, List, [], ◌∷◌, map, Option, Some, None, is_some}
-use Rattle.std.proofs.Common.{refl, sym, ◌∙◌}
+use Rattle.std.proofs.Common.{length, refl, sym, ap, ◌∙◌, arith}
 use Rattle.std.specs.Prelude.{slice_get}
 use Rattle.std.proofs.lemmas.Option.{same_Some}
 use Rattle.tase_points.specs.Sample.{Sample}
+use Rattle.mms_data.specs.Datum.{Datum}
 use Rattle.mms_data.specs.ObjectName.{ObjectName}
 use Rattle.mms_data.specs.declared.outcome.Outcome.TheVariants.{Good}
 use Rattle.point_data.specs.Shown.{shown_as}
@@ -13,9 +14,10 @@ use Rattle.bilateral.specs.Rows.{CentreRows, IsCentre, table_of, place_of_see}
 use Rattle.sbo_device.specs.declared.key.Key.{Key}
 use Rattle.tase_views.specs.History.{Past}
 use Rattle.tase_views.specs.OwnTable.{OwnPoint, OwnTable, own_point, own_table, point_named}
-use Rattle.tase_views.specs.View.{View, reads, own, view_of}
+use Rattle.tase_views.specs.View.{View, reads, writes, own, view_of}
 use Rattle.tase_views.specs.Values.{values_in}
-use Rattle.tase_views.specs.Answers.{outcome_of_point, outcome_of, outcomes_of}
+use Rattle.tase_views.specs.Answers.{outcome_of_point, outcome_of, outcomes_of, write_of_point}
+use Rattle.tase_views.specs.Answers.{written_of}
 use Rattle.node_core.specs.LastValues.{last_value, change_total}
 use Rattle.node_core.specs.Stored.{IsStored}
 use Rattle.node_core.proofs.Known.{seen_is_there}
@@ -63,3 +65,15 @@ pub outcomes_of-map : (table : OwnTable) (view : View) (ordinal : ℕ) (names : 
     → outcomes_of table view ordinal names ≡ map (outcome_of table view ordinal) names
 outcomes_of-map table view ordinal names =
     outcomes_of-same table view view ordinal names (λ name. refl)
+
+-- nor do its writes
+pub written_of-map : (table : OwnTable) (view : View) (ordinal : ℕ) (names : List ObjectName)
+    (values : List Datum) → length values ≡ length names
+    → written_of table view ordinal names values
+    ≡ map (λ name. write_of_point (point_named table name)) names
+written_of-map table view ordinal [] values same = refl
+written_of-map table view ordinal (name ∷ names) [] same = absurd (omega (arith, same))
+written_of-map table view ordinal (name ∷ names) (value ∷ values) same =
+    ap (λ (rest : List (Option ℕ)). write_of_point (point_named table name) ∷ rest)
+    (written_of-map table (own ordinal (writes name value) ∷ view) ordinal names values
+    (omega (arith, same)))

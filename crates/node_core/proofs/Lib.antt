@@ -4,3 +4,8 @@ pub mod Names
 pub mod Steps
 pub mod Answered
 pub mod Outcomes
+pub mod Rooms
+pub mod Causes
+pub mod Sorted
+pub mod Listed
+pub mod Lawful

@@ -12,14 +12,15 @@ use Rattle.std.proofs.lemmas.Option.{same_Some, none-some}
 use Rattle.tase_points.specs.Sample.{Sample}
 use Rattle.tase_points.specs.Values.{unknown_sample, is_change}
 use Rattle.bilateral.specs.Rows.{CentreRows, IsCentre, no_point}
-use Rattle.tase_views.specs.declared.call.CallKind.{CallKind}
 use Rattle.tase_views.specs.declared.event.EventKind.{EventKind}
 use Rattle.tase_views.specs.declared.event.Entry.{Entry}
-use Rattle.tase_views.specs.declared.event.EventKind.TheVariants.{Open, Request, Update}
+use Rattle.tase_views.specs.declared.event.EventKind.TheVariants.{Open, Request, Take, Close}
+use Rattle.tase_views.specs.declared.event.EventKind.TheVariants.{Update, Stop}
 use Rattle.sbo_device.specs.declared.key.Key.{Key}
-use Rattle.tase_views.specs.History.{Past, association_in, opens_in, counts_open}
-use Rattle.node_core.specs.LastValues.{last_value, change_total}
-use Rattle.node_core.specs.Stored.{IsStored}
+use Rattle.tase_views.specs.History.{Past, association_in, association_after, opens_in}
+use Rattle.tase_views.specs.History.{counts_open}
+use Rattle.node_core.specs.LastValues.{value_given, last_value, change_total}
+use Rattle.node_core.specs.Stored.{IsStored, IsQuiet}
 
 slice_get-replicate : {X : Type 0} (n k : ℕ) (x : X) → k < n → slice_get (replicate n x) k ≡ Some x
 slice_get-replicate n k x within =
@@ -83,13 +84,65 @@ IsStored-found rows past values counts opens found after same s =
       known = λ who key e. s.known who key (sym (same who) ∙ e);
     }
 
--- a request changes nothing
-pub IsStored-request : (rows : CentreRows) (past : Past) (values : List Sample)
-    (counts opens : List ℕ) (found : ℕ → Option Key) (who : ℕ) (call : CallKind)
+-- an event that changes nothing
+pub IsStored-quiet : (rows : CentreRows) (past : Past) (values : List Sample)
+    (counts opens : List ℕ) (found : ℕ → Option Key) (who : ℕ) (event : EventKind)
+    → ((p : ℕ) → counts_open event p ≡ 0) → ((p : ℕ) → value_given p event ≡ None)
+    → ((before : Option Key) → association_after event past before ≡ before)
     → IsStored rows past values counts opens found
-    → IsStored rows (record { who = who; event = Request call } ∷ past) values counts opens
-    found
-IsStored-request rows past values counts opens found who call s =
+    → IsStored rows (record { who = who; event = event } ∷ past) values counts opens found
+IsStored-quiet rows past values counts opens found who event unopened ungiven unseated s =
+    record {
+      lawful = s.lawful;
+      value_count = s.value_count;
+      count_count = s.count_count;
+      open_count = s.open_count;
+      last = λ p there. rw (ungiven p) (s.last p there);
+      changed = λ p there. rw (ungiven p) (s.changed p there);
+      opened = λ p there. rw (unopened p) (s.opened p there ∙ ap Some (sym (zero-add (opens_in past p))));
+      seated = λ asked. rw (unseated (association_in past asked)) (elim (who == asked) as
+          (λ b. found asked ≡ (if b then association_in past asked else association_in past asked))
+          [ true ↦ s.seated asked | false ↦ s.seated asked ]);
+      known = s.known;
+    }
+
+-- a request or a take
+pub IsStored-noted : (rows : CentreRows) (past : Past) (values : List Sample)
+    (counts opens : List ℕ) (found : ℕ → Option Key) (who : ℕ) (event : EventKind)
+    → IsQuiet event → IsStored rows past values counts opens found
+    → IsStored rows (record { who = who; event = event } ∷ past) values counts opens found
+IsStored-noted rows past values counts opens found who (Open peer) quiet s = absurd quiet
+IsStored-noted rows past values counts opens found who (Request call) quiet s =
+    IsStored-quiet rows past values counts opens found who (Request call) (λ p. refl) (λ p. refl)
+    (λ before. refl) s
+IsStored-noted rows past values counts opens found who Take quiet s =
+    IsStored-quiet rows past values counts opens found who Take (λ p. refl) (λ p. refl)
+    (λ before. refl) s
+IsStored-noted rows past values counts opens found who Close quiet s = absurd quiet
+IsStored-noted rows past values counts opens found who (Update point value) quiet s = absurd quiet
+IsStored-noted rows past values counts opens found who Stop quiet s = absurd quiet
+
+pub IsStored-stop : (rows : CentreRows) (past : Past) (values : List Sample)
+    (counts opens : List ℕ) (found : ℕ → Option Key) (who : ℕ)
+    → IsStored rows past values counts opens found
+    → IsStored rows (record { who = who; event = Stop } ∷ past) values counts opens found
+IsStored-stop rows past values counts opens found who s =
+    IsStored-quiet rows past values counts opens found who Stop (λ p. refl) (λ p. refl)
+    (λ before. refl) s
+
+known_unless : (here : Bool) (before : Option Key) (key : Key) (n : ℕ)
+    → (before ≡ Some key → key.peer < n)
+    → (if here then None else before) ≡ Some key → key.peer < n
+known_unless true before key n known e = absurd (none-some key e)
+known_unless false before key n known e = known e
+
+-- a close
+pub IsStored-close : (rows : CentreRows) (past : Past) (values : List Sample)
+    (counts opens : List ℕ) (found after : ℕ → Option Key) (who : ℕ)
+    → ((asked : ℕ) → after asked ≡ (if who == asked then None else found asked))
+    → IsStored rows past values counts opens found
+    → IsStored rows (record { who = who; event = Close } ∷ past) values counts opens after
+IsStored-close rows past values counts opens found after who seated s =
     record {
       lawful = s.lawful;
       value_count = s.value_count;
@@ -98,10 +151,9 @@ IsStored-request rows past values counts opens found who call s =
       last = s.last;
       changed = s.changed;
       opened = λ p there. s.opened p there ∙ ap Some (sym (zero-add (opens_in past p)));
-      seated = λ asked. elim (who == asked) as
-          (λ b. found asked ≡ (if b then association_in past asked else association_in past asked))
-          [ true ↦ s.seated asked | false ↦ s.seated asked ];
-      known = s.known;
+      seated = λ asked. seated asked ∙ rw (s.seated asked) refl;
+      known = λ asked key e. known_unless (who == asked) (found asked) key (length rows.tables)
+          (s.known asked key) (sym (seated asked) ∙ e);
     }
 
 -- a count after an update
@@ -216,7 +268,10 @@ counts_open-le-one (Open opened) peer =
     elim (opened == peer) as (λ b. (if b then 1 else 0) ≤ 1)
     [ true ↦ omega arith | false ↦ omega arith ]
 counts_open-le-one (Request call) peer = omega arith
+counts_open-le-one Take peer = omega arith
+counts_open-le-one Close peer = omega arith
 counts_open-le-one (Update point value) peer = omega arith
+counts_open-le-one Stop peer = omega arith
 
 -- no peer has opened more associations than the history has entries
 pub opens_in-le-length : (past : Past) (peer : ℕ) → opens_in past peer ≤ length past

@@ -8,9 +8,11 @@ use Rattle.tase_points.specs.Sample.{Sample}
 use Rattle.bilateral.specs.Rows.{CentreRows, IsCentre, table_of, point_of, place_of_see}
 use Rattle.sbo_device.specs.declared.key.Key.{Key}
 use Rattle.tase_views.specs.declared.event.EventKind.{EventKind}
-use Rattle.tase_views.specs.declared.event.EventKind.TheVariants.{Open, Request, Update}
+use Rattle.tase_views.specs.declared.event.EventKind.TheVariants.{Open, Request, Take, Close}
+use Rattle.tase_views.specs.declared.event.EventKind.TheVariants.{Update, Stop}
 use Rattle.tase_views.specs.History.{Past, key_at}
-use Rattle.tase_views.specs.View.{Act, opens, Move, acts, acts_of_call, moves_by, moves_of_event}
+use Rattle.tase_views.specs.View.{Act, opens, takes, closes, Move, acts, acts_of_call, moves_by}
+use Rattle.tase_views.specs.View.{moves_of_event}
 use Rattle.tase_views.specs.View.{moves_in, own, updated, seen_by, View, view_of}
 use Rattle.tase_views.specs.Values.{values_in}
 use Rattle.node_core.specs.LastValues.{value_given, values_given}
@@ -70,6 +72,11 @@ values_in-event rows peer p lawful named (Open opener) key moves values shown =
     values_in-by rows peer (point_of rows p).name key (opens ∷ []) moves ∙ shown
 values_in-event rows peer p lawful named (Request call) key moves values shown =
     values_in-by rows peer (point_of rows p).name key (acts_of_call call) moves ∙ shown
+values_in-event rows peer p lawful named Take key moves values shown =
+    values_in-by rows peer (point_of rows p).name key (takes ∷ []) moves ∙ shown
+values_in-event rows peer p lawful named Close key moves values shown =
+    values_in-by rows peer (point_of rows p).name key (closes ∷ []) moves ∙ shown
+values_in-event rows peer p lawful named Stop key moves values shown = shown
 values_in-event rows peer p lawful named (Update q new) key moves values shown =
     values_in-update (filter_map (seen_by rows peer) moves) (point_of rows p).name
     (point_of rows q).name new values (is_some (place_of_see (table_of rows peer) q)) (q == p)

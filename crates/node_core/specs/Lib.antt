@@ -1,3 +1,4 @@
 pub mod NodeState
 pub mod LastValues
 pub mod Stored
+pub mod Room

@@ -4,6 +4,9 @@ use Rattle.std.specs.HashMap.{get}
 use Rattle.tase_points.specs.Sample.{Sample}
 use Rattle.bilateral.specs.Rows.{CentreRows, IsCentre}
 use Rattle.sbo_device.specs.declared.key.Key.{Key}
+use Rattle.tase_views.specs.declared.event.EventKind.{EventKind}
+use Rattle.tase_views.specs.declared.event.EventKind.TheVariants.{Open, Request, Take, Close}
+use Rattle.tase_views.specs.declared.event.EventKind.TheVariants.{Update, Stop}
 use Rattle.tase_views.specs.History.{Past, opens_in, association_in}
 use Rattle.node_core.specs.declared.store.Store.{Store}
 use Rattle.node_core.specs.LastValues.{last_value, change_total}
@@ -27,3 +30,12 @@ pub record IsStored (rows : CentreRows) (past : Past) (values : List Sample) (co
 abbrev pub Keeps : CentreRows → Past → Store → Type 0
 Keeps rows past store = IsStored rows past store.values.items store.counts.items store.opens.items
     (get nat_eq store.associations)
+
+-- an event that changes nothing of what is kept so
+abbrev pub IsQuiet : EventKind → Type 0
+IsQuiet (Open peer) = ⊥
+IsQuiet (Request call) = Unit {0}
+IsQuiet Take = Unit {0}
+IsQuiet Close = ⊥
+IsQuiet (Update point value) = ⊥
+IsQuiet Stop = ⊥

@@ -2,6 +2,7 @@
 ghost use Rattle.std.specs.Prelude.{◌≡◌, ◌<◌, ◌&&◌, length, map, filter, Some, None, IfOk};
 ghost use Rattle.std.specs.Prelude.{if◌then◌else◌, option_map, [], ◌∷◌};
 ghost use Rattle.std.specs.List.{All};
+ghost use Rattle.std.specs.Ordering.{int_eq};
 ghost use Rattle.mms_data.specs.ObjectName.{IsIdentifier};
 ghost use Rattle.bilateral.specs.Rows.{IsCentre};
 ghost use Rattle.tase_views.specs.OwnTable.{OwnTable, own_table, own_point, is_scope_of};
@@ -41,21 +42,28 @@ pub fn list_names(
             code: NON_EXISTENT,
         });
     }
-    if class == NAMED_VARIABLES {
+    if is_class(class, NAMED_VARIABLES) {
         let mut names = variables(alloc, centre, peer, scope, after)?;
         return first_of(alloc, names.as_mut_slice());
     }
-    if class == DOMAINS && is_vmd(scope) {
+    if is_class(class, DOMAINS) && is_vmd(scope) {
         let mut names = one_domain(alloc, domain, after)?;
         return first_of(alloc, names.as_mut_slice());
     }
-    if class == NAMED_VARIABLE_LISTS {
+    if is_class(class, NAMED_VARIABLE_LISTS) {
         return first_of(alloc, &mut []);
     }
     Ok(ReplyKind::Error {
         class: ACCESS_ERRORS,
         code: ACCESS_DENIED,
     })
+}
+
+/// Whether a class is this one.
+fn is_class(class: i64, wanted: i64) -> bool
+    ensures { result ≡ int_eq class wanted }
+{
+    class == wanted
 }
 
 /// Whether a scope is another domain.

@@ -1,29 +1,23 @@
 ghost use Rattle.std.specs.Prelude.{◌≡◌, ◌<◌, ◌≤◌, ◌^◌, [], length, reverse, slice_get, None, IfOk};
-ghost use Rattle.std.specs.Prelude.{IfErr, OnOk, OnErr};
+ghost use Rattle.std.specs.Prelude.{false, OnOk, OnErr};
 ghost use Rattle.std.specs.Arc.{arc_value};
-ghost use Rattle.tase_views.specs.declared.call.CallKind.{CallKind as AnyCall};
-ghost use Rattle.tase_views.specs.declared.event.EventKind.TheVariants.{Request, Update, Open};
+ghost use Rattle.tase_views.specs.declared.event.EventKind.TheVariants.{Open, Update, Close, Stop};
 ghost use Rattle.tase_views.specs.Setup.{Setup};
-ghost use Rattle.tase_views.specs.OwnTable.{own_table};
-ghost use Rattle.tase_views.specs.View.{view_of};
-ghost use Rattle.tase_views.specs.Answers.{outcome_of, outcomes_of};
-ghost use Rattle.tase_views.specs.Outcomes.{refusal_of, IsAnswer, IsRefusal, IsRightOutcome};
+ghost use Rattle.tase_views.specs.Weights.{weight_of};
+ghost use Rattle.tase_views.specs.Outcomes.{is_ending, refusal_of, IsAnswer, IsRightOutcome};
 ghost use Rattle.node_core.specs.NodeState.{with_entry};
+ghost use Rattle.node_core.specs.Stored.{IsQuiet};
 
-use crate::naming::{find_named, is_known};
+mod replies;
+
+use crate::refusals::{name_refusal, seat_refusal, stop_refusal, weight_refusal};
 use crate::store::Store;
 use bilateral::Centre;
-use mms_data::{Name, Names, Outcome};
-use point_data::to_data;
-use sbo_device::Key;
 use std::alloc::{AllocError, Global};
 use std::marker::Model;
 use std::sync::Arc;
 use tase_points::PointValue;
-use tase_views::{
-    Answer, Call, CallKind, Entry, Event, EventKind, OBJECT_NON_EXISTENT, Reply, ReplyKind,
-    Results, StepFault,
-};
+use tase_views::{Answer, Entry, Event, EventKind, Reports, StepFault, weight};
 
 /// A TASE.2 node without input and output: its centre's tables and the history of its accepted
 /// events.
@@ -31,66 +25,70 @@ use tase_views::{
 pub struct Node {
     centre: Arc<Centre>,
     limit: u64,
+    /// With room for the close of each open association and for one stop.
     history: Vec<Entry>,
+    /// What the history weighs.
+    weight: u64,
+    /// The place of the history's stop.
+    stop: Option<u64>,
     store: Store,
 }
 
 impl Model for Node {
-    ghost use Rattle.std.specs.Prelude.{reverse};
+    ghost use Rattle.std.specs.Prelude.{reverse, vec_capacity};
+    ghost use Rattle.std.specs.Coded.{codes};
     ghost use Rattle.std.specs.Arc.{arc_value};
+    ghost use Rattle.mms_data.specs.contracts.data.MmsData as datum;
+    ghost use Rattle.std.specs.HashMap.{hash_map_len};
     ghost use Rattle.node_core.specs.NodeState.{NodeState};
     ghost use Rattle.node_core.specs.Stored.{Keeps};
+    ghost use Rattle.node_core.specs.Room.{HasRoom};
 
     ghost Value = { NodeState };
+
+    ghost coded = { Prim.hlevel (codes, datum.the_row.coded) };
 
     ghost view = { λ n. record {
       setup = record { centre = arc_value n.centre; limit = n.limit };
       history = n.history.items;
     } };
 
-    ghost invariant = { λ n. Keeps (arc_value n.centre) (reverse n.history.items) n.store };
+    ghost invariant = { λ n. Keeps (arc_value n.centre) (reverse n.history.items) n.store
+        × HasRoom n.limit (reverse n.history.items) (vec_capacity n.history)
+        (hash_map_len n.store.associations) n.weight n.stop };
 }
 
 impl Node {
-    /// A node of this centre with an empty history. The limit on the history's weight is kept, and
-    /// refuses nothing yet.
+    /// A node of this centre with an empty history, which may weigh at most so many octets.
     pub fn new(alloc: Global, centre: Arc<Centre>, limit: u64) -> Result<Node, AllocError>
         requires { limit ≤ 2 ^ 31 }
         ensures { let setup : Setup = record { centre = arc_value centre; limit = limit } in
             IfOk result (λ node. node ≡ record { setup = setup; history = [] }) }
     {
         let store = Store::new(alloc, &centre)?;
+        let mut history = Vec::new(alloc);
+        history.reserve(1)?;
         Ok(Node {
             centre,
             limit,
-            history: Vec::new(alloc),
+            history,
+            weight: 0,
+            stop: None,
             store,
         })
     }
 
     /// Takes one event of a seat. An answer adds exactly this entry to the history; a fault changes
-    /// nothing.
+    /// nothing. A close and a stop take no memory.
     pub fn step(&mut self, alloc: Global, who: u64, event: Event) -> Result<Answer, StepFault>
         ensures right { IsRightOutcome self.old.setup (reverse self.old.history) who event result }
         ensures ok { OnOk result (self.new ≡ with_entry self.old who event) }
         ensures err { OnErr result (self.new ≡ self.old) }
     {
-        match event.kind() {
-            EventKind::Open { peer } => {
-                let peer = *peer;
-                self.open(who, peer, event)
-            }
-            EventKind::Request { call } => {
-                let reply = self.reply_to(alloc, who, call)?;
-                self.note(who, event)?;
-                Ok(Answer::Reply(reply))
-            }
-            EventKind::Update { point, value } => {
-                let point = *point;
-                let value = *value;
-                self.update(who, point, value, event)
-            }
+        if let Some(fault) = self.refusal(who, &event) {
+            return Err(fault);
         }
+        Ok(self.accept(alloc, who, event)?)
     }
 
     /// How many entries the history has.
@@ -116,21 +114,85 @@ impl Node {
         &self.centre
     }
 
-    fn open(&mut self, who: u64, peer: u32, event: Event) -> Result<Answer, StepFault>
-        requires { event ≡ Open peer }
-        ensures right { IsRightOutcome self.old.setup (reverse self.old.history) who event result }
+    /// What the history weighs, in octets.
+    pub fn weight(&self) -> u64
+        ensures { result ≡ weight_of (reverse self.now.history) }
+    {
+        self.weight
+    }
+
+    /// Why an event is refused, if it is.
+    fn refusal(&self, who: u64, event: &Event) -> Option<StepFault>
+        ensures { result ≡ refusal_of self.now.setup (reverse self.now.history) who event.now }
+    {
+        let stopped = stop_refusal(self.stop, event);
+        if stopped.is_some() {
+            return stopped;
+        }
+        let seated = seat_refusal(self.store.association(who), event);
+        if seated.is_some() {
+            return seated;
+        }
+        let named = name_refusal(&self.centre, event);
+        if named.is_some() {
+            return named;
+        }
+        weight_refusal(self.weight, self.limit, event)
+    }
+
+    /// Takes an event that isn't refused.
+    fn accept(&mut self, alloc: Global, who: u64, event: Event) -> Result<Answer, AllocError>
+        requires { refusal_of self.old.setup (reverse self.old.history) who event ≡ None }
+        ensures answer { IfOk result
+            (IsAnswer self.old.setup (reverse self.old.history) who event) }
+        ensures ok { OnOk result (self.new ≡ with_entry self.old who event) }
+        ensures err { OnErr result (self.new ≡ self.old) }
+        ensures ending { OnErr result (is_ending event ≡ false) }
+    {
+        match event.kind() {
+            EventKind::Open { peer } => {
+                let peer = *peer;
+                self.open(who, peer, event)
+            }
+            EventKind::Request { call } => {
+                let key = self.store.association(who).unwrap();
+                let reply = self.reply_to(alloc, key, call)?;
+                self.note(who, event)?;
+                Ok(Answer::Reply(reply))
+            }
+            EventKind::Take => {
+                self.note(who, event)?;
+                Ok(Answer::Reports(Reports::new(alloc)))
+            }
+            EventKind::Close => {
+                self.close(who, event);
+                Ok(Answer::Closed)
+            }
+            EventKind::Update { point, value } => {
+                let point = *point;
+                let value = *value;
+                self.update(who, point, value, event)
+            }
+            EventKind::Stop => {
+                self.stop(who, event);
+                Ok(Answer::Noted)
+            }
+        }
+    }
+
+    fn open(&mut self, who: u64, peer: u32, event: Event) -> Result<Answer, AllocError>
+        requires open { event ≡ Open peer }
+        requires free { refusal_of self.old.setup (reverse self.old.history) who event ≡ None }
+        ensures answer { IfOk result
+            (IsAnswer self.old.setup (reverse self.old.history) who event) }
         ensures ok { OnOk result (self.new ≡ with_entry self.old who event) }
         ensures err { OnErr result (self.new ≡ self.old) }
     {
-        if self.store.association(who).is_some() {
-            return Err(StepFault::Already);
-        }
-        if peer >= self.centre.peers() {
-            return Err(StepFault::UnknownName);
-        }
-        self.history.reserve(1)?;
+        let weight = weight(&event);
+        self.history.reserve(self.store.open_count() + 3)?;
         let key = self.store.open(who, peer)?;
-        self.history.push(Entry { who, event }).unwrap();
+        self.weight += weight;
+        self.history.push_reserved(Entry { who, event });
         Ok(Answer::Opened { key })
     }
 
@@ -140,78 +202,55 @@ impl Node {
         point: u32,
         value: PointValue,
         event: Event,
-    ) -> Result<Answer, StepFault>
-        requires { event ≡ Update point value }
-        ensures right { IsRightOutcome self.old.setup (reverse self.old.history) who event result }
+    ) -> Result<Answer, AllocError>
+        requires update { event ≡ Update point value }
+        requires free { refusal_of self.old.setup (reverse self.old.history) who event ≡ None }
+        ensures answer { IfOk result
+            (IsAnswer self.old.setup (reverse self.old.history) who event) }
         ensures ok { OnOk result (self.new ≡ with_entry self.old who event) }
         ensures err { OnErr result (self.new ≡ self.old) }
     {
-        if !is_known(&self.centre, point, &value) {
-            return Err(StepFault::UnknownName);
-        }
-        self.history.push(Entry { who, event })?;
+        let weight = weight(&event);
+        self.history.reserve(self.store.open_count() + 2)?;
         self.store.update(who, point, value);
+        self.weight += weight;
+        self.history.push_reserved(Entry { who, event });
         Ok(Answer::Noted)
     }
 
-    /// Adds a request to the history.
+    /// Adds a request or a take to the history.
     fn note(&mut self, who: u64, event: Event) -> Result<(), AllocError>
-        requires { (call : AnyCall) × (event ≡ Request call) }
+        requires quiet { IsQuiet event }
+        requires free { refusal_of self.old.setup (reverse self.old.history) who event ≡ None }
         ensures ok { OnOk result (self.new ≡ with_entry self.old who event) }
         ensures err { OnErr result (self.new ≡ self.old) }
     {
-        self.history.push(Entry { who, event })?;
+        let weight = weight(&event);
+        self.history.reserve(self.store.open_count() + 2)?;
+        self.weight += weight;
+        self.history.push_reserved(Entry { who, event });
         Ok(())
     }
 
-    fn reply_to(&self, alloc: Global, who: u64, call: &Call) -> Result<Reply, StepFault>
-        ensures ok { IfOk result (λ reply.
-            (refusal_of self.now.setup (reverse self.now.history) who (Request call.now) ≡ None)
-            × IsAnswer self.now.setup (reverse self.now.history) who (Request call.now)
-            (Answer.Reply reply)) }
-        ensures err { IfErr result (IsRefusal
-            (refusal_of self.now.setup (reverse self.now.history) who (Request call.now))) }
+    fn close(&mut self, who: u64, event: Event)
+        requires close { event ≡ Close }
+        requires free { refusal_of self.old.setup (reverse self.old.history) who event ≡ None }
+        ensures { self.new ≡ with_entry self.old who event }
     {
-        let Some(key) = self.store.association(who) else {
-            return Err(StepFault::NoAssociation);
-        };
-        let kind = match call.kind() {
-            CallKind::Read { names } => ReplyKind::Results {
-                results: self.read(alloc, key, names)?,
-            },
-        };
-        Ok(Reply::new(kind))
+        let weight = weight(&event);
+        self.store.close(who);
+        self.weight += weight;
+        self.history.push_reserved(Entry { who, event });
     }
 
-    /// Reads the named variables for an association, in order.
-    fn read(&self, alloc: Global, key: Key, names: &Names) -> Result<Results, AllocError>
-        requires { key.peer < length self.now.setup.centre.tables }
-        ensures { let rows = self.now.setup.centre in IfOk result (λ results. results
-            ≡ outcomes_of (own_table rows key.peer)
-            (view_of rows key.peer (reverse self.now.history))
-            key.ordinal names.now) }
+    fn stop(&mut self, who: u64, event: Event)
+        requires stop { event ≡ Stop }
+        requires free { refusal_of self.old.setup (reverse self.old.history) who event ≡ None }
+        ensures { self.new ≡ with_entry self.old who event }
     {
-        let mut results = Results::new(alloc);
-        for place in 0..names.len() {
-            let name = names.get(place).unwrap();
-            results.push(self.read_one(alloc, key, name)?)?;
-        }
-        Ok(results)
-    }
-
-    fn read_one(&self, alloc: Global, key: Key, name: &Name) -> Result<Outcome, AllocError>
-        requires { key.peer < length self.now.setup.centre.tables }
-        ensures { let rows = self.now.setup.centre in IfOk result (λ outcome. outcome
-            ≡ outcome_of (own_table rows key.peer)
-            (view_of rows key.peer (reverse self.now.history))
-            key.ordinal name.now) }
-    {
-        let Some(see) = find_named(&self.centre, key.peer, name) else {
-            return Ok(Outcome::Fail(OBJECT_NON_EXISTENT));
-        };
-        let value = self.store.value(see.point);
-        let count = self.store.count(see.point);
-        let shown = to_data(alloc, &value, count, &see.layout)?;
-        Ok(Outcome::Good(shown))
+        let weight = weight(&event);
+        self.stop = Some(self.history.len() as u64);
+        self.weight += weight;
+        self.history.push_reserved(Entry { who, event });
     }
 }

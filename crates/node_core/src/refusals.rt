@@ -57,7 +57,11 @@ pub fn name_refusal(centre: &Centre, event: &Event) -> Option<StepFault>
         EventKind::Update { point, value } => is_known(centre, *point, value),
         _ => true,
     };
-    if known { None } else { Some(StepFault::UnknownName) }
+    if known {
+        None
+    } else {
+        Some(StepFault::UnknownName)
+    }
 }
 
 /// Whether a point is the centre's, and a value of its kind.

@@ -1,8 +1,10 @@
 ghost use Rattle.std.specs.Prelude.{if◌then◌else◌, ◌≡◌, ◌+◌, ◌%◌, ◌^◌, ◌<◌, [], ◌∷◌, map};
-ghost use Rattle.std.specs.Prelude.{slice_get, slice_index, IfOk, OnErr, vec_len};
+ghost use Rattle.std.specs.Prelude.{slice_get, slice_index, IfOk, OnErr, vec_len, nat_eq, None};
+ghost use Rattle.std.specs.Prelude.{is_some, true};
+ghost use Rattle.std.specs.HashMap.{get, hash_map_len};
 ghost use Rattle.tase_points.specs.Values.{is_change, unknown_sample};
 ghost use Rattle.bilateral.specs.Rows.{CentreRows};
-ghost use Rattle.tase_views.specs.declared.event.EventKind.TheVariants.{Open, Update};
+ghost use Rattle.tase_views.specs.declared.event.EventKind.TheVariants.{Open, Close, Update};
 ghost use Rattle.tase_views.specs.History.{Past, association_in};
 ghost use Rattle.node_core.specs.Stored.{Keeps};
 
@@ -28,7 +30,8 @@ pub struct Store {
 impl Store {
     /// What an empty history gives.
     pub fn new(alloc: Global, centre: &Centre) -> Result<Store, AllocError>
-        ensures { IfOk result (Keeps centre.now []) }
+        ensures kept { IfOk result (Keeps centre.now []) }
+        ensures none { IfOk result (λ store. hash_map_len store.associations ≡ 0) }
     {
         let points = centre.points() as usize;
         let peers = centre.peers() as usize;
@@ -46,6 +49,14 @@ impl Store {
             → result ≡ association_in past who }
     {
         self.associations.get(&who).copied()
+    }
+
+    /// How many associations are open.
+    pub fn open_count(&self) -> usize
+        ensures count { result ≡ hash_map_len self.now.associations }
+        ensures small { result < 2 ^ 63 }
+    {
+        self.associations.len()
     }
 
     /// The last value of a point.
@@ -73,8 +84,12 @@ impl Store {
             → Keeps rows (record { who = who; event = Open peer } ∷ past) self.new) }
         ensures key { IfOk result (λ key. key
             ≡ record { peer = peer; ordinal = slice_index self.old.opens.items peer }) }
+        ensures count { get nat_eq self.old.associations who ≡ None → IfOk result (λ key.
+            hash_map_len self.new.associations ≡ hash_map_len self.old.associations + 1) }
         ensures err { OnErr result ((rows : CentreRows) (past : Past) → Keeps rows past self.old
             → Keeps rows past self.new) }
+        ensures same_count { OnErr result
+            (hash_map_len self.new.associations ≡ hash_map_len self.old.associations) }
     {
         let place = peer as usize;
         let key = Key {
@@ -86,12 +101,24 @@ impl Store {
         Ok(key)
     }
 
+    /// Notes that the association of a seat is closed.
+    pub fn close(&mut self, who: u64)
+        ensures kept { (rows : CentreRows) (past : Past) → Keeps rows past self.old
+            → Keeps rows (record { who = who; event = Close } ∷ past) self.new }
+        ensures count { is_some (get nat_eq self.old.associations who) ≡ true
+            → hash_map_len self.new.associations + 1 ≡ hash_map_len self.old.associations }
+    {
+        self.associations.remove(&who);
+    }
+
     /// Notes a point's new value.
     pub fn update(&mut self, who: u64, point: u32, value: PointValue)
         requires values { point < vec_len self.old.values }
         requires counts { point < vec_len self.old.counts }
-        ensures { (rows : CentreRows) (past : Past) → Keeps rows past self.old
+        ensures kept { (rows : CentreRows) (past : Past) → Keeps rows past self.old
             → Keeps rows (record { who = who; event = Update point value } ∷ past) self.new }
+        ensures same_count { hash_map_len self.new.associations
+            ≡ hash_map_len self.old.associations }
     {
         let place = point as usize;
         self.counts[place] = next_count(self.counts[place], &self.values[place], &value);

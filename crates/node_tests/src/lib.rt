@@ -3,6 +3,10 @@
 #![tactic(auto)]
 
 #[cfg(test)]
+mod faults;
+#[cfg(test)]
+mod listing;
+#[cfg(test)]
 mod points;
 #[cfg(test)]
 mod shown;
@@ -12,5 +16,3 @@ mod steps;
 mod table_lines;
 #[cfg(test)]
 mod tables;
-#[cfg(test)]
-mod texts;

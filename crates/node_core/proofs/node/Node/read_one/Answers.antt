@@ -13,9 +13,9 @@ value-value-requires c =
     ≡ true = rw c.deref.ensures at c.in-Some.ensures.seen in
     omega (
       arith,
-      seen_is_there rows c.args.key.peer c.in-Some.see.now.point c.self.invariant.lawful
+      seen_is_there rows c.args.key.peer c.in-Some.see.now.point c.self.invariant.0.lawful
           seen,
-      c.self.invariant.value_count,
+      c.self.invariant.0.value_count,
       c.self.inside.store.values.ok.0,
     )
 
@@ -26,9 +26,9 @@ count-count-requires c =
     ≡ true = rw c.deref.ensures at c.in-Some.ensures.seen in
     omega (
       arith,
-      seen_is_there rows c.args.key.peer c.in-Some.see.now.point c.self.invariant.lawful
+      seen_is_there rows c.args.key.peer c.in-Some.see.now.point c.self.invariant.0.lawful
           seen,
-      c.self.invariant.count_count,
+      c.self.invariant.0.count_count,
       c.self.inside.store.counts.ok.0,
     )
 
@@ -43,5 +43,5 @@ returns c =
     rw (c.in_ok-shown.ensures, ← c.self.view_is)
     (outcome_of-row rows c.args.key.peer c.args.key.ordinal c.args.name.now
     (reverse c.self.inside.history.items) see _ _ _ _ c.value-value.result c.count-count.result
-    c.self.invariant.lawful c.self.invariant seen named c.value-value.ensures
+    c.self.invariant.0.lawful c.self.invariant.0 seen named c.value-value.ensures
     c.count-count.ensures)

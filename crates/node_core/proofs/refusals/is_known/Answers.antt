@@ -2,7 +2,7 @@ use Rattle.std.proofs.Common.{◌≡◌, true, ltb, length, arith}
 use Rattle.std.proofs.lemmas.Bool.{lt-ltb}
 use Rattle.std.proofs.lemmas.Option.{get_or_from_slice_get}
 use Rattle.bilateral.specs.Rows.{no_point, point_of}
-use Rattle.node_core.proofs.naming.is_known.Goals as goal
+use Rattle.node_core.proofs.refusals.is_known.Goals as goal
 
 pub returns-then-point-points : goal.returns-then-point-points
 returns-then-point-points c =

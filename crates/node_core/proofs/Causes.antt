@@ -1,0 +1,197 @@
+-- What follows where an event isn't refused, and that a refusal is never for want of memory.
+use Rattle.std.proofs.Common.{◌≡◌, ◌≢◌, ℕ, ◌+◌, ◌<◌, ◌≤◌, Bool, true, false, not, ◌&&◌, List, [], ◌∷◌}
+use Rattle.std.proofs.Common.{length, reverse, ltb, Option, Some, None, is_some, refl, sym, subst}
+use Rattle.std.specs.Prelude.{if◌then◌else◌, option_map}
+use Rattle.std.proofs.lemmas.Bool.{false≢true, true≢false, ltb-true, ltb-false}
+use Rattle.std.proofs.lemmas.Option.{none-some, same_Some}
+use Rattle.tase_points.specs.Sample.{Sample}
+use Rattle.bilateral.specs.Rows.{CentreRows}
+use Rattle.sbo_device.specs.declared.key.Key.{Key}
+use Rattle.tase_views.specs.declared.event.EventKind.{EventKind}
+use Rattle.tase_views.specs.declared.event.EventKind.TheVariants.{Open, Request, Take, Close}
+use Rattle.tase_views.specs.declared.event.EventKind.TheVariants.{Update, Stop}
+use Rattle.tase_views.specs.declared.fault.StepFault.{StepFault}
+use Rattle.tase_views.specs.declared.fault.StepFault.TheVariants.{Memory, Stopped, HistoryFull}
+use Rattle.tase_views.specs.declared.fault.StepFault.TheVariants.{NoAssociation, Already}
+use Rattle.tase_views.specs.declared.fault.StepFault.TheVariants.{UnknownName}
+use Rattle.tase_views.specs.Setup.{Setup}
+use Rattle.tase_views.specs.History.{Past, association_in, is_stop, stop_in}
+use Rattle.tase_views.specs.Weights.{weight, weight_of}
+use Rattle.tase_views.specs.Outcomes.{is_close, is_ending, is_known, stop_refusal, seat_refusal}
+use Rattle.tase_views.specs.Outcomes.{name_refusal, weight_refusal, first_refusal, refusal_of}
+use Rattle.tase_views.specs.Outcomes.{IsRefusal}
+use Rattle.node_core.specs.NodeState.{NodeState}
+use Rattle.node_core.specs.Stored.{IsQuiet}
+
+-- none of the four refusals has its cause
+pub record IsFree (setup : Setup) (past : Past) (who : ℕ) (event : EventKind) : Type 0 where
+  pub going : stop_refusal past event ≡ None
+  pub seated : seat_refusal (association_in past who) event ≡ None
+  pub named : name_refusal setup.centre event ≡ None
+  pub light : weight_refusal setup past event ≡ None
+
+none_of : (a b c d : Option StepFault) → first_refusal (a ∷ b ∷ c ∷ d ∷ []) ≡ None
+    → (a ≡ None) × (b ≡ None) × (c ≡ None) × (d ≡ None)
+none_of (Some fault) b c d e = absurd (none-some fault (sym e))
+none_of None (Some fault) c d e = absurd (none-some fault (sym e))
+none_of None None (Some fault) d e = absurd (none-some fault (sym e))
+none_of None None None (Some fault) e = absurd (none-some fault (sym e))
+none_of None None None None e = (refl, refl, refl, refl)
+
+pub free_of : (setup : Setup) (past : Past) (who : ℕ) (event : EventKind)
+    → refusal_of setup past who event ≡ None → IsFree setup past who event
+free_of setup past who event e =
+    let parts = none_of (stop_refusal past event) (seat_refusal (association_in past who) event)
+    (name_refusal setup.centre event) (weight_refusal setup past event) e in
+    record { going = parts.0; seated = parts.1; named = parts.2; light = parts.3 }
+
+-- the same, seen by the parts of a node and of an event
+pub free_in : (seen now : NodeState) (who : ℕ) (event is : EventKind) → seen ≡ now → event ≡ is
+    → refusal_of now.setup (reverse now.history) who event ≡ None
+    → IsFree seen.setup (reverse seen.history) who is
+free_in seen now who event is same e free =
+    let P : NodeState → Type 0 = λ node.
+    refusal_of node.setup (reverse node.history) who event ≡ None in
+    let Q : EventKind → Type 0 = λ kind.
+    refusal_of seen.setup (reverse seen.history) who kind ≡ None in
+    free_of seen.setup (reverse seen.history) who is (subst Q e (subst P (sym same) free))
+
+-- a test, after which nothing is refused
+passes : (b : Bool) (fault : StepFault) → (if b then None else Some fault) ≡ None → b ≡ true
+passes true fault e = refl
+passes false fault e = absurd (none-some fault (sym e))
+
+fails : (b : Bool) (fault : StepFault) → (if b then Some fault else None) ≡ None → b ≡ false
+fails true fault e = absurd (none-some fault (sym e))
+fails false fault e = refl
+
+no_stop : (place : Option ℕ) → option_map (λ p. Stopped p) place ≡ None → place ≡ None
+no_stop None e = refl
+no_stop (Some p) e = absurd (none-some (Stopped p) (sym e))
+
+pub going-still : (past : Past) (event : EventKind) → is_close event ≡ false
+    → stop_refusal past event ≡ None → stop_in past ≡ None
+going-still past event other e = no_stop (stop_in past) (rw other at e)
+
+-- a seat with an association
+pub seated-take : (found : Option Key) → seat_refusal found Take ≡ None → is_some found ≡ true
+seated-take found e = passes (is_some found) NoAssociation e
+
+pub seated-open : (found : Option Key) (peer : ℕ) → seat_refusal found (Open peer) ≡ None
+    → is_some found ≡ false
+seated-open found peer e = fails (is_some found) Already e
+
+pub named-open : (rows : CentreRows) (peer : ℕ) → name_refusal rows (Open peer) ≡ None
+    → peer < length rows.tables
+named-open rows peer e =
+    ltb-true peer (length rows.tables) (passes (ltb peer (length rows.tables)) UnknownName e)
+
+pub named-update : (rows : CentreRows) (point : ℕ) (value : Sample)
+    → name_refusal rows (Update point value) ≡ None → is_known rows point value ≡ true
+named-update rows point value e = passes (is_known rows point value) UnknownName e
+
+pub light-fits : (setup : Setup) (past : Past) (event : EventKind) → is_ending event ≡ false
+    → weight_refusal setup past event ≡ None → weight_of past + weight event ≤ setup.limit
+light-fits setup past event going e =
+    ltb-false setup.limit (weight_of past + weight event)
+    (fails (ltb setup.limit (weight_of past + weight event))
+    (HistoryFull (weight_of past + weight event) setup.limit) (rw going at e))
+
+-- ---- a refusal is the event's own
+
+abbrev is_memory : StepFault → Bool
+is_memory Memory = true
+is_memory (Stopped place) = false
+is_memory (HistoryFull heavy limit) = false
+is_memory NoAssociation = false
+is_memory Already = false
+is_memory UnknownName = false
+
+-- a refusal, if there is one, isn't for want of memory
+abbrev AreOwn : Option StepFault → Type 0
+AreOwn None = Unit {0}
+AreOwn (Some fault) = is_memory fault ≡ false
+
+own_if : (b : Bool) (fault : StepFault) → is_memory fault ≡ false
+    → AreOwn (if b then None else Some fault)
+own_if true fault e = tt
+own_if false fault e = e
+
+own_unless : (b : Bool) (fault : StepFault) → is_memory fault ≡ false
+    → AreOwn (if b then Some fault else None)
+own_unless true fault e = e
+own_unless false fault e = tt
+
+own_stop : (b : Bool) (place : Option ℕ)
+    → AreOwn (if b then None else option_map (λ p. Stopped p) place)
+own_stop true place = tt
+own_stop false None = tt
+own_stop false (Some p) = refl
+
+own_seat : (found : Option Key) (event : EventKind) → AreOwn (seat_refusal found event)
+own_seat found (Open peer) = own_unless (is_some found) Already refl
+own_seat found (Request call) = own_if (is_some found) NoAssociation refl
+own_seat found Take = own_if (is_some found) NoAssociation refl
+own_seat found Close = own_if (is_some found) NoAssociation refl
+own_seat found (Update point value) = tt
+own_seat found Stop = tt
+
+own_name : (rows : CentreRows) (event : EventKind) → AreOwn (name_refusal rows event)
+own_name rows (Open peer) = own_if (ltb peer (length rows.tables)) UnknownName refl
+own_name rows (Request call) = tt
+own_name rows Take = tt
+own_name rows Close = tt
+own_name rows (Update point value) = own_if (is_known rows point value) UnknownName refl
+own_name rows Stop = tt
+
+own_first : (a b c d : Option StepFault) → AreOwn a → AreOwn b → AreOwn c → AreOwn d
+    → AreOwn (first_refusal (a ∷ b ∷ c ∷ d ∷ []))
+own_first (Some fault) b c d ea eb ec ed = ea
+own_first None (Some fault) c d ea eb ec ed = eb
+own_first None None (Some fault) d ea eb ec ed = ec
+own_first None None None (Some fault) ea eb ec ed = ed
+own_first None None None None ea eb ec ed = tt
+
+own_refusal : (setup : Setup) (past : Past) (who : ℕ) (event : EventKind)
+    → AreOwn (refusal_of setup past who event)
+own_refusal setup past who event =
+    own_first (stop_refusal past event) (seat_refusal (association_in past who) event)
+    (name_refusal setup.centre event) (weight_refusal setup past event)
+    (own_stop (is_close event) (stop_in past)) (own_seat (association_in past who) event)
+    (own_name setup.centre event)
+    (own_unless (not (is_ending event) && ltb setup.limit (weight_of past + weight event))
+    (HistoryFull (weight_of past + weight event) setup.limit) refl)
+
+is_refusal : (event : EventKind) (refusal : Option StepFault) (fault : StepFault)
+    → is_memory fault ≡ false → refusal ≡ Some fault → IsRefusal event refusal fault
+is_refusal event refusal Memory own e = absurd (true≢false own)
+is_refusal event refusal (Stopped place) own e = e
+is_refusal event refusal (HistoryFull heavy limit) own e = e
+is_refusal event refusal NoAssociation own e = e
+is_refusal event refusal Already own e = e
+is_refusal event refusal UnknownName own e = e
+
+pub IsRefusal-of : (setup : Setup) (past : Past) (who : ℕ) (event : EventKind) (fault : StepFault)
+    → refusal_of setup past who event ≡ Some fault
+    → IsRefusal event (refusal_of setup past who event) fault
+IsRefusal-of setup past who event fault e =
+    is_refusal event (refusal_of setup past who event) fault
+    (rw e at (own_refusal setup past who event)) e
+
+-- ---- requests and takes
+
+pub quiet-goes_on : (event : EventKind) → IsQuiet event → is_ending event ≡ false
+quiet-goes_on (Open peer) quiet = absurd quiet
+quiet-goes_on (Request call) quiet = refl
+quiet-goes_on Take quiet = refl
+quiet-goes_on Close quiet = absurd quiet
+quiet-goes_on (Update point value) quiet = absurd quiet
+quiet-goes_on Stop quiet = absurd quiet
+
+pub quiet-is_no_stop : (event : EventKind) → IsQuiet event → is_stop event ≡ false
+quiet-is_no_stop (Open peer) quiet = absurd quiet
+quiet-is_no_stop (Request call) quiet = refl
+quiet-is_no_stop Take quiet = refl
+quiet-is_no_stop Close quiet = absurd quiet
+quiet-is_no_stop (Update point value) quiet = absurd quiet
+quiet-is_no_stop Stop quiet = absurd quiet

@@ -1,0 +1,32 @@
+use Rattle.std.proofs.Common.{◌≡◌, ◌<◌, ℕ, ltb, min, length, map, take, refl, sym, ap, ◌∙◌, arith}
+use Rattle.tase_views.specs.declared.reply.ReplyKind.{ReplyKind}
+use Rattle.tase_views.specs.declared.reply.ReplyKind.TheVariants.{NamesAre}
+use Rattle.tase_views.specs.declared.reply.TheConstants.{NAMES_LIMIT}
+use Rattle.tase_views.specs.NameLists as lists
+use Rattle.std.proofs.lemmas.List.{length-map}
+use Rattle.node_core.proofs.Listed.{names_of, sorted_identifiers, shown_names}
+use Rattle.node_core.proofs.Sorted.{in_order-sorted}
+use Rattle.node_core.proofs.listing.first_of.Goals as goal
+
+pub copies-requires : goal.copies-requires
+copies-requires c =
+    sorted_identifiers c.args.names.now c.sort_unstable.new.self _ c.sort_unstable.ensures.permutation
+    c.requires
+
+pub returns-clause-value : goal.returns-clause-value
+returns-clause-value c =
+    let sorted = c.sort_unstable.new.self in
+    let order = in_order-sorted c.args.names.now sorted c.sort_unstable.ensures.permutation
+    c.sort_unstable.ensures.sorted in
+    let count : length (names_of sorted) ≡ length sorted = length-map sorted (λ n. n.now) in
+    rw (
+      order,
+      count,
+      c.in_ok-copies.ensures,
+      shown_names sorted c.min-shown.result c.min-shown.ensures,
+    ) refl
+
+pub returns-clause-lawful : goal.returns-clause-lawful
+returns-clause-lawful c =
+    rw c.in_ok-copies.ensures (sorted_identifiers c.args.names.now c.sort_unstable.new.self _
+    c.sort_unstable.ensures.permutation c.requires)

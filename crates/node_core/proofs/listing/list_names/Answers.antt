@@ -1,0 +1,119 @@
+-- Each class that may be listed, and the others.
+use Rattle.std.proofs.Common.{◌≡◌, ℕ, Bool, true, false, ◌&&◌, List, [], ◌∷◌, map, filter, refl, sym, ap}
+use Rattle.std.proofs.Common.{◌∙◌, subst}
+use Rattle.std.specs.Prelude.{IfOk, ℤ}
+use Rattle.std.specs.Int.{w64}
+use Rattle.std.specs.List.{All}
+use Rattle.std.specs.Ordering.{int_eq}
+use Rattle.std.proofs.lemmas.Int.{to_z-of_z}
+use Rattle.mms_data.specs.ObjectName.{IsIdentifier}
+use Rattle.bilateral.specs.declared.rows.Table.{Table}
+use Rattle.bilateral.specs.Rows.{table_of}
+use Rattle.tase_views.specs.declared.call.TheConstants.{NAMED_VARIABLES, NAMED_VARIABLE_LISTS}
+use Rattle.tase_views.specs.declared.call.TheConstants.{DOMAINS}
+use Rattle.tase_views.specs.declared.reply.ReplyKind.{ReplyKind}
+use Rattle.tase_views.specs.OwnTable.{own_table}
+use Rattle.tase_views.specs.NameLists.{first_of, in_order, is_after, is_vmd}
+use Rattle.node_core.proofs.Listed.{variables-named, domain-named}
+use Rattle.node_core.proofs.Listed.{listed_variables, listed_domain, listed_lists, listed_nothing}
+use Rattle.node_core.proofs.Names.{table_of-slice_get}
+use Rattle.node_core.proofs.listing.list_names.Goals as goal
+use Rattle.node_core.proofs.listing.list_names.Goals.{else-is_class-2-via-then-is_class-2+else-is_vmd}
+use Rattle.node_core.proofs.listing.list_names.Goals.{else-is_class-2-via-else-is_class-2}
+
+and_apart : (a b : Bool) → b ≡ false → (a && b) ≡ false
+and_apart true b e = e
+and_apart false b e = refl
+
+pub first_of-requires : goal.first_of-requires
+first_of-requires c =
+    subst (λ (names : List (List ℕ)). All IsIdentifier names)
+    (sym (ap (map (λ name. name.now)) c.as_mut_slice.ensures.value ∙ c.in_ok-names.ensures))
+    (variables-named c.args.centre.now c.args.peer c.args.scope.now c.args.after.now
+    c.requires.lawful c.requires.known)
+
+pub returns-then-is_class-clause-value : goal.returns-then-is_class-clause-value
+returns-then-is_class-clause-value c =
+    let rows = c.args.centre.now in
+    let table = own_table rows c.args.peer in
+    let same = table_of-slice_get rows c.args.peer c.table.result.now c.table.ensures in
+    let plain = to_z-of_z w64 c.args.class c.ranges.class in
+    let own = sym (c.is_foreign.ensures table (ap (λ (t : Table). t.domain) same))
+    ∙ c.if-is_foreign.false in
+    subst (λ (kind : ReplyKind). IfOk c.first_of.result (λ reply. reply ≡ kind))
+    (ap (λ (names : List (List ℕ)). first_of (in_order names))
+    (ap (map (λ name. name.now)) c.as_mut_slice.ensures.value ∙ c.in_ok-names.ensures)
+    ∙ sym (listed_variables table c.args.class c.args.scope.now c.args.after.now own
+    (sym (c.is_class.ensures ∙ ap (λ (z : ℤ). int_eq z NAMED_VARIABLES) plain) ∙ c.if-is_class.true)))
+    c.first_of.ensures.value
+
+pub first_of-requires-then-is_vmd : goal.first_of-requires-then-is_vmd
+first_of-requires-then-is_vmd c =
+    let rows = c.args.centre.now in
+    let same = table_of-slice_get rows c.args.peer c.table.result.now c.table.ensures in
+    let domain = ap (λ (t : Table). filter (is_after c.args.after.now) (t.domain ∷ [])) same in
+    subst (λ (names : List (List ℕ)). All IsIdentifier names)
+    (sym (ap (map (λ name. name.now)) c.as_mut_slice-then-is_vmd.ensures.value
+    ∙ c.in_ok-names-2.ensures ∙ sym domain))
+    (domain-named rows c.args.peer c.args.after.now c.requires.lawful c.requires.known)
+
+pub returns-then-is_vmd-clause-value : goal.returns-then-is_vmd-clause-value
+returns-then-is_vmd-clause-value c =
+    let rows = c.args.centre.now in
+    let table = own_table rows c.args.peer in
+    let same = table_of-slice_get rows c.args.peer c.table.result.now c.table.ensures in
+    let domain = ap (λ (t : Table). filter (is_after c.args.after.now) (t.domain ∷ [])) same in
+    let plain = to_z-of_z w64 c.args.class c.ranges.class in
+    let own = sym (c.is_foreign.ensures table (ap (λ (t : Table). t.domain) same))
+    ∙ c.if-is_foreign.false in
+    subst (λ (kind : ReplyKind). IfOk c.first_of-then-is_vmd.result (λ reply. reply ≡ kind))
+    (ap (λ (names : List (List ℕ)). first_of (in_order names))
+    (ap (map (λ name. name.now)) c.as_mut_slice-then-is_vmd.ensures.value
+    ∙ c.in_ok-names-2.ensures ∙ sym domain)
+    ∙ sym (listed_domain table c.args.class c.args.scope.now c.args.after.now own
+    (sym (c.is_class.ensures ∙ ap (λ (z : ℤ). int_eq z NAMED_VARIABLES) plain) ∙ c.if-is_class.false)
+    (sym (c.is_class-2.ensures ∙ ap (λ (z : ℤ). int_eq z DOMAINS) plain) ∙ c.if-is_class-2.true)
+    (sym c.is_vmd.ensures ∙ c.if-is_vmd.true)))
+    c.first_of-then-is_vmd.ensures.value
+
+pub returns-then-is_class-3-clause-value : goal.returns-then-is_class-3-clause-value
+returns-then-is_class-3-clause-value c =
+    let rows = c.args.centre.now in
+    let table = own_table rows c.args.peer in
+    let same = table_of-slice_get rows c.args.peer c.table.result.now c.table.ensures in
+    let plain = to_z-of_z w64 c.args.class c.ranges.class in
+    let own = sym (c.is_foreign.ensures table (ap (λ (t : Table). t.domain) same))
+    ∙ c.if-is_foreign.false in
+    let apart : (int_eq c.args.class DOMAINS && is_vmd c.args.scope.now) ≡ false =
+    elim c.else-is_class-2.branch [
+      | else-is_class-2-via-then-is_class-2+else-is_vmd w ↦
+          and_apart _ _ (sym w.is_vmd.ensures ∙ w.if-is_vmd.false)
+      | else-is_class-2-via-else-is_class-2 w ↦
+          ap (λ (b : Bool). b && is_vmd c.args.scope.now)
+          (sym (c.is_class-2.ensures ∙ ap (λ (z : ℤ). int_eq z DOMAINS) plain) ∙ w.if-is_class-2.false)
+    ] in
+    subst (λ (kind : ReplyKind). IfOk c.first_of-then-is_class-3.result (λ reply. reply ≡ kind))
+    (sym (listed_lists table c.args.class c.args.scope.now c.args.after.now own
+    (sym (c.is_class.ensures ∙ ap (λ (z : ℤ). int_eq z NAMED_VARIABLES) plain) ∙ c.if-is_class.false) apart
+    (sym (c.is_class-3.ensures ∙ ap (λ (z : ℤ). int_eq z NAMED_VARIABLE_LISTS) plain) ∙ c.if-is_class-3.true)))
+    c.first_of-then-is_class-3.ensures.value
+
+pub returns-clause-value : goal.returns-clause-value
+returns-clause-value c =
+    let rows = c.args.centre.now in
+    let table = own_table rows c.args.peer in
+    let same = table_of-slice_get rows c.args.peer c.table.result.now c.table.ensures in
+    let plain = to_z-of_z w64 c.args.class c.ranges.class in
+    let own = sym (c.is_foreign.ensures table (ap (λ (t : Table). t.domain) same))
+    ∙ c.if-is_foreign.false in
+    let apart : (int_eq c.args.class DOMAINS && is_vmd c.args.scope.now) ≡ false =
+    elim c.else-is_class-2.branch [
+      | else-is_class-2-via-then-is_class-2+else-is_vmd w ↦
+          and_apart _ _ (sym w.is_vmd.ensures ∙ w.if-is_vmd.false)
+      | else-is_class-2-via-else-is_class-2 w ↦
+          ap (λ (b : Bool). b && is_vmd c.args.scope.now)
+          (sym (c.is_class-2.ensures ∙ ap (λ (z : ℤ). int_eq z DOMAINS) plain) ∙ w.if-is_class-2.false)
+    ] in
+    sym (listed_nothing table c.args.class c.args.scope.now c.args.after.now own
+    (sym (c.is_class.ensures ∙ ap (λ (z : ℤ). int_eq z NAMED_VARIABLES) plain) ∙ c.if-is_class.false) apart
+    (sym (c.is_class-3.ensures ∙ ap (λ (z : ℤ). int_eq z NAMED_VARIABLE_LISTS) plain) ∙ c.if-is_class-3.false))
