@@ -1,0 +1,15 @@
+pub mod Extended
+pub mod Assigned
+pub mod Breaking
+pub mod WordsRead
+pub mod Behind
+pub mod Assigning
+pub mod OneCall
+pub mod Wrong
+pub mod SoFar
+pub mod Places
+pub mod Graphic
+pub mod Parted
+pub mod CallPlace
+pub mod Written
+pub mod Worked

@@ -1,5 +1,5 @@
 -- The texts of replies.
-use Rattle.std.specs.Prelude.{ℕ, if◌then◌else◌, Bool, List, [], ◌∷◌, ◌++◌, flat_map, Option, Some}
+use Rattle.std.specs.Prelude.{ℕ, if◌then◌else◌, Bool, List, ◌∷◌, ◌++◌, flat_map, Option, Some}
 use Rattle.std.specs.Prelude.{None, is_some, codes, decimal}
 use Rattle.plain_text.specs.Escaped.{escaped_text}
 use Rattle.mms_data.specs.declared.outcome.Outcome.{Outcome}

@@ -1,5 +1,5 @@
 -- The places of a text at which its words begin, and those of blanks that may not stand there.
-use Rattle.std.specs.Prelude.{ℕ, suc, ◌+◌, ◌-◌, Bool, not, ◌&&◌, ◌||◌, ◌==◌, List, length, filter}
+use Rattle.std.specs.Prelude.{ℕ, ◌+◌, ◌-◌, Bool, not, ◌&&◌, ◌||◌, ◌==◌, List, length, filter}
 use Rattle.std.specs.Prelude.{slice_index, slice_index_or}
 use Rattle.std.specs.List.{range_with_len}
 

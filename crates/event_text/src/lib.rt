@@ -2,10 +2,12 @@
 #![tactic(auto)]
 
 mod feed;
+mod laws;
 mod reading;
 mod values;
 mod writing;
 
 pub use feed::read_feed_line;
+pub use laws::written_calls_are_read;
 pub use reading::{read_call, read_call_words};
 pub use writing::{spell_call, spell_event, spell_reply};

@@ -1,13 +1,28 @@
 //! The text of a call, read.
-ghost use Rattle.std.specs.Prelude.{◌≡◌, ◌↔◌, ℕ, Ok, Err, IfOk};
+ghost use Rattle.std.specs.Prelude.{◌≡◌, ◌↔◌, ◌∷◌, ◌≤◌, ℕ, length, Ok, Err, codes, IfOk, IfErr};
 ghost use Rattle.plain_text.specs.Words.{words};
 ghost use Rattle.tase_views.specs.declared.call.CallKind.{CallKind as AnyCall};
+ghost use Rattle.tase_views.specs.EventTexts.{read_verb};
 ghost use Rattle.event_text.specs.CallWords.{SpellsCall, AreCallWords};
 ghost use Rattle.event_text.specs.Breaks.{Breaks};
 ghost use Rattle.event_text.specs.CallTexts.{IsCallText, CallBreaksAt};
+ghost use Rattle.event_text.specs.Verbs.{Halts, Behind, NoWord, OneOrMore, IsNameWord};
+ghost use Rattle.event_text.specs.Verbs.{IsAssignedWord, verb_text};
 
+mod halt;
+mod lists;
+mod names;
+mod places;
+mod verbs;
+
+use halt::Halt;
+use lists::{one_more, read_name_list, read_odd};
+use names::{read_assignments, read_names};
+use places::{blank_place, word_place};
+use plain_text::{is_spaced, next_word};
 use std::alloc::{AllocError, Global};
-use tase_views::Call;
+use tase_views::{Call, CallKind};
+use verbs::{Verb, find_verb};
 
 /// The call that a text spells, as [`spell_call`](crate::spell_call) writes it, but that several
 /// spaces may stand between two words; or the first bad place: where the text has a tab, or begins
@@ -23,7 +38,13 @@ pub fn read_call(alloc: Global, text: &[u8]) -> Result<Result<Call, usize>, Allo
     ensures fault { (place : ℕ) → IfOk result
         (λ read. (read ≡ Err place) ↔ CallBreaksAt text.now place) }
 {
-    Err(AllocError)
+    if !is_spaced(text) {
+        return Ok(Err(blank_place(text)));
+    }
+    match read_call_words(alloc, text)? {
+        Ok(call) => Ok(Ok(call)),
+        Err(count) => Ok(Err(word_place(text, count))),
+    }
 }
 
 /// The call that the words of a text spell, whatever spaces stand in front of them and behind, or
@@ -35,5 +56,82 @@ pub fn read_call_words(alloc: Global, text: &[u8]) -> Result<Result<Call, usize>
     ensures fault { (count : ℕ) → IfOk result
         (λ read. (read ≡ Err count) ↔ Breaks AreCallWords (words text.now) count) }
 {
-    Err(AllocError)
+    match whole(alloc, text) {
+        Ok(call) => Ok(Ok(call)),
+        Err(Halt::Bad(count)) => Ok(Err(count)),
+        Err(Halt::Memory) => Err(AllocError),
+    }
+}
+
+/// The call that the words of a text are.
+fn whole(alloc: Global, text: &[u8]) -> Result<Call, Halt>
+    ensures found { IfOk result (λ call. SpellsCall (words text.now) call) }
+    ensures fault { IfErr result (λ halt. Halts halt
+        (λ count. Breaks AreCallWords (words text.now) count)) }
+{
+    let Some((word, rest)) = next_word(text) else {
+        return Err(Halt::Bad(0));
+    };
+    let Some(verb) = find_verb(word) else {
+        return Err(Halt::Bad(0));
+    };
+    match behind_verb(alloc, verb, rest) {
+        Ok(call) => Ok(call),
+        Err(halt) => Err(one_more(halt, rest)),
+    }
+}
+
+/// The call of a verb and the words behind it.
+fn behind_verb(alloc: Global, verb: Verb, text: &[u8]) -> Result<Call, Halt>
+    ensures found { IfOk result (λ call. SpellsCall (verb_text verb ∷ words text.now) call) }
+    ensures fault { IfErr result (λ halt. Halts halt
+        (λ count. Breaks (Behind verb) (words text.now) count)) }
+    ensures within { IfErr result (λ halt. Halts halt (λ count. count ≤ length text.now)) }
+{
+    match verb {
+        Verb::Identify => read_identify(text),
+        Verb::Read => read_read(alloc, text, false),
+        Verb::ReadEcho => read_read(alloc, text, true),
+        Verb::Write => read_write(alloc, text),
+        Verb::NameList => read_name_list(alloc, text),
+        Verb::Odd => read_odd(text),
+    }
+}
+
+/// Nothing behind `identify`.
+fn read_identify(text: &[u8]) -> Result<Call, Halt>
+    ensures found { IfOk result (λ call. SpellsCall (codes "identify" ∷ words text.now) call) }
+    ensures fault { IfErr result (λ halt. Halts halt
+        (λ count. Breaks NoWord (words text.now) count)) }
+    ensures within { IfErr result (λ halt. Halts halt (λ count. count ≤ length text.now)) }
+{
+    match next_word(text) {
+        Some(_) => Err(Halt::Bad(0)),
+        None => Ok(Call::new(CallKind::Identify)),
+    }
+}
+
+/// `NAME ..` behind `read` or `read+`.
+fn read_read(alloc: Global, text: &[u8], echo: bool) -> Result<Call, Halt>
+    ensures found { IfOk result (λ call. SpellsCall (read_verb echo ∷ words text.now) call) }
+    ensures fault { IfErr result (λ halt. Halts halt
+        (λ count. Breaks (OneOrMore IsNameWord) (words text.now) count)) }
+    ensures within { IfErr result (λ halt. Halts halt (λ count. count ≤ length text.now)) }
+{
+    let names = read_names(alloc, text)?;
+    Ok(Call::new(CallKind::Read { names, echo }))
+}
+
+/// `NAME=DATA ..` behind `write`.
+fn read_write(alloc: Global, text: &[u8]) -> Result<Call, Halt>
+    ensures found { IfOk result (λ call. SpellsCall (codes "write" ∷ words text.now) call) }
+    ensures fault { IfErr result (λ halt. Halts halt
+        (λ count. Breaks (OneOrMore IsAssignedWord) (words text.now) count)) }
+    ensures within { IfErr result (λ halt. Halts halt (λ count. count ≤ length text.now)) }
+{
+    let read = read_assignments(alloc, text)?;
+    Ok(Call::new(CallKind::Write {
+        names: read.names,
+        values: read.values,
+    }))
 }

@@ -3,6 +3,13 @@ ghost use Rattle.std.specs.Prelude.{◌≡◌, ◌++◌, OnOk, OnErr};
 ghost use Rattle.tase_views.specs.EventTexts.{call_text, event_text};
 ghost use Rattle.event_text.specs.ReplyTexts.{reply_text};
 
+mod calls;
+mod events;
+mod replies;
+
+use calls::put_call;
+use events::put_event;
+use replies::put_reply;
 use std::alloc::AllocError;
 use tase_views::{Call, Event, Reply};
 
@@ -13,7 +20,12 @@ pub fn spell_call(out: &mut Vec<u8>, call: &Call) -> Result<(), AllocError>
     ensures ok { OnOk result (out.new.items ≡ out.old.items ++ call_text call.now) }
     ensures err { OnErr result (out.new.items ≡ out.old.items) }
 {
-    Err(AllocError)
+    let before = out.len();
+    let spelled = put_call(out, call);
+    if spelled.is_err() {
+        out.truncate(before);
+    }
+    spelled
 }
 
 /// Appends the text of an event: `open PEER`, `call CALL`, `take`, `close`,
@@ -23,7 +35,12 @@ pub fn spell_event(out: &mut Vec<u8>, event: &Event) -> Result<(), AllocError>
     ensures ok { OnOk result (out.new.items ≡ out.old.items ++ event_text event.now) }
     ensures err { OnErr result (out.new.items ≡ out.old.items) }
 {
-    Err(AllocError)
+    let before = out.len();
+    let spelled = put_event(out, event);
+    if spelled.is_err() {
+        out.truncate(before);
+    }
+    spelled
 }
 
 /// Appends the text of a reply: `identify`; `read OUTCOME ..`, or `read+ OUTCOME ..` where the reply
@@ -34,5 +51,10 @@ pub fn spell_reply(out: &mut Vec<u8>, reply: &Reply) -> Result<(), AllocError>
     ensures ok { OnOk result (out.new.items ≡ out.old.items ++ reply_text reply.now) }
     ensures err { OnErr result (out.new.items ≡ out.old.items) }
 {
-    Err(AllocError)
+    let before = out.len();
+    let spelled = put_reply(out, reply);
+    if spelled.is_err() {
+        out.truncate(before);
+    }
+    spelled
 }

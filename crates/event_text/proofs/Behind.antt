@@ -1,0 +1,346 @@
+-- What stands behind the first word of a call is what may stand behind this verb.
+use Rattle.std.proofs.Common.{◌≡◌, ◌⊎◌, ℕ, suc, ◌<◌, Bool, true, false, List, [], ◌∷◌, length}
+use Rattle.std.proofs.Common.{map, Option, Some, None, codes, decimal, refl, sym, ap, subst, ◌∙◌}
+use Rattle.std.proofs.Common.{inl, inr, arith, drop}
+use Rattle.std.specs.Prelude.{IfSome}
+use Rattle.std.specs.Fmt.{signed_decimal, digits}
+use Rattle.std.specs.List.{All}
+use Rattle.std.specs.Str.{bytes_eq}
+use Rattle.std.proofs.lemmas.List.Elements.{All-nil, All-cons, All-head, All-tail}
+use Rattle.std.proofs.lemmas.Slice.Eq.{bytes_eq-Decides}
+use Rattle.mms_data.specs.Datum.{Datum}
+use Rattle.mms_data.specs.Lawful.{IsLawful}
+use Rattle.mms_data.specs.ObjectName.{ObjectName, IsName, IsIdentifier}
+use Rattle.mms_text.specs.Texts.{name_text, scope_text}
+use Rattle.mms_text.specs.TextRead.{HasText}
+use Rattle.mms_text.proofs.WordText.{chosen}
+use Rattle.tase_views.specs.declared.call.CallKind.{CallKind}
+use Rattle.tase_views.specs.declared.call.CallKind.TheVariants.{Identify, Read, Write, NameList, Odd}
+use Rattle.tase_views.specs.Calls.{IsCall}
+use Rattle.tase_views.specs.EventTexts.{read_verb}
+use Rattle.event_text.specs.CallWords.{call_words, assigned_words, after_words, HasWords}
+use Rattle.event_text.specs.CallWords.{SpellsCall, AreCallWords}
+use Rattle.event_text.specs.Breaks.{Breaks}
+use Rattle.event_text.specs.Assigned.{AreAssignments}
+use Rattle.event_text.specs.Verbs.{verb_text, verb_in, Behind, Each, OneOrMore, AtMostOne}
+use Rattle.event_text.specs.Verbs.{IsNameWord, IsAssignedWord, IsAfterWord, IsOddKind}
+use Rattle.event_text.specs.declared.reading.verbs.Verb.{Verb}
+use Rattle.event_text.specs.declared.reading.verbs.Verb.TheVariants as verbs
+use Rattle.event_text.specs.Verbs.{Halts, one_more}
+use Rattle.event_text.specs.declared.reading.halt.Halt.{Halt}
+use Rattle.event_text.proofs.Breaking.{halts-behind}
+use Rattle.event_text.proofs.WordsRead.{some_same}
+
+-- the verb of a call, and its other words
+abbrev pub verb_of : CallKind → Verb
+verb_of Identify = verbs.Identify
+verb_of (Read names true) = verbs.ReadEcho
+verb_of (Read names false) = verbs.Read
+verb_of (Write names values) = verbs.Write
+verb_of (NameList class scope after) = verbs.NameList
+verb_of (Odd kind code) = verbs.Odd
+
+abbrev pub others_of : CallKind → List (List ℕ)
+others_of Identify = []
+others_of (Read names echo) = map name_text names
+others_of (Write names values) = assigned_words names values
+others_of (NameList class scope after) = signed_decimal class ∷ scope_text scope ∷ after_words after
+others_of (Odd kind code) = decimal kind ∷ decimal code ∷ []
+
+pub call_words-are : (call : CallKind)
+    → call_words call ≡ verb_text (verb_of call) ∷ others_of call
+call_words-are Identify = refl
+call_words-are (Read names true) = refl
+call_words-are (Read names false) = refl
+call_words-are (Write names values) = refl
+call_words-are (NameList class scope after) = refl
+call_words-are (Odd kind code) = refl
+
+-- a verb's word is that verb
+pub verb_in-verb_text : (verb : Verb) → verb_in (verb_text verb) ≡ Some verb
+verb_in-verb_text verbs.Identify = refl
+verb_in-verb_text verbs.Read = refl
+verb_in-verb_text verbs.ReadEcho = refl
+verb_in-verb_text verbs.Write = refl
+verb_in-verb_text verbs.NameList = refl
+verb_in-verb_text verbs.Odd = refl
+
+is_word : (word text : List ℕ) (verb found : Verb) → text ≡ verb_text verb
+    → bytes_eq word text ≡ true → Some verb ≡ Some found → word ≡ verb_text found
+is_word word text verb found e test k =
+    (bytes_eq-Decides word text).0 test ∙ e ∙ ap verb_text (some_same verb found k)
+
+pub verb_in-found : (word : List ℕ) (verb : Verb) → verb_in word ≡ Some verb
+    → word ≡ verb_text verb
+verb_in-found word verb e =
+    chosen goal verb (bytes_eq word (codes "identify")) _ _
+    (λ t k. is_word word (codes "identify") verbs.Identify verb refl t k) (λ t k.
+    chosen goal verb (bytes_eq word (codes "read")) _ _
+    (λ t k. is_word word (codes "read") verbs.Read verb refl t k) (λ t k.
+    chosen goal verb (bytes_eq word (codes "read+")) _ _
+    (λ t k. is_word word (codes "read+") verbs.ReadEcho verb refl t k) (λ t k.
+    chosen goal verb (bytes_eq word (codes "write")) _ _
+    (λ t k. is_word word (codes "write") verbs.Write verb refl t k) (λ t k.
+    chosen goal verb (bytes_eq word (codes "names")) _ _
+    (λ t k. is_word word (codes "names") verbs.NameList verb refl t k) (λ t k.
+    chosen goal verb (bytes_eq word (codes "odd")) _ _
+    (λ t k. is_word word (codes "odd") verbs.Odd verb refl t k) (λ t k. absurd cc) k) k) k) k) k) e
+  where
+    goal : Type 0
+    goal = word ≡ verb_text verb
+
+-- each name is a word
+names_each : (names : List ObjectName) → All IsName names → Each IsNameWord (map name_text names)
+names_each [] all = tt
+names_each (name ∷ names) all = (
+  record { name = name; spelled = refl; named = All-head IsName name names all },
+  names_each names (All-tail IsName name names all),
+)
+
+pub names_are : (names : List ObjectName) → 0 < length names → All IsName names
+    → OneOrMore IsNameWord (map name_text names)
+names_are [] some all = absurd (omega (arith, some))
+names_are (name ∷ names) some all = names_each (name ∷ names) all
+
+-- so is each name with its value
+pub assigned_each : (names : List ObjectName) (values : List Datum) → All IsName names
+    → All IsLawful values → All HasText values → Each IsAssignedWord (assigned_words names values)
+assigned_each [] values all lawful textual = tt
+assigned_each (name ∷ names) [] all lawful textual = tt
+assigned_each (name ∷ names) (value ∷ values) all lawful textual = (
+  record {
+    name = name;
+    value = value;
+    spelled = refl;
+    named = All-head IsName name names all;
+    lawful = All-head IsLawful value values lawful;
+    textual = All-head HasText value values textual;
+  },
+  assigned_each names values (All-tail IsName name names all)
+      (All-tail IsLawful value values lawful) (All-tail HasText value values textual),
+)
+
+pub assigned_are : (names : List ObjectName) (values : List Datum) → 0 < length names
+    → length values ≡ length names → All IsName names → All IsLawful values → All HasText values
+    → OneOrMore IsAssignedWord (assigned_words names values)
+assigned_are [] values some many all lawful textual = absurd (omega (arith, some))
+assigned_are (name ∷ names) [] some many all lawful textual = absurd (omega (arith, many))
+assigned_are (name ∷ names) (value ∷ values) some many all lawful textual =
+    assigned_each (name ∷ names) (value ∷ values) all lawful textual
+
+after_are : (after : Option (List ℕ)) → IfSome after IsIdentifier
+    → AtMostOne IsAfterWord (after_words after)
+after_are None h = tt
+after_are (Some after) h = (record { after = after; spelled = refl; named = h }, tt)
+
+pub one-is : decimal 1 ≡ codes "1"
+unfolding digits
+one-is = refl
+
+pub five-is : decimal 5 ≡ codes "5"
+unfolding digits
+five-is = refl
+
+odd_kind : (kind : ℕ) → (kind ≡ 1) ⊎ (kind ≡ 5) → IsOddKind (decimal kind)
+odd_kind kind (inl e) = inl (ap decimal e ∙ one-is)
+odd_kind kind (inr e) = inr (ap decimal e ∙ five-is)
+
+-- the other words of a call may stand behind its verb
+pub others-behind : (call : CallKind) → IsCall call → HasWords call
+    → Behind (verb_of call) (others_of call)
+others-behind Identify h k = tt
+others-behind (Read names true) h k = names_are names h k
+others-behind (Read names false) h k = names_are names h k
+others-behind (Write names values) h k = assigned_are names values h.0 h.1 k.0 h.2 k.1
+others-behind (NameList class scope after) h k = (
+  record { class = class; spelled = refl; fits = k },
+  (record { scope = scope; spelled = refl; named = h.0 }, after_are after h.1),
+)
+others-behind (Odd kind code) h k = (odd_kind kind h.0, (ap decimal h.1 ∙ one-is, tt))
+
+-- so what stands behind a verb in a call may stand there
+pub spells-verb : (verb : Verb) (words : List (List ℕ)) (call : CallKind)
+    → SpellsCall (verb_text verb ∷ words) call → (verb ≡ verb_of call) × (words ≡ others_of call)
+spells-verb verb words call s =
+    let e = s.spelled ∙ call_words-are call in (
+      some_same verb (verb_of call)
+          (sym (verb_in-verb_text verb) ∙ ap (λ t. verb_in (first_word t)) e
+          ∙ verb_in-verb_text (verb_of call)),
+      ap (drop 1) e,
+    )
+  where
+    first_word : List (List ℕ) → List ℕ
+    first_word [] = []
+    first_word (word ∷ words) = word
+
+pub spelled-behind : (verb : Verb) (words : List (List ℕ))
+    → AreCallWords (verb_text verb ∷ words) → Behind verb words
+spelled-behind verb words (call, s) =
+    let e = spells-verb verb words call s in
+    subst (λ v. Behind v words) (sym e.0)
+    (subst (λ w. Behind (verb_of call) w) (sym e.1) (others-behind call s.lawful s.textual))
+
+-- the names that words are
+record AreNames (words : List (List ℕ)) : Type 0 where
+  pub names : List ObjectName
+  pub spelled : words ≡ map name_text names
+  pub named : All IsName names
+
+each-names : (words : List (List ℕ)) → Each IsNameWord words → AreNames words
+each-names [] each = record { names = []; spelled = refl; named = All-nil IsName }
+each-names (word ∷ words) each =
+    let w = each.0 in
+    let more = each-names words each.1 in
+    record {
+      names = w.name ∷ more.names;
+      spelled = λ i. w.spelled i ∷ more.spelled i;
+      named = All-cons IsName w.name more.names w.named more.named;
+    }
+
+-- the names and the values that words are
+record AreAssigned (words : List (List ℕ)) : Type 0 where
+  pub names : List ObjectName
+  pub values : List Datum
+  pub are : AreAssignments words names values
+
+each-assigned : (words : List (List ℕ)) → Each IsAssignedWord words → AreAssigned words
+each-assigned [] each = record {
+  names = [];
+  values = [];
+  are = record {
+    spelled = refl;
+    many = refl;
+    named = All-nil IsName;
+    lawful = All-nil IsLawful;
+    textual = All-nil HasText;
+  };
+}
+each-assigned (word ∷ words) each =
+    let w = each.0 in
+    let more = each-assigned words each.1 in
+    record {
+      names = w.name ∷ more.names;
+      values = w.value ∷ more.values;
+      are = record {
+        spelled = λ i. w.spelled i ∷ more.are.spelled i;
+        many = ap suc more.are.many;
+        named = All-cons IsName w.name more.names w.named more.are.named;
+        lawful = All-cons IsLawful w.value more.values w.lawful more.are.lawful;
+        textual = All-cons HasText w.value more.values w.textual more.are.textual;
+      };
+    }
+
+read_words : (echo : Bool) (word : List ℕ) (words : List (List ℕ)) → Each IsNameWord (word ∷ words)
+    → (call : CallKind) × SpellsCall (read_verb echo ∷ word ∷ words) call
+read_words echo word words each =
+    let first = each.0 in
+    let more = each-names words each.1 in (
+      Read (first.name ∷ more.names) echo,
+      record {
+        spelled = λ i. read_verb echo ∷ first.spelled i ∷ more.spelled i;
+        lawful = omega arith;
+        textual = All-cons IsName first.name more.names first.named more.named;
+      },
+    )
+
+-- and what may stand behind a verb makes a call
+pub behind-spells : (verb : Verb) (words : List (List ℕ)) → Behind verb words
+    → AreCallWords (verb_text verb ∷ words)
+behind-spells verbs.Identify [] b = (Identify, record { spelled = refl; lawful = tt; textual = tt })
+behind-spells verbs.Identify (word ∷ words) b = absurd b
+behind-spells verbs.Read [] b = absurd b
+behind-spells verbs.Read (word ∷ words) b = read_words false word words b
+behind-spells verbs.ReadEcho [] b = absurd b
+behind-spells verbs.ReadEcho (word ∷ words) b = read_words true word words b
+behind-spells verbs.Write [] b = absurd b
+behind-spells verbs.Write (word ∷ words) b =
+    let all = each-assigned (word ∷ words) b in (
+      Write all.names all.values,
+      record {
+        spelled = ap (λ t. codes "write" ∷ t) all.are.spelled;
+        lawful = (
+          assigned_some word words all.names all.values all.are.spelled,
+          all.are.many,
+          all.are.lawful,
+        );
+        textual = (all.are.named, all.are.textual);
+      },
+    )
+  where
+    assigned_some : (word : List ℕ) (words : List (List ℕ)) (names : List ObjectName)
+        (values : List Datum) → word ∷ words ≡ assigned_words names values → 0 < length names
+    assigned_some word words [] values e = absurd cc
+    assigned_some word words (name ∷ names) values e = omega arith
+behind-spells verbs.NameList [] b = absurd b
+behind-spells verbs.NameList (class ∷ []) b = absurd b.1
+behind-spells verbs.NameList (class ∷ scope ∷ []) b = (
+  NameList b.0.class b.1.0.scope None,
+  record {
+    spelled = λ i. codes "names" ∷ b.0.spelled i ∷ b.1.0.spelled i ∷ [];
+    lawful = (b.1.0.named, tt);
+    textual = b.0.fits;
+  },
+)
+behind-spells verbs.NameList (class ∷ scope ∷ after ∷ []) b = (
+  NameList b.0.class b.1.0.scope (Some b.1.1.0.after),
+  record {
+    spelled = λ i. codes "names" ∷ b.0.spelled i ∷ b.1.0.spelled i ∷ b.1.1.0.spelled i ∷ [];
+    lawful = (b.1.0.named, b.1.1.0.named);
+    textual = b.0.fits;
+  },
+)
+behind-spells verbs.NameList (class ∷ scope ∷ after ∷ word ∷ words) b = absurd b.1.1.1
+behind-spells verbs.Odd [] b = absurd b
+behind-spells verbs.Odd (kind ∷ []) b = absurd b.1
+behind-spells verbs.Odd (kind ∷ code ∷ []) b = odd_words kind code b.0 b.1.0
+  where
+    odd_words : (kind code : List ℕ) → IsOddKind kind → code ≡ codes "1"
+        → AreCallWords (codes "odd" ∷ kind ∷ code ∷ [])
+    odd_words kind code (inl e) k = (
+      Odd 1 1,
+      record {
+        spelled = λ i. codes "odd" ∷ (e ∙ sym one-is) i ∷ (k ∙ sym one-is) i ∷ [];
+        lawful = (inl refl, refl);
+        textual = tt;
+      },
+    )
+    odd_words kind code (inr e) k = (
+      Odd 5 1,
+      record {
+        spelled = λ i. codes "odd" ∷ (e ∙ sym five-is) i ∷ (k ∙ sym one-is) i ∷ [];
+        lawful = (inr refl, refl);
+        textual = tt;
+      },
+    )
+behind-spells verbs.Odd (kind ∷ code ∷ word ∷ words) b = absurd b.1.1
+
+-- words of a call, of whatever kind
+pub some_call : AreCallWords (codes "identify" ∷ [])
+some_call = (Identify, record { spelled = refl; lawful = tt; textual = tt })
+
+pub no_words : AreCallWords [] → ⊥
+no_words (call, s) =
+    let e : [] ≡ verb_text (verb_of call) ∷ others_of call = s.spelled ∙ call_words-are call in
+    absurd cc
+
+pub no_verb : (word : List ℕ) (words : List (List ℕ)) → verb_in word ≡ None
+    → AreCallWords (word ∷ words) → ⊥
+no_verb word words none (call, s) =
+    let e = s.spelled ∙ call_words-are call in
+    let found : verb_in word ≡ Some (verb_of call) =
+    ap (λ t. verb_in (first_word t)) e ∙ verb_in-verb_text (verb_of call) in
+    absurd cc
+  where
+    first_word : List (List ℕ) → List ℕ
+    first_word [] = []
+    first_word (word ∷ words) = word
+
+-- where the words behind a verb break, those of a call do
+pub verb-halts : (word : List ℕ) (words : List (List ℕ)) (verb : Verb) (halt : Halt)
+    → verb_in word ≡ Some verb → Halts halt (λ count. Breaks (Behind verb) words count)
+    → Halts (one_more halt) (λ count. Breaks AreCallWords (word ∷ words) count)
+verb-halts word words verb halt e h =
+    let same = verb_in-found word verb e in
+    halts-behind (Behind verb) AreCallWords word words halt
+    (λ more b. subst (λ w. AreCallWords (w ∷ more)) (sym same) (behind-spells verb more b))
+    (λ more q. spelled-behind verb more (subst (λ w. AreCallWords (w ∷ more)) same q)) h

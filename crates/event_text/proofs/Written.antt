@@ -1,0 +1,176 @@
+-- The text of a call spells that call.
+use Rattle.std.proofs.Common.{◌≡◌, ◌⊎◌, ℕ, ◌<◌, ◌^◌, Bool, true, false, List, [], ◌∷◌, ◌++◌}
+use Rattle.std.proofs.Common.{length, map, flat_map, Option, Some, None, codes, decimal, refl, sym, ap}
+use Rattle.std.proofs.Common.{◌∙◌, arith, append_assoc, append-nil, inl, inr, ℤ, pos, negsuc}
+use Rattle.std.specs.Prelude.{IfSome}
+use Rattle.std.specs.Fmt.{signed_decimal}
+use Rattle.std.specs.List.{All}
+use Rattle.std.specs.Int.{w64}
+use Rattle.std.specs.Int.RustNames.{FitsSigned}
+use Rattle.std.proofs.lemmas.List.{length-append}
+use Rattle.std.proofs.lemmas.List.Elements.{All-head, All-tail}
+use Rattle.std.proofs.lemmas.Fmt.{decimal_is_IsNumeral}
+use Rattle.plain_text.specs.Escaped.{is_plain, escaped_octet, escaped_text}
+use Rattle.plain_text.specs.Words.{words}
+use Rattle.mms_data.specs.Datum.{Datum}
+use Rattle.mms_data.specs.declared.object_name.Scope.{Scope}
+use Rattle.mms_data.specs.declared.object_name.Scope.TheVariants.{Vmd, Domain, Association}
+use Rattle.mms_data.specs.ObjectName.{ObjectName, IsName, IsScope, IsIdentifier}
+use Rattle.mms_text.specs.Texts.{data_text, name_text, scope_text}
+use Rattle.mms_text.specs.TextRead.{HasText}
+use Rattle.tase_views.specs.declared.call.CallKind.{CallKind}
+use Rattle.tase_views.specs.declared.call.CallKind.TheVariants.{Identify, Read, Write, NameList, Odd}
+use Rattle.tase_views.specs.Calls.{IsCall}
+use Rattle.tase_views.specs.EventTexts.{call_text, next_name, assigned_text, after_text}
+use Rattle.event_text.specs.CallWords.{assigned_words, after_words}
+use Rattle.event_text.specs.CallWords.{HasWords}
+use Rattle.event_text.specs.CallTexts.{IsCallText}
+use Rattle.event_text.specs.Verbs.{verb_text}
+use Rattle.event_text.specs.declared.reading.verbs.Verb.{Verb}
+use Rattle.event_text.specs.declared.reading.verbs.Verb.TheVariants as verbs
+use Rattle.event_text.proofs.Behind.{verb_of, others_of, call_words-are}
+use Rattle.event_text.proofs.Graphic.{both_graphic, escaped_graphic, signed_graphic}
+use Rattle.event_text.proofs.Graphic.{scope_graphic, name_graphic, data_graphic, decimal_graphic}
+use Rattle.event_text.proofs.Parted.{IsPrinted, ArePrinted, after_spaces, words-parted}
+use Rattle.event_text.proofs.Parted.{spaced-parted}
+
+names-after : (names : List ObjectName)
+    → flat_map next_name names ≡ after_spaces (map name_text names)
+names-after [] = refl
+names-after (name ∷ names) = ap (λ t. next_name name ++ t) (names-after names)
+
+assigned-after : (names : List ObjectName) (values : List Datum)
+    → assigned_text names values ≡ after_spaces (assigned_words names values)
+assigned-after [] values = refl
+assigned-after (name ∷ names) [] = refl
+assigned-after (name ∷ names) (value ∷ values) =
+    ap (λ t. next_name name ++ 61 ∷ data_text value ++ t) (assigned-after names values)
+
+afters-after : (after : Option (List ℕ)) → after_text after ≡ after_spaces (after_words after)
+afters-after None = refl
+afters-after (Some after) = sym (append-nil (32 ∷ escaped_text after))
+
+-- a call's text is its words, a space before each but the first
+pub call_text-is : (call : CallKind)
+    → call_text call ≡ verb_text (verb_of call) ++ after_spaces (others_of call)
+call_text-is Identify = refl
+call_text-is (Read names true) = ap (λ t. codes "read+" ++ t) (names-after names)
+call_text-is (Read names false) = ap (λ t. codes "read" ++ t) (names-after names)
+call_text-is (Write names values) = ap (λ t. codes "write" ++ t) (assigned-after names values)
+call_text-is (NameList class scope after) =
+    ap (λ t. codes "names " ++ signed_decimal class ++ 32 ∷ scope_text scope ++ t)
+    (afters-after after)
+    ∙ append_assoc (codes "names " ++ signed_decimal class) (32 ∷ scope_text scope)
+    (after_spaces (after_words after))
+    ∙ append_assoc (codes "names ") (signed_decimal class)
+    (32 ∷ (scope_text scope ++ after_spaces (after_words after)))
+call_text-is (Odd kind code) =
+    append_assoc (codes "odd ") (decimal kind) (32 ∷ decimal code)
+    ∙ ap (λ t. codes "odd " ++ (decimal kind ++ 32 ∷ t)) (sym (append-nil (decimal code)))
+
+longer : (xs ys : List ℕ) → 0 < length xs → 0 < length (xs ++ ys)
+longer xs ys h = rw (length-append xs ys) (omega (arith, h))
+
+escaped_some : (os : List ℕ) → IsIdentifier os → 0 < length (escaped_text os)
+escaped_some [] h = absurd (omega (arith, h.0))
+escaped_some (octet ∷ os) h = longer (escaped_octet octet) (escaped_text os) (by_plain octet _ refl)
+  where
+    by_plain : (octet : ℕ) (plain : Bool) → is_plain octet ≡ plain
+        → 0 < length (escaped_octet octet)
+    by_plain octet true e = rw e (omega arith)
+    by_plain octet false e = rw e (omega arith)
+
+scope_some : (scope : Scope) → IsScope scope → 0 < length (scope_text scope)
+scope_some Vmd h = omega arith
+scope_some (Domain domain) h = longer (escaped_text domain) (47 ∷ []) (escaped_some domain h)
+scope_some Association h = omega arith
+
+name_printed : (name : ObjectName) → IsName name → IsPrinted (name_text name)
+name_printed name h = record {
+  some = longer (scope_text name.scope) (escaped_text name.item) (scope_some name.scope h.0);
+  graphic = name_graphic name h;
+}
+
+decimal_printed : (n : ℕ) → n < 2 ^ 64 → IsPrinted (decimal n)
+decimal_printed n small = record {
+  some = omega (arith, (decimal_is_IsNumeral n small).0.0);
+  graphic = decimal_graphic n small;
+}
+
+signed_printed : (z : ℤ) → FitsSigned w64 z → IsPrinted (signed_decimal z)
+signed_printed (pos n) fits = decimal_printed n (omega (arith, fits))
+signed_printed (negsuc n) fits = record {
+  some = omega arith;
+  graphic = signed_graphic (negsuc n) fits;
+}
+
+names_printed : (names : List ObjectName) → All IsName names → ArePrinted (map name_text names)
+names_printed [] all = tt
+names_printed (name ∷ names) all = (
+  name_printed name (All-head IsName name names all),
+  names_printed names (All-tail IsName name names all),
+)
+
+assigned_printed : (names : List ObjectName) (values : List Datum) → All IsName names
+    → All HasText values → ArePrinted (assigned_words names values)
+assigned_printed [] values all textual = tt
+assigned_printed (name ∷ names) [] all textual = tt
+assigned_printed (name ∷ names) (value ∷ values) all textual =
+    let n = name_printed name (All-head IsName name names all) in (
+      record {
+        some = longer (name_text name) (61 ∷ data_text value) n.some;
+        graphic = both_graphic (name_text name) (61 ∷ data_text value) n.graphic
+            (data_graphic value (All-head HasText value values textual));
+      },
+      assigned_printed names values (All-tail IsName name names all)
+          (All-tail HasText value values textual),
+    )
+
+after_printed : (after : Option (List ℕ)) → IfSome after IsIdentifier
+    → ArePrinted (after_words after)
+after_printed None h = tt
+after_printed (Some after) h =
+    (record { some = escaped_some after h; graphic = escaped_graphic after h }, tt)
+
+odd_small : (kind : ℕ) → (kind ≡ 1) ⊎ (kind ≡ 5) → kind < 2 ^ 64
+odd_small kind (inl e) = omega (arith, e)
+odd_small kind (inr e) = omega (arith, e)
+
+others_printed : (call : CallKind) → IsCall call → HasWords call → ArePrinted (others_of call)
+others_printed Identify h k = tt
+others_printed (Read names echo) h k = names_printed names k
+others_printed (Write names values) h k = assigned_printed names values k.0 k.1
+others_printed (NameList class scope after) h k = (
+  signed_printed class k,
+  (
+    record { some = scope_some scope h.0; graphic = scope_graphic scope h.0 },
+    after_printed after h.1,
+  ),
+)
+others_printed (Odd kind code) h k =
+    (decimal_printed kind (odd_small kind h.0), (decimal_printed code (omega (arith, h.1)), tt))
+
+verb_printed : (verb : Verb) → IsPrinted (verb_text verb)
+verb_printed verbs.Identify = record { some = omega arith; graphic = refl }
+verb_printed verbs.Read = record { some = omega arith; graphic = refl }
+verb_printed verbs.ReadEcho = record { some = omega arith; graphic = refl }
+verb_printed verbs.Write = record { some = omega arith; graphic = refl }
+verb_printed verbs.NameList = record { some = omega arith; graphic = refl }
+verb_printed verbs.Odd = record { some = omega arith; graphic = refl }
+
+pub written-is_read : (call : CallKind) → IsCall call → HasWords call
+    → IsCallText (call_text call) call
+written-is_read call h k =
+    let verb = verb_printed (verb_of call) in
+    let others = others_printed call h k in
+    record {
+      spaced = rw (call_text-is call)
+          (spaced-parted (verb_text (verb_of call)) (others_of call) verb others);
+      words = record {
+        spelled = ap words (call_text-is call)
+            ∙ words-parted (verb_text (verb_of call)) (others_of call) verb others
+            ∙ sym (call_words-are call);
+        lawful = h;
+        textual = k;
+      };
+    }
