@@ -144,23 +144,23 @@ Reached-ended : (line : List ℕ) (number : ℕ) (meaning : Meaning) (rest : Pas
     → (all.end ≡ end) × TakesAll (steps_of all) history later before next
 Reached-ended line number bad rest all history now later before after next end other reached ends
     takes = (
-  ap (λ (p : Played). p.end) reached.whole ∙ ends,
-  subst (λ (these : List Step). TakesAll these history later before next)
-      (sym (steps_of-continued all (play_line line number (reverse now) bad rest) reached.lines
-      reached.whole))
-      (TakesAll-append (steps_in reached.lines) [] history now later before after next reached.takes
-      takes),
-)
+      ap (λ (p : Played). p.end) reached.whole ∙ ends,
+      subst (λ (these : List Step). TakesAll these history later before next)
+          (sym (steps_of-continued all (play_line line number (reverse now) bad rest) reached.lines
+          reached.whole))
+          (TakesAll-append (steps_in reached.lines) [] history now later before after next reached.takes
+          takes),
+    )
 Reached-ended line number (too_heavy weight limit) rest all history now later before after next end
     other reached ends takes = (
-  ap (λ (p : Played). p.end) reached.whole ∙ ends,
-  subst (λ (these : List Step). TakesAll these history later before next)
-      (sym (steps_of-continued all
-      (play_line line number (reverse now) (too_heavy weight limit) rest) reached.lines
-      reached.whole))
-      (TakesAll-append (steps_in reached.lines) [] history now later before after next reached.takes
-      takes),
-)
+      ap (λ (p : Played). p.end) reached.whole ∙ ends,
+      subst (λ (these : List Step). TakesAll these history later before next)
+          (sym (steps_of-continued all
+          (play_line line number (reverse now) (too_heavy weight limit) rest) reached.lines
+          reached.whole))
+          (TakesAll-append (steps_in reached.lines) [] history now later before after next reached.takes
+          takes),
+    )
 Reached-ended line number (gives steps) rest all history now later before after next end other
     reached ends takes = absurd (other (sym ends))
 

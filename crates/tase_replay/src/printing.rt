@@ -3,8 +3,8 @@ ghost use Rattle.tase_replay.specs.Play.{line_of_reply};
 ghost use Rattle.tase_replay.specs.Ends.{IsShown, end_of_write};
 
 use crate::playing::ReplayEnd;
-use outside::{Sink, SinkFailed, write_all};
 use event_text::spell_reply;
+use outside::{Sink, SinkFailed, write_all};
 use plain_text::push_decimal;
 use std::alloc::AllocError;
 use tase_views::Reply;

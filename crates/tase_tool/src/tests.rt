@@ -2,6 +2,7 @@ mod decoding;
 mod faults;
 mod files;
 mod lines;
+mod many;
 
 use super::*;
 use command_io::Status;
@@ -19,7 +20,7 @@ see FREQ1 vmd value\n";
 const LAWFUL: [&str; 3] = ["replay", "tables", "scenario"];
 
 // A scenario, how its run ends, and what it prints.
-const SCENARIOS: [(&str, Status, &str); 6] = [
+const SCENARIOS: [(&str, Status, &str); 11] = [
     (
         "open 1 A\nopen 2 B\nupdate BUS1 s2 00 1700000000 0\n\
         say 1 read DOMA/BUS1\nsay 2 read DOMB/BUS1 DOMB/LOAD1\n",
@@ -46,6 +47,31 @@ const SCENARIOS: [(&str, Status, &str); 6] = [
         "say 3 read DOMA/BUS1\n",
         Status::Input,
         "input scenario line 1\n",
+    ),
+    (
+        "open 1 A\nsay 1 names 9 vmd:\nsay 1 names 0 DOMB/\nsay 1 names 0 aa:\n",
+        Status::Done,
+        "reply 1 names end DOMA\nreply 1 error 7 2\nreply 1 names end\n",
+    ),
+    (
+        "open 1 A\nsay 1 names 0 DOMA/\n",
+        Status::Done,
+        "reply 1 names end BUS1 LOAD1\n",
+    ),
+    (
+        "open 1 A\nsay 1 write DOMA/BUS1=b8.80 DOMA/NOPE=i1\n",
+        Status::Done,
+        "reply 1 write !3 !10\n",
+    ),
+    (
+        "open 1 A\nstop\nclose 1\nopen 1 A\n",
+        Status::Input,
+        "input scenario line 4\n",
+    ),
+    (
+        "open 1 A\nclose 1\nopen 1 B\nsay 1 read vmd:FREQ1\nopen 2 A\ntake 2\n",
+        Status::Done,
+        "reply 1 read f00000000\n",
     ),
     ("", Status::Done, ""),
 ];

@@ -4,7 +4,7 @@ use std::process::Abort;
 use std::test::Fail;
 
 // Scenario lines that are bad behind `open 1 A` and `open 2 B`.
-const BAD_LINES: [&str; 46] = [
+const BAD_LINES: [&str; 70] = [
     "open 1 A",
     "open 0 A",
     "open 4294967296 A",
@@ -18,9 +18,28 @@ const BAD_LINES: [&str; 46] = [
     " open 3 A",
     "open\t3 A",
     "OPEN 3 A",
-    "close 1",
-    "take 1",
+    "take 3",
+    "take 0",
+    "take 4294967296",
+    "take 01",
+    "take",
+    "take 1 1",
+    "Take 1",
+    "close 3",
+    "close 0",
+    "close 4294967296",
+    "close",
+    "close 1 1",
+    "CLOSE 1",
+    "stop 1",
+    "Stop",
     "tick 5",
+    "in 1 00",
+    "idle 1",
+    "end 1",
+    "ask A 1",
+    "tag BRK1 1 vwork",
+    "orders",
     "update BUS2 s1 00 1 0",
     "update BUS1 s4 00 1 0",
     "update BUS1 s 00 1 0",
@@ -49,12 +68,17 @@ const BAD_LINES: [&str; 46] = [
     "say 1 read /BUS1",
     "say 1 read DOMA/%42US1",
     "say 1 read DOMA/A%2F",
-    "say 1 write DOMA/BUS1=b8.80",
+    "say 1 write",
+    "say 1 write DOMA/BUS1",
+    "say 1 write DOMA/BUS1=",
+    "say 1 identify DOMA/BUS1",
+    "say 1 names 0",
+    "say 1 odd 5 1",
     "say 1 read DOMA/AAAAAAAAAAAAAAAAAAAAAAAAAAAAAAAAAAAAAAAAAAAAAAAAAAAAAAAAAAAAAAAAA",
 ];
 
 // Lines that are taken behind these two opens, and what they print.
-const GOOD_LINES: [(&str, &str); 11] = [
+const GOOD_LINES: [(&str, &str); 20] = [
     ("open 4294967295 A", ""),
     ("update BUS1 s3 3f 2147483647 999", ""),
     ("update LOAD1 d-2147483648 00 0 0", ""),
@@ -62,6 +86,15 @@ const GOOD_LINES: [(&str, &str); 11] = [
     ("update FREQ1 rffffffff 00 0 0", ""),
     ("# say 3 read", ""),
     ("\r", ""),
+    ("take 1", ""),
+    ("close 2\nclose 1\nopen 1 B", ""),
+    ("stop", ""),
+    ("stop\nclose 1\nclose 2", ""),
+    ("say 1 identify", "reply 1 identify\n"),
+    ("say 1 read+ DOMA/BUS1", "reply 1 read+ b8.30\n"),
+    ("say 1  write  DOMA/BUS1=b8.80", "reply 1 write !3\n"),
+    ("say 1 names 0 DOMA/ BUS1", "reply 1 names end LOAD1\n"),
+    ("say 1 names 2 DOMA/", "reply 1 names end\n"),
     ("say   1  read   DOMA/BUS1", "reply 1 read b8.30\n"),
     ("say 1 read DOMA/A%2f", "reply 1 read !10\n"),
     (
