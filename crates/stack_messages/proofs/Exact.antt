@@ -1,5 +1,5 @@
 -- Reading a layer and then what stands inside it is exact.
-use Rattle.std.proofs.Common.{◌≡◌, Result, Ok, Err, IfOk, refl, sym, ap, subst, inl, inr, ◌⊎◌, Option, Some, None, Bool, true, false}
+use Rattle.std.proofs.Common.{◌≡◌, Result, Ok, Err, IfOk, refl, sym, ap, subst, inl, inr, Option, Some, None, Bool, true, false}
 use Rattle.std.specs.Option.{option_map}
 use Rattle.std.specs.declared.alloc.AllocError.{AllocError}
 use Rattle.stack_messages.specs.declared.fault.StackFault.{StackFault}
@@ -81,14 +81,14 @@ inside-read {X} {Y} outer inner x (Ok y) o i =
     (λ z h. only_one (inner x) y i z
     (subst (λ (w : X). (inner w).says z) (sym (only_one outer x o h.0 h.1)) h.2))
     (λ f h. elim h [
-      inl a ↦ no_fault outer x o f a
+      | inl a ↦ no_fault outer x o f a
       | inr b ↦ no_fault (inner x) y i f
           (subst (λ (w : X). (inner w).breaks f) (sym (only_one outer x o b.0 b.1)) b.2)
     ])
 inside-read {X} {Y} outer inner x (Err f) o i =
     read-err (inside outer inner) f (inr (x, o.found, breaks_so (inner x) f i))
     (λ g h. elim h [
-      inl a ↦ absurd (no_fault outer x o g a)
+      | inl a ↦ absurd (no_fault outer x o g a)
       | inr b ↦ one_fault (inner x) f i g
           (subst (λ (w : X). (inner w).breaks g) (sym (only_one outer x o b.0 b.1)) b.2)
     ])
@@ -101,7 +101,7 @@ unfolding inside
 inside-broken outer inner f o =
     read-err (inside outer inner) f (inl (breaks_so outer f o))
     (λ g h. elim h [
-      inl a ↦ one_fault outer f o g a
+      | inl a ↦ one_fault outer f o g a
       | inr b ↦ absurd (says_none outer f o b.0 b.1)
     ])
     (λ z h. says_none outer f o h.0 h.1)

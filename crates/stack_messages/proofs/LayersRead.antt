@@ -1,5 +1,5 @@
 -- The readers of the layers are exact as readers of a layer of a message.
-use Rattle.std.proofs.Common.{◌≡◌, ℕ, List, Bool, true, false, cond, Option, Some, None, Result, Ok, Err, IfOk, ◌↔◌, refl, sym, ap, subst, ◌∙◌, inl, inr, ◌⊎◌}
+use Rattle.std.proofs.Common.{◌≡◌, ℕ, List, Bool, true, false, cond, Option, Some, None, Result, Ok, Err, IfOk, ◌↔◌, refl, sym, ap, subst, ◌∙◌, inl, inr}
 use Rattle.std.proofs.lemmas.Bool.{false≢true}
 use Rattle.ber_values.specs.declared.fault.BerFault.{BerFault}
 use Rattle.ber_values.specs.declared.fault.Span.{Span}
@@ -19,7 +19,6 @@ use Rattle.stack_messages.specs.declared.expecting.Expecting.{Expecting}
 use Rattle.stack_messages.specs.declared.fault.Layer.{Layer}
 use Rattle.stack_messages.specs.declared.fault.Layer.TheVariants as layers
 use Rattle.stack_messages.specs.declared.fault.StackFault.{StackFault}
-use Rattle.stack_messages.specs.declared.heard.Heard.{Heard}
 use Rattle.stack_messages.specs.declared.heard.Heard.TheVariants as heard
 use Rattle.stack_messages.specs.Meanings.{IsReadAs}
 use Rattle.stack_messages.specs.Layers.{fault_of, out_of_order, octets_at, place_after, spdu_of, in_layer, pdu_at}
@@ -101,22 +100,22 @@ turn e tsdu body p true may r =
     let one = pdu_at tsdu body in
     read-ok (data_at e tsdu body) (heard.Pdu p) (inl (p, r.found, may, refl))
     (λ h s. elim s [
-      inl a ↦ pdu_is p a.0 (only_one one p r a.0 a.1) ∙ sym a.3
+      | inl a ↦ pdu_is p a.0 (only_one one p r a.0 a.1) ∙ sym a.3
       | inr b ↦ absurd (no_fault one p r b.1.broken.0 b.1.broken.1)
     ])
     (λ f s. elim s [
-      inl a ↦ false≢true (sym (same_turn e p a.0 true false (only_one one p r a.0 a.1) may a.2))
+      | inl a ↦ false≢true (sym (same_turn e p a.0 true false (only_one one p r a.0 a.1) may a.2))
       | inr b ↦ no_fault one p r f b.1
     ])
 turn e tsdu body p false may r =
     let one = pdu_at tsdu body in
     read-err (data_at e tsdu body) (out_of_order layers.Mms) (inl (p, r.found, may, refl))
     (λ g s. elim s [
-      inl a ↦ sym a.3
+      | inl a ↦ sym a.3
       | inr b ↦ absurd (no_fault one p r g b.1)
     ])
     (λ h s. elim s [
-      inl a ↦ false≢true (same_turn e p a.0 false true (only_one one p r a.0 a.1) may a.2)
+      | inl a ↦ false≢true (same_turn e p a.0 false true (only_one one p r a.0 a.1) may a.2)
       | inr b ↦ no_fault one p r b.1.broken.0 b.1.broken.1
     ])
 
@@ -136,11 +135,11 @@ bad-read e tsdu body f invoke may number r =
     let bad : IsBadRequest e tsdu body invoke = record { may = may; number = (number invoke).0 refl; broken = (f, breaks_so one f r) } in
     read-ok (data_at e tsdu body) (heard.BadRequest invoke) (inr (invoke, bad, refl))
     (λ h s. elim s [
-      inl a ↦ absurd (says_none one f r a.0 a.1)
+      | inl a ↦ absurd (says_none one f r a.0 a.1)
       | inr b ↦ ap (λ (n : ℕ). heard.BadRequest n) (some_is invoke b.0 ((number b.0).1 b.1.number)) ∙ sym b.2
     ])
     (λ g s. elim s [
-      inl a ↦ says_none one f r a.0 a.1
+      | inl a ↦ says_none one f r a.0 a.1
       | inr b ↦ b.0 invoke bad
     ])
 
@@ -150,11 +149,11 @@ fault-read e tsdu body f none r =
     let one = pdu_at tsdu body in
     read-err (data_at e tsdu body) f (inr (none, breaks_so one f r))
     (λ g s. elim s [
-      inl a ↦ absurd (says_none one f r a.0 a.1)
+      | inl a ↦ absurd (says_none one f r a.0 a.1)
       | inr b ↦ one_fault one f r g b.1
     ])
     (λ h s. elim s [
-      inl a ↦ says_none one f r a.0 a.1
+      | inl a ↦ says_none one f r a.0 a.1
       | inr b ↦ none b.0 b.1
     ])
 

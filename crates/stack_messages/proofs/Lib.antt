@@ -1,3 +1,4 @@
 pub mod Exact
 pub mod LayersRead
 pub mod OneMeaning
+mod Worked

@@ -35,7 +35,6 @@ pub(crate) fn read_carry(
 }
 
 /// The data that a PPDU carries.
-#[tactic(auto, using(crate::proofs::Exact::nothing_so, crate::proofs::Exact::just_read))]
 fn read_user_data(
     alloc: Global,
     tsdu: &[u8],

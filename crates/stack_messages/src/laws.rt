@@ -9,8 +9,8 @@ use mms_services::{pdus_have_one_reading, requests_have_one_number};
 use presentation_profile::ppdus_have_one_reading;
 use session_profile::one_reading;
 
-/// A TSDU has one reading, whatever is expected: exactly one holds, it says exactly one thing, or it
-/// has exactly one first fault.
+/// A TSDU has one reading, whatever is expected: exactly one holds, it says exactly one thing, or
+/// it has exactly one first fault.
 pub fn messages_have_one_reading()
     ensures { (e : Expecting) (tsdu : List ℕ) → HasOneMeaning (message e tsdu) }
 {

@@ -1,5 +1,5 @@
-//! One message of an association, which is one TSDU: an SPDU (ISO 8327-1), in it a PPDU (ISO 8823-1),
-//! in that an APDU (ISO 8650-1) or data, and in these a PDU of MMS (ISO 9506-2).
+//! One message of an association, which is one TSDU: an SPDU (ISO 8327-1), in it a PPDU
+//! (ISO 8823-1), in that an APDU (ISO 8650-1) or data, and in these a PDU of MMS (ISO 9506-2).
 #![tactic(auto)]
 
 mod data;

@@ -47,7 +47,6 @@ fn read_in_turn(
 }
 
 /// What an SPDU says.
-#[tactic(auto, using(crate::proofs::Exact::nothing_so, crate::proofs::Exact::just_read))]
 fn read_inside(
     alloc: Global,
     tsdu: &[u8],

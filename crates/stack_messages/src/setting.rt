@@ -40,7 +40,6 @@ pub(crate) fn read_connect(
 }
 
 /// The connect that a PPDU is.
-#[tactic(auto, using(crate::proofs::Exact::nothing_so, crate::proofs::Exact::just_read))]
 fn read_offers(
     alloc: Global,
     tsdu: &[u8],
@@ -87,7 +86,6 @@ fn read_request(
 }
 
 /// The request for an association that an APDU is.
-#[tactic(auto, using(crate::proofs::Exact::nothing_so, crate::proofs::Exact::just_read))]
 fn read_aarq(
     alloc: Global,
     tsdu: &[u8],
@@ -129,7 +127,6 @@ fn read_initiate(
 }
 
 /// The connect whose PDU is this one.
-#[tactic(auto, using(crate::proofs::Exact::nothing_so, crate::proofs::Exact::just_read))]
 fn connecting(
     session: Option<Selector>,
     called: Option<Selector>,
@@ -182,7 +179,6 @@ pub(crate) fn read_accept(
 }
 
 /// The accept that a PPDU is.
-#[tactic(auto, using(crate::proofs::Exact::nothing_so, crate::proofs::Exact::just_read))]
 fn read_results(
     alloc: Global,
     tsdu: &[u8],
@@ -222,7 +218,6 @@ fn read_response(
 }
 
 /// The response that an APDU is.
-#[tactic(auto, using(crate::proofs::Exact::nothing_so, crate::proofs::Exact::just_read))]
 fn read_aare(
     alloc: Global,
     tsdu: &[u8],
@@ -242,7 +237,6 @@ fn read_aare(
 }
 
 /// The initiate response in user information, which there is where an association is accepted.
-#[tactic(auto, using(crate::proofs::Exact::nothing_so, crate::proofs::Exact::just_read))]
 fn read_user(
     alloc: Global,
     tsdu: &[u8],
@@ -276,7 +270,6 @@ fn read_initiated(
 }
 
 /// The accept whose PDU is this one.
-#[tactic(auto, using(crate::proofs::Exact::nothing_so, crate::proofs::Exact::just_read))]
 fn accepting(acse: u32, mms: u32, pdu: MmsPdu) -> Result<Heard, StackFault>
     ensures { IsReadAs (initiated_in acse mms pdu) result }
 {

@@ -1,7 +1,7 @@
-//! Messages worked out by hand from ISO 8327-1, ISO 8823-1, ISO 8650-1 and ISO 9506-2. A row has the
-//! side that reads, the phase of the association (`before` it stands, `open`, `awaited`: open, and a
-//! conclude response is awaited, `concluded`, `ending`), and the TSDU (`tsdu_of`). Behind the `=` is
-//! what it says, or the layer, the place and the rule that it breaks. The ids are 1 and 3.
+//! Messages worked out by hand from ISO 8327-1, ISO 8823-1, ISO 8650-1 and ISO 9506-2. A row has
+//! the side that reads, the phase of the association (`before` it stands, `open`, `awaited`: open,
+//! and a conclude response is awaited, `concluded`, `ending`), and the TSDU (`tsdu_of`). Behind the
+//! `=` is what it says, or the layer, the place and the rule that it breaks. The ids are 1 and 3.
 
 // Connects.
 pub(crate) const CONNECTS: [&str; 26] = [
@@ -24,7 +24,8 @@ pub(crate) const CONNECTS: [&str; 26] = [
     "called before connect at 5a03 = Presentation 90 Value",
     "either before connect at 5a03 = Presentation 90 Value",
     "called before connect at 7f01 = Acse 127 Value",
-    "called before connect at 4d09 at 5a07 at 7f09 = connect 0001 00000001 2 28ca220203 29876701 65000",
+    "called before connect at 4d09 at 5a07 at 7f09 \
+     = connect 0001 00000001 2 28ca220203 29876701 65000",
     // no title, and another application context
     "called before connect at 6883 = connect 0001 00000001 2 28ca220203 - 65000",
     "called before connect at 6709 = connect 0001 00000001 2 28ca220209 29876701 65000",
@@ -169,9 +170,12 @@ pub(crate) const FAULTS: [&str; 24] = [
     "called open 01000100 610e300c020103a007 a00502010182 = Presentation 5 Length",
     "called concluded 01000100 610e300c020103a007 a00502010182 = Presentation 5 Length",
     // a connect and an accept of the presentation
-    "called open 01000100 311ca003800101a215 a40a3008020101060152 3000 61073005020101a000 = Presentation 0 Order",
-    "calling open 01000100 3117a003800101a210 a5053003800100 61073005020101a000 = Presentation 0 Order",
-    "either open 01000100 3117a003800101a210 a5053003800100 61073005020109a000 = Presentation 0 Order",
+    "called open 01000100 311ca003800101a215 a40a3008020101060152 3000 61073005020101a000 \
+     = Presentation 0 Order",
+    "calling open 01000100 3117a003800101a210 a5053003800100 61073005020101a000 \
+     = Presentation 0 Order",
+    "either open 01000100 3117a003800101a210 a5053003800100 61073005020109a000 \
+     = Presentation 0 Order",
     // a faulty identify, whose number is 7
     "called open data a006020107820100 = bad 7",
     "either concluded data a006020107820100 = bad 7",

@@ -18,9 +18,9 @@ returns-in-Some c =
     let octets = octets_at c.args.tsdu.now c.args.body in
     let e = c.args.expecting in
     let told = told_number (may_ask e.side e.phase) c.in-Err.fault.invoke c.in-Some.invoke
-        (sym c.in-Some.is ∙ c.answerable.ensures) in
+    (sym c.in-Some.is ∙ c.answerable.ensures) in
     let number = subst (λ (r : Result MmsPdu MmsFault). IfErr r (λ f. IsInvokeOf octets f.invoke))
-        c.in-Err.is c.in_ok-pdu.ensures.invoke in
+    c.in-Err.is c.in_ok-pdu.ensures.invoke in
     bad-read e c.args.tsdu.now c.args.body _ c.in-Some.invoke told.0
     (subst (λ (n : Option ℕ). IsInvokeOf octets n) told.1 number)
     (pdu-broken c.args.tsdu.now c.args.body c.in-Err.fault c.in_ok-pdu.field-0 c.in-Err.is
@@ -31,7 +31,7 @@ returns-in-None c =
     let octets = octets_at c.args.tsdu.now c.args.body in
     let e = c.args.expecting in
     let number = subst (λ (r : Result MmsPdu MmsFault). IfErr r (λ f. IsInvokeOf octets f.invoke))
-        c.in-Err.is c.in_ok-pdu.ensures.invoke in
+    c.in-Err.is c.in_ok-pdu.ensures.invoke in
     fault-read e c.args.tsdu.now c.args.body c.mms_fault.result
     (no_number e c.args.tsdu.now c.args.body (may_ask e.side e.phase) c.in-Err.fault.invoke refl number
     (sym c.in-None.is ∙ c.answerable.ensures))

@@ -11,4 +11,4 @@ returns-else-spdu_may_come c =
     let e = c.args.expecting in
     refused-so (spdu_may_come e.side e.phase c.args.spdu) (out_of_order layers.Session)
     c.out_of_order.result (said_by e c.args.tsdu.now c.args.spdu)
-    ? c.out_of_order.ensures
+    (sym c.spdu_may_come.ensures ∙ c.if-spdu_may_come.false) c.out_of_order.ensures
