@@ -2,6 +2,7 @@ mod decoding;
 mod faults;
 mod files;
 mod lines;
+mod listing;
 
 use super::*;
 use command_io::Status;
