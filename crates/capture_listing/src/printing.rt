@@ -26,12 +26,7 @@ pub fn print_listing<K: Sink>(alloc: Global, pieces: Pieces<'_>, sink: &mut K) -
 }
 
 // The same, where each piece is put into this room.
-fn list_pieces<K: Sink>(
-    alloc: Global,
-    pieces: Pieces<'_>,
-    room: &mut [u8],
-    sink: &mut K,
-) -> Status
+fn list_pieces<K: Sink>(alloc: Global, pieces: Pieces<'_>, room: &mut [u8], sink: &mut K) -> Status
     requires { length room.old ≡ PIECE_LIMIT }
     ensures { Tells (listing_said (listing_of pieces.entry)) (K.told sink.old) (K.told sink.new) result }
 {

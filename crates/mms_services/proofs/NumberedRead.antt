@@ -94,6 +94,7 @@ one_number octets = here (numbered_request.reading 0 octets) refl
         ≡ Ok (taken invoke h.request.head.next h.request.rest)
     read_of invoke h = (numbered_reads 0 octets).only
         (taken invoke h.request.head.next h.request.rest) (number_taken octets invoke h)
+
     here : (read : Result (Taken ℕ) BerFault) → numbered_request.reading 0 octets ≡ read
         → (found : Option ℕ) × IsInvokeOf octets found
     here (Ok t) at = (
