@@ -97,6 +97,7 @@ lists_message t u m context now size before after broken hands sized listed =
   where
     placed : Placed
     placed = record { message = message_seen m; place = t.start; next = u.start }
+
     here : (told : Result Told StackFault) → told_in context (message_seen m) ≡ told
         → IsListed told t.start size context now before after broken
         → Lists (state t context false) (state u now broken) before after

@@ -5,7 +5,6 @@
 mod hearing;
 mod lines;
 mod lister;
-
 mod names;
 
 pub use lister::Lister;

@@ -1,4 +1,3 @@
 mod Duties
-mod Listed
 mod Playing
 mod Telling

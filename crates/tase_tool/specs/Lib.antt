@@ -1,6 +1,5 @@
 pub mod Words
 pub mod Decoding
-pub mod Listing
 pub mod Saying
 pub mod Tables
 pub mod Starting

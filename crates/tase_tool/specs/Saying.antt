@@ -18,7 +18,7 @@ use Rattle.tase_replay.specs.Play.{scenario_of}
 use Rattle.tase_tool.specs.declared.running.TheConstants.{HISTORY_LIMIT}
 use Rattle.tase_tool.specs.Words.{Asked, replays, lists_stream, decodes_pdu}
 use Rattle.tase_tool.specs.Decoding.{capture_said}
-use Rattle.tase_tool.specs.Listing.{stream_said}
+use Rattle.capture_listing.specs.Listing.{stream_said}
 
 abbrev pub usage : Said
 usage = prints Usage (codes "usage" ++ 10 ∷ [])

@@ -2,6 +2,7 @@ mod decoding;
 mod faults;
 mod files;
 mod lines;
+mod listing;
 mod many;
 
 use super::*;

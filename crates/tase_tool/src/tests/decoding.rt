@@ -62,9 +62,10 @@ const REFUSED: [(&str, &str); 22] = [
 ];
 
 // Words that are no command.
-const WORDS: [&[&str]; 7] = [
+const WORDS: [&[&str]; 8] = [
     &["decode"],
-    &["decode", "scenario"],
+    &["decode", ""],
+    &["decode", "-scenario"],
     &["decode", "--pdu"],
     &["decode", "--pdu", ""],
     &["decode", "--pdu", "-scenario"],

@@ -5,7 +5,7 @@ use Rattle.outside.proofs.Writing.{AppendsPart-none}
 use Rattle.command_io.specs.Runs.{Tells}
 use Rattle.command_io.specs.declared.status.Status.TheVariants.{Outside}
 use Rattle.stream_listing.specs.Listings.{listing_of}
-use Rattle.tase_tool.specs.Listing.{listing_said}
+use Rattle.capture_listing.specs.Listing.{listing_said}
 use Rattle.tase_tool.proofs.Playing.{Tells-handed, Tells-unhanded, Tells-failed}
 use Rattle.tase_tool.proofs.listing.list_gathered.Goals as goal
 
@@ -21,36 +21,36 @@ returns-in-Outside g c =
     let said = listing_said (listing_of c.args.pieces) in
     subst (λ s. Tells said (g.K.Sink.told c.args.sink) (g.K.Sink.told s) Outside)
     (sym c.into_sink.ensures)
-    (Tells-failed (g.K.Sink.told c.args.sink) (g.K.Sink.told c.list_stream.new.sink.0)
-    (g.K.Sink.told c.list_stream.new.sink.0) c.list_stream.new.sink.1 c.requires said
+    (Tells-failed (g.K.Sink.told c.args.sink) (g.K.Sink.told c.print_listing.new.sink.0)
+    (g.K.Sink.told c.print_listing.new.sink.0) c.print_listing.new.sink.1 c.requires said
     (subst (λ s. Tells said (buffered_told (g.K.Sink.told s.0) s.1)
-    (buffered_told (g.K.Sink.told c.list_stream.new.sink.0) c.list_stream.new.sink.1) Outside)
+    (buffered_told (g.K.Sink.told c.print_listing.new.sink.0) c.print_listing.new.sink.1) Outside)
     c.in-Ok.ensures.ok c.in-Outside.ensures))
 
 pub returns-in_default-Ok : goal.returns-in_default-Ok
 returns-in_default-Ok g c =
     let said = listing_said (listing_of c.args.pieces) in
-    Tells-handed (g.K.Sink.told c.args.sink) (g.K.Sink.told c.list_stream.new.sink.0)
-    (g.K.Sink.told c.finish.result.0) c.list_stream.new.sink.1 c.requires
-    said c.list_stream.result c.in_default.not-Outside
+    Tells-handed (g.K.Sink.told c.args.sink) (g.K.Sink.told c.print_listing.new.sink.0)
+    (g.K.Sink.told c.finish.result.0) c.print_listing.new.sink.1 c.requires
+    said c.print_listing.result c.in_default.not-Outside
     (subst (λ s. Tells said (buffered_told (g.K.Sink.told s.0) s.1)
-    (buffered_told (g.K.Sink.told c.list_stream.new.sink.0) c.list_stream.new.sink.1)
-    c.list_stream.result)
-    c.in-Ok.ensures.ok c.list_stream.ensures)
-    (subst (λ r. Finishes (g.K.Sink.told c.list_stream.new.sink.0)
+    (buffered_told (g.K.Sink.told c.print_listing.new.sink.0) c.print_listing.new.sink.1)
+    c.print_listing.result)
+    c.in-Ok.ensures.ok c.print_listing.ensures)
+    (subst (λ r. Finishes (g.K.Sink.told c.print_listing.new.sink.0)
     (g.K.Sink.told c.finish.result.0)
-    c.list_stream.new.sink.1 r) c.in_default-Ok.is-1 c.finish.ensures)
+    c.print_listing.new.sink.1 r) c.in_default-Ok.is-1 c.finish.ensures)
 
 pub returns-in_default-Err : goal.returns-in_default-Err
 returns-in_default-Err g c =
     let said = listing_said (listing_of c.args.pieces) in
-    Tells-unhanded (g.K.Sink.told c.args.sink) (g.K.Sink.told c.list_stream.new.sink.0)
-    (g.K.Sink.told c.finish.result.0) c.list_stream.new.sink.1 c.requires
-    said c.list_stream.result c.in_default-Err.field-0-1 c.in_default.not-Outside
+    Tells-unhanded (g.K.Sink.told c.args.sink) (g.K.Sink.told c.print_listing.new.sink.0)
+    (g.K.Sink.told c.finish.result.0) c.print_listing.new.sink.1 c.requires
+    said c.print_listing.result c.in_default-Err.field-0-1 c.in_default.not-Outside
     (subst (λ s. Tells said (buffered_told (g.K.Sink.told s.0) s.1)
-    (buffered_told (g.K.Sink.told c.list_stream.new.sink.0) c.list_stream.new.sink.1)
-    c.list_stream.result)
-    c.in-Ok.ensures.ok c.list_stream.ensures)
-    (subst (λ r. Finishes (g.K.Sink.told c.list_stream.new.sink.0)
+    (buffered_told (g.K.Sink.told c.print_listing.new.sink.0) c.print_listing.new.sink.1)
+    c.print_listing.result)
+    c.in-Ok.ensures.ok c.print_listing.ensures)
+    (subst (λ r. Finishes (g.K.Sink.told c.print_listing.new.sink.0)
     (g.K.Sink.told c.finish.result.0)
-    c.list_stream.new.sink.1 r) c.in_default-Err.is-1 c.finish.ensures)
+    c.print_listing.new.sink.1 r) c.in_default-Err.is-1 c.finish.ensures)

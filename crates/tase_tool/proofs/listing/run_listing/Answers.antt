@@ -2,7 +2,7 @@ use Rattle.std.proofs.Common.{true, codes, subst}
 use Rattle.command_io.specs.Runs.{IsRun}
 use Rattle.command_io.specs.Saying.{duty_to_say}
 use Rattle.capture_text.specs.Captures.{capture_in}
-use Rattle.tase_tool.specs.Listing.{stream_said}
+use Rattle.capture_listing.specs.Listing.{stream_said}
 use Rattle.tase_tool.proofs.Duties.{IsRun-text, IsRun-refused_text, IsRun-text_outside}
 use Rattle.tase_tool.proofs.Duties.{IsRun-text_memory}
 use Rattle.tase_tool.proofs.listing.run_listing.Goals as goal

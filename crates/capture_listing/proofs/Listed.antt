@@ -8,9 +8,9 @@ use Rattle.command_io.specs.declared.status.Status.{Status}
 use Rattle.command_io.specs.declared.status.Status.TheVariants.{Done, Usage, Input, Outside, Memory}
 use Rattle.command_io.specs.Saying.{prints}
 use Rattle.command_io.specs.Runs.{Tells}
-use Rattle.stream_listing.specs.Listings.{Listing, State, listing_of, yet_listed, with_text}
+use Rattle.stream_listing.specs.Listings.{Listing, State, listing_of, yet_listed, with_text, ListsPiece}
 use Rattle.stream_listing.proofs.Listing.{with_text-twice}
-use Rattle.tase_tool.specs.Listing.{status_of, listing_said, ListsOn}
+use Rattle.capture_listing.specs.Listing.{status_of, listing_said, ListsOn}
 
 -- a listing is no answer to words that are no command
 pub lists_command : (listing : Listing) (k l : SinkTold) (status : Status)
@@ -76,3 +76,13 @@ Stands-stop octets lister piece rest left k m l status s is on =
     Stands-end octets lister left k m l status s
     (subst (λ (os : List ℕ). Tells (listing_said (yet_listed lister os)) m l status) (sym is)
     (on rest))
+
+-- a write of the lines of a piece that fails
+pub stopped_piece : (old next : State) (piece before text : List ℕ) (k l : SinkTold)
+    → ListsPiece old next piece before text → before ≡ [] → AppendsPart k l text true
+    → (more : List ℕ) → Tells (listing_said (yet_listed old (piece ++ more))) k l Outside
+stopped_piece old next piece before text k l lists none part more =
+    subst (λ (listing : Listing). AppendsPart k l listing.text true) (sym (lists.goes more))
+    (AppendsPart-front k l lists.added (yet_listed next more).text true
+    (subst (λ (os : List ℕ). AppendsPart k l os true)
+    (lists.is ∙ ap (λ (os : List ℕ). os ++ lists.added) none) part))
