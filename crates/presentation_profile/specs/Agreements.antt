@@ -1,6 +1,6 @@
 -- The contexts that both ends agree on.
-use Rattle.std.specs.Prelude.{◌≡◌, ◌≢◌, ℕ, ◌≤◌, Bool, ◌&&◌, ◌||◌, List, [], ◌∷◌, length, map, filter}
-use Rattle.std.specs.Prelude.{◌⊎◌, Result, Ok, Err, Option, Some, None, ◌↔◌, ◌==◌, if◌then◌else◌}
+use Rattle.std.specs.Prelude.{◌≡◌, ◌≢◌, ℕ, ◌≤◌, Bool, ◌&&◌, ◌||◌, List, [], ◌∷◌, length, map}
+use Rattle.std.specs.Prelude.{filter, ◌⊎◌, Result, Ok, Err, Option, Some, None, ◌↔◌, ◌==◌, if◌then◌else◌}
 use Rattle.std.specs.Str.{bytes_eq}
 use Rattle.presentation_profile.specs.declared.offers.Offered.{Offered}
 use Rattle.presentation_profile.specs.declared.agreement.Agreed.{Agreed}
@@ -74,8 +74,8 @@ pub record IsAgreement (contexts : List Offered) (result : Result Agreed Context
         ↔ ((NamesTwice contexts → ⊥) × (offers_of acse_name contexts ≢ [])
         × (offers_of mms_name contexts ≡ []))
 
--- what becomes of an offer, where contexts are agreed on: it is accepted where it is one of the two,
--- else the user rejects it
+-- what becomes of an offer, where contexts are agreed on: it is accepted where it is one of the
+-- two, else the user rejects it
 abbrev pub result_of : Offered → ℕ
 result_of o = if is_of acse_name o || is_of mms_name o then 0 else 1
 

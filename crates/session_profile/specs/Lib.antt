@@ -6,4 +6,3 @@ pub mod Counts
 pub mod Seen
 pub mod Spdus
 pub mod Writing
-pub mod Answers

@@ -9,8 +9,6 @@ ghost use Rattle.session_profile.specs.Parameters.{Parameter, BeginsParameters};
 ghost use Rattle.session_profile.specs.Rules.{SpellsAll};
 ghost use Rattle.session_profile.specs.Spdus.{SpellsSpdu, SpduFault};
 ghost use Rattle.session_profile.specs.Writing.{written_form, as_written, IsWritable};
-ghost use Rattle.session_profile.specs.Answers.{FinishIsWritten, ReleaseIsWritten, AbortIsWritten};
-ghost use Rattle.session_profile.specs.Answers.{RefusalIsWritten};
 
 /// Octets have one reading: exactly one holds, they spell exactly one SPDU, or they have exactly
 /// one first fault.
@@ -34,12 +32,4 @@ pub fn parameters_once()
 pub fn written_is_read()
     ensures { (spdu : Spdu) (body : List ℕ) → IsWritable spdu → length body ≤ MOST_BODY
         → SpellsSpdu (as_written spdu body) (written_form spdu body) }
-{}
-
-/// The fixed answers of ACSE, with ids of one to three octets, are written so.
-pub fn fixed_answers()
-    ensures finish { FinishIsWritten }
-    ensures release { ReleaseIsWritten }
-    ensures abort { AbortIsWritten }
-    ensures refusal { RefusalIsWritten }
 {}

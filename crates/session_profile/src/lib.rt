@@ -9,5 +9,5 @@ mod parameter;
 mod spdu;
 
 pub use fault::SessionFault;
-pub use laws::{fixed_answers, one_reading, parameters_once, written_is_read};
+pub use laws::{one_reading, parameters_once, written_is_read};
 pub use spdu::{MOST_BODY, Spdu, read_spdu, write_spdu};

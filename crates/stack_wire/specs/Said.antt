@@ -1,13 +1,16 @@
 -- What the octets that go out for a TSDU say.
-use Rattle.std.specs.Prelude.{ℕ, ◌<◌, ◌≤◌, List, length}
+use Rattle.std.specs.Prelude.{ℕ, ◌≤◌, List, length}
 use Rattle.tpkt_cotp.specs.declared.limits.TheConstants.{TSDU_LIMIT}
 use Rattle.tpkt_cotp.specs.declared.turn.Turn.TheVariants.{Transfer}
 use Rattle.tpkt_cotp.specs.Streams.{tsdu, capped, SpellsMessage}
 use Rattle.tpkt_cotp.specs.Written.{wire}
 
+-- as many octets as a TSDU may have
+abbrev pub IsTsdu : List ℕ → Type 0
+IsTsdu octets = (1 ≤ length octets) × (length octets ≤ TSDU_LIMIT)
+
 -- it is a TSDU, and cut at any size, its octets are this message, at any place
 pub record IsSaid (octets : List ℕ) : Type 0 where
-  pub some : 0 < length octets
-  pub few : length octets ≤ TSDU_LIMIT
+  pub fits : IsTsdu octets
   pub said : (size at : ℕ) → 128 ≤ size
       → SpellsMessage Transfer at (tsdu (capped at) octets) (wire size octets)

@@ -22,8 +22,8 @@ pub struct Setup {
     pub mms: u32,
 }
 
-/// The most octets of a TPDU, where this power of two was offered or none was (ISO 8073, TPDU size):
-/// at most 1,024.
+/// The most octets of a TPDU, where this power of two was offered or none was (ISO 8073, TPDU
+/// size): at most 1,024.
 pub fn cut_size(offered: Option<u8>) -> u16
     requires { IfSome offered (λ power. (7 ≤ power) × (power ≤ 13)) }
     ensures value { result ≡ cut_size offered }

@@ -34,7 +34,8 @@ parts_joined full (p ∷ ps) last each =
     ap (λ (os : List ℕ). take full os) split ∙ take_at p (joined ps ++ last) full each.0 in
     let rest : drop full ((p ++ joined ps) ++ last) ≡ joined ps ++ last =
     ap (λ (os : List ℕ). drop full os) split ∙ drop_at p (joined ps ++ last) full each.0 in
-    ap (λ (os : List ℕ). os ∷ parts_of (length ps) full (drop full ((p ++ joined ps) ++ last))) first
+    ap (λ (os : List ℕ). os ∷ parts_of (length ps) full (drop full ((p ++ joined ps) ++ last)))
+    first
     ∙ ap (λ (os : List ℕ). p ∷ parts_of (length ps) full os) rest
     ∙ ap (λ (qs : List (List ℕ)). p ∷ qs) (parts_joined full ps last each.1)
 

@@ -1,0 +1,156 @@
+//! Long PDUs as data: cut in TPKTs, and said as they were.
+ghost use Rattle.std.specs.Prelude.{◌≡◌, ◌<◌, ◌≤◌, true, length, All, IfOk};
+ghost use Rattle.mms_services.specs.Lawful.{IsLawfulPdu};
+ghost use Rattle.mms_services.specs.PduOctets.{IsWritable};
+ghost use Rattle.tpkt_cotp.specs.declared.limits.TheConstants.{PIECE_LIMIT};
+
+use super::before;
+use mms_services::{MmsPdu, pdu_len, read_pdu};
+use stack_wire::write_data;
+use std::alloc::{AllocError, Global};
+use std::test::*;
+use tpkt_cotp::{Heard, Role, TransportIn, read_stream, write_cr};
+
+/// The head of an element with a length of two octets.
+fn put_head(out: &mut Vec<u8>, tag: u8, len: u16) -> Result<(), AllocError> {
+    out.extend_from_slice(&[tag, 0x82, (len / 256) as u8, (len % 256) as u8])
+}
+
+/// A response to the request 1, which read one octet string of `len` octets: `len` + 19 octets.
+fn response(alloc: Global, len: u16) -> Result<Vec<u8>, AllocError>
+    requires { len < 65000 }
+{
+    let mut out = Vec::new(alloc);
+    put_head(&mut out, 0xA1, len + 15)?;
+    out.extend_from_slice(&[2, 1, 1])?;
+    put_head(&mut out, 0xA4, len + 8)?;
+    put_head(&mut out, 0xA1, len + 4)?;
+    put_head(&mut out, 0x89, len)?;
+    for _ in 0..len {
+        out.push(7)?;
+    }
+    Ok(out)
+}
+
+/// The TSDU of that response in the context 3: `len` + 38 octets.
+fn tsdu(alloc: Global, len: u16) -> Result<Vec<u8>, AllocError>
+    requires { len < 65000 }
+{
+    let mut out = Vec::new(alloc);
+    out.extend_from_slice(&[1, 0, 1, 0])?;
+    put_head(&mut out, 0x61, len + 30)?;
+    put_head(&mut out, 0x30, len + 26)?;
+    out.extend_from_slice(&[2, 1, 3])?;
+    put_head(&mut out, 0xA0, len + 19)?;
+    let pdu = response(alloc, len)?;
+    out.extend_from_slice(pdu.as_slice())?;
+    Ok(out)
+}
+
+fn is_response(pdu: &MmsPdu) -> bool
+    requires { IsLawfulPdu pdu.now }
+    ensures { (result ≡ true) → IsWritable pdu.now }
+{
+    match pdu {
+        MmsPdu::Response { .. } => true,
+        _ => false,
+    }
+}
+
+/// The response as it goes out in TPDUs of this size; where memory ran out, what was there before
+/// is as it was, and it is said again.
+fn said(alloc: Global, len: u16, size: u16) -> Result<Vec<u8>, Fail>
+    requires len { len < 65000 }
+    requires sized { (128 ≤ size) × (size ≤ 1024) }
+{
+    let octets = response(alloc, len)?;
+    let pdu = read_pdu(alloc, octets.as_slice())?.ok().ok_or("a PDU")?;
+    if !is_response(&pdu) {
+        return Err("no response".into());
+    }
+    if pdu_len(&pdu) > 65_000 {
+        return Err("a long PDU".into());
+    }
+    let mut out = before(alloc)?;
+    if write_data(alloc, &mut out, size, 3, &pdu).is_err() {
+        if out.as_slice() != b"out".as_slice() {
+            return Err("not as before".into());
+        }
+        write_data(alloc, &mut out, size, 3, &pdu)?;
+    }
+    Ok(out)
+}
+
+/// A stream of a connect request and these octets, in one piece.
+fn heard(alloc: Global, octets: &[u8]) -> Result<Heard, Fail> {
+    let mut stream = Vec::new(alloc);
+    write_cr(&mut stream, 1)?;
+    stream.extend_from_slice(octets)?;
+    if stream.len() > 65_536 {
+        return Err("a long stream".into());
+    }
+    let mut pieces = Vec::new(alloc);
+    pieces.push(stream)?;
+    Ok(read_stream(alloc, Role::Called, pieces.as_slice())?)
+}
+
+/// The seven octets from a place on, or none.
+fn seven_at(octets: &[u8], at: usize) -> &[u8] {
+    if at <= octets.len() && 7 <= octets.len() - at {
+        &octets[at..at + 7]
+    } else {
+        &[]
+    }
+}
+
+/// Octets of a string, the size of TPDUs, the octets that go out behind three, and the place and
+/// the head of the last TPKT.
+const ROWS: [(u16, u16, usize, usize, [u8; 7]); 4] = [
+    (2_962, 1024, 3_024, 2_059, [3, 0, 0x03, 0xC5, 2, 0xF0, 0x80]),
+    (2_962, 128, 3_171, 3_039, [3, 0, 0x00, 0x84, 2, 0xF0, 0x80]),
+    (2_963, 128, 3_179, 3_171, [3, 0, 0x00, 0x08, 2, 0xF0, 0x80]),
+    (
+        64_981,
+        1024,
+        65_470,
+        64_767,
+        [3, 0, 0x02, 0xBF, 2, 0xF0, 0x80],
+    ),
+];
+
+#[test]
+fn long_data(rt: HostRuntime) -> Result<(), Fail> {
+    for (len, size, all, last, head) in ROWS {
+        if len < 65_000 && 128 <= size && size <= 1024 {
+            let out = said(rt.alloc(), len, size)?;
+            assert_eq!(rt; out.len(), all, "{len} {size}");
+            assert_eq!(rt;
+                seven_at(out.as_slice(), last),
+                head.as_slice(),
+                "{len} {size}"
+            );
+        }
+    }
+    Ok(())
+}
+
+#[test]
+fn long_data_is_said(rt: HostRuntime) -> Result<(), Fail> {
+    for (len, size, _, _, _) in ROWS {
+        if len < 65_000 && 128 <= size && size <= 1024 {
+            let out = said(rt.alloc(), len, size)?;
+            let wanted = tsdu(rt.alloc(), len)?;
+            let (_, octets) = out.as_slice().split_at(3.min(out.len()));
+            let heard = heard(rt.alloc(), octets)?;
+            let [TransportIn::Connect(_), TransportIn::Tsdu { place, octets }] = heard
+                .messages
+                .as_slice()
+            else {
+                return Err("no TSDU".into());
+            };
+            assert_eq!(rt; *place, 22);
+            assert_eq!(rt; octets.as_slice(), wanted.as_slice(), "{len} {size}");
+        }
+    }
+    Ok(())
+}

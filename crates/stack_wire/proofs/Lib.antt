@@ -1,0 +1,5 @@
+pub mod Sizes
+pub mod Fits
+pub mod Fixed
+pub mod Layered
+mod Worked
