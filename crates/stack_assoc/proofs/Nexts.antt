@@ -28,7 +28,7 @@ use Rattle.stack_assoc.specs.Tellings.{TellsNext, BreaksNext, Tell, Tells, Stops
 use Rattle.stack_assoc.specs.Handing.{heard_in, stack_in, handed_out, answer_to, answers_to}
 use Rattle.stack_assoc.specs.Knowing.{expecting_by}
 use Rattle.stack_assoc.specs.Taking.{opening_told, opened, opening_listed, owed_octets, Says}
-use Rattle.stack_assoc.specs.Courses.{Course, listed, taken, Stands, standing_with, standing_behind}
+use Rattle.stack_assoc.specs.Courses.{Course, listed, taken, Reads, Stands, standing_with, standing_behind}
 use Rattle.stack_assoc.specs.Courses.{is_offered, IsSettled, Goes, NothingLeft, Answers}
 use Rattle.stack_assoc.specs.Steps.{LeavesOff, HasRest, HasBroken, Takes, IsThere, told_with, told_answer}
 use Rattle.stack_assoc.proofs.KnowingMore.{since_more, expecting_known}
@@ -301,3 +301,37 @@ next_right role octets told old v out written came said clear stood free takes w
       free = free;
       answered = wrote;
     }) refl takes.leaves takes.there says
+
+-- ---- nothing more is taken
+
+goes_nowhere : (role : Role) (octets : List ℕ) (told : List Told) (v : Course) (out : List ℕ)
+    → Stands role octets told v → Goes role octets told [] v out v out
+goes_nowhere role octets told v out s =
+    let P : List Told → Type 0 = λ ts. Stands role octets ts v in
+    record {
+      stands = subst P (sym (append-nil told)) s;
+      standing = refl;
+      answered = sym (append-nil out);
+    }
+
+-- the same fault again
+pub answers_again : (role : Role) (octets : List ℕ) (told : List Told) (v : Course)
+    (out : List ℕ) (f : StackFault) → v.fault ≡ Some f → Stands role octets told v
+    → Answers role octets told v out (Err f) v out
+answers_again role octets told v out f some s =
+    let stops : Stops role octets told f = subst (λ (o : Option StackFault). MatchOption o
+    (Reads role octets told v) (λ g. Stops role octets told g)) some s.reads in
+    let P : List Told → Type 0 = λ ts. Stops role octets ts f in
+    ([], goes_nowhere role octets told v out s, refl, subst P (sym (append-nil told)) stops)
+
+abbrev nothing_later : List Told
+nothing_later = []
+
+-- an offer stands unanswered
+pub answers_offered : (role : Role) (octets : List ℕ) (told : List Told) (v : Course)
+    (out : List ℕ) → is_offered v.standing ≡ true → Stands role octets told v
+    → Answers role octets told v out (Ok None) v out
+answers_offered role octets told v out offered s =
+    ([], goes_nowhere role octets told v out s, refl,
+    subst (λ (x : Bool). MatchBool x (nothing_later ≡ [])
+    (((rest : List ℕ) × Tells role octets (told ++ []) rest) × IsSettled v)) (sym offered) refl)

@@ -18,7 +18,8 @@ use Rattle.stack_assoc.specs.Expectations.{setup_after}
 use Rattle.stack_assoc.specs.Tellings.{Tell, Stops, transport_fault}
 use Rattle.stack_assoc.specs.Knowing.{Knows}
 use Rattle.stack_assoc.specs.Taking.{opening_seen, opening_told, opened, opening_listed}
-use Rattle.stack_assoc.specs.Courses.{Course, listed, taken, Reads, Stands}
+use Rattle.stack_assoc.specs.declared.standing.Standing.{Standing}
+use Rattle.stack_assoc.specs.Courses.{Course, listed, taken, Reads, Stands, state_of, state_with}
 use Rattle.stack_assoc.specs.Steps.{opened_with, TakesOne, Takes, IsTaken, IsBegun, Untold}
 use Rattle.stack_assoc.specs.Steps.{FewerLeft, IsEmpty}
 use Rattle.stack_assoc.proofs.FrontsKept.{stands_front}
@@ -276,3 +277,7 @@ pub fewer_then : (old mid new : Course) (came : Came) → FewerLeft cames.Messag
 fewer_then old mid new cames.Message a b = omega (arith, a, b)
 fewer_then old mid new cames.Nothing a b = tt
 fewer_then old mid new (cames.Fault f) a b = tt
+
+pub untold_state : (old new : Course) → Untold old new → state_of new ≡ state_of old
+untold_state old new u = ap (λ (f : Option StackFault). state_with f new.standing) u.fault
+    ∙ ap (λ (s : Standing). state_with old.fault s) u.standing

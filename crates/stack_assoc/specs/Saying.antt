@@ -1,7 +1,6 @@
 -- What an end is once it has said something.
 use Rattle.std.specs.Prelude.{ℕ, Bool, true, false, List, length, Option, Some, None}
 use Rattle.mms_services.specs.declared.pdu.MmsPdu.{MmsPdu}
-use Rattle.mms_services.specs.declared.pdu.MmsPdu.TheVariants as pdus
 use Rattle.stack_messages.specs.declared.expecting.Side.{Side}
 use Rattle.stack_messages.specs.declared.expecting.Side.TheVariants as sides
 use Rattle.stack_messages.specs.declared.fault.StackFault.{StackFault}
@@ -9,24 +8,38 @@ use Rattle.stack_wire.specs.Tsdus.{finish_tsdu, release_tsdu}
 use Rattle.stack_assoc.specs.declared.known.Known.{Known}
 use Rattle.stack_assoc.specs.declared.standing.Standing.{Standing}
 use Rattle.stack_assoc.specs.declared.standing.Standing.TheVariants as standings
-use Rattle.stack_assoc.specs.Told.{Told, Role, called, calling}
+use Rattle.stack_assoc.specs.Told.{Told, Role, called, calling, is_conclude_pdu}
 use Rattle.stack_assoc.specs.Courses.{Course}
 
 abbrev pub with_standing : Standing → Course → Course
 with_standing standing v = record v { standing = standing }
 
 -- conclude of the calling end is remembered
-abbrev pub known_said : Side → MmsPdu → Known → Known
-known_said sides.Calling pdus.Conclude k = record k { said = true }
-known_said _ _ k = k
+abbrev pub known_concluding : Side → Known → Known
+known_concluding sides.Calling k = record k { said = true }
+known_concluding _ k = k
+
+abbrev pub known_said : Bool → Known → Known
+known_said true k = known_concluding k.side k
+known_said false k = k
+
+abbrev pub is_conclude : MmsPdu → Bool
+is_conclude pdu = is_conclude_pdu (Some pdu)
 
 abbrev pub with_said : MmsPdu → Course → Course
-with_said pdu v = record v { known = known_said v.known.side pdu v.known }
+with_said pdu v = record v { known = known_said (is_conclude pdu) v.known }
 
 -- the first conclude of the calling end was said after so many messages
+abbrev pub role_concluding : Role → List Told → Role
+role_concluding (calling title None) told = calling title (Some (length told))
+role_concluding role told = role
+
+abbrev pub role_by : Bool → Role → List Told → Role
+role_by true role told = role_concluding role told
+role_by false role told = role
+
 abbrev pub role_said : Role → List Told → MmsPdu → Role
-role_said (calling title None) told pdus.Conclude = calling title (Some (length told))
-role_said role told pdu = role
+role_said role told pdu = role_by (is_conclude pdu) role told
 
 -- the calling end may ask for the release; the called end may answer once that was read
 abbrev pub may_leave : Side → Standing → Option StackFault → Bool

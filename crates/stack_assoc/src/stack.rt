@@ -171,7 +171,7 @@ impl Stack {
         }
         let came = self.take()?;
         let said = self.read()?;
-        self.answer(out)?;
-        Ok(self.tell(came, said))
+        let done = self.answer(out);
+        self.tell_once(done, came, said)
     }
 }
