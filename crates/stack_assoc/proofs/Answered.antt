@@ -192,7 +192,7 @@ told_one t standing v = record v {
   standing = standing;
 }
 
-told_stands : (role : Role) (octets : List ℕ) (told : List Told) (v : Course) (t : Told)
+pub told_stands : (role : Role) (octets : List ℕ) (told : List Told) (v : Course) (t : Told)
     (m : Message) (standing : Standing) → v.fault ≡ None → Stands role octets told (answered v)
     → v.held ≡ Some m → TellsNext role told t m
     → Stands role octets (told ++ t ∷ []) (told_one t standing (answered v))
@@ -216,7 +216,7 @@ told_stands role octets told v t m standing none s is tells =
     }
 
 -- a message that breaks a rule
-broken_stops : (role : Role) (octets : List ℕ) (told : List Told) (v : Course) (m : Message)
+pub broken_stops : (role : Role) (octets : List ℕ) (told : List Told) (v : Course) (m : Message)
     (f : StackFault) → v.fault ≡ None → Stands role octets told (answered v) → v.held ≡ Some m
     → BreaksNext role told m f → Stops role octets told f
 broken_stops role octets told v m f none s is breaks =
@@ -233,7 +233,7 @@ broken_stops role octets told v m f none s is breaks =
     })
 
 -- with a rule broken
-stopped_stands : (role : Role) (octets : List ℕ) (told : List Told) (v : Course)
+pub stopped_stands : (role : Role) (octets : List ℕ) (told : List Told) (v : Course)
     (held : Option Message) (f : StackFault) → Stands role octets told (answered v)
     → Stops role octets told f
     → Stands role octets told (record (answered v) { held = held; fault = Some f })

@@ -22,7 +22,7 @@ use Rattle.stack_assoc.specs.declared.taken.Came.TheVariants as cames
 use Rattle.stack_assoc.specs.declared.taken.Said.{Said}
 use Rattle.stack_assoc.specs.declared.taken.Said.TheVariants as saids
 use Rattle.stack_assoc.specs.Told.{Told, heard, Role, called, calling, end_of}
-use Rattle.stack_assoc.specs.Told as told
+use Rattle.stack_assoc.specs.Told as tellings
 use Rattle.stack_assoc.specs.Expectations.{expecting_after}
 use Rattle.stack_assoc.specs.Tellings.{TellsNext, BreaksNext, Tell, Tells, Stops}
 use Rattle.stack_assoc.specs.Handing.{heard_in, stack_in, handed_out, answer_to, answers_to}
@@ -74,7 +74,7 @@ quiet_heard : (h : Heard) → IsQuiet (heard h)
 quiet_heard h called = refl
 quiet_heard h (calling title said) = refl
 
-quiet_gone : IsQuiet told.gone
+quiet_gone : IsQuiet tellings.gone
 quiet_gone called = refl
 quiet_gone (calling title said) = refl
 
@@ -130,9 +130,9 @@ answers_gone : (role : Role) (octets : List ℕ) (told : List Told) (old v : Cou
     → Answers role octets told old out (told_answer came saids.Gone)
     (told_with came saids.Gone (answered v)) written
 answers_gone role octets told old v out written came b is = (
-  opened v.owed ++ told.gone ∷ [],
-  goes_one role octets told old v told.gone gone standings.Closed out written b quiet_gone is tt refl,
-  one_handed v.owed told.gone,
+  opened v.owed ++ tellings.gone ∷ [],
+  goes_one role octets told old v tellings.gone gone standings.Closed out written b quiet_gone is tt refl,
+  one_handed v.owed tellings.gone,
 )
 
 answers_heard : (role : Role) (octets : List ℕ) (told : List Told) (old v : Course)

@@ -79,13 +79,13 @@ following_placed ms owed None m a = append_assoc ms (opening_listed owed ++ []) 
     ∙ ap (λ (xs : List Message). ms ++ (xs ++ m ∷ [])) (append-nil (opening_listed owed))
 following_placed ms owed (Some n) m a = absurd cc
 
-known_alone : (role : Role) (told : List Told) (owed : Option Opening) (k : Known) → owed ≡ None
+pub known_alone : (role : Role) (told : List Told) (owed : Option Opening) (k : Known) → owed ≡ None
     → Knows role (told ++ opened owed) k → Knows role told k
 known_alone role told None k e s =
     let P : List Told → Type 0 = λ ts. Knows role ts k in subst P (append-nil told) s
 known_alone role told (Some o) k e s = absurd cc
 
-setup_alone : (told : List Told) (owed : Option Opening) (s : Setup) → owed ≡ None
+pub setup_alone : (told : List Told) (owed : Option Opening) (s : Setup) → owed ≡ None
     → s ≡ setup_after (told ++ opened owed) → s ≡ setup_after told
 setup_alone told None s e is = is ∙ ap setup_after (append-nil told)
 setup_alone told (Some o) s e is = absurd cc

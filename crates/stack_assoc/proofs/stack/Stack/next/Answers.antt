@@ -38,9 +38,9 @@ returns-clause-ok c = λ role octets told s.
     let said = c.in_ok-said.said in
     let right = c.args.out.now.items ++ owed_octets v.known.side v.owed v.setup.size v.title in
     told_done (λ answer new written. Answers role octets told c.args.self.now
-    c.args.out.now.items answer new written) c.answer.result c.tell_once.result
-    (told_answer came said) (answered v) c.answer.new.self c.tell_once.new.self (told_with came said)
-    c.answer.new.out.items right c.answer.ensures.ok c.answer.ensures.out
+    c.args.out.now.items answer new written) c.answer-done.result c.tell_once.result
+    (told_answer came said) (answered v) c.answer-done.new.self c.tell_once.new.self (told_with came said)
+    c.answer-done.new.out.items right c.answer-done.ensures.ok c.answer-done.ensures.out
     c.tell_once.ensures.course c.tell_once.ensures.answer c.tell_once.ensures.memory
     (next_right role octets told c.args.self.now v c.args.out.now.items right came said
     (c.in_ok-came.ensures.untold.fault
@@ -56,28 +56,28 @@ returns-clause-shorter c =
     let came = c.in_ok-came.came in
     let said = c.in_ok-said.said in
     told_done (λ answer new written. IfOk answer (λ input. OnSome input
-    (left_of new < left_of c.args.self.now))) c.answer.result c.tell_once.result
-    (told_answer came said) (answered v) c.answer.new.self c.tell_once.new.self (told_with came said)
-    c.answer.new.out.items _ c.answer.ensures.ok c.answer.ensures.out
+    (left_of new < left_of c.args.self.now))) c.answer-done.result c.tell_once.result
+    (told_answer came said) (answered v) c.answer-done.new.self c.tell_once.new.self (told_with came said)
+    c.answer-done.new.out.items _ c.answer-done.ensures.ok c.answer-done.ensures.out
     c.tell_once.ensures.course c.tell_once.ensures.answer c.tell_once.ensures.memory
     (less_left c.args.self.now v came said (expecting_by v.known v.setup.acse v.setup.mms)
     c.in_ok-came.ensures.fewer c.in_ok-came.ensures.empty c.in_ok-said.ensures.says)
 
 pub returns-clause-kept : goal.returns-clause-kept
 returns-clause-kept c = λ role octets told s.
-    kept_done (λ v. Stands role octets told v) c.answer.result c.tell_once.result
-    (told_answer c.in_ok-came.came c.in_ok-said.said) c.take.new.self c.answer.new.self
-    c.tell_once.new.self c.tell_once.ensures.answer c.answer.ensures.err c.tell_once.ensures.same
+    kept_done (λ v. Stands role octets told v) c.answer-done.result c.tell_once.result
+    (told_answer c.in_ok-came.came c.in_ok-said.said) c.take.new.self c.answer-done.new.self
+    c.tell_once.new.self c.tell_once.ensures.answer c.answer-done.ensures.err c.tell_once.ensures.same
     (c.in_ok-came.ensures.ok role octets told s).stands
 
 pub returns-clause-state : goal.returns-clause-state
 returns-clause-state c =
-    kept_done (λ v. state_of v ≡ state_of c.args.self.now) c.answer.result c.tell_once.result
-    (told_answer c.in_ok-came.came c.in_ok-said.said) c.take.new.self c.answer.new.self
-    c.tell_once.new.self c.tell_once.ensures.answer c.answer.ensures.err c.tell_once.ensures.same
+    kept_done (λ v. state_of v ≡ state_of c.args.self.now) c.answer-done.result c.tell_once.result
+    (told_answer c.in_ok-came.came c.in_ok-said.said) c.take.new.self c.answer-done.new.self
+    c.tell_once.new.self c.tell_once.ensures.answer c.answer-done.ensures.err c.tell_once.ensures.same
     (untold_state c.args.self.now c.take.new.self c.in_ok-came.ensures.untold)
 
 pub returns-clause-out : goal.returns-clause-out
-returns-clause-out c = out_done c.answer.result c.tell_once.result
-    (told_answer c.in_ok-came.came c.in_ok-said.said) c.answer.new.out.items c.args.out.now.items
-    c.tell_once.ensures.answer c.answer.ensures.same
+returns-clause-out c = out_done c.answer-done.result c.tell_once.result
+    (told_answer c.in_ok-came.came c.in_ok-said.said) c.answer-done.new.out.items c.args.out.now.items
+    c.tell_once.ensures.answer c.answer-done.ensures.same
