@@ -2,3 +2,11 @@ pub mod FrontsKept
 pub mod TurnLaws
 pub mod KnowingMore
 pub mod Readings
+pub mod StreamLaws
+pub mod Openings
+pub mod StepsTaken
+pub mod Answered
+pub mod Nexts
+pub mod SaidMore
+pub mod Shorter
+pub mod Results

@@ -8,3 +8,4 @@ pub mod Knowing
 pub mod Taking
 pub mod Courses
 pub mod Steps
+pub mod Saying

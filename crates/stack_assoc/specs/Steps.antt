@@ -29,17 +29,16 @@ use Rattle.stack_assoc.specs.Taking.{opening_told, results_heard}
 use Rattle.stack_assoc.specs.Courses.{Course, taken, Stands, standing_with}
 
 -- at the start of a stream
-pub record IsNew (side : Side) (role : tpkt.Role) (title : Option (List ℕ)) (v : Course) : Type 0
-  where
-    pub title : v.title ≡ title
-    pub line : lines.Stands role [] [] v.line
-    pub settled : lines.IsSettled v.line
-    pub owed : v.owed ≡ None
-    pub held : v.held ≡ None
-    pub known : v.known ≡ nothing_known side
-    pub setup : v.setup ≡ setup_by 1024 None
-    pub standing : v.standing ≡ standings.Waiting
-    pub fault : v.fault ≡ None
+pub record IsNew (side : Side) (end : tpkt.Role) (own : Option (List ℕ)) (v : Course) : Type 0 where
+  pub title : v.title ≡ own
+  pub line : lines.Stands end [] [] v.line
+  pub settled : lines.IsSettled v.line
+  pub owed : v.owed ≡ None
+  pub held : v.held ≡ None
+  pub known : v.known ≡ nothing_known side
+  pub setup : v.setup ≡ setup_by 1024 None
+  pub standing : v.standing ≡ standings.Waiting
+  pub fault : v.fault ≡ None
 
 -- an opening more
 abbrev pub opened_with : Opening → Course → Course
@@ -57,28 +56,22 @@ one_if (Some m) = 1
 abbrev pub left_of : Course → ℕ
 left_of v = length v.line.unread + one_if v.held
 
--- but for the transport all is as it was
-pub record OnlyReads (old new : Course) : Type 0 where
-  pub title : new.title ≡ old.title
-  pub owed : new.owed ≡ old.owed
-  pub held : new.held ≡ old.held
-  pub known : new.known ≡ old.known
-  pub setup : new.setup ≡ old.setup
-  pub standing : new.standing ≡ old.standing
-  pub fault : new.fault ≡ old.fault
-
--- a message was taken, and nothing was told
-pub record OnlyTakes (old new : Course) : Type 0 where
+-- nothing was told
+pub record Untold (old new : Course) : Type 0 where
   pub title : new.title ≡ old.title
   pub side : new.known.side ≡ old.known.side
   pub standing : new.standing ≡ old.standing
   pub fault : new.fault ≡ old.fault
-  pub fewer : left_of new ≤ left_of old
 
-abbrev pub Moves : Course → Came → Course → Type 0
-Moves old cames.Message new = OnlyTakes old new
-Moves old cames.Nothing new = OnlyReads old new
-Moves old (cames.Fault f) new = OnlyReads old new
+-- where a message came, no more is left to be read
+abbrev pub FewerLeft : Came → Course → Course → Type 0
+FewerLeft cames.Message old new = left_of new ≤ left_of old
+FewerLeft _ old new = Unit {0}
+
+-- where none came, there is none to be read
+abbrev pub IsEmpty : Came → Course → Type 0
+IsEmpty cames.Message v = Unit {0}
+IsEmpty _ v = v.held ≡ None
 
 -- all messages so far were taken, and then there is a rest
 pub record HasRest (role : Role) (octets : List ℕ) (told : List Told) (v : Course) : Type 0 where
@@ -112,6 +105,10 @@ pub record TakesOne (role : Role) (octets : List ℕ) (told : List Told) (old : 
   pub stands : Stands role octets told new
   pub leaves : LeavesOff role octets told came new
   pub taken : IsTaken old came new
+
+-- a message was taken: one to be read, or the opening
+abbrev pub IsBegun : Course → Type 0
+IsBegun v = IsSome v.held ⊎ IsSome v.owed
 
 -- the next message to be read was taken
 abbrev pub IsThere : Came → Course → Type 0

@@ -13,6 +13,7 @@ use Rattle.stack_messages.specs.declared.expecting.Side.TheVariants as sides
 use Rattle.stack_messages.specs.declared.fault.StackFault.{StackFault}
 use Rattle.stack_messages.specs.declared.heard.Heard.{Heard}
 use Rattle.stack_messages.specs.declared.heard.Heard.TheVariants as heards
+use Rattle.stack_messages.specs.Meanings.{Meaning}
 use Rattle.stack_messages.specs.Messages.{message}
 use Rattle.stack_wire.specs.Tsdus.{connect_tsdu}
 use Rattle.stack_assoc.specs.declared.taken.Opening.{Opening}
@@ -52,13 +53,17 @@ abbrev pub results_heard : Heard → List ℕ
 results_heard (heards.Connect c) = results_of c.contexts
 results_heard _ = []
 
+-- what a TSDU says
+abbrev pub SaysOf : Meaning Heard → Said → Type 0
+SaysOf m (saids.Heard h results) = m.says h
+SaysOf m (saids.Broken f) = m.breaks f
+SaysOf m _ = ⊥
+
 -- what a message says
 abbrev pub Says : Expecting → Option Message → Said → Type 0
 Says e None saids.Nothing = Unit {0}
 Says e (Some transport.gone) saids.Gone = Unit {0}
-Says e (Some (tsdu place octets)) (saids.Heard h results) =
-    (message e octets).says h × (results ≡ results_heard h)
-Says e (Some (tsdu place octets)) (saids.Broken f) = (message e octets).breaks f
+Says e (Some (tsdu place octets)) said = SaysOf (message e octets) said
 Says e _ _ = ⊥
 
 -- the octets that answer an opening

@@ -3,12 +3,15 @@
 
 mod input;
 mod known;
+mod laws;
 mod offer;
+mod saying;
 mod stack;
 mod standing;
 mod taken;
 mod taking;
 mod telling;
 
+pub use laws::saying_takes_nothing;
 pub use input::{StackIn, StackState};
 pub use stack::Stack;

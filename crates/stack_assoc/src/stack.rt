@@ -19,7 +19,7 @@ use stack_messages::{Side, StackFault};
 use stack_wire::Setup;
 use std::alloc::{AllocError, Global};
 use std::marker::Model;
-use tpkt_cotp::{Role, Transport, write_cr};
+use tpkt_cotp::{Transport, write_cr};
 
 /// An end of an association. It holds at most one TSDU more than its transport.
 #[derive(Drop)]
@@ -73,13 +73,13 @@ fn first_setup(alloc: Global) -> Setup
 }
 
 impl Stack {
-    fn new(alloc: Global, role: Role, side: Side, title: Option<Oid>) -> Stack
-        ensures { IsNew side role title result }
+    fn new(alloc: Global, end: tpkt_cotp::Role, side: Side, title: Option<Oid>) -> Stack
+        ensures { IsNew side end title result }
     {
         Stack {
             alloc,
             title,
-            transport: Transport::new(alloc, role),
+            transport: Transport::new(alloc, end),
             owed: None,
             held: None,
             known: Known::new(side),
@@ -94,7 +94,7 @@ impl Stack {
         ensures { IfOk result (λ stack. Stands called [] [] stack × IsSettled stack
             × (state_of stack ≡ states.Waiting)) }
     {
-        Ok(Stack::new(alloc, Role::Called, Side::Called, None))
+        Ok(Stack::new(alloc, tpkt_cotp::Role::Called, Side::Called, None))
     }
 
     /// The calling end, at the start of a stream, with its title, if it has one. It appends its
@@ -110,7 +110,7 @@ impl Stack {
         ensures err { OnErr result (out.new.items ≡ out.old.items) }
     {
         write_cr(out, 1)?;
-        Ok(Stack::new(alloc, Role::Calling, Side::Calling, title))
+        Ok(Stack::new(alloc, tpkt_cotp::Role::Calling, Side::Calling, title))
     }
 
     /// How far the association has come.
@@ -171,7 +171,7 @@ impl Stack {
         }
         let came = self.take()?;
         let said = self.read()?;
-        self.answer(out)?;
-        Ok(self.tell(came, said))
+        let done = self.answer(out);
+        self.tell_once(done, came, said)
     }
 }

@@ -4,12 +4,15 @@ ghost use Rattle.tpkt_cotp.specs.Sound.{IsSound};
 ghost use Rattle.stack_assoc.specs.Told.{Told, Role};
 ghost use Rattle.stack_assoc.specs.Tellings.{transport_fault};
 ghost use Rattle.stack_assoc.specs.Knowing.{expecting_by};
-ghost use Rattle.stack_assoc.specs.Taking.{opening_seen, owed_octets, Says};
+ghost use Rattle.stack_messages.specs.Messages.{message};
+ghost use Rattle.stack_assoc.specs.Taking.{opening_seen, owed_octets, Says, SaysOf};
 ghost use Rattle.stack_assoc.specs.Courses.{Stands};
-ghost use Rattle.stack_assoc.specs.Steps.{opened_with, Moves, TakesOne, Takes, IsTellable};
+ghost use Rattle.stack_assoc.specs.Steps.{opened_with, TakesOne, Takes, IsTellable};
+ghost use Rattle.stack_assoc.specs.Steps.{Untold, FewerLeft, IsEmpty};
+ghost use Rattle.stack_assoc.specs.Steps.{IsBegun};
 
 use crate::stack::Stack;
-use crate::taken::{Came, Following, Opening, Said, results_heard};
+use crate::taken::{Came, Following, Opening, Said, is_modest, results_heard};
 use stack_messages::{Layer, Side, StackFault, read_message};
 use stack_wire::{cut_size, write_connect};
 use std::alloc::AllocError;
@@ -44,7 +47,9 @@ impl Stack {
         ensures ok { (role : Role) (octets : List ℕ) (told : List Told)
             → Stands role octets told self.old → self.old.fault ≡ None
             → IfOk result (λ came. TakesOne role octets told self.old came self.new) }
-        ensures moves { IfOk result (λ came. Moves self.old came self.new) }
+        ensures untold { Untold self.old self.new }
+        ensures fewer { IfOk result (λ came. FewerLeft came self.old self.new) }
+        ensures empty { IfOk result (λ came. IsEmpty came self.new) }
         ensures err { OnErr result (self.new ≡ self.old) }
     {
         match self.transport.next()? {
@@ -75,11 +80,11 @@ impl Stack {
         ensures ok { (role : Role) (octets : List ℕ) (told : List Told)
             → Stands role octets told self.old
             → IfOk result (λ came. Takes role octets told came self.new) }
-        ensures moves { IfOk result (λ came. Moves self.old came self.new) }
         ensures kept { (role : Role) (octets : List ℕ) (told : List Told)
             → Stands role octets told self.old → OnErr result (Stands role octets told self.new) }
-        ensures standing { OnErr result (self.new.standing ≡ self.old.standing) }
-        ensures fault { OnErr result (self.new.fault ≡ self.old.fault) }
+        ensures untold { Untold self.old self.new }
+        ensures fewer { IfOk result (λ came. FewerLeft came self.old self.new) }
+        ensures empty { IfOk result (λ came. IsEmpty came self.new) }
     {
         if self.held.is_some() {
             return Ok(Came::Message);
@@ -90,8 +95,17 @@ impl Stack {
         }
     }
 
-    /// Takes the next message to be read, unless there is one.
-    fn take_behind(&mut self) -> Result<Came, AllocError> {
+    /// Takes the next message to be read behind what begins a connection, unless there is one.
+    fn take_behind(&mut self) -> Result<Came, AllocError>
+        requires { self.old.fault ≡ None }
+        ensures ok { (role : Role) (octets : List ℕ) (told : List Told)
+            → Stands role octets told self.old → IsBegun self.old
+            → IfOk result (λ came. Takes role octets told came self.new) }
+        ensures untold { Untold self.old self.new }
+        ensures fewer { IfOk result (λ came. FewerLeft came self.old self.new) }
+        ensures empty { IfOk result (λ came. IsEmpty came self.new) }
+        ensures err { OnErr result (self.new ≡ self.old) }
+    {
         if self.held.is_some() {
             return Ok(Came::Message);
         }
@@ -100,8 +114,9 @@ impl Stack {
 
     /// Reads the next message.
     pub(crate) fn read(&self) -> Result<Said, AllocError>
-        ensures { IfOk result (λ said. Says (expecting_by self.now.known self.now.setup.acse
-            self.now.setup.mms) self.now.held said × IsTellable said) }
+        ensures says { IfOk result (λ said. Says (expecting_by self.now.known self.now.setup.acse
+            self.now.setup.mms) self.now.held said) }
+        ensures tellable { IfOk result IsTellable }
     {
         match &self.held {
             None => Ok(Said::Nothing),
@@ -111,11 +126,18 @@ impl Stack {
     }
 
     /// Reads a TSDU.
-    fn read_octets(&self, octets: &[u8]) -> Result<Said, AllocError> {
+    fn read_octets(&self, octets: &[u8]) -> Result<Said, AllocError>
+        ensures says { IfOk result (λ said. SaysOf (message (expecting_by self.now.known
+            self.now.setup.acse self.now.setup.mms) octets.now) said) }
+        ensures tellable { IfOk result IsTellable }
+    {
         let expecting = self.known.expecting(self.setup.acse, self.setup.mms);
         match read_message(self.alloc, octets, expecting)? {
             Err(fault) => Ok(Said::Broken(fault)),
             Ok(heard) => {
+                if !is_modest(&heard) {
+                    return Err(AllocError);
+                }
                 let results = results_heard(self.alloc, &heard)?;
                 Ok(Said::Heard(heard, results))
             }

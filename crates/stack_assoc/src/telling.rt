@@ -1,5 +1,5 @@
 //! What an end makes of a message that was read.
-ghost use Rattle.std.specs.Prelude.{◌≡◌, Some};
+ghost use Rattle.std.specs.Prelude.{◌≡◌, Some, Ok, OnOk, OnErr, IsErr};
 ghost use Rattle.stack_assoc.specs.Knowing.{fixed_by};
 ghost use Rattle.stack_messages.specs.declared.heard.Heard.TheVariants as heards;
 ghost use Rattle.stack_assoc.specs.Handing.{heard_in};
@@ -15,8 +15,28 @@ use crate::taken::{Came, Said};
 use presentation_profile::{Results, acse_id, mms_id};
 use stack_messages::{Connecting, Heard, StackFault};
 use stack_wire::{OWN_ACSE, OWN_MMS};
+use std::alloc::AllocError;
 
 impl Stack {
+    /// Tells what was read, where the answer that was owed is out.
+    pub(crate) fn tell_once(
+        &mut self,
+        done: Result<(), AllocError>,
+        came: Came,
+        said: Said,
+    ) -> Result<Result<Option<StackIn>, StackFault>, AllocError>
+        requires { IsTellable said }
+        ensures course { OnOk done (self.new ≡ told_with came said self.old) }
+        ensures answer { OnOk done (result ≡ Ok (told_answer came said)) }
+        ensures same { OnErr done (self.new ≡ self.old) }
+        ensures memory { OnErr done (IsErr result) }
+    {
+        match done {
+            Ok(()) => Ok(self.tell(came, said)),
+            Err(error) => Err(error),
+        }
+    }
+
     /// Tells a message that was read, or that there is none.
     pub(crate) fn tell(&mut self, came: Came, said: Said) -> Result<Option<StackIn>, StackFault>
         requires { IsTellable said }

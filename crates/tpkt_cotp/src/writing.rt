@@ -5,7 +5,7 @@ ghost use Rattle.tpkt_cotp.specs.declared.limits.TheConstants.{SELECTOR_LIMIT, T
 ghost use Rattle.tpkt_cotp.specs.Selectors.{IsSelector};
 ghost use Rattle.tpkt_cotp.specs.Written.{request_octets, size_octets, selector_octets};
 ghost use Rattle.tpkt_cotp.specs.Written.{answer_octets, confirm_head, confirm_octets, part_octets};
-ghost use Rattle.tpkt_cotp.specs.Written.{IsCut, IsOffer, wire};
+ghost use Rattle.tpkt_cotp.specs.Written.{IsCut, wire};
 
 use crate::selector::Selector;
 use crate::tpdu::{ConnectRequest, Parameters};
@@ -156,7 +156,6 @@ fn put_confirm(out: &mut Vec<u8>, offer: &ConnectRequest) -> Result<(), AllocErr
 /// Appends the answer to an offer: its source as the target, the source 1, the offered size but at
 /// most 1,024 octets, and its selectors.
 pub fn write_cc(out: &mut Vec<u8>, offer: &ConnectRequest) -> Result<(), AllocError>
-    requires { IsOffer offer.now }
     ensures ok { OnOk result (out.new.items ≡ out.old.items ++ confirm_octets offer.now) }
     ensures err { OnErr result (out.new.items ≡ out.old.items) }
 {
