@@ -160,6 +160,7 @@ rows =
     record {
       points = record { name = codes "BUS1"; kind = kinds.State }
           ∷ record { name = codes "LOAD1"; kind = kinds.Discrete } ∷ [];
+      devices = [];
       tables = [];
     }
 
