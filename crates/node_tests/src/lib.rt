@@ -3,6 +3,8 @@
 #![tactic(auto)]
 
 #[cfg(test)]
+mod call_texts;
+#[cfg(test)]
 mod points;
 #[cfg(test)]
 mod shown;
@@ -12,5 +14,3 @@ mod steps;
 mod table_lines;
 #[cfg(test)]
 mod tables;
-#[cfg(test)]
-mod texts;
