@@ -12,5 +12,6 @@ pub mod Graphic
 pub mod Parted
 pub mod CallPlace
 pub mod Written
+pub mod PlacesOfWords
 pub mod ValueWords
 pub mod Worked

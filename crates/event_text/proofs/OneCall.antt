@@ -130,5 +130,5 @@ one_call words a b x y =
       lawful = y.lawful;
       textual = y.textual;
     }) in
-    same_others a b (sym (number-is a) ∙ ap verb_number s.0 ∙ number-is b) s.0 s.1 x.lawful x.textual
-    y.lawful y.textual
+    same_others a b (sym (number-is a) ∙ ap verb_number s.0 ∙ number-is b) s.0 s.1 x.lawful
+    x.textual y.lawful y.textual

@@ -1,5 +1,6 @@
 //! What holds of all texts of calls, and of all values in a feed.
-ghost use Rattle.std.specs.Prelude.{◌≡◌, ◌↔◌, ℕ, List, Some};
+ghost use Rattle.std.specs.Prelude.{◌≡◌, ◌↔◌, ℕ, List, Some, drop};
+ghost use Rattle.plain_text.specs.Words.{words};
 ghost use Rattle.tase_points.specs.Sample.{Sample};
 ghost use Rattle.tase_views.specs.declared.call.CallKind.{CallKind as AnyCall};
 ghost use Rattle.tase_views.specs.Calls.{IsCall};
@@ -8,6 +9,7 @@ ghost use Rattle.event_text.specs.CallWords.{HasWords, SpellsCall, AreCallWords}
 ghost use Rattle.event_text.specs.Breaks.{Breaks};
 ghost use Rattle.event_text.specs.CallTexts.{IsCallText, CallBreaksAt};
 ghost use Rattle.event_text.specs.FeedLines.{value_in, AreValueWords};
+ghost use Rattle.event_text.specs.WordPlaces.{word_place};
 
 /// The text that is written of a call spells that call, so it is read back, and a text spells one
 /// call at most or breaks at one place at most.
@@ -35,4 +37,10 @@ pub fn values_are_their_words()
     ensures { (body flags seconds millis : List ℕ) (value : Sample)
         → (value_in body flags seconds millis ≡ Some value)
         ↔ AreValueWords body flags seconds millis value }
+{}
+
+/// From the place of a word on a text has this word and those behind it.
+pub fn places_are_of_words()
+    ensures { (text : List ℕ) (n : ℕ)
+        → words (drop (word_place text n) text) ≡ drop n (words text) }
 {}

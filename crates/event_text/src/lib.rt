@@ -8,6 +8,9 @@ mod values;
 mod writing;
 
 pub use feed::read_feed_line;
-pub use laws::{call_words_have_one_reading, values_are_their_words, written_calls_are_read};
+pub use laws::{
+    call_words_have_one_reading, places_are_of_words, values_are_their_words,
+    written_calls_are_read,
+};
 pub use reading::{read_call, read_call_words};
 pub use writing::{spell_call, spell_event, spell_reply};
