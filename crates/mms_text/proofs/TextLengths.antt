@@ -25,7 +25,7 @@ members_text-length ds (suc i) d within =
     let later : (suc i == 0) ≡ false = ne_eqb (suc i) 0 (λ e. omega arith) in
     rw later (ap length (members_text-take_more ds (suc i) d within (omega arith))
     ∙ length-append (members_text (data_of (take (suc i) ds))) (44 ∷ data_text (get_or ds
-        (suc i) d))
+    (suc i) d))
     ∙ omega arith)
 
 pub capped-member : (ds : List Datum) (i : ℕ) (d : Datum) → i < length ds

@@ -165,8 +165,12 @@ pub identifier_here : (names : List (Bor (List ℕ))) (i : ℕ) (d : Bor (List �
 identifier_here names i d all within =
     let here : get_or (names_of names) i [] ≡ (get_or names i d).now =
     get_or-map (λ n. n.now) names i d [] within in
-    let there : i < length (names_of names) = omega (arith, within, length-map names
-        (λ n. n.now)) in
+    let there : i < length (names_of names) = omega (
+      arith,
+      within,
+      length-map names
+          (λ n. n.now),
+    ) in
     rw here at (all i [] there)
 
 identifiers_taken : (n : ℕ) (names : List (List ℕ)) → All IsIdentifier names

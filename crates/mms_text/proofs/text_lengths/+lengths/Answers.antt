@@ -27,7 +27,7 @@ pub text_len-returns-in-Structure : goal.text_len-returns-in-Structure
 text_len-returns-in-Structure t c =
     let ds = data_of c.in-Structure.members in
     let e : structure ds ≡ c.args.value.now = sym (ap datum_of c.in-Structure.is)
-        ∙ sym c.kind.ensures in
+    ∙ sym c.kind.ensures in
     c.add_len.ensures
     ∙ bracketed-length 123 125 (members_text ds) c.members_len.result c.members_len.ensures
     ∙ ap (λ d. capped (length (data_text d))) e

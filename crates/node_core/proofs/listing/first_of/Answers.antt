@@ -11,7 +11,7 @@ use Rattle.node_core.proofs.listing.first_of.Goals as goal
 pub copies-requires : goal.copies-requires
 copies-requires c =
     sorted_identifiers c.args.names.now c.sort_unstable.new.self _
-        c.sort_unstable.ensures.permutation
+    c.sort_unstable.ensures.permutation
     c.requires
 
 pub returns-clause-value : goal.returns-clause-value

@@ -46,7 +46,7 @@ returns-then-is_class-clause-value c =
     (ap (map (λ name. name.now)) c.as_mut_slice.ensures.value ∙ c.in_ok-names.ensures)
     ∙ sym (listed_variables table c.args.class c.args.scope.now c.args.after.now own
     (sym (c.is_class.ensures ∙ ap (λ (z : ℤ). int_eq z NAMED_VARIABLES) plain)
-        ∙ c.if-is_class.true)))
+    ∙ c.if-is_class.true)))
     c.first_of.ensures.value
 
 pub first_of-requires-then-is_vmd : goal.first_of-requires-then-is_vmd
@@ -74,7 +74,7 @@ returns-then-is_vmd-clause-value c =
     ∙ c.in_ok-names-2.ensures ∙ sym domain)
     ∙ sym (listed_domain table c.args.class c.args.scope.now c.args.after.now own
     (sym (c.is_class.ensures ∙ ap (λ (z : ℤ). int_eq z NAMED_VARIABLES) plain)
-        ∙ c.if-is_class.false)
+    ∙ c.if-is_class.false)
     (sym (c.is_class-2.ensures ∙ ap (λ (z : ℤ). int_eq z DOMAINS) plain) ∙ c.if-is_class-2.true)
     (sym c.is_vmd.ensures ∙ c.if-is_vmd.true)))
     c.first_of-then-is_vmd.ensures.value
@@ -94,14 +94,14 @@ returns-then-is_class-3-clause-value c =
       | else-is_class-2-via-else-is_class-2 w ↦
           ap (λ (b : Bool). b && is_vmd c.args.scope.now)
           (sym (c.is_class-2.ensures ∙ ap (λ (z : ℤ). int_eq z DOMAINS) plain)
-              ∙ w.if-is_class-2.false)
+          ∙ w.if-is_class-2.false)
     ] in
     subst (λ (kind : ReplyKind). IfOk c.first_of-then-is_class-3.result (λ reply. reply ≡ kind))
     (sym (listed_lists table c.args.class c.args.scope.now c.args.after.now own
     (sym (c.is_class.ensures ∙ ap (λ (z : ℤ). int_eq z NAMED_VARIABLES) plain)
-        ∙ c.if-is_class.false) apart
+    ∙ c.if-is_class.false) apart
     (sym (c.is_class-3.ensures ∙ ap (λ (z : ℤ). int_eq z NAMED_VARIABLE_LISTS) plain)
-        ∙ c.if-is_class-3.true)))
+    ∙ c.if-is_class-3.true)))
     c.first_of-then-is_class-3.ensures.value
 
 pub returns-clause-value : goal.returns-clause-value
@@ -119,10 +119,10 @@ returns-clause-value c =
       | else-is_class-2-via-else-is_class-2 w ↦
           ap (λ (b : Bool). b && is_vmd c.args.scope.now)
           (sym (c.is_class-2.ensures ∙ ap (λ (z : ℤ). int_eq z DOMAINS) plain)
-              ∙ w.if-is_class-2.false)
+          ∙ w.if-is_class-2.false)
     ] in
     sym (listed_nothing table c.args.class c.args.scope.now c.args.after.now own
     (sym (c.is_class.ensures ∙ ap (λ (z : ℤ). int_eq z NAMED_VARIABLES) plain)
-        ∙ c.if-is_class.false) apart
+    ∙ c.if-is_class.false) apart
     (sym (c.is_class-3.ensures ∙ ap (λ (z : ℤ). int_eq z NAMED_VARIABLE_LISTS) plain)
-        ∙ c.if-is_class-3.false))
+    ∙ c.if-is_class-3.false))

@@ -19,7 +19,7 @@ open-requires-clause-room c =
     let setup : Setup = record { centre = rows; limit = c.self.inside.limit } in
     let free = free_in (record { setup = setup; history = c.self.inside.history.items })
     c.args.self.now c.args.who c.args.event
-        (Open c.args.peer) c.self.view_is c.requires.open c.requires.free in
+    (Open c.args.peer) c.self.view_is c.requires.open c.requires.free in
     let there = named-open rows c.args.peer free.named in
     let before = opens-at rows past c.self.inside.store.values.items
     c.self.inside.store.counts.items c.self.inside.store.opens.items _ c.args.peer there
@@ -47,7 +47,7 @@ invariant_of-self-2 c =
     let setup : Setup = record { centre = rows; limit = c.self.inside.limit } in
     let free = free_in (record { setup = setup; history = c.self.inside.history.items })
     c.args.self.now c.args.who c.args.event
-        (Open c.args.peer) c.self.view_is c.requires.open c.requires.free in
+    (Open c.args.peer) c.self.view_is c.requires.open c.requires.free in
     let none = none_there (association_in past c.args.who)
     (seated-open (association_in past c.args.who) c.args.peer free.seated) in
     let one_more = c.in_ok-key.ensures.count (c.self.invariant.0.seated c.args.who ∙ none) in
@@ -82,7 +82,7 @@ returns-clause-answer c =
     let setup : Setup = record { centre = rows; limit = c.self.inside.limit } in
     let free = free_in (record { setup = setup; history = c.self.inside.history.items })
     c.args.self.now c.args.who c.args.event
-        (Open c.args.peer) c.self.view_is c.requires.open c.requires.free in
+    (Open c.args.peer) c.self.view_is c.requires.open c.requires.free in
     let there = named-open rows c.args.peer free.named in
     let before : get_or c.self.inside.store.opens.items c.args.peer 0 ≡ opens_in past c.args.peer =
     opens-at rows past _ _ c.self.inside.store.opens.items _ c.args.peer there

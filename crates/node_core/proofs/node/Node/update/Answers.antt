@@ -17,7 +17,7 @@ invariant_of-self-2 c =
     let event = Update c.args.point c.args.value in
     let free = free_in (record { setup = setup; history = c.self.inside.history.items })
     c.args.self.now c.args.who c.args.event event c.self.view_is c.requires.update c.requires.free
-        in
+    in
     let heavy : c.weight-weight.result ≡ weight event =
     c.weight-weight.ensures.value ∙ ap weight c.requires.update in
     let fits : weight_of past + weight event ≤ c.self.inside.limit =

@@ -7,4 +7,4 @@ abbrev pub invariant-loop-name : goal.invariant-loop-name
 invariant-loop-name l =
     let table = own_table l.self.setup.centre l.key.peer in
     l.results ≡ map (λ name. write_of_point (point_named table name))
-        (take l.name-index l.name-items)
+    (take l.name-index l.name-items)
