@@ -331,7 +331,10 @@ nothing_later = []
 pub answers_offered : (role : Role) (octets : List ℕ) (told : List Told) (v : Course)
     (out : List ℕ) → is_offered v.standing ≡ true → Stands role octets told v
     → Answers role octets told v out (Ok None) v out
-answers_offered role octets told v out offered s =
-    ([], goes_nowhere role octets told v out s, refl,
-    subst (λ (x : Bool). MatchBool x (nothing_later ≡ [])
-    (((rest : List ℕ) × Tells role octets (told ++ []) rest) × IsSettled v)) (sym offered) refl)
+answers_offered role octets told v out offered s = (
+  [],
+  goes_nowhere role octets told v out s,
+  refl,
+  subst (λ (x : Bool). MatchBool x (nothing_later ≡ [])
+      (((rest : List ℕ) × Tells role octets (told ++ []) rest) × IsSettled v)) (sym offered) refl,
+)

@@ -97,34 +97,42 @@ above_of : (role : Role) (octets : List ℕ) (ms : List Message) → StartsWith 
     → Broken role ms → Outcome role octets
 above_of role octets ms s b =
     let P : List Message → Type 0 = StartsWith (end_of role) octets in
-    inr (b.told, b.fault, inr (record {
-      messages = b.passed;
-      next = b.item;
-      starts = front_front (end_of role) octets (b.passed ++ b.item ∷ []) b.left
-          (subst P (b.is ∙ sym (one_of b.passed b.item b.left)) s);
-      tell = b.spelled;
-      breaks = b.breaks;
-    }))
+    inr (
+      b.told,
+      b.fault,
+      inr (record {
+        messages = b.passed;
+        next = b.item;
+        starts = front_front (end_of role) octets (b.passed ++ b.item ∷ []) b.left
+            (subst P (b.is ∙ sym (one_of b.passed b.item b.left)) s);
+        tell = b.spelled;
+        breaks = b.breaks;
+      }),
+    )
 
 pub always : (one : OneMeaning) (role : Role) (octets : List ℕ) → Outcome role octets
 always one role octets = elim (below.always (end_of role) octets) [
   | inl said ↦ elim (spelled_or_broken (TellsNext role) (BreaksNext role) (one_each one role).each
       [] said.0) [
-    | inl told ↦ inl (told.0, said.1, record { messages = said.0; said = said.2; tell = told.1 })
-    | inr b ↦ above_of role octets said.0 (said_front (end_of role) octets said.1 said.0 said.2) b
-  ]
+        | inl told ↦ inl (told.0, said.1, record { messages = said.0; said = said.2; tell = told.1 })
+        | inr b ↦ above_of role octets said.0 (said_front (end_of role) octets said.1 said.0 said.2) b
+      ]
   | inr stopped ↦ elim (spelled_or_broken (TellsNext role) (BreaksNext role)
       (one_each one role).each [] stopped.0) [
-    | inl told ↦ inr (told.0, transport_fault stopped.1, inl (record {
-      messages = stopped.0;
-      broken = stopped.1;
-      stops = stopped.2;
-      tell = told.1;
-      is = refl;
-    }))
-    | inr b ↦ above_of role octets stopped.0
-        (stopped_front (end_of role) octets stopped.0 stopped.1 stopped.2) b
-  ]
+        | inl told ↦ inr (
+          told.0,
+          transport_fault stopped.1,
+          inl (record {
+            messages = stopped.0;
+            broken = stopped.1;
+            stops = stopped.2;
+            tell = told.1;
+            is = refl;
+          }),
+        )
+        | inr b ↦ above_of role octets stopped.0
+            (stopped_front (end_of role) octets stopped.0 stopped.1 stopped.2) b
+      ]
 ]
 
 same_told : (one : OneMeaning) (role : Role) (told other : List Told) (ms ns : List Message)
@@ -174,9 +182,10 @@ pub stops_once : (one : OneMeaning) (role : Role) (octets : List ℕ) (told othe
     → (told ≡ other) × (f ≡ g)
 stops_once one role octets told other f g (inl s) (inl t) =
     let same = once.stops_once (end_of role) octets s.messages t.messages s.broken t.broken s.stops
-    t.stops in
-    (same_told one role told other s.messages t.messages same.0 s.tell t.tell,
-    s.is ∙ ap transport_fault same.1 ∙ sym t.is)
+    t.stops in (
+      same_told one role told other s.messages t.messages same.0 s.tell t.tell,
+      s.is ∙ ap transport_fault same.1 ∙ sym t.is,
+    )
 stops_once one role octets told other f g (inl s) (inr t) =
     absurd (mixed one role octets told other f g s t)
 stops_once one role octets told other f g (inr s) (inl t) =
@@ -231,10 +240,16 @@ front_or_past (x ∷ xs) (z ∷ ys) y more rest e =
     let first : x ≡ z = ap (λ (l : List Message). get_or l 0 x) e in
     let tail : xs ++ more ≡ ys ++ y ∷ rest = ap (λ (l : List Message). drop 1 l) e in
     elim (front_or_past xs ys y more rest tail) [
-      | inl c ↦ inl (c.0, ap (λ (m : Message). m ∷ ys) (sym first)
-          ∙ ap (λ (l : List Message). x ∷ l) c.1)
-      | inr c ↦ inr (c.0, ap (λ (m : Message). m ∷ xs) first
-          ∙ ap (λ (l : List Message). z ∷ l) c.1)
+      | inl c ↦ inl (
+        c.0,
+        ap (λ (m : Message). m ∷ ys) (sym first)
+            ∙ ap (λ (l : List Message). x ∷ l) c.1,
+      )
+      | inr c ↦ inr (
+        c.0,
+        ap (λ (m : Message). m ∷ xs) first
+            ∙ ap (λ (l : List Message). z ∷ l) c.1,
+      )
     ]
 
 -- behind messages that were told, a message breaks a rule

@@ -21,9 +21,11 @@ spelled_push {X = X} {T = T} S before [] t [] m s one =
     let P : List T → Type 0 = λ b. S b t m in (subst P (append-nil before) one, tt)
 spelled_push S before [] t (n ∷ ms) m s one = absurd s
 spelled_push S before (u ∷ ts) t [] m s one = absurd s
-spelled_push {X = X} {T = T} S before (u ∷ ts) t (n ∷ ms) m s one =
-    (s.0, spelled_push S (before ++ u ∷ []) ts t ms m s.1
-    (shifted (λ (b : List T). S b t m) before u ts one))
+spelled_push {X = X} {T = T} S before (u ∷ ts) t (n ∷ ms) m s one = (
+  s.0,
+  spelled_push S (before ++ u ∷ []) ts t ms m s.1
+      (shifted (λ (b : List T). S b t m) before u ts one),
+)
 
 -- in one way
 pub spelled_once : {X T : Type 0} (S : List T → T → X → Type 0)

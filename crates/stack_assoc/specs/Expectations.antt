@@ -22,8 +22,8 @@ phase_after called told = if is_some (first_in connect_in told)
 phase_after (calling title said) told =
     if is_some (first_in confirm_in told) && not (list_any is_refuse told)
     then (if is_some (first_in accept_in told)
-        then (if list_any is_concluded told then phases.Concluded else phases.Associated)
-        else phases.Unassociated)
+    then (if list_any is_concluded told then phases.Concluded else phases.Associated)
+    else phases.Unassociated)
     else phases.Ending
 
 -- what the connect fixed of what is said after it, the first one where there were several: its

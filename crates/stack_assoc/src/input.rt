@@ -18,7 +18,9 @@ pub enum StackIn {
     Accepted(Initiate),
     Pdu(MmsPdu),
     /// A confirmed request with this number, in whose service a rule is broken.
-    BadRequest { invoke: u32 },
+    BadRequest {
+        invoke: u32,
+    },
     /// The other end asks for the release, or answers that it is done.
     Released,
     /// The other end, or the transport, has ended the association.

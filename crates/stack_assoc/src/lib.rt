@@ -12,6 +12,6 @@ mod taken;
 mod taking;
 mod telling;
 
-pub use laws::saying_takes_nothing;
 pub use input::{StackIn, StackState};
+pub use laws::saying_takes_nothing;
 pub use stack::Stack;
