@@ -1,16 +1,17 @@
 -- The number of a request is read just where the octets are a request with it.
 use Rattle.std.proofs.Common.{◌≡◌, ℕ, List, Option, Some, None, Result, Ok, Err}
-use Rattle.std.proofs.Common.{refl, sym, ap, ◌∙◌, subst}
+use Rattle.std.proofs.Common.{refl, sym, ap, ◌∙◌, subst, inl, inr, ◌⊎◌}
 use Rattle.ber_values.specs.declared.fault.BerFault.{BerFault}
 use Rattle.ber_values.specs.Faults.{Gives}
-use Rattle.ber_values.specs.Reading.{Taken}
+use Rattle.ber_values.specs.Reading.{Taken, HasOneReading}
 use Rattle.ber_values.specs.Grammars.{Grammar, IsGrammar, taken}
 use Rattle.ber_values.specs.Parts.{IsContentsGrammar, part_in, whole_in}
 use Rattle.ber_values.specs.Readers.{taken_whole}
-use Rattle.ber_values.proofs.Reading.{Ok_is, not_both}
+use Rattle.ber_values.proofs.Reading.{Ok_is, not_both, HasOneReading-from}
 use Rattle.ber_values.proofs.Grammars.{IsReading-map, part_reads, whole_reads}
 use Rattle.mms_services.specs.Pdus.{HasInvoke, IsInvokeOf}
 use Rattle.mms_services.specs.Numbered.{front_in, numbered_request}
+use Rattle.mms_services.specs.OneNumber.{HasOneNumber}
 use Rattle.mms_services.proofs.PdusRead.{invoke_reads}
 
 front_reads : {X : Type 0} (g : Grammar X) → IsGrammar g → IsContentsGrammar (front_in g)
@@ -84,3 +85,21 @@ numbers_read octets (Err f) gives invoke = (
       let read = (numbered_reads 0 octets).only t (number_taken octets invoke h) in
       absurd (not_both t f (sym read ∙ gives)),
 )
+
+-- a reading of the number is one number, or none
+one_read : (octets : List ℕ)
+    → HasOneReading (Taken ℕ) (numbered_request.begins 0 octets) (numbered_request.fault 0 octets)
+    → HasOneNumber octets
+one_read octets (inl o) = inl (
+  o.0.0.value,
+  number_begun octets o.0.0 o.0.1,
+  λ n h. ap (λ (v : Taken ℕ). v.value)
+      (o.0.2 (taken n h.request.head.next h.request.rest) (number_taken octets n h)),
+)
+one_read octets (inr o) = inr
+    (λ n h. o.0 (taken n h.request.head.next h.request.rest) (number_taken octets n h))
+
+pub one_number : (octets : List ℕ) → HasOneNumber octets
+one_number octets = one_read octets
+    (HasOneReading-from (Taken ℕ) (numbered_request.begins 0 octets)
+    (numbered_request.fault 0 octets) (numbered_request.reading 0 octets) (numbered_reads 0 octets))

@@ -19,3 +19,4 @@ pub mod Numbered
 pub mod Lawful
 pub mod PduOctets
 pub mod Held
+pub mod OneNumber

@@ -3,6 +3,7 @@ ghost use Rattle.std.specs.Prelude.{ℕ, ◌+◌, ◌<◌, ◌^◌, List, [], le
 ghost use Rattle.ber_values.specs.Reading.{Taken, HasOneReading};
 ghost use Rattle.ber_values.specs.Grammars.{taken};
 ghost use Rattle.mms_services.specs.declared.pdu.MmsPdu.{MmsPdu};
+ghost use Rattle.mms_services.specs.OneNumber.{HasOneNumber};
 ghost use Rattle.mms_services.specs.Pdus.{pdu};
 ghost use Rattle.mms_services.specs.PduOctets.{pdu_octets, IsWritable};
 ghost use Rattle.mms_services.specs.Held.{IsHeldPdu};
@@ -12,6 +13,11 @@ ghost use Rattle.mms_services.specs.Held.{IsHeldPdu};
 pub fn pdus_have_one_reading()
     ensures { (at : ℕ) (octets : List ℕ)
         → HasOneReading (Taken MmsPdu) (pdu.begins at octets) (pdu.fault at octets) }
+{}
+
+/// Octets are a request with one number at most.
+pub fn requests_have_one_number()
+    ensures { (octets : List ℕ) → HasOneNumber octets }
 {}
 
 /// What is written for a PDU is read back as the same PDU.

@@ -26,7 +26,7 @@ pub use delete::{DeleteRequest, DeleteResponse};
 pub use error::ErrorPdu;
 pub use fault::MmsFault;
 pub use initiate::{Initiate, LEAST_DETAIL, MOST_DETAIL, MOST_NESTING, MOST_SERVICES, negotiate};
-pub use laws::{pdus_have_one_reading, written_pdus_are_read};
+pub use laws::{pdus_have_one_reading, requests_have_one_number, written_pdus_are_read};
 pub use members::{MembersRequest, MembersResponse};
 pub use name_list::{NameListRequest, NameListResponse};
 pub use pdu::{MmsPdu, pdu_len, read_pdu, write_pdu};

@@ -64,8 +64,8 @@ const MODE: u8 = 0xA0;
 const PARAMETERS: u8 = 0xA2;
 
 /// The PPDU that the octets from `at` to `end` are (ISO 8823-1, CP-type, CPA-type, User-data), or
-/// where they break a rule first, and which. Places count the octets of `tsdu`. One of the kind that
-/// is expected has what is expected of it; of another kind it is read all the same.
+/// where they break a rule first, and which. Places count the octets of `tsdu`. One of the kind
+/// that is expected has what is expected of it; of another kind it is read all the same.
 pub fn read_ppdu(
     alloc: Global,
     tsdu: &[u8],

@@ -1,6 +1,6 @@
 //! The parameters of connect and accept (ISO 8327-1, CONNECT SPDU and ACCEPT SPDU).
-ghost use Rattle.std.specs.Prelude.{◌≡◌, ℕ, ◌+◌, ◌-◌, ◌^◌, ◌<◌, ◌≤◌, ◌++◌, length, take, slice_index};
-ghost use Rattle.std.specs.Prelude.{IfOk, IfSome, OnOk, OnErr};
+ghost use Rattle.std.specs.Prelude.{◌≡◌, ℕ, ◌+◌, ◌-◌, ◌^◌, ◌<◌, ◌≤◌, ◌++◌, length, take};
+ghost use Rattle.std.specs.Prelude.{slice_index, IfOk, IfSome, OnOk, OnErr};
 ghost use Rattle.ber_values.specs.Faults.{Gives};
 ghost use Rattle.session_profile.specs.Parameters.{judged_by};
 ghost use Rattle.session_profile.specs.Rules.{all_in, sound_in, next_in, whole_or_short};

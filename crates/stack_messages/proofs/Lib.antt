@@ -1,0 +1,4 @@
+pub mod Exact
+pub mod LayersRead
+pub mod OneMeaning
+mod Worked

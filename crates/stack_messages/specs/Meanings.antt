@@ -1,5 +1,6 @@
 -- What octets say through several layers: one layer, then the next inside its body.
-use Rattle.std.specs.Prelude.{◌≡◌, Bool, true, false, ◌⊎◌, Result, Ok, Err, IfOk, ◌↔◌}
+use Rattle.std.specs.Prelude.{◌≡◌, Bool, true, false, ◌⊎◌, Option, Some, None, Result}
+use Rattle.std.specs.Prelude.{Ok, Err, IfOk, ◌↔◌}
 use Rattle.ber_values.specs.Reading.{IsOne}
 use Rattle.stack_messages.specs.declared.fault.StackFault.{StackFault}
 
@@ -15,6 +16,11 @@ says_just x = record { says = λ y. y ≡ x; breaks = λ f. ⊥ }
 -- what may not stand there
 unfoldable pub says_nothing : {X : Type 0} → StackFault → Meaning X
 says_nothing fault = record { says = λ y. ⊥; breaks = λ f. f ≡ fault }
+
+-- a value, where there is one; else this fault
+abbrev pub says_some : {X : Type 0} → StackFault → Option X → Meaning X
+says_some fault None = says_nothing fault
+says_some fault (Some x) = says_just x
 
 -- one layer, then the next inside it
 unfoldable pub inside : {X Y : Type 0} → Meaning X → (X → Meaning Y) → Meaning Y

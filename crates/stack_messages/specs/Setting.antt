@@ -1,5 +1,6 @@
 -- What sets up an association: a connect and an accept, from the body of their SPDU on.
 use Rattle.std.specs.Prelude.{ℕ, true, false, List, Option, Some, None}
+use Rattle.std.specs.Option.{option_map}
 use Rattle.ber_values.specs.declared.external.External.{External}
 use Rattle.ber_values.specs.declared.fault.Span.{Span}
 use Rattle.presentation_profile.specs.declared.offers.Offered.{Offered}
@@ -18,7 +19,7 @@ use Rattle.stack_messages.specs.declared.expecting.Expecting.{Expecting}
 use Rattle.stack_messages.specs.declared.fault.Layer.TheVariants as layers
 use Rattle.stack_messages.specs.declared.heard.Heard.{Heard}
 use Rattle.stack_messages.specs.declared.heard.Heard.TheVariants as heard
-use Rattle.stack_messages.specs.Meanings.{Meaning, says_just, says_nothing, inside}
+use Rattle.stack_messages.specs.Meanings.{Meaning, says_some, says_nothing, inside}
 use Rattle.stack_messages.specs.Layers.{out_of_order, ppdu_at, apdu_at, pdu_at}
 use Rattle.stack_messages.specs.Turns.{offered_by}
 
@@ -35,12 +36,16 @@ connecting session called contexts request initiate = heard.Connect (record {
   initiate = initiate;
 })
 
+-- the initiate that a PDU is
+abbrev pub initiate_of : MmsPdu → Option Initiate
+initiate_of (pdus.Initiate initiate) = Some initiate
+initiate_of _ = None
+
 -- an initiate in an AARQ
 abbrev pub initiate_in : Option (List ℕ) → Option (List ℕ) → List Offered → AssociateRequest
     → MmsPdu → Meaning Heard
-initiate_in session called contexts request (pdus.Initiate initiate) =
-    says_just (connecting session called contexts request initiate)
-initiate_in session called contexts request _ = says_nothing (out_of_order layers.Mms)
+initiate_in session called contexts request pdu = says_some (out_of_order layers.Mms)
+    (option_map (connecting session called contexts request) (initiate_of pdu))
 
 -- an AARQ in a connect
 abbrev pub aarq_in : List ℕ → Option (List ℕ) → Option (List ℕ) → List Offered → Apdu
@@ -69,10 +74,15 @@ abbrev pub accepting : ℕ → ℕ → Initiate → Heard
 accepting acse mms initiate =
     heard.Accept (record { acse = acse; mms = mms; initiate = initiate })
 
+-- the initiate response that a PDU is
+abbrev pub initiated_of : MmsPdu → Option Initiate
+initiated_of (pdus.Initiated initiate) = Some initiate
+initiated_of _ = None
+
 -- an initiate response in an AARE
 abbrev pub initiated_in : ℕ → ℕ → MmsPdu → Meaning Heard
-initiated_in acse mms (pdus.Initiated initiate) = says_just (accepting acse mms initiate)
-initiated_in acse mms _ = says_nothing (out_of_order layers.Mms)
+initiated_in acse mms pdu = says_some (out_of_order layers.Mms)
+    (option_map (accepting acse mms) (initiated_of pdu))
 
 -- the user information of an AARE; where the result is 0, there is some
 abbrev pub user_in : List ℕ → ℕ → Option External → Meaning Heard

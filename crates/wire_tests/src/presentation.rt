@@ -105,9 +105,9 @@ fn with_octet(
     Ok(other)
 }
 
-/// Where a PPDU is of the kind that is expected, its user data are of the context that is known; in a
-/// connect of the one that its offers agree on as ACSE's, or of any where they don't agree. Of a PPDU
-/// of another kind the id isn't judged.
+/// Where a PPDU is of the kind that is expected, its user data are of the context that is known; in
+/// a connect of the one that its offers agree on as ACSE's, or of any where they don't agree. Of a
+/// PPDU of another kind the id isn't judged.
 #[test]
 fn expected_contexts(rt: HostRuntime) -> Result<(), Fail> {
     // MMS's id in place of ACSE's; and with another last octet of MMS's name, so that none is MMS
