@@ -1,12 +1,10 @@
 -- What is said has the length of a TSDU, and says it.
-use Rattle.std.proofs.Common.{◌≡◌, ℕ, ◌+◌, ◌≤◌, List, [], length, Option, Some, pos, refl, arith}
+use Rattle.std.proofs.Common.{◌≡◌, ℕ, ◌≤◌, List, [], length, Option, Some, refl, arith}
 use Rattle.ber_values.specs.Writing as ber
-use Rattle.ber_values.specs.Writing.{written, integer_octets}
+use Rattle.ber_values.specs.Writing.{written}
 use Rattle.tpkt_cotp.specs.Written.{wire}
 use Rattle.tpkt_cotp.proofs.Always.{written_said}
 use Rattle.tpkt_cotp.proofs.Wires.{wire_cut}
-use Rattle.session_profile.specs.declared.spdu.Spdu.TheVariants as spdus
-use Rattle.session_profile.specs.Writing.{written_form}
 use Rattle.presentation_profile.specs.declared.ppdu.Ppdu.TheVariants as ppdus
 use Rattle.presentation_profile.specs.Written.{ppdu_octets, HasSelector}
 use Rattle.acse_assoc.specs.declared.apdu.Apdu.{Apdu}

@@ -3,14 +3,12 @@ use Rattle.std.proofs.Common.{◌≡◌, ℕ, ◌+◌, ◌*◌, ◌≤◌, ◌^�
 use Rattle.std.proofs.Common.{[], ◌∷◌, ◌++◌, length, flat_map, Option, Some, None, ℤ, pos, negsuc}
 use Rattle.std.proofs.Common.{refl, arith}
 use Rattle.std.proofs.lemmas.List.{length-append}
-use Rattle.ber_values.specs.Oid.{IsOid}
 use Rattle.ber_values.specs.Externals.{external_octets}
 use Rattle.ber_values.specs.Writing as ber
 use Rattle.ber_values.specs.Writing.{written, integer_octets, number_size}
 use Rattle.ber_values.proofs.Capped.{length-written, part_size-most}
 use Rattle.ber_values.proofs.Written.{length-integer_octets}
 use Rattle.acse_assoc.specs.Writing as acse
-use Rattle.acse_assoc.specs.declared.apdu.Apdu.TheVariants as apdus
 use Rattle.acse_assoc.specs.Writing.{IsTitle, mms_context}
 use Rattle.acse_assoc.proofs.Sizes.{context_len}
 use Rattle.mms_services.specs.declared.initiate.Initiate.{Initiate}

@@ -1,5 +1,5 @@
 -- What two ends say, computed: TPKTs and TSDUs worked out by hand from the standards.
-use Rattle.std.proofs.Common.{◌≡◌, ℕ, List, [], ◌∷◌, Option, Some, None, pos, refl}
+use Rattle.std.proofs.Common.{◌≡◌, [], ◌∷◌, Some, None, pos, refl}
 use Rattle.ber_values.specs.Writing as ber
 use Rattle.tpkt_cotp.specs.Written.{wire}
 use Rattle.session_profile.specs.Writing as session

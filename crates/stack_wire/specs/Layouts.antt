@@ -1,5 +1,5 @@
 -- The fixed answers as octets, around the contents octets of the id of ACSE's context.
-use Rattle.std.specs.Prelude.{◌≡◌, ℕ, ◌+◌, ◌/◌, ◌%◌, ◌≤◌, List, [], ◌∷◌, ◌++◌, length, nat_lt}
+use Rattle.std.specs.Prelude.{◌≡◌, ℕ, ◌+◌, ◌/◌, ◌%◌, List, [], ◌∷◌, ◌++◌, length, nat_lt}
 use Rattle.std.specs.Prelude.{if◌then◌else◌}
 use Rattle.stack_wire.specs.Tsdus.{refusal_tsdu, finish_tsdu, release_tsdu, abort_tsdu}
 

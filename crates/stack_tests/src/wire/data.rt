@@ -103,54 +103,64 @@ fn seven_at(octets: &[u8], at: usize) -> &[u8] {
     }
 }
 
-/// Octets of a string, the size of TPDUs, the octets that go out behind three, and the place and
-/// the head of the last TPKT.
-const ROWS: [(u16, u16, usize, usize, [u8; 7]); 4] = [
-    (2_962, 1024, 3_024, 2_059, [3, 0, 0x03, 0xC5, 2, 0xF0, 0x80]),
-    (2_962, 128, 3_171, 3_039, [3, 0, 0x00, 0x84, 2, 0xF0, 0x80]),
-    (2_963, 128, 3_179, 3_171, [3, 0, 0x00, 0x08, 2, 0xF0, 0x80]),
-    (
-        64_981,
-        1024,
-        65_470,
-        64_767,
-        [3, 0, 0x02, 0xBF, 2, 0xF0, 0x80],
-    ),
+/// How many octets go out, and what tells parts apart in the head of the TPKT at this place: the
+/// length, and the end mark.
+type Cut = (usize, u8, u8, u8);
+
+fn cut_at(alloc: Global, len: u16, size: u16, place: usize) -> Result<Cut, Fail> {
+    if len >= 65_000 || size < 128 || size > 1024 {
+        return Err("no row".into());
+    }
+    let out = said(alloc, len, size)?;
+    let [3, 0, high, low, 2, 0xF0, mark] = seven_at(out.as_slice(), place) else {
+        return Err("no head".into());
+    };
+    Ok((out.len(), *high, *low, *mark))
+}
+
+/// Octets of a string, the size of TPDUs, a place behind three octets, and the cut there.
+const ROWS: [(u16, u16, usize, Cut); 6] = [
+    (2_962, 1024, 3, (3_024, 0x04, 0x04, 0x00)),
+    (2_962, 1024, 2_059, (3_024, 0x03, 0xC5, 0x80)),
+    (2_962, 128, 2_907, (3_171, 0x00, 0x84, 0x00)),
+    (2_962, 128, 3_039, (3_171, 0x00, 0x84, 0x80)),
+    (2_963, 128, 3_171, (3_179, 0x00, 0x08, 0x80)),
+    (64_981, 1024, 64_767, (65_470, 0x02, 0xBF, 0x80)),
 ];
 
 #[test]
 fn long_data(rt: HostRuntime) -> Result<(), Fail> {
-    for (len, size, all, last, head) in ROWS {
-        if len < 65_000 && 128 <= size && size <= 1024 {
-            let out = said(rt.alloc(), len, size)?;
-            assert_eq!(rt; out.len(), all, "{len} {size}");
-            assert_eq!(rt;
-                seven_at(out.as_slice(), last),
-                head.as_slice(),
-                "{len} {size}"
-            );
-        }
+    for (len, size, place, cut) in ROWS {
+        let found = cut_at(rt.alloc(), len, size, place)?;
+        assert_eq!(rt; found, cut, "{len} {size} {place}");
     }
     Ok(())
 }
 
+/// Whether what goes out is heard as one TSDU, which is as wanted.
+fn is_said(alloc: Global, len: u16, size: u16) -> Result<bool, Fail> {
+    if len >= 65_000 || size < 128 || size > 1024 {
+        return Err("no row".into());
+    }
+    let out = said(alloc, len, size)?;
+    let wanted = tsdu(alloc, len)?;
+    let [_, _, _, octets @ ..] = out.as_slice() else {
+        return Err("nothing".into());
+    };
+    let heard = heard(alloc, octets)?;
+    match heard.messages.as_slice() {
+        [TransportIn::Connect(_), TransportIn::Tsdu { octets, .. }] => {
+            Ok(octets.as_slice() == wanted.as_slice())
+        }
+        _ => Ok(false),
+    }
+}
+
 #[test]
 fn long_data_is_said(rt: HostRuntime) -> Result<(), Fail> {
-    for (len, size, _, _, _) in ROWS {
-        if len < 65_000 && 128 <= size && size <= 1024 {
-            let out = said(rt.alloc(), len, size)?;
-            let wanted = tsdu(rt.alloc(), len)?;
-            let (_, octets) = out.as_slice().split_at(3.min(out.len()));
-            let heard = heard(rt.alloc(), octets)?;
-            let [TransportIn::Connect(_), TransportIn::Tsdu { place, octets }] = heard
-                .messages
-                .as_slice()
-            else {
-                return Err("no TSDU".into());
-            };
-            assert_eq!(rt; *place, 22);
-            assert_eq!(rt; octets.as_slice(), wanted.as_slice(), "{len} {size}");
-        }
+    for (len, size) in [(2_962, 1024), (2_962, 128), (64_981, 1024)] {
+        let said = is_said(rt.alloc(), len, size)?;
+        assert!(rt; said, "{len} {size}");
     }
     Ok(())
 }

@@ -1,4 +1,4 @@
-use Rattle.std.proofs.Common.{◌≡◌, arith}
+use Rattle.std.proofs.Common.{arith}
 use Rattle.stack_wire.specs.Tsdus.{data_tsdu}
 use Rattle.stack_wire.proofs.Fits.{data_ppdu-most, data-fits}
 use Rattle.stack_wire.proofs.Layered.{bounded_by, fits_as, data_ppdu, data_ppdu_is, data_is}

@@ -1,5 +1,3 @@
-use Rattle.std.proofs.Common.{ℕ, List, ◌≡◌, ◌++◌}
-use Rattle.tpkt_cotp.specs.Written.{IsCut}
 use Rattle.tpkt_cotp.proofs.Wires.{cut_behind}
 use Rattle.tpkt_cotp.proofs.writing.write_tsdu.Goals as goal
 
