@@ -10,3 +10,4 @@ pub mod Nexts
 pub mod SaidMore
 pub mod Shorter
 pub mod Results
+pub mod Feeding

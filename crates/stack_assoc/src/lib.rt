@@ -13,5 +13,5 @@ mod taking;
 mod telling;
 
 pub use input::{StackIn, StackState};
-pub use laws::saying_takes_nothing;
+pub use laws::{one_reading, saying_takes_nothing, what_was_told_stays};
 pub use stack::Stack;
