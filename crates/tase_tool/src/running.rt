@@ -29,12 +29,11 @@ pub(crate) const HISTORY_LIMIT: u64 = 134_217_728;
 /// printed on standard output, which is `-` of the outside's sinks.
 ///
 /// What it answers and prints is, where the outside tells its octets, what the definitions say of
-/// those octets alone:
-/// the tables that the first text spells, and over them what the scenario shows, each reply from
-/// the asking peer's own
-/// table and its view of the history, up to the first bad line or the first event with which the
-/// history would weigh more than 134,217,728 octets, which is told so; or the PDU that the octets of a capture are, or the first
-/// rule that they break.
+/// those octets alone: the tables that the first text spells, and over them what the scenario shows,
+/// each reply from the asking peer's own table and its view of the history, up to the first bad
+/// line, or the first event with which the history would weigh more than 134,217,728 octets, and
+/// then which of the two; or the PDU that the octets of a capture are, or the first rule that they
+/// break.
 pub fn run<O: Outside>(alloc: Global, words: &[String], outside: &mut O) -> Status
     ensures { let told = O.told outside.old in
         IsRun (duty_of (asked_in (map string_bytes words.now)) (texts_of told))
