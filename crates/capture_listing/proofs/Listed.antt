@@ -5,7 +5,8 @@ use Rattle.std.proofs.lemmas.List.{length-append, length-take-le}
 use Rattle.outside.specs.Sink.{SinkTold, AppendsAll, AppendsPart}
 use Rattle.outside.proofs.Writing.{Appends-append, AppendsPart-append, AppendsPart-front}
 use Rattle.command_io.specs.declared.status.Status.{Status}
-use Rattle.command_io.specs.declared.status.Status.TheVariants.{Done, Usage, Input, Outside, Memory}
+use Rattle.command_io.specs.declared.status.Status.TheVariants.{Done, Usage, Input, Outside, Full}
+use Rattle.command_io.specs.declared.status.Status.TheVariants.{Memory}
 use Rattle.command_io.specs.Saying.{prints}
 use Rattle.command_io.specs.Runs.{Tells}
 use Rattle.stream_listing.specs.Listings.{Listing, State, listing_of, yet_listed, with_text, ListsPiece}
@@ -22,6 +23,7 @@ lists_command listing k l Usage tells = absurd (no_usage listing.broken tells.0)
     no_usage true e = cc
     no_usage false e = cc
 lists_command listing k l Input tells = λ same. absurd cc
+lists_command listing k l Full tells = λ same. absurd cc
 lists_command listing k l Outside tells = λ same. absurd cc
 lists_command listing k l Memory tells = λ same. absurd cc
 
@@ -34,6 +36,8 @@ Tells-behind k m l text listing Done all tells =
 Tells-behind k m l text listing Usage all tells =
     (tells.0, Appends-append k m l text listing.text false all tells.1)
 Tells-behind k m l text listing Input all tells =
+    (tells.0, Appends-append k m l text listing.text false all tells.1)
+Tells-behind k m l text listing Full all tells =
     (tells.0, Appends-append k m l text listing.text false all tells.1)
 Tells-behind k m l text listing Outside all tells =
     AppendsPart-append k m l text listing.text true all tells

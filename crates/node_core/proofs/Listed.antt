@@ -14,9 +14,9 @@ use Rattle.std.proofs.lemmas.Map.Views.{All-map-IsPermutation}
 use Rattle.mms_data.specs.declared.object_name.Scope.{Scope}
 use Rattle.mms_data.specs.ObjectName.{IsIdentifier}
 use Rattle.bilateral.specs.declared.rows.See.{See}
-use Rattle.bilateral.specs.Words.{is_name, is_identifier}
+use Rattle.table_words.specs.Words.{is_name, is_identifier}
 use Rattle.bilateral.specs.Rows.{CentreRows, IsCentre, no_point, table_of, point_of}
-use Rattle.bilateral.proofs.VisibleWords.{IsVisible-from_name, IsVisible-from_identifier}
+use Rattle.table_words.proofs.VisibleWords.{IsVisible-from_name, IsVisible-from_identifier}
 use Rattle.tase_views.specs.declared.call.TheConstants.{NAMED_VARIABLES, NAMED_VARIABLE_LISTS}
 use Rattle.tase_views.specs.declared.call.TheConstants.{DOMAINS}
 use Rattle.tase_views.specs.declared.reply.ReplyKind.TheVariants.{Error}
