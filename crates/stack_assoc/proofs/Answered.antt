@@ -1,47 +1,33 @@
 -- What an end answers is right.
-use Rattle.std.proofs.Common.{◌≡◌, ℕ, Bool, true, false, List, [], ◌∷◌, ◌++◌, Option, Some, None, IsSome}
-use Rattle.std.proofs.Common.{MatchOption, MatchBool, Ok, Err, refl, sym, ap, subst, ◌∙◌, append_assoc}
-use Rattle.std.proofs.Common.{inl, inr, filter_map, flat_map}
+use Rattle.std.proofs.Common.{◌≡◌, ℕ, List, [], ◌∷◌, ◌++◌, Option, Some, None}
+use Rattle.std.proofs.Common.{refl, sym, ap, subst, ◌∙◌, append_assoc}
+use Rattle.std.proofs.Common.{inr}
 use Rattle.std.proofs.lemmas.List.{append-nil}
-use Rattle.tpkt_cotp.specs.Streams.{Message, asks, confirms, gone, tsdu}
-use Rattle.tpkt_cotp.specs.Streams as streams
+use Rattle.tpkt_cotp.specs.Streams.{Message}
 use Rattle.tpkt_cotp.specs.Lines as lines
 use Rattle.tpkt_cotp.specs.Lines.{Line}
 use Rattle.tpkt_cotp.specs.Written.{confirm_octets, wire}
-use Rattle.stack_messages.specs.declared.expecting.Expecting.{Expecting}
 use Rattle.stack_messages.specs.declared.expecting.Side.{Side}
 use Rattle.stack_messages.specs.declared.fault.StackFault.{StackFault}
-use Rattle.stack_messages.specs.declared.heard.Heard.{Heard}
-use Rattle.stack_messages.specs.Messages.{message}
 use Rattle.stack_wire.specs.Setups.{cut_size}
 use Rattle.stack_wire.specs.Tsdus.{connect_tsdu}
 use Rattle.stack_wire.specs.declared.setup.Setup.{Setup}
-use Rattle.stack_assoc.specs.declared.input.StackIn.{StackIn}
 use Rattle.stack_assoc.specs.declared.known.Known.{Known}
 use Rattle.stack_assoc.specs.declared.standing.Standing.{Standing}
 use Rattle.stack_assoc.specs.declared.taken.Opening.{Opening}
 use Rattle.stack_assoc.specs.declared.taken.Opening.TheVariants as openings
-use Rattle.stack_assoc.specs.declared.taken.Came.{Came}
-use Rattle.stack_assoc.specs.declared.taken.Came.TheVariants as cames
-use Rattle.stack_assoc.specs.declared.taken.Said.{Said}
-use Rattle.stack_assoc.specs.declared.taken.Said.TheVariants as saids
 use Rattle.stack_assoc.specs.Fronts.{StartsWith}
-use Rattle.stack_assoc.specs.Told.{Told, asked, confirmed, heard, Role, called, calling, side_of, end_of}
-use Rattle.stack_assoc.specs.Told as told
-use Rattle.stack_assoc.specs.Expectations.{setup_after, expecting_after}
-use Rattle.stack_assoc.specs.Tellings.{TellsNext, BreaksNext, Tell, Tells, Stops}
-use Rattle.stack_assoc.specs.Handing.{stack_in, handed_out, answer_to, answers_to}
-use Rattle.stack_assoc.specs.Knowing.{Knows, known_with, setup_with, expecting_by}
+use Rattle.stack_assoc.specs.Told.{Told, Role, called, calling, side_of, end_of}
+use Rattle.stack_assoc.specs.Expectations.{setup_after}
+use Rattle.stack_assoc.specs.Tellings.{TellsNext, BreaksNext, Tell, Stops}
+use Rattle.stack_assoc.specs.Handing.{answers_to}
+use Rattle.stack_assoc.specs.Knowing.{Knows, known_with, setup_with}
 use Rattle.stack_assoc.specs.Taking.{opening_seen, opening_told, opened, opening_listed, owed_octets}
-use Rattle.stack_assoc.specs.Taking.{Says, SaysOf}
-use Rattle.stack_assoc.specs.Courses.{Course, listed, taken, title_of, IsSince, Reads, Stands}
-use Rattle.stack_assoc.specs.Courses.{standing_with, standing_behind, is_offered, IsSettled, Goes}
-use Rattle.stack_assoc.specs.Courses.{NothingLeft, Answers}
-use Rattle.stack_assoc.specs.Steps.{HasRest, HasBroken, Takes, IsThere, told_with, told_answer}
+use Rattle.stack_assoc.specs.Courses.{Course, listed, taken, title_of, Stands}
 use Rattle.stack_assoc.proofs.FrontsKept.{stands_front}
-use Rattle.stack_assoc.proofs.KnowingMore.{knows_more, setup_more, since_more, expecting_known}
+use Rattle.stack_assoc.proofs.KnowingMore.{knows_more, setup_more, since_more}
 use Rattle.stack_assoc.proofs.Openings.{nothing_before}
-use Rattle.stack_assoc.proofs.StepsTaken.{reads_of, matched_none, matched_some, known_alone}
+use Rattle.stack_assoc.proofs.StepsTaken.{reads_of, matched_none, known_alone}
 use Rattle.stack_assoc.proofs.StepsTaken.{setup_alone}
 use Rattle.stack_assoc.proofs.StreamLaws.{front_front}
 use Rattle.stack_assoc.proofs.TurnLaws.{spelled_push}

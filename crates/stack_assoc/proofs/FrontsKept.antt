@@ -1,14 +1,12 @@
 -- Messages that a stream begins with are the first of all its messages.
-use Rattle.std.proofs.Common.{◌≡◌, ℕ, List, [], ◌∷◌, ◌++◌, length, Option, Some, None, refl, sym, ap}
-use Rattle.std.proofs.Common.{subst, ◌∙◌, append_assoc, arith, ◌<◌, MatchOption}
-use Rattle.std.proofs.lemmas.List.{append-nil, length-append}
+use Rattle.std.proofs.Common.{◌≡◌, ℕ, List, [], ◌++◌, length, Option, Some, None, sym, ap}
+use Rattle.std.proofs.Common.{◌∙◌, append_assoc, MatchOption}
 use Rattle.tpkt_cotp.specs.declared.fault.CotpFault.{CotpFault}
 use Rattle.tpkt_cotp.specs.declared.turn.Role.{Role}
-use Rattle.tpkt_cotp.specs.declared.turn.Turn.{Turn}
 use Rattle.tpkt_cotp.specs.declared.turn.Turn.TheVariants as turns
-use Rattle.tpkt_cotp.specs.Streams.{Message, SpellsMessage, SpellsMessages, turn_after, Says, Stops}
+use Rattle.tpkt_cotp.specs.Streams.{Message, turn_after, Says, Stops}
 use Rattle.tpkt_cotp.specs.Lines.{Line, Reads, Stands}
-use Rattle.tpkt_cotp.proofs.OneStream.{NoMessage, at_zero, fault_no_message}
+use Rattle.tpkt_cotp.proofs.OneStream.{at_zero, fault_no_message}
 use Rattle.tpkt_cotp.proofs.Always.{Continues, goes_on}
 use Rattle.stack_assoc.specs.Fronts.{StartsWith}
 

@@ -1,6 +1,6 @@
 -- What is kept of the messages that have come, with one message more.
-use Rattle.std.proofs.Common.{◌≡◌, ℕ, ◌+◌, ◌≤◌, Bool, true, false, not, ◌&&◌, ◌||◌, cond, List, []}
-use Rattle.std.proofs.Common.{◌∷◌, ◌++◌, length, Option, Some, None, is_some, leb, refl, sym, ap, subst}
+use Rattle.std.proofs.Common.{◌≡◌, ℕ, Bool, true, false, not, ◌&&◌, ◌||◌, List, []}
+use Rattle.std.proofs.Common.{◌∷◌, ◌++◌, length, Option, Some, None, is_some, refl, sym, ap}
 use Rattle.std.proofs.Common.{◌∙◌, arith}
 use Rattle.std.specs.List.{list_any}
 use Rattle.std.proofs.lemmas.Bool.{le-leb}
@@ -8,16 +8,15 @@ use Rattle.std.proofs.lemmas.List.{length-append}
 use Rattle.stack_messages.specs.declared.expecting.Expecting.{Expecting}
 use Rattle.stack_messages.specs.declared.expecting.Phase.{Phase}
 use Rattle.stack_messages.specs.declared.expecting.Side.{Side}
-use Rattle.stack_messages.specs.declared.expecting.Side.TheVariants as sides
 use Rattle.stack_messages.specs.declared.heard.Connecting.{Connecting}
 use Rattle.stack_wire.specs.declared.setup.Setup.{Setup}
 use Rattle.stack_assoc.specs.declared.known.Known.{Known}
 use Rattle.stack_assoc.specs.Told.{Told, Role, called, calling, side_of, or_else, first_in, size_in}
 use Rattle.stack_assoc.specs.Told.{confirm_in, connect_in, accept_in, is_refuse, is_conclude}
 use Rattle.stack_assoc.specs.Told.{is_concluded}
-use Rattle.stack_assoc.specs.Expectations.{setup_by, size_by, setup_after, phase_after, said_by}
+use Rattle.stack_assoc.specs.Expectations.{setup_by, size_by, setup_after, phase_after}
 use Rattle.stack_assoc.specs.Expectations.{awaited_after, expecting_after}
-use Rattle.stack_assoc.specs.Knowing.{has_said, Knows, known_with, sized_by, fixed_by, setup_with}
+use Rattle.stack_assoc.specs.Knowing.{Knows, known_with, sized_by, fixed_by, setup_with}
 use Rattle.stack_assoc.specs.Knowing.{called_phase, calling_phase, phase_by, expecting_by}
 use Rattle.stack_assoc.specs.Courses.{IsSince}
 

@@ -11,3 +11,5 @@ pub mod SaidMore
 pub mod Shorter
 pub mod Results
 pub mod Feeding
+pub mod FewOffers
+pub mod Modest

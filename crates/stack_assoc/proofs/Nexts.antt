@@ -1,7 +1,7 @@
 -- What `next` answers is right.
 use Rattle.std.proofs.Common.{◌≡◌, ℕ, Bool, true, false, List, [], ◌∷◌, ◌++◌, Option, Some, None, IsSome}
 use Rattle.std.proofs.Common.{MatchOption, MatchBool, Ok, Err, refl, sym, ap, subst, ◌∙◌, append_assoc}
-use Rattle.std.proofs.Common.{inl, inr}
+use Rattle.std.proofs.Common.{inl}
 use Rattle.std.proofs.lemmas.List.{append-nil}
 use Rattle.tpkt_cotp.specs.Streams.{Message, asks, confirms, gone, tsdu}
 use Rattle.tpkt_cotp.specs.Streams as streams
@@ -10,9 +10,7 @@ use Rattle.tpkt_cotp.specs.Lines.{Line}
 use Rattle.stack_messages.specs.declared.expecting.Expecting.{Expecting}
 use Rattle.stack_messages.specs.declared.fault.StackFault.{StackFault}
 use Rattle.stack_messages.specs.declared.heard.Heard.{Heard}
-use Rattle.stack_messages.specs.Meanings.{Meaning}
 use Rattle.stack_messages.specs.Messages.{message}
-use Rattle.stack_assoc.specs.declared.input.StackIn.{StackIn}
 use Rattle.stack_assoc.specs.declared.standing.Standing.{Standing}
 use Rattle.stack_assoc.specs.declared.standing.Standing.TheVariants as standings
 use Rattle.stack_assoc.specs.declared.taken.Opening.{Opening}
@@ -24,13 +22,13 @@ use Rattle.stack_assoc.specs.declared.taken.Said.TheVariants as saids
 use Rattle.stack_assoc.specs.Told.{Told, heard, Role, called, calling, end_of}
 use Rattle.stack_assoc.specs.Told as tellings
 use Rattle.stack_assoc.specs.Expectations.{expecting_after}
-use Rattle.stack_assoc.specs.Tellings.{TellsNext, BreaksNext, Tell, Tells, Stops}
-use Rattle.stack_assoc.specs.Handing.{heard_in, stack_in, handed_out, answer_to, answers_to}
+use Rattle.stack_assoc.specs.Tellings.{TellsNext, Tells, Stops}
+use Rattle.stack_assoc.specs.Handing.{handed_out, answer_to, answers_to}
 use Rattle.stack_assoc.specs.Knowing.{expecting_by}
 use Rattle.stack_assoc.specs.Taking.{opening_told, opened, opening_listed, owed_octets, Says}
-use Rattle.stack_assoc.specs.Courses.{Course, listed, taken, Reads, Stands, standing_with, standing_behind}
+use Rattle.stack_assoc.specs.Courses.{Course, listed, Reads, Stands, standing_with, standing_behind}
 use Rattle.stack_assoc.specs.Courses.{is_offered, IsSettled, Goes, NothingLeft, Answers}
-use Rattle.stack_assoc.specs.Steps.{LeavesOff, HasRest, HasBroken, Takes, IsThere, told_with, told_answer}
+use Rattle.stack_assoc.specs.Steps.{LeavesOff, Takes, IsThere, told_with, told_answer}
 use Rattle.stack_assoc.proofs.KnowingMore.{since_more, expecting_known}
 use Rattle.stack_assoc.proofs.Answered.{tell_opened, answered, answered_stands, answers_owed, told_one}
 use Rattle.stack_assoc.proofs.Answered.{told_stands, broken_stops, stopped_stands}

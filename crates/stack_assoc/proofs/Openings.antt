@@ -1,12 +1,12 @@
 -- What begins a connection of the transport comes first, and once.
-use Rattle.std.proofs.Common.{◌≡◌, ℕ, ◌+◌, Bool, true, false, List, [], ◌∷◌, ◌++◌, length, Option, Some, None}
-use Rattle.std.proofs.Common.{refl, sym, ap, subst, ◌∙◌}
+use Rattle.std.proofs.Common.{◌≡◌, ℕ, ◌+◌, true, false, List, [], ◌∷◌, ◌++◌, length, Option, Some, None}
+use Rattle.std.proofs.Common.{refl, sym, subst}
 use Rattle.tpkt_cotp.specs.declared.turn.Role as transport
 use Rattle.tpkt_cotp.specs.declared.turn.Turn.{Turn}
 use Rattle.tpkt_cotp.specs.declared.turn.Turn.TheVariants as turns
 use Rattle.tpkt_cotp.specs.Turns.{may_come}
 use Rattle.tpkt_cotp.specs.Tpdus.{Tpdu, request, confirm, disconnect, part, kind}
-use Rattle.tpkt_cotp.specs.Streams.{Message, asks, confirms, gone, tsdu, message_of, SpellsMessage}
+use Rattle.tpkt_cotp.specs.Streams.{Message, asks, confirms, gone, tsdu, message_of}
 use Rattle.tpkt_cotp.specs.Streams.{SpellsMessages}
 use Rattle.stack_assoc.specs.declared.taken.Opening.{Opening}
 use Rattle.stack_assoc.specs.declared.taken.Opening.TheVariants as openings

@@ -1,6 +1,6 @@
 -- An end that has said something stands where it stood.
 use Rattle.std.proofs.Common.{◌≡◌, ℕ, ◌+◌, ◌<◌, ◌≤◌, Bool, true, false, not, ◌&&◌, List, [], ◌∷◌, ◌++◌}
-use Rattle.std.proofs.Common.{length, Option, Some, None, MatchOption, leb, refl, sym, ap, subst, ◌∙◌, arith}
+use Rattle.std.proofs.Common.{length, Option, Some, None, MatchOption, refl, sym, ap, subst, arith}
 use Rattle.std.specs.List.{list_any}
 use Rattle.std.proofs.lemmas.Bool.{lt-leb}
 use Rattle.std.proofs.lemmas.List.{length-append}
@@ -23,7 +23,7 @@ use Rattle.stack_assoc.specs.Saying.{known_concluding, known_said, is_conclude, 
 use Rattle.stack_assoc.specs.Saying.{role_concluding, role_by, role_said}
 use Rattle.stack_assoc.specs.Told.{Told, asked, confirmed, heard, Role, called, calling, is_concluded}
 use Rattle.stack_assoc.specs.Told as told
-use Rattle.stack_assoc.specs.Expectations.{said_by, expecting_after, setup_after, phase_after}
+use Rattle.stack_assoc.specs.Expectations.{expecting_after, setup_after, phase_after}
 use Rattle.stack_assoc.specs.Tellings.{TellsNext, Tell, Stops}
 
 abbrev awaiting : Option (List ℕ) → List Told → Bool → Expecting

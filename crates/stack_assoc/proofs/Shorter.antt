@@ -1,7 +1,7 @@
 -- What is handed out leaves less to be read.
-use Rattle.std.proofs.Common.{◌≡◌, ℕ, ◌+◌, ◌<◌, ◌≤◌, List, length, Option, Some, None, IfOk, OnSome, sym}
-use Rattle.std.proofs.Common.{subst, arith, Ok, Err, refl}
-use Rattle.tpkt_cotp.specs.Streams.{Message, asks, confirms, gone, tsdu}
+use Rattle.std.proofs.Common.{◌≡◌, ℕ, ◌+◌, ◌<◌, ◌≤◌, length, Option, Some, None, IfOk, OnSome}
+use Rattle.std.proofs.Common.{subst, arith, refl}
+use Rattle.tpkt_cotp.specs.Streams.{Message}
 use Rattle.stack_messages.specs.declared.expecting.Expecting.{Expecting}
 use Rattle.stack_assoc.specs.declared.taken.Came.{Came}
 use Rattle.stack_assoc.specs.declared.taken.Came.TheVariants as cames

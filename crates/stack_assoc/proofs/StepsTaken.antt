@@ -1,6 +1,6 @@
 -- An end that takes a message of its transport stands where it stood.
 use Rattle.std.proofs.Common.{◌≡◌, ℕ, List, [], ◌∷◌, ◌++◌, Option, Some, None, MatchOption, refl, sym}
-use Rattle.std.proofs.Common.{ap, subst, ◌∙◌, append_assoc, ◌⊎◌, inl, inr, IsSome, ◌≤◌, arith}
+use Rattle.std.proofs.Common.{ap, subst, ◌∙◌, append_assoc, inl, inr, IsSome, arith}
 use Rattle.std.proofs.lemmas.List.{append-nil}
 use Rattle.tpkt_cotp.specs.Streams.{Message}
 use Rattle.tpkt_cotp.specs.Streams as streams

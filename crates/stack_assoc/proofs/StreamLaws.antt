@@ -1,25 +1,22 @@
 -- A stream tells or stops, in one way; what was told stays told.
 use Rattle.std.proofs.Common.{◌≡◌, ℕ, ◌+◌, List, [], ◌∷◌, ◌++◌, length, ◌⊎◌, inl, inr, refl, sym, ap}
 use Rattle.std.proofs.Common.{subst, ◌∙◌, append_assoc, get_or, drop}
-use Rattle.tpkt_cotp.specs.declared.fault.CotpFault.{CotpFault}
 use Rattle.tpkt_cotp.specs.declared.turn.Role as transport
 use Rattle.tpkt_cotp.specs.declared.turn.Turn.{Turn}
 use Rattle.tpkt_cotp.specs.declared.turn.Turn.TheVariants as turns
 use Rattle.tpkt_cotp.specs.Streams.{Message, SpellsMessages}
-use Rattle.tpkt_cotp.specs.Streams as streams
 use Rattle.tpkt_cotp.proofs.Always as below
 use Rattle.tpkt_cotp.proofs.OneStream as once
 use Rattle.tpkt_cotp.proofs.Answering.{stops_more}
 use Rattle.stack_messages.specs.declared.fault.StackFault.{StackFault}
 use Rattle.stack_assoc.specs.Fronts.{StartsWith}
-use Rattle.stack_assoc.specs.InTurn.{SpellInTurn}
 use Rattle.stack_assoc.specs.Told.{Told, Role, end_of}
 use Rattle.stack_assoc.specs.Tellings.{TellsNext, BreaksNext, Tell, Tells, StopsBelow, StopsAbove}
 use Rattle.stack_assoc.specs.Tellings.{Stops, transport_fault}
 use Rattle.stack_assoc.proofs.FrontsKept.{front_said, front_stopped, front_more, said_front}
 use Rattle.stack_assoc.proofs.FrontsKept.{stopped_front}
-use Rattle.stack_assoc.proofs.TurnLaws.{OneEach, spelled_once, spelled_parts, SpelledParts, BrokenTurn}
-use Rattle.stack_assoc.proofs.TurnLaws.{spelled_or_broken, spelled_unbroken, broken_once, SameBreak}
+use Rattle.stack_assoc.proofs.TurnLaws.{spelled_once, spelled_parts, BrokenTurn}
+use Rattle.stack_assoc.proofs.TurnLaws.{spelled_or_broken, spelled_unbroken, broken_once}
 use Rattle.stack_assoc.proofs.Readings.{OneMeaning, one_each}
 
 -- the octets of the first messages

@@ -1,5 +1,5 @@
 -- What may come behind the messages that a stream has told so far (ISO 8073, ISO 8327-1, ISO 9506-2).
-use Rattle.std.specs.Prelude.{ℕ, Bool, true, false, not, ◌&&◌, List, [], Option, Some, None, is_some}
+use Rattle.std.specs.Prelude.{ℕ, Bool, false, not, ◌&&◌, List, [], Option, Some, None, is_some}
 use Rattle.std.specs.Prelude.{nat_le, length, if◌then◌else◌}
 use Rattle.std.specs.List.{list_any}
 use Rattle.stack_wire.specs.declared.setup.Setup.{Setup}

@@ -1,5 +1,5 @@
 -- What is handed out of the messages that come, and what is answered at once.
-use Rattle.std.specs.Prelude.{ℕ, ℤ, pos, int_lt, Bool, true, false, not, ◌&&◌, ◌||◌, List, []}
+use Rattle.std.specs.Prelude.{ℕ, ℤ, pos, int_lt, Bool, false, not, ◌&&◌, ◌||◌, List, []}
 use Rattle.std.specs.Prelude.{Option, Some, None, is_some, filter_map, flat_map, bytes_eq}
 use Rattle.std.specs.Prelude.{if◌then◌else◌}
 use Rattle.tpkt_cotp.specs.Written.{confirm_octets, wire}

@@ -1,5 +1,5 @@
 -- Values that items spell one after another, each by what came before it.
-use Rattle.std.specs.Prelude.{◌≡◌, List, [], ◌∷◌, ◌++◌}
+use Rattle.std.specs.Prelude.{List, [], ◌∷◌, ◌++◌}
 
 -- behind these values the items spell those, in turn
 abbrev pub SpellInTurn : {X T : Type 0} → (List T → T → X → Type 0) → List T → List T → List X

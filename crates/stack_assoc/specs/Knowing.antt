@@ -1,6 +1,6 @@
 -- What an end keeps of the messages that have come.
-use Rattle.std.specs.Prelude.{◌≡◌, ℕ, ◌≤◌, Bool, true, false, not, ◌&&◌, ◌||◌, List, []}
-use Rattle.std.specs.Prelude.{Option, Some, None, is_some, length, if◌then◌else◌}
+use Rattle.std.specs.Prelude.{◌≡◌, ℕ, Bool, true, false, not, ◌&&◌, ◌||◌, List}
+use Rattle.std.specs.Prelude.{Option, Some, None, is_some, if◌then◌else◌}
 use Rattle.std.specs.List.{list_any}
 use Rattle.stack_messages.specs.declared.expecting.Expecting.{Expecting}
 use Rattle.stack_messages.specs.declared.heard.Connecting.{Connecting}

@@ -8,7 +8,7 @@ use Rattle.stack_wire.specs.Tsdus.{finish_tsdu, release_tsdu}
 use Rattle.stack_assoc.specs.declared.known.Known.{Known}
 use Rattle.stack_assoc.specs.declared.standing.Standing.{Standing}
 use Rattle.stack_assoc.specs.declared.standing.Standing.TheVariants as standings
-use Rattle.stack_assoc.specs.Told.{Told, Role, called, calling, is_conclude_pdu}
+use Rattle.stack_assoc.specs.Told.{Told, Role, calling, is_conclude_pdu}
 use Rattle.stack_assoc.specs.Courses.{Course}
 
 abbrev pub with_standing : Standing → Course → Course

@@ -1,16 +1,12 @@
 -- What the transport gave, and what it says.
-use Rattle.std.specs.Prelude.{◌≡◌, ℕ, Bool, true, false, List, [], ◌∷◌, ◌++◌, Option, Some, None}
-use Rattle.std.specs.Prelude.{IsSome}
-use Rattle.tpkt_cotp.specs.declared.fault.CotpFault.{CotpFault}
+use Rattle.std.specs.Prelude.{ℕ, List, [], ◌∷◌, Option, Some, None}
 use Rattle.tpkt_cotp.specs.Streams as transport
 use Rattle.tpkt_cotp.specs.Streams.{Message, asks, confirms, tsdu}
-use Rattle.tpkt_cotp.specs.Lines as lines
 use Rattle.tpkt_cotp.specs.Written.{confirm_octets, wire}
 use Rattle.presentation_profile.specs.Agreements.{results_of}
 use Rattle.stack_messages.specs.declared.expecting.Expecting.{Expecting}
 use Rattle.stack_messages.specs.declared.expecting.Side.{Side}
 use Rattle.stack_messages.specs.declared.expecting.Side.TheVariants as sides
-use Rattle.stack_messages.specs.declared.fault.StackFault.{StackFault}
 use Rattle.stack_messages.specs.declared.heard.Heard.{Heard}
 use Rattle.stack_messages.specs.declared.heard.Heard.TheVariants as heards
 use Rattle.stack_messages.specs.Meanings.{Meaning}
@@ -20,12 +16,9 @@ use Rattle.stack_assoc.specs.declared.taken.Opening.{Opening}
 use Rattle.stack_assoc.specs.declared.taken.Opening.TheVariants as openings
 use Rattle.stack_assoc.specs.declared.taken.Following.{Following}
 use Rattle.stack_assoc.specs.declared.taken.Following.TheVariants as followings
-use Rattle.stack_assoc.specs.declared.taken.Came.{Came}
-use Rattle.stack_assoc.specs.declared.taken.Came.TheVariants as cames
 use Rattle.stack_assoc.specs.declared.taken.Said.{Said}
 use Rattle.stack_assoc.specs.declared.taken.Said.TheVariants as saids
-use Rattle.stack_assoc.specs.Told.{Told, Role, end_of, asked, confirmed}
-use Rattle.stack_assoc.specs.Tellings.{Tell, Tells, Stops}
+use Rattle.stack_assoc.specs.Told.{Told, asked, confirmed}
 
 abbrev pub opening_seen : Opening → Message
 opening_seen (openings.Request r) = asks r

@@ -1,13 +1,11 @@
 //! What the transport gave that isn't told yet.
-ghost use Rattle.std.specs.Prelude.{◌≡◌, IfOk, Some, IsTrue, ◌↔◌};
-ghost use Rattle.stack_assoc.specs.Steps.{IsModest};
+ghost use Rattle.std.specs.Prelude.{◌≡◌, IfOk, Some};
 ghost use Rattle.tpkt_cotp.specs.Sound.{IsSound, IsSize};
 ghost use Rattle.stack_assoc.specs.Told.{size_in};
 ghost use Rattle.stack_assoc.specs.Taking.{results_heard, opening_seen, opening_told};
 
-use presentation_profile::{LARGEST_ID, MOST_OFFERS, Results, acse_id, results_of};
+use presentation_profile::{Results, results_of};
 use stack_messages::{Heard, StackFault};
-use stack_wire::OWN_ACSE;
 use std::alloc::{AllocError, Global};
 use tpkt_cotp::{ConnectConfirm, ConnectRequest};
 
@@ -54,19 +52,6 @@ pub(crate) fn results_heard(alloc: Global, heard: &Heard) -> Result<Results, All
     match heard {
         Heard::Connect(connecting) => results_of(alloc, connecting.contexts.as_slice()),
         _ => Ok(Results::new(alloc)),
-    }
-}
-
-/// Whether a connect has at most sixteen offers, with ids of 16 bits, as all do that were read.
-pub(crate) fn is_modest(heard: &Heard) -> bool
-    ensures { IsTrue result ↔ IsModest heard.now }
-{
-    match heard {
-        Heard::Connect(connecting) => {
-            connecting.contexts.len() <= MOST_OFFERS
-                && acse_id(connecting.contexts.as_slice()).unwrap_or(OWN_ACSE) <= LARGEST_ID
-        }
-        _ => true,
     }
 }
 

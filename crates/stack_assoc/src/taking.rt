@@ -12,7 +12,7 @@ ghost use Rattle.stack_assoc.specs.Steps.{Untold, FewerLeft, IsEmpty};
 ghost use Rattle.stack_assoc.specs.Steps.{IsBegun};
 
 use crate::stack::Stack;
-use crate::taken::{Came, Following, Opening, Said, is_modest, results_heard};
+use crate::taken::{Came, Following, Opening, Said, results_heard};
 use stack_messages::{Layer, Side, StackFault, read_message};
 use stack_wire::{cut_size, write_connect};
 use std::alloc::AllocError;
@@ -135,9 +135,6 @@ impl Stack {
         match read_message(self.alloc, octets, expecting)? {
             Err(fault) => Ok(Said::Broken(fault)),
             Ok(heard) => {
-                if !is_modest(&heard) {
-                    return Err(AllocError);
-                }
                 let results = results_heard(self.alloc, &heard)?;
                 Ok(Said::Heard(heard, results))
             }

@@ -1,8 +1,5 @@
-use Rattle.std.proofs.Common.{◌≡◌, ℕ, List, ◌++◌, Option, Result, OnSome, IfOk, ◌<◌, ◌∙◌, refl, sym, ap, subst}
+use Rattle.std.proofs.Common.{◌≡◌, ◌++◌, OnSome, IfOk, ◌<◌, ◌∙◌, refl, sym, ap}
 use Rattle.std.proofs.lemmas.Result.{err_from_is_err_and}
-use Rattle.stack_messages.specs.declared.fault.StackFault.{StackFault}
-use Rattle.stack_assoc.specs.declared.input.StackIn.{StackIn}
-use Rattle.stack_assoc.specs.declared.standing.Standing.{Standing}
 use Rattle.stack_assoc.specs.Knowing.{expecting_by}
 use Rattle.stack_assoc.specs.Taking.{owed_octets}
 use Rattle.stack_assoc.specs.Courses.{Course, Stands, Answers, is_offered, state_of}

@@ -1,8 +1,6 @@
 use Rattle.std.proofs.Common.{sym, subst}
 use Rattle.std.proofs.lemmas.Result.{on_err_weaker}
-use Rattle.stack_assoc.specs.declared.taken.Came.{Came}
 use Rattle.stack_assoc.specs.Courses.{Course, Stands}
-use Rattle.stack_assoc.specs.Steps.{FewerLeft}
 use Rattle.stack_assoc.proofs.Results.{if_ok_weaker}
 use Rattle.stack_assoc.proofs.StepsTaken.{begun, untold_then, fewer_then}
 use Rattle.stack_assoc.proofs.stack.Stack.take.Goals as goal

@@ -1,4 +1,4 @@
-use Rattle.std.proofs.Common.{ℕ, List, ◌∙◌, sym, ap, subst, Ok, Some, Option, Result}
+use Rattle.std.proofs.Common.{◌∙◌, sym, ap, subst, Ok, Some, Option, Result}
 use Rattle.tpkt_cotp.specs.declared.message.TransportIn.{TransportIn}
 use Rattle.tpkt_cotp.specs.declared.fault.CotpFault.{CotpFault}
 use Rattle.tpkt_cotp.specs.Lines as lines
