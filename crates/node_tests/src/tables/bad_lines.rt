@@ -17,7 +17,8 @@ const PEER: &str = "point P state\ndevice V command sbo 1 1000\npeer A 1.1.1 D T
 const FULL: &str = "point P state\ndevice V command sbo 1 1000\npeer A 1.1.1 D T
 peer B * D T\nslots 8\nsets 64\npending 1024\nsee P domain value\ncontrol V\n";
 
-pub const BAD_LINES: [BadLine; 168] = [
+// Lines of points.
+pub const POINTS: [BadLine; 27] = [
     (NOTHING, "x", 1, Word),
     (NOTHING, "POINT P state", 1, Word),
     (NOTHING, "point", 1, Word),
@@ -45,6 +46,10 @@ pub const BAD_LINES: [BadLine; 168] = [
     (NOTHING, "point P state ", 1, Word),
     (NOTHING, " point P state", 1, Word),
     (NOTHING, "point\tP state", 1, Word),
+];
+
+// Lines of devices.
+pub const DEVICES: [BadLine; 36] = [
     (NOTHING, "device", 1, Word),
     (NOTHING, "device V", 1, Word),
     (NOTHING, "device V command", 1, Word),
@@ -86,6 +91,10 @@ pub const BAD_LINES: [BadLine; 168] = [
     (NOTHING, "device V command sbo 1 2147483647", 1, Limit),
     (NOTHING, "device V command sbo 1 -2147483648", 1, Limit),
     (NOTHING, "device V setpoint 1 2 sbo 1 0", 1, Limit),
+];
+
+// Lines that may not stand before the first peer, or that repeat one there.
+pub const PLACES: [BadLine; 24] = [
     (NOTHING, "see P domain value", 1, Place),
     (NOTHING, "control V", 1, Place),
     (NOTHING, "slots 1", 1, Place),
@@ -110,6 +119,10 @@ pub const BAD_LINES: [BadLine; 168] = [
     (ROWS, "slots 0", 3, Word),
     (ROWS, "sets 0", 3, Word),
     (ROWS, "pending 1023", 3, Word),
+];
+
+// Lines of peers.
+pub const PEERS: [BadLine; 18] = [
     (ROWS, "peer", 3, Word),
     (ROWS, "peer A 1.1.1 D", 3, Word),
     (ROWS, "peer A 1.1.1 D T x", 3, Word),
@@ -143,6 +156,10 @@ pub const BAD_LINES: [BadLine; 168] = [
         3,
         Word,
     ),
+];
+
+// Lines of a table: its limits and what its peer sees.
+pub const ROWS_OF_TABLES: [BadLine; 35] = [
     (PEER, "point R state", 4, Place),
     (PEER, "point P state", 4, Place),
     (PEER, "device W command direct", 4, Place),
@@ -188,6 +205,11 @@ pub const BAD_LINES: [BadLine; 168] = [
     (PEER, "see P vmd VALUE", 4, Word),
     (PEER, "SEE P domain value", 4, Word),
     (PEER, "see P domain value\r", 4, Word),
+];
+
+// Lines of a table: what its peer controls, limits that are passed, names that aren't there, and all
+// that is there already.
+pub const LAST_ROWS: [BadLine; 28] = [
     (PEER, "control", 4, Word),
     (PEER, "control V tags", 4, Word),
     (PEER, "control V Tag", 4, Word),

@@ -1,5 +1,5 @@
 //! Texts of tables: the first bad line and its reason, and what is taken.
-use crate::tables::bad_lines::BAD_LINES;
+use crate::tables::bad_lines::{DEVICES, LAST_ROWS, PEERS, PLACES, POINTS, ROWS_OF_TABLES};
 use bilateral::{TableFault, TableWhy, read_centre};
 use std::alloc::{AllocError, Global};
 use std::process::Abort;
@@ -71,8 +71,48 @@ fn is_refused(
 }
 
 #[test]
-fn lines_are_refused_with_their_reasons(rt: HostRuntime) -> Result<(), Fail> {
-    for (front, text, line, why) in BAD_LINES {
+fn points_are_refused_with_their_reasons(rt: HostRuntime) -> Result<(), Fail> {
+    for (front, text, line, why) in POINTS {
+        is_refused(&rt, front, text, line, why)?;
+    }
+    Ok(())
+}
+
+#[test]
+fn devices_are_refused_with_their_reasons(rt: HostRuntime) -> Result<(), Fail> {
+    for (front, text, line, why) in DEVICES {
+        is_refused(&rt, front, text, line, why)?;
+    }
+    Ok(())
+}
+
+#[test]
+fn places_are_refused_with_their_reasons(rt: HostRuntime) -> Result<(), Fail> {
+    for (front, text, line, why) in PLACES {
+        is_refused(&rt, front, text, line, why)?;
+    }
+    Ok(())
+}
+
+#[test]
+fn peers_are_refused_with_their_reasons(rt: HostRuntime) -> Result<(), Fail> {
+    for (front, text, line, why) in PEERS {
+        is_refused(&rt, front, text, line, why)?;
+    }
+    Ok(())
+}
+
+#[test]
+fn rows_of_tables_are_refused_with_their_reasons(rt: HostRuntime) -> Result<(), Fail> {
+    for (front, text, line, why) in ROWS_OF_TABLES {
+        is_refused(&rt, front, text, line, why)?;
+    }
+    Ok(())
+}
+
+#[test]
+fn last_rows_are_refused_with_their_reasons(rt: HostRuntime) -> Result<(), Fail> {
+    for (front, text, line, why) in LAST_ROWS {
         is_refused(&rt, front, text, line, why)?;
     }
     Ok(())
