@@ -1,8 +1,8 @@
 -- Words without blanks, joined by spaces, are the words of the line.
-use Rattle.std.proofs.Common.{◌≡◌, ◌≢◌, ℕ, ◌+◌, ◌-◌, ◌<◌, ◌≤◌, Bool, true, false, not, ◌&&◌, ◌||◌}
+use Rattle.std.proofs.Common.{◌≡◌, ◌≢◌, ℕ, ◌-◌, ◌<◌, ◌≤◌, Bool, true, false, not, ◌&&◌, ◌||◌}
 use Rattle.std.proofs.Common.{◌==◌, cond, eqb, leb, List, [], ◌∷◌, ◌++◌, length, filter, get_or}
-use Rattle.std.proofs.Common.{Option, Some, None, refl, sym, ap, ◌∙◌, arith, append_assoc}
-use Rattle.std.specs.List.{slice_split, onto_first, list_any, list_all, join_with_byte}
+use Rattle.std.proofs.Common.{Some, None, refl, sym, ap, ◌∙◌, arith, append_assoc}
+use Rattle.std.specs.List.{slice_split, onto_first, list_any, list_all}
 use Rattle.std.specs.Char.{is_ascii_alphabetic, is_ascii_alphanumeric, is_ascii_digit}
 use Rattle.std.specs.Str.{all_ascii_digits}
 use Rattle.std.proofs.lemmas.Bool.{cond-true, cond-false, and_parts, and_from, leb-true, eq-eqb}
@@ -10,7 +10,7 @@ use Rattle.std.proofs.lemmas.Bool.{ne_eqb, false≢true}
 use Rattle.std.proofs.lemmas.Bool.Decides.{nat_tests}
 use Rattle.std.proofs.lemmas.List.{length_push}
 use Rattle.std.proofs.lemmas.List.Folds.{list_any-append}
-use Rattle.plain_text.specs.Words.{is_word, words, is_spaced, words_in}
+use Rattle.plain_text.specs.Words.{is_word, is_spaced, words_in}
 use Rattle.plain_text.specs.Numbers.{is_number, number_in}
 use Rattle.table_words.specs.Words.{is_name, is_plain_name, is_identifier}
 use Rattle.std.specs.Str.Lines.{lines, lines_of_parts, strip_carriage_return}

@@ -2,7 +2,7 @@
 -- finds.
 use Rattle.std.proofs.Common.{◌≡◌, ◌≢◌, ℕ, zero, suc, ◌-◌, ◌<◌, ◌≤◌, Bool, true, false, not, ◌&&◌}
 use Rattle.std.proofs.Common.{◌==◌, cond, eqb, leb, List, [], ◌∷◌, ◌++◌, length, get_or, set}
-use Rattle.std.proofs.Common.{AllPairs, All, IsTrue, Option, Some, None, unwrap_or, position, refl}
+use Rattle.std.proofs.Common.{AllPairs, All, IsTrue, Option, Some, None, position, refl}
 use Rattle.std.proofs.Common.{sym, ap, subst, ◌∙◌, inl, inr, arith, bytes_eq}
 use Rattle.std.specs.Option.{option_eq}
 use Rattle.std.specs.Cmp.Lexicographic.{bytes_decides}
@@ -13,7 +13,7 @@ use Rattle.std.proofs.lemmas.List.{length-set, length_push, get_or-set_same, get
 use Rattle.std.proofs.lemmas.List.{get_or_default}
 use Rattle.std.proofs.lemmas.List.Elements.{All-push, All-set, All-get_or}
 use Rattle.std.proofs.lemmas.List.Quantifiers.{all_pairs_push, position-Some}
-use Rattle.bilateral.specs.declared.line.TableLine.TheVariants.{Point, Device, Peer, See, Control}
+use Rattle.bilateral.specs.declared.line.TableLine.TheVariants.{Device, Peer}
 use Rattle.bilateral.specs.declared.rows.PointRow.{PointRow}
 use Rattle.bilateral.specs.declared.rows.DeviceRow.{DeviceRow}
 use Rattle.bilateral.specs.declared.rows.See.{See as SeeRow}
@@ -22,19 +22,18 @@ use Rattle.bilateral.specs.declared.rows.Table.{Table}
 use Rattle.bilateral.specs.declared.rows.TheConstants.{DEVICE_LIMIT, SEE_LIMIT, SPAN_LIMIT}
 use Rattle.bilateral.specs.declared.rows.TheConstants.{SLOT_LIMIT, SET_LIMIT, PENDING_LEAST}
 use Rattle.bilateral.specs.declared.rows.TheConstants.{PENDING_LIMIT}
-use Rattle.tase_points.specs.declared.layout.Component.{Component}
+use Rattle.tase_points.specs.Layouts.{IsLayout}
 use Rattle.table_words.specs.Words.{is_name}
-use Rattle.table_words.specs.Devices.{IsForm}
-use Rattle.bilateral.specs.Rows.{CentreRows, IsCentre, IsTable, IsControlling, IsDevice, place_of_point}
+use Rattle.bilateral.specs.Rows.{CentreRows, IsCentre, IsTable, IsControlling, IsDevice}
+use Rattle.bilateral.specs.Rows.{place_of_point}
 use Rattle.bilateral.specs.Rows.{place_of_device, place_of_see, place_of_control, table_of}
 use Rattle.bilateral.specs.Rows.{no_table, no_point, no_device}
-use Rattle.bilateral.specs.Reading.{SoFar, with_row, with_see, with_control, with_slots, with_sets}
-use Rattle.bilateral.specs.Reading.{with_pending, with_last, last_peer, last_table, seen_in_last}
-use Rattle.bilateral.specs.Reading.{controlled_in_last}
-use Rattle.bilateral.specs.Lines.{IsLawful, form_of}
+use Rattle.bilateral.specs.Reading.{with_see, with_control, with_slots, with_sets}
+use Rattle.bilateral.specs.Reading.{with_pending, with_last, last_peer, last_table}
+use Rattle.bilateral.specs.Lines.{IsLawful}
 use Rattle.plain_text.proofs.Parts.{position-None}
 use Rattle.bilateral.proofs.Positions.{position-push_here, position-push_other}
-use Rattle.bilateral.proofs.Taken.{IsNewPoint, IsNewDevice, IsNewPeer, IsNewSee, IsNewControl}
+use Rattle.bilateral.proofs.Taken.{IsNewPoint, IsNewDevice, IsNewPeer}
 
 -- a key that is found nowhere differs from every row's
 fresh_key : {X : Type 0} (key : X → List ℕ) (rows : List X) (wanted : List ℕ)
@@ -133,7 +132,10 @@ IsTable-new points table lawful = record {
   once = subst (λ sees. AllPairs (λ a b. a.point ≢ b.point) sees) (sym lawful.3.0)
       (λ i j d before below. absurd (omega arith));
   limit = subst (λ sees. length sees ≤ SEE_LIMIT) (sym lawful.3.0) (omega arith);
+  layouts = subst (λ sees. All (λ see. IsLayout see.layout) sees) (sym lawful.3.0)
+      (λ k d below. absurd (omega arith));
   key = lawful.0;
+  title = lawful.4;
   domain = lawful.1;
   id = lawful.2;
   slots_least = omega (arith, lawful.3.2);
@@ -253,14 +255,16 @@ IsCentre-with_last rows table lawful some same_key same_title is_table is_contro
 -- a table with a row more, for a point that is there and has no row yet
 pub IsTable-with_see : (points : ℕ) (table : Table) (see : SeeRow) → IsTable points table
     → see.point < points → place_of_see table see.point ≡ None → length table.sees < SEE_LIMIT
-    → IsTable points (with_see table see)
-IsTable-with_see points table see lawful known fresh room = record {
+    → IsLayout see.layout → IsTable points (with_see table see)
+IsTable-with_see points table see lawful known fresh room layout = record {
   known = All-push (λ s. s.point < points) table.sees see lawful.known known;
   once = all_pairs_push (λ a b. a.point ≢ b.point) table.sees see lawful.once
       (λ k d below same. both_ways (eqb (get_or table.sees k d).point see.point)
       (position-None (λ s. s.point == see.point) table.sees fresh k d below) (eq-eqb _ _ same));
   limit = omega (arith, length_push table.sees see, room);
+  layouts = All-push (λ s. IsLayout s.layout) table.sees see lawful.layouts layout;
   key = lawful.key;
+  title = lawful.title;
   domain = lawful.domain;
   id = lawful.id;
   slots_least = lawful.slots_least;
@@ -292,7 +296,9 @@ IsTable-with_control points table row lawful = record {
   known = lawful.known;
   once = lawful.once;
   limit = lawful.limit;
+  layouts = lawful.layouts;
   key = lawful.key;
+  title = lawful.title;
   domain = lawful.domain;
   id = lawful.id;
   slots_least = lawful.slots_least;
@@ -310,7 +316,9 @@ IsTable-with_slots points table number lawful least most = record {
   known = lawful.known;
   once = lawful.once;
   limit = lawful.limit;
+  layouts = lawful.layouts;
   key = lawful.key;
+  title = lawful.title;
   domain = lawful.domain;
   id = lawful.id;
   slots_least = least;
@@ -327,7 +335,9 @@ IsTable-with_sets points table number lawful least most = record {
   known = lawful.known;
   once = lawful.once;
   limit = lawful.limit;
+  layouts = lawful.layouts;
   key = lawful.key;
+  title = lawful.title;
   domain = lawful.domain;
   id = lawful.id;
   slots_least = lawful.slots_least;
@@ -345,7 +355,9 @@ IsTable-with_pending points table number lawful least most = record {
   known = lawful.known;
   once = lawful.once;
   limit = lawful.limit;
+  layouts = lawful.layouts;
   key = lawful.key;
+  title = lawful.title;
   domain = lawful.domain;
   id = lawful.id;
   slots_least = lawful.slots_least;

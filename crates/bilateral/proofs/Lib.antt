@@ -9,4 +9,7 @@ pub mod Told
 pub mod Spelled
 mod Worked
 pub mod CleanWords
+pub mod TitleWords
 pub mod LineTexts
+pub mod Growing
+pub mod WrittenCentres

@@ -1,18 +1,18 @@
 -- The written form of a line is read back as that line.
-use Rattle.std.proofs.Common.{◌≡◌, ℕ, suc, ◌+◌, ◌<◌, ◌≤◌, ◌^◌, Bool, true, false, not, ◌&&◌, cond}
+use Rattle.std.proofs.Common.{◌≡◌, ℕ, suc, ◌<◌, ◌≤◌, ◌^◌, Bool, true, false, not, ◌&&◌, cond}
 use Rattle.std.proofs.Common.{eqb}
-use Rattle.std.proofs.Common.{leb, List, [], ◌∷◌, ◌++◌, length, map, filter, IsTrue, Option, Some}
+use Rattle.std.proofs.Common.{leb, List, [], ◌∷◌, ◌++◌, length, filter, IsTrue, Option, Some}
 use Rattle.std.proofs.Common.{None, refl, sym, ap, ◌∙◌, arith, ℤ, int_le, decimal, append_assoc}
-use Rattle.std.specs.Prelude.{pos, negsuc, codes, Result, Ok, Err, option_and_then, unwrap_or}
+use Rattle.std.specs.Prelude.{pos, negsuc, codes, Ok, option_and_then}
 use Rattle.std.specs.Option.{option_map}
 use Rattle.std.specs.Fmt.{signed_decimal}
-use Rattle.std.specs.List.{slice_split, join_with_byte}
+use Rattle.std.specs.List.{slice_split}
 use Rattle.std.specs.Str.Lines.{lines}
-use Rattle.std.proofs.lemmas.Bool.{cond-true, and_parts, and_from, leb-true, eqb-true, cases_Bool}
-use Rattle.std.proofs.lemmas.Bool.{false≢true, le-leb}
+use Rattle.std.proofs.lemmas.Bool.{cond-true, and_parts, and_from, leb-true, eqb-true}
+use Rattle.std.proofs.lemmas.Bool.{le-leb}
 use Rattle.plain_text.specs.Lines.{is_skipped}
 use Rattle.plain_text.specs.Words.{words_in, each_in}
-use Rattle.plain_text.specs.Numbers.{number_in, integer_in, integer_within, if_passes, negative}
+use Rattle.plain_text.specs.Numbers.{number_in, integer_in, if_passes, negative}
 use Rattle.plain_text.proofs.Decimal.{number_in-of_decimal}
 use Rattle.tase_points.specs.declared.kind.Kind.{Kind}
 use Rattle.tase_points.specs.declared.kind.Kind.TheVariants.{State, Discrete, Real}
@@ -20,12 +20,11 @@ use Rattle.tase_points.specs.declared.layout.Component.{Component}
 use Rattle.tase_points.specs.declared.layout.Component.TheVariants.{Value, Time, Millis, Flags, Cov}
 use Rattle.sbo_device.specs.declared.kind.CommandKind.{CommandKind}
 use Rattle.sbo_device.specs.declared.kind.CommandKind.TheVariants.{Command, Setpoint}
-use Rattle.table_words.specs.declared.device_form.DeviceForm.{DeviceForm}
 use Rattle.table_words.specs.Words.{is_name, is_identifier, kind_in, scope_in, component_in}
-use Rattle.table_words.specs.Words.{layout_in, layout_of, layout_from, is_distinct, title_in}
+use Rattle.table_words.specs.Words.{layout_in, layout_from, is_distinct}
 use Rattle.table_words.specs.Words.{limit_in, limit_of}
 use Rattle.table_words.specs.Devices.{short_in, span_in, natural, range_in, range_of, form_in}
-use Rattle.table_words.specs.Devices.{order_in, is_short, is_range, IsForm}
+use Rattle.table_words.specs.Devices.{order_in, is_short, is_range}
 use Rattle.bilateral.specs.declared.line.TableLine.{TableLine}
 use Rattle.bilateral.specs.declared.line.TableLine.TheVariants.{Point, Device, Peer, Slots, Sets}
 use Rattle.bilateral.specs.declared.line.TableLine.TheVariants.{Pending, See, Control}
@@ -41,6 +40,7 @@ use Rattle.bilateral.specs.Writing.{line_text, empty_table, IsWritable, AreWrita
 use Rattle.bilateral.proofs.CleanWords.{IsClean, AreClean, clean, words_of_spaced, clean_name}
 use Rattle.bilateral.proofs.CleanWords.{clean_identifier, clean_number_in, clean_solid}
 use Rattle.bilateral.proofs.CleanWords.{lines_of_spaced}
+use Rattle.bilateral.proofs.TitleWords.{title_read, title_solid}
 
 -- a word that is a number is that integer
 integer_of_number : (word : List ℕ) (n : ℕ) → number_in word ≡ Some n
@@ -148,7 +148,8 @@ peer_read : (table : Table) → IsWritable (Peer table)
 peer_read table fits =
     cond-true (is_identifier table.key && is_identifier table.domain && is_identifier table.id) _ _
     (and_from _ _ (and_from _ _ fits.0 fits.1) fits.2)
-    ∙ ap (option_map (λ t. Peer (record (empty_table table) { title = t }))) fits.5
+    ∙ ap (option_map (λ t. Peer (record (empty_table table) { title = t })))
+    (title_read table.title fits.4)
     ∙ ap (λ t. Some (Peer t)) (sym fits.3)
 
 limit_read : (form : Option ℕ → TableLine) (least most n : ℕ) → least ≤ n → n ≤ most
@@ -360,7 +361,7 @@ written (Peer table) fits = record {
   are = (
     clean_identifier table.key fits.0,
     (
-      clean_solid (title_word table.title) fits.4,
+      clean_solid (title_word table.title) (title_solid table.title fits.4),
       (clean_identifier table.domain fits.1, (clean_identifier table.id fits.2, tt)),
     ),
   );

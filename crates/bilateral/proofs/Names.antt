@@ -1,7 +1,7 @@
 -- Names in the order of the file: where one stands, and one more at the end.
-use Rattle.std.proofs.Common.{◌≡◌, ℕ, ◌+◌, ◌<◌, ◌≤◌, Bool, true, false, cond, List, [], ◌∷◌, ◌++◌}
-use Rattle.std.proofs.Common.{length, map, Option, Some, None, position, refl, sym, ap, subst, ◌∙◌}
-use Rattle.std.proofs.Common.{arith, bytes_eq, nat_eq, Vec, Global, ◌||◌}
+use Rattle.std.proofs.Common.{◌≡◌, ℕ, ◌+◌, Bool, true, false, cond, List, [], ◌∷◌, ◌++◌}
+use Rattle.std.proofs.Common.{map, Some, None, position, refl, sym, ap, ◌∙◌}
+use Rattle.std.proofs.Common.{bytes_eq, nat_eq, Vec, Global, ◌||◌}
 use Rattle.std.specs.List.{position_from, list_any}
 use Rattle.std.specs.Cmp.Lexicographic.{pointwise, nat_list_eq_equiv}
 use Rattle.std.proofs.lemmas.Iterator.Adapters.{position_from-zero}

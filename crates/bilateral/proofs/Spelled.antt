@@ -18,7 +18,7 @@ use Rattle.bilateral.specs.declared.line.TableLine.{TableLine}
 use Rattle.bilateral.specs.Rows.{CentreRows}
 use Rattle.bilateral.specs.Lines.{line_in}
 use Rattle.bilateral.specs.Reasons.{SoFar, row_fault, form_fault, line_fault}
-use Rattle.bilateral.specs.Reading.{with_row, unless, after_said, after_line, and_go_on}
+use Rattle.bilateral.specs.Reading.{with_row, unless, after_said, and_go_on}
 use Rattle.bilateral.specs.Reading.{next_number}
 use Rattle.bilateral.specs.Reading.{after_lines, at_start, centre_in}
 use Rattle.bilateral.specs.Spelling.{told, AllStand, SpellLines, SpellRows, IsFirstBad, Spells}

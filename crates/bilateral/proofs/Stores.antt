@@ -1,7 +1,7 @@
 -- Stores that a line was added to.
-use Rattle.std.proofs.Common.{◌≡◌, ℕ, ◌-◌, ◌<◌, ◌≤◌, ◌&&◌, ◌==◌, cond, List, [], ◌∷◌, ◌++◌, length}
+use Rattle.std.proofs.Common.{◌≡◌, ℕ, ◌-◌, ◌<◌, ◌&&◌, ◌==◌, cond, List, [], ◌∷◌, ◌++◌, length}
 use Rattle.std.proofs.Common.{map, set, IsTrue, Option, Some, None, position, refl, sym, ap, subst}
-use Rattle.std.proofs.Common.{◌∙◌, bytes_eq}
+use Rattle.std.proofs.Common.{◌∙◌}
 use Rattle.std.proofs.Math.Seq.{map-set_same}
 use Rattle.bilateral.specs.declared.line.TableLine.TheVariants.{Point, Device, Peer}
 use Rattle.bilateral.specs.declared.rows.PointRow.{PointRow}
@@ -11,6 +11,7 @@ use Rattle.bilateral.specs.declared.rows.Control.{Control as ControlRow}
 use Rattle.bilateral.specs.declared.rows.Table.{Table}
 use Rattle.bilateral.specs.declared.rows.TheConstants.{SEE_LIMIT, DEVICE_LIMIT}
 use Rattle.bilateral.specs.declared.store.Store.{Store}
+use Rattle.tase_points.specs.Layouts.{IsLayout}
 use Rattle.table_words.specs.Words.{is_name}
 use Rattle.bilateral.specs.Lines.{IsLawful}
 use Rattle.bilateral.specs.Rows.{CentreRows, IsCentre, IsTable, IsControlling, place_of_see}
@@ -25,7 +26,8 @@ use Rattle.bilateral.proofs.Taken.{IsNewPoint-from_no_fault, IsNewDevice-from_no
 use Rattle.bilateral.proofs.Taken.{IsNewPeer-from_no_fault}
 use Rattle.bilateral.proofs.Grown.{IsCentre-with_point, IsCentre-with_device, IsCentre-with_peer}
 use Rattle.bilateral.proofs.Grown.{IsCentre-with_last, IsTable-last, IsTable-with_see}
-use Rattle.bilateral.proofs.Grown.{IsTable-with_control, IsControlling-with_control, IsControlling-last}
+use Rattle.bilateral.proofs.Grown.{IsTable-with_control, IsControlling-with_control}
+use Rattle.bilateral.proofs.Grown.{IsControlling-last}
 use Rattle.bilateral.proofs.Grown.{IsControlling-same, kept_of, kept_with_peer, place-with_row}
 
 pub IsStore-with_point : (old new : Store) (point : PointRow) (name : List ℕ)
@@ -177,20 +179,21 @@ noted peer last item count place p q before found same_peer same_place same_befo
 pub IsStore-with_see : (old new : Store) (see : SeeRow) (peer place : ℕ) → IsStore old
     → 0 < length old.tables.items → see.point < length old.points.items
     → place_of_see (last_table (rows_of old)) see.point ≡ None
-    → length (last_table (rows_of old)).sees < SEE_LIMIT → peer ≡ last_peer (rows_of old)
+    → length (last_table (rows_of old)).sees < SEE_LIMIT → IsLayout see.layout
+    → peer ≡ last_peer (rows_of old)
     → place ≡ length (last_table (rows_of old)).sees
     → rows_of new ≡ with_last (rows_of old) (with_see (last_table (rows_of old)) see)
     → ((p q : ℕ) → row_by new.sees p q
     ≡ cond ((peer == p) && (see.point == q)) (Some place) (row_by old.sees p q))
     → new ≡ record old { tables = new.tables; sees = new.sees } → IsStore new
-IsStore-with_see old new see peer place store some known fresh room same_peer same_place grown
-    sees same =
+IsStore-with_see old new see peer place store some known fresh room layout same_peer same_place
+    grown sees same =
     let last = last_table (rows_of old) in
     subst IsStore (sym same) (IsStore-with_last old
     (record new { controls = old.controls; given = old.given })
     (with_see last see) store some grown refl refl
     (IsTable-with_see (length old.points.items) last see
-    (IsTable-last (rows_of old) store.lawful some) known fresh room)
+    (IsTable-last (rows_of old) store.lawful some) known fresh room layout)
     (IsControlling-same (length old.devices.items) last (with_see last see) refl
     (IsControlling-last (rows_of old) store.lawful some))
     (λ p q. sees p q

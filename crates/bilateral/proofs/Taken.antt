@@ -1,6 +1,6 @@
 -- What it says that a line can be taken: no reason stands against it.
 use Rattle.std.proofs.Common.{◌≡◌, ◌≢◌, ℕ, ◌<◌, ◌==◌, Bool, true, false, List, length}
-use Rattle.std.proofs.Common.{Option, Some, None, is_some, refl, arith, bytes_eq}
+use Rattle.std.proofs.Common.{Option, Some, None, is_some, refl, arith}
 use Rattle.std.specs.Prelude.{is_none}
 use Rattle.std.proofs.lemmas.Bool.{leb-false, eqb-true, eqb-false, not-false, or_parts}
 use Rattle.bilateral.specs.declared.line.TableLine.{TableLine}
@@ -12,7 +12,7 @@ use Rattle.bilateral.specs.declared.rows.TheConstants.{DEVICE_LIMIT, PEER_LIMIT,
 use Rattle.bilateral.specs.declared.rows.TheConstants.{SEE_LIMIT}
 use Rattle.tase_points.specs.declared.layout.Component.{Component}
 use Rattle.bilateral.specs.Rows.{CentreRows, place_of_point, place_of_device, place_of_peer}
-use Rattle.bilateral.specs.Rows.{place_of_title, place_of_see, place_of_control, table_of}
+use Rattle.bilateral.specs.Rows.{place_of_title, place_of_see, place_of_control}
 use Rattle.bilateral.specs.Reading.{SoFar, row_fault, first_reason, last_table, is_wrong_span}
 use Rattle.bilateral.specs.Reading.{is_misplaced, is_unknown, is_again, is_too_much}
 

@@ -1,5 +1,5 @@
 -- What the reader has after a line is what the lines say with this one at the end.
-use Rattle.std.proofs.Common.{◌≡◌, ℕ, ◌+◌, ◌-◌, ◌<◌, Bool, true, false, ◌||◌, List, [], ◌∷◌, ◌++◌}
+use Rattle.std.proofs.Common.{◌≡◌, ℕ, ◌-◌, ◌<◌, Bool, true, false, ◌||◌, List, [], ◌∷◌, ◌++◌}
 use Rattle.std.proofs.Common.{length, map, set, get_or, Option, Some, None, unwrap_or, position}
 use Rattle.std.proofs.Common.{refl}
 use Rattle.std.proofs.Common.{sym, ap, ◌∙◌, arith, bytes_eq, append_assoc}
@@ -18,7 +18,7 @@ use Rattle.bilateral.specs.declared.rows.DeviceRow.{DeviceRow}
 use Rattle.bilateral.specs.declared.rows.See.{See as SeeRow}
 use Rattle.bilateral.specs.declared.rows.Control.{Control as ControlRow}
 use Rattle.bilateral.specs.declared.rows.Table.{Table}
-use Rattle.bilateral.specs.Rows.{CentreRows, no_table}
+use Rattle.bilateral.specs.Rows.{no_table}
 use Rattle.bilateral.specs.Reading.{SoFar, row_fault, with_row, with_last, with_see, with_control}
 use Rattle.bilateral.specs.Reading.{with_slots, with_sets, with_pending, last_table}
 use Rattle.bilateral.specs.Spelling.{point_in, device_in, peer_in, see_in, control_in, slots_in}

@@ -13,7 +13,7 @@ use Rattle.bilateral.specs.Rows.{CentreRows}
 use Rattle.bilateral.specs.Reading.{centre_in}
 use Rattle.std.specs.Fmt.{digits}
 use Rattle.bilateral.specs.Spelling.{Spells}
-use Rattle.bilateral.specs.Writing.{tables_text}
+use Rattle.bilateral.specs.Writing.{tables_text, title_word}
 use Rattle.bilateral.proofs.Spelled.{spells-if}
 
 -- lines, each with its end
@@ -154,3 +154,54 @@ centre-written = refl
 centre-read_back : centre_in (tables_text centre) ≡ Ok centre
 unfolding digits
 centre-read_back = refl
+
+-- titles by their octets: arcs of one digit in base 128 and of more, the least and the largest
+titles-written : (title_word None ≡ codes "*") × (title_word (Some (0 ∷ [])) ≡ codes "0.0")
+    × (title_word (Some (119 ∷ 127 ∷ 129 ∷ 0 ∷ 129 ∷ 128 ∷ 0 ∷ 135 ∷ 255 ∷ 255 ∷ 255 ∷ 127 ∷ []))
+    ≡ codes "2.39.127.128.16384.2147483647")
+    × (title_word (Some (40 ∷ 0 ∷ 255 ∷ 127 ∷ 129 ∷ 0 ∷ 1 ∷ [])) ≡ codes "1.0.0.16383.128.1")
+unfolding digits
+titles-written = (refl, refl, refl, refl)
+
+-- devices and points by turns: the written form has the points first, and spells the same rows
+abbrev mixed : List ℕ
+mixed =
+    text_of (codes "device D2 command direct" ∷ codes "point P state" ∷ codes "# a remark"
+    ∷ codes "device D1 command direct" ∷ codes "point A real" ∷ codes "peer K * D T" ∷ [])
+
+abbrev mixed_rows : CentreRows
+mixed_rows = record {
+  points = (record { name = codes "P"; kind = State })
+      ∷ (record { name = codes "A"; kind = Real }) ∷ [];
+  devices = (record {
+    name = codes "D2";
+    kind = Command;
+    direct = true;
+    checkback = pos 0;
+    span = 0;
+  })
+      ∷ (record { name = codes "D1"; kind = Command; direct = true; checkback = pos 0; span = 0 })
+      ∷ [];
+  tables = (record {
+    key = codes "K";
+    title = None;
+    domain = codes "D";
+    id = codes "T";
+    sees = [];
+    controls = [];
+    slots = 8;
+    sets = 64;
+    pending = 1048576;
+  })
+      ∷ [];
+}
+
+mixed-read : centre_in mixed ≡ Ok mixed_rows
+mixed-read = refl
+
+mixed-written : tables_text mixed_rows
+    ≡ text_of (codes "point P state" ∷ codes "point A real" ∷ codes "device D2 command direct"
+    ∷ codes "device D1 command direct" ∷ codes "peer K * D T" ∷ codes "slots 8" ∷ codes "sets 64"
+    ∷ codes "pending 1048576" ∷ [])
+unfolding digits
+mixed-written = refl

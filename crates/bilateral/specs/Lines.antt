@@ -17,7 +17,8 @@ use Rattle.bilateral.specs.declared.rows.TheConstants.{SLOT_LIMIT, SLOT_DEFAULT,
 use Rattle.bilateral.specs.declared.rows.TheConstants.{SET_DEFAULT, PENDING_LEAST, PENDING_LIMIT}
 use Rattle.bilateral.specs.declared.rows.TheConstants.{PENDING_DEFAULT}
 use Rattle.table_words.specs.Words.{is_name, is_identifier, kind_in, scope_in, layout_in, title_in}
-use Rattle.table_words.specs.Words.{limit_in}
+use Rattle.table_words.specs.Words.{limit_in, IsTitle}
+use Rattle.tase_points.specs.Layouts.{IsLayout}
 use Rattle.table_words.specs.Devices.{order_in, IsForm}
 
 -- `point NAME KIND`, past its first word
@@ -150,15 +151,16 @@ IsNewTable table =
 abbrev pub IsLimit : ℕ → ℕ → Option ℕ → Type 0
 IsLimit least most number = IfSome number (λ n. (least ≤ n) × (n ≤ most))
 
--- a line's names and identifiers are such, a new table has no rows, and limits are limits
+-- a line's names and identifiers are such, a new table has no rows and a title that a word can
+-- spell, limits are limits and a layout is one
 abbrev pub IsLawful : TableLine → Type 0
 IsLawful (Point point) = IsTrue (is_name point.name)
 IsLawful (Device row) = IsTrue (is_name row.name) × IsForm (form_of row)
 IsLawful (Peer table) =
     IsTrue (is_identifier table.key) × IsTrue (is_identifier table.domain)
-    × IsTrue (is_identifier table.id) × IsNewTable table
+    × IsTrue (is_identifier table.id) × IsNewTable table × IsTitle table.title
 IsLawful (Slots number) = IsLimit 1 SLOT_LIMIT number
 IsLawful (Sets number) = IsLimit 1 SET_LIMIT number
 IsLawful (Pending number) = IsLimit PENDING_LEAST PENDING_LIMIT number
-IsLawful (See name vmd layout) = Unit {0}
+IsLawful (See name vmd layout) = IfSome layout IsLayout
 IsLawful (Control name tag) = Unit {0}

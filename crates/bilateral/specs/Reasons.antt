@@ -1,6 +1,6 @@
 -- Why the lines so far can't take a line.
-use Rattle.std.specs.Prelude.{ℕ, ◌-◌, not, Bool, true, false, ◌&&◌, ◌||◌, ◌==◌, nat_le}
-use Rattle.std.specs.Prelude.{if◌then◌else◌, is_some, is_none, List, [], ◌∷◌, length, Option, Some}
+use Rattle.std.specs.Prelude.{ℕ, ◌-◌, not, Bool, false, ◌&&◌, ◌||◌, ◌==◌, nat_le}
+use Rattle.std.specs.Prelude.{if◌then◌else◌, is_some, is_none, List, [], length, Option, Some}
 use Rattle.std.specs.Prelude.{None}
 use Rattle.plain_text.specs.Lines.{is_skipped}
 use Rattle.bilateral.specs.declared.fault.TableWhy.{TableWhy}

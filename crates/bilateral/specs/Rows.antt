@@ -13,7 +13,8 @@ use Rattle.bilateral.specs.declared.rows.TheConstants.{SLOT_DEFAULT, SET_LIMIT, 
 use Rattle.bilateral.specs.declared.rows.TheConstants.{PENDING_LEAST, PENDING_LIMIT}
 use Rattle.bilateral.specs.declared.rows.TheConstants.{PENDING_DEFAULT}
 use Rattle.tase_points.specs.declared.kind.Kind.TheVariants.{State}
-use Rattle.table_words.specs.Words.{is_name, is_identifier}
+use Rattle.tase_points.specs.Layouts.{IsLayout}
+use Rattle.table_words.specs.Words.{is_name, is_identifier, IsTitle}
 use Rattle.table_words.specs.Devices.{IsForm}
 use Rattle.bilateral.specs.Lines.{form_of}
 
@@ -55,12 +56,15 @@ pub record IsDevice (row : DeviceRow) : Type 0 where
   pub some_span : row.direct ≡ false → 1 ≤ row.span
   pub span : row.span ≤ SPAN_LIMIT
 
--- the rows of one table: points that are there, none twice, identifiers and limits
+-- the rows of one table: points that are there, none twice, each with a layout; identifiers, a
+-- title that a word can spell, and limits
 pub record IsTable (point_count : ℕ) (table : Table) : Type 0 where
   pub known : All (λ see. see.point < point_count) table.sees
   pub once : AllPairs (λ a b. a.point ≢ b.point) table.sees
   pub limit : length table.sees ≤ SEE_LIMIT
+  pub layouts : All (λ see. IsLayout see.layout) table.sees
   pub key : IsTrue (is_identifier table.key)
+  pub title : IsTitle table.title
   pub domain : IsTrue (is_identifier table.domain)
   pub id : IsTrue (is_identifier table.id)
   pub slots_least : 1 ≤ table.slots

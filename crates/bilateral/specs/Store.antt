@@ -1,5 +1,5 @@
 -- The rows of a centre with the indexes beside them.
-use Rattle.std.specs.Prelude.{◌≡◌, ℕ, List, map}
+use Rattle.std.specs.Prelude.{◌≡◌, ℕ, map}
 use Rattle.bilateral.specs.declared.store.Store.{Store}
 use Rattle.bilateral.specs.Rows.{CentreRows, IsCentre, place_of_see, place_of_control, table_of}
 use Rattle.bilateral.specs.Index.{names_in, row_by}

@@ -11,7 +11,7 @@ use Rattle.tase_points.specs.declared.layout.Component.{Component}
 use Rattle.tase_points.specs.declared.layout.Component.TheVariants.{Value, Time, Millis, Flags, Cov}
 use Rattle.sbo_device.specs.declared.kind.CommandKind.{CommandKind}
 use Rattle.sbo_device.specs.declared.kind.CommandKind.TheVariants.{Command, Setpoint}
-use Rattle.table_words.specs.Words.{is_name, is_identifier, is_distinct, title_in}
+use Rattle.table_words.specs.Words.{is_name, is_identifier, is_distinct, IsTitle}
 use Rattle.table_words.specs.Devices.{IsForm}
 use Rattle.bilateral.specs.declared.line.TableLine.{TableLine}
 use Rattle.bilateral.specs.declared.line.TableLine.TheVariants.{Point, Device, Peer, Slots, Sets}
@@ -53,7 +53,7 @@ arcs_behind so_far (octet ∷ more) =
     if nat_le 128 octet then arcs_behind (so_far * 128 + (octet - 128)) more
     else (so_far * 128 + octet) ∷ arcs_behind 0 more
 
--- the arcs of an object identifier's octets (ISO 8825-1, 8.19)
+-- the arcs of an object identifier's octets, of which the first has two arcs (ISO 8825-1, 8.19)
 abbrev pub arcs_of : List ℕ → List ℕ
 arcs_of [] = []
 arcs_of (octet ∷ more) =
@@ -145,7 +145,7 @@ IsWrittenLayout None = ⊥
 IsWrittenLayout (Some layout) = (0 < length layout) × IsTrue (is_distinct layout)
 
 -- a line that can be written: names, identifiers, numbers and layouts are such, and a title is one
--- that a word spells as it is written
+-- that a word can spell
 abbrev pub IsWritable : TableLine → Type 0
 IsWritable (Point row) = IsTrue (is_name row.name)
 IsWritable (Device row) =
@@ -153,8 +153,7 @@ IsWritable (Device row) =
 IsWritable (Peer table) =
     IsTrue (is_identifier table.key) × IsTrue (is_identifier table.domain)
     × IsTrue (is_identifier table.id) × (table ≡ empty_table table)
-    × IsTrue (is_solid (title_word table.title))
-    × (title_in (title_word table.title) ≡ Some table.title)
+    × IsTitle table.title
 IsWritable (Slots number) = IsWrittenLimit 1 SLOT_LIMIT number
 IsWritable (Sets number) = IsWrittenLimit 1 SET_LIMIT number
 IsWritable (Pending number) = IsWrittenLimit PENDING_LEAST PENDING_LIMIT number

@@ -4,6 +4,7 @@ ghost use Rattle.bilateral.specs.declared.line.TableLine.TheVariants.{Point, Dev
 ghost use Rattle.bilateral.specs.declared.line.TableLine.TheVariants.{Sets, Pending};
 ghost use Rattle.bilateral.specs.declared.line.TableLine.TheVariants.{See as SeeLine};
 ghost use Rattle.bilateral.specs.declared.line.TableLine.TheVariants.{Control as ControlLine};
+ghost use Rattle.tase_points.specs.Layouts.{IsLayout};
 ghost use Rattle.bilateral.specs.Rows.{place_of_see, place_of_control};
 ghost use Rattle.bilateral.specs.Lines.{IsLawful};
 ghost use Rattle.bilateral.specs.Reading.{row_fault, last_table, with_row, seen_in_last};
@@ -141,6 +142,7 @@ impl Store {
         layout: Option<Layout>,
     ) -> Result<(), AllocError>
         requires store { IsStore self.old }
+        requires lawful { IsLawful (SeeLine name vmd layout) }
         requires taken { row_fault (so_far self.old) (SeeLine name vmd layout) ≡ None }
         ensures rows { OnOk result
             (so_far self.new ≡ with_row (so_far self.old) (SeeLine name vmd layout)) }
@@ -159,6 +161,7 @@ impl Store {
         requires known { see.point < length self.old.points.items }
         requires fresh { place_of_see (last_table (rows_of self.old)) see.point ≡ None }
         requires room { length (last_table (rows_of self.old)).sees < SEE_LIMIT }
+        requires layout { IsLayout see.layout }
         ensures rows { OnOk result (rows_of self.new ≡ seen_in_last (rows_of self.old) see) }
         ensures given { OnOk result (self.new.given ≡ self.old.given) }
         ensures store { OnOk result (IsStore self.new) }

@@ -1,11 +1,12 @@
 ghost use Rattle.std.specs.Prelude.{◌≡◌, ◌⊎◌, ◌↔◌, ℕ, List, [], Some, Ok, Err};
 ghost use Rattle.bilateral.specs.declared.fault.TableFault.{TableFault as Fault};
-ghost use Rattle.bilateral.specs.Rows.{CentreRows};
+ghost use Rattle.bilateral.specs.Rows.{CentreRows, IsCentre};
 ghost use Rattle.bilateral.specs.Reading.{centre_in};
 ghost use Rattle.bilateral.specs.declared.line.TableLine.{TableLine};
 ghost use Rattle.bilateral.specs.Lines.{line_in};
 ghost use Rattle.bilateral.specs.Spelling.{Spells, HasFault, AllStand, told};
 ghost use Rattle.bilateral.specs.Writing.{IsWritable, AreWritable, line_text, lines_text};
+ghost use Rattle.bilateral.specs.Writing.{tables_text};
 
 /// The law of one reading: a text spells exactly one centre, or has exactly one first bad line.
 pub fn one_reading()
@@ -23,10 +24,12 @@ pub fn one_reading()
 {}
 
 /// The law of written lines: lines that can be written and may stand where they do, each written
-/// with its end, are the text of the centre that they say.
+/// with its end, are the text of the centre that they say. The written form of every lawful centre,
+/// which has its points first, then its devices and then its tables, spells this centre.
 pub fn written_tables_are_read()
     ensures line { (line : TableLine) → IsWritable line
         → line_in (line_text line) ≡ Some line }
     ensures text { (said : List TableLine) → AreWritable said → AllStand [] said
         → Spells (lines_text said) (told said).rows }
+    ensures centre { (rows : CentreRows) → IsCentre rows → Spells (tables_text rows) rows }
 {}

@@ -77,6 +77,27 @@ impl Stack {
         }
     }
 
+    /// Whether `release` may be called.
+    pub fn may_release(&self) -> bool
+        ensures { result ≡ may_release self.now }
+    {
+        match (self.known.side, self.standing, self.fault) {
+            (Side::Called, Standing::Finishing, None) => true,
+            (Side::Calling, Standing::Accepted, None) => true,
+            _ => false,
+        }
+    }
+
+    /// Whether the association stands, so that it may be aborted, also after a fault of the stream.
+    pub fn may_abort(&self) -> bool
+        ensures { result ≡ is_accepted self.now.standing }
+    {
+        match self.standing {
+            Standing::Accepted | Standing::Finishing => true,
+            _ => false,
+        }
+    }
+
     /// Asks for the release, at the calling end, or answers that it is done, at the called end that
     /// has read that it is asked for. After want of memory the stack and `out` are as before.
     pub fn release(&mut self, out: &mut Vec<u8>) -> Result<(), AllocError>

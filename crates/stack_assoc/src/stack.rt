@@ -135,6 +135,7 @@ impl Stack {
             → Stands role octets told self.old
             → OnOk result (Stands role (octets ++ piece.now) told self.new) }
         ensures state { OnOk result (state_of self.new ≡ state_of self.old) }
+        ensures standing { OnOk result (self.new.standing ≡ self.old.standing) }
         ensures err { OnErr result (self.new ≡ self.old) }
     {
         if self.fault.is_none() {

@@ -1,3 +1,4 @@
 pub mod Components
 pub mod VisibleWords
 pub mod Digits
+pub mod Titles

@@ -1,4 +1,5 @@
 -- The words of table lines: names, identifiers, kinds, scopes, layouts and titles.
+use Rattle.std.specs.Prelude.{◌≡◌, ◌≤◌, All, IsTrue}
 use Rattle.std.specs.Prelude.{ℕ, Bool, true, false, not, ◌&&◌, ◌||◌, ◌==◌, nat_le, nat_eq}
 use Rattle.std.specs.Prelude.{if◌then◌else◌, List, [], ◌∷◌, length, Option, Some, None, Result, Ok}
 use Rattle.std.specs.Prelude.{Err}
@@ -8,7 +9,8 @@ use Rattle.std.specs.List.{slice_split, list_any, list_all, starts_with, ends_wi
 use Rattle.std.specs.Char.{is_ascii_alphabetic, is_ascii_alphanumeric}
 use Rattle.plain_text.specs.Words.{each_in}
 use Rattle.plain_text.specs.Numbers.{number_in, if_passes}
-use Rattle.ber_values.specs.Dotted.{dotted_in}
+use Rattle.ber_values.specs.Dotted.{dotted_in, is_oid, arcs_octets}
+use Rattle.ber_values.specs.declared.object_identifier.TheConstants.{ARC_LIMIT}
 use Rattle.tase_points.specs.declared.kind.Kind.{Kind}
 use Rattle.tase_points.specs.declared.kind.Kind.TheVariants.{State, Discrete, Real}
 use Rattle.tase_points.specs.declared.layout.Component.{Component}
@@ -97,6 +99,18 @@ layout_in word = layout_from (each_in component_in (slice_split (λ octet. octet
 abbrev pub title_in : List ℕ → Option (Option (List ℕ))
 title_in word =
     if bytes_eq word (codes "*") then Some None else option_map Some (dotted_in word)
+
+-- the contents octets of an object identifier that a word can spell: of arcs within their limits
+pub record IsDottedOid (octets : List ℕ) : Type 0 where
+  pub arcs : List ℕ
+  pub is : IsTrue (is_oid arcs)
+  pub small : All (λ arc. arc ≤ ARC_LIMIT) arcs
+  pub same : octets ≡ arcs_octets arcs
+
+-- a title that a word can spell
+abbrev pub IsTitle : Option (List ℕ) → Type 0
+IsTitle None = Unit {0}
+IsTitle (Some octets) = IsDottedOid octets
 
 -- a number from `least` on, without it where it is above `most`
 abbrev pub limit_of : ℕ → ℕ → ℕ → Option (Option ℕ)

@@ -3,6 +3,7 @@ ghost use Rattle.std.specs.Prelude.{◌≡◌, ◌==◌, ◌<◌, length, IfOk, 
 ghost use Rattle.std.specs.Option.{option_map};
 ghost use Rattle.std.specs.List.{list_any, slice_split};
 ghost use Rattle.plain_text.specs.Words.{each_in};
+ghost use Rattle.tase_points.specs.Layouts.{IsLayout};
 ghost use Rattle.tase_points.specs.Same.{same_component};
 ghost use Rattle.table_words.specs.Words.{layout_in, component_in};
 ghost use Rattle.table_words.specs.Words as own;
@@ -23,7 +24,8 @@ pub enum LayoutWhy {
 
 /// Reads a layout: components joined by commas.
 pub fn read_layout(alloc: Global, word: &[u8]) -> Result<Result<Layout, LayoutWhy>, AllocError>
-    ensures { IfOk result (λ layout. layout ≡ layout_in word.now) }
+    ensures value { IfOk result (λ layout. layout ≡ layout_in word.now) }
+    ensures lawful { IfOk result (λ layout. IfOk layout IsLayout) }
 {
     let Some(components) = read_components(alloc, word)? else {
         return Ok(Err(LayoutWhy::Part));

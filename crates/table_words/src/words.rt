@@ -1,5 +1,5 @@
 //! The words that stand in lines of a table text.
-ghost use Rattle.std.specs.Prelude.{◌≡◌, ◌==◌, ◌||◌, IfOk};
+ghost use Rattle.std.specs.Prelude.{◌≡◌, ◌==◌, ◌||◌, IfOk, IfSome};
 ghost use Rattle.std.specs.List.{list_all};
 ghost use Rattle.std.specs.Char.{is_ascii_alphanumeric};
 ghost use Rattle.ber_values.specs.Visible.{IsVisible};
@@ -133,12 +133,16 @@ pub fn read_component(word: &[u8]) -> Option<Component>
 
 /// Reads a title, or `*` for none. `None` where the word is neither.
 pub fn read_title(alloc: Global, word: &[u8]) -> Result<Option<Option<Oid>>, AllocError>
-    ensures { IfOk result (λ title. title ≡ own.title_in word.now) }
+    ensures value { IfOk result (λ title. title ≡ own.title_in word.now) }
+    ensures lawful { IfOk result (λ title. IfSome title own.IsTitle) }
 {
     if word == b"*".as_slice() {
         return Ok(Some(None));
     }
-    Ok(read_dotted(alloc, word)?.map(Some))
+    let Some(oid) = read_dotted(alloc, word)? else {
+        return Ok(None);
+    };
+    Ok(Some(Some(oid)))
 }
 
 /// A name or an identifier in room of its own.

@@ -1,4 +1,3 @@
-use Rattle.std.proofs.Common.{◌≡◌, sym, ◌∙◌, inl, inr}
 use Rattle.std.specs.Str.Lines.{lines}
 use Rattle.bilateral.specs.Reading.{centre_in}
 use Rattle.bilateral.proofs.OneReading.{not_value_and_error, one_value, one_error}

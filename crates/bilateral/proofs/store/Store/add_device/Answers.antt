@@ -1,5 +1,5 @@
-use Rattle.std.proofs.Common.{◌≡◌, refl, ◌++◌, ◌∷◌, [], None, sym, ap, ◌∙◌}
-use Rattle.bilateral.specs.Index.{names_in, place_among}
+use Rattle.std.proofs.Common.{refl, ap, ◌∙◌}
+use Rattle.bilateral.specs.Index.{names_in}
 use Rattle.bilateral.proofs.Names.{place-by_key}
 use Rattle.bilateral.proofs.Taken.{IsNewDevice-from_no_fault}
 use Rattle.bilateral.proofs.Stores.{IsStore-with_device}

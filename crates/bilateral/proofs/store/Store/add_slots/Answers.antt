@@ -1,6 +1,6 @@
-use Rattle.std.proofs.Common.{◌≡◌, ◌-◌, ◌<◌, ◌∙◌, refl, arith, length}
+use Rattle.std.proofs.Common.{refl, arith}
 use Rattle.std.proofs.lemmas.Grind.{common_steps}
-use Rattle.bilateral.specs.Reading.{with_slots, last_table, with_last}
+use Rattle.bilateral.specs.Reading.{with_slots, last_table}
 use Rattle.bilateral.specs.Store.{rows_of}
 use Rattle.bilateral.proofs.Taken.{limit_taken}
 use Rattle.bilateral.proofs.Grown.{IsTable-with_slots}

@@ -17,7 +17,6 @@ returns-clause-store c =
     (omega (arith, c.args.self.now.tables.ok.0, c.requires.some)) c.index.ensures no_table in
     IsStore-with_see c.args.self.now _ c.args.see (c.len-peer.result - 1)
     c.len-place.result c.requires.store c.requires.some c.requires.known c.requires.fresh
-    c.requires.room
-    last (c.len-place.ensures
+    c.requires.room c.requires.layout last (c.len-place.ensures
     ∙ ap (λ (t : Table). length t.sees) (at ∙ ap (λ k. get_or tables k no_table) last))
     (grind (arith, common_steps)) c.in_ok-note_row.ensures refl
