@@ -1,0 +1,67 @@
+-- Who holds a device, and which operates are permitted, told of each association by itself from the
+-- moves of the device.
+use Rattle.std.specs.Prelude.{◌≡◌, ◌≢◌, ◌⊎◌, ℕ, ◌+◌, ◌<◌, ℤ, pos, ◌≤ℤ◌, true, false, List, [], ◌∷◌}
+use Rattle.sbo_device.specs.declared.key.Key.{Key}
+use Rattle.sbo_device.specs.declared.kind.CommandKind.{CommandKind}
+use Rattle.sbo_device.specs.declared.kind.CommandKind.TheVariants.{Command, Setpoint}
+use Rattle.sbo_device.specs.declared.device.TheConstants.{OPEN_AND_CLOSE_INHIBITED}
+use Rattle.sbo_device.specs.declared.device.TheConstants.{CLOSE_INHIBITED}
+use Rattle.sbo_device.specs.Moves.{ControlPoint, DeviceMove}
+use Rattle.sbo_device.specs.Moves.{selected, operated, closed, ticked, tagged}
+
+-- the last tag; before any, 0, which inhibits nothing
+abbrev pub last_tag : List DeviceMove → ℕ
+last_tag [] = 0
+last_tag (selected key now ∷ moves) = last_tag moves
+last_tag (operated key value ∷ moves) = last_tag moves
+last_tag (closed key ∷ moves) = last_tag moves
+last_tag (ticked now ∷ moves) = last_tag moves
+last_tag (tagged tag ∷ moves) = tag
+
+-- a value that a device takes: 0 or 1 of a command, from the lowest to the highest of a setpoint
+abbrev pub Takes : CommandKind → ℤ → Type 0
+Takes Command value = (value ≡ pos 0) ⊎ (value ≡ pos 1)
+Takes (Setpoint low high) value = (low ≤ℤ value) × (value ≤ℤ high)
+
+-- a tag allows a value
+abbrev pub Allows : ℕ → CommandKind → ℤ → Type 0
+Allows tag Command value =
+    (tag ≢ OPEN_AND_CLOSE_INHIBITED) × (tag ≡ CLOSE_INHIBITED → value ≢ pos 1)
+Allows tag (Setpoint low high) value = tag ≢ OPEN_AND_CLOSE_INHIBITED
+
+-- who holds a device until when
+abbrev pub Holding : Type 1
+Holding = Key → ℕ → Type 0
+
+-- An association may take a device: it isn't direct, nobody else holds it, and its tag isn't that
+-- which inhibits all.
+abbrev pub MayTake : ControlPoint → ℕ → Holding → Key → Type 0
+MayTake point tag holds key =
+    (point.direct ≡ false) × ((other : Key) (until : ℕ) → holds other until → other ≡ key)
+    × (tag ≢ OPEN_AND_CLOSE_INHIBITED)
+
+-- An association may operate a device: the device is direct or held by it, the value is in its
+-- list, and its tag allows the value.
+abbrev pub MayOperate : ControlPoint → ℕ → Holding → Key → ℤ → Type 0
+MayOperate point tag holds key value =
+    ((point.direct ≡ true) ⊎ ((until : ℕ) × holds key until)) × Takes point.kind value
+    × Allows tag point.kind value
+
+-- After these moves, the newest first, an association holds a device until a moment: it selected
+-- the device when it might take it, or held it before, and what came then ended no hold of it.
+abbrev pub Holds : ControlPoint → List DeviceMove → Key → ℕ → Type 0
+Holds point [] key until = ⊥
+Holds point (selected by now ∷ moves) key until =
+    (MayTake point (last_tag moves) (Holds point moves) by × (by ≡ key)
+    × (until ≡ now + point.span))
+    ⊎ (¬ MayTake point (last_tag moves) (Holds point moves) by × Holds point moves key until)
+Holds point (operated by value ∷ moves) key until =
+    Holds point moves key until
+    × ¬ MayOperate point (last_tag moves) (Holds point moves) by value
+Holds point (closed by ∷ moves) key until = Holds point moves key until × (by ≢ key)
+Holds point (ticked now ∷ moves) key until = Holds point moves key until × (now < until)
+Holds point (tagged tag ∷ moves) key until = Holds point moves key until
+
+-- after these moves an association may operate a device with this value
+abbrev pub IsPermitted : ControlPoint → List DeviceMove → Key → ℤ → Type 0
+IsPermitted point moves key value = MayOperate point (last_tag moves) (Holds point moves) key value
