@@ -43,7 +43,8 @@ int_le-Decides : (a b : ℤ) → Decides (int_le a b) (a ≤ℤ b)
 int_le-Decides a b = (λ e. le_z_yes (subst T (sym e) tt), λ h. is_T (int_le a b) h.le)
 
 takes-Decides : (kind : CommandKind) (value : ℤ) → Decides (takes kind value) (Takes kind value)
-takes-Decides Command value = Decides-or _ _ (Decides-int_eq value (pos 0)) (Decides-int_eq value (pos 1))
+takes-Decides Command value =
+    Decides-or _ _ (Decides-int_eq value (pos 0)) (Decides-int_eq value (pos 1))
 takes-Decides (Setpoint low high) value =
     Decides-and _ _ (int_le-Decides low value) (int_le-Decides value high)
 
@@ -77,7 +78,8 @@ held-Decides key (Some hold) holds agrees = (
   λ e. (
     hold.until,
     (agrees key hold.until).0
-        (let k = (same_key-Decides hold.key key).0 e in ap (λ k. Some (record { key = k; until = hold.until })) k),
+        (ap (λ k. Some (record { key = k; until = hold.until }))
+        ((same_key-Decides hold.key key).0 e)),
   ),
   λ some. (same_key-Decides hold.key key).1
       (let e = (agrees key some.0).1 some.1 in cc),

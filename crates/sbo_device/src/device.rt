@@ -1,6 +1,5 @@
 //! One device of the plant.
-ghost use Rattle.std.specs.Prelude.{◌≡◌, ◌<◌, ◌≤◌, ◌==◌, ◌||◌, []};
-ghost use Rattle.std.specs.Prelude.{false, is_some};
+ghost use Rattle.std.specs.Prelude.{◌≡◌, ◌<◌, ◌≤◌, [], false, is_some};
 ghost use Rattle.sbo_device.specs.States.{state_in, after, ended_by, select_answer, operate_answer};
 ghost use Rattle.sbo_device.specs.States.{is_held_by, is_held_by_other, takes, inhibits};
 ghost use Rattle.sbo_device.specs.Moves.{selected, operated, closed, ticked, tagged};
@@ -48,8 +47,8 @@ impl Model for Device {
       hold = d.hold;
     } };
 
-    ghost invariant = { λ d.
-        HasSpan (record { kind = d.kind; direct = d.direct; span = d.span }) × (d.tag ≤ TAG_LIMIT) };
+    ghost invariant = { λ d. (d.tag ≤ TAG_LIMIT)
+        × HasSpan (record { kind = d.kind; direct = d.direct; span = d.span }) };
 }
 
 impl Device {
