@@ -1,0 +1,49 @@
+-- The data sets of a peer, in order of definition, and why one isn't defined.
+use Rattle.std.specs.Prelude.{ℕ, Bool, not, ◌||◌, nat_le, nat_lt, if◌then◌else◌, is_some, bytes_eq}
+use Rattle.std.specs.Prelude.{List, [], ◌∷◌, ◌++◌, length, Option, Some, None, Result, Ok, Err}
+use Rattle.std.specs.List.{filter, find}
+use Rattle.std.specs.Option.{option_map}
+use Rattle.mms_data.specs.ObjectName.{ObjectName}
+use Rattle.data_sets.specs.declared.book.DataSet.{DataSet}
+use Rattle.data_sets.specs.declared.book.SetFault.{SetFault}
+use Rattle.data_sets.specs.declared.book.SetFault.TheVariants.{Exists, TooMany}
+use Rattle.data_sets.specs.declared.book.TheConstants.{MOST_MEMBERS}
+
+-- how many data sets there may be, and those that there are
+pub record Book : Type 0 where
+  pub limit : ℕ
+  pub sets : List DataSet
+
+abbrev pub is_named : List ℕ → DataSet → Bool
+is_named name set = bytes_eq set.name name
+
+-- the members of the data set with a name
+abbrev pub members_in : List DataSet → List ℕ → Option (List ObjectName)
+members_in sets name = option_map (λ set. set.members) (find (is_named name) sets)
+
+-- why no data set of this name with so many members is defined: one is there; or there are too many
+abbrev pub fault_by : Book → List ℕ → ℕ → Option SetFault
+fault_by book name count =
+    if is_some (members_in book.sets name) then Some Exists
+    else if nat_le book.limit (length book.sets) || nat_lt MOST_MEMBERS count then Some TooMany
+    else None
+
+abbrev pub fault_of : Book → List ℕ → List ObjectName → Option SetFault
+fault_of book name members = fault_by book name (length members)
+
+abbrev pub answered : Option SetFault → Result Unit SetFault
+answered None = Ok tt
+answered (Some fault) = Err fault
+
+-- behind a definition: one data set more, unless it is refused
+abbrev pub with_set : Option SetFault → Book → DataSet → Book
+with_set None book set = record book { sets = book.sets ++ set ∷ [] }
+with_set (Some fault) book set = book
+
+abbrev pub defined : Book → List ℕ → List ObjectName → Book
+defined book name members =
+    with_set (fault_of book name members) book (record { name = name; members = members })
+
+-- behind a deletion: all but those with the name
+abbrev pub deleted : Book → List ℕ → Book
+deleted book name = record book { sets = filter (λ set. not (is_named name set)) book.sets }
