@@ -70,6 +70,17 @@ nothing_went role octets told g old new s standing inputs out =
       out = out ∙ sym (append-nil old.out.items);
     }
 
+pub went_on_then : (role : Role) (octets : List ℕ) (told : List Told) (g : Option Initiate)
+    (old mid new : Hearing) → WentOn role octets told g old mid
+    → ((more : List Told) → Stands role octets more mid.stack → WentOn role octets more g mid new)
+    → WentOn role octets told g old new
+went_on_then role octets told g old mid new w next =
+    let n = next (told ++ w.later) w.went.stands in
+    record {
+      later = w.later ++ n.later;
+      went = went_then role octets octets told g w.later n.later old mid new w.went n.went;
+    }
+
 pub hears_then : (role : Role) (first octets : List ℕ) (told : List Told) (g : Option Initiate)
     (xs : List Told) (old mid : Hearing) (end : Option StackFault) (new : Hearing)
     → Went role first told g xs old mid → Hears role octets (told ++ xs) g mid end new

@@ -10,5 +10,5 @@ invariant-loop-piece l = record {
   settled : IsSettled l.self.stack;
   free : is_offered l.self.stack.standing ≡ false;
   heard : (role : Role) (octets : List ℕ) (told : List Told) → Stands role octets told l.fn.self.stack
-    → Hears role (octets ++ octets_in (take l.piece-index l.pieces)) told l.granted l.fn.self None l.self;
+      → Hears role (octets ++ octets_in (take l.piece-index l.pieces)) told l.granted l.fn.self None l.self;
 }

@@ -10,7 +10,7 @@ invariant-loop-fault l = record {
   somewhere : IsSomewhere l.self.stack;
   free : is_offered l.self.stack.standing ≡ false;
   went : (role : Role) (octets : List ℕ) (told : List Told) → Stands role octets told l.initial.self.stack
-    → WentOn role octets told l.granted l.initial.self l.self;
+      → WentOn role octets told l.granted l.initial.self l.self;
 }
 
 abbrev pub decreases-loop-fault : goal.decreases-loop-fault
