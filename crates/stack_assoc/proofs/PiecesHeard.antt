@@ -1,7 +1,7 @@
 -- What an end hears of a stream in pieces.
 use Rattle.std.proofs.Common.{◌≡◌, ℕ, ◌+◌, ◌<◌, Bool, true, false, List, [], ◌∷◌, ◌++◌, length, take, drop}
-use Rattle.std.proofs.Common.{Option, Some, None, Result, Ok, Err, MatchBool, MatchOption, is_none, Vec}
-use Rattle.std.proofs.Common.{get_or, flat_map, refl, sym, ap, subst, ◌∙◌, append_assoc, ◌⊎◌, inl, inr}
+use Rattle.std.proofs.Common.{Option, Some, None, Ok, Err, MatchBool, MatchOption, is_none, Vec}
+use Rattle.std.proofs.Common.{get_or, refl, sym, ap, subst, ◌∙◌, append_assoc, ◌⊎◌, inl, inr}
 use Rattle.std.proofs.lemmas.List.{append-nil, take_more, append_cancel_left}
 use Rattle.std.proofs.lemmas.List.{take-append-drop, flat_map_more}
 use Rattle.std.proofs.lemmas.List.Elements.{filter_map-append}
@@ -15,16 +15,16 @@ use Rattle.stack_assoc.specs.declared.hearing.Hearing.{Hearing}
 use Rattle.stack_assoc.specs.declared.input.StackIn.{StackIn}
 use Rattle.stack_assoc.specs.declared.standing.Standing.{Standing}
 use Rattle.stack_assoc.specs.Told.{Told, Role}
-use Rattle.stack_assoc.specs.Tellings.{Tells, Stops}
+use Rattle.stack_assoc.specs.Tellings.{Tells}
 use Rattle.stack_assoc.specs.Expectations.{setup_after}
 use Rattle.stack_assoc.specs.Handing.{stack_in, handed_out, answer_to, answers_to}
 use Rattle.stack_assoc.specs.Courses.{Course, Stands, IsSettled, is_offered, standing_with, state_of}
 use Rattle.stack_assoc.specs.Courses.{state_with}
-use Rattle.stack_assoc.specs.Courses.{standing_behind, Goes, NothingLeft, IsLast, Answers, fault_in}
+use Rattle.stack_assoc.specs.Courses.{Goes, IsLast, Answers}
 use Rattle.stack_assoc.specs.Saying.{with_standing}
-use Rattle.stack_assoc.specs.Pieces.{octets_in, offer_answer, said_to, said_behind}
+use Rattle.stack_assoc.specs.Pieces.{octets_in, offer_answer, said_behind}
 use Rattle.stack_assoc.specs.Pieces.{standing_answered, standing_after, standing_answer, IsSomewhere}
-use Rattle.stack_assoc.specs.Pieces.{Went, WentOn, EndsWith, Hears, HearsNext, MayEnd, IsLeft, Halts}
+use Rattle.stack_assoc.specs.Pieces.{Went, WentOn, EndsWith, Hears, IsLeft, Halts}
 use Rattle.stack_assoc.specs.Pieces.{HaltsWithin, IsAlike}
 use Rattle.stack_assoc.proofs.Feeding.{stopped_fed}
 use Rattle.stack_assoc.proofs.SaidMore.{stands_standing}

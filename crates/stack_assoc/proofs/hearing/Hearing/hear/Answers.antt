@@ -1,4 +1,4 @@
-use Rattle.std.proofs.Common.{◌≡◌, ℕ, ◌<◌, List, ◌++◌, length, take, Option, Some, None, Vec, ◌⊎◌}
+use Rattle.std.proofs.Common.{ℕ, ◌<◌, List, ◌++◌, length, take, Option, Some, None, Vec, ◌⊎◌}
 use Rattle.std.proofs.Common.{subst, ap, ◌∙◌, arith}
 use Rattle.std.proofs.lemmas.Result.{err_from_is_err_and}
 use Rattle.std.specs.declared.alloc.Global.{Global}

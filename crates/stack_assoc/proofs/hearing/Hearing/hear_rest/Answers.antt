@@ -1,4 +1,4 @@
-use Rattle.std.proofs.Common.{◌≡◌, Bool, true, false, List, [], ◌++◌, Some, None, Result, Ok, Err}
+use Rattle.std.proofs.Common.{Bool, [], ◌++◌, Some, None, Result, Ok}
 use Rattle.std.proofs.Common.{refl, ap, subst, ◌∙◌}
 use Rattle.std.proofs.lemmas.Result.{err_from_is_err_and}
 use Rattle.stack_messages.specs.declared.fault.StackFault.{StackFault}
