@@ -1,5 +1,6 @@
 -- What an end hears of a stream in pieces.
-use Rattle.std.proofs.Common.{◌≡◌, ℕ, ◌+◌, ◌<◌, Bool, true, false, List, [], ◌∷◌, ◌++◌, length, take, drop}
+use Rattle.std.proofs.Common.{◌≡◌, ℕ, ◌+◌, ◌<◌, Bool, true, false, List, [], ◌∷◌, ◌++◌, length}
+use Rattle.std.proofs.Common.{take, drop, Result}
 use Rattle.std.proofs.Common.{Option, Some, None, Ok, Err, MatchBool, MatchOption, is_none, Vec}
 use Rattle.std.proofs.Common.{get_or, refl, sym, ap, subst, ◌∙◌, append_assoc, ◌⊎◌, inl, inr}
 use Rattle.std.proofs.lemmas.List.{append-nil, take_more, append_cancel_left}
@@ -363,6 +364,16 @@ settled_fault v f e = subst (λ (o : Option StackFault). MatchOption o (lines.Is
     (λ f. Unit {0})) (sym e) tt
 
 -- ---- where it stands
+
+pub answered_somewhere : (role : Role) (octets : List ℕ) (told : List Told) (old : Course)
+    (out : List ℕ) (answer : Result (Option StackIn) StackFault) (new : Course) (written : List ℕ)
+    → Answers role octets told old out answer new written → IsSomewhere new
+answered_somewhere role octets told old out (Ok (Some input)) new written a =
+    record { role = role; octets = octets; told = told ++ a.0; stands = a.1.stands }
+answered_somewhere role octets told old out (Ok None) new written a =
+    record { role = role; octets = octets; told = told ++ a.0; stands = a.1.stands }
+answered_somewhere role octets told old out (Err f) new written a =
+    record { role = role; octets = octets; told = told ++ a.0; stands = a.1.stands }
 
 pub somewhere_then : (role : Role) (octets : List ℕ) (told : List Told) (g : Option Initiate)
     (old new : Hearing) → WentOn role octets told g old new → IsSomewhere new.stack
