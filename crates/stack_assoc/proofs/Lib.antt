@@ -13,3 +13,6 @@ pub mod Results
 pub mod Feeding
 pub mod FewOffers
 pub mod Modest
+pub mod Standings
+pub mod Replies
+pub mod PiecesHeard

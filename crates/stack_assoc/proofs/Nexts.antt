@@ -6,7 +6,6 @@ use Rattle.std.proofs.lemmas.List.{append-nil}
 use Rattle.tpkt_cotp.specs.Streams.{Message, asks, confirms, gone, tsdu}
 use Rattle.tpkt_cotp.specs.Streams as streams
 use Rattle.tpkt_cotp.specs.Lines as lines
-use Rattle.tpkt_cotp.specs.Lines.{Line}
 use Rattle.stack_messages.specs.declared.expecting.Expecting.{Expecting}
 use Rattle.stack_messages.specs.declared.fault.StackFault.{StackFault}
 use Rattle.stack_messages.specs.declared.heard.Heard.{Heard}
@@ -21,13 +20,13 @@ use Rattle.stack_assoc.specs.declared.taken.Said.{Said}
 use Rattle.stack_assoc.specs.declared.taken.Said.TheVariants as saids
 use Rattle.stack_assoc.specs.Told.{Told, heard, Role, called, calling, end_of}
 use Rattle.stack_assoc.specs.Told as tellings
-use Rattle.stack_assoc.specs.Expectations.{expecting_after}
+use Rattle.stack_assoc.specs.Expectations.{expecting_after, setup_after}
 use Rattle.stack_assoc.specs.Tellings.{TellsNext, Tells, Stops}
 use Rattle.stack_assoc.specs.Handing.{handed_out, answer_to, answers_to}
 use Rattle.stack_assoc.specs.Knowing.{expecting_by}
 use Rattle.stack_assoc.specs.Taking.{opening_told, opened, opening_listed, owed_octets, Says}
 use Rattle.stack_assoc.specs.Courses.{Course, listed, Reads, Stands, standing_with, standing_behind}
-use Rattle.stack_assoc.specs.Courses.{is_offered, IsSettled, Goes, NothingLeft, Answers}
+use Rattle.stack_assoc.specs.Courses.{is_offered, IsSettled, Goes, NothingLeft, IsLast, Answers}
 use Rattle.stack_assoc.specs.Steps.{LeavesOff, Takes, IsThere, told_with, told_answer}
 use Rattle.stack_assoc.proofs.KnowingMore.{since_more, expecting_known}
 use Rattle.stack_assoc.proofs.Answered.{tell_opened, answered, answered_stands, answers_owed, told_one}
@@ -114,6 +113,25 @@ goes_one role octets told old v t m standing out written b quiet is tells stood 
           ∙ sym (answers_quiet role v.owed t quiet));
     }
 
+-- what the connect fixed is known behind it
+known_setup : (role : Role) (octets : List ℕ) (told : List Told) (v : Course) (t : Told)
+    (standing : Standing)
+    → Stands role octets (told ++ (opened v.owed ++ t ∷ [])) (told_one t standing (answered v))
+    → (told_one t standing (answered v)).setup ≡ setup_after (told ++ (opened v.owed ++ t ∷ []))
+known_setup role octets told v t standing s =
+    s.setup ∙ ap setup_after (append-nil (told ++ (opened v.owed ++ t ∷ [])))
+
+is_last : (told : List Told) (owed : Option Opening) (t : Told) (new : Course)
+    → new.setup ≡ setup_after (told ++ (opened owed ++ t ∷ []))
+    → IsLast told (opened owed ++ t ∷ []) new
+is_last told owed t new setup = record {
+  passed = opened owed;
+  last = t;
+  is = refl;
+  quiet = nothing_handed owed;
+  setup = setup;
+}
+
 -- what is expected of the message
 expected : (role : Role) (octets : List ℕ) (told : List Told) (old v : Course)
     (out written : List ℕ) → Before role octets told old v out written
@@ -127,11 +145,15 @@ answers_gone : (role : Role) (octets : List ℕ) (told : List Told) (old v : Cou
     → v.held ≡ Some gone
     → Answers role octets told old out (told_answer came saids.Gone)
     (told_with came saids.Gone (answered v)) written
-answers_gone role octets told old v out written came b is = (
-  opened v.owed ++ tellings.gone ∷ [],
-  goes_one role octets told old v tellings.gone gone standings.Closed out written b quiet_gone is tt refl,
-  one_handed v.owed tellings.gone,
-)
+answers_gone role octets told old v out written came b is =
+    let g = goes_one role octets told old v tellings.gone gone standings.Closed out written b quiet_gone
+    is tt refl in (
+      opened v.owed ++ tellings.gone ∷ [],
+      g,
+      one_handed v.owed tellings.gone,
+      is_last told v.owed tellings.gone (told_one tellings.gone standings.Closed (answered v))
+          (known_setup role octets told v tellings.gone standings.Closed g.stands),
+    )
 
 answers_heard : (role : Role) (octets : List ℕ) (told : List Told) (old v : Course)
     (out written : List ℕ) (came : Came) (h : Heard) (results : List ℕ) (place : ℕ) (os : List ℕ)
@@ -140,12 +162,15 @@ answers_heard : (role : Role) (octets : List ℕ) (told : List Told) (old v : Co
     → Answers role octets told old out (told_answer came (saids.Heard h results))
     (told_with came (saids.Heard h results) (answered v)) written
 answers_heard role octets told old v out written came h results place os b is says =
-    let P : Expecting → Type 0 = λ e. (message e os).says h in (
+    let P : Expecting → Type 0 = λ e. (message e os).says h in
+    let s = standing_with v.standing (heard h) in
+    let g = goes_one role octets told old v (heard h) (tsdu place os) s out written b (quiet_heard h) is
+    (subst P (expected role octets told old v out written b) says) refl in (
       opened v.owed ++ heard h ∷ [],
-      goes_one role octets told old v (heard h) (tsdu place os) (standing_with v.standing (heard h))
-          out written b (quiet_heard h) is
-          (subst P (expected role octets told old v out written b) says) refl,
+      g,
       one_handed v.owed (heard h),
+      is_last told v.owed (heard h) (told_one (heard h) s (answered v))
+          (known_setup role octets told v (heard h) s g.stands),
     )
 
 answers_broken : (role : Role) (octets : List ℕ) (told : List Told) (old v : Course)

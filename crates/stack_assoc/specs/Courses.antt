@@ -1,7 +1,7 @@
 -- An end of an association as contracts see it, and where it stands in its stream.
 use Rattle.std.specs.Prelude.{◌≡◌, ℕ, ◌≤◌, Bool, true, false, List, [], ◌∷◌, ◌++◌, length}
 use Rattle.std.specs.Prelude.{Option, Some, None, MatchOption, Result, Ok, Err}
-use Rattle.std.specs.Prelude.{MatchBool}
+use Rattle.std.specs.Prelude.{MatchBool, ◌⊎◌}
 use Rattle.tpkt_cotp.specs.Streams.{Message}
 use Rattle.tpkt_cotp.specs.Lines.{Line}
 use Rattle.tpkt_cotp.specs.Lines as transport
@@ -10,6 +10,7 @@ use Rattle.stack_messages.specs.declared.heard.Heard.{Heard}
 use Rattle.stack_messages.specs.declared.heard.Heard.TheVariants as heards
 use Rattle.stack_wire.specs.declared.setup.Setup.{Setup}
 use Rattle.stack_assoc.specs.declared.input.StackIn.{StackIn}
+use Rattle.stack_assoc.specs.declared.input.StackIn.TheVariants as inputs
 use Rattle.stack_assoc.specs.declared.input.StackState.{StackState}
 use Rattle.stack_assoc.specs.declared.input.StackState.TheVariants as states
 use Rattle.stack_assoc.specs.declared.known.Known.{Known}
@@ -147,21 +148,55 @@ pub record Goes (role : Role) (octets : List ℕ) (told later : List Told) (old 
   pub standing : new.standing ≡ standing_behind old.standing later
   pub answered : written ≡ out ++ answers_to role later
 
--- nothing is handed out: an offer stands unanswered, so that nothing is taken; or all whole messages
--- were taken
+-- nothing is handed out: an offer stands unanswered, so that nothing is taken; or all whole
+-- messages were taken
 abbrev pub NothingLeft : Role → List ℕ → List Told → List Told → Course → Course → Type 0
 NothingLeft role octets told later old new =
     MatchBool (is_offered old.standing) (later ≡ [])
     (((rest : List ℕ) × Tells role octets (told ++ later) rest) × IsSettled new)
+
+-- the message that hands something out is the last of those that were taken, and what the connect
+-- fixed is known
+pub record IsLast (told later : List Told) (new : Course) : Type 0 where
+  pub passed : List Told
+  pub last : Told
+  pub is : later ≡ passed ++ last ∷ []
+  pub quiet : handed_out passed ≡ []
+  pub setup : new.setup ≡ setup_after (told ++ later)
 
 -- an answer is right: what the next message hands out; or none; or the rule that is broken
 abbrev pub Answers : Role → List ℕ → List Told → Course → List ℕ
     → Result (Option StackIn) StackFault → Course → List ℕ → Type 0
 Answers role octets told old out (Ok (Some input)) new written = (later : List Told)
     × Goes role octets told later old out new written × (handed_out later ≡ input ∷ [])
+    × IsLast told later new
 Answers role octets told old out (Ok None) new written = (later : List Told)
     × Goes role octets told later old out new written × (handed_out later ≡ [])
     × NothingLeft role octets told later old new
 Answers role octets told old out (Err f) new written = (later : List Told)
     × Goes role octets told later old out new written × (handed_out later ≡ [])
     × Stops role octets (told ++ later) f
+
+-- ---- behind an answer
+
+-- how an end stands behind what was handed out
+abbrev pub StandsBehind : StackIn → Standing → Standing → Type 0
+StandsBehind (inputs.Offer title initiate) old new = new ≡ standings.Offered
+StandsBehind inputs.BadOffer old new = new ≡ standings.BadlyOffered
+StandsBehind (inputs.Accepted initiate) old new = new ≡ standings.Accepted
+StandsBehind (inputs.Pdu pdu) old new = new ≡ old
+StandsBehind (inputs.BadRequest invoke) old new = new ≡ old
+StandsBehind inputs.Released old new = (new ≡ finishing old) ⊎ (new ≡ standings.Closed)
+StandsBehind inputs.Aborted old new = new ≡ standings.Closed
+StandsBehind inputs.Refused old new = new ≡ standings.Closed
+
+-- as before, where nothing was
+abbrev pub FollowsAnswer : Result (Option StackIn) StackFault → Standing → Standing → Type 0
+FollowsAnswer (Ok (Some input)) old new = StandsBehind input old new
+FollowsAnswer (Ok None) old new = new ≡ old
+FollowsAnswer (Err f) old new = new ≡ old
+
+-- the rule that is broken
+abbrev pub fault_in : Result (Option StackIn) StackFault → Option StackFault
+fault_in (Ok input) = None
+fault_in (Err f) = Some f

@@ -1,4 +1,5 @@
--- What may come behind the messages that a stream has told so far (ISO 8073, ISO 8327-1, ISO 9506-2).
+-- What may come behind the messages that a stream has told so far (ISO 8073, ISO 8327-1,
+-- ISO 9506-2).
 use Rattle.std.specs.Prelude.{ℕ, Bool, false, not, ◌&&◌, List, [], Option, Some, None, is_some}
 use Rattle.std.specs.Prelude.{nat_le, length, if◌then◌else◌}
 use Rattle.std.specs.List.{list_any}
@@ -10,7 +11,8 @@ use Rattle.stack_messages.specs.declared.expecting.Phase.{Phase}
 use Rattle.stack_messages.specs.declared.expecting.Phase.TheVariants as phases
 use Rattle.stack_messages.specs.declared.heard.Connecting.{Connecting}
 use Rattle.stack_assoc.specs.Told.{Told, Role, called, calling, side_of, first_in, connect_in}
-use Rattle.stack_assoc.specs.Told.{accept_in, confirm_in, size_in, is_refuse, is_conclude, is_concluded}
+use Rattle.stack_assoc.specs.Told.{accept_in, confirm_in, size_in, is_refuse, is_conclude}
+use Rattle.stack_assoc.specs.Told.{is_concluded}
 
 -- at the called end none stands until a connect has come, and it is concluded once a conclude has;
 -- at the calling end it ends at once where no connect confirm has come or a refuse has, none stands

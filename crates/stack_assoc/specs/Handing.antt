@@ -31,7 +31,8 @@ is_offer c = is_some (acse_of c.contexts)
     && (bytes_eq c.context mms_context && not (is_too_little c.initiate))
 
 abbrev pub heard_in : Heard → StackIn
-heard_in (heards.Connect c) = if is_offer c then inputs.Offer c.title c.initiate else inputs.BadOffer
+heard_in (heards.Connect c) =
+    if is_offer c then inputs.Offer c.title c.initiate else inputs.BadOffer
 heard_in (heards.Accept a) = inputs.Accepted a.initiate
 heard_in heards.Refuse = inputs.Refused
 heard_in heards.Finish = inputs.Released

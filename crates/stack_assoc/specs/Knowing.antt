@@ -11,7 +11,8 @@ use Rattle.stack_messages.specs.declared.expecting.Side.TheVariants as sides
 use Rattle.stack_wire.specs.declared.setup.Setup.{Setup}
 use Rattle.stack_wire.specs.Setups.{cut_size}
 use Rattle.stack_assoc.specs.declared.known.Known.{Known}
-use Rattle.stack_assoc.specs.Told.{Told, Role, called, calling, side_of, first_in, size_in, confirm_in}
+use Rattle.stack_assoc.specs.Told.{Told, Role, called, calling, side_of, first_in, size_in}
+use Rattle.stack_assoc.specs.Told.{confirm_in}
 use Rattle.stack_assoc.specs.Told.{connect_in, accept_in, is_refuse, is_conclude, is_concluded}
 use Rattle.stack_assoc.specs.Expectations.{setup_by}
 

@@ -9,3 +9,4 @@ pub mod Taking
 pub mod Courses
 pub mod Steps
 pub mod Saying
+pub mod Pieces

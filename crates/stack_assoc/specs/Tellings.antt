@@ -1,5 +1,5 @@
--- What a stream tells, and where it stops: messages of the transport, each TSDU read by what may come
--- behind those before it.
+-- What a stream tells, and where it stops: messages of the transport, each TSDU read by what may
+-- come behind those before it.
 use Rattle.std.specs.Prelude.{◌≡◌, ℕ, List, [], ◌∷◌, ◌++◌, ◌⊎◌}
 use Rattle.tpkt_cotp.specs.declared.fault.CotpFault.{CotpFault}
 use Rattle.tpkt_cotp.specs.Streams as transport
@@ -23,7 +23,8 @@ TellsNext role before _ _ = ⊥
 
 -- behind these messages a TSDU breaks this rule first
 abbrev pub BreaksNext : Role → List Told → Message → StackFault → Type 0
-BreaksNext role before (tsdu place octets) f = (message (expecting_after role before) octets).breaks f
+BreaksNext role before (tsdu place octets) f =
+    (message (expecting_after role before) octets).breaks f
 BreaksNext role before _ f = ⊥
 
 -- messages of the transport tell these

@@ -1,5 +1,5 @@
 //! An end of an association over a stream that comes in any pieces: octets in, messages out.
-ghost use Rattle.std.specs.Prelude.{◌≡◌, ℕ, ◌+◌, ◌≤◌, ◌<◌, List, [], ◌∷◌, ◌++◌, length, None, false};
+ghost use Rattle.std.specs.Prelude.{◌≡◌, ℕ, ◌+◌, ◌≤◌, ◌<◌, List, [], ◌++◌, length, None, false};
 ghost use Rattle.std.specs.Prelude.{IfOk, OnOk, OnErr, OnSome};
 ghost use Rattle.tpkt_cotp.specs.declared.limits.TheConstants.{PIECE_LIMIT};
 ghost use Rattle.tpkt_cotp.specs.Written.{request_octets};
@@ -7,6 +7,7 @@ ghost use Rattle.stack_assoc.specs.declared.input.StackState.TheVariants as stat
 ghost use Rattle.stack_assoc.specs.Told.{Told, Role, called, calling};
 ghost use Rattle.stack_assoc.specs.Expectations.{setup_by};
 ghost use Rattle.stack_assoc.specs.Courses.{Stands, IsSettled, is_offered, Answers, state_of};
+ghost use Rattle.stack_assoc.specs.Courses.{FollowsAnswer, fault_in};
 ghost use Rattle.stack_assoc.specs.Steps.{IsNew, left_of};
 
 use crate::input::{StackIn, StackState};
@@ -92,7 +93,7 @@ impl Stack {
     /// The called end, at the start of a stream.
     pub fn called(alloc: Global) -> Result<Stack, AllocError>
         ensures { IfOk result (λ stack. Stands called [] [] stack × IsSettled stack
-            × (state_of stack ≡ states.Waiting)) }
+            × (state_of stack ≡ states.Waiting) × (is_offered stack.standing ≡ false)) }
     {
         Ok(Stack::new(alloc, tpkt_cotp::Role::Called, Side::Called, None))
     }
@@ -105,7 +106,8 @@ impl Stack {
         out: &mut Vec<u8>,
     ) -> Result<Stack, AllocError>
         ensures ok { IfOk result (λ stack. Stands (calling title None) [] [] stack
-            × IsSettled stack × (state_of stack ≡ states.Waiting)) }
+            × IsSettled stack × (state_of stack ≡ states.Waiting)
+            × (is_offered stack.standing ≡ false)) }
         ensures out { OnOk result (out.new.items ≡ out.old.items ++ request_octets 1) }
         ensures err { OnErr result (out.new.items ≡ out.old.items) }
     {
@@ -144,8 +146,8 @@ impl Stack {
         Ok(())
     }
 
-    /// The next message of the stream so far that is handed out; none where no whole one is left, or
-    /// an offer stands unanswered; or the first rule that the stream breaks, once the messages
+    /// The next message of the stream so far that is handed out; none where no whole one is left,
+    /// or an offer stands unanswered; or the first rule that the stream breaks, once the messages
     /// before it were handed out, and then again and again. It appends the answer to a connect
     /// request or confirm of the transport. After want of memory `out` is as before, and the stack
     /// stands where it stood.
@@ -159,9 +161,14 @@ impl Stack {
             self.new out.new.items) }
         ensures shorter { IfOk result (λ answer. IfOk answer (λ input. OnSome input
             (left_of self.new < left_of self.old))) }
+        ensures standing { IfOk result (λ answer. FollowsAnswer answer self.old.standing
+            self.new.standing) }
+        // The fault is kept: more may be fed, and the same fault is the answer again.
+        ensures broken { IfOk result (λ answer. self.new.fault ≡ fault_in answer) }
         ensures kept { (role : Role) (octets : List ℕ) (told : List Told)
             → Stands role octets told self.old → OnErr result (Stands role octets told self.new) }
         ensures state { OnErr result (state_of self.new ≡ state_of self.old) }
+        ensures stays { OnErr result (self.new.standing ≡ self.old.standing) }
         ensures out { OnErr result (out.new.items ≡ out.old.items) }
     {
         if let Some(fault) = self.fault {

@@ -1,5 +1,5 @@
 //! How an end stands to the offer and the association.
-ghost use Rattle.std.specs.Prelude.{◌≡◌, IsTrue, ◌↔◌};
+ghost use Rattle.std.specs.Prelude.{◌≡◌};
 ghost use Rattle.stack_assoc.specs.Courses.{standing_with, state_by, is_offered, finishing};
 ghost use Rattle.stack_assoc.specs.Courses.{offered_by};
 ghost use Rattle.stack_assoc.specs.Handing.{is_offer};

@@ -1,5 +1,5 @@
 //! What an end takes from its transport, and what it reads of that.
-ghost use Rattle.std.specs.Prelude.{◌≡◌, ℕ, ◌≤◌, List, ◌++◌, None, IfOk, OnOk, OnErr};
+ghost use Rattle.std.specs.Prelude.{◌≡◌, ℕ, List, ◌++◌, None, IfOk, OnOk, OnErr};
 ghost use Rattle.tpkt_cotp.specs.Sound.{IsSound};
 ghost use Rattle.stack_assoc.specs.Told.{Told, Role};
 ghost use Rattle.stack_assoc.specs.Tellings.{transport_fault};

@@ -3,10 +3,12 @@ use Rattle.std.proofs.lemmas.Result.{err_from_is_err_and}
 use Rattle.stack_assoc.specs.Knowing.{expecting_by}
 use Rattle.stack_assoc.specs.Taking.{owed_octets}
 use Rattle.stack_assoc.specs.Courses.{Course, Stands, Answers, is_offered, state_of}
+use Rattle.stack_assoc.specs.Courses.{FollowsAnswer, fault_in}
 use Rattle.stack_assoc.specs.Steps.{left_of, told_with, told_answer}
 use Rattle.stack_assoc.proofs.Answered.{answered}
 use Rattle.stack_assoc.proofs.Nexts.{next_right, answers_again, answers_offered}
 use Rattle.stack_assoc.proofs.Shorter.{less_left}
+use Rattle.stack_assoc.proofs.Standings.{told_follows, told_fault}
 use Rattle.stack_assoc.proofs.StepsTaken.{untold_state}
 use Rattle.stack_assoc.proofs.Results.{told_done, kept_done, out_done}
 use Rattle.stack_assoc.proofs.stack.Stack.next.Goals as goal
@@ -78,3 +80,35 @@ pub returns-clause-out : goal.returns-clause-out
 returns-clause-out c = out_done c.answer-done.result c.tell_once.result
     (told_answer c.in_ok-came.came c.in_ok-said.said) c.answer-done.new.out.items c.args.out.now.items
     c.tell_once.ensures.answer c.answer-done.ensures.same
+
+pub returns-clause-standing : goal.returns-clause-standing
+returns-clause-standing c =
+    let v = c.take.new.self in
+    let came = c.in_ok-came.came in
+    let said = c.in_ok-said.said in
+    told_done (λ answer new written. FollowsAnswer answer c.args.self.now.standing new.standing)
+    c.answer-done.result c.tell_once.result (told_answer came said) (answered v) c.answer-done.new.self
+    c.tell_once.new.self (told_with came said) c.answer-done.new.out.items _ c.answer-done.ensures.ok
+    c.answer-done.ensures.out c.tell_once.ensures.course c.tell_once.ensures.answer
+    c.tell_once.ensures.memory
+    (told_follows c.args.self.now.standing v came said c.in_ok-came.ensures.untold.standing)
+
+pub returns-clause-broken : goal.returns-clause-broken
+returns-clause-broken c =
+    let v = c.take.new.self in
+    let came = c.in_ok-came.came in
+    let said = c.in_ok-said.said in
+    told_done (λ answer new written. new.fault ≡ fault_in answer)
+    c.answer-done.result c.tell_once.result (told_answer came said) (answered v) c.answer-done.new.self
+    c.tell_once.new.self (told_with came said) c.answer-done.new.out.items _ c.answer-done.ensures.ok
+    c.answer-done.ensures.out c.tell_once.ensures.course c.tell_once.ensures.answer
+    c.tell_once.ensures.memory
+    (told_fault v came said (c.in_ok-came.ensures.untold.fault
+    ∙ ap (λ (x : Course). x.fault) (sym c.self.view_is) ∙ c.in_default.is))
+
+pub returns-clause-stays : goal.returns-clause-stays
+returns-clause-stays c =
+    kept_done (λ v. v.standing ≡ c.args.self.now.standing) c.answer-done.result c.tell_once.result
+    (told_answer c.in_ok-came.came c.in_ok-said.said) c.take.new.self c.answer-done.new.self
+    c.tell_once.new.self c.tell_once.ensures.answer c.answer-done.ensures.err c.tell_once.ensures.same
+    c.in_ok-came.ensures.untold.standing
