@@ -1,0 +1,12 @@
+//! Transfer sets: what a peer wishes of one, and when its reports are due (IEC 60870-6-503, DS
+//! transfer sets).
+#![tactic(auto)]
+
+mod slot;
+mod wish;
+
+pub use slot::Slot;
+pub use wish::{
+    CHANGE, EXTERNAL, INTEGRITY, INTERVAL, NUMBER_LIMIT, OPERATOR, Wish, WishFault, base_of,
+    may_enable,
+};
