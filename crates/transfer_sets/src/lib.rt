@@ -2,11 +2,16 @@
 //! transfer sets).
 #![tactic(auto)]
 
+mod parts;
+mod reading;
 mod slot;
 mod wish;
+mod writing;
 
+pub use reading::read_wish;
 pub use slot::Slot;
 pub use wish::{
     CHANGE, EXTERNAL, INTEGRITY, INTERVAL, NUMBER_LIMIT, OPERATOR, Wish, WishFault, base_of,
     may_enable,
 };
+pub use writing::wish_data;
