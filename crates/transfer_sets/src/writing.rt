@@ -1,5 +1,5 @@
 //! A wish as data.
-ghost use Rattle.std.specs.Prelude.{◌≡◌, ◌++◌, ◌∷◌, [], pos, IfOk, OnOk};
+ghost use Rattle.std.specs.Prelude.{◌≡◌, ◌*◌, ◌/◌, ◌++◌, ◌∷◌, [], pos, IfOk, OnOk};
 ghost use Rattle.mms_data.specs.Datum.{integer, boolean, bits, text, structure, data_of};
 ghost use Rattle.transfer_sets.specs.WishData.{shown_wish, parts_of};
 
@@ -46,10 +46,10 @@ fn number_data(number: u32) -> MmsData
     MmsData::new(DataKind::Integer(i64::from(number)))
 }
 
-fn boolean_data(boolean: bool) -> MmsData
-    ensures { result ≡ boolean boolean }
+fn boolean_data(value: bool) -> MmsData
+    ensures { result ≡ boolean value }
 {
-    MmsData::new(DataKind::Boolean(boolean))
+    MmsData::new(DataKind::Boolean(value))
 }
 
 fn text_data(octets: &Visible) -> Result<MmsData, AllocError>
