@@ -1,11 +1,11 @@
 -- The wish that a datum is, is that of its components; and without these it is none.
-use Rattle.std.proofs.Common.{◌≡◌, ◌≢◌, ◌⊎◌, ◌↔◌, ℕ, ◌+◌, ◌*◌, ◌/◌, ◌%◌, ◌==◌, ◌<◌, ◌≤◌, nat_le, ℤ}
+use Rattle.std.proofs.Common.{◌≡◌, ◌⊎◌, ◌↔◌, ℕ, ◌*◌, ◌/◌, ◌==◌, ◌<◌, ◌≤◌, nat_le, ℤ}
 use Rattle.std.proofs.Common.{pos, negsuc, ◌≤ℤ◌, int_le, nat_abs, Bool, true, false, ◌&&◌}
-use Rattle.std.proofs.Common.{if◌then◌else◌, List, [], ◌∷◌, length, slice_index, slice_get, Option}
-use Rattle.std.proofs.Common.{Some, None, Result, Ok, Err, refl, sym, ap, ◌∙◌, subst, inl, inr, arith}
-use Rattle.std.proofs.Common.{option_and_then, zero, suc, T}
+use Rattle.std.proofs.Common.{if◌then◌else◌, List, [], ◌∷◌, length, slice_index, Option}
+use Rattle.std.proofs.Common.{Some, None, Result, Ok, Err, refl, sym, ap, ◌∙◌, subst, inl, inr}
+use Rattle.std.proofs.Common.{arith}
+use Rattle.std.proofs.Common.{T, IfOk}
 use Rattle.std.proofs.lemmas.Bool.Decides.{nat_tests}
-use Rattle.std.specs.Option.{option_map_or}
 use lib.Signed.{le_z_yes}
 use Rattle.std.proofs.lemmas.Int.{ints}
 use Rattle.ber_values.specs.Bits.{Bits}
@@ -20,9 +20,9 @@ use Rattle.transfer_sets.specs.declared.wish.WishFault.{WishFault}
 use Rattle.transfer_sets.specs.declared.wish.WishFault.TheVariants.{Form, Range}
 use Rattle.transfer_sets.specs.Wishes.{IsWish}
 use Rattle.transfer_sets.specs.Components.{is_scope, text_in, boolean_in, five_of, conditions_in}
-use Rattle.transfer_sets.specs.Components.{is_scope_at, text_at, integer_at, boolean_at, set_in}
-use Rattle.transfer_sets.specs.Components.{conditions_at, numbers_from, numbers_in, switches_from}
-use Rattle.transfer_sets.specs.Components.{switches_in, ranged_number, ranged_code, ranged_from}
+use Rattle.transfer_sets.specs.Components.{is_scope_at, set_in}
+use Rattle.transfer_sets.specs.Components.{numbers_from, switches_from}
+use Rattle.transfer_sets.specs.Components.{ranged_number, ranged_code}
 use Rattle.transfer_sets.specs.Components.{ranged_in, wish_if, wish_from, is_shaped}
 use Rattle.transfer_sets.specs.Components.{wish_of_members, wish_in}
 use Rattle.transfer_sets.specs.WishData.{WishParts, components, IsAnyNumber, IsForm, IsRanged}
@@ -284,7 +284,7 @@ switches_found : (a b c d e : Option Bool) (n : Switches) → switches_from a b 
     → SwitchesFound a b c d e n
 switches_found (Some a) (Some b) (Some c) (Some d) (Some e) n is =
     let made : Switches =
-        record { block = a; critical = b; rbe = c; all_changes = d; status = e } in
+    record { block = a; critical = b; rbe = c; all_changes = d; status = e } in
     let same : made ≡ n = some_is made n is in record {
       block = ap (λ (m : Switches). Some m.block) same;
       critical = ap (λ (m : Switches). Some m.critical) same;
@@ -325,21 +325,22 @@ form_of_members d t s number found =
     let critical = boolean_found t.i _ switches.critical in
     let rbe = boolean_found t.j _ switches.rbe in
     let all_changes = boolean_found t.k _ switches.all_changes in
-    let status = boolean_found t.l _ switches.status in
-    (record {
-      set_domain = found.the_domain;
-      set_name = found.the_name;
-      numbers = n;
-      conditions = five.0;
-      switches = w;
-    },
-    record {
-      scope = s.a;
-      number = scope_found s.a number;
-      spelled = cc;
-      five = five.2;
-      held = five.3;
-    })
+    let status = boolean_found t.l _ switches.status in (
+      record {
+        set_domain = found.the_domain;
+        set_name = found.the_name;
+        numbers = n;
+        conditions = five.0;
+        switches = w;
+      },
+      record {
+        scope = s.a;
+        number = scope_found s.a number;
+        spelled = cc;
+        five = five.2;
+        held = five.3;
+      },
+    )
 
 both : (a b : Bool) → (a && b) ≡ true → (a ≡ true) × (b ≡ true)
 both true true e = (refl, refl)
@@ -412,17 +413,22 @@ code_or_none z = by (int_le (negsuc 32767) z) (int_le z (pos 32767)) refl refl
     is_T : (b : Bool) → T b → b ≡ true
     is_T true t = refl
     is_T false t = absurd t
+
     by : (a b : Bool) → int_le (negsuc 32767) z ≡ a → int_le z (pos 32767) ≡ b
         → ((negsuc 32767 ≤ℤ z) × (z ≤ℤ pos 32767) × (ranged_code z ≡ Some z))
         ⊎ (((negsuc 32767 ≤ℤ z) → (z ≤ℤ pos 32767) → ⊥) × (ranged_code z ≡ None))
     by true true p q =
         inl (le_z_yes (subst T (sym p) tt), le_z_yes (subst T (sym q) tt), rw (p, q) refl)
     by true false p q =
-        inr ((λ low high. let t : false ≡ true = sym q ∙ is_T _ high.le in absurd cc),
-        rw (p, q) refl)
+        inr (
+          (λ low high. let t : false ≡ true = sym q ∙ is_T _ high.le in absurd cc),
+          rw (p, q) refl,
+        )
     by false b p q =
-        inr ((λ low high. let t : false ≡ true = sym p ∙ is_T _ low.le in absurd cc),
-        rw p refl)
+        inr (
+          (λ low high. let t : false ≡ true = sym p ∙ is_T _ low.le in absurd cc),
+          rw p refl,
+        )
 
 -- the numbers in their ranges, as they are kept
 abbrev kept : Numbers → Ranged
@@ -452,16 +458,21 @@ ranged_or_none n =
             | inl d ↦ elim (number_or_none n.integrity) as (λ _. RangedOrNone n) [
               | inr p ↦ inr (λ r. p.0 r.integrity, rw (a.1, b.1, c.1, d.1, p.1) refl)
               | inl e ↦ elim (code_or_none n.event_code) as (λ _. RangedOrNone n) [
-                | inr p ↦ inr (λ r. p.0 r.event_code.0 r.event_code.1,
-                    rw (a.1, b.1, c.1, d.1, e.1, p.1) refl)
-                | inl f ↦ inl (record {
+                | inr p ↦ inr (
+                  λ r. p.0 r.event_code.0 r.event_code.1,
+                  rw (a.1, b.1, c.1, d.1, e.1, p.1) refl,
+                )
+                | inl f ↦ inl (
+                  record {
                     start = a.0;
                     interval = b.0;
                     tle = c.0;
                     buffer = d.0;
                     integrity = e.0;
                     event_code = (f.0, f.1);
-                  }, rw (a.1, b.1, c.1, d.1, e.1, f.2) refl)
+                  },
+                  rw (a.1, b.1, c.1, d.1, e.1, f.2) refl,
+                )
               ]
             ]
           ]
@@ -573,3 +584,39 @@ shown_read w is =
     let five : w.conditions / 8 * 8 / 8 * 8 ≡ w.conditions = (let f = is.five in omega arith) in
     ranged_read (shown_wish w) (parts_of w) (shown_form w) (shown_ranged w is)
     ∙ ap (λ n. Ok (record w { conditions = n })) five
+
+-- what is read can be shown
+ranged_small : (z : ℤ) → IsRanged z → nat_abs z ≤ 2147483647
+ranged_small (pos n) h = let high = h.1 in omega (arith, ints)
+ranged_small (negsuc n) h = let low = h.0 in absurd (omega (arith, ints))
+
+wish_of-IsWish : (p : WishParts) → AreRanged p.numbers → IsWish (wish_of p)
+wish_of-IsWish p r = record {
+  start = ranged_small p.numbers.start r.start;
+  interval = ranged_small p.numbers.interval r.interval;
+  tle = ranged_small p.numbers.tle r.tle;
+  buffer = ranged_small p.numbers.buffer r.buffer;
+  integrity = ranged_small p.numbers.integrity r.integrity;
+  five = omega arith;
+  event_code = r.event_code;
+}
+
+read_lawful : (d : Datum) (read : Result Wish WishFault) → read ≡ wish_in d
+    → IfOk read (λ w. IsWish w)
+read_lawful d (Ok w) e =
+    let some = (wish_exactly d w).0 (sym e) in
+    subst (λ (w : Wish). IsWish w) (sym some.3) (wish_of-IsWish some.0 some.2)
+read_lawful d (Err fault) e = tt
+
+-- facts of the wish that a datum is are facts of what is read
+pub read_so : {E : Type 0} (P : Result Wish WishFault → Type 0) (d : Datum)
+    (result : Result (Result Wish WishFault) E) → P (wish_in d)
+    → IfOk result (λ read. read ≡ wish_in d) → IfOk result P
+read_so P d (Ok read) h e = subst P (sym e) h
+read_so P d (Err error) h e = tt
+
+pub lawful_so : {E : Type 0} (d : Datum) (result : Result (Result Wish WishFault) E)
+    → IfOk result (λ read. read ≡ wish_in d)
+    → IfOk result (λ read. IfOk read (λ w. IsWish w))
+lawful_so d (Ok read) e = read_lawful d read e
+lawful_so d (Err error) e = tt

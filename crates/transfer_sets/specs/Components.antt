@@ -1,10 +1,9 @@
 -- The components of a wish as data: thirteen members of a structure, each at its place.
-use Rattle.std.specs.Prelude.{ℕ, ◌*◌, ◌/◌, ◌==◌, nat_le, ℤ, pos, negsuc, int_le, nat_abs, Bool, true}
+use Rattle.std.specs.Prelude.{ℕ, ◌*◌, ◌/◌, ◌==◌, nat_le, ℤ, pos, negsuc, int_le, Bool, true}
 use Rattle.std.specs.Prelude.{false, ◌&&◌, if◌then◌else◌, List, [], ◌∷◌, length, Option, Some, None}
 use Rattle.std.specs.Prelude.{option_and_then, Result, Ok, Err}
 use Rattle.std.specs.Option.{option_map_or}
 use Rattle.std.specs.List.{slice_get}
-use Rattle.ber_values.specs.Bits.{Bits}
 use Rattle.mms_data.specs.Datum.{Datum, boolean, integer, unsigned, bits, real, octets, text}
 use Rattle.mms_data.specs.Datum.{structure, array}
 use Rattle.point_data.specs.Parts.{members_in, integer_in}
@@ -190,7 +189,7 @@ abbrev pub wish_of_members : List Datum → Result Wish WishFault
 wish_of_members ds =
     if is_shaped ds
     then wish_from (text_at (set_in ds) 1) (text_at (set_in ds) 2) (numbers_in ds)
-        (conditions_at ds 6) (switches_in ds)
+    (conditions_at ds 6) (switches_in ds)
     else Err Form
 
 -- what is wished by a datum, or why nothing is

@@ -1,7 +1,6 @@
 -- What a wish is, and what may be done of it.
 use Rattle.std.specs.Prelude.{◌≡◌, ℕ, ◌*◌, ◌/◌, ◌%◌, ◌≤◌, ◌==◌, nat_lt, ℤ, pos, negsuc, ◌≤ℤ◌, Bool}
 use Rattle.std.specs.Prelude.{false, not, ◌&&◌, ◌||◌, if◌then◌else◌, []}
-use Rattle.ber_values.specs.Visible.{IsVisible}
 use Rattle.transfer_sets.specs.declared.wish.Wish.{Wish}
 use Rattle.transfer_sets.specs.declared.wish.TheConstants.{INTERVAL, INTEGRITY, NUMBER_LIMIT}
 
@@ -22,14 +21,11 @@ IsCode z = (negsuc 32767 ≤ℤ z) × (z ≤ℤ pos 32767)
 
 -- a wish that data can show: numbers in their ranges, and no other than the five conditions
 pub record IsWish (w : Wish) : Type 0 where
-  pub set_domain : IsVisible w.set_domain
-  pub set_name : IsVisible w.set_name
   pub start : IsNumber w.start
   pub interval : IsNumber w.interval
   pub tle : IsNumber w.tle
   pub buffer : IsNumber w.buffer
   pub integrity : IsNumber w.integrity
-  pub conditions : w.conditions ≤ 255
   pub five : w.conditions % 8 ≡ 0
   pub event_code : IsCode w.event_code
 

@@ -2,12 +2,14 @@
 //! transfer sets).
 #![tactic(auto)]
 
+mod laws;
 mod parts;
 mod reading;
 mod slot;
 mod wish;
 mod writing;
 
+pub use laws::{due_is_one_number, shown_wishes_are_read};
 pub use reading::read_wish;
 pub use slot::Slot;
 pub use wish::{

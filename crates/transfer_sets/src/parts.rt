@@ -69,10 +69,7 @@ pub(crate) fn is_scope_at(members: &[MmsData], place: usize) -> bool
     ensures { result ≡ is_scope_at members.now place }
 {
     match members.get(place) {
-        Some(member) => matches!(
-            member.kind(),
-            DataKind::Integer(_) | DataKind::Unsigned(_)
-        ),
+        Some(member) => matches!(member.kind(), DataKind::Integer(_) | DataKind::Unsigned(_)),
         None => false,
     }
 }

@@ -29,9 +29,6 @@ impl Model for Slot {
 }
 
 impl Slot {
-    ghost use Rattle.transfer_sets.specs.SlotState.{SlotState};
-    ghost use Rattle.transfer_sets.specs.declared.wish.Wish.{Wish as WishSeen};
-
     /// A slot that isn't enabled and of which nothing is wished.
     pub fn new(alloc: Global) -> Slot
         ensures { result ≡ new_slot }
@@ -97,8 +94,8 @@ impl Slot {
             && passes_multiple(self.base, u64::from(self.wish.interval) * 1000, from, to);
         let integrity = has(wished, INTEGRITY)
             && passes_multiple(self.base, u64::from(self.wish.integrity) * 1000, from, to);
-        let change =
-            has(wished, CHANGE) && has_waited(self.noted, u64::from(self.wish.buffer) * 1000, to);
+        let change = has(wished, CHANGE)
+            && has_waited(self.noted, u64::from(self.wish.buffer) * 1000, to);
         sum_of(interval, integrity, change)
     }
 
