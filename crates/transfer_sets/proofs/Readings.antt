@@ -10,6 +10,7 @@ use lib.Signed.{le_z_yes}
 use Rattle.std.proofs.lemmas.Int.{ints}
 use Rattle.ber_values.specs.Bits.{Bits}
 use Rattle.mms_data.specs.Datum.{Datum, boolean, integer, unsigned, bits, real, octets, text}
+use Rattle.mms_data.specs.Lawful.{IsLawful}
 use Rattle.mms_data.specs.Datum.{structure, array, Data, no_data, datum, data_of}
 use Rattle.point_data.specs.Parts.{list_of, members_in, integer_in}
 use Rattle.transfer_sets.specs.declared.parts.Numbers.{Numbers}
@@ -620,3 +621,15 @@ pub lawful_so : {E : Type 0} (d : Datum) (result : Result (Result Wish WishFault
     → IfOk result (λ read. IfOk read (λ w. IsWish w))
 lawful_so d (Ok read) e = read_lawful d read e
 lawful_so d (Err error) e = tt
+
+shown_lawful : (w : Wish) → IsLawful (shown_wish w)
+shown_lawful w = record {
+  shallow = omega arith;
+  numbers = ((tt, (tt, (tt, tt))),
+      (tt, (tt, (tt, (tt, (tt, (tt, (tt, (tt, (tt, (tt, (tt, (tt, tt)))))))))))));
+}
+
+pub shown_so : {E : Type 0} (w : Wish) (result : Result Datum E)
+    → IfOk result (λ shown. shown ≡ shown_wish w) → IfOk result (λ shown. IsLawful shown)
+shown_so w (Ok shown) e = subst (λ (d : Datum). IsLawful d) (sym e) (shown_lawful w)
+shown_so w (Err error) e = tt

@@ -1,6 +1,5 @@
 //! The components of a wish as data.
-ghost use Rattle.std.specs.Prelude.{◌≡◌, ◌↔◌, IsTrue, nat_abs};
-ghost use Rattle.std.specs.List.{slice_get};
+ghost use Rattle.std.specs.Prelude.{◌≡◌};
 ghost use Rattle.std.specs.Option.{option_copied};
 ghost use Rattle.point_data.specs.Parts.{members_in};
 ghost use Rattle.transfer_sets.specs.Components.{integer_at, boolean_at, conditions_at, text_at};

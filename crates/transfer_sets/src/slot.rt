@@ -1,9 +1,8 @@
 //! One transfer set of a peer.
-ghost use Rattle.std.specs.Prelude.{◌≡◌, ◌↔◌, ◌+◌, ◌*◌, IsTrue, false, true, None, if◌then◌else◌};
+ghost use Rattle.std.specs.Prelude.{◌≡◌, ◌↔◌, ◌%◌, ◌<◌, IsTrue, false, None};
 ghost use Rattle.transfer_sets.specs.SlotState.{new_slot, with_status, enabled_by, noted_at};
 ghost use Rattle.transfer_sets.specs.Due.{PassesMultiple, HasWaited, AreDue};
 ghost use Rattle.transfer_sets.specs.Wishes.{Has};
-ghost use Rattle.std.specs.Prelude.{◌%◌, ◌<◌};
 
 use crate::wish::{CHANGE, INTEGRITY, INTERVAL, Wish, base_of, has};
 use ber_values::Visible;

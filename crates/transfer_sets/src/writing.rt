@@ -1,7 +1,8 @@
 //! A wish as data.
 ghost use Rattle.std.specs.Prelude.{◌≡◌, ◌*◌, ◌/◌, ◌++◌, ◌∷◌, [], pos, IfOk, OnOk};
 ghost use Rattle.mms_data.specs.Datum.{integer, boolean, bits, text, structure, data_of};
-ghost use Rattle.transfer_sets.specs.WishData.{shown_wish, parts_of};
+ghost use Rattle.mms_data.specs.Lawful.{IsLawful};
+ghost use Rattle.transfer_sets.specs.WishData.{shown_wish};
 
 use crate::wish::Wish;
 use ber_values::{BitString, Visible};
@@ -10,6 +11,14 @@ use std::alloc::{AllocError, Global};
 
 /// A wish as data: the scope of the data set's name is 1, and the conditions are five bits.
 pub fn wish_data(alloc: Global, wish: &Wish) -> Result<MmsData, AllocError>
+    ensures value { IfOk result (λ shown. shown ≡ shown_wish wish.now) }
+    // It can be spelled in octets.
+    ensures lawful { IfOk result (λ shown. IsLawful shown) }
+{
+    shown(alloc, wish)
+}
+
+fn shown(alloc: Global, wish: &Wish) -> Result<MmsData, AllocError>
     ensures { IfOk result (λ shown. shown ≡ shown_wish wish.now) }
 {
     let mut members = DataList::new(alloc);
