@@ -11,6 +11,7 @@ const HOLDER: Key = Key {
     peer: 0,
     ordinal: 2,
 };
+
 const OTHER: Key = Key {
     peer: 1,
     ordinal: 2,
@@ -105,7 +106,11 @@ fn operates_of_a_command(rt: HostRuntime) {
     ];
     for ((by, tag, value), answer, hold) in rows {
         let mut device = command(by, tag);
-        assert_eq!(rt; device.operate(HOLDER, value), answer, "{by:?} {tag} {value}");
+        assert_eq!(rt;
+            device.operate(HOLDER, value),
+            answer,
+            "{by:?} {tag} {value}"
+        );
         assert_eq!(rt; device.holder(), hold, "{by:?} {tag} {value}");
         assert_eq!(rt; device.tag(), tag);
     }
@@ -215,7 +220,9 @@ fn ticks(rt: HostRuntime) {
     }
 }
 
-fn expired(device: &mut Device, now: u64) -> Option<Hold> {
+fn expired(device: &mut Device, now: u64) -> Option<Hold>
+    ensures { device.new.point ≡ device.old.point }
+{
     if now >= sbo_device::MOMENT_LIMIT {
         return None;
     }

@@ -1,15 +1,18 @@
 use std::alloc::{AllocError, Global};
 use std::test::Fail;
-use transfer_sets::{
-    CHANGE, INTEGRITY, INTERVAL, OPERATOR, Slot, Wish, base_of, may_enable,
-};
+use transfer_sets::{CHANGE, INTEGRITY, INTERVAL, OPERATOR, Slot, Wish, base_of, may_enable};
 
 fn empty_wish(alloc: Global) -> Result<Wish, AllocError> {
     Slot::new(alloc).wish().clone()
 }
 
 /// A wish of an interval and an integrity of so many seconds.
-fn wish_of(alloc: Global, conditions: u8, interval: u32, integrity: u32) -> Result<Wish, AllocError> {
+fn wish_of(
+    alloc: Global,
+    conditions: u8,
+    interval: u32,
+    integrity: u32,
+) -> Result<Wish, AllocError> {
     let mut wish = empty_wish(alloc)?;
     wish.conditions = conditions;
     wish.interval = interval;
@@ -17,9 +20,21 @@ fn wish_of(alloc: Global, conditions: u8, interval: u32, integrity: u32) -> Resu
     Ok(wish)
 }
 
+/// What is due of a slot whose wish is kept, then enabled at 10,000 with an interval of 2 s and an
+/// integrity of 3 s, and then disabled.
+fn dues(alloc: Global, conditions: u8, from: u64, to: u64) -> Result<(u8, u8, u8), AllocError> {
+    let wish = wish_of(alloc, conditions, 2, 3)?;
+    let mut slot = Slot::new(alloc);
+    slot.keep(wish.clone()?);
+    let kept = slot.due(from, to);
+    slot.enable(wish, 10_000);
+    let enabled = slot.due(from, to);
+    slot.disable();
+    Ok((kept, enabled, slot.due(from, to)))
+}
+
 #[test]
 fn multiples_of_a_period(rt: HostRuntime) -> Result<(), Fail> {
-    // enabled at 10,000 with an interval of 2 s and an integrity of 3 s
     let both = INTERVAL + INTEGRITY;
     let rows = [
         ((INTERVAL, 9_999, 10_000), 0),
@@ -43,14 +58,11 @@ fn multiples_of_a_period(rt: HostRuntime) -> Result<(), Fail> {
         ((0, 15_000, 16_000), 0),
     ];
     for ((conditions, from, to), due) in rows {
-        let wish = wish_of(rt.alloc(), conditions, 2, 3)?;
-        let mut slot = Slot::new(rt.alloc());
-        slot.keep(wish.clone()?);
-        assert_eq!(rt; slot.due(from, to), 0);
-        slot.enable(wish, 10_000);
-        assert_eq!(rt; slot.due(from, to), due, "{conditions} {from} {to}");
-        slot.disable();
-        assert_eq!(rt; slot.due(from, to), 0);
+        assert_eq!(rt;
+            dues(rt.alloc(), conditions, from, to)?,
+            (0, due, 0),
+            "{conditions} {from} {to}"
+        );
     }
     Ok(())
 }
@@ -67,7 +79,11 @@ fn bases_and_long_periods(rt: HostRuntime) -> Result<(), Fail> {
         ((20, 2, 21_000, 22_000), 20_000, INTERVAL),
         ((0, 2_147_483_637, 0, 2_147_483_646_999), 10_000, 0),
         ((0, 2_147_483_637, 0, 2_147_483_647_000), 10_000, INTERVAL),
-        ((2_147_483_647, 1, 0, 2_147_483_647_999), 2_147_483_647_000, 0),
+        (
+            (2_147_483_647, 1, 0, 2_147_483_647_999),
+            2_147_483_647_000,
+            0,
+        ),
         ((0, 4_294_967_295, 0, 2_147_483_647_999), 10_000, 0),
     ];
     for ((start, interval, from, to), base, due) in rows {
