@@ -1,0 +1,5 @@
+pub mod Wishes
+pub mod SlotState
+pub mod Due
+pub mod Components
+pub mod WishData

@@ -1,0 +1,19 @@
+//! Transfer sets: what a peer wishes of one, and when its reports are due (IEC 60870-6-503, DS
+//! transfer sets).
+#![tactic(auto)]
+
+mod laws;
+mod parts;
+mod reading;
+mod slot;
+mod wish;
+mod writing;
+
+pub use laws::{due_is_one_number, shown_wishes_are_read};
+pub use reading::read_wish;
+pub use slot::Slot;
+pub use wish::{
+    CHANGE, EXTERNAL, INTEGRITY, INTERVAL, NUMBER_LIMIT, OPERATOR, Wish, WishFault, base_of,
+    may_enable,
+};
+pub use writing::wish_data;

@@ -1,0 +1,163 @@
+//! One transfer set of a peer.
+ghost use Rattle.std.specs.Prelude.{◌≡◌, ◌↔◌, ◌%◌, ◌<◌, IsTrue, false, None};
+ghost use Rattle.transfer_sets.specs.SlotState.{new_slot, with_status, enabled_by, noted_at};
+ghost use Rattle.transfer_sets.specs.Due.{PassesMultiple, HasWaited, AreDue};
+ghost use Rattle.transfer_sets.specs.Wishes.{Has};
+
+use crate::wish::{CHANGE, INTEGRITY, INTERVAL, Wish, base_of, has};
+use ber_values::Visible;
+use std::alloc::Global;
+use std::marker::Model;
+
+/// A transfer set: what is wished of it, and what it knows of the time and of changes. All moments
+/// are in milliseconds since 1970.
+#[derive(Debug, Drop)]
+pub struct Slot {
+    /// Its status says whether the slot is enabled.
+    wish: Wish,
+    base: u64,
+    noted: Option<u64>,
+}
+
+impl Model for Slot {
+    ghost use Rattle.transfer_sets.specs.SlotState.{SlotState};
+
+    ghost Value = { SlotState };
+
+    ghost view = { λ s. record { wish = s.wish; base = s.base; noted = s.noted } };
+}
+
+impl Slot {
+    /// A slot that isn't enabled and of which nothing is wished.
+    pub fn new(alloc: Global) -> Slot
+        ensures { result ≡ new_slot }
+    {
+        Slot {
+            wish: Wish {
+                set_domain: Visible::new(Vec::new(alloc)),
+                set_name: Visible::new(Vec::new(alloc)),
+                start: 0,
+                interval: 0,
+                tle: 0,
+                buffer: 0,
+                integrity: 0,
+                conditions: 0,
+                block: false,
+                critical: false,
+                rbe: false,
+                all_changes: false,
+                status: false,
+                event_code: 0,
+            },
+            base: 0,
+            noted: None,
+        }
+    }
+
+    /// Enables the slot with a wish, at this moment: also one that is enabled, which begins anew.
+    /// The wish's status is true from now on.
+    pub fn enable(&mut self, wish: Wish, now: u64)
+        ensures { self.new ≡ enabled_by wish now }
+    {
+        self.base = base_of(&wish, now);
+        self.noted = None;
+        self.wish = wish;
+        self.wish.status = true;
+    }
+
+    /// Keeps a wish without enabling the slot. The wish's status is false from now on.
+    pub fn keep(&mut self, wish: Wish)
+        ensures { self.new ≡ record self.old { wish = with_status false wish } }
+    {
+        self.wish = wish;
+        self.wish.status = false;
+    }
+
+    /// Ends the reports of the slot. The wish is kept, its status is false from now on.
+    pub fn disable(&mut self)
+        ensures { self.new ≡ record self.old { wish = with_status false self.old.wish } }
+    {
+        self.wish.status = false;
+    }
+
+    /// The conditions, as their sum, on which a report is due where the clock goes on from a moment
+    /// to another: none of a slot that isn't enabled, however many multiples go by.
+    pub fn due(&self, from: u64, to: u64) -> u8
+        ensures { AreDue self.now from to result }
+    {
+        if !self.wish.status {
+            return 0;
+        }
+        let wished = self.wish.conditions;
+        let interval = has(wished, INTERVAL)
+            && passes_multiple(self.base, u64::from(self.wish.interval) * 1000, from, to);
+        let integrity = has(wished, INTEGRITY)
+            && passes_multiple(self.base, u64::from(self.wish.integrity) * 1000, from, to);
+        let change = has(wished, CHANGE)
+            && has_waited(self.noted, u64::from(self.wish.buffer) * 1000, to);
+        sum_of(interval, integrity, change)
+    }
+
+    /// Notes that a member of the data set has changed at this moment.
+    pub fn note_change(&mut self, now: u64)
+        ensures { self.new ≡ record self.old { noted = noted_at now self.old.noted } }
+    {
+        if self.noted.is_none() {
+            self.noted = Some(now);
+        }
+    }
+
+    /// Notes that a report has told all changes.
+    pub fn reported(&mut self)
+        ensures { self.new ≡ record self.old { noted = None } }
+    {
+        self.noted = None;
+    }
+
+    /// What is wished; its status says whether the slot is enabled.
+    pub fn wish(&self) -> &Wish
+        ensures { result.now ≡ self.now.wish }
+    {
+        &self.wish
+    }
+
+    pub fn enabled(&self) -> bool
+        ensures { result ≡ self.now.wish.status }
+    {
+        self.wish.status
+    }
+}
+
+/// Whether some whole multiple of a period after the base, one at the least, stands after `from`
+/// and not after `to`.
+fn passes_multiple(base: u64, period: u64, from: u64, to: u64) -> bool
+    ensures { IsTrue result ↔ PassesMultiple base period from to }
+{
+    if period == 0 {
+        return from < base && base <= to;
+    }
+    from.saturating_sub(base) / period < to.saturating_sub(base) / period
+}
+
+/// Whether a change was noted and has waited for the time of the buffer.
+fn has_waited(noted: Option<u64>, buffer: u64, to: u64) -> bool
+    ensures { IsTrue result ↔ HasWaited noted buffer to }
+{
+    match noted {
+        Some(first) => buffer <= to && first <= to - buffer,
+        None => false,
+    }
+}
+
+/// The sum of the conditions that hold.
+fn sum_of(interval: bool, integrity: bool, change: bool) -> u8
+    ensures interval { Has result INTERVAL ↔ IsTrue interval }
+    ensures integrity { Has result INTEGRITY ↔ IsTrue integrity }
+    ensures change { Has result CHANGE ↔ IsTrue change }
+    ensures no_others { (result % CHANGE ≡ 0) × (result < 256) }
+{
+    let first = if interval { INTERVAL } else { 0 };
+    let second = if integrity { INTEGRITY } else { 0 };
+    let third = if change { CHANGE } else { 0 };
+    first + second + third
+}
