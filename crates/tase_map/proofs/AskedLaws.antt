@@ -1,9 +1,8 @@
 -- Requests and calls are each other's.
-use Rattle.std.proofs.Common.{◌≡◌, ℕ, Bool, true, false, List, refl, sym, subst, inl, inr}
+use Rattle.std.proofs.Common.{◌≡◌, Bool, false, List, refl, sym, subst, inl}
 use Rattle.mms_data.specs.Datum.{Datum}
 use Rattle.mms_services.specs.declared.request.Request.{Request}
 use Rattle.mms_services.specs.declared.request.Request.TheVariants as requests
-use Rattle.mms_services.specs.declared.write.WriteRequest.{WriteRequest}
 use Rattle.mms_services.specs.declared.spec.Spec.{Spec}
 use Rattle.mms_services.specs.declared.spec.Spec.TheVariants as specs
 use Rattle.mms_services.specs.Specifications.{IsSpec}

@@ -1,2 +1,12 @@
 pub mod AskedLaws
 pub mod RepliedLaws
+pub mod ReadingLaws
+pub mod AskedOn
+pub mod Uncut
+pub mod Closing
+pub mod Adding
+pub mod MessageOrder
+pub mod TurnOrder
+pub mod InTurn
+pub mod Unrefused
+mod Worked

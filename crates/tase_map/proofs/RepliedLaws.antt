@@ -1,5 +1,5 @@
 -- Replies and PDUs are each other's.
-use Rattle.std.proofs.Common.{◌≡◌, ℕ, List, Option, Some, None, refl, sym, subst, ap, ◌∙◌}
+use Rattle.std.proofs.Common.{◌≡◌, ℕ, List, Option, Some, None, refl, sym, subst}
 use Rattle.std.specs.Prelude.{option_map, IfSome}
 use Rattle.std.specs.List.{All}
 use Rattle.mms_data.specs.declared.outcome.Outcome.{Outcome}

@@ -1,6 +1,6 @@
 -- Requests of MMS as calls of the node, and calls as requests (IEC 60870-6-503 on ISO 9506-2). The
 -- services of named variable lists are known to no node yet: they are answered as unknown ones.
-use Rattle.std.specs.Prelude.{ℕ, Bool, true, false, List}
+use Rattle.std.specs.Prelude.{Bool, true, false, List}
 use Rattle.mms_data.specs.Datum.{Datum}
 use Rattle.mms_services.specs.declared.request.Request.{Request}
 use Rattle.mms_services.specs.declared.request.Request.TheVariants as requests
