@@ -9,4 +9,5 @@ pub mod MessageOrder
 pub mod TurnOrder
 pub mod InTurn
 pub mod Unrefused
-mod Worked
+pub mod Worked
+mod WorkedStream

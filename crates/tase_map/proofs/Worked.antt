@@ -139,11 +139,11 @@ told_turns = refl
 
 -- ---- what is sent
 
-confirm_octets : List ℕ
+abbrev pub confirm_octets : List ℕ
 confirm_octets = 3 ∷ 0 ∷ 0 ∷ 22 ∷ 17 ∷ 208 ∷ 0 ∷ 1 ∷ 0 ∷ 1 ∷ 0 ∷ 192 ∷ 1 ∷ 10 ∷ 193 ∷ 2 ∷ 0 ∷ 1
     ∷ 194 ∷ 2 ∷ 0 ∷ 1 ∷ []
 
-accept_octets : List ℕ
+abbrev pub accept_octets : List ℕ
 accept_octets = 3 ∷ 0 ∷ 0 ∷ 143 ∷ 2 ∷ 240 ∷ 128 ∷ 14 ∷ 134 ∷ 5 ∷ 6 ∷ 19 ∷ 1 ∷ 0 ∷ 22 ∷ 1 ∷ 2 ∷ 20
     ∷ 2 ∷ 0 ∷ 2 ∷ 52 ∷ 2 ∷ 0 ∷ 1 ∷ 193 ∷ 116 ∷ 49 ∷ 114 ∷ 160 ∷ 3 ∷ 128 ∷ 1 ∷ 1 ∷ 162 ∷ 107 ∷ 131
     ∷ 4 ∷ 0 ∷ 0 ∷ 0 ∷ 1 ∷ 165 ∷ 18 ∷ 48 ∷ 7 ∷ 128 ∷ 1 ∷ 0 ∷ 129 ∷ 2 ∷ 81 ∷ 1 ∷ 48 ∷ 7 ∷ 128 ∷ 1 ∷ 0
@@ -153,51 +153,51 @@ accept_octets = 3 ∷ 0 ∷ 0 ∷ 143 ∷ 2 ∷ 240 ∷ 128 ∷ 14 ∷ 134 ∷ 5
     ∷ 1 ∷ 5 ∷ 164 ∷ 22 ∷ 128 ∷ 1 ∷ 1 ∷ 129 ∷ 3 ∷ 5 ∷ 225 ∷ 0 ∷ 130 ∷ 12 ∷ 3 ∷ 108 ∷ 28 ∷ 0 ∷ 0 ∷ 0
     ∷ 0 ∷ 0 ∷ 0 ∷ 0 ∷ 1 ∷ 16 ∷ []
 
-identified_octets : List ℕ
+abbrev pub identified_octets : List ℕ
 identified_octets = 3 ∷ 0 ∷ 0 ∷ 45 ∷ 2 ∷ 240 ∷ 128 ∷ 1 ∷ 0 ∷ 1 ∷ 0 ∷ 97 ∷ 32 ∷ 48 ∷ 30 ∷ 2 ∷ 1 ∷ 3
     ∷ 160 ∷ 25 ∷ 161 ∷ 23 ∷ 2 ∷ 1 ∷ 1 ∷ 162 ∷ 18 ∷ 128 ∷ 6 ∷ 67 ∷ 69 ∷ 78 ∷ 84 ∷ 82 ∷ 69 ∷ 129 ∷ 5
     ∷ 84 ∷ 65 ∷ 83 ∷ 69 ∷ 50 ∷ 130 ∷ 1 ∷ 49 ∷ []
 
 -- the response to conclude, the answer to a release, an abort
-concluded_octets : List ℕ
+abbrev pub concluded_octets : List ℕ
 concluded_octets = 3 ∷ 0 ∷ 0 ∷ 22 ∷ 2 ∷ 240 ∷ 128 ∷ 1 ∷ 0 ∷ 1 ∷ 0 ∷ 97 ∷ 9 ∷ 48 ∷ 7 ∷ 2 ∷ 1 ∷ 3
     ∷ 160 ∷ 2 ∷ 140 ∷ 0 ∷ []
 
-released_octets : List ℕ
+abbrev pub released_octets : List ℕ
 released_octets = 3 ∷ 0 ∷ 0 ∷ 25 ∷ 2 ∷ 240 ∷ 128 ∷ 10 ∷ 16 ∷ 193 ∷ 14 ∷ 97 ∷ 12 ∷ 48 ∷ 10 ∷ 2 ∷ 1
     ∷ 1 ∷ 160 ∷ 5 ∷ 99 ∷ 3 ∷ 128 ∷ 1 ∷ 0 ∷ []
 
-aborted_octets : List ℕ
+abbrev pub aborted_octets : List ℕ
 aborted_octets = 3 ∷ 0 ∷ 0 ∷ 30 ∷ 2 ∷ 240 ∷ 128 ∷ 25 ∷ 21 ∷ 17 ∷ 1 ∷ 11 ∷ 193 ∷ 16 ∷ 160 ∷ 14 ∷ 97
     ∷ 12 ∷ 48 ∷ 10 ∷ 2 ∷ 1 ∷ 1 ∷ 160 ∷ 5 ∷ 100 ∷ 3 ∷ 128 ∷ 1 ∷ 0 ∷ []
 
 -- the view of the peer whose association was opened, identified the node and took twice, then a stop
 -- and a close, the newest first
-abbrev still_open : View
+abbrev pub still_open : View
 still_open = own 0 takes ∷ own 0 (calls Identify) ∷ own 0 takes ∷ own 0 opens ∷ []
 
 abbrev sent : List Told → View → List ℕ
 sent told view = octets_in (own_table rows 0) 0 (talk_of (reading told) false) view
 
 opened_sent : sent first_two (own 0 opens ∷ []) ≡ confirm_octets ++ accept_octets
-unfolding confirm_octets accept_octets wire session.length_octets ber.length_octets ber.integer_octets presentation.user_octets accept_tsdu presentation.set_up_octets presentation.mode_octets presentation.accept_octets presentation.results_octets presentation.accepted_octets pdu_octets initiate_octets later_octets last_octets initiate_detail_octets
+unfolding wire session.length_octets ber.length_octets ber.integer_octets presentation.user_octets accept_tsdu presentation.set_up_octets presentation.mode_octets presentation.accept_octets presentation.results_octets presentation.accepted_octets pdu_octets initiate_octets later_octets last_octets initiate_detail_octets
 opened_sent = refl
 
 identified_sent : sent (first_two ++ request ∷ []) still_open
     ≡ confirm_octets ++ accept_octets ++ identified_octets
-unfolding confirm_octets accept_octets identified_octets wire session.length_octets ber.length_octets ber.integer_octets presentation.user_octets accept_tsdu data_tsdu presentation.set_up_octets presentation.mode_octets presentation.accept_octets presentation.results_octets presentation.accepted_octets pdu_octets initiate_octets later_octets last_octets initiate_detail_octets response_octets invoke_octets identify_response_octets
+unfolding wire session.length_octets ber.length_octets ber.integer_octets presentation.user_octets accept_tsdu data_tsdu presentation.set_up_octets presentation.mode_octets presentation.accept_octets presentation.results_octets presentation.accepted_octets pdu_octets initiate_octets later_octets last_octets initiate_detail_octets response_octets invoke_octets identify_response_octets
 identified_sent = refl
 
 concluded_sent : sent (first_two ++ request ∷ conclude ∷ heard heards.Finish ∷ [])
     (own 0 closes ∷ still_open)
     ≡ confirm_octets ++ accept_octets ++ identified_octets ++ concluded_octets ++ released_octets
-unfolding confirm_octets accept_octets identified_octets concluded_octets released_octets wire session.length_octets ber.length_octets ber.integer_octets presentation.user_octets accept_tsdu data_tsdu release_tsdu presentation.set_up_octets presentation.mode_octets presentation.accept_octets presentation.results_octets presentation.accepted_octets pdu_octets initiate_octets later_octets last_octets initiate_detail_octets response_octets invoke_octets identify_response_octets
+unfolding wire session.length_octets ber.length_octets ber.integer_octets presentation.user_octets accept_tsdu data_tsdu release_tsdu presentation.set_up_octets presentation.mode_octets presentation.accept_octets presentation.results_octets presentation.accepted_octets pdu_octets initiate_octets later_octets last_octets initiate_detail_octets response_octets invoke_octets identify_response_octets
 concluded_sent = refl
 
 -- a close for which the text has no cause, behind a stop: the request that it has more was refused
 stopped_sent : sent (first_two ++ request ∷ []) (own 0 closes ∷ stopped ∷ own 0 takes ∷ own 0 opens ∷ [])
     ≡ confirm_octets ++ accept_octets ++ aborted_octets
-unfolding confirm_octets accept_octets aborted_octets wire session.length_octets ber.length_octets ber.integer_octets presentation.user_octets accept_tsdu abort_tsdu presentation.set_up_octets presentation.mode_octets presentation.accept_octets presentation.results_octets presentation.accepted_octets pdu_octets initiate_octets later_octets last_octets initiate_detail_octets
+unfolding wire session.length_octets ber.length_octets ber.integer_octets presentation.user_octets accept_tsdu abort_tsdu presentation.set_up_octets presentation.mode_octets presentation.accept_octets presentation.results_octets presentation.accepted_octets pdu_octets initiate_octets later_octets last_octets initiate_detail_octets
 stopped_sent = refl
 
 -- a reply longer than was agreed on
