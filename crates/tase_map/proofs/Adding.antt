@@ -35,11 +35,11 @@ abbrev IsFirst : List Turn → ℕ → CallKind → Type 0
 IsFirst turns invoke call = (later : List Turn) × (turns ≡ asks invoke call ∷ later)
 
 -- by the turn in front
-abbrev call_at : List Turn → ℕ
+abbrev pub call_at : List Turn → ℕ
 call_at (asks invoke call ∷ turns) = length (acts_of_call call)
 call_at _ = 0
 
-abbrev is_asking : List Turn → Bool
+abbrev pub is_asking : List Turn → Bool
 is_asking (asks invoke call ∷ turns) = true
 is_asking _ = false
 
@@ -48,10 +48,10 @@ abbrev inside_by : List Turn → ℕ → ℕ → Type 0
 inside_by turns count more = is_asking (turns_behind turns count) ≡ true → 0 < more
     → more < call_at (turns_behind turns count) → turns_behind turns (count + more) ≡ []
 
-if_eq : (n : ℕ) (x y : List Turn) → n ≡ 0 → (if n == 0 then x else y) ≡ x
+pub if_eq : (n : ℕ) (x y : List Turn) → n ≡ 0 → (if n == 0 then x else y) ≡ x
 if_eq n x y e = rw (eq-eqb n 0 e) refl
 
-if_ne : (n : ℕ) (x y : List Turn) → 0 < n → (if n == 0 then x else y) ≡ y
+pub if_ne : (n : ℕ) (x y : List Turn) → 0 < n → (if n == 0 then x else y) ≡ y
 if_ne n x y l = rw (ne_eqb n 0 (λ e. omega (arith, e, l))) refl
 
 choose_lt : (a b : ℕ) (x y : List Turn) → a < b → (if nat_lt a b then x else y) ≡ x
@@ -61,14 +61,14 @@ choose_le : (a b : ℕ) (x y : List Turn) → b ≤ a → (if nat_lt a b then x 
 choose_le a b x y l = rw (le-ltb a b l) refl
 
 -- the three ways that a request passes
-asks_front : (invoke : ℕ) (call : CallKind) (turns : List Turn) (count : ℕ) → count ≡ 0
+pub asks_front : (invoke : ℕ) (call : CallKind) (turns : List Turn) (count : ℕ) → count ≡ 0
     → turns_behind (asks invoke call ∷ turns) count ≡ asks invoke call ∷ turns
 asks_front invoke call turns count e =
     if_eq count (asks invoke call ∷ turns)
     (if nat_lt count (length (acts_of_call call)) then []
     else turns_behind turns (count - length (acts_of_call call))) e
 
-asks_inside : (invoke : ℕ) (call : CallKind) (turns : List Turn) (count : ℕ) → 0 < count
+pub asks_inside : (invoke : ℕ) (call : CallKind) (turns : List Turn) (count : ℕ) → 0 < count
     → count < length (acts_of_call call)
     → turns_behind (asks invoke call ∷ turns) count ≡ []
 asks_inside invoke call turns count some l =
@@ -78,7 +78,7 @@ asks_inside invoke call turns count some l =
     ∙ choose_lt count (length (acts_of_call call)) []
     (turns_behind turns (count - length (acts_of_call call))) l
 
-asks_passed : (invoke : ℕ) (call : CallKind) (turns : List Turn) (count : ℕ) → 0 < count
+pub asks_passed : (invoke : ℕ) (call : CallKind) (turns : List Turn) (count : ℕ) → 0 < count
     → length (acts_of_call call) ≤ count
     → turns_behind (asks invoke call ∷ turns) count
     ≡ turns_behind turns (count - length (acts_of_call call))
@@ -89,7 +89,7 @@ asks_passed invoke call turns count some l =
     ∙ choose_le count (length (acts_of_call call)) []
     (turns_behind turns (count - length (acts_of_call call))) l
 
-none_asking : (turns : List Turn) → turns ≡ [] → is_asking turns ≡ true → ⊥
+pub none_asking : (turns : List Turn) → turns ≡ [] → is_asking turns ≡ true → ⊥
 none_asking turns e a = false≢true (sym (ap (λ (ts : List Turn). is_asking ts) e) ∙ a)
 
 passed_inside : (invoke : ℕ) (call : CallKind) (turns : List Turn) (count more : ℕ)
@@ -156,7 +156,7 @@ inside (pauses ∷ turns) count more = other_inside pauses turns count more (λ 
 
 -- ---- acts of the association
 
-abbrev AreAsked : List Act → Type 0
+abbrev pub AreAsked : List Act → Type 0
 AreAsked [] = Unit {0}
 AreAsked (this ∷ these) = (is_asked this ≡ true) × AreAsked these
 
@@ -167,7 +167,7 @@ made_more : (ordinal : ℕ) (a : Act) (view : View) → is_asked a ≡ true
     → acts_made ordinal (own ordinal a ∷ view) ≡ acts_made ordinal view + 1
 made_more ordinal a view i = rw (own_asked ordinal a i) (omega arith)
 
-made_all : (ordinal : ℕ) (these : List Act) (view : View) → AreAsked these
+pub made_all : (ordinal : ℕ) (these : List Act) (view : View) → AreAsked these
     → acts_made ordinal (map (own ordinal) these ++ view) ≡ acts_made ordinal view + length these
 made_all ordinal [] view a = omega arith
 made_all ordinal (this ∷ these) view a =
@@ -251,7 +251,7 @@ writes_asked [] values = tt
 writes_asked (name ∷ names) [] = tt
 writes_asked (name ∷ names) (value ∷ values) = (refl, writes_asked names values)
 
-acts_asked : (call : CallKind) → AreAsked (acts_of_call call)
+pub acts_asked : (call : CallKind) → AreAsked (acts_of_call call)
 acts_asked kinds.Identify = (refl, tt)
 acts_asked (kinds.Read names echo) = reversed (map act.reads names) (reads_asked names)
 acts_asked (kinds.Write names values) = reversed (writes_of names values) (writes_asked names values)
@@ -265,7 +265,7 @@ some_writes (name ∷ names) [] e = absurd (omega (arith, e))
 some_writes (name ∷ names) (value ∷ values) e =
     let h = some_writes names values (omega (arith, e)) in omega (arith, h)
 
-some_acts : (call : CallKind) → IsCall call → 0 < length (acts_of_call call)
+pub some_acts : (call : CallKind) → IsCall call → 0 < length (acts_of_call call)
 some_acts kinds.Identify i = omega arith
 some_acts (kinds.Read names echo) i =
     let r = length-reverse (map act.reads names) in
@@ -287,7 +287,7 @@ own_seen rows key (this ∷ these) =
     (ap (λ (v : View). own key.ordinal this ∷ v) (own_seen rows key these))
 
 -- what an event of the association shows
-shown : (rows : CentreRows) (key : Key) (found : Option Key) (these : List Act)
+pub shown : (rows : CentreRows) (key : Key) (found : Option Key) (these : List Act)
     → found ≡ Some key
     → filter_map (seen_by rows key.peer) (moves_by found these) ≡ map (own key.ordinal) these
 shown rows key found these e =
@@ -298,7 +298,7 @@ abbrev with_event : ℕ → EventKind → Past → Past
 with_event who event past = record { who = who; event = event } ∷ past
 
 -- the view with an event of the association, where these are its acts
-with_acts : (rows : CentreRows) (key : Key) (who : ℕ) (event : EventKind) (past : Past)
+pub with_acts : (rows : CentreRows) (key : Key) (who : ℕ) (event : EventKind) (past : Past)
     (these : List Act)
     → filter_map (seen_by rows key.peer) (moves_of_event event (key_at event past who))
     ≡ map (own key.ordinal) these

@@ -69,7 +69,7 @@ given_chosen true entry past before key g e = after_given entry.event past befor
 given_chosen false entry past before key g e = given_entry key entry past (g e)
 
 -- a seat's association has a key that was given out
-issued : (past : Past) (who : ℕ) (key : Key) → association_in past who ≡ Some key
+pub issued : (past : Past) (who : ℕ) (key : Key) → association_in past who ≡ Some key
     → IsGiven key past
 issued [] who key e = absurd (none-some key e)
 issued (entry ∷ past) who key e =
@@ -176,7 +176,7 @@ both false b e = absurd (false≢true e)
 abbrev key_with : ℕ → ℕ → Key
 key_with peer ordinal = record { peer = peer; ordinal = ordinal }
 
-same_key : (a b : Key) → a.peer ≡ b.peer → a.ordinal ≡ b.ordinal → a ≡ b
+pub same_key : (a b : Key) → a.peer ≡ b.peer → a.ordinal ≡ b.ordinal → a ≡ b
 same_key a b p o =
     ap (λ peer. key_with peer a.ordinal) p ∙ ap (λ ordinal. key_with b.peer ordinal) o
 
@@ -270,7 +270,7 @@ act_adds rows table talk key other act view apart =
     (λ differs. rw (ne_eqb other.peer key.peer differs) refl)
     (cases_eq other.peer key.peer)
 
-cons_joined : (found : Option Seen) (seen view : View)
+pub cons_joined : (found : Option Seen) (seen view : View)
     → cons_option found seen ++ view ≡ cons_option found [] ++ (seen ++ view)
 cons_joined None seen view = refl
 cons_joined (Some one) seen view = refl

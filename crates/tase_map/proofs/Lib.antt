@@ -5,6 +5,7 @@ pub mod AskedOn
 pub mod Uncut
 pub mod Closing
 pub mod Adding
+pub mod Passing
 pub mod MessageOrder
 pub mod TurnOrder
 pub mod InTurn

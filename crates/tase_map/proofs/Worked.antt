@@ -11,12 +11,13 @@ use Rattle.mms_services.specs.declared.pdu.MmsPdu.TheVariants as pdus
 use Rattle.mms_services.specs.declared.request.Request.TheVariants as requests
 use Rattle.mms_services.specs.declared.response.Response.TheVariants as responses
 use Rattle.mms_services.specs.Identities.{identify_response_octets}
+use Rattle.mms_services.specs.Errors.{error_pdu_octets, service_error_octets}
 use Rattle.mms_services.specs.Initiates.{initiate_octets, later_octets, last_octets}
 use Rattle.mms_services.specs.Initiates.{initiate_detail_octets}
 use Rattle.mms_services.specs.PduOctets.{pdu_octets, response_octets, invoke_octets}
 use Rattle.stack_messages.specs.declared.heard.Connecting.{Connecting}
 use Rattle.stack_messages.specs.declared.heard.Heard.TheVariants as heards
-use Rattle.stack_wire.specs.Tsdus.{accept_tsdu, release_tsdu, abort_tsdu, data_tsdu}
+use Rattle.stack_wire.specs.Tsdus.{accept_tsdu, refusal_tsdu, release_tsdu, abort_tsdu, data_tsdu}
 use Rattle.stack_assoc.specs.Told.{Told, asked, heard}
 use Rattle.bilateral.specs.declared.rows.Table.{Table}
 use Rattle.bilateral.specs.Rows.{CentreRows}
@@ -30,7 +31,7 @@ use Rattle.tase_map.specs.Readings.{Reading}
 use Rattle.tase_map.specs.Turns.{Turn, offers, offers_badly, asks, concludes, releases, aborts}
 use Rattle.tase_map.specs.Turns.{breaks, ends, pauses, turns_told}
 use Rattle.tase_map.specs.Asks.{up_to_last, asks_behind}
-use Rattle.tase_map.specs.Out.{talk_of, octets_in, within, too_long}
+use Rattle.tase_map.specs.Out.{talk_of, octets_in, within, too_long, refusal_octets, close_octets}
 
 -- a centre whose one peer has the title 1.1.999.1
 abbrev title : List ℕ
@@ -204,3 +205,55 @@ stopped_sent = refl
 too_long_said : within (pos 24) 1 (pdus.Response 1 responses.Identify) ≡ too_long 1
 unfolding pdu_octets response_octets invoke_octets identify_response_octets ber.length_octets ber.integer_octets
 too_long_said = refl
+
+-- an offer by a title that is no peer's is refused, and one of a peer isn't
+refused_early : refusal_octets (record { points = []; devices = []; tables = [] }) first_two
+    ≡ 3 ∷ 0 ∷ 0 ∷ 46 ∷ 2 ∷ 240 ∷ 128 ∷ 12 ∷ 37 ∷ 50 ∷ 35 ∷ 2 ∷ 48 ∷ 32 ∷ 97 ∷ 30 ∷ 48 ∷ 28 ∷ 2 ∷ 1 ∷ 1
+    ∷ 160 ∷ 23 ∷ 97 ∷ 21 ∷ 161 ∷ 7 ∷ 6 ∷ 5 ∷ 40 ∷ 202 ∷ 34 ∷ 2 ∷ 3 ∷ 162 ∷ 3 ∷ 2 ∷ 1 ∷ 1 ∷ 163 ∷ 5
+    ∷ 161 ∷ 3 ∷ 2 ∷ 1 ∷ 1 ∷ []
+unfolding wire session.length_octets ber.length_octets ber.integer_octets presentation.user_octets refusal_tsdu
+refused_early = refl
+
+not_refused : refusal_octets rows first_two ≡ []
+not_refused = refl
+
+-- closes, by what stands at their place
+abbrev closing : List Turn → List ℕ
+closing turns = close_octets (talk_of (reading first_two) false).setup turns
+
+release_alone : closing (releases ∷ []) ≡ released_octets
+unfolding wire session.length_octets ber.length_octets ber.integer_octets presentation.user_octets release_tsdu
+release_alone = refl
+
+abort_of_the_peer : closing (aborts ∷ []) ≡ []
+abort_of_the_peer = refl
+
+fault_alone : closing (breaks ∷ []) ≡ aborted_octets
+unfolding wire session.length_octets ber.length_octets ber.integer_octets presentation.user_octets abort_tsdu
+fault_alone = refl
+
+conclude_alone : closing (concludes ∷ []) ≡ concluded_octets
+unfolding wire session.length_octets ber.length_octets ber.integer_octets presentation.user_octets data_tsdu pdu_octets
+conclude_alone = refl
+
+conclude_and_fault : closing (concludes ∷ breaks ∷ []) ≡ concluded_octets ++ aborted_octets
+unfolding wire session.length_octets ber.length_octets ber.integer_octets presentation.user_octets data_tsdu abort_tsdu pdu_octets
+conclude_and_fault = refl
+
+conclude_and_abort : closing (concludes ∷ aborts ∷ []) ≡ concluded_octets
+unfolding wire session.length_octets ber.length_octets ber.integer_octets presentation.user_octets data_tsdu pdu_octets
+conclude_and_abort = refl
+
+end_alone : closing (ends ∷ []) ≡ []
+end_alone = refl
+
+close_before_a_request : closing (asks 2 Identify ∷ []) ≡ aborted_octets
+unfolding wire session.length_octets ber.length_octets ber.integer_octets presentation.user_octets abort_tsdu
+close_before_a_request = refl
+
+-- what is sent in its place: the error 3 0 with the number of the request
+error_sent : wire 1024 (data_tsdu 3 (too_long 1))
+    ≡ 3 ∷ 0 ∷ 0 ∷ 32 ∷ 2 ∷ 240 ∷ 128 ∷ 1 ∷ 0 ∷ 1 ∷ 0 ∷ 97 ∷ 19 ∷ 48 ∷ 17 ∷ 2 ∷ 1 ∷ 3 ∷ 160 ∷ 12
+    ∷ 162 ∷ 10 ∷ 128 ∷ 1 ∷ 1 ∷ 162 ∷ 5 ∷ 160 ∷ 3 ∷ 131 ∷ 1 ∷ 0 ∷ []
+unfolding wire session.length_octets ber.length_octets ber.integer_octets presentation.user_octets data_tsdu pdu_octets error_pdu_octets service_error_octets
+error_sent = refl

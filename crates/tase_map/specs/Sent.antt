@@ -4,6 +4,7 @@ use Rattle.std.specs.List.{filter_map}
 use Rattle.bilateral.specs.Rows.{CentreRows}
 use Rattle.sbo_device.specs.declared.key.Key.{Key}
 use Rattle.tase_views.specs.declared.event.EventKind.{EventKind}
+use Rattle.tase_views.specs.declared.event.EventKind.TheVariants as events
 use Rattle.tase_views.specs.declared.event.Entry.{Entry}
 use Rattle.tase_views.specs.History.{Past}
 use Rattle.tase_views.specs.OwnTable.{own_table}
@@ -29,3 +30,8 @@ sent rows past key text ended =
 abbrev pub turns_left : CentreRows → Past → Key → List ℕ → Bool → List Turn
 turns_left rows past key text ended = turns_behind (talk_of (reading_of text) ended).turns
     (acts_made key.ordinal (view_of rows key.peer past))
+
+-- an event that asks for no service
+abbrev pub IsQuiet : EventKind → Type 0
+IsQuiet (events.Request call) = ⊥
+IsQuiet event = Unit {0}

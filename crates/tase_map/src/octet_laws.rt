@@ -1,5 +1,5 @@
 //! What holds of all inputs, and of all octets that a peer is sent.
-ghost use Rattle.std.specs.Prelude.{◌≡◌, ◌≢◌, ℕ, Bool, true, List, ◌∷◌, ◌++◌, reverse};
+ghost use Rattle.std.specs.Prelude.{◌≡◌, ◌≢◌, ℕ, ◌≤◌, Bool, true, List, [], ◌∷◌, ◌++◌, reverse};
 ghost use Rattle.std.specs.Prelude.{Option, Some, None};
 ghost use Rattle.stack_messages.specs.declared.fault.StackFault.{StackFault};
 ghost use Rattle.stack_assoc.specs.Told.{Told};
@@ -9,7 +9,7 @@ ghost use Rattle.tase_views.specs.declared.event.EventKind.{EventKind as AnyEven
 ghost use Rattle.tase_views.specs.declared.call.CallKind.{CallKind as AnyCall};
 ghost use Rattle.tase_views.specs.declared.event.EventKind.TheVariants.{Open, Request, Take, Close};
 ghost use Rattle.tase_views.specs.Calls.{IsCall};
-ghost use Rattle.tase_views.specs.History.{Past, association_in, entries_of, key_at};
+ghost use Rattle.tase_views.specs.History.{Past, opens_in, association_in, entries_of, key_at};
 ghost use Rattle.tase_views.specs.OwnTable.{own_table};
 ghost use Rattle.tase_views.specs.View.{view_of};
 ghost use Rattle.tase_views.specs.Answers.{reply_to};
@@ -19,7 +19,7 @@ ghost use Rattle.tase_map.specs.Readings.{reading_of, Reads};
 ghost use Rattle.tase_map.specs.Asks.{asks_of, without_takes, AreInTurn};
 ghost use Rattle.tase_map.specs.Closed.{is_closed};
 ghost use Rattle.tase_map.specs.Out.{talk_of, reply_octets, close_octets, octets_out};
-ghost use Rattle.tase_map.specs.Sent.{events_by, sent, turns_left};
+ghost use Rattle.tase_map.specs.Sent.{events_by, sent, turns_left, IsQuiet};
 ghost use Rattle.tase_map.specs.Turns.{Turn, asks};
 
 /// What is read of octets is what they tell the called end, and nothing else is.
@@ -83,6 +83,30 @@ pub fn each_entry_adds_its_octets()
         ≡ sent rows past key text ended
         ++ close_octets (talk_of (reading_of text) ended).setup
         (turns_left rows past key text ended) }
+{}
+
+/// The text of an association has its requests taken in order: before its open all of it is left, and
+/// nothing was sent; a request, where it is the one that stands first, leaves the rest; no other entry
+/// takes any.
+pub fn requests_are_taken_in_order()
+    ensures yet { (rows : CentreRows) (past : Past) (key : Key) (text : List ℕ) (ended : Bool)
+        → opens_in past key.peer ≤ key.ordinal
+        → (turns_left rows past key text ended ≡ (talk_of (reading_of text) ended).turns)
+        × (sent rows past key text ended ≡ []) }
+    ensures request { (rows : CentreRows) (past : Past) (key : Key) (who invoke : ℕ)
+        (call : AnyCall) (later : List Turn) (text : List ℕ) (ended : Bool) → IsCall call
+        → key_at (Request call) past who ≡ Some key
+        → turns_left rows past key text ended ≡ asks invoke call ∷ later
+        → turns_left rows (record { who = who; event = Request call } ∷ past) key text ended
+        ≡ later }
+    ensures quiet { (rows : CentreRows) (past : Past) (key : Key) (who : ℕ) (event : AnyEvent)
+        (text : List ℕ) (ended : Bool) → IsQuiet event → key_at event past who ≡ Some key
+        → turns_left rows (record { who = who; event = event } ∷ past) key text ended
+        ≡ turns_left rows past key text ended }
+    ensures other { (rows : CentreRows) (past : Past) (key : Key) (who : ℕ) (event : AnyEvent)
+        (text : List ℕ) (ended : Bool) → key_at event past who ≢ Some key
+        → turns_left rows (record { who = who; event = event } ∷ past) key text ended
+        ≡ turns_left rows past key text ended }
 {}
 
 /// Once an association is closed, it has the same entries and its peer is sent the same octets over
