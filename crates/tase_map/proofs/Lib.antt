@@ -1,0 +1,14 @@
+pub mod AskedLaws
+pub mod RepliedLaws
+pub mod ReadingLaws
+pub mod AskedOn
+pub mod Uncut
+pub mod Closing
+pub mod Adding
+pub mod Passing
+pub mod MessageOrder
+pub mod TurnOrder
+pub mod InTurn
+pub mod Unrefused
+pub mod Worked
+mod WorkedStream

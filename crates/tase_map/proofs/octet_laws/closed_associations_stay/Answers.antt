@@ -1,0 +1,18 @@
+use Rattle.tase_views.specs.OwnTable.{own_table}
+use Rattle.tase_map.specs.Readings.{reading_of}
+use Rattle.tase_map.specs.Out.{talk_of}
+use Rattle.tase_map.proofs.Closing.{spent_later, closed_spent, entries_kept, octets_kept}
+use Rattle.tase_map.proofs.octet_laws.closed_associations_stay.Goals as goal
+
+pub returns-clause-entries : goal.returns-clause-entries
+returns-clause-entries c past later key closed =
+    entries_kept key later past (closed_spent key past closed)
+
+pub returns-clause-seats : goal.returns-clause-seats
+returns-clause-seats c past later key who closed =
+    (spent_later key later past (closed_spent key past closed)).nowhere who
+
+pub returns-clause-octets : goal.returns-clause-octets
+returns-clause-octets c rows past later key text ended closed =
+    octets_kept rows (own_table rows key.peer) (talk_of (reading_of text) ended) key later past
+    (closed_spent key past closed)

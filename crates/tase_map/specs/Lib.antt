@@ -1,0 +1,9 @@
+pub mod Asked
+pub mod Replied
+pub mod Inputs
+pub mod Readings
+pub mod Turns
+pub mod Asks
+pub mod Out
+pub mod Closed
+pub mod Sent

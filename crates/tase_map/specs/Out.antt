@@ -1,0 +1,182 @@
+-- The octets that a peer is sent.
+use Rattle.std.specs.Prelude.{ℕ, ℤ, pos, ◌-◌, ◌==◌, nat_lt, int_lt, Bool, true, false, not}
+use Rattle.std.specs.Prelude.{if◌then◌else◌, List, [], ◌∷◌, ◌++◌, length, filter, Option, Some, None}
+use Rattle.tpkt_cotp.specs.Written.{wire}
+use Rattle.mms_services.specs.declared.initiate.TheConstants.{MOST_DETAIL}
+use Rattle.mms_services.specs.declared.pdu.MmsPdu.{MmsPdu}
+use Rattle.mms_services.specs.declared.pdu.MmsPdu.TheVariants as pdus
+use Rattle.mms_services.specs.Negotiations.{granted, granted_of}
+use Rattle.mms_services.specs.PduOctets.{pdu_len}
+use Rattle.stack_messages.specs.declared.heard.Connecting.{Connecting}
+use Rattle.stack_wire.specs.declared.setup.Setup.{Setup}
+use Rattle.stack_wire.specs.Tsdus.{accept_tsdu, refusal_tsdu, release_tsdu, abort_tsdu, data_tsdu}
+use Rattle.stack_assoc.specs.Told.{Told, called, first_in, connect_in}
+use Rattle.stack_assoc.specs.Expectations.{setup_after}
+use Rattle.stack_assoc.specs.Handing.{answers_to, is_offer}
+use Rattle.bilateral.specs.Rows.{CentreRows}
+use Rattle.tase_views.specs.declared.reply.ReplyKind.{ReplyKind}
+use Rattle.tase_views.specs.OwnTable.{OwnTable}
+use Rattle.tase_views.specs.View.{View, Seen, own, updated, stopped, Act, acts_of_call}
+use Rattle.tase_views.specs.View as acts
+use Rattle.tase_views.specs.Answers.{reply_to}
+use Rattle.tase_map.specs.Replied.{pdu_in}
+use Rattle.tase_map.specs.Readings.{Reading, reading_of}
+use Rattle.tase_map.specs.Turns.{Turn, offers, asks, concludes, releases, aborts, breaks, ends}
+use Rattle.tase_map.specs.Turns.{turns_told}
+use Rattle.tase_map.specs.Asks.{is_peers}
+
+-- ---- what the text of an association fixes
+
+-- the octets of its beginning, what its connect fixed, the longest PDU that was agreed on, and what
+-- comes behind its offer
+pub record Talk : Type 0 where
+  pub opening : List ℕ
+  pub setup : Setup
+  pub detail : ℤ
+  pub turns : List Turn
+
+-- the association is accepted with what is granted of the offer
+abbrev pub accept_octets : Setup → Option Connecting → List ℕ
+accept_octets setup None = []
+accept_octets setup (Some c) = wire setup.size (accept_tsdu setup (granted c.initiate))
+
+abbrev pub detail_of : Option Connecting → ℤ
+detail_of None = MOST_DETAIL
+detail_of (Some c) = granted_of MOST_DETAIL c.initiate.detail
+
+abbrev pub behind_offer : List Turn → List Turn
+behind_offer (offers title ∷ turns) = turns
+behind_offer turns = []
+
+abbrev pub end_turns : Bool → List Turn
+end_turns true = ends ∷ []
+end_turns false = []
+
+-- the confirm of the transport and the accept, and all that comes behind the offer, with the end of
+-- the link, where it has ended
+abbrev pub talk_of : Reading → Bool → Talk
+talk_of reading ended = record {
+  opening = answers_to called reading.told
+      ++ accept_octets (setup_after reading.told) (first_in connect_in reading.told);
+  setup = setup_after reading.told;
+  detail = detail_of (first_in connect_in reading.told);
+  turns = behind_offer (turns_told reading ++ end_turns ended);
+}
+
+-- ---- one entry
+
+abbrev pub said : Setup → MmsPdu → List ℕ
+said setup pdu = wire setup.size (data_tsdu setup.mms pdu)
+
+-- the class of errors of resources, and that none more is told of them
+abbrev pub too_long : ℕ → MmsPdu
+too_long invoke = pdus.Error (record { invoke = invoke; class = 3; code = 0 })
+
+-- a PDU that is longer than was agreed on is replaced by an error
+abbrev pub within : ℤ → ℕ → MmsPdu → MmsPdu
+within detail invoke pdu = if int_lt detail (pos (pdu_len pdu)) then too_long invoke else pdu
+
+-- the reply to a request
+abbrev pub reply_octets : Talk → ℕ → ReplyKind → List ℕ
+reply_octets talk invoke reply = said talk.setup (within talk.detail invoke (pdu_in invoke reply))
+
+abbrev pub release_octets : Setup → List ℕ
+release_octets setup = wire setup.size (release_tsdu setup.acse)
+
+abbrev pub abort_octets : Setup → List ℕ
+abort_octets setup = wire setup.size (abort_tsdu setup.acse)
+
+-- what is sent behind the response to conclude
+abbrev pub concluded_octets : Setup → List Turn → List ℕ
+concluded_octets setup (releases ∷ turns) = release_octets setup
+concluded_octets setup (breaks ∷ turns) = abort_octets setup
+concluded_octets setup _ = []
+
+-- a close, by what stands at its place: conclude is answered, and then what follows it; a release is
+-- answered; an abort and the end of the link aren't; a fault, and a close for which there is no
+-- cause, abort the association
+abbrev pub close_octets : Setup → List Turn → List ℕ
+close_octets setup (concludes ∷ turns) = said setup pdus.Concluded ++ concluded_octets setup turns
+close_octets setup (releases ∷ turns) = release_octets setup
+close_octets setup (aborts ∷ turns) = []
+close_octets setup (ends ∷ turns) = []
+close_octets setup _ = abort_octets setup
+
+-- ---- which of them an act begins
+
+-- whether an act is one that a request makes
+abbrev pub is_asked : Act → Bool
+is_asked acts.opens = false
+is_asked acts.takes = false
+is_asked acts.closes = false
+is_asked (acts.reads name) = true
+is_asked (acts.writes name value) = true
+is_asked (acts.calls call) = true
+
+abbrev pub is_asked_by : ℕ → Seen → Bool
+is_asked_by ordinal (own other act) = if other == ordinal then is_asked act else false
+is_asked_by ordinal (updated point value) = false
+is_asked_by ordinal stopped = false
+
+-- how many acts the requests of an association have made
+abbrev pub acts_made : ℕ → View → ℕ
+acts_made ordinal view = length (filter (is_asked_by ordinal) view)
+
+-- what comes behind requests that make so many acts; nothing, where these end inside a request
+abbrev pub turns_behind : List Turn → ℕ → List Turn
+turns_behind [] count = []
+turns_behind (asks invoke call ∷ turns) count =
+    if count == 0 then asks invoke call ∷ turns
+    else (if nat_lt count (length (acts_of_call call)) then []
+    else turns_behind turns (count - length (acts_of_call call)))
+turns_behind (turn ∷ turns) count = if count == 0 then turn ∷ turns else []
+
+-- the reply to the request that comes first, over the view before it
+abbrev pub first_reply : OwnTable → ℕ → Talk → View → List Turn → List ℕ
+first_reply table ordinal talk view (asks invoke call ∷ turns) =
+    reply_octets talk invoke (reply_to table view ordinal call)
+first_reply table ordinal talk view _ = []
+
+-- what an act of the association adds behind the view before it: the first act of a request its
+-- reply; a take nothing, since no reports are made yet
+abbrev pub octets_at : OwnTable → ℕ → Talk → View → Act → List ℕ
+octets_at table ordinal talk view acts.opens = talk.opening
+octets_at table ordinal talk view acts.takes = []
+octets_at table ordinal talk view acts.closes =
+    close_octets talk.setup (turns_behind talk.turns (acts_made ordinal view))
+octets_at table ordinal talk view _ =
+    first_reply table ordinal talk view (turns_behind talk.turns (acts_made ordinal view))
+
+abbrev pub octets_seen : OwnTable → ℕ → Talk → View → Seen → List ℕ
+octets_seen table ordinal talk view (own other act) =
+    if other == ordinal then octets_at table ordinal talk view act else []
+octets_seen table ordinal talk view (updated point value) = []
+octets_seen table ordinal talk view stopped = []
+
+abbrev pub octets_in : OwnTable → ℕ → Talk → View → List ℕ
+octets_in table ordinal talk [] = []
+octets_in table ordinal talk (seen ∷ view) =
+    octets_in table ordinal talk view ++ octets_seen table ordinal talk view seen
+
+-- ---- all of them
+
+-- the octets that the peer's association with this ordinal is sent, where its link has given this
+-- text, and whether it has ended: from the peer's own table and its view, and from nothing else
+abbrev pub octets_out : OwnTable → View → ℕ → List ℕ → Bool → List ℕ
+octets_out table view ordinal text ended =
+    octets_in table ordinal (talk_of (reading_of text) ended) view
+
+-- whether an offer is no peer's, or can only be refused
+abbrev pub is_declined : CentreRows → Option Connecting → Bool
+is_declined rows None = false
+is_declined rows (Some c) = if is_offer c then not (is_peers rows c.title) else true
+
+abbrev pub refusal_octets : CentreRows → List Told → List ℕ
+refusal_octets rows told = if is_declined rows (first_in connect_in told)
+    then wire (setup_after told).size (refusal_tsdu (setup_after told).acse) else []
+
+-- the octets of a connection without an association: none, the confirm of the transport, or that and
+-- a refusal
+abbrev pub early_octets : CentreRows → List ℕ → List ℕ
+early_octets rows text = let reading = reading_of text in
+    answers_to called reading.told ++ refusal_octets rows reading.told

@@ -1,0 +1,64 @@
+-- Replies of the node as PDUs of MMS, and PDUs as replies (IEC 60870-6-503 on ISO 9506-2). No node
+-- answers with the services of named variable lists yet: such a response is no reply.
+use Rattle.std.specs.Prelude.{ℕ, List, Option, Some, None, option_map}
+use Rattle.mms_data.specs.declared.outcome.Outcome.{Outcome}
+use Rattle.mms_services.specs.declared.spec.Spec.{Spec}
+use Rattle.mms_services.specs.declared.spec.Spec.TheVariants as specs
+use Rattle.mms_services.specs.declared.response.Response.{Response}
+use Rattle.mms_services.specs.declared.response.Response.TheVariants as responses
+use Rattle.mms_services.specs.declared.pdu.MmsPdu.{MmsPdu}
+use Rattle.mms_services.specs.declared.pdu.MmsPdu.TheVariants as pdus
+use Rattle.tase_views.specs.declared.reply.ReadSpec.{ReadSpec}
+use Rattle.tase_views.specs.declared.reply.ReadSpec.TheVariants as named
+use Rattle.tase_views.specs.declared.reply.ReplyKind.{ReplyKind}
+use Rattle.tase_views.specs.declared.reply.ReplyKind.TheVariants as replies
+
+-- what a read named, as the variables of a service
+abbrev pub spec_in : ReadSpec → Spec
+spec_in (named.List names) = specs.List names
+
+-- the PDU that a reply to the request with this number is
+abbrev pub pdu_in : ℕ → ReplyKind → MmsPdu
+pdu_in invoke replies.Identified = pdus.Response invoke responses.Identify
+pdu_in invoke (replies.Results spec results) =
+    pdus.Response invoke
+    (responses.Read (record { spec = option_map spec_in spec; results = results }))
+pdu_in invoke (replies.Written results) =
+    pdus.Response invoke (responses.Write (record { results = results }))
+pdu_in invoke (replies.NamesAre names more) =
+    pdus.Response invoke (responses.NameList (record { names = names; more = more }))
+pdu_in invoke (replies.Error class code) =
+    pdus.Error (record { invoke = invoke; class = class; code = code })
+pdu_in invoke (replies.Reject kind code) =
+    pdus.Reject (record { invoke = Some invoke; kind = kind; code = code })
+
+-- the results of a read that named these variables, or doesn't repeat them; not of one that named a
+-- list of variables
+abbrev pub results_in : List Outcome → Option Spec → Option ReplyKind
+results_in results None = Some (replies.Results None results)
+results_in results (Some (specs.List names)) =
+    Some (replies.Results (Some (named.List names)) results)
+results_in results (Some (specs.Set name)) = None
+
+abbrev pub reply_in_response : Response → Option ReplyKind
+reply_in_response (responses.NameList r) = Some (replies.NamesAre r.names r.more)
+reply_in_response responses.Identify = Some replies.Identified
+reply_in_response (responses.Read r) = results_in r.results r.spec
+reply_in_response (responses.Write r) = Some (replies.Written r.results)
+reply_in_response responses.Define = None
+reply_in_response (responses.MembersOf r) = None
+reply_in_response (responses.Delete r) = None
+
+-- the reply that a PDU is, whatever the number of its request: a response, an error or a reject
+abbrev pub reply_in : MmsPdu → Option ReplyKind
+reply_in (pdus.Response invoke response) = reply_in_response response
+reply_in (pdus.Error e) = Some (replies.Error e.class e.code)
+reply_in (pdus.Reject r) = Some (replies.Reject r.kind r.code)
+reply_in pdu = None
+
+-- the number of the request that a PDU answers, where it tells one
+abbrev pub number_in : MmsPdu → Option ℕ
+number_in (pdus.Response invoke response) = Some invoke
+number_in (pdus.Error e) = Some e.invoke
+number_in (pdus.Reject r) = r.invoke
+number_in pdu = None

@@ -1,0 +1,37 @@
+-- What a seat has asked in a history, and what an association is sent over it.
+use Rattle.std.specs.Prelude.{ℕ, ◌==◌, if◌then◌else◌, Bool, List, Option, Some, None}
+use Rattle.std.specs.List.{filter_map}
+use Rattle.bilateral.specs.Rows.{CentreRows}
+use Rattle.sbo_device.specs.declared.key.Key.{Key}
+use Rattle.tase_views.specs.declared.event.EventKind.{EventKind}
+use Rattle.tase_views.specs.declared.event.EventKind.TheVariants as events
+use Rattle.tase_views.specs.declared.event.Entry.{Entry}
+use Rattle.tase_views.specs.History.{Past}
+use Rattle.tase_views.specs.OwnTable.{own_table}
+use Rattle.tase_views.specs.View.{view_of}
+use Rattle.tase_map.specs.Readings.{reading_of}
+use Rattle.tase_map.specs.Turns.{Turn}
+use Rattle.tase_map.specs.Out.{talk_of, acts_made, turns_behind, octets_out}
+
+-- the event of an entry, where it is of this seat
+abbrev pub event_by : ℕ → Entry → Option EventKind
+event_by who entry = if entry.who == who then Some entry.event else None
+
+-- the events of a seat, the newest first
+abbrev pub events_by : ℕ → Past → List EventKind
+events_by who past = filter_map (event_by who) past
+
+-- the octets that an association is sent over this past, where its link has given this text
+abbrev pub sent : CentreRows → Past → Key → List ℕ → Bool → List ℕ
+sent rows past key text ended =
+    octets_out (own_table rows key.peer) (view_of rows key.peer past) key.ordinal text ended
+
+-- what its text has behind the requests that it has made so far
+abbrev pub turns_left : CentreRows → Past → Key → List ℕ → Bool → List Turn
+turns_left rows past key text ended = turns_behind (talk_of (reading_of text) ended).turns
+    (acts_made key.ordinal (view_of rows key.peer past))
+
+-- an event that asks for no service
+abbrev pub IsQuiet : EventKind → Type 0
+IsQuiet (events.Request call) = ⊥
+IsQuiet event = Unit {0}

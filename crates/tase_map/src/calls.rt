@@ -1,0 +1,148 @@
+//! Requests of MMS as calls of the node, and calls as requests.
+ghost use Rattle.std.specs.Prelude.{◌≡◌, false, IfOk};
+ghost use Rattle.mms_services.specs.Lawful.{IsLawfulRequest};
+ghost use Rattle.mms_services.specs.PduOctets.{IsWritableRequest};
+ghost use Rattle.mms_services.specs.declared.request.Request.TheVariants as requests;
+ghost use Rattle.tase_views.specs.declared.call.CallKind.TheVariants as calls;
+ghost use Rattle.tase_map.specs.Asked.{call_in, request_in, is_odd, unrecognized, invalid};
+
+use crate::copies::{data_of, values_of};
+use ber_values::Visible;
+use mms_data::{Names, Scope};
+use mms_services::{NameListRequest, ReadRequest, Request, Spec, WriteRequest};
+use std::alloc::{AllocError, Global};
+use tase_views::{Call, CallKind, Values};
+
+/// The call that a request is (ISO 9506-2, the services of the profile). A service that isn't one
+/// of them becomes the call that is rejected as unrecognized, and so does a service of named
+/// variable lists. Lists, names, numbers and data of the request are such as `read_pdu` gives.
+#[tactic(auto, using(crate::proofs::AskedLaws::lawful_call))]
+pub fn call_of(alloc: Global, request: &Request) -> Result<Call, AllocError>
+    requires lawful { IsLawfulRequest request.now }
+    ensures { IfOk result (λ call. call ≡ call_in request.now) }
+{
+    let kind = kind_of(alloc, request)?;
+    Ok(Call::new(kind))
+}
+
+/// The call that a request is in whose service a rule is broken: it is rejected as an invalid PDU.
+pub fn invalid_call() -> Call
+    ensures { result ≡ invalid }
+{
+    Call::new(CallKind::Odd { kind: 5, code: 1 })
+}
+
+fn kind_of(alloc: Global, request: &Request) -> Result<CallKind, AllocError>
+    ensures { IfOk result (λ kind. kind ≡ call_in request.now) }
+{
+    match request {
+        Request::NameList(asked) => name_list_of(asked),
+        Request::Identify => Ok(CallKind::Identify),
+        Request::Read(asked) => read_of(asked),
+        Request::Write(asked) => write_of(alloc, asked),
+        Request::Define(_) | Request::MembersOf(_) | Request::Delete(_) | Request::Unknown => {
+            Ok(unrecognized())
+        }
+    }
+}
+
+/// The call of a service that the node doesn't have.
+fn unrecognized() -> CallKind
+    ensures { result ≡ unrecognized }
+{
+    CallKind::Odd { kind: 1, code: 1 }
+}
+
+fn name_list_of(asked: &NameListRequest) -> Result<CallKind, AllocError>
+    ensures { IfOk result (λ kind. kind ≡ call_in (requests.NameList asked.now)) }
+{
+    Ok(CallKind::NameList {
+        class: asked.class,
+        scope: asked.scope.clone()?,
+        after: after_of(&asked.after)?,
+    })
+}
+
+/// The same name after which a list goes on.
+fn after_of(after: &Option<Visible>) -> Result<Option<Visible>, AllocError>
+    ensures { IfOk result (λ copy. copy ≡ after.now) }
+{
+    match after {
+        Some(name) => Ok(Some(name.clone()?)),
+        None => Ok(None),
+    }
+}
+
+fn read_of(asked: &ReadRequest) -> Result<CallKind, AllocError>
+    ensures { IfOk result (λ kind. kind ≡ call_in (requests.Read asked.now)) }
+{
+    match &asked.spec {
+        Spec::List(names) => Ok(CallKind::Read {
+            names: names.clone()?,
+            echo: asked.echo,
+        }),
+        Spec::Set(_) => Ok(unrecognized()),
+    }
+}
+
+fn write_of(alloc: Global, asked: &WriteRequest) -> Result<CallKind, AllocError>
+    ensures { IfOk result (λ kind. kind ≡ call_in (requests.Write asked.now)) }
+{
+    match &asked.spec {
+        Spec::List(names) => Ok(CallKind::Write {
+            names: names.clone()?,
+            values: values_of(alloc, asked.values.as_slice())?,
+        }),
+        Spec::Set(_) => Ok(unrecognized()),
+    }
+}
+
+/// The request that a call is. The call is no odd one, which no service of MMS asks for.
+#[tactic(auto, using(crate::proofs::AskedLaws::writable_request))]
+pub fn request_of(alloc: Global, call: &Call) -> Result<Request, AllocError>
+    requires { is_odd call.now ≡ false }
+    ensures exact { IfOk result (λ request. request ≡ request_in call.now) }
+    ensures writable { IfOk result IsWritableRequest }
+{
+    match call.kind() {
+        CallKind::Identify => Ok(Request::Identify),
+        CallKind::Read { names, echo } => read_request(names, *echo),
+        CallKind::Write { names, values } => write_request(alloc, names, values),
+        CallKind::NameList {
+            class,
+            scope,
+            after,
+        } => name_list_request(*class, scope, after),
+        CallKind::Odd { .. } => Ok(Request::Unknown),
+    }
+}
+
+fn read_request(names: &Names, echo: bool) -> Result<Request, AllocError>
+    ensures { IfOk result (λ request. request ≡ request_in (calls.Read names.now echo)) }
+{
+    let spec = Spec::List(names.clone()?);
+    Ok(Request::Read(ReadRequest { echo, spec }))
+}
+
+fn write_request(alloc: Global, names: &Names, values: &Values) -> Result<Request, AllocError>
+    ensures { IfOk result (λ request. request ≡ request_in (calls.Write names.now values.now)) }
+{
+    let spec = Spec::List(names.clone()?);
+    let values = data_of(alloc, values.as_slice())?;
+    Ok(Request::Write(WriteRequest { spec, values }))
+}
+
+fn name_list_request(
+    class: i64,
+    scope: &Scope,
+    after: &Option<Visible>,
+) -> Result<Request, AllocError>
+    ensures { IfOk result (λ request. request
+        ≡ request_in (calls.NameList class scope.now after.now)) }
+{
+    Ok(Request::NameList(NameListRequest {
+        class,
+        scope: scope.clone()?,
+        after: after_of(after)?,
+    }))
+}

@@ -1,0 +1,18 @@
+//! Where MMS and the node meet: requests as calls, and replies as PDUs; and the definitions of what
+//! an input of octets asks of the node, and of the octets that a peer is sent.
+#![tactic(auto)]
+
+mod calls;
+mod copies;
+mod laws;
+mod octet_laws;
+mod replies;
+
+pub use calls::{call_of, invalid_call, request_of};
+pub use laws::{calls_are_requests, replies_are_pdus};
+pub use octet_laws::{
+    asking_goes_on, closed_associations_stay, each_entry_adds_its_octets,
+    equal_worlds_give_equal_octets, events_come_in_turn, octets_tell_one_thing,
+    requests_are_taken_in_order,
+};
+pub use replies::{pdu_of, reply_of};

@@ -1,0 +1,188 @@
+//! Replies of the node as PDUs of MMS, and PDUs as replies.
+ghost use Rattle.std.specs.Prelude.{◌≡◌, IfOk, option_map};
+ghost use Rattle.mms_services.specs.Lawful.{IsLawfulPdu, IsLawfulResponse};
+ghost use Rattle.mms_services.specs.PduOctets.{IsWritable};
+ghost use Rattle.tase_views.specs.declared.reply.ReplyKind.TheVariants as replies;
+ghost use Rattle.tase_map.specs.Replied.{pdu_in, spec_in, reply_in, reply_in_response, results_in};
+
+use crate::copies::{outcomes_of, written_of};
+use mms_data::{Name, Names, Outcome};
+use mms_services::{
+    ErrorPdu, MmsPdu, NameListResponse, ReadResponse, RejectPdu, Response, Spec, WriteResponse,
+};
+use std::alloc::{AllocError, Global};
+use tase_views::{ObjectNames, ReadSpec, Reply, ReplyKind, Results, WriteResults};
+
+/// The PDU that answers the request with this number by a reply. It may be written.
+#[tactic(auto, using(crate::proofs::RepliedLaws::writable_pdu))]
+pub fn pdu_of(alloc: Global, invoke: u32, reply: &Reply) -> Result<MmsPdu, AllocError>
+    ensures exact { IfOk result (λ pdu. pdu ≡ pdu_in invoke reply.now) }
+    ensures writable { IfOk result IsWritable }
+{
+    match reply.kind() {
+        ReplyKind::Identified => Ok(identified(invoke)),
+        ReplyKind::Results { spec, results } => results_pdu(alloc, invoke, spec, results),
+        ReplyKind::Written(results) => written_pdu(alloc, invoke, results),
+        ReplyKind::NamesAre { names, more } => names_pdu(invoke, names, *more),
+        ReplyKind::Error { class, code } => Ok(error_pdu(invoke, *class, *code)),
+        ReplyKind::Reject { kind, code } => Ok(reject_pdu(invoke, *kind, *code)),
+    }
+}
+
+fn identified(invoke: u32) -> MmsPdu
+    ensures { result ≡ pdu_in invoke replies.Identified }
+{
+    MmsPdu::Response {
+        invoke,
+        response: Response::Identify,
+    }
+}
+
+fn results_pdu(
+    alloc: Global,
+    invoke: u32,
+    spec: &Option<ReadSpec>,
+    results: &Results,
+) -> Result<MmsPdu, AllocError>
+    ensures { IfOk result (λ pdu. pdu ≡ pdu_in invoke (replies.Results spec.now results.now)) }
+{
+    let response = ReadResponse {
+        spec: spec_of(spec)?,
+        results: outcomes_of(alloc, results.as_slice())?,
+    };
+    Ok(MmsPdu::Response {
+        invoke,
+        response: Response::Read(response),
+    })
+}
+
+fn spec_of(spec: &Option<ReadSpec>) -> Result<Option<Spec>, AllocError>
+    ensures { IfOk result (λ named. named ≡ option_map spec_in spec.now) }
+{
+    match spec {
+        Some(ReadSpec::List(names)) => Ok(Some(Spec::List(names.clone()?))),
+        None => Ok(None),
+    }
+}
+
+fn written_pdu(alloc: Global, invoke: u32, results: &WriteResults) -> Result<MmsPdu, AllocError>
+    ensures { IfOk result (λ pdu. pdu ≡ pdu_in invoke (replies.Written results.now)) }
+{
+    let response = WriteResponse {
+        results: written_of(alloc, results.as_slice())?,
+    };
+    Ok(MmsPdu::Response {
+        invoke,
+        response: Response::Write(response),
+    })
+}
+
+fn names_pdu(invoke: u32, names: &ObjectNames, more: bool) -> Result<MmsPdu, AllocError>
+    ensures { IfOk result (λ pdu. pdu ≡ pdu_in invoke (replies.NamesAre names.now more)) }
+{
+    let response = NameListResponse {
+        names: names.clone()?,
+        more,
+    };
+    Ok(MmsPdu::Response {
+        invoke,
+        response: Response::NameList(response),
+    })
+}
+
+fn error_pdu(invoke: u32, class: u8, code: u8) -> MmsPdu
+    ensures { result ≡ pdu_in invoke (replies.Error class code) }
+{
+    MmsPdu::Error(ErrorPdu {
+        invoke,
+        class,
+        code,
+    })
+}
+
+fn reject_pdu(invoke: u32, kind: u8, code: u8) -> MmsPdu
+    ensures { result ≡ pdu_in invoke (replies.Reject kind code) }
+{
+    MmsPdu::Reject(RejectPdu {
+        invoke: Some(invoke),
+        kind,
+        code,
+    })
+}
+
+/// The reply that a PDU is, whatever the number of its request; none where it is no response, error
+/// or reject, or a response of a service of named variable lists. Lists, names, numbers and data of
+/// the PDU are such as `read_pdu` gives.
+#[tactic(auto, using(crate::proofs::RepliedLaws::lawful_reply))]
+pub fn reply_of(alloc: Global, pdu: &MmsPdu) -> Result<Option<Reply>, AllocError>
+    requires lawful { IsLawfulPdu pdu.now }
+    ensures { IfOk result (λ reply. reply ≡ reply_in pdu.now) }
+{
+    let Some(kind) = kind_of(alloc, pdu)? else {
+        return Ok(None);
+    };
+    Ok(Some(Reply::new(kind)))
+}
+
+fn kind_of(alloc: Global, pdu: &MmsPdu) -> Result<Option<ReplyKind>, AllocError>
+    ensures { IfOk result (λ kind. kind ≡ reply_in pdu.now) }
+{
+    match pdu {
+        MmsPdu::Response { response, .. } => kind_of_response(alloc, response),
+        MmsPdu::Error(error) => Ok(Some(ReplyKind::Error {
+            class: error.class,
+            code: error.code,
+        })),
+        MmsPdu::Reject(reject) => Ok(Some(ReplyKind::Reject {
+            kind: reject.kind,
+            code: reject.code,
+        })),
+        MmsPdu::Request { .. }
+        | MmsPdu::Report(_)
+        | MmsPdu::Initiate(_)
+        | MmsPdu::Initiated(_)
+        | MmsPdu::InitiateError
+        | MmsPdu::Conclude
+        | MmsPdu::Concluded => Ok(None),
+    }
+}
+
+fn kind_of_response(alloc: Global, response: &Response) -> Result<Option<ReplyKind>, AllocError>
+    ensures { IfOk result (λ kind. kind ≡ reply_in_response response.now) }
+{
+    match response {
+        Response::NameList(answer) => Ok(Some(names_of(answer)?)),
+        Response::Identify => Ok(Some(ReplyKind::Identified)),
+        Response::Read(answer) => results_of(alloc, answer),
+        Response::Write(answer) => Ok(Some(written_kind(alloc, answer)?)),
+        Response::Define | Response::MembersOf(_) | Response::Delete(_) => Ok(None),
+    }
+}
+
+fn names_of(answer: &NameListResponse) -> Result<ReplyKind, AllocError>
+    ensures { IfOk result (λ kind. kind ≡ replies.NamesAre answer.now.names answer.now.more) }
+{
+    Ok(ReplyKind::NamesAre {
+        names: answer.names.clone()?,
+        more: answer.more,
+    })
+}
+
+fn written_kind(alloc: Global, answer: &WriteResponse) -> Result<ReplyKind, AllocError>
+    ensures { IfOk result (λ kind. kind ≡ replies.Written answer.now.results) }
+{
+    let results = written_of(alloc, answer.results.as_slice())?;
+    Ok(ReplyKind::Written(results))
+}
+
+fn results_of(alloc: Global, answer: &ReadResponse) -> Result<Option<ReplyKind>, AllocError>
+    ensures { IfOk result (λ kind. kind ≡ results_in answer.now.results answer.now.spec) }
+{
+    let spec = match &answer.spec {
+        Some(Spec::Set(_)) => return Ok(None),
+        Some(Spec::List(names)) => Some(ReadSpec::List(names.clone()?)),
+        None => None,
+    };
+    let results = outcomes_of(alloc, answer.results.as_slice())?;
+    Ok(Some(ReplyKind::Results { spec, results }))
+}
