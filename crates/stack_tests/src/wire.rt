@@ -1,5 +1,6 @@
 //! What an end says, against octets that were worked out by hand from the standards.
 mod answers;
+mod data;
 
 use std::alloc::{AllocError, Global};
 
