@@ -1,5 +1,5 @@
 -- How an end stands behind an answer.
-use Rattle.std.proofs.Common.{◌≡◌, ℕ, Bool, true, false, List, Option, Some, None, refl, sym, subst}
+use Rattle.std.proofs.Common.{◌≡◌, ℕ, Bool, true, false, List, Option, Some, None, refl, sym, ap, subst, ◌∙◌}
 use Rattle.std.proofs.Common.{inl, inr, if◌then◌else◌}
 use Rattle.mms_services.specs.declared.initiate.Initiate.{Initiate}
 use Rattle.stack_messages.specs.declared.expecting.Side.{Side}
@@ -88,3 +88,16 @@ pub free_released : (side : Side) (s : Standing) → is_offered s ≡ false
 free_released sides.Called s free = refl
 free_released sides.Calling s free = free
 free_released sides.Either s free = free
+
+-- ---- a fault is the answer again
+
+abbrev fault_or : StackFault → Option StackFault → StackFault
+fault_or f None = f
+fault_or f (Some g) = g
+
+pub same_fault : (o : Option StackFault) (f g : StackFault) → o ≡ Some f → o ≡ Some g → f ≡ g
+same_fault o f g a b = ap (λ (x : Option StackFault). fault_or f x) (sym a ∙ b)
+
+pub no_fault : (o : Option StackFault) (f : StackFault) → o ≡ None → o ≡ Some f → ⊥
+no_fault None f a b = absurd cc
+no_fault (Some g) f a b = absurd cc

@@ -1,6 +1,7 @@
 //! An end of an association over a stream that comes in any pieces: octets in, messages out.
-ghost use Rattle.std.specs.Prelude.{◌≡◌, ℕ, ◌+◌, ◌≤◌, ◌<◌, List, [], ◌++◌, length, None, false};
-ghost use Rattle.std.specs.Prelude.{IfOk, OnOk, OnErr, OnSome};
+ghost use Rattle.std.specs.Prelude.{◌≡◌, ℕ, ◌+◌, ◌≤◌, ◌<◌, List, [], ◌++◌, length, None, Some, false};
+ghost use Rattle.std.specs.Prelude.{IfOk, OnOk, OnErr, OnSome, Ok, Err};
+ghost use Rattle.stack_messages.specs.declared.fault.StackFault.{StackFault};
 ghost use Rattle.tpkt_cotp.specs.declared.limits.TheConstants.{PIECE_LIMIT};
 ghost use Rattle.tpkt_cotp.specs.Written.{request_octets};
 ghost use Rattle.stack_assoc.specs.declared.input.StackState.TheVariants as states;
@@ -165,6 +166,8 @@ impl Stack {
             self.new.standing) }
         // The fault is kept: more may be fed, and the same fault is the answer again.
         ensures broken { IfOk result (λ answer. self.new.fault ≡ fault_in answer) }
+        ensures again { (fault : StackFault) → self.old.fault ≡ Some fault
+            → result ≡ Ok (Err fault) }
         ensures kept { (role : Role) (octets : List ℕ) (told : List Told)
             → Stands role octets told self.old → OnErr result (Stands role octets told self.new) }
         ensures state { OnErr result (state_of self.new ≡ state_of self.old) }

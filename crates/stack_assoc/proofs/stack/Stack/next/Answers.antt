@@ -1,5 +1,7 @@
 use Rattle.std.proofs.Common.{◌≡◌, ◌++◌, OnSome, IfOk, ◌<◌, ◌∙◌, refl, sym, ap}
+use Rattle.std.proofs.Common.{Ok, Err}
 use Rattle.std.proofs.lemmas.Result.{err_from_is_err_and}
+use Rattle.stack_messages.specs.declared.fault.StackFault.{StackFault}
 use Rattle.stack_assoc.specs.Knowing.{expecting_by}
 use Rattle.stack_assoc.specs.Taking.{owed_octets}
 use Rattle.stack_assoc.specs.Courses.{Course, Stands, Answers, is_offered, state_of}
@@ -8,7 +10,7 @@ use Rattle.stack_assoc.specs.Steps.{left_of, told_with, told_answer}
 use Rattle.stack_assoc.proofs.Answered.{answered}
 use Rattle.stack_assoc.proofs.Nexts.{next_right, answers_again, answers_offered}
 use Rattle.stack_assoc.proofs.Shorter.{less_left}
-use Rattle.stack_assoc.proofs.Standings.{told_follows, told_fault}
+use Rattle.stack_assoc.proofs.Standings.{told_follows, told_fault, same_fault, no_fault}
 use Rattle.stack_assoc.proofs.StepsTaken.{untold_state}
 use Rattle.stack_assoc.proofs.Results.{told_done, kept_done, out_done}
 use Rattle.stack_assoc.proofs.stack.Stack.next.Goals as goal
@@ -112,3 +114,28 @@ returns-clause-stays c =
     (told_answer c.in_ok-came.came c.in_ok-said.said) c.take.new.self c.answer-done.new.self
     c.tell_once.new.self c.tell_once.ensures.answer c.answer-done.ensures.err c.tell_once.ensures.same
     c.in_ok-came.ensures.untold.standing
+
+pub returns-in-Some-clause-again : goal.returns-in-Some-clause-again
+returns-in-Some-clause-again c = λ f e.
+    ap (λ (x : StackFault). Ok (Err x)) (same_fault c.args.self.now.fault c.in-Some.fault f
+    (ap (λ (v : Course). v.fault) (sym c.self.view_is) ∙ c.in-Some.is) e)
+
+pub returns-then-is_offered-clause-again : goal.returns-then-is_offered-clause-again
+returns-then-is_offered-clause-again c = λ f e.
+    absurd (no_fault c.args.self.now.fault f
+    (ap (λ (v : Course). v.fault) (sym c.self.view_is) ∙ c.in_default.is) e)
+
+pub returns-in_err-came-clause-again : goal.returns-in_err-came-clause-again
+returns-in_err-came-clause-again c = λ f e.
+    absurd (no_fault c.args.self.now.fault f
+    (ap (λ (v : Course). v.fault) (sym c.self.view_is) ∙ c.in_default.is) e)
+
+pub returns-in_err-said-clause-again : goal.returns-in_err-said-clause-again
+returns-in_err-said-clause-again c = λ f e.
+    absurd (no_fault c.args.self.now.fault f
+    (ap (λ (v : Course). v.fault) (sym c.self.view_is) ∙ c.in_default.is) e)
+
+pub returns-clause-again : goal.returns-clause-again
+returns-clause-again c = λ f e.
+    absurd (no_fault c.args.self.now.fault f
+    (ap (λ (v : Course). v.fault) (sym c.self.view_is) ∙ c.in_default.is) e)
