@@ -7,6 +7,7 @@ pub mod Closing
 pub mod Adding
 pub mod Passing
 pub mod MessageOrder
+pub mod LawfulMessages
 pub mod TurnOrder
 pub mod InTurn
 pub mod Unrefused

@@ -43,7 +43,7 @@ use Rattle.tase_map.specs.Readings.{Reads}
 
 -- ---- kinds of messages
 
-abbrev kind_of : Heard → ℕ
+abbrev pub kind_of : Heard → ℕ
 kind_of (heards.Connect c) = 0
 kind_of (heards.Accept a) = 1
 kind_of heards.Refuse = 2
@@ -54,11 +54,11 @@ kind_of heards.AbortAccept = 6
 kind_of (heards.Pdu p) = 7
 kind_of (heards.BadRequest invoke) = 7
 
-no_says : (fault : StackFault) (h : Heard) → (says_nothing {X = Heard} fault).says h → ⊥
+pub no_says : (fault : StackFault) (h : Heard) → (says_nothing {X = Heard} fault).says h → ⊥
 unfolding says_nothing
 no_says fault h s = s
 
-just_kind : (value h : Heard) → (says_just value).says h → kind_of h ≡ kind_of value
+pub just_kind : (value h : Heard) → (says_just value).says h → kind_of h ≡ kind_of value
 unfolding says_just
 just_kind value h s = ap kind_of s
 
@@ -68,7 +68,7 @@ some_kind : (fault : StackFault) (found : Option Initiate) (make : Initiate → 
 some_kind fault None make n k h s = absurd (no_says fault h s)
 some_kind fault (Some i) make n k h s = just_kind (make i) h s ∙ k i
 
-inside_says : {X : Type 0} (outer : Meaning X) (inner : X → Meaning Heard) (h : Heard)
+pub inside_says : {X : Type 0} (outer : Meaning X) (inner : X → Meaning Heard) (h : Heard)
     → (inside outer inner).says h → (x : X) × outer.says x × (inner x).says h
 unfolding inside
 inside_says outer inner h s = s
@@ -92,7 +92,7 @@ offers_kind octets session (ppdus.Connect presented contexts id body) h s =
 offers_kind octets session (ppdus.Accept presented results id body) h s = absurd (no_says _ h s)
 offers_kind octets session (ppdus.Carry id body) h s = absurd (no_says _ h s)
 
-connect_kind : (octets : List ℕ) (session : Option (List ℕ)) (body : Span) (h : Heard)
+pub connect_kind : (octets : List ℕ) (session : Option (List ℕ)) (body : Span) (h : Heard)
     → (connect_at octets session body).says h → kind_of h ≡ 0
 unfolding connect_at
 connect_kind octets session body h s =
@@ -120,7 +120,7 @@ results_kind e octets (ppdus.Accept presented results id body) h s =
     let i = inside_says _ _ h s in aare_kind octets id i.0 h i.2
 results_kind e octets (ppdus.Carry id body) h s = absurd (no_says _ h s)
 
-accept_kind : (e : Expecting) (octets : List ℕ) (body : Span) (h : Heard)
+pub accept_kind : (e : Expecting) (octets : List ℕ) (body : Span) (h : Heard)
     → (accept_at e octets body).says h → kind_of h ≡ 1
 unfolding accept_at
 accept_kind e octets body h s =
@@ -176,7 +176,7 @@ unfolding carry_at
 carry_may e octets body h s =
     let i = inside_says _ _ h s in user_data_may e octets i.0 h i.2
 
-allowed : (b : Bool) (fault : StackFault) (m : Meaning Heard) (h : Heard)
+pub allowed : (b : Bool) (fault : StackFault) (m : Meaning Heard) (h : Heard)
     → (where_allowed b fault m).says h → (b ≡ true) × m.says h
 allowed true fault m h s = (refl, s)
 allowed false fault m h s = absurd (no_says fault h s)

@@ -7,3 +7,4 @@ pub mod Asks
 pub mod Out
 pub mod Closed
 pub mod Sent
+pub mod LawfulTold

@@ -1,8 +1,12 @@
 //! What holds of all inputs, and of all octets that a peer is sent.
 ghost use Rattle.std.specs.Prelude.{◌≡◌, ◌≢◌, ℕ, ◌≤◌, Bool, true, List, [], ◌∷◌, ◌++◌, reverse};
 ghost use Rattle.std.specs.Prelude.{Option, Some, None};
+ghost use Rattle.std.specs.List.{All};
 ghost use Rattle.stack_messages.specs.declared.fault.StackFault.{StackFault};
-ghost use Rattle.stack_assoc.specs.Told.{Told};
+ghost use Rattle.tpkt_cotp.specs.Streams.{Message};
+ghost use Rattle.stack_assoc.specs.Told.{Told, Role};
+ghost use Rattle.stack_assoc.specs.Tellings.{Tell};
+ghost use Rattle.tase_map.specs.LawfulTold.{IsLawfulTold};
 ghost use Rattle.bilateral.specs.Rows.{CentreRows};
 ghost use Rattle.sbo_device.specs.declared.key.Key.{Key};
 ghost use Rattle.tase_views.specs.declared.event.EventKind.{EventKind as AnyEvent};
@@ -29,6 +33,13 @@ pub fn octets_tell_one_thing()
     ensures only { (octets : List ℕ) (told : List Told) (broken : Option StackFault)
         → Reads octets told broken
         → reading_of octets ≡ record { told = told; broken = broken } }
+{}
+
+/// The PDUs that messages tell have lawful parts, as `read_pdu` gives them: so requests may be mapped
+/// to calls, and PDUs to replies, at either end.
+pub fn told_pdus_are_lawful()
+    ensures { (role : Role) (told : List Told) (messages : List Message)
+        → Tell role told messages → All IsLawfulTold told }
 {}
 
 /// With more items behind it an input asks what it asked, and then more. But for its takes an input
