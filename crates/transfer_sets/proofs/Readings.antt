@@ -625,8 +625,10 @@ lawful_so d (Err error) e = tt
 shown_lawful : (w : Wish) → IsLawful (shown_wish w)
 shown_lawful w = record {
   shallow = omega arith;
-  numbers = ((tt, (tt, (tt, tt))),
-      (tt, (tt, (tt, (tt, (tt, (tt, (tt, (tt, (tt, (tt, (tt, (tt, tt)))))))))))));
+  numbers = (
+    (tt, (tt, (tt, tt))),
+    (tt, (tt, (tt, (tt, (tt, (tt, (tt, (tt, (tt, (tt, (tt, (tt, tt)))))))))))),
+  );
 }
 
 pub shown_so : {E : Type 0} (w : Wish) (result : Result Datum E)
