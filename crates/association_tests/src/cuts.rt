@@ -29,7 +29,7 @@ pub(crate) fn turn_of(alloc: Global, habit: Habit, parts: &[&str]) -> Result<usi
 }
 
 /// From where on a stream of these parts is cut at every place: from its start on, if it has two
-/// parts or fewer, and else behind these. Other rows have the first two alone.
+/// parts or fewer, and else behind these, since other rows have what it begins with.
 fn start_of(alloc: Global, parts: &[&str]) -> Result<usize, Fail> {
     if parts.len() <= 2 {
         Ok(0)
@@ -80,8 +80,7 @@ fn first_bad(alloc: Global, rows: &[Row]) -> Result<Option<Row>, Fail> {
     Ok(None)
 }
 
-/// The called end: each stream whole, octet by octet, and cut at every place that no row
-/// before it has.
+/// The called end: each stream whole, octet by octet, and cut, as [`start_of`] says.
 #[test]
 fn called_streams(rt: HostRuntime) -> Result<(), Fail> {
     let bad = first_bad(rt.alloc(), &CALLED)?;
@@ -89,8 +88,7 @@ fn called_streams(rt: HostRuntime) -> Result<(), Fail> {
     Ok(())
 }
 
-/// Aborts and disconnects: each stream whole, octet by octet, and cut at every place that no row
-/// before it has.
+/// Aborts and disconnects: each stream whole, octet by octet, and cut, as [`start_of`] says.
 #[test]
 fn ended_streams(rt: HostRuntime) -> Result<(), Fail> {
     let bad = first_bad(rt.alloc(), &ENDED)?;
@@ -98,8 +96,7 @@ fn ended_streams(rt: HostRuntime) -> Result<(), Fail> {
     Ok(())
 }
 
-/// The calling end: each stream whole, octet by octet, and cut at every place that no row
-/// before it has.
+/// The calling end: each stream whole, octet by octet, and cut, as [`start_of`] says.
 #[test]
 fn calling_streams(rt: HostRuntime) -> Result<(), Fail> {
     let bad = first_bad(rt.alloc(), &CALLING)?;
@@ -107,8 +104,7 @@ fn calling_streams(rt: HostRuntime) -> Result<(), Fail> {
     Ok(())
 }
 
-/// Broken rules: each stream whole, octet by octet, and cut at every place that no row
-/// before it has.
+/// Broken rules: each stream whole, octet by octet, and cut, as [`start_of`] says.
 #[test]
 fn faulty_streams(rt: HostRuntime) -> Result<(), Fail> {
     let bad = first_bad(rt.alloc(), &FAULTY)?;

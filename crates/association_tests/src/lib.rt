@@ -3,6 +3,8 @@
 #![tactic(auto)]
 
 #[cfg(test)]
+mod calls;
+#[cfg(test)]
 mod cuts;
 #[cfg(test)]
 mod ends;
@@ -12,5 +14,7 @@ mod parts;
 mod play;
 #[cfg(test)]
 mod rows;
+#[cfg(test)]
+mod talk;
 #[cfg(test)]
 mod telling;
