@@ -1,6 +1,6 @@
 -- Each entry of an association adds its octets, and no other entry adds any.
 use Rattle.std.proofs.Common.{◌≡◌, ◌==◌, ℕ, ◌+◌, ◌-◌, ◌<◌, ◌≤◌, Bool, true, false, List, [], ◌∷◌}
-use Rattle.std.proofs.Common.{◌++◌, Option, Some, refl, sym, ap, subst, ◌∙◌, arith, length}
+use Rattle.std.proofs.Common.{◌++◌, Option, Some, None, refl, sym, ap, subst, ◌∙◌, arith, length}
 use Rattle.std.proofs.Common.{⊎_elim, map, reverse, ◌⊎◌, inl, inr}
 use Rattle.std.specs.Prelude.{if◌then◌else◌, nat_lt}
 use Rattle.std.specs.List.{filter_map}
@@ -27,6 +27,8 @@ use Rattle.tase_map.specs.Turns.{Turn, offers, offers_badly, asks, concludes, re
 use Rattle.tase_map.specs.Turns.{breaks, ends, pauses}
 use Rattle.tase_map.specs.Out.{Talk, is_asked, is_asked_by, acts_made, turns_behind, first_reply}
 use Rattle.tase_map.specs.Out.{reply_octets, octets_at, octets_in}
+use Rattle.std.proofs.lemmas.Option.{none-some}
+use Rattle.tase_map.specs.Sent.{IsNoted}
 use Rattle.tase_map.proofs.Closing.{event_adds}
 
 -- ---- inside a request
@@ -317,6 +319,25 @@ other_adds rows table talk key who event past apart =
     (view_of-entry rows key.peer past (record { who = who; event = event }))
     ∙ event_adds rows table talk key event (key_at event past who) (view_of rows key.peer past)
     apart
+
+pub noted_adds : (rows : CentreRows) (table : OwnTable) (talk : Talk) (key : Key) (who : ℕ)
+    (event : EventKind) (past : Past) → IsNoted event
+    → octets_in table key.ordinal talk (view_of rows key.peer (with_event who event past))
+    ≡ octets_in table key.ordinal talk (view_of rows key.peer past)
+noted_adds rows table talk key who (events.Update point value) past i =
+    ap (λ (v : View). octets_in table key.ordinal talk v)
+    (view_of-entry rows key.peer past (record { who = who; event = events.Update point value }))
+    ∙ event_adds rows table talk key (events.Update point value) None (view_of rows key.peer past)
+    (λ e. absurd (none-some key e))
+noted_adds rows table talk key who events.Stop past i =
+    ap (λ (v : View). octets_in table key.ordinal talk v)
+    (view_of-entry rows key.peer past (record { who = who; event = events.Stop }))
+    ∙ event_adds rows table talk key events.Stop None (view_of rows key.peer past)
+    (λ e. absurd (none-some key e))
+noted_adds rows table talk key who (events.Open peer) past i = absurd i
+noted_adds rows table talk key who (events.Request call) past i = absurd i
+noted_adds rows table talk key who events.Take past i = absurd i
+noted_adds rows table talk key who events.Close past i = absurd i
 
 one_adds : (rows : CentreRows) (table : OwnTable) (talk : Talk) (key : Key) (who : ℕ)
     (event : EventKind) (past : Past) (this : Act)

@@ -18,7 +18,7 @@ use Rattle.mms_services.specs.PduOctets.{pdu_octets, response_octets, invoke_oct
 use Rattle.stack_messages.specs.declared.heard.Connecting.{Connecting}
 use Rattle.stack_messages.specs.declared.heard.Heard.TheVariants as heards
 use Rattle.stack_wire.specs.Tsdus.{accept_tsdu, refusal_tsdu, release_tsdu, abort_tsdu, data_tsdu}
-use Rattle.stack_assoc.specs.Told.{Told, asked, heard}
+use Rattle.stack_assoc.specs.Told.{Told, asked, gone, heard}
 use Rattle.bilateral.specs.declared.rows.Table.{Table}
 use Rattle.bilateral.specs.Rows.{CentreRows}
 use Rattle.tase_views.specs.declared.call.CallKind.TheVariants.{Identify}
@@ -206,16 +206,23 @@ too_long_said : within (pos 24) 1 (pdus.Response 1 responses.Identify) ≡ too_l
 unfolding pdu_octets response_octets invoke_octets identify_response_octets ber.length_octets ber.integer_octets
 too_long_said = refl
 
+abbrev no_peers : CentreRows
+no_peers = record { points = []; devices = []; tables = [] }
+
 -- an offer by a title that is no peer's is refused, and one of a peer isn't
-refused_early : refusal_octets (record { points = []; devices = []; tables = [] }) first_two
+refused_early : refusal_octets no_peers (reading first_two)
     ≡ 3 ∷ 0 ∷ 0 ∷ 46 ∷ 2 ∷ 240 ∷ 128 ∷ 12 ∷ 37 ∷ 50 ∷ 35 ∷ 2 ∷ 48 ∷ 32 ∷ 97 ∷ 30 ∷ 48 ∷ 28 ∷ 2 ∷ 1 ∷ 1
     ∷ 160 ∷ 23 ∷ 97 ∷ 21 ∷ 161 ∷ 7 ∷ 6 ∷ 5 ∷ 40 ∷ 202 ∷ 34 ∷ 2 ∷ 3 ∷ 162 ∷ 3 ∷ 2 ∷ 1 ∷ 1 ∷ 163 ∷ 5
     ∷ 161 ∷ 3 ∷ 2 ∷ 1 ∷ 1 ∷ []
 unfolding wire session.length_octets ber.length_octets ber.integer_octets presentation.user_octets refusal_tsdu
 refused_early = refl
 
-not_refused : refusal_octets rows first_two ≡ []
+not_refused : refusal_octets rows (reading first_two) ≡ []
 not_refused = refl
+
+-- a disconnect ended the connection before such an offer
+gone_before : refusal_octets no_peers (reading (gone ∷ first_two)) ≡ []
+gone_before = refl
 
 -- closes, by what stands at their place
 abbrev closing : List Turn → List ℕ

@@ -325,7 +325,7 @@ input_asks = ap (λ (turns : List Turn). asks_behind rows [] (up_to_last rows tu
 early_sent : early_octets rows first ≡ 3 ∷ 0 ∷ 0 ∷ 22 ∷ 17 ∷ 208 ∷ 0 ∷ 1 ∷ 0 ∷ 1 ∷ 0 ∷ 192 ∷ 1 ∷ 10
     ∷ 193 ∷ 2 ∷ 0 ∷ 1 ∷ 194 ∷ 2 ∷ 0 ∷ 1 ∷ []
 early_sent =
-    ap (λ (r : Reading). answers_to called r.told ++ refusal_octets rows r.told) read_first
+    ap (λ (r : Reading). answers_to called r.told ++ refusal_octets rows r) read_first
 
 -- what the association of this text is sent, where it was opened, asked once, and closed as its link
 -- had ended: the confirm of the transport, the accept, the response, and nothing for the close

@@ -10,9 +10,9 @@ use Rattle.mms_services.specs.PduOctets.{pdu_len}
 use Rattle.stack_messages.specs.declared.heard.Connecting.{Connecting}
 use Rattle.stack_wire.specs.declared.setup.Setup.{Setup}
 use Rattle.stack_wire.specs.Tsdus.{accept_tsdu, refusal_tsdu, release_tsdu, abort_tsdu, data_tsdu}
-use Rattle.stack_assoc.specs.Told.{Told, called, first_in, connect_in}
+use Rattle.stack_assoc.specs.Told.{called, first_in, connect_in}
 use Rattle.stack_assoc.specs.Expectations.{setup_after}
-use Rattle.stack_assoc.specs.Handing.{answers_to, is_offer}
+use Rattle.stack_assoc.specs.Handing.{answers_to}
 use Rattle.bilateral.specs.Rows.{CentreRows}
 use Rattle.tase_views.specs.declared.reply.ReplyKind.{ReplyKind}
 use Rattle.tase_views.specs.OwnTable.{OwnTable}
@@ -21,7 +21,7 @@ use Rattle.tase_views.specs.View as acts
 use Rattle.tase_views.specs.Answers.{reply_to}
 use Rattle.tase_map.specs.Replied.{pdu_in}
 use Rattle.tase_map.specs.Readings.{Reading, reading_of}
-use Rattle.tase_map.specs.Turns.{Turn, offers, asks, concludes, releases, aborts, breaks, ends}
+use Rattle.tase_map.specs.Turns.{Turn, offers, offers_badly, asks, concludes, releases, aborts, breaks, ends}
 use Rattle.tase_map.specs.Turns.{turns_told}
 use Rattle.tase_map.specs.Asks.{is_peers}
 
@@ -166,17 +166,19 @@ abbrev pub octets_out : OwnTable → View → ℕ → List ℕ → Bool → List
 octets_out table view ordinal text ended =
     octets_in table ordinal (talk_of (reading_of text) ended) view
 
--- whether an offer is no peer's, or can only be refused
-abbrev pub is_declined : CentreRows → Option Connecting → Bool
-is_declined rows None = false
-is_declined rows (Some c) = if is_offer c then not (is_peers rows c.title) else true
+-- whether what comes first is an offer that is no peer's, or that can only be refused; behind an
+-- abort no offer is answered
+abbrev pub is_declined : CentreRows → List Turn → Bool
+is_declined rows (offers title ∷ turns) = not (is_peers rows title)
+is_declined rows (offers_badly ∷ turns) = true
+is_declined rows _ = false
 
-abbrev pub refusal_octets : CentreRows → List Told → List ℕ
-refusal_octets rows told = if is_declined rows (first_in connect_in told)
-    then wire (setup_after told).size (refusal_tsdu (setup_after told).acse) else []
+abbrev pub refusal_octets : CentreRows → Reading → List ℕ
+refusal_octets rows reading = if is_declined rows (turns_told reading)
+    then wire (setup_after reading.told).size (refusal_tsdu (setup_after reading.told).acse) else []
 
 -- the octets of a connection without an association: none, the confirm of the transport, or that and
 -- a refusal
 abbrev pub early_octets : CentreRows → List ℕ → List ℕ
-early_octets rows text = let reading = reading_of text in
-    answers_to called reading.told ++ refusal_octets rows reading.told
+early_octets rows text =
+    answers_to called (reading_of text).told ++ refusal_octets rows (reading_of text)

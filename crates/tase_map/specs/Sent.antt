@@ -35,3 +35,9 @@ turns_left rows past key text ended = turns_behind (talk_of (reading_of text) en
 abbrev pub IsQuiet : EventKind → Type 0
 IsQuiet (events.Request call) = ⊥
 IsQuiet event = Unit {0}
+
+-- an event that is of no association's doing: a new value of a point, the stop
+abbrev pub IsNoted : EventKind → Type 0
+IsNoted (events.Update point value) = Unit {0}
+IsNoted events.Stop = Unit {0}
+IsNoted event = ⊥

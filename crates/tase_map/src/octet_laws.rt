@@ -23,7 +23,7 @@ ghost use Rattle.tase_map.specs.Readings.{reading_of, Reads};
 ghost use Rattle.tase_map.specs.Asks.{asks_of, without_takes, AreInTurn};
 ghost use Rattle.tase_map.specs.Closed.{is_closed};
 ghost use Rattle.tase_map.specs.Out.{talk_of, reply_octets, close_octets, octets_out};
-ghost use Rattle.tase_map.specs.Sent.{events_by, sent, turns_left, IsQuiet};
+ghost use Rattle.tase_map.specs.Sent.{events_by, sent, turns_left, IsQuiet, IsNoted};
 ghost use Rattle.tase_map.specs.Turns.{Turn, asks};
 
 /// What is read of octets is what they tell the called end, and nothing else is.
@@ -87,6 +87,10 @@ pub fn each_entry_adds_its_octets()
     ensures take { (rows : CentreRows) (past : Past) (key : Key) (who : ℕ) (text : List ℕ)
         (ended : Bool) → key_at Take past who ≡ Some key
         → sent rows (record { who = who; event = Take } ∷ past) key text ended
+        ≡ sent rows past key text ended }
+    ensures noted { (rows : CentreRows) (past : Past) (key : Key) (who : ℕ) (event : AnyEvent)
+        (text : List ℕ) (ended : Bool) → IsNoted event
+        → sent rows (record { who = who; event = event } ∷ past) key text ended
         ≡ sent rows past key text ended }
     ensures close { (rows : CentreRows) (past : Past) (key : Key) (who : ℕ) (text : List ℕ)
         (ended : Bool) → key_at Close past who ≡ Some key

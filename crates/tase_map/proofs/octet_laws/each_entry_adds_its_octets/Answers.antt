@@ -1,6 +1,7 @@
 use Rattle.tase_views.specs.OwnTable.{own_table}
 use Rattle.tase_map.specs.Readings.{reading_of}
 use Rattle.tase_map.specs.Out.{talk_of}
+use Rattle.tase_map.proofs.Adding.{noted_adds}
 use Rattle.tase_map.proofs.Adding.{other_adds, open_adds, take_adds, close_adds, asked_adds}
 use Rattle.tase_map.proofs.octet_laws.each_entry_adds_its_octets.Goals as goal
 
@@ -25,3 +26,7 @@ returns-clause-take c rows past key who text ended e =
 pub returns-clause-close : goal.returns-clause-close
 returns-clause-close c rows past key who text ended e =
     close_adds rows (own_table rows key.peer) (talk_of (reading_of text) ended) key who past e
+
+pub returns-clause-noted : goal.returns-clause-noted
+returns-clause-noted c rows past key who event text ended i =
+    noted_adds rows (own_table rows key.peer) (talk_of (reading_of text) ended) key who event past i
