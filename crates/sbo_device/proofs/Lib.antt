@@ -1,2 +1,4 @@
 mod Worked
+mod WorkedControls
+pub mod SameHolders
 pub mod OneHolder

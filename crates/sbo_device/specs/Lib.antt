@@ -1,3 +1,5 @@
 pub mod Moves
 pub mod States
 pub mod Holders
+pub mod Controls
+pub mod SameMoves

@@ -1,10 +1,15 @@
 //! What holds of a device over every list of moves.
 ghost use Rattle.std.specs.Prelude.{◌≡◌, ◌↔◌, ℕ, ◌+◌, ℤ, List, Some, Contains, IsTrue, false};
+ghost use Rattle.std.specs.Prelude.{Bool};
+ghost use Rattle.std.specs.Option.{option_map};
 ghost use Rattle.sbo_device.specs.declared.key.Key.{Key};
 ghost use Rattle.sbo_device.specs.Moves.{ControlPoint, DeviceMove, selected};
 ghost use Rattle.sbo_device.specs.States.{state_in, is_permitted, select_answer};
 ghost use Rattle.sbo_device.specs.Holders.{Holds, MayTake, IsPermitted, last_tag};
 ghost use Rattle.sbo_device.specs.States.{operate_answer};
+ghost use Rattle.sbo_device.specs.Controls.{ControlMove, with_moments, device_in, hold_of, tag_of};
+ghost use Rattle.sbo_device.specs.Controls.{permits};
+ghost use Rattle.sbo_device.specs.SameMoves.{TellsApart, AreByKnown, shown, renumbered_hold};
 ghost use Rattle.sbo_device.specs.declared.answer.Select.TheVariants as select;
 ghost use Rattle.sbo_device.specs.declared.answer.Operate.TheVariants as operate;
 
@@ -34,4 +39,31 @@ pub fn devices_have_one_holder()
         → (state_in point moves).tag ≡ last_tag moves }
     ensures point { (point : ControlPoint) (moves : List DeviceMove)
         → (state_in point moves).point ≡ point }
+{}
+
+/// Over the moves of a node: the selection that stands is what the moves say of its association,
+/// which is one at the most; its tag is the last one; an operate is permitted as its moves say.
+pub fn moves_tell_one_holder()
+    ensures holder { (point : ControlPoint) (moves : List ControlMove) (key : Key) (until : ℕ)
+        → (hold_of point moves ≡ Some (record { key = key; until = until }))
+        ↔ Holds point (with_moments moves) key until }
+    ensures one_holder { (point : ControlPoint) (moves : List ControlMove) (a b : Key) (u v : ℕ)
+        → Holds point (with_moments moves) a u → Holds point (with_moments moves) b v
+        → (a ≡ b) × (u ≡ v) }
+    ensures permitted { (point : ControlPoint) (moves : List ControlMove) (key : Key) (value : ℤ)
+        → IsTrue (permits point moves key value)
+        ↔ IsPermitted point (with_moments moves) key value }
+    ensures tag { (point : ControlPoint) (moves : List ControlMove)
+        → (tag_of moves).tag ≡ (device_in point moves).tag }
+{}
+
+/// Whoever is shown a device's moves with other numbers of the peers, and without the closes of
+/// peers that never select it or operate it, is shown its holder and its tag as they are.
+pub fn holders_are_shown_as_they_are()
+    ensures hold { (known : ℕ → Bool) (number : ℕ → ℕ) (point : ControlPoint)
+        (moves : List ControlMove) → TellsApart known number → AreByKnown known moves
+        → hold_of point (shown known number moves)
+        ≡ option_map (renumbered_hold number) (hold_of point moves) }
+    ensures tag { (known : ℕ → Bool) (number : ℕ → ℕ) (moves : List ControlMove)
+        → tag_of (shown known number moves) ≡ tag_of moves }
 {}

@@ -15,3 +15,10 @@ pub mod Values
 pub mod Concerns
 pub mod Answers
 pub mod Outcomes
+pub mod NodeMoves
+pub mod PeerTables
+pub mod NodeViews
+pub mod SlotViews
+pub mod NodeAnswers
+pub mod NodeReports
+pub mod NodeOrders

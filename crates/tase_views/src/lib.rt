@@ -13,7 +13,11 @@ mod weights;
 pub use call::{Call, CallKind, DOMAINS, NAMED_VARIABLE_LISTS, NAMED_VARIABLES, Values};
 pub use event::{Entry, Event, EventKind};
 pub use fault::StepFault;
-pub use laws::{others_are_unseen, seats_are_unseen, two_worlds, views_are_of_entries};
+pub use laws::{
+    devices_are_held_once, devices_are_seen_as_they_are, due_conditions_are_those,
+    others_are_unseen, seats_are_unseen, two_worlds, two_worlds_answer_alike,
+    unseen_moves_change_nothing, views_are_of_entries,
+};
 pub use reply::{
     ACCESS_DENIED, ACCESS_ERRORS, Answer, NAMES_LIMIT, NON_EXISTENT, OBJECT_ACCESS_DENIED,
     OBJECT_NON_EXISTENT, ObjectNames, ReadSpec, Reply, ReplyKind, Report, Reports, Results,

@@ -1,3 +1,4 @@
 pub mod Readings
 pub mod DueNumbers
 mod Worked
+mod WorkedMoves

@@ -1,0 +1,42 @@
+-- Moves of a device in which associations have other numbers, and in which some closes are left
+-- out: what laws of views speak of.
+use Rattle.std.specs.Prelude.{◌≡◌, ℕ, Bool, true, List, [], ◌∷◌, map, filter}
+use Rattle.sbo_device.specs.declared.key.Key.{Key}
+use Rattle.sbo_device.specs.declared.hold.Hold.{Hold}
+use Rattle.sbo_device.specs.Controls.{ControlMove, selects, operates, closes, ticks, tags}
+
+abbrev pub renumbered_key : (ℕ → ℕ) → Key → Key
+renumbered_key number key = record { peer = number key.peer; ordinal = key.ordinal }
+
+abbrev pub renumbered_hold : (ℕ → ℕ) → Hold → Hold
+renumbered_hold number hold =
+    record { key = renumbered_key number hold.key; until = hold.until }
+
+-- the same move of a peer with another number
+abbrev pub renumbered : (ℕ → ℕ) → ControlMove → ControlMove
+renumbered number (selects key) = selects (renumbered_key number key)
+renumbered number (operates key value) = operates (renumbered_key number key) value
+renumbered number (closes key) = closes (renumbered_key number key)
+renumbered number (ticks now) = ticks now
+renumbered number (tags tag) = tags tag
+
+-- whether a move is kept where closes of other peers than the known ones are left out
+abbrev pub is_kept : (ℕ → Bool) → ControlMove → Bool
+is_kept known (closes key) = known key.peer
+is_kept known _ = true
+
+-- different known peers have different numbers
+abbrev pub TellsApart : (ℕ → Bool) → (ℕ → ℕ) → Type 0
+TellsApart known number =
+    (a b : ℕ) → known a ≡ true → known b ≡ true → number a ≡ number b → a ≡ b
+
+-- only known peers select the device or operate it
+abbrev pub AreByKnown : (ℕ → Bool) → List ControlMove → Type 0
+AreByKnown known [] = Unit {0}
+AreByKnown known (selects key ∷ moves) = (known key.peer ≡ true) × AreByKnown known moves
+AreByKnown known (operates key value ∷ moves) = (known key.peer ≡ true) × AreByKnown known moves
+AreByKnown known (_ ∷ moves) = AreByKnown known moves
+
+-- these moves with other numbers of peers, without the closes of peers that aren't known
+abbrev pub shown : (ℕ → Bool) → (ℕ → ℕ) → List ControlMove → List ControlMove
+shown known number moves = map (renumbered number) (filter (is_kept known) moves)

@@ -1,0 +1,212 @@
+-- Data sets and transfer sets in a peer's view (IEC 60870-6-503, data set and DS transfer set
+-- objects; ISO 9506-2, named variable lists).
+use Rattle.std.specs.Prelude.{ℕ, ◌==◌, nat_le, nat_lt, nat_eq, not, ◌&&◌, ◌||◌, if◌then◌else◌, Bool}
+use Rattle.std.specs.Prelude.{true, false, List, [], ◌∷◌, length, filter, filter_map, find}
+use Rattle.std.specs.Prelude.{Option, Some, None, is_some, is_none, bytes_eq, Result, Ok, Err}
+use Rattle.std.specs.List.{range_with_len, list_all, list_any}
+use Rattle.std.specs.Option.{option_map_or, option_eq, unwrap_or}
+use Rattle.tase_points.specs.Sample.{Sample}
+use Rattle.tase_points.specs.Values.{is_change}
+use Rattle.mms_data.specs.Datum.{Datum}
+use Rattle.mms_data.specs.declared.object_name.Scope.TheVariants.{Domain}
+use Rattle.mms_data.specs.ObjectName.{ObjectName, same_scope, same_name}
+use Rattle.data_sets.specs.declared.book.TheConstants.{MOST_MEMBERS}
+use Rattle.table_words.specs.Words.{is_identifier}
+use Rattle.transfer_sets.specs.declared.wish.Wish.{Wish}
+use Rattle.transfer_sets.specs.declared.wish.WishFault.{WishFault}
+use Rattle.transfer_sets.specs.declared.wish.WishFault.TheVariants.{Form, Range}
+use Rattle.transfer_sets.specs.declared.wish.TheConstants.{INTEGRITY, OPERATOR}
+use Rattle.transfer_sets.specs.Wishes.{has, may_enable}
+use Rattle.transfer_sets.specs.Components.{wish_in, boolean_in}
+use Rattle.transfer_sets.specs.SlotState.{SlotState, with_status}
+use Rattle.transfer_sets.specs.SlotMoves.{SlotMove, handed_out, wishes, changes, reports, owner_in}
+use Rattle.transfer_sets.specs.SlotMoves.{last_wish, slot_in}
+use Rattle.transfer_sets.specs.Due.{conditions_due}
+use Rattle.tase_views.specs.OwnTable.{OwnPoint, point_named}
+use Rattle.tase_views.specs.Values.{last_of}
+use Rattle.tase_views.specs.NodeMoves.{reads, writes, defines, deletes, closes}
+use Rattle.tase_views.specs.PeerTables.{PeerTable, Object, next_transfer_set, transfer_set}
+use Rattle.tase_views.specs.PeerTables.{transfer_set_status, report_variable, indication_point}
+use Rattle.tase_views.specs.PeerTables.{object_named, domain_name}
+use Rattle.tase_views.specs.NodeViews.{SeenMove, own, updated, asked, ticked, NodeView, moment_in}
+
+-- reasons of an access (ISO 9506-2, DataAccessError: type-inconsistent, object-value-invalid)
+abbrev pub type_inconsistent : ℕ
+type_inconsistent = 7
+
+abbrev pub value_invalid : ℕ
+value_invalid = 11
+
+-- the values that a point was given, by its name, the newest first
+abbrev pub value_seen : List ℕ → SeenMove → Option Sample
+value_seen name (updated point value) = if bytes_eq point name then Some value else None
+value_seen name _ = None
+
+abbrev pub values_seen : NodeView → List ℕ → List Sample
+values_seen view name = filter_map (value_seen name) view
+
+-- the data sets that there are, by their names in the domain
+abbrev pub Sets : Type 0
+Sets = List ℕ → Option (List ObjectName)
+
+-- what befell each transfer set since it was handed out, by its number
+abbrev pub Slots : Type 0
+Slots = ℕ → List SlotMove
+
+-- whether an association owns a transfer set
+abbrev pub owns : ℕ → List SlotMove → Bool
+owns ordinal moves = option_eq nat_eq (owner_in moves) (Some ordinal)
+
+-- the transfer set that an object is, or is the status of
+abbrev pub slot_of : Option Object → Option ℕ
+slot_of (Some (transfer_set s)) = Some s
+slot_of (Some (transfer_set_status s)) = Some s
+slot_of _ = None
+
+abbrev pub is_next_slot : Option Object → Bool
+is_next_slot (Some next_transfer_set) = true
+is_next_slot _ = false
+
+-- a member that a data set may have: a point, or a report variable
+abbrev pub is_member : Option Object → Bool
+is_member (Some (indication_point p)) = true
+is_member (Some (report_variable v)) = true
+is_member _ = false
+
+-- the wish that a write to a transfer set or its status asks for: one of its own, or the one that
+-- stands with another status; or why the value is none
+abbrev pub wish_asked : Wish → Option Object → Datum → Result Wish WishFault
+wish_asked wish (Some (transfer_set_status s)) value =
+    option_map_or (λ b. Ok (with_status b wish)) (boolean_in value) (Err Form)
+wish_asked wish _ value = wish_in value
+
+-- whether conditions are none but interval and change
+abbrev pub only_changes : ℕ → Bool
+only_changes conditions = not (has conditions INTEGRITY) && not (has conditions OPERATOR)
+
+-- whether conditions make a report: not where the wish has only changes told, and no member changed
+abbrev pub makes_report : SlotState → ℕ → Bool
+makes_report s conditions =
+    not (conditions == 0) && not (s.wish.rbe && only_changes conditions && is_none s.noted)
+
+-- the condition by which a request of the operator makes a report, if the wish has it
+abbrev pub asked_conditions : SlotState → ℕ
+asked_conditions s = if s.wish.status && has s.wish.conditions OPERATOR then OPERATOR else 0
+
+-- one move more of a transfer set: a wish that was taken, a report that conditions make
+abbrev pub with_wish : ℕ → Result Wish ℕ → List SlotMove → List SlotMove
+with_wish now (Ok wish) moves = wishes wish now ∷ moves
+with_wish now (Err reason) moves = moves
+
+abbrev pub with_report :
+    (List SlotMove → SlotState) → (SlotState → ℕ) → List SlotMove → List SlotMove
+with_report state conditions moves =
+    if makes_report (state moves) (conditions (state moves)) then reports ∷ moves else moves
+
+-- the names that definitions in a view have, each once
+abbrev pub names_defined : NodeView → List (List ℕ)
+names_defined [] = []
+names_defined (own ordinal (defines set members) ∷ view) =
+    set.item ∷ filter (λ name. not (bytes_eq name set.item)) (names_defined view)
+names_defined (_ ∷ view) = names_defined view
+
+module _ (table : PeerTable) where
+  -- whether a new value of a point of the table is a change of it (this project's profile)
+  abbrev pub changes_point : NodeView → List ℕ → Sample → Bool
+  changes_point view name value =
+      list_any
+      (λ (p : OwnPoint). bytes_eq p.name name
+      && is_change (last_of p.kind (values_seen view name)) value) table.own.points
+
+  -- the lowest transfer set without an owner
+  abbrev pub lowest_free : Slots → Option ℕ
+  lowest_free slots = find (λ s. is_none (owner_in (slots s))) (range_with_len 0 table.slots)
+
+  -- the members of the data set of the domain that a wish names, if it is there
+  abbrev pub wished_members : Sets → Wish → Option (List ObjectName)
+  wished_members sets wish =
+      if bytes_eq wish.set_domain table.own.domain then sets wish.set_name else None
+
+  -- a transfer set as its due conditions see it, over the points that its data set has
+  abbrev pub state_by : Sets → List SlotMove → SlotState
+  state_by sets moves =
+      let members = unwrap_or (wished_members sets (last_wish moves).0) [] in
+      let points = filter_map (point_named table.own) members in
+      slot_in (λ name. list_any (λ (p : OwnPoint). bytes_eq p.name name) points) moves
+
+  -- a wish is taken, with status true where it may be enabled and its data set is there; or why not
+  abbrev pub taken : Sets → Result Wish WishFault → Result Wish ℕ
+  taken sets (Err Form) = Err type_inconsistent
+  taken sets (Err Range) = Err value_invalid
+  taken sets (Ok wish) =
+      if not wish.status || may_enable wish && is_some (wished_members sets wish) then Ok wish
+      else Err value_invalid
+
+  -- the wish of a transfer set behind a write to it or to its status, or why it isn't written
+  abbrev pub wish_written : Sets → List SlotMove → Option Object → Datum → Result Wish ℕ
+  wish_written sets moves object value =
+      taken sets (wish_asked (last_wish moves).0 object value)
+
+  -- the data sets that there are
+  abbrev pub sets_there : Sets → NodeView → List (List ℕ)
+  sets_there sets view = filter (λ name. is_some (sets name)) (names_defined view)
+
+  -- why a data set isn't defined, the class and code of an error (ISO 9506-2, ServiceError), the
+  -- first of: its name is none of the domain (object-access-denied); it is there (object-exists);
+  -- there are too many members or sets (resource, other); a member doesn't exist (object-undefined)
+  abbrev pub define_fault : Sets → NodeView → ObjectName → List ObjectName → Option (ℕ × ℕ)
+  define_fault sets view set members =
+      if not (same_scope set.scope (Domain table.own.domain) && is_identifier set.item)
+      then Some (7, 3)
+      else if is_some (sets set.item) then Some (2, 5)
+      else if nat_lt MOST_MEMBERS (length members)
+      || nat_le table.sets (length (sets_there sets view)) then Some (3, 0)
+      else if not (list_all (λ m. is_member (object_named table m)) members) then Some (2, 1)
+      else None
+
+  -- whether an enabled transfer set wishes a data set of the domain
+  abbrev pub is_wished : Slots → List ℕ → Bool
+  is_wished slots name =
+      list_any
+      (λ s. let wish = (last_wish (slots s)).0 in
+      wish.status && bytes_eq wish.set_domain table.own.domain && bytes_eq wish.set_name name)
+      (range_with_len 0 table.slots)
+
+  abbrev mutual
+    -- the members of the data set with a name: those of its last definition that had no error,
+    -- unless it was deleted since, while no enabled transfer set wished it
+    pub set_members : NodeView → Sets
+    set_members [] name = None
+    set_members (own ordinal (defines set members) ∷ view) name =
+        if bytes_eq set.item name && is_none (define_fault (set_members view) view set members)
+        then Some members else set_members view name
+    set_members (own ordinal (deletes set) ∷ view) name =
+        if same_name set (domain_name table name) && not (is_wished (slot_moves view) name)
+        then None else set_members view name
+    set_members (_ ∷ view) name = set_members view name
+
+    -- what befell a transfer set since it was handed out, unless its owner was closed: its owner's
+    -- writes that were taken, the changes of points, its reports
+    pub slot_moves : NodeView → Slots
+    slot_moves [] s = []
+    slot_moves (own ordinal closes ∷ view) s =
+        if owns ordinal (slot_moves view s) then [] else slot_moves view s
+    slot_moves (own ordinal (reads name) ∷ view) s =
+        if is_next_slot (object_named table name)
+        && option_eq nat_eq (lowest_free (slot_moves view)) (Some s)
+        then handed_out ordinal ∷ [] else slot_moves view s
+    slot_moves (own ordinal (writes name value) ∷ view) s =
+        let moves = slot_moves view s in
+        if owns ordinal moves && option_eq nat_eq (slot_of (object_named table name)) (Some s)
+        then with_wish (moment_in view)
+        (wish_written (set_members view) moves (object_named table name) value) moves else moves
+    slot_moves (updated name value ∷ view) s =
+        if changes_point view name value then changes name (moment_in view) ∷ slot_moves view s
+        else slot_moves view s
+    slot_moves (asked other ∷ view) s =
+        with_report (state_by (set_members view))
+        (λ state. if other == s then asked_conditions state else 0) (slot_moves view s)
+    slot_moves (ticked now ∷ view) s =
+        with_report (state_by (set_members view))
+        (λ state. conditions_due state (moment_in view) now) (slot_moves view s)
+    slot_moves (_ ∷ view) s = slot_moves view s
