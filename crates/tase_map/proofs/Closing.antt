@@ -159,7 +159,7 @@ spent_later key (entry ∷ later) past s =
     spent_entry key entry (later ++ past) (spent_later key later past s)
 
 -- no event is of such an association
-not_key_at : (event : EventKind) (past : Past) (who : ℕ) (key : Key) → Spent key past
+pub not_key_at : (event : EventKind) (past : Past) (who : ℕ) (key : Key) → Spent key past
     → key_at event past who ≡ Some key → ⊥
 not_key_at (Open peer) past who key s e = next_new past peer key e s.given
 not_key_at (Request call) past who key s e = s.nowhere who e
@@ -180,14 +180,14 @@ pub same_key : (a b : Key) → a.peer ≡ b.peer → a.ordinal ≡ b.ordinal →
 same_key a b p o =
     ap (λ peer. key_with peer a.ordinal) p ∙ ap (λ ordinal. key_with b.peer ordinal) o
 
-key_is : (key : Key) (found : Option Key) → is_key key found ≡ true → found ≡ Some key
+pub key_is : (key : Key) (found : Option Key) → is_key key found ≡ true → found ≡ Some key
 key_is key None e = absurd (false≢true e)
 key_is key (Some other) e =
     let h = both (other.peer == key.peer) (other.ordinal == key.ordinal) e in
     ap Some (same_key other key (eqb-true other.peer key.peer h.0)
     (eqb-true other.ordinal key.ordinal h.1))
 
-not_true : (b : Bool) → (b ≡ true → ⊥) → b ≡ false
+pub not_true : (b : Bool) → (b ≡ true → ⊥) → b ≡ false
 not_true true n = absurd (n refl)
 not_true false n = refl
 

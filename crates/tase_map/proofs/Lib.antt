@@ -8,8 +8,11 @@ pub mod Adding
 pub mod Passing
 pub mod MessageOrder
 pub mod LawfulMessages
+pub mod Fronts
+pub mod TurnsRead
 pub mod TurnOrder
 pub mod InTurn
+pub mod Growing
 pub mod Unrefused
 pub mod Worked
 mod WorkedStream

@@ -1,6 +1,6 @@
--- Which messages come behind which at the called end: a connect behind none, a request and conclude
--- behind a connect and before conclude.
-use Rattle.std.proofs.Common.{◌≡◌, ℕ, ◌≤◌, Bool, true, false, List, [], ◌∷◌, ◌++◌, Option, Some}
+-- Which messages come behind which at the called end: a connect behind none, a finish behind a
+-- connect, a request and conclude behind a connect and before conclude; and none that answers one.
+use Rattle.std.proofs.Common.{◌≡◌, ℕ, Bool, true, false, List, [], ◌∷◌, ◌++◌, Option, Some}
 use Rattle.std.proofs.Common.{None, refl, sym, ap, subst, ◌∙◌, inl, inr, arith}
 use Rattle.std.specs.Prelude.{is_some, if◌then◌else◌}
 use Rattle.std.specs.Option.{option_map}
@@ -30,8 +30,9 @@ use Rattle.stack_messages.specs.Setting.{initiate_of, initiated_of, connecting, 
 use Rattle.stack_messages.specs.Setting.{offers_in, connect_at, aare_in, user_in, results_in}
 use Rattle.stack_messages.specs.Setting.{accept_at}
 use Rattle.stack_messages.specs.Messages.{data_at, user_data_in, carry_at, said_in_turn, message}
-use Rattle.stack_messages.specs.Turns.{may_connect, may_ask, pdu_may_come, spdu_may_come}
-use Rattle.stack_messages.specs.Turns.{is_before, is_open}
+use Rattle.stack_messages.specs.Turns.{may_connect, may_answer, may_finish, may_disconnect}
+use Rattle.stack_messages.specs.Turns.{may_ask, pdu_may_come, spdu_may_come}
+use Rattle.stack_messages.specs.Turns.{is_before, is_held, is_open}
 use Rattle.tpkt_cotp.specs.Streams.{Message, asks, confirms, tsdu}
 use Rattle.tpkt_cotp.specs.Streams as transport
 use Rattle.stack_assoc.specs.Told.{Told, asked, confirmed, gone, heard, called, first_in}
@@ -61,6 +62,10 @@ no_says fault h s = s
 pub just_kind : (value h : Heard) → (says_just value).says h → kind_of h ≡ kind_of value
 unfolding says_just
 just_kind value h s = ap kind_of s
+
+just_same : (value h : Heard) → (says_just value).says h → h ≡ value
+unfolding says_just
+just_same value h s = s
 
 some_kind : (fault : StackFault) (found : Option Initiate) (make : Initiate → Heard) (n : ℕ)
     → ((i : Initiate) → kind_of (make i) ≡ n) → (h : Heard)
@@ -131,32 +136,38 @@ accept_kind e octets body h s =
 -- a message that comes where this is expected may come there
 abbrev MayCome : Expecting → Heard → Type 0
 MayCome e (heards.Connect c) = may_connect e.side e.phase ≡ true
+MayCome e (heards.Accept a) = may_answer e.side e.phase ≡ true
+MayCome e heards.Refuse = may_answer e.side e.phase ≡ true
+MayCome e heards.Finish = may_finish e.side e.phase ≡ true
+MayCome e heards.Disconnect = may_disconnect e.side e.phase ≡ true
+MayCome e heards.Abort = Unit {0}
+MayCome e heards.AbortAccept = Unit {0}
 MayCome e (heards.Pdu p) = pdu_may_come e p ≡ true
 MayCome e (heards.BadRequest invoke) = may_ask e.side e.phase ≡ true
-MayCome e _ = Unit {0}
 
 connect_may : (e : Expecting) (h : Heard) → kind_of h ≡ 0 → may_connect e.side e.phase ≡ true
     → MayCome e h
 connect_may e (heards.Connect c) k may = may
-connect_may e (heards.Accept a) k may = tt
-connect_may e heards.Refuse k may = tt
-connect_may e heards.Finish k may = tt
-connect_may e heards.Disconnect k may = tt
+connect_may e (heards.Accept a) k may = absurd (omega (arith, k))
+connect_may e heards.Refuse k may = absurd (omega (arith, k))
+connect_may e heards.Finish k may = absurd (omega (arith, k))
+connect_may e heards.Disconnect k may = absurd (omega (arith, k))
 connect_may e heards.Abort k may = tt
 connect_may e heards.AbortAccept k may = tt
 connect_may e (heards.Pdu p) k may = absurd (omega (arith, k))
 connect_may e (heards.BadRequest invoke) k may = absurd (omega (arith, k))
 
-other_may : (e : Expecting) (h : Heard) (n : ℕ) → kind_of h ≡ n → 1 ≤ n → n ≤ 6 → MayCome e h
-other_may e (heards.Connect c) n k least most = absurd (omega (arith, k, least))
-other_may e (heards.Accept a) n k least most = tt
-other_may e heards.Refuse n k least most = tt
-other_may e heards.Finish n k least most = tt
-other_may e heards.Disconnect n k least most = tt
-other_may e heards.Abort n k least most = tt
-other_may e heards.AbortAccept n k least most = tt
-other_may e (heards.Pdu p) n k least most = absurd (omega (arith, k, most))
-other_may e (heards.BadRequest invoke) n k least most = absurd (omega (arith, k, most))
+accept_may : (e : Expecting) (h : Heard) → kind_of h ≡ 1 → may_answer e.side e.phase ≡ true
+    → MayCome e h
+accept_may e (heards.Connect c) k may = absurd (omega (arith, k))
+accept_may e (heards.Accept a) k may = may
+accept_may e heards.Refuse k may = may
+accept_may e heards.Finish k may = absurd (omega (arith, k))
+accept_may e heards.Disconnect k may = absurd (omega (arith, k))
+accept_may e heards.Abort k may = tt
+accept_may e heards.AbortAccept k may = tt
+accept_may e (heards.Pdu p) k may = absurd (omega (arith, k))
+accept_may e (heards.BadRequest invoke) k may = absurd (omega (arith, k))
 
 data_may : (e : Expecting) (octets : List ℕ) (body : Span) (h : Heard)
     → (data_at e octets body).says h → MayCome e h
@@ -181,10 +192,10 @@ pub allowed : (b : Bool) (fault : StackFault) (m : Meaning Heard) (h : Heard)
 allowed true fault m h s = (refl, s)
 allowed false fault m h s = absurd (no_says fault h s)
 
-just_may : (e : Expecting) (value h : Heard) → 1 ≤ kind_of value → kind_of value ≤ 6
-    → (says_just value).says h → MayCome e h
-just_may e value h least most s =
-    other_may e h (kind_of value) (just_kind value h s) least most
+just_may : (e : Expecting) (value h : Heard) → MayCome e value → (says_just value).says h
+    → MayCome e h
+just_may e value h may s =
+    subst (λ (x : Heard). MayCome e x) (sym (just_same value h s)) may
 
 said_may : (e : Expecting) (octets : List ℕ) (spdu : Spdu) (h : Heard)
     → (said_in_turn e octets spdu).says h → MayCome e h
@@ -193,23 +204,21 @@ said_may e octets (spdus.Connect presented body) h s =
     connect_may e h (connect_kind octets presented body h a.1) a.0
 said_may e octets (spdus.Accept presented body) h s =
     let a = allowed (spdu_may_come e.side e.phase (spdus.Accept presented body)) _ _ h s in
-    other_may e h 1 (accept_kind e octets body h a.1) (omega arith) (omega arith)
+    accept_may e h (accept_kind e octets body h a.1) a.0
 said_may e octets spdus.Refuse h s =
     let a = allowed (spdu_may_come e.side e.phase spdus.Refuse) _ _ h s in
-    just_may e heards.Refuse h (omega arith) (omega arith) a.1
+    just_may e heards.Refuse h a.0 a.1
 said_may e octets (spdus.Carry body) h s =
     let a = allowed (spdu_may_come e.side e.phase (spdus.Carry body)) _ _ h s in
     carry_may e octets body h a.1
 said_may e octets spdus.Finish h s =
     let a = allowed (spdu_may_come e.side e.phase spdus.Finish) _ _ h s in
-    just_may e heards.Finish h (omega arith) (omega arith) a.1
+    just_may e heards.Finish h a.0 a.1
 said_may e octets spdus.Disconnect h s =
     let a = allowed (spdu_may_come e.side e.phase spdus.Disconnect) _ _ h s in
-    just_may e heards.Disconnect h (omega arith) (omega arith) a.1
-said_may e octets spdus.Abort h s =
-    just_may e heards.Abort h (omega arith) (omega arith) s
-said_may e octets spdus.AbortAccept h s =
-    just_may e heards.AbortAccept h (omega arith) (omega arith) s
+    just_may e heards.Disconnect h a.0 a.1
+said_may e octets spdus.Abort h s = just_may e heards.Abort h tt s
+said_may e octets spdus.AbortAccept h s = just_may e heards.AbortAccept h tt s
 
 message_may : (e : Expecting) (octets : List ℕ) (h : Heard) → (message e octets).says h
     → MayCome e h
@@ -228,11 +237,17 @@ PduComes before (pdus.Request invoke request) = HasBegun before
 PduComes before pdus.Conclude = HasBegun before
 PduComes before _ = Unit {0}
 
+-- no answer to a connect comes to the called end, nor one to a finish
 abbrev pub HeardComes : List Told → Heard → Type 0
 HeardComes before (heards.Connect c) = is_some (first_in connect_in before) ≡ false
+HeardComes before (heards.Accept a) = ⊥
+HeardComes before heards.Refuse = ⊥
+HeardComes before heards.Finish = is_some (first_in connect_in before) ≡ true
+HeardComes before heards.Disconnect = ⊥
+HeardComes before heards.Abort = Unit {0}
+HeardComes before heards.AbortAccept = Unit {0}
 HeardComes before (heards.Pdu p) = PduComes before p
 HeardComes before (heards.BadRequest invoke) = HasBegun before
-HeardComes before _ = Unit {0}
 
 abbrev pub Comes : List Told → Told → Type 0
 Comes before (heard h) = HeardComes before h
@@ -256,6 +271,10 @@ connected true true e = absurd (false≢true e)
 connected true false e = (refl, refl)
 connected false c e = absurd (false≢true e)
 
+held : (a c : Bool) → is_held (phase_by a c) ≡ true → a ≡ true
+held true c e = refl
+held false c e = absurd (false≢true e)
+
 begun : (before : List Told)
     → is_open (phase_by (is_some (first_in connect_in before)) (list_any is_conclude before)) ≡ true
     → HasBegun before
@@ -263,8 +282,8 @@ begun before e =
     let c = connected (is_some (first_in connect_in before)) (list_any is_conclude before) e in
     record { connect = c.0; conclude = c.1 }
 
-pdu_comes : (before : List Told) (p : MmsPdu) → pdu_may_come (expecting_after called before) p ≡ true
-    → PduComes before p
+pdu_comes : (before : List Told) (p : MmsPdu)
+    → pdu_may_come (expecting_after called before) p ≡ true → PduComes before p
 pdu_comes before (pdus.Request invoke request) m = begun before m
 pdu_comes before (pdus.Response invoke response) m = tt
 pdu_comes before (pdus.Error e) m = tt
@@ -280,10 +299,11 @@ heard_comes : (before : List Told) (h : Heard) → MayCome (expecting_after call
     → HeardComes before h
 heard_comes before (heards.Connect c) m =
     unconnected (is_some (first_in connect_in before)) (list_any is_conclude before) m
-heard_comes before (heards.Accept a) m = tt
-heard_comes before heards.Refuse m = tt
-heard_comes before heards.Finish m = tt
-heard_comes before heards.Disconnect m = tt
+heard_comes before (heards.Accept a) m = absurd (false≢true m)
+heard_comes before heards.Refuse m = absurd (false≢true m)
+heard_comes before heards.Finish m =
+    held (is_some (first_in connect_in before)) (list_any is_conclude before) m
+heard_comes before heards.Disconnect m = absurd (false≢true m)
 heard_comes before heards.Abort m = tt
 heard_comes before heards.AbortAccept m = tt
 heard_comes before (heards.Pdu p) m = pdu_comes before p m

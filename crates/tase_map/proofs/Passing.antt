@@ -31,7 +31,7 @@ use Rattle.tase_map.proofs.Adding.{shown, other_adds}
 
 -- ---- behind a whole request
 
-behind_none : (turns : List Turn) → turns_behind turns 0 ≡ turns
+pub behind_none : (turns : List Turn) → turns_behind turns 0 ≡ turns
 behind_none [] = refl
 behind_none (asks invoke call ∷ turns) = asks_front invoke call turns 0 refl
 behind_none (offers title ∷ turns) = refl

@@ -88,7 +88,7 @@ pdu_offered pdus.InitiateError turns = refl
 pdu_offered pdus.Conclude turns = refl
 pdu_offered pdus.Concluded turns = refl
 
-offers_told : (told : List Told)
+pub offers_told : (told : List Told)
     → list_any offered (turns_heard told) ≡ is_some (first_in connect_in told)
 offers_told [] = refl
 offers_told (asked r ∷ told) = offers_told told

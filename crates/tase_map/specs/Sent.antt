@@ -1,5 +1,6 @@
 -- What a seat has asked in a history, and what an association is sent over it.
-use Rattle.std.specs.Prelude.{ℕ, ◌==◌, if◌then◌else◌, Bool, List, Option, Some, None}
+use Rattle.std.specs.Prelude.{◌≡◌, ℕ, ◌==◌, if◌then◌else◌, Bool, true, List, [], ◌∷◌, ◌++◌}
+use Rattle.std.specs.Prelude.{Option, Some, None}
 use Rattle.std.specs.List.{filter_map}
 use Rattle.bilateral.specs.Rows.{CentreRows}
 use Rattle.sbo_device.specs.declared.key.Key.{Key}
@@ -10,7 +11,7 @@ use Rattle.tase_views.specs.History.{Past}
 use Rattle.tase_views.specs.OwnTable.{own_table}
 use Rattle.tase_views.specs.View.{view_of}
 use Rattle.tase_map.specs.Readings.{reading_of}
-use Rattle.tase_map.specs.Turns.{Turn}
+use Rattle.tase_map.specs.Turns.{Turn, concludes, ends}
 use Rattle.tase_map.specs.Out.{talk_of, acts_made, turns_behind, octets_out}
 
 -- the event of an entry, where it is of this seat
@@ -30,6 +31,18 @@ sent rows past key text ended =
 abbrev pub turns_left : CentreRows → Past → Key → List ℕ → Bool → List Turn
 turns_left rows past key text ended = turns_behind (talk_of (reading_of text) ended).turns
     (acts_made key.ordinal (view_of rows key.peer past))
+
+-- every request that it has made stands in its text: were the link to end there, the end would come
+-- behind what is left
+abbrev pub AreInText : CentreRows → Past → Key → List ℕ → Type 0
+AreInText rows past key text =
+    (rest : List Turn) × (turns_left rows past key text true ≡ rest ++ ends ∷ [])
+
+-- what stands at the place of a close, and no text that comes changes what it is answered
+abbrev pub IsFixed : List Turn → Type 0
+IsFixed [] = ⊥
+IsFixed (concludes ∷ []) = ⊥
+IsFixed (turn ∷ turns) = Unit {0}
 
 -- an event that asks for no service
 abbrev pub IsQuiet : EventKind → Type 0

@@ -13,6 +13,6 @@ pub use laws::{calls_are_requests, replies_are_pdus};
 pub use octet_laws::{
     asking_goes_on, closed_associations_stay, each_entry_adds_its_octets,
     equal_worlds_give_equal_octets, events_come_in_turn, octets_tell_one_thing,
-    requests_are_taken_in_order, told_pdus_are_lawful,
+    requests_are_taken_in_order, requests_stand_in_texts, texts_grow, told_pdus_are_lawful,
 };
 pub use replies::{pdu_of, reply_of};

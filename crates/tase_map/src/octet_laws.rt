@@ -1,5 +1,6 @@
 //! What holds of all inputs, and of all octets that a peer is sent.
-ghost use Rattle.std.specs.Prelude.{◌≡◌, ◌≢◌, ℕ, ◌≤◌, Bool, true, List, [], ◌∷◌, ◌++◌, reverse};
+ghost use Rattle.std.specs.Prelude.{◌≡◌, ◌≢◌, ℕ, ◌≤◌, Bool, true, false, List, [], ◌∷◌, ◌++◌};
+ghost use Rattle.std.specs.Prelude.{reverse};
 ghost use Rattle.std.specs.Prelude.{Option, Some, None};
 ghost use Rattle.std.specs.List.{All};
 ghost use Rattle.stack_messages.specs.declared.fault.StackFault.{StackFault};
@@ -22,9 +23,11 @@ ghost use Rattle.tase_map.specs.Inputs.{Item, IsInput, text_of, has_ended};
 ghost use Rattle.tase_map.specs.Readings.{reading_of, Reads};
 ghost use Rattle.tase_map.specs.Asks.{asks_of, without_takes, AreInTurn};
 ghost use Rattle.tase_map.specs.Closed.{is_closed};
-ghost use Rattle.tase_map.specs.Out.{talk_of, reply_octets, close_octets, octets_out};
-ghost use Rattle.tase_map.specs.Sent.{events_by, sent, turns_left, IsQuiet, IsNoted};
-ghost use Rattle.tase_map.specs.Turns.{Turn, asks};
+ghost use Rattle.tase_map.specs.Out.{talk_of, end_turns, reply_octets, close_octets};
+ghost use Rattle.tase_map.specs.Out.{concluded_octets, octets_out};
+ghost use Rattle.tase_map.specs.Sent.{events_by, sent, turns_left, AreInText, IsFixed, IsQuiet};
+ghost use Rattle.tase_map.specs.Sent.{IsNoted};
+ghost use Rattle.tase_map.specs.Turns.{Turn, offers, asks, concludes, turns_told};
 
 /// What is read of octets is what they tell the called end, and nothing else is.
 pub fn octets_tell_one_thing()
@@ -122,6 +125,53 @@ pub fn requests_are_taken_in_order()
         (text : List ℕ) (ended : Bool) → key_at event past who ≢ Some key
         → turns_left rows (record { who = who; event = event } ∷ past) key text ended
         ≡ turns_left rows past key text ended }
+{}
+
+/// Every request of an association stands in its text: before its open, where the text begins with an
+/// offer; behind a request that stood first; and behind every other entry, and with more text, where
+/// they did.
+pub fn requests_stand_in_texts()
+    ensures yet { (rows : CentreRows) (past : Past) (key : Key) (text : List ℕ)
+        (title : Option (List ℕ)) (turns : List Turn) → opens_in past key.peer ≤ key.ordinal
+        → turns_told (reading_of text) ≡ offers title ∷ turns → AreInText rows past key text }
+    ensures request { (rows : CentreRows) (past : Past) (key : Key) (who invoke : ℕ)
+        (call : AnyCall) (later : List Turn) (text : List ℕ) → IsCall call
+        → key_at (Request call) past who ≡ Some key → AreInText rows past key text
+        → turns_left rows past key text false ≡ asks invoke call ∷ later
+        → AreInText rows (record { who = who; event = Request call } ∷ past) key text }
+    ensures quiet { (rows : CentreRows) (past : Past) (key : Key) (who : ℕ) (event : AnyEvent)
+        (text : List ℕ) → IsQuiet event → key_at event past who ≡ Some key
+        → AreInText rows past key text
+        → AreInText rows (record { who = who; event = event } ∷ past) key text }
+    ensures other { (rows : CentreRows) (past : Past) (key : Key) (who : ℕ) (event : AnyEvent)
+        (text : List ℕ) → key_at event past who ≢ Some key → AreInText rows past key text
+        → AreInText rows (record { who = who; event = event } ∷ past) key text }
+    ensures more { (rows : CentreRows) (past : Past) (key : Key) (text more : List ℕ)
+        → AreInText rows past key text → AreInText rows past key (text ++ more) }
+{}
+
+/// Where every request of an association stands in its text, as far as that has come, more text leaves
+/// more behind what it has left. Until the association is closed its peer is sent the same octets with
+/// the longer text; once it is, also where what stands at the place of its close is fixed, and, where a
+/// conclude stands there that is the last of the text, those that answer what follows it more.
+pub fn texts_grow()
+    ensures left { (rows : CentreRows) (past : Past) (key : Key) (text more : List ℕ)
+        (ended : Bool) → AreInText rows past key text → (later : List Turn)
+        × (turns_left rows past key (text ++ more) ended
+        ≡ turns_left rows past key text false ++ (later ++ end_turns ended)) }
+    ensures open { (rows : CentreRows) (past : Past) (key : Key) (text more : List ℕ)
+        (ended : Bool) → is_closed key past ≡ false → AreInText rows past key text
+        → sent rows past key (text ++ more) ended ≡ sent rows past key text false }
+    ensures fixed { (rows : CentreRows) (past : Past) (key : Key) (text more : List ℕ)
+        (ended : Bool) → is_closed key past ≡ true → AreInText rows past key text
+        → IsFixed (turns_left rows past key text false)
+        → sent rows past key (text ++ more) ended ≡ sent rows past key text false }
+    ensures concluded { (rows : CentreRows) (past : Past) (key : Key) (text more : List ℕ)
+        (ended : Bool) (later : List Turn) → is_closed key past ≡ true
+        → AreInText rows past key text → turns_left rows past key text false ≡ concludes ∷ []
+        → turns_left rows past key (text ++ more) ended ≡ concludes ∷ later
+        → sent rows past key (text ++ more) ended ≡ sent rows past key text false
+        ++ concluded_octets (talk_of (reading_of text) false).setup later }
 {}
 
 /// Once an association is closed, it has the same entries and its peer is sent the same octets over
