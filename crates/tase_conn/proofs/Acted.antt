@@ -1,0 +1,433 @@
+-- A step of a connection that acts on what was read.
+use Rattle.std.proofs.Common.{◌≡◌, ℕ, Bool, true, false, List, [], ◌∷◌, ◌++◌, Option, Some}
+use Rattle.std.proofs.Common.{None}
+use Rattle.std.proofs.Common.{refl, sym, ap, subst, ◌∙◌}
+use Rattle.std.specs.Prelude.{◌||◌, ◌&&◌, not, if◌then◌else◌, IfSome, MatchOption, is_some}
+use Rattle.std.specs.List.{list_any}
+use Rattle.std.proofs.lemmas.Bool.{false≢true}
+use Rattle.std.proofs.lemmas.List.{append-nil}
+use Rattle.std.proofs.lemmas.List.Folds.{list_any-append}
+use Rattle.bilateral.specs.Rows.{CentreRows}
+use Rattle.stack_messages.specs.declared.fault.StackFault.{StackFault}
+use Rattle.stack_wire.specs.declared.setup.Setup.{Setup}
+use Rattle.stack_assoc.specs.Told.{Told, called, first_in, connect_in}
+use Rattle.stack_assoc.specs.Expectations.{setup_after}
+use Rattle.stack_assoc.specs.Handing.{answers_to}
+use Rattle.tase_views.specs.declared.event.EventKind.{EventKind}
+use Rattle.tase_map.specs.Inputs.{Item, text_of}
+use Rattle.tase_map.specs.Readings.{reading_of}
+use Rattle.tase_map.specs.Turns.{Turn, turns_of}
+use Rattle.tase_map.specs.Asks.{begins, finishes, is_last, is_open, asks_at, asks_behind}
+use Rattle.tase_map.specs.Asks.{up_to_last}
+use Rattle.tase_conn.specs.declared.stage.ConnEnd.{ConnEnd}
+use Rattle.tase_conn.specs.declared.stage.ConnEnd.TheVariants as conn_ends
+use Rattle.tase_conn.specs.declared.stage.Stage.{Stage}
+use Rattle.tase_conn.specs.declared.stage.Behind.{Behind}
+use Rattle.tase_conn.specs.declared.stage.Behind.TheVariants as behinds
+use Rattle.tase_conn.specs.declared.stage.Coming.{Coming}
+use Rattle.tase_conn.specs.declared.stage.Asked.{Asked}
+use Rattle.tase_conn.specs.declared.stage.Asked.TheVariants as askeds
+use Rattle.tase_conn.specs.declared.stage.Progress.{Progress}
+use Rattle.tase_conn.specs.declared.stage.Progress.TheVariants as progresses
+use Rattle.tase_conn.specs.declared.stage.Step.TheVariants as steps
+use Rattle.tase_conn.specs.Talking.{Talking, pending_of, stage_peer}
+use Rattle.tase_conn.specs.Places.{StandsAt, Runs, GoesBy, EndsWith, EndsBy, IsCause}
+use Rattle.tase_conn.specs.Places.{RoomBy}
+use Rattle.tase_conn.specs.Places.{IsPeer, IsAgreed, IsAskedBy, HasRead, Begins, turn_coming}
+use Rattle.tase_conn.specs.Places.{listed}
+use Rattle.tase_conn.specs.Places.{turns_held, fault_held, fault_seen, has_begun, has_finished}
+use Rattle.tase_conn.specs.Places.{IsAskedAt, IsDue, IsPassed, is_ending, standing_by}
+use Rattle.tase_conn.specs.Places.{is_connected, has_concluded, ReadsBy}
+use Rattle.tase_conn.specs.Wanting.{quiet_at, quiet_behind, WaitsFor, IsIdle}
+use Rattle.tase_conn.specs.Acting.{HasEnded, Steps, holding}
+use Rattle.tase_conn.proofs.SeenTurns.{seen_front}
+
+-- ---- one turn more
+
+-- a test of turns, and of one more
+pub any_on : (p : Turn → Bool) (turns : List Turn) (turn : Turn) (b : Bool)
+    → list_any p turns ≡ b → list_any p (turns ++ turn ∷ []) ≡ (b || (p turn || false))
+any_on p turns turn b e =
+    list_any-append p turns (turn ∷ []) ∙ ap (λ (x : Bool). x || (p turn || false)) e
+
+last_cut : (rows : CentreRows) (x : Turn) (xs ys : List Turn) (b : Bool) → is_last rows x ≡ b
+    → b ≡ false → up_to_last rows xs ≡ ys → up_to_last rows (x ∷ xs) ≡ x ∷ ys
+last_cut rows x xs ys b is none e =
+    ap (λ (c : Bool). if c then x ∷ [] else x ∷ up_to_last rows xs) (is ∙ none)
+    ∙ ap (λ (ts : List Turn). x ∷ ts) e
+
+pub or_left : (a b : Bool) → (a || b) ≡ false → a ≡ false
+or_left true b e = e
+or_left false b e = refl
+
+pub or_right : (a b : Bool) → (a || b) ≡ false → b ≡ false
+or_right true b e = absurd (false≢true (sym e))
+or_right false b e = e
+
+-- nothing is kept behind the first turn behind which nothing follows
+pub cut_at_last : (rows : CentreRows) (front others : List Turn) (last : Turn)
+    → list_any (is_last rows) front ≡ false → is_last rows last ≡ true
+    → up_to_last rows ((front ++ last ∷ []) ++ others) ≡ front ++ last ∷ []
+cut_at_last rows [] others last goes is =
+    ap (λ (b : Bool). if b then last ∷ [] else last ∷ up_to_last rows others) is
+cut_at_last rows (x ∷ front) others last goes is =
+    last_cut rows x ((front ++ last ∷ []) ++ others) (front ++ last ∷ []) (is_last rows x) refl
+    (or_left (is_last rows x) (list_any (is_last rows) front) goes)
+    (cut_at_last rows front others last
+    (or_right (is_last rows x) (list_any (is_last rows) front) goes) is)
+
+-- where none is such, all are kept
+pub uncut : (rows : CentreRows) (turns : List Turn) → list_any (is_last rows) turns ≡ false
+    → up_to_last rows turns ≡ turns
+uncut rows [] goes = refl
+uncut rows (x ∷ turns) goes =
+    last_cut rows x turns turns (is_last rows x) refl
+    (or_left (is_last rows x) (list_any (is_last rows) turns) goes)
+    (uncut rows turns (or_right (is_last rows x) (list_any (is_last rows) turns) goes))
+
+-- ---- where it stands with something to be acted on
+
+-- it runs, with nothing waiting
+pub running_idle : (rows : CentreRows) (items : List Item) (told : List Told) (turns : List Turn)
+    (v : Talking) → IsIdle v.progress → StandsAt rows items told turns v
+    → Runs rows items told turns askeds.Nothing v
+running_idle rows items told turns v idle s =
+    subst (λ (p : Progress). GoesBy p rows items told turns v) idle s.goes
+
+-- whether the association is open
+pub open_by : (rows : CentreRows) (turns : List Turn) (stage : Stage)
+    → list_any (begins rows) turns ≡ has_begun stage askeds.Nothing
+    → list_any finishes turns ≡ has_finished stage askeds.Nothing
+    → is_open rows turns
+    ≡ (has_begun stage askeds.Nothing && not (has_finished stage askeds.Nothing))
+open_by rows turns stage b f =
+    ap (λ (x : Bool). x && not (list_any finishes turns)) b
+    ∙ ap (λ (x : Bool). has_begun stage askeds.Nothing && not x) f
+
+-- ---- an event is asked
+
+abbrev pub asking : Asked → Talking → Talking
+asking asked v = record v { progress = progresses.Running asked }
+
+-- a turn behind others
+abbrev pub ends_with : (rows : CentreRows) (turns : List Turn) (turn : Turn)
+    → list_any (is_last rows) turns ≡ false → EndsWith rows (turns ++ turn ∷ []) turn
+ends_with rows turns turn goes = record { front = turns; is = refl; goes = goes }
+
+-- what is to hold of a turn, and of the event that it asks for
+pub record Asking (rows : CentreRows) (told : List Told) (turns : List Turn) (turn : Turn)
+    (event : EventKind) (stage : Stage) (asked : Asked) (coming : Coming) : Type 0 where
+  pub turn_is : turn_coming coming ≡ Some turn
+  pub fault : fault_held (Some coming) ≡ fault_seen None asked
+  pub begun : (has_begun stage askeds.Nothing || (begins rows turn || false))
+      ≡ has_begun stage asked
+  pub finished : (has_finished stage askeds.Nothing || (finishes turn || false))
+      ≡ has_finished stage asked
+  pub ending : (is_last rows turn || false) ≡ is_ending asked
+  pub standing : standing_by stage askeds.Nothing (Some coming) ≡ standing_by stage asked None
+  pub connected : is_connected stage askeds.Nothing (Some coming)
+      ≡ is_connected stage asked None
+  pub concluded : has_concluded stage asked None ≡ true
+      → has_concluded stage askeds.Nothing (Some coming) ≡ true
+  pub agreed : IsAgreed told stage asked
+  pub last : IsAskedBy rows (turns ++ turn ∷ []) asked
+  pub asks_are : asks_at rows turns turn ≡ event ∷ []
+  pub quiet : (setup : Setup) → quiet_at rows setup turns turn ≡ []
+  pub waits : WaitsFor (progresses.Running asked) event
+  pub due : IsAskedAt asked stage None
+
+-- what was read stays read
+read_on : (b : Behind) (items : List Item) (told : List Told) (seen : List Turn)
+    (held : Option Coming) (progress : Progress) (v : Talking) → ReadsBy b items told seen v
+    → ReadsBy b items told seen (record v { held = held; progress = progress })
+read_on behinds.Nothing items told seen held progress v r = record {
+  told_is = r.told_is;
+  unbroken = r.unbroken;
+  seen_is = r.seen_is;
+  settled = r.settled;
+}
+read_on behinds.Pause items told seen held progress v r = record {
+  done = r.done;
+  item = r.item;
+  is = r.is;
+  behind = r.behind;
+  later = r.later;
+  told_is = r.told_is;
+  unbroken = r.unbroken;
+  seen_is = r.seen_is;
+}
+read_on behinds.End items told seen held progress v r = record {
+  done = r.done;
+  item = r.item;
+  is = r.is;
+  behind = r.behind;
+  later = r.later;
+  told_is = r.told_is;
+  unbroken = r.unbroken;
+  seen_is = r.seen_is;
+}
+
+has_read_by : (f : Option StackFault) (items : List Item) (told : List Told) (seen : List Turn)
+    (held : Option Coming) (progress : Progress) (v : Talking) → v.course.fault ≡ f
+    → HasRead items told seen v
+    → HasRead items told seen (record v { held = held; progress = progress })
+has_read_by None items told seen held progress v e r =
+    let P : Option StackFault → Type 0 = λ x. MatchOption x (ReadsBy v.behind items told seen v)
+    (λ fault. Begins seen (turns_of items)) in
+    let Q : Option StackFault → Type 0 = λ x. MatchOption x
+    (ReadsBy v.behind items told seen (record v { held = held; progress = progress }))
+    (λ fault. Begins seen (turns_of items)) in
+    subst Q (sym e) (read_on v.behind items told seen held progress v (subst P e r))
+has_read_by (Some f) items told seen held progress v e r =
+    let P : Option StackFault → Type 0 = λ x. MatchOption x (ReadsBy v.behind items told seen v)
+    (λ fault. Begins seen (turns_of items)) in
+    let Q : Option StackFault → Type 0 = λ x. MatchOption x
+    (ReadsBy v.behind items told seen (record v { held = held; progress = progress }))
+    (λ fault. Begins seen (turns_of items)) in
+    subst Q (sym e) (subst P e r)
+
+-- and what was held was seen
+pub has_read : (items : List Item) (told : List Told) (turns more : List Turn)
+    (held : Option Coming) (progress : Progress) (v : Talking) (coming : Coming)
+    → listed (turn_coming coming) ≡ more
+    → HasRead items told (turns ++ turns_held (Some coming)) v
+    → HasRead items told ((turns ++ more) ++ []) (record v { held = held; progress = progress })
+has_read items told turns more held progress v coming is r =
+    has_read_by v.course.fault items told ((turns ++ more) ++ []) held progress v refl
+    (subst (λ (ts : List Turn). HasRead items told ts v)
+    (ap (λ (ts : List Turn). turns ++ ts) is ∙ sym (append-nil (turns ++ more))) r)
+
+runs_asking : (rows : CentreRows) (items : List Item) (told : List Told) (turns : List Turn)
+    (turn : Turn) (event : EventKind) (stage : Stage) (asked : Asked) (coming : Coming)
+    (v : Talking) → v.stage ≡ stage → v.held ≡ None
+    → Asking rows told turns turn event stage asked coming
+    → Runs rows items told turns askeds.Nothing (holding coming v)
+    → Runs rows items told (turns ++ turn ∷ []) asked (asking asked v)
+runs_asking rows items told turns turn event stage asked coming v at empty a r =
+    let held : (P : Option Coming → Type 0) → P None → P v.held = λ P p. subst P (sym empty) p in
+    let on : (P : Stage → Type 0) → P stage → P v.stage = λ P p. subst P (sym at) p in
+    let off : (P : Stage → Type 0) → P v.stage → P stage = λ P p. subst P at p in
+    record {
+      stands = r.stands;
+      fault = r.fault ∙ a.fault
+          ∙ ap (λ (h : Option Coming). fault_seen h asked) (sym empty);
+      reads = held (λ h. HasRead items told ((turns ++ turn ∷ []) ++ turns_held h) (asking asked v))
+          (has_read items told turns (turn ∷ []) v.held (progresses.Running asked)
+          (holding coming v) coming (ap (λ (t : Option Turn). listed t) a.turn_is) r.reads);
+      due = held (λ h. IfSome h (IsDue told v.stage)) tt;
+      passed = held (λ h. IsPassed h v.behind) tt;
+      begun = on (λ s. list_any (begins rows) (turns ++ turn ∷ []) ≡ has_begun s asked)
+          (any_on (begins rows) turns turn (has_begun stage askeds.Nothing)
+          (off (λ s. list_any (begins rows) turns ≡ has_begun s askeds.Nothing) r.begun)
+          ∙ a.begun);
+      finished = on (λ s. list_any finishes (turns ++ turn ∷ []) ≡ has_finished s asked)
+          (any_on finishes turns turn (has_finished stage askeds.Nothing)
+          (off (λ s. list_any finishes turns ≡ has_finished s askeds.Nothing) r.finished)
+          ∙ a.finished);
+      ending = any_on (is_last rows) turns turn false r.ending ∙ a.ending;
+      standing = r.standing ∙ ap (λ (s : Stage). standing_by s askeds.Nothing (Some coming)) at
+          ∙ a.standing ∙ ap (λ (s : Stage). standing_by s asked None) (sym at)
+          ∙ ap (λ (h : Option Coming). standing_by v.stage asked h) (sym empty);
+      connected = r.connected ∙ ap (λ (s : Stage). is_connected s askeds.Nothing (Some coming)) at
+          ∙ a.connected ∙ ap (λ (s : Stage). is_connected s asked None) (sym at)
+          ∙ ap (λ (h : Option Coming). is_connected v.stage asked h) (sym empty);
+      concluded = λ c. r.concluded
+          (ap (λ (s : Stage). has_concluded s askeds.Nothing (Some coming)) at
+          ∙ a.concluded (ap (λ (s : Stage). has_concluded s asked None) (sym at)
+          ∙ ap (λ (h : Option Coming). has_concluded v.stage asked h) (sym empty) ∙ c));
+      agreed = on (λ s. IsAgreed told s asked) a.agreed;
+      last = a.last;
+      waits = held (λ h. IsAskedAt asked v.stage h) (on (λ s. IsAskedAt asked s None) a.due);
+    }
+
+-- it steps to an event
+pub asks_event : (rows : CentreRows) (items : List Item) (told : List Told) (turns : List Turn)
+    (turn : Turn) (event : EventKind) (stage : Stage) (asked : Asked) (coming : Coming)
+    (v : Talking) → v.stage ≡ stage → v.held ≡ None → IsIdle v.progress
+    → (Runs rows items told turns askeds.Nothing (holding coming v)
+    → Asking rows told turns turn event stage asked coming)
+    → StandsAt rows items told turns (holding coming v)
+    → Steps rows items told turns (steps.Asks event) (holding coming v) (asking asked v)
+asks_event rows items told turns turn event stage asked coming v at empty idle makes s =
+    let r = running_idle rows items told turns (holding coming v) idle s in
+    let a = makes r in
+    let room : RoomBy (progresses.Running askeds.Nothing) (holding coming v) =
+    subst (λ (p : Progress). RoomBy p (holding coming v)) idle s.room in (
+      a.waits,
+      record {
+        more = turn ∷ [];
+        stands = record {
+          rows_are = s.rows_are;
+          peer = s.peer;
+          goes = runs_asking rows items told turns turn event stage asked coming v at empty a r;
+          room = record { room = room.room; unsaid = room.unsaid };
+        };
+        asks_are = append-nil (asks_at rows turns turn) ∙ a.asks_are;
+        said = sym (append-nil (pending_of v))
+            ∙ ap (λ (os : List ℕ). pending_of v ++ os)
+            (sym (append-nil (quiet_at rows (setup_after told) turns turn)
+            ∙ a.quiet (setup_after told)));
+      },
+    )
+
+-- ---- it ends
+
+-- all messages that are answered at once were told, and an offer that was declined
+pub record HasToldAll (items : List Item) (told : List Told) (end : ConnEnd) : Type 0 where
+  pub answered : answers_to called told ≡ answers_to called (reading_of (text_of items)).told
+  pub fixed : end ≡ conn_ends.Declined
+      → (setup_after told ≡ setup_after (reading_of (text_of items)).told)
+      × (is_some (first_in connect_in (reading_of (text_of items)).told) ≡ true)
+
+-- what is to hold of a turn that ends the connection, and of the octets that were said
+pub record Ending (rows : CentreRows) (items : List Item) (told : List Told) (turns : List Turn)
+    (turn : Turn) (end : ConnEnd) (octets : List ℕ) (coming : Coming) : Type 0 where
+  pub turn_is : turn_coming coming ≡ Some turn
+  pub is_last : is_last rows turn ≡ true
+  pub cause : IsCause rows items end turn
+  pub asks_are : asks_at rows turns turn ≡ []
+  pub said : quiet_at rows (setup_after told) turns turn ≡ octets
+  pub told_all : HasToldAll items told end
+
+-- how it stands then
+pub record Ended (end : ConnEnd) (octets : List ℕ) (old new : Talking) : Type 0 where
+  pub rows : new.rows ≡ old.rows
+  pub stage : new.stage ≡ old.stage
+  pub progress : new.progress ≡ progresses.Ended end
+  pub behind : new.behind ≡ behinds.Nothing
+  pub held : new.held ≡ None
+  pub said : pending_of new ≡ pending_of old ++ octets
+
+ended_by : (rows : CentreRows) (items : List Item) (told : List Told) (turns : List Turn)
+    (turn : Turn) (end : ConnEnd) (octets : List ℕ) (coming : Coming) (v : Talking)
+    → Ending rows items told turns turn end octets coming
+    → Runs rows items told turns askeds.Nothing (holding coming v)
+    → EndsBy rows items told (turns ++ turn ∷ []) end
+ended_by rows items told turns turn end octets coming v e r =
+    let f = seen_front rows items told turns askeds.Nothing (holding coming v) r in
+    let is : listed (turn_coming coming) ≡ turn ∷ [] =
+    ap (λ (t : Option Turn). listed t) e.turn_is in
+    record {
+      done = items;
+      dropped = [];
+      items_are = sym (append-nil items);
+      answered = e.told_all.answered;
+      fixed = e.told_all.fixed;
+      last = turn;
+      ends = record { front = turns; is = refl; goes = r.ending };
+      cause = e.cause;
+      whole = ap (λ (ts : List Turn). up_to_last rows ts) f.1
+          ∙ ap (λ (ts : List Turn). up_to_last rows ((turns ++ ts) ++ f.0)) is
+          ∙ cut_at_last rows turns f.0 turn r.ending e.is_last;
+    }
+
+-- it steps to its end
+pub ends_step : (rows : CentreRows) (items : List Item) (told : List Told) (turns : List Turn)
+    (turn : Turn) (end : ConnEnd) (octets : List ℕ) (coming : Coming) (v new : Talking)
+    → IsIdle v.progress → Ended end octets v new
+    → (Runs rows items told turns askeds.Nothing (holding coming v)
+    → Ending rows items told turns turn end octets coming)
+    → StandsAt rows items told turns (holding coming v)
+    → Steps rows items told turns steps.Ends (holding coming v) new
+ends_step rows items told turns turn end octets coming v new idle n makes s =
+    let r = running_idle rows items told turns (holding coming v) idle s in
+    let e = makes r in
+    let on : (P : Progress → Type 0) → P (progresses.Ended end) → P new.progress =
+    λ P p. subst P (sym n.progress) p in (
+      on (λ p. HasEnded p) tt,
+      record {
+        more = turn ∷ [];
+        stands = record {
+          rows_are = n.rows ∙ s.rows_are;
+          peer = subst (λ (x : Stage). IfSome (stage_peer x) (IsPeer rows)) (sym n.stage) s.peer;
+          goes = on (λ p. GoesBy p rows items told (turns ++ turn ∷ []) new) (
+            ended_by rows items told turns turn end octets coming v e r,
+            record { read = n.behind; acted = n.held },
+          );
+          room = on (λ p. RoomBy p new) tt;
+        };
+        asks_are = append-nil (asks_at rows turns turn) ∙ e.asks_are;
+        said = n.said ∙ ap (λ (os : List ℕ). pending_of v ++ os)
+            (sym (append-nil (quiet_at rows (setup_after told) turns turn) ∙ e.said));
+      },
+    )
+
+-- ---- it goes on
+
+-- what is to hold where nothing is asked and nothing ends: no turn, or a pause with none open
+pub record Passing (rows : CentreRows) (turns more : List Turn) (stage : Stage)
+    (coming : Coming) : Type 0 where
+  pub turns_are : listed (turn_coming coming) ≡ more
+  pub fault : fault_held (Some coming) ≡ None
+  pub begun : list_any (begins rows) (turns ++ more) ≡ has_begun stage askeds.Nothing
+  pub finished : list_any finishes (turns ++ more) ≡ has_finished stage askeds.Nothing
+  pub ending : list_any (is_last rows) (turns ++ more) ≡ false
+  pub standing : standing_by stage askeds.Nothing (Some coming)
+      ≡ standing_by stage askeds.Nothing None
+  pub connected : is_connected stage askeds.Nothing (Some coming)
+      ≡ is_connected stage askeds.Nothing None
+  pub concluded : has_concluded stage askeds.Nothing None ≡ true
+      → has_concluded stage askeds.Nothing (Some coming) ≡ true
+  pub asks_are : asks_behind rows turns more ≡ []
+  pub quiet : (setup : Setup) → quiet_behind rows setup turns more ≡ []
+
+runs_passing : (rows : CentreRows) (items : List Item) (told : List Told) (turns more : List Turn)
+    (coming : Coming) (v : Talking) → v.held ≡ None
+    → Passing rows turns more v.stage coming
+    → Runs rows items told turns askeds.Nothing (holding coming v)
+    → Runs rows items told (turns ++ more) askeds.Nothing v
+runs_passing rows items told turns more coming v empty a r =
+    let held : (P : Option Coming → Type 0) → P None → P v.held = λ P p. subst P (sym empty) p in
+    record {
+      stands = r.stands;
+      fault = held (λ h. v.course.fault ≡ fault_seen h askeds.Nothing) (r.fault ∙ a.fault);
+      reads = held (λ h. HasRead items told ((turns ++ more) ++ turns_held h) v)
+          (has_read items told turns more v.held v.progress (holding coming v) coming a.turns_are
+          r.reads);
+      due = held (λ h. IfSome h (IsDue told v.stage)) tt;
+      passed = held (λ h. IsPassed h v.behind) tt;
+      begun = a.begun;
+      finished = a.finished;
+      ending = a.ending;
+      standing = held (λ h. v.course.standing ≡ standing_by v.stage askeds.Nothing h)
+          (r.standing ∙ a.standing);
+      connected = held (λ h. is_some (first_in connect_in told)
+          ≡ is_connected v.stage askeds.Nothing h) (r.connected ∙ a.connected);
+      concluded = λ c. r.concluded (a.concluded
+          (ap (λ (h : Option Coming). has_concluded v.stage askeds.Nothing h) (sym empty) ∙ c));
+      agreed = r.agreed;
+      last = tt;
+      waits = tt;
+    }
+
+-- it steps on
+pub goes_step : (rows : CentreRows) (items : List Item) (told : List Told)
+    (turns more : List Turn) (coming : Coming) (v : Talking) → v.held ≡ None
+    → IsIdle v.progress
+    → (Runs rows items told turns askeds.Nothing (holding coming v)
+    → Passing rows turns more v.stage coming)
+    → StandsAt rows items told turns (holding coming v)
+    → Steps rows items told turns steps.GoesOn (holding coming v) v
+goes_step rows items told turns more coming v empty idle makes s =
+    let r = running_idle rows items told turns (holding coming v) idle s in
+    let a = makes r in
+    let on : (P : Progress → Type 0) → P (progresses.Running askeds.Nothing) → P v.progress =
+    λ P p. subst P (sym idle) p in
+    let runs = runs_passing rows items told turns more coming v empty a r in
+    let room : RoomBy (progresses.Running askeds.Nothing) (holding coming v) =
+    subst (λ (p : Progress). RoomBy p (holding coming v)) idle s.room in
+    record {
+      later = [];
+      more = more;
+      stands = record {
+        rows_are = s.rows_are;
+        peer = s.peer;
+        goes = on (λ p. GoesBy p rows items (told ++ []) (turns ++ more) v)
+            (subst (λ (ts : List Told). Runs rows items ts (turns ++ more) askeds.Nothing v)
+            (sym (append-nil told)) runs);
+        room = on (λ p. RoomBy p v) (record { room = room.room; unsaid = room.unsaid });
+      };
+      asks_are = a.asks_are;
+      quiet = a.quiet;
+      said = sym (append-nil (pending_of v));
+    }

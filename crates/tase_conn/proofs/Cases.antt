@@ -1,0 +1,523 @@
+-- What each kind of thing that was read asks for, or how it ends the connection.
+use Rattle.std.proofs.Common.{◌≡◌, ℕ, Bool, true, false, List, [], ◌∷◌, ◌++◌, Option, Some}
+use Rattle.std.proofs.Common.{None}
+use Rattle.std.proofs.Common.{ℤ, pos, int_lt, ◌<ℤ◌, arith, refl, sym, ap, subst, ◌∙◌, inl, inr}
+use Rattle.std.specs.Prelude.{◌⊎◌, ◌||◌, ◌&&◌, not, if◌then◌else◌, MatchOption, is_some}
+use Rattle.std.specs.List.{list_any}
+use Rattle.std.proofs.lemmas.Bool.{false≢true}
+use Rattle.std.proofs.lemmas.Int.{ints}
+use Rattle.std.proofs.lemmas.List.{append-nil}
+use Rattle.bilateral.specs.Rows.{CentreRows, place_of_title}
+use Rattle.mms_services.specs.Negotiations.{granted, IsTooLittle, IsBelow}
+use Rattle.mms_services.specs.declared.initiate.TheConstants.{LEAST_DETAIL}
+use Rattle.mms_services.specs.declared.initiate.Initiate.{Initiate}
+use Rattle.mms_services.specs.declared.pdu.MmsPdu.{MmsPdu}
+use Rattle.mms_services.specs.declared.pdu.MmsPdu.TheVariants as pdus
+use Rattle.mms_services.specs.declared.request.Request.{Request}
+use Rattle.stack_messages.specs.declared.fault.StackFault.{StackFault}
+use Rattle.stack_wire.specs.declared.setup.Setup.{Setup}
+use Rattle.stack_assoc.specs.declared.input.StackIn.TheVariants as inputs
+use Rattle.stack_assoc.specs.Told.{Told, called}
+use Rattle.stack_assoc.specs.Courses.{Stands, is_accepted}
+use Rattle.stack_assoc.specs.Courses as courses
+use Rattle.stack_assoc.specs.Tellings.{Stops}
+use Rattle.stack_assoc.specs.Handing.{is_below, is_too_little}
+use Rattle.stack_assoc.specs.Expectations.{setup_after}
+use Rattle.tase_views.specs.declared.event.EventKind.TheVariants as events
+use Rattle.tase_map.specs.Asked.{call_in, invalid}
+use Rattle.tase_map.specs.Inputs.{Item, text_of}
+use Rattle.tase_map.specs.Readings.{reading_of}
+use Rattle.tase_map.specs.Turns.{Turn, offers, offers_badly, asks, concludes, releases, aborts}
+use Rattle.tase_map.specs.Turns.{breaks, ends, pauses, turn_of_pdu}
+use Rattle.tase_map.specs.Asks.{begins, finishes, is_last, is_open, open_of, event_if}
+use Rattle.tase_map.specs.Out.{abort_octets, release_octets}
+use Rattle.tase_map.proofs.Fronts.{setup_fixed}
+use Rattle.tase_map.proofs.ReadingLaws.{reading_only}
+use Rattle.tase_conn.specs.declared.stage.ConnEnd.TheVariants as conn_ends
+use Rattle.tase_conn.specs.declared.stage.Stage.{Stage}
+use Rattle.tase_conn.specs.declared.stage.Stage.TheVariants as stages
+use Rattle.tase_conn.specs.declared.stage.Coming.TheVariants as comings
+use Rattle.tase_conn.specs.declared.stage.Cause.{Cause}
+use Rattle.tase_conn.specs.declared.stage.Cause.TheVariants as causes
+use Rattle.tase_conn.specs.declared.stage.Asked.TheVariants as askeds
+use Rattle.tase_conn.specs.Talking.{Talking}
+use Rattle.tase_conn.specs.Places.{Runs, InputIsDue, PduIsDue, IsAgreed, has_begun}
+use Rattle.tase_conn.specs.Places.{has_finished}
+use Rattle.tase_conn.specs.Places.{is_connected, standing_by, turn_for, has_concluded, listed}
+use Rattle.tase_conn.specs.Wanting.{behind_close, refusal_said}
+use Rattle.tase_conn.specs.Acting.{coming_by}
+use Rattle.tase_conn.proofs.Acted.{HasToldAll, ends_with, Asking, Ending, Passing, any_on}
+use Rattle.tase_conn.proofs.Acted.{open_by, or_left, or_right}
+
+-- ---- an offer
+
+pub asks_open : (rows : CentreRows) (told : List Told) (turns : List Turn)
+    (title : Option (List ℕ)) (initiate offered : Initiate) (peer : ℕ) (stage : Stage)
+    → InputIsDue told stage (inputs.Offer title initiate)
+    → place_of_title rows title ≡ Some peer → offered ≡ granted initiate
+    → list_any (is_last rows) turns ≡ false
+    → Asking rows told turns (offers title) (events.Open peer) stage (askeds.Opening peer offered)
+    (comings.Input (inputs.Offer title initiate))
+asks_open rows told turns title initiate offered peer stages.Early due place g goes = record {
+  turn_is = refl;
+  fault = refl;
+  begun = ap (λ (p : Option ℕ). false || (is_some p || false)) place;
+  finished = refl;
+  ending = ap (λ (p : Option ℕ). not (is_some p) || false) place;
+  standing = refl;
+  connected = refl;
+  concluded = λ c. absurd (false≢true c);
+  agreed = record {
+    connect = due.connect;
+    first = due.first;
+    is = g ∙ ap (λ (i : Initiate). granted i) (sym due.initiate_is);
+  };
+  last = (title, ends_with rows turns (offers title) goes, place);
+  asks_are = ap (λ (p : Option ℕ). open_of p) place;
+  quiet = λ setup. ap (λ (p : Option ℕ). if is_some p then [] else refusal_said setup) place;
+  waits = refl;
+  due = tt;
+}
+asks_open rows told turns title initiate offered peer (stages.Open p d) due place g goes =
+    absurd due
+asks_open rows told turns title initiate offered peer (stages.Closed p) due place g goes =
+    absurd due
+
+no_less : (a b : ℤ) → int_lt a b ≡ false → a <ℤ b → ⊥
+no_less a b e h = omega (arith, ints)
+
+no_below : (least : ℤ) (number : Option ℤ) → is_below least number ≡ false
+    → IsBelow least number → ⊥
+no_below least None e h = h
+no_below least (Some number) e h = no_less number least e h
+
+-- where enough is offered something is granted
+pub is_enough : (i : Initiate) → is_too_little i ≡ false → IsTooLittle i → ⊥
+is_enough i e h = elim h [
+  | inl h ↦ no_less i.version (pos 1) (or_left version (calling || (called || rest)) e) h
+  | inr (inl h) ↦ no_less i.calling (pos 1) (or_left calling (called || rest) more) h
+  | inr (inr (inl h)) ↦ no_less i.called (pos 1) (or_left called rest most) h
+  | inr (inr (inr (inl h))) ↦ no_below LEAST_DETAIL i.detail (or_left detail nesting last) h
+  | inr (inr (inr (inr h))) ↦ no_below (pos 1) i.nesting (or_right detail nesting last) h
+]
+  where
+    version : Bool
+    version = int_lt i.version (pos 1)
+
+    calling : Bool
+    calling = int_lt i.calling (pos 1)
+
+    called : Bool
+    called = int_lt i.called (pos 1)
+
+    detail : Bool
+    detail = is_below LEAST_DETAIL i.detail
+
+    nesting : Bool
+    nesting = is_below (pos 1) i.nesting
+
+    rest : Bool
+    rest = detail || nesting
+
+    more : (calling || (called || rest)) ≡ false
+    more = or_right version (calling || (called || rest)) e
+
+    most : (called || rest) ≡ false
+    most = or_right calling (called || rest) more
+
+    last : rest ≡ false
+    last = or_right called rest most
+
+-- ---- what an open association asks for
+
+pub asks_request : (rows : CentreRows) (told : List Told) (turns : List Turn) (invoke : ℕ)
+    (request : Request) (stage : Stage)
+    → PduIsDue stage (pdus.Request invoke request) → IsAgreed told stage askeds.Nothing
+    → list_any (is_last rows) turns ≡ false
+    → Asking rows told turns (asks invoke (call_in request)) (events.Request (call_in request))
+    stage (askeds.Requesting invoke) (comings.Input (inputs.Pdu (pdus.Request invoke request)))
+asks_request rows told turns invoke request stages.Early due agreed goes = absurd cc
+asks_request rows told turns invoke request (stages.Closed p) due agreed goes = absurd cc
+asks_request rows told turns invoke request (stages.Open p d) due agreed goes = record {
+  turn_is = refl;
+  fault = refl;
+  begun = refl;
+  finished = refl;
+  ending = refl;
+  standing = refl;
+  connected = refl;
+  concluded = λ c. absurd (false≢true c);
+  agreed = agreed;
+  last = (call_in request, ends_with rows turns (asks invoke (call_in request)) goes);
+  asks_are = refl;
+  quiet = λ setup. refl;
+  waits = tt;
+  due = tt;
+}
+
+pub asks_badly : (rows : CentreRows) (told : List Told) (turns : List Turn) (invoke : ℕ)
+    (stage : Stage) → InputIsDue told stage (inputs.BadRequest invoke)
+    → IsAgreed told stage askeds.Nothing → list_any (is_last rows) turns ≡ false
+    → Asking rows told turns (asks invoke invalid) (events.Request invalid) stage
+    (askeds.Requesting invoke) (comings.Input (inputs.BadRequest invoke))
+asks_badly rows told turns invoke stages.Early due agreed goes = absurd due
+asks_badly rows told turns invoke (stages.Closed p) due agreed goes = absurd due
+asks_badly rows told turns invoke (stages.Open p d) due agreed goes = record {
+  turn_is = refl;
+  fault = refl;
+  begun = refl;
+  finished = refl;
+  ending = refl;
+  standing = refl;
+  connected = refl;
+  concluded = λ c. absurd (false≢true c);
+  agreed = agreed;
+  last = (invalid, ends_with rows turns (asks invoke invalid) goes);
+  asks_are = refl;
+  quiet = λ setup. refl;
+  waits = tt;
+  due = tt;
+}
+
+pub asks_take : (rows : CentreRows) (told : List Told) (turns : List Turn) (peer : ℕ) (detail : ℤ)
+    → IsAgreed told (stages.Open peer detail) askeds.Nothing → is_open rows turns ≡ true
+    → list_any (is_last rows) turns ≡ false
+    → Asking rows told turns pauses events.Take (stages.Open peer detail) askeds.Taking
+    comings.Pause
+asks_take rows told turns peer detail agreed is goes = record {
+  turn_is = refl;
+  fault = refl;
+  begun = refl;
+  finished = refl;
+  ending = refl;
+  standing = refl;
+  connected = refl;
+  concluded = λ c. absurd (false≢true c);
+  agreed = agreed;
+  last = ends_with rows turns pauses goes;
+  asks_are = ap (λ (b : Bool). event_if b events.Take) is;
+  quiet = λ setup. refl;
+  waits = tt;
+  due = tt;
+}
+
+close_for : (b : Bool) → b ≡ true → event_if b events.Close ≡ events.Close ∷ []
+close_for b e = ap (λ (x : Bool). event_if x events.Close) e
+
+quiet_open : (rows : CentreRows) (turns : List Turn) (octets : List ℕ)
+    → is_open rows turns ≡ true → behind_close rows turns octets ≡ []
+quiet_open rows turns octets e = ap (λ (b : Bool). if b then [] else
+    (if list_any (begins rows) turns then octets else [])) e
+
+-- its close
+pub asks_close : (rows : CentreRows) (told : List Told) (turns : List Turn) (cause : Cause)
+    (peer : ℕ) (detail : ℤ) → IsAgreed told (stages.Open peer detail) askeds.Nothing
+    → is_open rows turns ≡ true → list_any (is_last rows) turns ≡ false
+    → list_any finishes turns ≡ false
+    → Asking rows told turns (turn_for cause) events.Close (stages.Open peer detail)
+    (askeds.Closing cause) (coming_by cause)
+asks_close rows told turns causes.Concluded peer detail agreed is goes shut = record {
+  turn_is = refl;
+  fault = refl;
+  begun = refl;
+  finished = refl;
+  ending = refl;
+  standing = refl;
+  connected = refl;
+  concluded = λ c. refl;
+  agreed = agreed;
+  last = (ends_with rows turns concludes goes, shut);
+  asks_are = close_for (is_open rows turns) is;
+  quiet = λ setup. refl;
+  waits = tt;
+  due = tt;
+}
+asks_close rows told turns causes.Released peer detail agreed is goes shut = record {
+  turn_is = refl;
+  fault = refl;
+  begun = refl;
+  finished = refl;
+  ending = refl;
+  standing = refl;
+  connected = refl;
+  concluded = λ c. absurd (false≢true c);
+  agreed = agreed;
+  last = (ends_with rows turns releases goes, shut);
+  asks_are = close_for (is_open rows turns) is;
+  quiet = λ setup. quiet_open rows turns (release_octets setup) is;
+  waits = tt;
+  due = tt;
+}
+asks_close rows told turns causes.Aborted peer detail agreed is goes shut = record {
+  turn_is = refl;
+  fault = refl;
+  begun = refl;
+  finished = refl;
+  ending = refl;
+  standing = refl;
+  connected = refl;
+  concluded = λ c. absurd (false≢true c);
+  agreed = agreed;
+  last = (ends_with rows turns aborts goes, shut);
+  asks_are = close_for (is_open rows turns) is;
+  quiet = λ setup. refl;
+  waits = tt;
+  due = tt;
+}
+asks_close rows told turns causes.LinkEnd peer detail agreed is goes shut = record {
+  turn_is = refl;
+  fault = refl;
+  begun = refl;
+  finished = refl;
+  ending = refl;
+  standing = refl;
+  connected = refl;
+  concluded = λ c. absurd (false≢true c);
+  agreed = agreed;
+  last = (ends_with rows turns ends goes, shut);
+  asks_are = close_for (is_open rows turns) is;
+  quiet = λ setup. refl;
+  waits = tt;
+  due = tt;
+}
+asks_close rows told turns (causes.Broken fault) peer detail agreed is goes shut = record {
+  turn_is = refl;
+  fault = refl;
+  begun = refl;
+  finished = refl;
+  ending = refl;
+  standing = refl;
+  connected = refl;
+  concluded = λ c. absurd (false≢true c);
+  agreed = agreed;
+  last = (ends_with rows turns breaks goes, shut);
+  asks_are = close_for (is_open rows turns) is;
+  quiet = λ setup. quiet_open rows turns (abort_octets setup) is;
+  waits = tt;
+  due = tt;
+}
+
+-- ---- what ends the connection
+
+-- what the connect fixed is known once it has come
+pub setup_known : (rows : CentreRows) (items : List Item) (told : List Told) (turns : List Turn)
+    (v : Talking) → Runs rows items told turns askeds.Nothing v
+    → is_connected v.stage askeds.Nothing v.held ≡ true → v.course.setup ≡ setup_after told
+setup_known rows items told turns v r is =
+    (setup_fixed (text_of items) told v.course r.stands (r.connected ∙ is)).0
+
+pub declines_offer : (rows : CentreRows) (items : List Item) (told : List Told)
+    (turns : List Turn) (title : Option (List ℕ)) (initiate : Initiate) (setup : Setup)
+    → place_of_title rows title ≡ None → setup ≡ setup_after told
+    → HasToldAll items told conn_ends.Declined
+    → Ending rows items told turns (offers title) conn_ends.Declined (refusal_said setup)
+    (comings.Input (inputs.Offer title initiate))
+declines_offer rows items told turns title initiate setup place known all = record {
+  told_all = all;
+  turn_is = refl;
+  is_last = ap (λ (p : Option ℕ). not (is_some p)) place;
+  cause = ap (λ (p : Option ℕ). is_some p) place;
+  asks_are = ap (λ (p : Option ℕ). open_of p) place;
+  said = ap (λ (p : Option ℕ). if is_some p then [] else refusal_said (setup_after told)) place
+      ∙ ap (λ (s : Setup). refusal_said s) (sym known);
+}
+
+pub declines_badly : (rows : CentreRows) (items : List Item) (told : List Told)
+    (turns : List Turn) (setup : Setup) → setup ≡ setup_after told
+    → HasToldAll items told conn_ends.Declined
+    → Ending rows items told turns offers_badly conn_ends.Declined (refusal_said setup)
+    (comings.Input inputs.BadOffer)
+declines_badly rows items told turns setup known all = record {
+  told_all = all;
+  turn_is = refl;
+  is_last = refl;
+  cause = refl;
+  asks_are = refl;
+  said = ap (λ (s : Setup). refusal_said s) (sym known);
+}
+
+none_for : (b : Bool) → b ≡ false → event_if b events.Close ≡ []
+none_for b e = ap (λ (x : Bool). event_if x events.Close) e
+
+-- behind the close of an association it is said, before its open nothing is
+said_closed : (rows : CentreRows) (turns : List Turn) (octets : List ℕ) (b : Bool)
+    → is_open rows turns ≡ false → list_any (begins rows) turns ≡ b
+    → behind_close rows turns octets ≡ (if b then octets else [])
+said_closed rows turns octets b e f =
+    ap (λ (x : Bool). if x then [] else (if list_any (begins rows) turns then octets else [])) e
+    ∙ ap (λ (x : Bool). if x then octets else []) f
+
+pub ends_released : (rows : CentreRows) (items : List Item) (told : List Told)
+    (turns : List Turn) (setup : Setup) → setup ≡ setup_after told
+    → is_open rows turns ≡ false → list_any (begins rows) turns ≡ true
+    → HasToldAll items told conn_ends.Finished
+    → Ending rows items told turns releases conn_ends.Finished (release_octets setup)
+    (coming_by causes.Released)
+ends_released rows items told turns setup known e f all = record {
+  told_all = all;
+  turn_is = refl;
+  is_last = refl;
+  cause = refl;
+  asks_are = none_for (is_open rows turns) e;
+  said = said_closed rows turns (release_octets (setup_after told)) true e f
+      ∙ ap (λ (s : Setup). release_octets s) (sym known);
+}
+
+pub ends_aborted : (rows : CentreRows) (items : List Item) (told : List Told)
+    (turns : List Turn) → is_open rows turns ≡ false
+    → HasToldAll items told conn_ends.PeerEnd
+    → Ending rows items told turns aborts conn_ends.PeerEnd [] (coming_by causes.Aborted)
+ends_aborted rows items told turns e all = record {
+  told_all = all;
+  turn_is = refl;
+  is_last = refl;
+  cause = inl refl;
+  asks_are = none_for (is_open rows turns) e;
+  said = refl;
+}
+
+pub ends_linked : (rows : CentreRows) (items : List Item) (told : List Told)
+    (turns : List Turn) → is_open rows turns ≡ false
+    → HasToldAll items told conn_ends.PeerEnd
+    → Ending rows items told turns ends conn_ends.PeerEnd [] (coming_by causes.LinkEnd)
+ends_linked rows items told turns e all = record {
+  told_all = all;
+  turn_is = refl;
+  is_last = refl;
+  cause = inr refl;
+  asks_are = none_for (is_open rows turns) e;
+  said = refl;
+}
+
+-- the rule that was broken is the one that the octets break
+pub broken_is : (items : List Item) (told : List Told) (fault : StackFault) (v : Talking)
+    → Stands called (text_of items) told v.course → v.course.fault ≡ Some fault
+    → (reading_of (text_of items)).broken ≡ Some fault
+broken_is items told fault v s e =
+    ap (λ r. r.broken) (reading_only (text_of items) told (Some fault)
+    (subst (λ (f : Option StackFault). MatchOption f
+    (courses.Reads called (text_of items) told v.course)
+    (λ g. Stops called (text_of items) told g)) e s.reads))
+
+pub ends_broken : (rows : CentreRows) (items : List Item) (told : List Told)
+    (turns : List Turn) (fault : StackFault) (setup : Setup) (b : Bool)
+    → setup ≡ setup_after told ⊎ (b ≡ false) → is_open rows turns ≡ false
+    → list_any (begins rows) turns ≡ b → (reading_of (text_of items)).broken ≡ Some fault
+    → HasToldAll items told (conn_ends.Refused fault)
+    → Ending rows items told turns breaks (conn_ends.Refused fault)
+    (if b then abort_octets setup else []) (coming_by (causes.Broken fault))
+ends_broken rows items told turns fault setup b known e f broken all = record {
+  told_all = all;
+  turn_is = refl;
+  is_last = refl;
+  cause = (refl, broken);
+  asks_are = none_for (is_open rows turns) e;
+  said = said_closed rows turns (abort_octets (setup_after told)) b e f
+      ∙ said_known b setup (setup_after told) known;
+}
+  where
+    said_known : (b : Bool) (setup other : Setup) → setup ≡ other ⊎ (b ≡ false)
+        → (if b then abort_octets other else []) ≡ (if b then abort_octets setup else [])
+    said_known b setup other (inl k) =
+        ap (λ (s : Setup). if b then abort_octets s else []) (sym k)
+    said_known true setup other (inr k) = absurd (false≢true (sym k))
+    said_known false setup other (inr k) = refl
+
+-- ---- what has no effect
+
+pub passes_pdu : (rows : CentreRows) (turns : List Turn) (stage : Stage) (pdu : MmsPdu)
+    → turn_of_pdu pdu ≡ None
+    → list_any (begins rows) turns ≡ has_begun stage askeds.Nothing
+    → list_any finishes turns ≡ has_finished stage askeds.Nothing
+    → list_any (is_last rows) turns ≡ false
+    → Passing rows turns [] stage (comings.Input (inputs.Pdu pdu))
+passes_pdu rows turns stage pdu no_turn b f l =
+    let e : turns ++ [] ≡ turns = append-nil turns in
+    record {
+      turns_are = ap (λ (t : Option Turn). listed t) no_turn;
+      fault = refl;
+      begun = ap (λ (ts : List Turn). list_any (begins rows) ts) e ∙ b;
+      finished = ap (λ (ts : List Turn). list_any finishes ts) e ∙ f;
+      ending = ap (λ (ts : List Turn). list_any (is_last rows) ts) e ∙ l;
+      standing = same_standing stage;
+      connected = same_connected stage;
+      concluded = concluded_so stage;
+      asks_are = refl;
+      quiet = λ setup. refl;
+    }
+  where
+    same_standing : (stage : Stage)
+        → standing_by stage askeds.Nothing (Some (comings.Input (inputs.Pdu pdu)))
+        ≡ standing_by stage askeds.Nothing None
+    same_standing stages.Early = refl
+    same_standing (stages.Open p d) = refl
+    same_standing (stages.Closed p) = refl
+
+    same_connected : (stage : Stage)
+        → is_connected stage askeds.Nothing (Some (comings.Input (inputs.Pdu pdu)))
+        ≡ is_connected stage askeds.Nothing None
+    same_connected stages.Early = refl
+    same_connected (stages.Open p d) = refl
+    same_connected (stages.Closed p) = refl
+
+    concluded_so : (stage : Stage) → has_concluded stage askeds.Nothing None ≡ true
+        → has_concluded stage askeds.Nothing (Some (comings.Input (inputs.Pdu pdu))) ≡ true
+    concluded_so stages.Early e = absurd (false≢true e)
+    concluded_so (stages.Open p d) e = absurd (false≢true e)
+    concluded_so (stages.Closed p) e = refl
+
+-- a pause, where no association is open
+abbrev pub IsShut : Stage → Type 0
+IsShut stages.Early = Unit {0}
+IsShut (stages.Open peer detail) = ⊥
+IsShut (stages.Closed peer) = Unit {0}
+
+pub shut_open : (stage : Stage) → IsShut stage
+    → (has_begun stage askeds.Nothing && not (has_finished stage askeds.Nothing)) ≡ false
+shut_open stages.Early s = refl
+shut_open (stages.Open p d) s = absurd s
+shut_open (stages.Closed p) s = refl
+
+pub passes_pause : (rows : CentreRows) (turns : List Turn) (stage : Stage) → IsShut stage
+    → list_any (begins rows) turns ≡ has_begun stage askeds.Nothing
+    → list_any finishes turns ≡ has_finished stage askeds.Nothing
+    → list_any (is_last rows) turns ≡ false
+    → Passing rows turns (pauses ∷ []) stage comings.Pause
+passes_pause rows turns stage shut b f l =
+    let closed = open_by rows turns stage b f ∙ shut_open stage shut in
+    record {
+      turns_are = refl;
+      fault = refl;
+      begun = any_on (begins rows) turns pauses (has_begun stage askeds.Nothing) b
+          ∙ or_false (has_begun stage askeds.Nothing);
+      finished = any_on finishes turns pauses (has_finished stage askeds.Nothing) f
+          ∙ or_false (has_finished stage askeds.Nothing);
+      ending = any_on (is_last rows) turns pauses false l;
+      standing = same_standing stage;
+      connected = same_connected stage;
+      concluded = concluded_so stage;
+      asks_are = ap (λ (x : Bool). event_if x events.Take ++ []) closed;
+      quiet = λ setup. refl;
+    }
+  where
+    or_false : (x : Bool) → (x || (false || false)) ≡ x
+    or_false true = refl
+    or_false false = refl
+
+    same_standing : (stage : Stage) → standing_by stage askeds.Nothing (Some comings.Pause)
+        ≡ standing_by stage askeds.Nothing None
+    same_standing stages.Early = refl
+    same_standing (stages.Open p d) = refl
+    same_standing (stages.Closed p) = refl
+
+    same_connected : (stage : Stage) → is_connected stage askeds.Nothing (Some comings.Pause)
+        ≡ is_connected stage askeds.Nothing None
+    same_connected stages.Early = refl
+    same_connected (stages.Open p d) = refl
+    same_connected (stages.Closed p) = refl
+
+    concluded_so : (stage : Stage) → has_concluded stage askeds.Nothing None ≡ true
+        → has_concluded stage askeds.Nothing (Some comings.Pause) ≡ true
+    concluded_so stages.Early e = absurd (false≢true e)
+    concluded_so (stages.Open p d) e = absurd (false≢true e)
+    concluded_so (stages.Closed p) e = refl

@@ -1,0 +1,12 @@
+pub mod SeenTurns
+pub mod Acted
+pub mod ToldAll
+pub mod Cases
+pub mod Composed
+pub mod Stepping
+pub mod Noted
+pub mod Fetched
+pub mod Placing
+pub mod LastTurns
+pub mod AnswersNoted
+pub mod Sized

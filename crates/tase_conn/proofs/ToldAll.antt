@@ -1,0 +1,115 @@
+-- What was told of a text once the connection ends.
+use Rattle.std.proofs.Common.{◌≡◌, ◌≤◌, true, List, ◌++◌, length}
+use Rattle.std.proofs.Common.{Option, Some, None, sym, ap, subst, ◌∙◌, MatchOption}
+use Rattle.std.specs.Prelude.{is_some}
+use Rattle.bilateral.specs.Rows.{CentreRows}
+use Rattle.stack_messages.specs.declared.fault.StackFault.{StackFault}
+use Rattle.stack_assoc.specs.Told.{Told, called, first_in, connect_in}
+use Rattle.stack_assoc.specs.Tellings.{Stops}
+use Rattle.stack_assoc.specs.Handing.{answers_to}
+use Rattle.stack_assoc.specs.Expectations.{setup_after}
+use Rattle.stack_assoc.specs.Courses.{Course, Stands}
+use Rattle.stack_assoc.specs.Courses as courses
+use Rattle.tase_map.specs.Inputs.{Item, text_of}
+use Rattle.tase_map.specs.Readings.{Reading, reading_of}
+use Rattle.tase_map.specs.Turns.{Turn, turns_of}
+use Rattle.tase_map.proofs.Fronts.{HasFront, told_front, whole_front, first_kept, setup_fixed}
+use Rattle.tase_map.proofs.Fronts.{answers_told, some_told}
+use Rattle.tase_map.proofs.ReadingLaws.{reading_only}
+use Rattle.tase_conn.specs.declared.stage.Behind.{Behind}
+use Rattle.tase_conn.specs.declared.stage.Behind.TheVariants as behinds
+use Rattle.tase_conn.specs.declared.stage.Coming.{Coming}
+use Rattle.tase_conn.specs.declared.stage.Coming.TheVariants as comings
+use Rattle.tase_conn.specs.declared.stage.Asked.{Asked}
+use Rattle.tase_conn.specs.declared.stage.Asked.TheVariants as askeds
+use Rattle.tase_conn.specs.declared.stage.ConnEnd.{ConnEnd}
+use Rattle.tase_conn.specs.declared.stage.ConnEnd.TheVariants as conn_ends
+use Rattle.tase_conn.specs.Talking.{Talking}
+use Rattle.tase_conn.specs.Places.{Runs, ReadsBy, Begins, turns_held, is_connected}
+use Rattle.tase_conn.specs.Places.{fault_seen}
+use Rattle.tase_conn.proofs.Acted.{HasToldAll}
+
+-- behind the first message nothing more is answered at once
+answered_by : (items : List Item) (told : List Told) (course : Course)
+    → Stands called (text_of items) told course → 1 ≤ length told
+    → answers_to called told ≡ answers_to called (reading_of (text_of items)).told
+answered_by items told course s some =
+    let f = told_front (text_of items) told course s in
+    let whole = whole_front (text_of items) in
+    sym (ap (λ (ts : List Told). answers_to called ts) f.1
+    ∙ answers_told (text_of items) told f.0
+    (subst (λ (ts : List Told). HasFront (text_of items) ts) f.1 whole) some)
+
+-- what was told, and what its first connect fixed, once one was told
+pub record IsTold (items : List Item) (told : List Told) : Type 0 where
+  pub answered : answers_to called told ≡ answers_to called (reading_of (text_of items)).told
+  pub fixed : (setup_after told ≡ setup_after (reading_of (text_of items)).told)
+      × (is_some (first_in connect_in (reading_of (text_of items)).told) ≡ true)
+
+pub told_open : (rows : CentreRows) (items : List Item) (told : List Told) (turns : List Turn)
+    (asked : Asked) (v : Talking) → Runs rows items told turns asked v
+    → is_connected v.stage asked v.held ≡ true → IsTold items told
+told_open rows items told turns asked v r is =
+    let connect = r.connected ∙ is in
+    let f = told_front (text_of items) told v.course r.stands in
+    record {
+      answered = answered_by items told v.course r.stands (some_told told connect);
+      fixed = (
+        sym (ap (λ (ts : List Told). setup_after ts) f.1
+            ∙ (setup_fixed (text_of items) told v.course r.stands connect).1 f.0),
+        ap (λ (ts : List Told). is_some (first_in connect_in ts)) f.1
+            ∙ ap (λ (o : Option _). is_some o) (first_kept connect_in told f.0 connect) ∙ connect,
+      );
+    }
+
+-- all of it, where a connect was told
+pub all_open : (rows : CentreRows) (items : List Item) (told : List Told) (turns : List Turn)
+    (v : Talking) (end : ConnEnd) → Runs rows items told turns askeds.Nothing v
+    → is_connected v.stage askeds.Nothing v.held ≡ true → HasToldAll items told end
+all_open rows items told turns v end r is =
+    let t = told_open rows items told turns askeds.Nothing v r is in
+    record { answered = t.answered; fixed = λ declined. t.fixed }
+
+-- at an abort
+pub all_some : (items : List Item) (told : List Told) (course : Course) (end : ConnEnd)
+    → Stands called (text_of items) told course → 1 ≤ length told
+    → (end ≡ conn_ends.Declined → ⊥) → HasToldAll items told end
+all_some items told course end s some other = record {
+  answered = answered_by items told course s some;
+  fixed = λ declined. absurd (other declined);
+}
+
+-- where all messages of the items were told
+all_read : (items : List Item) (told : List Told) (end : ConnEnd)
+    → told ≡ (reading_of (text_of items)).told → (end ≡ conn_ends.Declined → ⊥)
+    → HasToldAll items told end
+all_read items told end e other = record {
+  answered = ap (λ (ts : List Told). answers_to called ts) e;
+  fixed = λ declined. absurd (other declined);
+}
+
+-- at a rule that is broken
+pub all_broken : (items : List Item) (told : List Told) (fault : StackFault) (course : Course)
+    (end : ConnEnd) → Stands called (text_of items) told course → course.fault ≡ Some fault
+    → (end ≡ conn_ends.Declined → ⊥) → HasToldAll items told end
+all_broken items told fault course end s e other =
+    all_read items told end
+    (sym (ap (λ (r : Reading). r.told) (reading_only (text_of items) told (Some fault)
+    (subst (λ (f : Option StackFault). MatchOption f
+    (courses.Reads called (text_of items) told course)
+    (λ g. Stops called (text_of items) told g)) e s.reads)))) other
+
+-- at the link's end
+pub all_ended : (rows : CentreRows) (items : List Item) (told : List Told) (turns : List Turn)
+    (v : Talking) (end : ConnEnd) → Runs rows items told turns askeds.Nothing v
+    → v.held ≡ Some comings.End → v.behind ≡ behinds.Nothing → (end ≡ conn_ends.Declined → ⊥)
+    → HasToldAll items told end
+all_ended rows items told turns v end r held behind other =
+    let clear : v.course.fault ≡ None =
+    r.fault ∙ ap (λ (h : Option Coming). fault_seen h askeds.Nothing) held in
+    let P : Option StackFault → Type 0 = λ f. MatchOption f
+    (ReadsBy v.behind items told (turns ++ turns_held v.held) v)
+    (λ fault. Begins (turns ++ turns_held v.held) (turns_of items)) in
+    let d = subst (λ (b : Behind). ReadsBy b items told (turns ++ turns_held v.held) v) behind
+    (subst P clear r.reads) in
+    all_read items told end d.told_is other

@@ -1,0 +1,5 @@
+use Rattle.tase_conn.proofs.Sized.{concluded_few}
+use Rattle.tase_conn.proofs.conn.Conn.answer_conclude.Goals as goal
+
+pub say-requires-clause-few : goal.say-requires-clause-few
+say-requires-clause-few c = concluded_few

@@ -1,0 +1,158 @@
+-- What a connection makes of the node's answers.
+use Rattle.std.specs.Prelude.{ℕ, ℤ, Bool, true, false, if◌then◌else◌, List, []}
+use Rattle.std.specs.Prelude.{Option, Some, None, Result, Ok, Err}
+use Rattle.tpkt_cotp.specs.Written.{wire}
+use Rattle.mms_services.specs.declared.initiate.Initiate.{Initiate}
+use Rattle.mms_services.specs.declared.initiate.TheConstants.{MOST_DETAIL}
+use Rattle.mms_services.specs.declared.pdu.MmsPdu.TheVariants as pdus
+use Rattle.stack_wire.specs.Tsdus.{accept_tsdu}
+use Rattle.stack_assoc.specs.Courses.{Course, is_accepted}
+use Rattle.bilateral.specs.Rows.{CentreRows, table_of}
+use Rattle.tase_views.specs.declared.reply.Answer.{Answer}
+use Rattle.tase_views.specs.declared.reply.Answer.TheVariants as answers
+use Rattle.tase_views.specs.declared.fault.StepFault.{StepFault}
+use Rattle.tase_views.specs.declared.fault.StepFault.TheVariants as faults
+use Rattle.tase_map.specs.Replied.{pdu_in}
+use Rattle.tase_map.specs.Out.{said, within, release_octets, abort_octets}
+use Rattle.tase_conn.specs.declared.stage.ConnEnd.{ConnEnd}
+use Rattle.tase_conn.specs.declared.stage.ConnEnd.TheVariants as conn_ends
+use Rattle.tase_conn.specs.declared.stage.Stage.{Stage}
+use Rattle.tase_conn.specs.declared.stage.Stage.TheVariants as stages
+use Rattle.tase_conn.specs.declared.stage.Cause.{Cause}
+use Rattle.tase_conn.specs.declared.stage.Cause.TheVariants as causes
+use Rattle.tase_conn.specs.declared.stage.Asked.{Asked}
+use Rattle.tase_conn.specs.declared.stage.Asked.TheVariants as askeds
+use Rattle.tase_conn.specs.declared.stage.Progress.{Progress}
+use Rattle.tase_conn.specs.declared.stage.Progress.TheVariants as progresses
+use Rattle.tase_conn.specs.Talking.{is_open_stage}
+
+-- ---- which answers may be told
+
+-- the node was stopped, its history is full, or its memory ran out
+abbrev pub IsCut : StepFault → Type 0
+IsCut (faults.Stopped place) = Unit {0}
+IsCut (faults.HistoryFull weight limit) = Unit {0}
+IsCut faults.Memory = Unit {0}
+IsCut _ = ⊥
+
+-- the node answers an open, a request, a take and a close; each but a close it may refuse
+abbrev pub IsAnswerTo : Asked → Result Answer StepFault → Type 0
+IsAnswerTo (askeds.Opening peer granted) (Ok (answers.Opened key)) = Unit {0}
+IsAnswerTo (askeds.Opening peer granted) (Err fault) = IsCut fault
+IsAnswerTo (askeds.Requesting invoke) (Ok (answers.Reply reply)) = Unit {0}
+IsAnswerTo (askeds.Requesting invoke) (Err fault) = IsCut fault
+IsAnswerTo askeds.Taking (Ok (answers.Reports reports)) = Unit {0}
+IsAnswerTo askeds.Taking (Err fault) = IsCut fault
+IsAnswerTo (askeds.Closing cause) (Ok answers.Closed) = Unit {0}
+IsAnswerTo _ _ = ⊥
+
+abbrev pub IsAnswerFor : Progress → Result Answer StepFault → Type 0
+IsAnswerFor (progresses.Running asked) told = IsAnswerTo asked told
+IsAnswerFor (progresses.Leaving end true) (Ok answers.Closed) = Unit {0}
+IsAnswerFor _ _ = ⊥
+
+-- ---- the association
+
+abbrev pub detail_in : Initiate → ℤ
+detail_in granted = detail_or granted.detail
+  where
+    detail_or : Option ℤ → ℤ
+    detail_or None = MOST_DETAIL
+    detail_or (Some detail) = detail
+
+abbrev pub closed : Stage → Stage
+closed (stages.Open peer detail) = stages.Closed peer
+closed stage = stage
+
+-- an open has opened it, and a close has closed it
+abbrev pub stage_by : Asked → Stage → Stage
+stage_by (askeds.Opening peer granted) stage = stages.Open peer (detail_in granted)
+stage_by (askeds.Closing cause) stage = closed stage
+stage_by _ stage = stage
+
+abbrev pub stage_told : Progress → Result Answer StepFault → Stage → Stage
+stage_told (progresses.Running asked) (Ok answer) stage = stage_by asked stage
+stage_told (progresses.Leaving end asked) (Ok answer) stage = closed stage
+stage_told _ _ stage = stage
+
+-- ---- how it goes on
+
+abbrev pub end_of : StepFault → ConnEnd
+end_of (faults.Stopped place) = conn_ends.Stopped
+end_of (faults.HistoryFull weight limit) = conn_ends.Full weight limit
+end_of _ = conn_ends.Memory
+
+-- behind the answer to a close: conclude may be followed by the release, each other cause ends it
+abbrev pub progress_closed : Cause → Progress
+progress_closed causes.Concluded = progresses.Running askeds.Nothing
+progress_closed causes.Released = progresses.Ended conn_ends.Finished
+progress_closed causes.Aborted = progresses.Ended conn_ends.PeerEnd
+progress_closed causes.LinkEnd = progresses.Ended conn_ends.PeerEnd
+progress_closed (causes.Broken fault) = progresses.Ended (conn_ends.Refused fault)
+
+abbrev pub progress_by : Asked → Progress
+progress_by (askeds.Closing cause) = progress_closed cause
+progress_by _ = progresses.Running askeds.Nothing
+
+-- where it is left, an open association is closed first
+abbrev pub progress_left : Stage → ConnEnd → Progress
+progress_left stage end =
+    if is_open_stage stage then progresses.Leaving end false else progresses.Cut end
+
+abbrev pub progress_told : Progress → Stage → Result Answer StepFault → Progress
+progress_told (progresses.Running asked) stage (Ok answer) = progress_by asked
+progress_told (progresses.Running asked) stage (Err fault) = progress_left stage (end_of fault)
+progress_told (progresses.Leaving end asked) stage told = progresses.Cut end
+progress_told progress stage told = progress
+
+-- ---- what is said
+
+-- not where the link has failed, or doesn't take what is sent
+abbrev pub aborts : ConnEnd → Bool
+aborts conn_ends.LinkFault = false
+aborts (conn_ends.Overflow pending limit) = false
+aborts _ = true
+
+-- an association that stands is aborted
+abbrev pub aborted : Course → List ℕ
+aborted course = if is_accepted course.standing then abort_octets course.setup else []
+
+abbrev pub parted : Course → ConnEnd → List ℕ
+parted course end = if aborts end then aborted course else []
+
+-- conclude and release are answered; an abort and the link's end aren't
+abbrev pub closed_said : Course → Cause → List ℕ
+closed_said course causes.Concluded = said course.setup pdus.Concluded
+closed_said course causes.Released = release_octets course.setup
+closed_said course causes.Aborted = []
+closed_said course causes.LinkEnd = []
+closed_said course (causes.Broken fault) = aborted course
+
+abbrev pub detail_at : Stage → ℤ
+detail_at (stages.Open peer detail) = detail
+detail_at _ = MOST_DETAIL
+
+abbrev pub answer_said : Course → Stage → Asked → Answer → List ℕ
+answer_said course stage (askeds.Opening peer granted) (answers.Opened key) =
+    wire course.setup.size (accept_tsdu course.setup granted)
+answer_said course stage (askeds.Requesting invoke) (answers.Reply reply) =
+    said course.setup (within (detail_at stage) invoke (pdu_in invoke reply))
+answer_said course stage (askeds.Closing cause) answers.Closed = closed_said course cause
+answer_said course stage _ _ = []
+
+-- an answer, or a refusal, which aborts an association at once only where none is open
+abbrev pub told_said : Progress → Stage → Course → Result Answer StepFault → List ℕ
+told_said (progresses.Running asked) stage course (Ok answer) =
+    answer_said course stage asked answer
+told_said (progresses.Running asked) stage course (Err fault) =
+    if is_open_stage stage then [] else parted course (end_of fault)
+told_said (progresses.Leaving end asked) stage course told = parted course end
+told_said progress stage course told = []
+
+-- ---- what may wait
+
+-- the octets that may wait: the table's, and 1,048,576 before the association is open
+abbrev pub limit_at : CentreRows → Stage → ℕ
+limit_at rows stages.Early = 1048576
+limit_at rows (stages.Open peer detail) = (table_of rows peer).pending
+limit_at rows (stages.Closed peer) = (table_of rows peer).pending

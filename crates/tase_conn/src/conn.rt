@@ -1,0 +1,215 @@
+//! A connection to a peer, without input and output.
+ghost use Rattle.std.specs.Prelude.{◌≡◌, ◌≤◌, List, [], ◌∷◌, ◌++◌, length, drop, vec_len};
+ghost use Rattle.std.specs.Prelude.{IfOk, OnOk, OnErr, option_copied};
+ghost use Rattle.std.specs.Arc.{arc_value};
+ghost use Rattle.tpkt_cotp.specs.declared.limits.TheConstants.{PIECE_LIMIT};
+ghost use Rattle.bilateral.specs.Rows.{CentreRows};
+ghost use Rattle.stack_assoc.specs.Told.{Told};
+ghost use Rattle.tase_map.specs.Inputs.{Item, piece as a_piece, idle, ended};
+ghost use Rattle.tase_map.specs.Turns.{Turn};
+ghost use Rattle.tase_conn.specs.declared.stage.Progress.TheVariants as progresses;
+ghost use Rattle.tase_conn.specs.declared.stage.Asked.TheVariants as askeds;
+ghost use Rattle.tase_conn.specs.Talking.{pending_of, next_of, end_in, IsResting, is_running};
+ghost use Rattle.tase_conn.specs.Places.{StandsAt, IsPlaced};
+ghost use Rattle.tase_conn.specs.Taken.{TakesIn, IsSent};
+ghost use Rattle.tase_conn.specs.Answering.{limit_at};
+
+use crate::stage::{Asked, Behind, Coming, ConnEnd, Progress, Stage};
+use bilateral::Centre;
+use stack_assoc::Stack;
+use std::alloc::{AllocError, Global};
+use std::marker::Model;
+use std::sync::Arc;
+
+/// The octets that may wait for a peer before its association is open.
+const FIRST_LIMIT: u64 = 1_048_576;
+
+/// The octets of an abort, at most.
+const ABORT_ROOM: usize = 64;
+
+/// The called end of a connection.
+#[derive(Drop)]
+pub struct Conn {
+    pub(crate) alloc: Global,
+    pub(crate) centre: Arc<Centre>,
+    pub(crate) stack: Stack,
+    /// What was read and wasn't acted on yet.
+    pub(crate) held: Option<Coming>,
+    pub(crate) behind: Behind,
+    pub(crate) stage: Stage,
+    pub(crate) progress: Progress,
+    /// The octets that are still to be sent.
+    pub(crate) out: Vec<u8>,
+    /// Behind them, the octets of an abort; until then room for them.
+    pub(crate) farewell: Vec<u8>,
+}
+
+impl Model for Conn {
+    ghost use Rattle.std.specs.Coded.{codes};
+    ghost use Rattle.mms_data.specs.contracts.data.MmsData as datum;
+    ghost use Rattle.std.specs.Arc.{arc_value};
+    ghost use Rattle.tase_conn.specs.Talking.{Talking};
+
+    ghost Value = { Talking };
+
+    ghost coded = { Prim.hlevel (codes, datum.the_row.coded) };
+
+    ghost view = { λ c. record {
+      rows = arc_value c.centre;
+      course = c.stack;
+      held = c.held;
+      behind = c.behind;
+      stage = c.stage;
+      progress = c.progress;
+      out = c.out.items;
+      farewell = c.farewell;
+    } };
+}
+
+impl Conn {
+    /// A connection of which nothing has come yet, to one of the peers of this centre.
+    pub fn new(alloc: Global, centre: Arc<Centre>) -> Result<Conn, AllocError>
+        ensures start { IfOk result (λ conn. StandsAt (arc_value centre) [] [] [] conn) }
+        ensures resting { IfOk result (λ conn. IsResting conn) }
+        ensures running { IfOk result (λ conn.
+            conn.progress ≡ progresses.Running askeds.Nothing) }
+        ensures silent { IfOk result (λ conn. pending_of conn ≡ []) }
+    {
+        let stack = Stack::called(alloc)?;
+        let mut farewell = Vec::new(alloc);
+        farewell.reserve(ABORT_ROOM)?;
+        Ok(Conn {
+            alloc,
+            centre,
+            stack,
+            held: None,
+            behind: Behind::Nothing,
+            stage: Stage::Early,
+            progress: Progress::Running(Asked::Nothing),
+            out: Vec::new(alloc),
+            farewell,
+        })
+    }
+
+    /// Takes in the next octets that the link gave, 1 to 65,536, once `want` has answered that
+    /// nothing is left of what was taken in before. Where the connection has ended, or was given
+    /// up, they are dropped. After want of memory it is as before.
+    pub fn take_in(&mut self, piece: &[u8]) -> Result<(), AllocError>
+        requires some { 1 ≤ length piece.now }
+        requires small { length piece.now ≤ PIECE_LIMIT }
+        requires resting { IsResting self.old }
+        requires placed { IsPlaced self.old }
+        ensures ok { (rows : CentreRows) (items : List Item) (told : List Told)
+            (turns : List Turn) → StandsAt rows items told turns self.old
+            → OnOk result (StandsAt rows (items ++ a_piece piece.now ∷ []) told turns self.new) }
+        ensures same { OnOk result (TakesIn self.old self.new) }
+        ensures err { OnErr result (self.new ≡ self.old) }
+    {
+        if !self.is_running() {
+            return Ok(());
+        }
+        self.stack.feed(piece)?;
+        self.behind = Behind::Pause;
+        Ok(())
+    }
+
+    /// Takes in that the link gives nothing for now, once `want` has answered that nothing is left
+    /// of what was taken in before.
+    pub fn idle_in(&mut self)
+        requires resting { IsResting self.old }
+        requires placed { IsPlaced self.old }
+        ensures stands { (rows : CentreRows) (items : List Item) (told : List Told)
+            (turns : List Turn) → StandsAt rows items told turns self.old
+            → StandsAt rows (items ++ idle ∷ []) told turns self.new }
+        ensures same { TakesIn self.old self.new }
+    {
+        if self.is_running() {
+            self.behind = Behind::Pause;
+        }
+    }
+
+    /// Takes in that the link gives no more, once `want` has answered that nothing is left
+    /// of what was taken in before.
+    pub fn end_in(&mut self)
+        requires resting { IsResting self.old }
+        requires placed { IsPlaced self.old }
+        ensures stands { (rows : CentreRows) (items : List Item) (told : List Told)
+            (turns : List Turn) → StandsAt rows items told turns self.old
+            → StandsAt rows (items ++ ended ∷ []) told turns self.new }
+        ensures same { TakesIn self.old self.new }
+    {
+        if self.is_running() {
+            self.behind = Behind::End;
+        }
+    }
+
+    /// Whether what is taken in is still read.
+    fn is_running(&self) -> bool
+        ensures { result ≡ is_running self.now.progress }
+    {
+        matches!(self.progress, Progress::Running(_))
+    }
+
+    /// The octets that are to be sent next: all that are to be sent, or, where the association was
+    /// aborted, first all before the abort, and then those of the abort.
+    pub fn pending(&self) -> &[u8]
+        ensures { result.now ≡ next_of self.now }
+    {
+        if self.out.is_empty() {
+            self.farewell.as_slice()
+        } else {
+            self.out.as_slice()
+        }
+    }
+
+    /// Notes that so many of the pending octets were sent.
+    pub fn sent(&mut self, n: usize)
+        requires { n ≤ length (next_of self.old) }
+        ensures pending { pending_of self.new ≡ drop n (pending_of self.old) }
+        ensures stands { (rows : CentreRows) (items : List Item) (told : List Told)
+            (turns : List Turn) → StandsAt rows items told turns self.old
+            → StandsAt rows items told turns self.new }
+        ensures same { IsSent self.old self.new }
+    {
+        if n == 0 {
+            return;
+        }
+        if self.out.is_empty() {
+            cut(&mut self.farewell, n);
+        } else {
+            cut(&mut self.out, n);
+        }
+    }
+
+    /// How many octets may wait for the peer: what its table says, and 1,048,576 before its
+    /// association is open.
+    pub fn limit(&self) -> u64
+        requires { IsPlaced self.now }
+        ensures { result ≡ limit_at self.now.rows self.now.stage }
+    {
+        match self.stage {
+            Stage::Early => FIRST_LIMIT,
+            Stage::Open { peer, .. } | Stage::Closed { peer } => self.centre.table(peer).pending,
+        }
+    }
+
+    /// How the connection ended, if it has.
+    pub fn ended(&self) -> Option<&ConnEnd>
+        ensures { option_copied result ≡ end_in self.now.progress }
+    {
+        match &self.progress {
+            Progress::Ended(end) | Progress::Cut(end) => Some(end),
+            _ => None,
+        }
+    }
+}
+
+/// Cuts off the first of these octets.
+fn cut(octets: &mut Vec<u8>, n: usize)
+    requires { n ≤ vec_len octets.old }
+    ensures items { octets.new.items ≡ drop n octets.old.items }
+{
+    let left = octets.len() - n;
+    octets.copy_within(n.., 0);
+    octets.truncate(left);
+}

@@ -1,0 +1,283 @@
+//! What a connection says of the node's answers.
+ghost use Rattle.std.specs.Prelude.{◌≡◌, ◌++◌, ◌≤◌, ◌≤ℤ◌, List, Ok, Err, OnOk, OnErr, IsOk};
+ghost use Rattle.mms_services.specs.Initiates.{IsFullInitiate};
+ghost use Rattle.mms_services.specs.PduOctets.{IsWritable, pdu_len};
+ghost use Rattle.mms_services.specs.declared.initiate.TheConstants.{MOST_DETAIL};
+ghost use Rattle.stack_assoc.specs.declared.input.StackState.TheVariants as states;
+ghost use Rattle.stack_assoc.specs.declared.standing.Standing.TheVariants as standings;
+ghost use Rattle.stack_assoc.specs.Courses.{state_of};
+ghost use Rattle.stack_assoc.specs.Told.{Told};
+ghost use Rattle.bilateral.specs.Rows.{CentreRows};
+ghost use Rattle.tase_map.specs.Inputs.{Item};
+ghost use Rattle.tase_map.specs.Turns.{Turn};
+ghost use Rattle.tase_map.specs.Replied.{pdu_in};
+ghost use Rattle.tase_map.specs.Out.{within, too_long};
+ghost use Rattle.tase_conn.specs.declared.stage.Asked.TheVariants as askeds;
+ghost use Rattle.tase_conn.specs.declared.stage.Stage.TheVariants as stages;
+ghost use Rattle.tase_conn.specs.declared.stage.Progress.TheVariants as progresses;
+ghost use Rattle.tase_conn.specs.Talking.{pending_of};
+ghost use Rattle.tase_conn.specs.Places.{StandsAt, IsPlaced, HasRoom};
+ghost use Rattle.tase_conn.specs.Wanting.{IsLeaving};
+ghost use Rattle.tase_conn.specs.Answering.{IsAnswerTo, IsAnswerFor, told_said, stage_by};
+ghost use Rattle.tase_conn.specs.Answering.{stage_told, progress_told, end_of, detail_in};
+ghost use Rattle.tase_conn.specs.Answering.{detail_at, closed, parted};
+ghost use Rattle.tase_views.specs.declared.fault.StepFault.{StepFault as AnyFault};
+ghost use Rattle.tase_conn.specs.Leaving.{IsLeft, Parts, MayAnswer, EndsFor};
+ghost use Rattle.tase_conn.specs.Noting.{Notes, NotesAsked, opened, answered};
+
+use crate::conn::Conn;
+use crate::stage::{Asked, Cause, ConnEnd, Progress, Stage};
+use mms_services::{ErrorPdu, Initiate, MOST_DETAIL, MmsPdu, pdu_len};
+use std::alloc::AllocError;
+use tase_map::pdu_of;
+use tase_views::{Answer, Reply, StepFault};
+
+/// The end of a connection whose event is refused so.
+fn end_of(fault: StepFault) -> ConnEnd
+    ensures { result ≡ end_of fault }
+{
+    match fault {
+        StepFault::Stopped { .. } => ConnEnd::Stopped,
+        StepFault::HistoryFull { weight, limit } => ConnEnd::Full { weight, limit },
+        _ => ConnEnd::Memory,
+    }
+}
+
+/// The most octets of a PDU that were agreed on.
+fn detail_of(granted: &Initiate) -> i64
+    ensures { result ≡ detail_in granted.now }
+{
+    granted.detail.unwrap_or(MOST_DETAIL)
+}
+
+/// A PDU, or, where it has more octets than that, the error that answers in its place.
+fn within(detail: i64, invoke: u32, pdu: MmsPdu) -> MmsPdu
+    requires writable { IsWritable pdu }
+    requires detail { detail ≤ℤ MOST_DETAIL }
+    ensures value { result ≡ within detail invoke pdu }
+    ensures writable { IsWritable result }
+    ensures few { pdu_len result ≤ 65000 }
+{
+    if pdu_len(&pdu) as i64 > detail {
+        too_long(invoke)
+    } else {
+        pdu
+    }
+}
+
+fn too_long(invoke: u32) -> MmsPdu
+    ensures value { result ≡ too_long invoke }
+    ensures writable { IsWritable result }
+    ensures few { pdu_len result ≤ 65000 }
+{
+    MmsPdu::Error(ErrorPdu {
+        invoke,
+        class: 3,
+        code: 0,
+    })
+}
+
+impl Conn {
+    /// Takes the node's answer to the event that was wanted last, or why the node refused it: that
+    /// it was stopped, its history is full, or its memory ran out, which ends the connection once
+    /// its association is closed. It appends what the peer is answered. After want of memory an
+    /// open has opened the association and a close has closed it, and nothing else of the answer was
+    /// noted: the connection is to be given up.
+    pub fn tell(&mut self, told: Result<Answer, StepFault>) -> Result<(), AllocError>
+        requires right { IsAnswerFor self.old.progress told }
+        requires placed { IsPlaced self.old }
+        ensures ok { (rows : CentreRows) (items : List Item) (heard : List Told)
+            (turns : List Turn) → StandsAt rows items heard turns self.old
+            → OnOk result (StandsAt rows items heard turns self.new) }
+        ensures said { OnOk result (pending_of self.new ≡ pending_of self.old
+            ++ told_said self.old.progress self.old.stage self.old.course told) }
+        ensures progress { OnOk result (self.new.progress
+            ≡ progress_told self.old.progress self.old.stage told) }
+        ensures stage { self.new.stage ≡ stage_told self.old.progress told self.old.stage }
+        ensures err { OnErr result (self.new ≡ record self.old {
+          progress = progresses.Refused;
+          stage = stage_told self.old.progress told self.old.stage;
+        }) }
+        // It stands where it stood, and may be given up.
+        ensures kept { (rows : CentreRows) (items : List Item) (heard : List Told)
+            (turns : List Turn) → StandsAt rows items heard turns self.old
+            → OnErr result (StandsAt rows items heard turns self.new) }
+        // A refusal leaves the connection.
+        ensures refused { (fault : AnyFault) → told ≡ Err fault
+            → IsLeft (end_of fault) self.old self.new }
+        // Once it was given up, the answer to its close takes no memory.
+        ensures left { IsLeaving self.old.progress → IsOk result }
+    {
+        match told {
+            Ok(answer) => self.note_or_refuse(answer),
+            Err(fault) => {
+                self.leave(end_of(fault));
+                Ok(())
+            }
+        }
+    }
+
+    fn note_or_refuse(&mut self, answer: Answer) -> Result<(), AllocError>
+        requires right { IsAnswerFor self.old.progress (Ok answer) }
+        requires placed { IsPlaced self.old }
+        ensures ok { OnOk result (Notes self.old.progress answer self.old self.new) }
+        ensures stage { self.new.stage
+            ≡ stage_told self.old.progress (Ok answer) self.old.stage }
+        ensures err { OnErr result (self.new ≡ record self.old {
+          progress = progresses.Refused;
+          stage = stage_told self.old.progress (Ok answer) self.old.stage;
+        }) }
+        ensures left { IsLeaving self.old.progress → IsOk result }
+    {
+        match self.note(answer) {
+            Ok(()) => Ok(()),
+            Err(error) => {
+                self.progress = Progress::Refused;
+                Err(error)
+            }
+        }
+    }
+
+    /// Notes an answer, and says what is answered. After want of memory only the stage was noted.
+    fn note(&mut self, answer: Answer) -> Result<(), AllocError>
+        requires right { IsAnswerFor self.old.progress (Ok answer) }
+        requires placed { IsPlaced self.old }
+        ensures ok { OnOk result (Notes self.old.progress answer self.old self.new) }
+        ensures stage { self.new.stage
+            ≡ stage_told self.old.progress (Ok answer) self.old.stage }
+        ensures err { OnErr result (self.new ≡ record self.old {
+          stage = stage_told self.old.progress (Ok answer) self.old.stage;
+        }) }
+        ensures left { IsLeaving self.old.progress → IsOk result }
+    {
+        match self.progress {
+            Progress::Running(asked) => self.note_asked(asked, &answer),
+            Progress::Leaving { end, .. } => {
+                self.end_left(end);
+                Ok(())
+            }
+            _ => Ok(()),
+        }
+    }
+
+    /// The association is closed that was left.
+    fn end_left(&mut self, end: ConnEnd)
+        requires { HasRoom self.old }
+        ensures { Parts (progresses.Cut end) (parted self.old.course end)
+            (record self.old { stage = closed self.old.stage }) self.new }
+    {
+        self.close_stage();
+        self.part(end, Progress::Cut(end));
+    }
+
+    fn note_asked(&mut self, asked: Asked, answer: &Answer) -> Result<(), AllocError>
+        requires right { IsAnswerTo asked (Ok answer.now) }
+        requires asked { self.old.progress ≡ progresses.Running asked }
+        requires placed { IsPlaced self.old }
+        ensures ok { OnOk result (NotesAsked asked answer.now self.old self.new) }
+        ensures stage { self.new.stage ≡ stage_by asked self.old.stage }
+        ensures err { OnErr result (self.new
+            ≡ record self.old { stage = stage_by asked self.old.stage }) }
+    {
+        match asked {
+            Asked::Opening { peer, granted } => self.open(peer, granted),
+            Asked::Requesting { invoke } => self.note_reply(invoke, answer),
+            Asked::Closing(cause) => self.close(cause),
+            Asked::Nothing | Asked::Taking => {
+                self.progress = Progress::Running(Asked::Nothing);
+                Ok(())
+            }
+        }
+    }
+
+    /// The association is open, and its offer is accepted.
+    fn open(&mut self, peer: u32, granted: Initiate) -> Result<(), AllocError>
+        requires offered { self.old.course.standing ≡ standings.Offered }
+        requires full { IsFullInitiate granted }
+        ensures ok { OnOk result (self.new ≡ opened peer granted self.old) }
+        ensures stage { self.new.stage ≡ stages.Open peer (detail_in granted) }
+        ensures err { OnErr result (self.new
+            ≡ record self.old { stage = stages.Open peer (detail_in granted) }) }
+    {
+        self.stage = Stage::Open {
+            peer,
+            detail: detail_of(&granted),
+        };
+        self.stack.accept(&granted, &mut self.out)?;
+        self.progress = Progress::Running(Asked::Nothing);
+        Ok(())
+    }
+
+    fn note_reply(&mut self, invoke: u32, answer: &Answer) -> Result<(), AllocError>
+        requires right { IsAnswerTo (askeds.Requesting invoke) (Ok answer.now) }
+        requires accepted { state_of self.old.course ≡ states.Accepted }
+        requires detail { detail_at self.old.stage ≤ℤ MOST_DETAIL }
+        ensures ok { OnOk result
+            (NotesAsked (askeds.Requesting invoke) answer.now self.old self.new) }
+        ensures stage { self.new.stage ≡ self.old.stage }
+        ensures err { OnErr result (self.new ≡ self.old) }
+    {
+        match answer {
+            Answer::Reply(reply) => self.reply(invoke, reply),
+            _ => Ok(()),
+        }
+    }
+
+    fn reply(&mut self, invoke: u32, reply: &Reply) -> Result<(), AllocError>
+        requires accepted { state_of self.old.course ≡ states.Accepted }
+        requires detail { detail_at self.old.stage ≤ℤ MOST_DETAIL }
+        ensures ok { OnOk result (self.new ≡ answered
+            (within (detail_at self.old.stage) invoke (pdu_in invoke reply.now)) self.old) }
+        ensures stage { self.new.stage ≡ self.old.stage }
+        ensures err { OnErr result (self.new ≡ self.old) }
+    {
+        let pdu = pdu_of(self.alloc, invoke, reply)?;
+        let pdu = within(self.detail(), invoke, pdu);
+        self.answer(&pdu)
+    }
+
+    /// Says a PDU that answers, and nothing waits any more.
+    fn answer(&mut self, pdu: &MmsPdu) -> Result<(), AllocError>
+        requires accepted { state_of self.old.course ≡ states.Accepted }
+        requires writable { IsWritable pdu.now }
+        requires few { pdu_len pdu.now ≤ 65000 }
+        ensures ok { OnOk result (self.new ≡ answered pdu.now self.old) }
+        ensures stage { self.new.stage ≡ self.old.stage }
+        ensures err { OnErr result (self.new ≡ self.old) }
+    {
+        self.stack.say(pdu, &mut self.out)?;
+        self.progress = Progress::Running(Asked::Nothing);
+        Ok(())
+    }
+
+    fn detail(&self) -> i64
+        ensures { result ≡ detail_at self.now.stage }
+    {
+        match self.stage {
+            Stage::Open { detail, .. } => detail,
+            _ => MOST_DETAIL,
+        }
+    }
+
+    /// The association is closed, and the peer is answered.
+    fn close(&mut self, cause: Cause) -> Result<(), AllocError>
+        requires may { MayAnswer cause self.old.course }
+        requires room { HasRoom self.old }
+        ensures ok { OnOk result
+            (EndsFor cause (record self.old { stage = closed self.old.stage }) self.new) }
+        ensures stage { self.new.stage ≡ closed self.old.stage }
+        ensures err { OnErr result (self.new
+            ≡ record self.old { stage = closed self.old.stage }) }
+    {
+        self.close_stage();
+        self.answer_end(cause)
+    }
+
+    fn close_stage(&mut self)
+        ensures { self.new ≡ record self.old { stage = closed self.old.stage } }
+    {
+        if let Stage::Open { peer, .. } = self.stage {
+            self.stage = Stage::Closed { peer };
+        }
+    }
+}
