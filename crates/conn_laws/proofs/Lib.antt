@@ -1,0 +1,11 @@
+pub mod TurnLists
+pub mod Confirmed
+pub mod Seats
+pub mod Texts
+pub mod AskedCalls
+pub mod Steps
+pub mod Answered
+pub mod Wanted
+pub mod Kept
+pub mod Served
+pub mod Ended

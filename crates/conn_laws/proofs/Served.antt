@@ -1,0 +1,381 @@
+-- What a connection that serves has been asked, and has said.
+use Rattle.std.proofs.Common.{◌≡◌, ℕ, Bool, true, false, List, [], ◌∷◌, ◌++◌, Option, Some, None}
+use Rattle.std.proofs.Common.{refl, sym, ap, subst, ◌∙◌, append_assoc, reverse, inl, inr}
+use Rattle.std.proofs.Common.{MatchOption}
+use Rattle.std.specs.Prelude.{if◌then◌else◌, not}
+use Rattle.std.specs.List.{list_any}
+use Rattle.std.proofs.lemmas.Bool.{false≢true}
+use Rattle.std.proofs.lemmas.List.{append-nil}
+use Rattle.bilateral.specs.Rows.{CentreRows}
+use Rattle.stack_messages.specs.declared.fault.StackFault.{StackFault}
+use Rattle.stack_assoc.specs.Told.{Told, called}
+use Rattle.stack_assoc.specs.Handing.{answers_to}
+use Rattle.stack_assoc.specs.Expectations.{setup_after}
+use Rattle.stack_wire.specs.Tsdus.{refusal_tsdu}
+use Rattle.tpkt_cotp.specs.Written.{wire}
+use Rattle.tase_views.specs.declared.event.EventKind.{EventKind}
+use Rattle.tase_views.specs.History.{Past, association_in}
+use Rattle.tase_views.specs.Outcomes.{seat_refusal, name_refusal}
+use Rattle.tase_map.specs.Inputs.{Item, IsInput, text_of, has_ended}
+use Rattle.tase_map.specs.Readings.{reading_of}
+use Rattle.tase_map.specs.Turns.{Turn, offers, offers_badly, asks, concludes, releases, aborts}
+use Rattle.tase_map.specs.Turns.{breaks, ends, pauses, turns_told, turns_at, turns_from, turns_of}
+use Rattle.tase_map.specs.Asks.{is_last, up_to_last, asks_at, asks_behind, asks_of, without_pauses}
+use Rattle.tase_map.specs.Asks.{AreInTurn}
+use Rattle.tase_map.specs.Out.{talk_of, concluded_octets, early_octets, is_declined, refusal_octets}
+use Rattle.tase_map.specs.Out.{end_turns}
+use Rattle.tase_map.specs.Sent.{events_by, sent, turns_left}
+use Rattle.tase_map.proofs.InTurn.{asked_in_turn}
+use Rattle.tase_map.proofs.Uncut.{any_kept}
+use Rattle.tase_map.proofs.Unrefused.{unrefused}
+use Rattle.tase_conn.specs.declared.stage.Asked.{Asked}
+use Rattle.tase_conn.specs.declared.stage.Asked.TheVariants as askeds
+use Rattle.tase_conn.specs.declared.stage.Behind.{Behind}
+use Rattle.tase_conn.specs.declared.stage.Coming.{Coming}
+use Rattle.tase_conn.specs.declared.stage.ConnEnd.{ConnEnd}
+use Rattle.tase_conn.specs.declared.stage.ConnEnd.TheVariants as conn_ends
+use Rattle.tase_conn.specs.declared.stage.Progress.{Progress}
+use Rattle.tase_conn.specs.declared.stage.Progress.TheVariants as progresses
+use Rattle.tase_conn.specs.declared.stage.Stage.{Stage}
+use Rattle.tase_conn.specs.declared.stage.Stage.TheVariants as stages
+use Rattle.tase_conn.specs.Talking.{Talking, IsResting}
+use Rattle.tase_conn.specs.Places.{Runs, GoesBy, EndsBy, IsCause, IsDone, ReadsBy}
+use Rattle.tase_conn.specs.Places.{Begins, turns_held, fault_seen}
+use Rattle.conn_laws.specs.Serving.{IsWaiting, SaysBy, Serves, HasSaid}
+use Rattle.conn_laws.specs.Serving.{HasServed, Whatever}
+use Rattle.tase_conn.proofs.SeenTurns.{seen_front}
+use Rattle.conn_laws.proofs.Texts.{text_turns}
+use Rattle.conn_laws.proofs.TurnLists.{asks_join, any_front, or_left, or_right}
+use Rattle.conn_laws.proofs.Wanted.{waiting_of, answered_goes}
+
+-- ---- turns up to the last
+
+up_one : (rows : CentreRows) (b : Bool) (turn : Turn) (front more : List Turn) → b ≡ false
+    → (if b then turn ∷ [] else turn ∷ more) ≡ turn ∷ more
+up_one rows true turn front more e = absurd (false≢true (sym e))
+up_one rows false turn front more e = refl
+
+-- those behind which something follows, and then the others
+pub goes_front : (rows : CentreRows) (front more : List Turn)
+    → list_any (is_last rows) front ≡ false
+    → up_to_last rows (front ++ more) ≡ front ++ up_to_last rows more
+goes_front rows [] more l = refl
+goes_front rows (turn ∷ front) more l =
+    up_one rows (is_last rows turn) turn front (up_to_last rows (front ++ more))
+    (or_left (is_last rows turn) (list_any (is_last rows) front) l)
+    ∙ ap (λ (ts : List Turn). turn ∷ ts) (goes_front rows front more
+    (or_right (is_last rows turn) (list_any (is_last rows) front) l))
+
+pub all_kept : (rows : CentreRows) (turns : List Turn) → list_any (is_last rows) turns ≡ false
+    → up_to_last rows turns ≡ turns
+all_kept rows turns l =
+    ap (λ (ts : List Turn). up_to_last rows ts) (sym (append-nil turns))
+    ∙ goes_front rows turns [] l ∙ append-nil turns
+
+-- the first of them stays first
+first_kept : (rows : CentreRows) (turn : Turn) (more : List Turn)
+    → (others : List Turn) × (up_to_last rows (turn ∷ more) ≡ turn ∷ others)
+first_kept rows turn more = first_by (is_last rows turn)
+  where
+    first_by : (b : Bool) → (others : List Turn)
+        × ((if b then turn ∷ [] else turn ∷ up_to_last rows more) ≡ turn ∷ others)
+    first_by true = ([], refl)
+    first_by false = (up_to_last rows more, refl)
+
+kept_by : (b : Bool) (turn : Turn) (turns kept rest : List Turn) → turns ≡ kept ++ rest
+    → (others : List Turn) × (turn ∷ turns ≡ (if b then turn ∷ [] else turn ∷ kept) ++ others)
+kept_by true turn turns kept rest e = (turns, refl)
+kept_by false turn turns kept rest e = (rest, ap (λ (ts : List Turn). turn ∷ ts) e)
+
+-- they begin the turns
+pub kept_front : (rows : CentreRows) (turns : List Turn)
+    → (others : List Turn) × (turns ≡ up_to_last rows turns ++ others)
+kept_front rows [] = ([], refl)
+kept_front rows (turn ∷ turns) =
+    let r = kept_front rows turns in
+    kept_by (is_last rows turn) turn turns (up_to_last rows turns) r.0 r.1
+
+turns_on : (before items more : List Item)
+    → (others : List Turn) × (turns_from before (items ++ more) ≡ turns_from before items ++ others)
+turns_on before [] more = (turns_from before more, refl)
+turns_on before (item ∷ items) more =
+    let r = turns_on (before ++ item ∷ []) items more in (
+      r.0,
+      ap (λ (ts : List Turn). turns_at before item ++ ts) r.1
+          ∙ sym (append_assoc (turns_at before item) (turns_from (before ++ item ∷ []) items) r.0),
+    )
+
+-- ---- the event that waits
+
+-- the turns that were acted on begin those of the items
+begins_turns : (rows : CentreRows) (items : List Item) (told : List Told) (turns : List Turn)
+    (asked : Asked) (v : Talking) → Runs rows items told turns asked v
+    → Begins turns (turns_of items)
+begins_turns rows items told turns asked v r =
+    let f = seen_front rows items told turns asked v r in
+    (turns_held v.held ++ f.0, f.1 ∙ append_assoc turns (turns_held v.held) f.0)
+
+-- each event that waits is the next that the input asks for
+pub next_asked : (rows : CentreRows) (past : Past) (who : ℕ) (items : List Item)
+    (octets : List ℕ) (event : EventKind) (v : Talking)
+    → (s : Serves rows past who items octets (Some event) v)
+    → (later : List EventKind) × (asks_of rows items ≡ reverse (events_by who past) ++ event ∷ later)
+next_asked rows past who items octets event v s =
+    let found = waiting_of v.progress event s.waits in
+    let goes = answered_goes rows past who items octets event v s in
+    let r : Runs rows items s.told s.turns found.0 v =
+    subst (λ (x : Progress). GoesBy x rows items s.told s.turns v) found.1 s.stands.goes in
+    let f = begins_turns rows items s.told s.turns found.0 v r in
+    let last = s.are.last in
+    let k = first_kept rows last f.0 in
+    let whole : up_to_last rows (turns_of items) ≡ s.answered ++ last ∷ k.0 =
+    ap (λ (ts : List Turn). up_to_last rows ts)
+    (f.1 ∙ ap (λ (ts : List Turn). ts ++ f.0) s.are.is
+    ∙ append_assoc s.answered (last ∷ []) f.0)
+    ∙ goes_front rows s.answered (last ∷ f.0) goes
+    ∙ ap (λ (ts : List Turn). s.answered ++ ts) k.1 in (
+      asks_behind rows (s.answered ++ last ∷ []) k.0,
+      ap (λ (ts : List Turn). asks_behind rows [] ts) whole
+          ∙ asks_join rows [] s.answered (last ∷ k.0)
+          ∙ ap (λ (es : List EventKind). es ++ (asks_at rows s.answered last
+          ++ asks_behind rows (s.answered ++ last ∷ []) k.0)) (sym s.asked)
+          ∙ ap (λ (es : List EventKind). reverse (events_by who past)
+          ++ (es ++ asks_behind rows (s.answered ++ last ∷ []) k.0)) s.are.asks,
+    )
+
+pub never_refused : (rows : CentreRows) (past : Past) (who : ℕ) (items : List Item)
+    (octets : List ℕ) (event : EventKind) (v : Talking)
+    → Serves rows past who items octets (Some event) v
+    → (seat_refusal (association_in past who) event ≡ None) × (name_refusal rows event ≡ None)
+never_refused rows past who items octets event v s =
+    let n = next_asked rows past who items octets event v s in
+    unrefused rows past who event n.0
+    (subst (λ (es : List EventKind). AreInTurn rows es) n.1 (asked_in_turn rows items s.input))
+
+-- ---- all octets
+
+over_all : (Holds : List ℕ → Bool → List Turn → Type 0) (items : List Item)
+    (answered rest : List Turn) → IsInput items → turns_of items ≡ answered ++ rest
+    → Whatever items answered Holds → Holds (text_of items) (has_ended items) (without_pauses rest)
+over_all Holds items answered rest i t holds =
+    let same = append-nil items in
+    subst (λ (all : List Item). Holds (text_of all) (has_ended all) (without_pauses rest)) same
+    (holds [] (subst (λ (all : List Item). IsInput all) (sym same) i) rest
+    (subst (λ (all : List Item). turns_of all ≡ answered ++ rest) (sym same) t))
+
+undeclined : (rows : CentreRows) (turns : List Turn) → list_any (is_last rows) turns ≡ false
+    → is_declined rows turns ≡ false
+undeclined rows [] l = refl
+undeclined rows (offers title ∷ turns) l =
+    or_left (is_last rows (offers title)) (list_any (is_last rows) turns) l
+undeclined rows (offers_badly ∷ turns) l = absurd (false≢true (sym l))
+undeclined rows (asks invoke call ∷ turns) l = refl
+undeclined rows (concludes ∷ turns) l = refl
+undeclined rows (releases ∷ turns) l = refl
+undeclined rows (aborts ∷ turns) l = refl
+undeclined rows (breaks ∷ turns) l = refl
+undeclined rows (ends ∷ turns) l = refl
+undeclined rows (pauses ∷ turns) l = refl
+
+-- no offer was refused where something follows each turn
+early_said : (rows : CentreRows) (items : List Item) → IsInput items
+    → list_any (is_last rows) (turns_of items) ≡ false
+    → answers_to called (reading_of (text_of items)).told ≡ early_octets rows (text_of items)
+early_said rows items i l =
+    let r = reading_of (text_of items) in
+    let kept : list_any (is_last rows) (turns_told r ++ end_turns (has_ended items)) ≡ false =
+    ap (λ (ts : List Turn). list_any (is_last rows) ts) (sym (text_turns items i))
+    ∙ any_kept (is_last rows) refl (turns_of items) ∙ l in
+    let none : refusal_octets rows r ≡ [] =
+    ap (λ (b : Bool). if b then wire (setup_after r.told).size
+    (refusal_tsdu (setup_after r.told).acse) else [])
+    (undeclined rows (turns_told r)
+    (any_front (is_last rows) (turns_told r) (end_turns (has_ended items)) kept)) in
+    sym (append-nil (answers_to called r.told))
+    ∙ ap (λ (os : List ℕ). answers_to called r.told ++ os) (sym none)
+
+-- ---- at rest
+
+-- all that was read was acted on
+all_done : (rows : CentreRows) (items : List Item) (told : List Told) (turns : List Turn)
+    (v : Talking) → IsResting v → Runs rows items told turns askeds.Nothing v
+    → IsDone items told (turns ++ []) v
+all_done rows items told turns v at r =
+    let clear : v.course.fault ≡ None =
+    r.fault ∙ ap (λ (h : Option Coming). fault_seen h askeds.Nothing) at.acted in
+    let P : Option StackFault → Type 0 = λ f. MatchOption f
+    (ReadsBy v.behind items told (turns ++ turns_held v.held) v)
+    (λ fault. Begins (turns ++ turns_held v.held) (turns_of items)) in
+    subst (λ (h : Option Coming). IsDone items told (turns ++ turns_held h) v) at.acted
+    (subst (λ (b : Behind). ReadsBy b items told (turns ++ turns_held v.held) v) at.read
+    (subst P clear r.reads))
+
+running_said : (rows : CentreRows) (past : Past) (who : ℕ) (items : List Item)
+    (told : List Told) (turns : List Turn) (octets : List ℕ) (stage : Stage) → IsInput items
+    → turns_of items ≡ turns → told ≡ (reading_of (text_of items)).told
+    → list_any (is_last rows) turns ≡ false
+    → SaysBy stage (progresses.Running askeds.Nothing) rows past who items told turns octets
+    → HasSaid rows past who items octets
+running_said rows past who items told turns octets stages.Early i t all l says =
+    inr (
+      says.0,
+      says.1 ∙ ap (λ (ts : List Told). answers_to called ts) all
+          ∙ early_said rows items i (ap (λ (ts : List Turn). list_any (is_last rows) ts) t ∙ l),
+    )
+running_said rows past who items told turns octets (stages.Open peer detail) i t all l says =
+    let o = over_all (λ text ended rest. (octets ≡ sent rows past says.key text ended)
+    × (turns_left rows past says.key text ended ≡ rest)) items turns [] i
+    (t ∙ sym (append-nil turns)) says.octets in
+    inl (says.key, says.opened, o.0)
+running_said rows past who items told turns octets (stages.Closed peer) i t all l says =
+    let o = over_all (λ text ended rest. octets ++ concluded_octets
+    (talk_of (reading_of text) ended).setup rest ≡ sent rows past says.key text ended)
+    items turns [] i (t ∙ sym (append-nil turns)) says.octets in
+    inl (says.key, says.opened, sym (append-nil octets) ∙ o)
+
+running_served : (rows : CentreRows) (past : Past) (who : ℕ) (items : List Item)
+    (octets : List ℕ) (v : Talking) → (s : Serves rows past who items octets None v)
+    → v.progress ≡ progresses.Running askeds.Nothing → IsResting v
+    → HasServed rows past who items octets
+running_served rows past who items octets v s p at =
+    let r : Runs rows items s.told s.turns askeds.Nothing v =
+    subst (λ (x : Progress). GoesBy x rows items s.told s.turns v) p s.stands.goes in
+    let d = all_done rows items s.told s.turns v at r in
+    let t : turns_of items ≡ s.turns = sym d.seen_is ∙ append-nil s.turns in
+    let says : SaysBy v.stage (progresses.Running askeds.Nothing) rows past who items s.told s.turns
+    octets =
+    subst (λ (x : Progress). SaysBy v.stage x rows past who items s.told s.turns octets) p
+    (subst (λ (ts : List Turn). SaysBy v.stage v.progress rows past who items s.told ts octets)
+    (sym s.are) s.says) in
+    record {
+      asked = s.asked ∙ ap (λ (ts : List Turn). asks_behind rows [] ts)
+          (sym s.are ∙ sym (all_kept rows s.turns r.ending)
+          ∙ ap (λ (ts : List Turn). up_to_last rows ts) (sym t));
+      octets = running_said rows past who items s.told s.turns octets v.stage s.input t d.told_is
+          r.ending says;
+    }
+
+-- ---- at its end
+
+pub cause_last : (rows : CentreRows) (items : List Item) (end : ConnEnd) (last : Turn)
+    → IsCause rows items end last → is_last rows last ≡ true
+cause_last rows items conn_ends.Finished last c = ap (λ t. is_last rows t) c
+cause_last rows items conn_ends.PeerEnd last (inl c) = ap (λ t. is_last rows t) c
+cause_last rows items conn_ends.PeerEnd last (inr c) = ap (λ t. is_last rows t) c
+cause_last rows items conn_ends.Declined (offers title) c = ap (λ b. not b) c
+cause_last rows items conn_ends.Declined offers_badly c = refl
+cause_last rows items conn_ends.Declined (asks invoke call) c = absurd cc
+cause_last rows items conn_ends.Declined concludes c = absurd cc
+cause_last rows items conn_ends.Declined releases c = refl
+cause_last rows items conn_ends.Declined aborts c = refl
+cause_last rows items conn_ends.Declined breaks c = refl
+cause_last rows items conn_ends.Declined ends c = refl
+cause_last rows items conn_ends.Declined pauses c = absurd cc
+cause_last rows items (conn_ends.Refused fault) last c = ap (λ t. is_last rows t) c.0
+cause_last rows items (conn_ends.TooLong len detail) last c = absurd c
+cause_last rows items (conn_ends.Overflow pending limit) last c = absurd c
+cause_last rows items conn_ends.LinkFault last c = absurd c
+cause_last rows items conn_ends.Stopped last c = absurd c
+cause_last rows items (conn_ends.Full weight limit) last c = absurd c
+cause_last rows items conn_ends.Memory last c = absurd c
+
+last_alone : (rows : CentreRows) (b : Bool) (last : Turn) (more : List Turn) → b ≡ true
+    → (if b then last ∷ [] else last ∷ more) ≡ last ∷ []
+last_alone rows true last more e = refl
+last_alone rows false last more e = absurd (false≢true e)
+
+cut_there : (rows : CentreRows) (front others : List Turn) (last : Turn)
+    → list_any (is_last rows) front ≡ false → is_last rows last ≡ true
+    → up_to_last rows ((front ++ last ∷ []) ++ others) ≡ front ++ last ∷ []
+cut_there rows front others last goes is =
+    ap (λ (ts : List Turn). up_to_last rows ts) (append_assoc front (last ∷ []) others)
+    ∙ goes_front rows front (last ∷ others) goes
+    ∙ ap (λ (ts : List Turn). front ++ ts)
+    (last_alone rows (is_last rows last) last (up_to_last rows others) is)
+
+-- the turns that were acted on are those of all items, up to the last
+pub record AtEnd (rows : CentreRows) (items : List Item) (turns : List Turn) : Type 0 where
+  pub rest : List Turn
+  pub is : turns_of items ≡ turns ++ rest
+  pub whole : up_to_last rows (turns_of items) ≡ turns
+
+pub at_end : (rows : CentreRows) (items : List Item) (told : List Told) (turns : List Turn)
+    (end : ConnEnd) → EndsBy rows items told turns end → AtEnd rows items turns
+at_end rows items told turns end e =
+    let k = kept_front rows (turns_of e.done) in
+    let o = turns_on [] e.done e.dropped in
+    let is : turns_of items ≡ turns ++ (k.0 ++ o.0) =
+    ap (λ (all : List Item). turns_of all) e.items_are ∙ o.1
+    ∙ ap (λ (ts : List Turn). ts ++ o.0) (k.1 ∙ ap (λ (ts : List Turn). ts ++ k.0) e.whole)
+    ∙ append_assoc turns k.0 o.0 in
+    record {
+      rest = k.0 ++ o.0;
+      is = is;
+      whole = ap (λ (ts : List Turn). up_to_last rows ts)
+          (is ∙ ap (λ (ts : List Turn). ts ++ (k.0 ++ o.0)) e.ends.is)
+          ∙ cut_there rows e.ends.front (k.0 ++ o.0) e.last e.ends.goes
+          (cause_last rows items end e.last e.cause)
+          ∙ sym e.ends.is;
+    }
+
+ended_said : (rows : CentreRows) (past : Past) (who : ℕ) (items : List Item)
+    (told : List Told) (turns rest : List Turn) (octets : List ℕ) (end : ConnEnd) (stage : Stage)
+    → IsInput items → turns_of items ≡ turns ++ rest
+    → (is_running : SaysBy stage (progresses.Ended end) rows past who items told turns octets)
+    → HasSaid rows past who items octets
+ended_said rows past who items told turns rest octets end stages.Early i t says =
+    inr (
+      says.0,
+      over_all (λ text ended rest. octets ≡ early_octets rows text) items turns rest i t
+          says.1,
+    )
+ended_said rows past who items told turns rest octets end (stages.Open peer detail) i t says =
+    let o = over_all (λ text ended rest. (octets ≡ sent rows past says.key text ended)
+    × (turns_left rows past says.key text ended ≡ rest)) items turns rest i t says.octets in
+    inl (says.key, says.opened, o.0)
+ended_said rows past who items told turns rest octets end (stages.Closed peer) i t says =
+    let o = over_all (λ text ended rest. octets ++ [] ≡ sent rows past says.key text ended)
+    items turns rest i t says.octets in
+    inl (says.key, says.opened, sym (append-nil octets) ∙ o)
+
+ended_served : (rows : CentreRows) (past : Past) (who : ℕ) (items : List Item)
+    (octets : List ℕ) (end : ConnEnd) (v : Talking)
+    → (s : Serves rows past who items octets None v) → v.progress ≡ progresses.Ended end
+    → HasServed rows past who items octets
+ended_served rows past who items octets end v s p =
+    let e = (subst (λ (x : Progress). GoesBy x rows items s.told s.turns v) p s.stands.goes).0 in
+    let a = at_end rows items s.told s.turns end e in
+    let says : SaysBy v.stage (progresses.Ended end) rows past who items s.told s.turns octets =
+    subst (λ (x : Progress). SaysBy v.stage x rows past who items s.told s.turns octets) p
+    (subst (λ (ts : List Turn). SaysBy v.stage v.progress rows past who items s.told ts octets)
+    (sym s.are) s.says) in
+    record {
+      asked = s.asked ∙ ap (λ (ts : List Turn). asks_behind rows [] ts) (sym s.are ∙ sym a.whole);
+      octets = ended_said rows past who items s.told s.turns a.rest octets end v.stage s.input a.is
+          says;
+    }
+
+served_by : (rows : CentreRows) (past : Past) (who : ℕ) (items : List Item) (octets : List ℕ)
+    (v : Talking) (p : Progress) → (s : Serves rows past who items octets None v)
+    → v.progress ≡ p → IsWaiting p None → IsResting v → HasServed rows past who items octets
+served_by rows past who items octets v (progresses.Running askeds.Nothing) s p w at =
+    running_served rows past who items octets v s p at
+served_by rows past who items octets v (progresses.Running (askeds.Opening peer offered)) s p w at =
+    absurd w
+served_by rows past who items octets v (progresses.Running (askeds.Requesting invoke)) s p w at =
+    absurd w
+served_by rows past who items octets v (progresses.Running askeds.Taking) s p w at = absurd w
+served_by rows past who items octets v (progresses.Running (askeds.Closing cause)) s p w at =
+    absurd w
+served_by rows past who items octets v progresses.Refused s p w at = absurd w
+served_by rows past who items octets v (progresses.Leaving end asked) s p w at = absurd w
+served_by rows past who items octets v (progresses.Ended end) s p w at =
+    ended_served rows past who items octets end v s p
+served_by rows past who items octets v (progresses.Cut end) s p w at = absurd w
+
+-- at rest or ended it has been asked all, and has said all
+pub has_served : (rows : CentreRows) (past : Past) (who : ℕ) (items : List Item)
+    (octets : List ℕ) (v : Talking) → Serves rows past who items octets None v → IsResting v
+    → HasServed rows past who items octets
+has_served rows past who items octets v s at =
+    served_by rows past who items octets v v.progress s refl s.waits at

@@ -1,0 +1,251 @@
+-- What was said behind each answer.
+use Rattle.std.proofs.Common.{◌≡◌, ℕ, ℤ, ◌≤◌, Bool, true, false, List, [], ◌∷◌, ◌++◌, Option, None}
+use Rattle.std.proofs.Common.{refl, sym, ap, ◌∙◌, append_assoc, arith}
+use Rattle.std.specs.Prelude.{is_some, if◌then◌else◌}
+use Rattle.std.specs.List.{list_any}
+use Rattle.std.proofs.lemmas.List.{append-nil}
+use Rattle.tpkt_cotp.specs.Written.{wire}
+use Rattle.mms_services.specs.declared.initiate.Initiate.{Initiate}
+use Rattle.mms_services.specs.declared.pdu.MmsPdu.TheVariants as pdus
+use Rattle.stack_messages.specs.declared.heard.Connecting.{Connecting}
+use Rattle.stack_wire.specs.declared.setup.Setup.{Setup}
+use Rattle.stack_wire.specs.Tsdus.{accept_tsdu}
+use Rattle.stack_assoc.specs.Told.{Told, called, first_in, connect_in}
+use Rattle.stack_assoc.specs.Handing.{answers_to}
+use Rattle.stack_assoc.specs.Expectations.{setup_after}
+use Rattle.stack_assoc.specs.declared.standing.Standing.{Standing}
+use Rattle.stack_assoc.specs.Courses.{Course, Stands, is_accepted}
+use Rattle.bilateral.specs.Rows.{CentreRows}
+use Rattle.sbo_device.specs.declared.key.Key.{Key}
+use Rattle.tase_views.specs.declared.call.CallKind.{CallKind}
+use Rattle.tase_views.specs.declared.event.EventKind.TheVariants as events
+use Rattle.tase_views.specs.declared.reply.ReplyKind.{ReplyKind}
+use Rattle.tase_views.specs.History.{Past, next_key, opens_in}
+use Rattle.tase_views.specs.OwnTable.{own_table}
+use Rattle.tase_views.specs.View.{view_of}
+use Rattle.tase_views.specs.Answers.{reply_to}
+use Rattle.tase_map.specs.Inputs.{Item, IsInput, text_of, has_ended}
+use Rattle.tase_map.specs.Readings.{reading_of}
+use Rattle.tase_map.specs.Replied.{pdu_in}
+use Rattle.tase_map.specs.Turns.{Turn, offers, asks, pauses}
+use Rattle.tase_map.specs.Turns.{turns_of}
+use Rattle.tase_map.specs.Asks.{is_last, asks_behind, without_pauses}
+use Rattle.tase_map.specs.Out.{talk_of, accept_octets, detail_of, behind_offer, said, within}
+use Rattle.tase_map.specs.Out.{reply_octets, close_octets, concluded_octets, release_octets}
+use Rattle.tase_map.specs.Out.{abort_octets, turns_behind}
+use Rattle.tase_map.specs.Sent.{sent}
+use Rattle.tase_map.proofs.Adding.{open_adds, take_adds, close_adds, asked_adds}
+use Rattle.tase_map.proofs.Passing.{left_asked, quiet_event, none_sent, all_left}
+use Rattle.tase_map.proofs.Uncut.{without-append}
+use Rattle.tase_conn.specs.declared.stage.Cause.{Cause}
+use Rattle.tase_conn.specs.declared.stage.Cause.TheVariants as causes
+use Rattle.tase_conn.specs.declared.stage.Asked.TheVariants as askeds
+use Rattle.tase_conn.specs.Places.{IsGranted, turn_for, served_standing}
+use Rattle.tase_conn.specs.Answering.{closed_said, progress_closed, aborted}
+use Rattle.conn_laws.specs.Serving.{with_event, SaysOpen, SaysClosed, owed}
+use Rattle.conn_laws.proofs.AskedCalls.{input_calls}
+use Rattle.conn_laws.proofs.Seats.{at_seat, still_opened, close_closes}
+use Rattle.conn_laws.proofs.Texts.{IsFixed, fixed_over, text_turns}
+use Rattle.conn_laws.proofs.TurnLists.{silent, input_follows}
+
+-- ---- the open
+
+-- what comes behind the offer
+behind_first : (rows : CentreRows) (items more : List Item) (answered : List Turn)
+    (title : Option (List ℕ)) (rest : List Turn) → list_any (is_last rows) answered ≡ false
+    → asks_behind rows [] answered ≡ [] → IsInput (items ++ more)
+    → turns_of (items ++ more) ≡ answered ++ offers title ∷ rest
+    → (talk_of (reading_of (text_of (items ++ more))) (has_ended (items ++ more))).turns
+    ≡ without_pauses rest
+behind_first rows items more answered title rest l e i t =
+    let alone : without_pauses answered ≡ [] =
+    silent rows [] answered (offers title ∷ rest) refl l
+    (input_follows items more answered (offers title ∷ rest) i t) e in
+    ap (λ (ts : List Turn). behind_offer ts)
+    (sym (text_turns (items ++ more) i) ∙ ap (λ (ts : List Turn). without_pauses ts) t
+    ∙ without-append answered (offers title ∷ rest)
+    ∙ ap (λ (ts : List Turn). ts ++ offers title ∷ without_pauses rest) alone)
+
+opening_is : (told : List Told) (offered : Initiate) (v : Course) (text : List ℕ) (ended : Bool)
+    → IsFixed told v (reading_of text) → IsGranted told offered
+    → (talk_of (reading_of text) ended).opening
+    ≡ answers_to called told ++ wire v.setup.size (accept_tsdu v.setup offered)
+opening_is told offered v text ended x g =
+    let r = reading_of text in
+    let front = answers_to called told in
+    ap (λ (os : List ℕ). os
+    ++ accept_octets (setup_after r.told) (first_in connect_in r.told)) x.answered
+    ∙ ap (λ (s : Setup). front ++ accept_octets s (first_in connect_in r.told)) x.setup
+    ∙ ap (λ (c : Option Connecting). front ++ accept_octets (setup_after told) c)
+    (x.first ∙ g.first)
+    ∙ ap (λ (o : Initiate). front
+    ++ wire (setup_after told).size (accept_tsdu (setup_after told) o)) (sym g.is)
+    ∙ ap (λ (s : Setup). front ++ wire s.size (accept_tsdu s offered)) (sym x.course_setup)
+
+pub opened_says : (rows : CentreRows) (past : Past) (who : ℕ) (items : List Item)
+    (told : List Told) (answered : List Turn) (title : Option (List ℕ)) (peer : ℕ)
+    (offered : Initiate) (octets : List ℕ) (v : Course)
+    → Stands called (text_of items) told v → is_some (first_in connect_in told) ≡ true
+    → IsGranted told offered → list_any (is_last rows) answered ≡ false
+    → asks_behind rows [] answered ≡ [] → octets ≡ answers_to called told
+    → SaysOpen rows (with_event who (events.Open peer) past) who items
+    (answered ++ offers title ∷ []) (octets ++ wire v.setup.size (accept_tsdu v.setup offered))
+opened_says rows past who items told answered title peer offered octets v s connect g l e o =
+    let key = next_key past peer in
+    let now = with_event who (events.Open peer) past in
+    let yet : opens_in past peer ≤ opens_in past peer = omega arith in
+    record {
+      key = key;
+      opened = record { later = []; earlier = past; peer = peer; is = refl; key_is = refl };
+      seat = at_seat (events.Open peer) past who;
+      octets = λ more i rest t.
+          let text = text_of (items ++ more) in
+          let ended = has_ended (items ++ more) in
+          let talk = talk_of (reading_of text) ended in
+          let table = own_table rows peer in
+          let accept = wire v.setup.size (accept_tsdu v.setup offered) in
+          let x = fixed_over items more told v s connect in
+          let joined : turns_of (items ++ more) ≡ answered ++ offers title ∷ rest =
+          t ∙ append_assoc answered (offers title ∷ []) rest in (
+            ap (λ (os : List ℕ). os ++ accept) o
+                ∙ sym (open_adds rows table talk key who peer past refl
+                ∙ ap (λ (os : List ℕ). os ++ talk.opening) (none_sent rows table talk key past yet)
+                ∙ opening_is told offered v text ended x g),
+            ap (λ m. turns_behind talk.turns m)
+                (quiet_event rows key who (events.Open peer) past tt refl)
+                ∙ all_left rows talk.turns key past yet
+                ∙ behind_first rows items more answered title rest l e i joined,
+          );
+    }
+
+-- ---- a request
+
+abbrev pub answer_octets : CentreRows → Past → Key → Course → ℤ → ℕ → CallKind → List ℕ
+answer_octets rows past key v detail invoke call = said v.setup (within detail invoke (pdu_in invoke
+    (reply_to (own_table rows key.peer) (view_of rows key.peer past) key.ordinal call)))
+
+reply_is : (told : List Told) (detail : ℤ) (v : Course) (text : List ℕ) (ended : Bool)
+    (invoke : ℕ) (reply : ReplyKind) → IsFixed told v (reading_of text)
+    → detail ≡ detail_of (first_in connect_in told)
+    → said v.setup (within detail invoke (pdu_in invoke reply))
+    ≡ reply_octets (talk_of (reading_of text) ended) invoke reply
+reply_is told detail v text ended invoke reply x d =
+    let r = reading_of text in
+    ap (λ (s : Setup). said s (within detail invoke (pdu_in invoke reply)))
+    (x.course_setup ∙ sym x.setup)
+    ∙ ap (λ (z : ℤ). said (setup_after r.told) (within z invoke (pdu_in invoke reply)))
+    (d ∙ ap (λ (c : Option Connecting). detail_of c) (sym x.first))
+
+pub requested_says : (rows : CentreRows) (past : Past) (who : ℕ) (items : List Item)
+    (told : List Told) (answered : List Turn) (invoke : ℕ) (call : CallKind) (detail : ℤ)
+    (octets : List ℕ) (v : Course) → Stands called (text_of items) told v
+    → is_some (first_in connect_in told) ≡ true → detail ≡ detail_of (first_in connect_in told)
+    → (o : SaysOpen rows past who items answered octets)
+    → SaysOpen rows (with_event who (events.Request call) past) who items
+    (answered ++ asks invoke call ∷ [])
+    (octets ++ answer_octets rows past o.key v detail invoke call)
+requested_says rows past who items told answered invoke call detail octets v s connect d o =
+    let key = o.key in
+    record {
+      key = key;
+      opened = still_opened (with_event who (events.Request call) []) past who key o.opened;
+      seat = at_seat (events.Request call) past who ∙ o.seat;
+      octets = λ more i rest t.
+          let text = text_of (items ++ more) in
+          let ended = has_ended (items ++ more) in
+          let talk = talk_of (reading_of text) ended in
+          let table = own_table rows key.peer in
+          let x = fixed_over items more told v s connect in
+          let joined : turns_of (items ++ more) ≡ answered ++ asks invoke call ∷ rest =
+          t ∙ append_assoc answered (asks invoke call ∷ []) rest in
+          let before = o.octets more i (asks invoke call ∷ rest) joined in
+          let lawful = input_calls (items ++ more) answered invoke call rest i joined in (
+            ap (λ (os : List ℕ). os ++ answer_octets rows past key v detail invoke call) before.0
+                ∙ ap (λ (os : List ℕ). sent rows past key text ended ++ os)
+                (reply_is told detail v text ended invoke (reply_to table
+                (view_of rows key.peer past) key.ordinal call) x d)
+                ∙ sym (asked_adds rows table talk key who past invoke call (without_pauses rest)
+                lawful o.seat before.1),
+            left_asked rows talk.turns key who invoke call (without_pauses rest) past lawful o.seat
+                before.1,
+          );
+    }
+
+-- ---- a take
+
+pub taken_says : (rows : CentreRows) (past : Past) (who : ℕ) (items : List Item)
+    (answered : List Turn) (octets : List ℕ) → SaysOpen rows past who items answered octets
+    → SaysOpen rows (with_event who events.Take past) who items (answered ++ pauses ∷ []) octets
+taken_says rows past who items answered octets o =
+    let key = o.key in
+    record {
+      key = key;
+      opened = still_opened (with_event who events.Take []) past who key o.opened;
+      seat = at_seat events.Take past who ∙ o.seat;
+      octets = λ more i rest t.
+          let talk = talk_of (reading_of (text_of (items ++ more))) (has_ended (items ++ more)) in
+          let before = o.octets more i (pauses ∷ rest)
+          (t ∙ append_assoc answered (pauses ∷ []) rest) in (
+            before.0 ∙ sym (take_adds rows (own_table rows key.peer) talk key who past o.seat),
+            ap (λ m. turns_behind talk.turns m)
+                (quiet_event rows key who events.Take past tt o.seat) ∙ before.1,
+          );
+    }
+
+-- ---- a close
+
+-- the octets of an end by this cause
+closed_octets : (cause : Cause) (v : Course) (setup : Setup) (rest : List Turn)
+    → v.standing ≡ served_standing (askeds.Closing cause) None → v.setup ≡ setup
+    → closed_said v cause ++ owed (progress_closed cause) setup rest
+    ≡ close_octets setup (turn_for cause ∷ rest)
+closed_octets causes.Concluded v setup rest a e =
+    ap (λ (s : Setup). said s pdus.Concluded ++ concluded_octets setup rest) e
+closed_octets causes.Released v setup rest a e =
+    append-nil (release_octets v.setup) ∙ ap (λ (s : Setup). release_octets s) e
+closed_octets causes.Aborted v setup rest a e = refl
+closed_octets causes.LinkEnd v setup rest a e = refl
+closed_octets (causes.Broken fault) v setup rest a e =
+    append-nil (aborted v)
+    ∙ ap (λ (s : Standing). if is_accepted s then abort_octets v.setup else []) a
+    ∙ ap (λ (s : Setup). abort_octets s) e
+
+turn_kept : (cause : Cause) (rest : List Turn)
+    → without_pauses (turn_for cause ∷ rest) ≡ turn_for cause ∷ without_pauses rest
+turn_kept causes.Concluded rest = refl
+turn_kept causes.Released rest = refl
+turn_kept causes.Aborted rest = refl
+turn_kept causes.LinkEnd rest = refl
+turn_kept (causes.Broken fault) rest = refl
+
+pub closed_says : (rows : CentreRows) (past : Past) (who : ℕ) (items : List Item)
+    (told : List Told) (answered : List Turn) (cause : Cause) (octets : List ℕ) (v : Course)
+    → Stands called (text_of items) told v → is_some (first_in connect_in told) ≡ true
+    → v.standing ≡ served_standing (askeds.Closing cause) None
+    → SaysOpen rows past who items answered octets
+    → SaysClosed (progress_closed cause) rows (with_event who events.Close past) who items
+    (answered ++ turn_for cause ∷ []) (octets ++ closed_said v cause)
+closed_says rows past who items told answered cause octets v s connect a o =
+    let key = o.key in
+    record {
+      key = key;
+      opened = still_opened (with_event who events.Close []) past who key o.opened;
+      closed = close_closes past who key o.seat;
+      octets = λ more i rest t.
+          let text = text_of (items ++ more) in
+          let ended = has_ended (items ++ more) in
+          let talk = talk_of (reading_of text) ended in
+          let x = fixed_over items more told v s connect in
+          let before = o.octets more i (turn_for cause ∷ rest)
+          (t ∙ append_assoc answered (turn_for cause ∷ []) rest) in
+          let close = close_octets talk.setup (turn_for cause ∷ without_pauses rest) in
+          append_assoc octets (closed_said v cause)
+          (owed (progress_closed cause) talk.setup (without_pauses rest))
+          ∙ ap (λ (os : List ℕ). octets ++ os)
+          (closed_octets cause v talk.setup (without_pauses rest) a
+          (x.course_setup ∙ sym x.setup))
+          ∙ ap (λ (os : List ℕ). os ++ close) before.0
+          ∙ ap (λ (ts : List Turn). sent rows past key text ended ++ close_octets talk.setup ts)
+          (sym (before.1 ∙ turn_kept cause rest))
+          ∙ sym (close_adds rows (own_table rows key.peer) talk key who past o.seat);
+    }

@@ -1,0 +1,160 @@
+-- A connection as a seat of a node over its history: which events of the seat have come of what the
+-- link gave, and which octets were said.
+use Rattle.std.specs.Prelude.{◌≡◌, ℕ, Bool, true, ◌⊎◌, List, [], ◌∷◌, ◌++◌, reverse, Option, Some}
+use Rattle.std.specs.Prelude.{None}
+use Rattle.std.specs.Prelude.{Result}
+use Rattle.stack_wire.specs.declared.setup.Setup.{Setup}
+use Rattle.stack_assoc.specs.Told.{Told, called}
+use Rattle.stack_assoc.specs.Handing.{answers_to}
+use Rattle.bilateral.specs.Rows.{CentreRows}
+use Rattle.sbo_device.specs.declared.key.Key.{Key}
+use Rattle.tase_views.specs.declared.event.EventKind.{EventKind}
+use Rattle.tase_views.specs.declared.event.EventKind.TheVariants as events
+use Rattle.tase_views.specs.declared.fault.StepFault.{StepFault}
+use Rattle.tase_views.specs.declared.reply.Answer.{Answer}
+use Rattle.tase_views.specs.History.{Past, next_key, association_in}
+use Rattle.tase_map.specs.Inputs.{Item, IsInput, text_of, has_ended}
+use Rattle.tase_map.specs.Readings.{reading_of}
+use Rattle.tase_map.specs.Turns.{Turn, turns_of}
+use Rattle.tase_map.specs.Asks.{asks_at, asks_behind, asks_of, without_pauses}
+use Rattle.tase_map.specs.Out.{talk_of, concluded_octets, early_octets}
+use Rattle.tase_map.specs.Closed.{is_closed}
+use Rattle.tase_map.specs.Sent.{events_by, sent, turns_left}
+use Rattle.tase_conn.specs.declared.stage.Stage.{Stage}
+use Rattle.tase_conn.specs.declared.stage.Stage.TheVariants as stages
+use Rattle.tase_conn.specs.declared.stage.Asked.TheVariants as askeds
+use Rattle.tase_conn.specs.declared.stage.Progress.{Progress}
+use Rattle.tase_conn.specs.declared.stage.Progress.TheVariants as progresses
+use Rattle.tase_conn.specs.Talking.{Talking}
+use Rattle.tase_conn.specs.Places.{StandsAt}
+use Rattle.tase_conn.specs.Wanting.{WaitsFor}
+use Rattle.tase_conn.specs.Answering.{progress_told, stage_told}
+
+-- ---- the association of a seat
+
+-- the history with an event of a seat more
+abbrev pub with_event : ℕ → EventKind → Past → Past
+with_event who event past = record { who = who; event = event } ∷ past
+
+-- a seat has opened this association
+pub record HasOpened (past : Past) (who : ℕ) (key : Key) : Type 0 where
+  pub later : Past
+  pub earlier : Past
+  pub peer : ℕ
+  pub is : past ≡ later ++ with_event who (events.Open peer) earlier
+  pub key_is : next_key earlier peer ≡ key
+
+-- none of these entries is of this seat
+abbrev pub AreOthers : ℕ → Past → Type 0
+AreOthers who [] = Unit {0}
+AreOthers who (entry ∷ others) = (entry.who ≡ who → ⊥) × AreOthers who others
+
+-- ---- what was answered
+
+-- the last turn that was acted on asks for the event that waits
+pub record AsksLast (rows : CentreRows) (event : EventKind) (answered turns : List Turn) :
+    Type 0 where
+  pub last : Turn
+  pub is : turns ≡ answered ++ last ∷ []
+  pub asks : asks_at rows answered last ≡ event ∷ []
+
+-- of the turns that were acted on, those that are answered: all, or all but that which asks for the
+-- event that waits
+abbrev pub AreAnswered : CentreRows → Option EventKind → List Turn → List Turn → Type 0
+AreAnswered rows None answered turns = turns ≡ answered
+AreAnswered rows (Some event) answered turns = AsksLast rows event answered turns
+
+-- which event waits, of a connection that goes on, or that the peer has ended
+abbrev pub IsWaiting : Progress → Option EventKind → Type 0
+IsWaiting (progresses.Running askeds.Nothing) None = Unit {0}
+IsWaiting (progresses.Running asked) (Some event) = WaitsFor (progresses.Running asked) event
+IsWaiting (progresses.Ended end) None = Unit {0}
+IsWaiting _ _ = ⊥
+
+-- ---- what was said
+
+-- whatever else the link gives: this holds of the whole text, of whether it has ended, and of what it
+-- tells behind the turns that are answered
+abbrev pub Whatever : List Item → List Turn → (List ℕ → Bool → List Turn → Type 0) → Type 0
+Whatever items answered Holds = (more : List Item) → IsInput (items ++ more)
+    → (rest : List Turn) → turns_of (items ++ more) ≡ answered ++ rest
+    → Holds (text_of (items ++ more)) (has_ended (items ++ more)) (without_pauses rest)
+
+-- before an open: what answers the messages that were read; in the end, all that a connection without
+-- one is sent
+abbrev pub SaysEarly : Progress → CentreRows → List Item → List Told → List Turn → List ℕ → Type 0
+SaysEarly (progresses.Running asked) rows items told answered said = said ≡ answers_to called told
+SaysEarly (progresses.Ended end) rows items told answered said =
+    Whatever items answered (λ text ended rest. said ≡ early_octets rows text)
+SaysEarly _ rows items told answered said = ⊥
+
+-- while its association is open: all that it is sent
+pub record SaysOpen (rows : CentreRows) (past : Past) (who : ℕ) (items : List Item)
+    (answered : List Turn) (said : List ℕ) : Type 0 where
+  pub key : Key
+  pub opened : HasOpened past who key
+  pub seat : association_in past who ≡ Some key
+  pub octets : Whatever items answered (λ text ended rest.
+      (said ≡ sent rows past key text ended) × (turns_left rows past key text ended ≡ rest))
+
+-- what is still owed behind the response to conclude
+abbrev pub owed : Progress → Setup → List Turn → List ℕ
+owed (progresses.Running asked) setup rest = concluded_octets setup rest
+owed _ setup rest = []
+
+-- once it is closed: all that it is sent, but for what is owed
+pub record SaysClosed (progress : Progress) (rows : CentreRows) (past : Past) (who : ℕ)
+    (items : List Item) (answered : List Turn) (said : List ℕ) : Type 0 where
+  pub key : Key
+  pub opened : HasOpened past who key
+  pub closed : is_closed key past ≡ true
+  pub octets : Whatever items answered (λ text ended rest.
+      said ++ owed progress (talk_of (reading_of text) ended).setup rest
+      ≡ sent rows past key text ended)
+
+abbrev pub SaysBy : Stage → Progress → CentreRows → Past → ℕ → List Item → List Told → List Turn
+    → List ℕ → Type 0
+SaysBy stages.Early progress rows past who items told answered said =
+    (events_by who past ≡ []) × SaysEarly progress rows items told answered said
+SaysBy (stages.Open peer detail) progress rows past who items told answered said =
+    SaysOpen rows past who items answered said
+SaysBy (stages.Closed peer) progress rows past who items told answered said =
+    SaysClosed progress rows past who items answered said
+
+-- ---- a connection that wasn't cut
+
+-- a connection, whose link gave these items, is served by this seat of a node with this history, has
+-- said these octets in all, and waits for the answer to this event, if to one
+pub record Serves (rows : CentreRows) (past : Past) (who : ℕ) (items : List Item)
+    (said : List ℕ) (waiting : Option EventKind) (v : Talking) : Type 0 where
+  pub told : List Told
+  pub turns : List Turn
+  pub input : IsInput items
+  pub stands : StandsAt rows items told turns v
+  pub waits : IsWaiting v.progress waiting
+  pub answered : List Turn
+  pub are : AreAnswered rows waiting answered turns
+  pub asked : reverse (events_by who past) ≡ asks_behind rows [] answered
+  pub says : SaysBy v.stage v.progress rows past who items told answered said
+
+-- where the connection stands behind an answer, or a refusal, that it was told
+pub record HasTold (rows : CentreRows) (items : List Item) (told : List Told) (turns : List Turn)
+    (outcome : Result Answer StepFault) (old new : Talking) : Type 0 where
+  pub stands : StandsAt rows items told turns new
+  pub progress : new.progress ≡ progress_told old.progress old.stage outcome
+  pub stage : new.stage ≡ stage_told old.progress outcome old.stage
+
+-- ---- what that means
+
+-- all octets: those of the association that the seat has opened, or those of a connection without one
+abbrev pub HasSaid : CentreRows → Past → ℕ → List Item → List ℕ → Type 0
+HasSaid rows past who items said =
+    ((key : Key) × HasOpened past who key
+    × (said ≡ sent rows past key (text_of items) (has_ended items)))
+    ⊎ ((events_by who past ≡ []) × (said ≡ early_octets rows (text_of items)))
+
+-- the seat has had all events that the input asks, and all octets were said
+pub record HasServed (rows : CentreRows) (past : Past) (who : ℕ) (items : List Item)
+    (said : List ℕ) : Type 0 where
+  pub asked : reverse (events_by who past) ≡ asks_of rows items
+  pub octets : HasSaid rows past who items said
