@@ -100,7 +100,7 @@ open_event rows title peer event p e =
 
 -- ---- where it stands
 
-opens_early : (peer : ℕ) (offered : Initiate) (stage : Stage) (held : Option Coming)
+pub opens_early : (peer : ℕ) (offered : Initiate) (stage : Stage) (held : Option Coming)
     → IsAskedAt (askeds.Opening peer offered) stage held → stage ≡ stages.Early
 opens_early peer offered stages.Early None w = refl
 opens_early peer offered stages.Early (Some coming) w = absurd w
@@ -114,7 +114,7 @@ pub record IsServedAt (stage : Stage) (held : Option Coming) : Type 0 where
   pub stage_is : stage ≡ stages.Open peer detail
   pub held_is : held ≡ None
 
-request_served : (invoke : ℕ) (stage : Stage) (held : Option Coming)
+pub request_served : (invoke : ℕ) (stage : Stage) (held : Option Coming)
     → IsAskedAt (askeds.Requesting invoke) stage held → IsServedAt stage held
 request_served invoke stages.Early held w = absurd w
 request_served invoke (stages.Open peer detail) None w =
@@ -140,7 +140,7 @@ close_served cause (stages.Closed peer) held w = absurd w
 
 -- ---- all together
 
-asked_more : (rows : CentreRows) (past : Past) (who : ℕ) (event : EventKind)
+pub asked_more : (rows : CentreRows) (past : Past) (who : ℕ) (event : EventKind)
     (answered turns : List Turn) (last : Turn)
     → reverse (events_by who past) ≡ asks_behind rows [] answered
     → turns ≡ answered ++ last ∷ [] → asks_at rows answered last ≡ event ∷ []
@@ -155,15 +155,15 @@ asked_more rows past who event answered turns last before is one =
     ∙ ap (λ (ts : List Turn). asks_behind rows [] ts) (sym is)
 
 -- what is to be known of the answer
-record Follows (rows : CentreRows) (past : Past) (who : ℕ) (items : List Item)
+pub record Follows (rows : CentreRows) (past : Past) (who : ℕ) (items : List Item)
     (told : List Told) (turns : List Turn) (octets : List ℕ) (answer : Answer) (old : Talking) :
     Type 0 where
-  progress : Progress
-  stage : Stage
-  progress_is : progress_told old.progress old.stage (Ok answer) ≡ progress
-  stage_is : stage_told old.progress (Ok answer) old.stage ≡ stage
-  waits : IsWaiting progress None
-  says : SaysBy stage progress rows past who items told turns
+  pub progress : Progress
+  pub stage : Stage
+  pub progress_is : progress_told old.progress old.stage (Ok answer) ≡ progress
+  pub stage_is : stage_told old.progress (Ok answer) old.stage ≡ stage
+  pub waits : IsWaiting progress None
+  pub says : SaysBy stage progress rows past who items told turns
       (octets ++ told_said old.progress old.stage old.course (Ok answer))
 
 serves_on : (rows : CentreRows) (past : Past) (who : ℕ) (items : List Item) (octets : List ℕ)
@@ -408,7 +408,7 @@ running_follows rows past who items octets event answer old askeds.Taking s p w 
 running_follows rows past who items octets event answer old (askeds.Closing cause) s p w r right =
     closed_follows rows past who items octets event answer old cause s p r right
 
-follows_by : (rows : CentreRows) (past : Past) (who : ℕ) (items : List Item)
+pub follows_by : (rows : CentreRows) (past : Past) (who : ℕ) (items : List Item)
     (octets : List ℕ) (event : EventKind) (answer : Answer) (old : Talking) (p : Progress)
     → (s : Serves rows past who items octets (Some event) old) → old.progress ≡ p
     → IsWaiting p (Some event) → GoesBy p rows items s.told s.turns old

@@ -27,7 +27,8 @@ use Rattle.tase_map.specs.Asks.{without_pauses}
 use Rattle.tase_map.specs.Out.{end_turns}
 use Rattle.tase_map.proofs.AskedLaws.{lawful_call}
 use Rattle.tase_map.proofs.LawfulMessages.{told_lawful}
-use Rattle.conn_laws.proofs.Texts.{read_front, text_turns}
+use Rattle.tase_map.proofs.Fronts.{whole_front}
+use Rattle.conn_laws.proofs.Texts.{text_turns}
 
 abbrev IsAsked : Turn → Type 0
 IsAsked (asks invoke call) = IsCall call
@@ -97,7 +98,7 @@ asked_text : (text : List ℕ) (ended : Bool)
     → AreAsked (turns_told (reading_of text) ++ end_turns ended)
 asked_text text ended =
     let r = reading_of text in
-    let f = read_front text in
+    let f = whole_front text in
     asked-append (turns_told r) (end_turns ended)
     (asked-append (filter_map turn_in (handed_out r.told)) (fault_turns r.broken)
     (asked_told r.told (told_lawful called [] r.told f.messages f.tell)) (asked_fault r.broken))

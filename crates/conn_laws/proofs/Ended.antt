@@ -1,6 +1,6 @@
 -- A connection that the peer has ended has said all.
 use Rattle.std.proofs.Common.{◌≡◌, ℕ, Bool, true, false, List, [], ◌∷◌, ◌++◌, Option, Some, None}
-use Rattle.std.proofs.Common.{refl, sym, ap, subst, ◌∙◌, append_assoc, reverse, inl, inr}
+use Rattle.std.proofs.Common.{arith, refl, sym, ap, subst, ◌∙◌, append_assoc, reverse, inl, inr}
 use Rattle.std.specs.Prelude.{is_some, if◌then◌else◌, ◌||◌, ◌&&◌, not}
 use Rattle.std.specs.List.{list_any}
 use Rattle.std.proofs.lemmas.Bool.{false≢true}
@@ -43,10 +43,11 @@ use Rattle.tase_conn.specs.Wanting.{quiet_at, quiet_behind, behind_close, refusa
 use Rattle.tase_conn.specs.Wanting.{Passes, IsIdle, IsWhole, Stays, WantsBy, Wants}
 use Rattle.tase_conn.specs.Wanting as wanting
 use Rattle.conn_laws.specs.Serving.{IsWaiting, SaysClosed, SaysBy, Serves, Whatever}
-use Rattle.conn_laws.proofs.Confirmed.{answers-append, answered_once}
-use Rattle.tase_map.proofs.Fronts.{HasFront, front_read, size_first, setup_kept, setup_fixed}
+use Rattle.tase_map.proofs.Fronts.{HasFront, whole_front, front_read, size_first, setup_kept}
+use Rattle.tase_map.proofs.Fronts.{setup_fixed, answers_told}
 use Rattle.conn_laws.proofs.Served.{kept_front, cause_last, at_end}
-use Rattle.conn_laws.proofs.Texts.{read_front, longer_front, text-append, text_turns, fixed_over}
+use Rattle.conn_laws.proofs.Texts.{answers-append, longer_front, text-append, text_turns}
+use Rattle.conn_laws.proofs.Texts.{fixed_over}
 use Rattle.conn_laws.proofs.TurnLists.{asks_join, quiet_join, quiet_none, any_front, any_back}
 use Rattle.conn_laws.proofs.TurnLists.{behind_silent, same_ends, right_none, silent, follow_behind}
 use Rattle.conn_laws.proofs.TurnLists.{begins_offered, input_follows}
@@ -126,13 +127,11 @@ same_answers rows done (item ∷ more) r e i l =
     same_by (t ∷ told) broken e =
         let text = text_of (done ++ item ∷ more) in
         let front = longer_front done (item ∷ more) (t ∷ told)
-        (subst (λ (x : Reading). HasFront (text_of done) x.told) e (read_front (text_of done))) in
+        (subst (λ (x : Reading). HasFront (text_of done) x.told) e (whole_front (text_of done))) in
         let f = front_read text (t ∷ told) front in
-        ap (λ (ts : List Told). answers_to called ts) f.1 ∙ answers-append (t ∷ told) f.0
-        ∙ ap (λ (os : List ℕ). answers_to called (t ∷ told) ++ os)
-        (answered_once text t told f.0
-        (subst (λ (ts : List Told). HasFront text ts) f.1 (read_front text)))
-        ∙ append-nil (answers_to called (t ∷ told))
+        ap (λ (ts : List Told). answers_to called ts) f.1
+        ∙ answers_told text (t ∷ told) f.0
+        (subst (λ (ts : List Told). HasFront text ts) f.1 (whole_front text)) (omega arith)
 
 -- and what its connect fixed
 same_setup : (done more : List Item)
@@ -141,7 +140,7 @@ same_setup : (done more : List Item)
     ≡ setup_after (reading_of (text_of done)).told
 same_setup done more connect =
     let told = (reading_of (text_of done)).told in
-    let f = read_front (text_of done) in
+    let f = whole_front (text_of done) in
     let g = front_read (text_of (done ++ more)) told (longer_front done more told f) in
     ap (λ (ts : List Told). setup_after ts) g.1
     ∙ setup_kept told g.0
@@ -216,7 +215,7 @@ ending_said rows items told turns octets_more last front old new g e goes pendin
 
 -- ---- without an association
 
-declined_told : (rows : CentreRows) (turns : List Turn) (b : Bool)
+pub declined_told : (rows : CentreRows) (turns : List Turn) (b : Bool)
     → is_declined rows (turns ++ end_turns b) ≡ is_declined rows turns
 declined_told rows [] true = refl
 declined_told rows [] false = refl
@@ -659,7 +658,8 @@ rests_by rows past who items octets octets_more old new progresses.Refused s p s
     absurd w
 rests_by rows past who items octets octets_more old new (progresses.Leaving end asked) s p st q w g
     pending = absurd w
-rests_by rows past who items octets octets_more old new (progresses.Ended end) s p st q w g pending =
+rests_by rows past who items octets octets_more old new
+    (progresses.Ended end) s p st q w g pending =
     ends_on rows past who items octets octets_more end old new s p st q g pending
 rests_by rows past who items octets octets_more old new (progresses.Cut end) s p st q w g pending =
     absurd w
@@ -747,7 +747,8 @@ wants_by rows past who items octets octets_more event old new (progresses.Runnin
     w st r pending = absurd w
 wants_by rows past who items octets octets_more event old new
     (progresses.Running (askeds.Closing cause)) s p w st r pending = absurd w
-wants_by rows past who items octets octets_more event old new progresses.Refused s p w st r pending =
+wants_by rows past who items octets octets_more event old new progresses.Refused s p w st r pending
+    =
     absurd w
 wants_by rows past who items octets octets_more event old new (progresses.Leaving end asked) s p w
     st r pending = absurd w

@@ -19,7 +19,7 @@ use Rattle.tase_conn.specs.declared.stage.Stage.TheVariants as stages
 use Rattle.tase_conn.specs.Talking.{Talking}
 use Rattle.tase_conn.specs.Places.{StandsAt, Runs, GoesBy, has_begun}
 use Rattle.tase_conn.specs.Taken.{TakesIn}
-use Rattle.conn_laws.specs.Serving.{AreOthers, IsWaiting, SaysEarly, SaysBy, Serves, owed}
+use Rattle.conn_laws.specs.Serving.{AreOthers, IsWaiting, SaysEarly, SaysOpen, SaysBy, Serves, owed}
 use Rattle.conn_laws.proofs.Seats.{others_none, others_seat, others_sent, still_opened}
 use Rattle.conn_laws.proofs.Seats.{closed_still}
 use Rattle.conn_laws.proofs.TurnLists.{one_item_more}
@@ -65,6 +65,17 @@ early_more (progresses.Ended end) rows items item told answered octets says =
     one_item_more (λ text ended rest. octets ≡ early_octets rows text) items item answered says
 early_more (progresses.Cut end) rows items item told answered octets says = absurd says
 
+pub open_more : (rows : CentreRows) (past : Past) (who : ℕ) (items : List Item) (item : Item)
+    (answered : List Turn) (octets : List ℕ) → SaysOpen rows past who items answered octets
+    → SaysOpen rows past who (items ++ item ∷ []) answered octets
+open_more rows past who items item answered octets says = record {
+  key = says.key;
+  opened = says.opened;
+  seat = says.seat;
+  octets = one_item_more (λ text ended rest. (octets ≡ sent rows past says.key text ended)
+      × (turns_left rows past says.key text ended ≡ rest)) items item answered says.octets;
+}
+
 says_more : (stage : Stage) (progress : Progress) (rows : CentreRows) (past : Past) (who : ℕ)
     (items : List Item) (item : Item) (told : List Told) (answered : List Turn) (octets : List ℕ)
     → SaysBy stage progress rows past who items told answered octets
@@ -72,13 +83,7 @@ says_more : (stage : Stage) (progress : Progress) (rows : CentreRows) (past : Pa
 says_more stages.Early progress rows past who items item told answered octets says =
     (says.0, early_more progress rows items item told answered octets says.1)
 says_more (stages.Open peer detail) progress rows past who items item told answered octets says =
-    record {
-      key = says.key;
-      opened = says.opened;
-      seat = says.seat;
-      octets = one_item_more (λ text ended rest. (octets ≡ sent rows past says.key text ended)
-          × (turns_left rows past says.key text ended ≡ rest)) items item answered says.octets;
-    }
+    open_more rows past who items item answered octets says
 says_more (stages.Closed peer) progress rows past who items item told answered octets says =
     record {
       key = says.key;
@@ -116,14 +121,11 @@ taken_serves rows past who items item octets old new s input stands takes =
 
 -- ---- with entries of other seats
 
-says_beside : (stage : Stage) (progress : Progress) (rows : CentreRows) (past others : Past)
-    (who : ℕ) (items : List Item) (told : List Told) (answered : List Turn) (octets : List ℕ)
-    → AreOthers who others → SaysBy stage progress rows past who items told answered octets
-    → SaysBy stage progress rows (others ++ past) who items told answered octets
-says_beside stages.Early progress rows past others who items told answered octets a says =
-    (others_none who others past a ∙ says.0, says.1)
-says_beside (stages.Open peer detail) progress rows past others who items told answered octets a
-    says =
+pub open_beside : (rows : CentreRows) (past others : Past) (who : ℕ) (items : List Item)
+    (answered : List Turn) (octets : List ℕ) → AreOthers who others
+    → SaysOpen rows past who items answered octets
+    → SaysOpen rows (others ++ past) who items answered octets
+open_beside rows past others who items answered octets a says =
     let key = says.key in
     record {
       key = key;
@@ -135,6 +137,16 @@ says_beside (stages.Open peer detail) progress rows past others who items told a
           (has_ended (items ++ more)) a says.seat in
           (before.0 ∙ sym same.0, same.1 ∙ before.1);
     }
+
+says_beside : (stage : Stage) (progress : Progress) (rows : CentreRows) (past others : Past)
+    (who : ℕ) (items : List Item) (told : List Told) (answered : List Turn) (octets : List ℕ)
+    → AreOthers who others → SaysBy stage progress rows past who items told answered octets
+    → SaysBy stage progress rows (others ++ past) who items told answered octets
+says_beside stages.Early progress rows past others who items told answered octets a says =
+    (others_none who others past a ∙ says.0, says.1)
+says_beside (stages.Open peer detail) progress rows past others who items told answered octets a
+    says =
+    open_beside rows past others who items answered octets a says
 says_beside (stages.Closed peer) progress rows past others who items told answered octets a says =
     let key = says.key in
     record {

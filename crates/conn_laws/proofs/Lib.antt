@@ -1,5 +1,4 @@
 pub mod TurnLists
-pub mod Confirmed
 pub mod Seats
 pub mod Texts
 pub mod AskedCalls
@@ -9,3 +8,7 @@ pub mod Wanted
 pub mod Kept
 pub mod Served
 pub mod Ended
+pub mod Left
+pub mod Leftover
+pub mod Unnoted
+pub mod Unopened

@@ -132,7 +132,8 @@ one_seat (entry ∷ past) a b key ea eb =
 other_key : (event : EventKind) (past : Past) (other who : ℕ) (key : Key)
     → (other ≡ who → ⊥) → association_in past who ≡ Some key
     → key_at event past other ≡ Some key → ⊥
-other_key (Open peer) past other who key apart e f = next_new past peer key f (issued past who key e)
+other_key (Open peer) past other who key apart e f = next_new past peer key f
+    (issued past who key e)
 other_key (Request call) past other who key apart e f = apart (one_seat past other who key f e)
 other_key Take past other who key apart e f = apart (one_seat past other who key f e)
 other_key Close past other who key apart e f = apart (one_seat past other who key f e)
@@ -213,7 +214,8 @@ is_closed_later key (entry ∷ later) past c =
         ap (λ (b : Bool). is_close entry.event || b) c ∙ any_true (is_close entry.event)
     more_closed false entry entries c = c
 
-pub closed_still : (rows : CentreRows) (key : Key) (later past : Past) (text : List ℕ) (ended : Bool)
+pub closed_still : (rows : CentreRows) (key : Key) (later past : Past) (text : List ℕ)
+    (ended : Bool)
     → is_closed key past ≡ true
     → (is_closed key (later ++ past) ≡ true)
     × (sent rows (later ++ past) key text ended ≡ sent rows past key text ended)

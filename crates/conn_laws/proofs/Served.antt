@@ -73,7 +73,7 @@ all_kept rows turns l =
     ∙ goes_front rows turns [] l ∙ append-nil turns
 
 -- the first of them stays first
-first_kept : (rows : CentreRows) (turn : Turn) (more : List Turn)
+pub first_kept : (rows : CentreRows) (turn : Turn) (more : List Turn)
     → (others : List Turn) × (up_to_last rows (turn ∷ more) ≡ turn ∷ others)
 first_kept rows turn more = first_by (is_last rows turn)
   where
@@ -95,7 +95,7 @@ kept_front rows (turn ∷ turns) =
     let r = kept_front rows turns in
     kept_by (is_last rows turn) turn turns (up_to_last rows turns) r.0 r.1
 
-turns_on : (before items more : List Item)
+pub turns_on : (before items more : List Item)
     → (others : List Turn) × (turns_from before (items ++ more) ≡ turns_from before items ++ others)
 turns_on before [] more = (turns_from before more, refl)
 turns_on before (item ∷ items) more =
@@ -108,7 +108,7 @@ turns_on before (item ∷ items) more =
 -- ---- the event that waits
 
 -- the turns that were acted on begin those of the items
-begins_turns : (rows : CentreRows) (items : List Item) (told : List Told) (turns : List Turn)
+pub begins_turns : (rows : CentreRows) (items : List Item) (told : List Told) (turns : List Turn)
     (asked : Asked) (v : Talking) → Runs rows items told turns asked v
     → Begins turns (turns_of items)
 begins_turns rows items told turns asked v r =
@@ -119,7 +119,8 @@ begins_turns rows items told turns asked v r =
 pub next_asked : (rows : CentreRows) (past : Past) (who : ℕ) (items : List Item)
     (octets : List ℕ) (event : EventKind) (v : Talking)
     → (s : Serves rows past who items octets (Some event) v)
-    → (later : List EventKind) × (asks_of rows items ≡ reverse (events_by who past) ++ event ∷ later)
+    → (later : List EventKind) × (asks_of rows items ≡ reverse
+    (events_by who past) ++ event ∷ later)
 next_asked rows past who items octets event v s =
     let found = waiting_of v.progress event s.waits in
     let goes = answered_goes rows past who items octets event v s in
@@ -154,7 +155,7 @@ never_refused rows past who items octets event v s =
 
 -- ---- all octets
 
-over_all : (Holds : List ℕ → Bool → List Turn → Type 0) (items : List Item)
+pub over_all : (Holds : List ℕ → Bool → List Turn → Type 0) (items : List Item)
     (answered rest : List Turn) → IsInput items → turns_of items ≡ answered ++ rest
     → Whatever items answered Holds → Holds (text_of items) (has_ended items) (without_pauses rest)
 over_all Holds items answered rest i t holds =

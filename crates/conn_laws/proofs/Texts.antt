@@ -1,57 +1,25 @@
 -- What the whole text of an association fixes, by what was told of it once a connect has come.
-use Rattle.std.proofs.Common.{◌≡◌, ℕ, true, List, [], ◌∷◌, ◌++◌, Option, Some, None}
-use Rattle.std.proofs.Common.{sym, ap, subst, ◌∙◌, append_assoc, inl, inr}
+use Rattle.std.proofs.Common.{◌≡◌, ℕ, true, List, [], ◌++◌, None}
+use Rattle.std.proofs.Common.{sym, ap, subst, ◌∙◌, append_assoc}
 use Rattle.std.specs.Prelude.{is_some}
-use Rattle.std.proofs.lemmas.List.{append-nil}
+use Rattle.std.proofs.lemmas.List.{append-nil, append_cancel_left}
 use Rattle.std.proofs.lemmas.Grind.{flat_map-append}
-use Rattle.tpkt_cotp.specs.declared.turn.Role.TheVariants as ends
-use Rattle.stack_messages.specs.declared.fault.StackFault.{StackFault}
 use Rattle.stack_assoc.specs.Told.{Told, called, first_in, connect_in}
-use Rattle.stack_assoc.specs.Handing.{answers_to}
+use Rattle.stack_assoc.specs.Handing.{answer_to, answers_to}
 use Rattle.stack_assoc.specs.Expectations.{setup_after}
 use Rattle.stack_assoc.specs.Courses.{Course, Stands}
-use Rattle.stack_assoc.proofs.FrontsKept.{stopped_front}
-use Rattle.stack_assoc.proofs.StreamLaws.{front_front}
 use Rattle.tase_map.specs.Inputs.{Item, octets_of, text_of, has_ended, IsInput}
-use Rattle.tase_map.specs.Readings.{Reading, reading_of, Reads}
+use Rattle.tase_map.specs.Readings.{Reading, reading_of}
 use Rattle.tase_map.specs.Turns.{Turn, turns_told, turns_of}
 use Rattle.tase_map.specs.Asks.{without_pauses}
 use Rattle.tase_map.specs.Out.{end_turns}
-use Rattle.tase_map.proofs.ReadingLaws.{reading_found, reading_only}
+use Rattle.tase_map.proofs.ReadingLaws.{reading_only}
 use Rattle.tase_map.proofs.Uncut.{uncut_from}
 use Rattle.tase_map.proofs.TurnOrder.{nothing_said}
-use Rattle.tase_map.proofs.Fronts.{HasFront, has_front, front_read, first_kept, setup_fixed}
-use Rattle.conn_laws.proofs.Confirmed.{answers-append, connected_once}
+use Rattle.tase_map.proofs.Fronts.{HasFront, has_front, whole_front, front_read, first_kept}
+use Rattle.tase_map.proofs.Fronts.{setup_fixed, answers_kept}
 
 -- ---- fronts of a text
-
-front_of : (octets : List ℕ) (told : List Told) (broken : Option StackFault)
-    → Reads octets told broken → HasFront octets told
-front_of octets told None r = record {
-  messages = r.1.messages;
-  starts = record {
-    whole = r.1.said.whole;
-    more = r.0;
-    is = r.1.said.is;
-    spelled = r.1.said.spelled;
-  };
-  tell = r.1.tell;
-}
-front_of octets told (Some fault) (inl s) = record {
-  messages = s.messages;
-  starts = stopped_front ends.Called octets s.messages s.broken s.stops;
-  tell = s.tell;
-}
-front_of octets told (Some fault) (inr s) = record {
-  messages = s.messages;
-  starts = front_front ends.Called octets s.messages (s.next ∷ []) s.starts;
-  tell = s.tell;
-}
-
--- all that is read is told by a front
-pub read_front : (octets : List ℕ) → HasFront octets (reading_of octets).told
-read_front octets =
-    front_of octets (reading_of octets).told (reading_of octets).broken (reading_found octets)
 
 pub text-append : (items more : List Item) → text_of (items ++ more) ≡ text_of items ++ text_of more
 text-append items more = flat_map-append octets_of items more
@@ -72,6 +40,21 @@ longer_front items more told f = record {
   tell = f.tell;
 }
 
+-- ---- what is answered at once
+
+pub answers-append : (told others : List Told)
+    → answers_to called (told ++ others) ≡ answers_to called told ++ answers_to called others
+answers-append told others = flat_map-append (answer_to called) told others
+
+-- nothing more behind a connect
+pub connected_once : (octets : List ℕ) (told later : List Told)
+    → is_some (first_in connect_in told) ≡ true → HasFront octets (told ++ later)
+    → answers_to called later ≡ []
+connected_once octets told later c f =
+    append_cancel_left (answers_to called told) (answers_to called later) []
+    (sym (answers-append told later) ∙ answers_kept octets told later f c
+    ∙ sym (append-nil (answers_to called told)))
+
 -- ---- what is fixed
 
 -- what the whole text fixes is what was told of it
@@ -89,13 +72,10 @@ fixed_over items more told v s connect =
     let f = front_read text told
     (longer_front items more told (has_front (text_of items) told v s)) in
     let k = setup_fixed (text_of items) told v s connect in
-    let none : answers_to called f.0 ≡ [] =
-    connected_once text told f.0 connect
-    (subst (λ (ts : List Told). HasFront text ts) f.1 (read_front text)) in
     record {
-      answered = ap (λ (ts : List Told). answers_to called ts) f.1 ∙ answers-append told f.0
-          ∙ ap (λ (os : List ℕ). answers_to called told ++ os) none
-          ∙ append-nil (answers_to called told);
+      answered = ap (λ (ts : List Told). answers_to called ts) f.1
+          ∙ answers_kept text told f.0
+          (subst (λ (ts : List Told). HasFront text ts) f.1 (whole_front text)) connect;
       setup = ap (λ (ts : List Told). setup_after ts) f.1 ∙ k.1 f.0;
       first = ap (λ (ts : List Told). first_in connect_in ts) f.1
           ∙ first_kept connect_in told f.0 connect;

@@ -237,7 +237,8 @@ pub one_item_more : (Holds : List ℕ → Bool → List Turn → Type 0) (items 
 one_item_more Holds items item answered holds = λ more i rest t.
     let same : (items ++ item ∷ []) ++ more ≡ items ++ item ∷ more =
     append_assoc items (item ∷ []) more in
-    subst (λ (all : List Item). Holds (text_of all) (has_ended all) (without_pauses rest)) (sym same)
+    subst (λ (all : List Item). Holds (text_of all) (has_ended all) (without_pauses rest))
+    (sym same)
     (holds (item ∷ more) (subst (λ (all : List Item). IsInput all) same i) rest
     (subst (λ (all : List Item). turns_of all ≡ answered ++ rest) same t))
 

@@ -35,7 +35,7 @@ use Rattle.tase_conn.specs.Places.{has_begun, has_finished}
 use Rattle.tase_conn.specs.Wanting.{quiet_at, quiet_behind, GoesOn, WaitsFor}
 use Rattle.conn_laws.specs.Serving.{IsWaiting, SaysOpen, SaysClosed, SaysBy, Serves, owed}
 use Rattle.conn_laws.proofs.Answered.{take_served, close_served}
-use Rattle.conn_laws.proofs.Confirmed.{answers-append, connected_once}
+use Rattle.conn_laws.proofs.Texts.{answers-append, connected_once}
 use Rattle.tase_map.proofs.Fronts.{has_front}
 use Rattle.conn_laws.proofs.TurnLists.{asks_join, quiet_join, quiet_none, any_front, any_back}
 use Rattle.conn_laws.proofs.TurnLists.{behind_silent, same_ends}
@@ -341,7 +341,8 @@ asking_said rows items told turns event octets_more old new g a b pending =
     ∙ ap (λ (ts : List Turn). quiet_at rows setup ts a.last) (sym b.front_is)
     ∙ asking_quiet rows setup a.ends.front a.last a.one a.asks in
     append_cancel_left (pending_of old) octets_more (answers_to called g.later)
-    (sym pending ∙ g.said ∙ ap (λ (os : List ℕ). pending_of old ++ (answers_to called g.later ++ os))
+    (sym pending ∙ g.said ∙ ap (λ (os : List ℕ). pending_of old ++
+    (answers_to called g.later ++ os))
     none ∙ ap (λ (os : List ℕ). pending_of old ++ os) (append-nil (answers_to called g.later)))
 
 pub asks_on : (rows : CentreRows) (past : Past) (who : ℕ) (items : List Item)

@@ -73,15 +73,15 @@ IsWaiting _ _ = ⊥
 
 -- ---- what was said
 
--- whatever else the link gives: this holds of the whole text, of whether it has ended, and of what it
--- tells behind the turns that are answered
+-- whatever else the link gives: this holds of the whole text, of whether it has ended, and of
+-- what it tells behind the turns that are answered
 abbrev pub Whatever : List Item → List Turn → (List ℕ → Bool → List Turn → Type 0) → Type 0
 Whatever items answered Holds = (more : List Item) → IsInput (items ++ more)
     → (rest : List Turn) → turns_of (items ++ more) ≡ answered ++ rest
     → Holds (text_of (items ++ more)) (has_ended (items ++ more)) (without_pauses rest)
 
--- before an open: what answers the messages that were read; in the end, all that a connection without
--- one is sent
+-- before an open: what answers the messages that were read; in the end, all that a connection
+-- without one is sent
 abbrev pub SaysEarly : Progress → CentreRows → List Item → List Told → List Turn → List ℕ → Type 0
 SaysEarly (progresses.Running asked) rows items told answered said = said ≡ answers_to called told
 SaysEarly (progresses.Ended end) rows items told answered said =
@@ -123,8 +123,8 @@ SaysBy (stages.Closed peer) progress rows past who items told answered said =
 
 -- ---- a connection that wasn't cut
 
--- a connection, whose link gave these items, is served by this seat of a node with this history, has
--- said these octets in all, and waits for the answer to this event, if to one
+-- a connection, whose link gave these items, is served by this seat of a node with this history,
+-- has said these octets in all, and waits for the answer to this event, if to one
 pub record Serves (rows : CentreRows) (past : Past) (who : ℕ) (items : List Item)
     (said : List ℕ) (waiting : Option EventKind) (v : Talking) : Type 0 where
   pub told : List Told
@@ -146,7 +146,8 @@ pub record HasTold (rows : CentreRows) (items : List Item) (told : List Told) (t
 
 -- ---- what that means
 
--- all octets: those of the association that the seat has opened, or those of a connection without one
+-- all octets: those of the association that the seat has opened, or those of a connection without
+-- one
 abbrev pub HasSaid : CentreRows → Past → ℕ → List Item → List ℕ → Type 0
 HasSaid rows past who items said =
     ((key : Key) × HasOpened past who key

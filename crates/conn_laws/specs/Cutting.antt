@@ -1,0 +1,158 @@
+-- A connection that was left before the peer brought its end: the node refused an event, or it was
+-- given up.
+use Rattle.std.specs.Prelude.{◌≡◌, ℕ, Bool, true, false, if◌then◌else◌, ◌⊎◌, List, [], ◌∷◌, ◌++◌}
+use Rattle.std.specs.Prelude.{reverse, Option, Some, None}
+use Rattle.stack_wire.specs.declared.setup.Setup.{Setup}
+use Rattle.stack_assoc.specs.declared.standing.Standing.{Standing}
+use Rattle.stack_assoc.specs.Courses.{Course, is_accepted}
+use Rattle.stack_assoc.specs.Told.{Told}
+use Rattle.bilateral.specs.Rows.{CentreRows}
+use Rattle.sbo_device.specs.declared.key.Key.{Key}
+use Rattle.tase_views.specs.declared.event.EventKind.{EventKind}
+use Rattle.tase_views.specs.declared.event.EventKind.TheVariants as events
+use Rattle.tase_views.specs.History.{Past, association_in}
+use Rattle.tase_map.specs.Inputs.{Item, IsInput, text_of, has_ended}
+use Rattle.tase_map.specs.Readings.{reading_of}
+use Rattle.tase_map.specs.Turns.{Turn, asks, turns_of}
+use Rattle.tase_map.specs.Asks.{up_to_last, asks_behind, asks_of}
+use Rattle.tase_map.specs.Out.{talk_of, abort_octets, close_octets, early_octets}
+use Rattle.tase_map.specs.Closed.{is_closed}
+use Rattle.tase_map.specs.Sent.{events_by, sent, turns_left}
+use Rattle.tase_conn.specs.declared.stage.ConnEnd.{ConnEnd}
+use Rattle.tase_conn.specs.declared.stage.Stage.{Stage}
+use Rattle.tase_conn.specs.declared.stage.Stage.TheVariants as stages
+use Rattle.tase_conn.specs.declared.stage.Progress.{Progress}
+use Rattle.tase_conn.specs.declared.stage.Progress.TheVariants as progresses
+use Rattle.tase_conn.specs.Talking.{Talking, is_open_stage}
+use Rattle.tase_conn.specs.Places.{StandsAt, Begins}
+use Rattle.tase_conn.specs.Answering.{aborts, parted}
+use Rattle.conn_laws.specs.Serving.{HasOpened, Whatever}
+
+-- which event waits of a connection that was left for this end: none, or once it was asked the
+-- close of its association
+abbrev pub IsClosing : Progress → Option EventKind → ConnEnd → Type 0
+IsClosing (progresses.Leaving end false) None left = end ≡ left
+IsClosing (progresses.Leaving end true) (Some events.Close) left = end ≡ left
+IsClosing (progresses.Cut end) None left = end ≡ left
+IsClosing _ _ left = ⊥
+
+-- its association is still to be closed
+abbrev pub is_leaving : Progress → Bool
+is_leaving (progresses.Leaving end asked) = true
+is_leaving _ = false
+
+-- the octets with which a connection is left, by how its association stood: those of an abort,
+-- unless the link can't take them
+abbrev pub parting : ConnEnd → Standing → Setup → List ℕ
+parting end standing setup =
+    if aborts end then (if is_accepted standing then abort_octets setup else []) else []
+
+-- what is said when it is left: while its association is open nothing yet
+abbrev pub left_said : Stage → Course → ConnEnd → List ℕ
+left_said stage course end = if is_open_stage stage then [] else parted course end
+
+-- before an open: no more than a connection without one is sent
+pub record LeftEarly (rows : CentreRows) (past : Past) (who : ℕ) (items : List Item)
+    (answered : List Turn) (said : List ℕ) : Type 0 where
+  pub none : events_by who past ≡ []
+  pub asked : reverse (events_by who past) ≡ asks_behind rows [] answered
+  pub octets : Whatever items answered (λ text ended rest. (others : List ℕ)
+      × (early_octets rows text ≡ said ++ others))
+
+-- its association is still open: all that it is sent was said, or where memory was wanting for the
+-- last answer, all but that
+pub record LeftOpen (whole : Bool) (standing : Standing) (course : Course) (rows : CentreRows)
+    (past : Past) (who : ℕ) (items : List Item) (answered : List Turn) (said : List ℕ) :
+    Type 0 where
+  pub key : Key
+  pub opened : HasOpened past who key
+  pub seat : association_in past who ≡ Some key
+  pub asked : reverse (events_by who past) ≡ asks_behind rows [] answered
+  pub stood : course.standing ≡ standing
+  pub setup : Whatever items answered (λ text ended rest.
+      course.setup ≡ (talk_of (reading_of text) ended).setup)
+  pub octets : Whatever items answered (λ text ended rest. (missing : List ℕ)
+      × (sent rows past key text ended ≡ said ++ missing)
+      × (turns_left rows past key text ended ≡ rest) × (whole ≡ true → missing ≡ []))
+
+-- it was closed then: all that it was sent before that close was said, and the parting
+pub record LeftClosed (whole : Bool) (end : ConnEnd) (standing : Standing) (rows : CentreRows)
+    (past : Past) (who : ℕ) (items : List Item) (answered : List Turn) (said : List ℕ) :
+    Type 0 where
+  pub key : Key
+  pub opened : HasOpened past who key
+  pub closed : is_closed key past ≡ true
+  pub asked : reverse (events_by who past) ≡ asks_behind rows [] answered ++ events.Close ∷ []
+  pub before : List ℕ
+  pub octets : Whatever items answered (λ text ended rest.
+      (said ≡ before ++ parting end standing (talk_of (reading_of text) ended).setup)
+      × (missing : List ℕ) × (sent rows past key text ended
+      ≡ (before ++ missing) ++ close_octets (talk_of (reading_of text) ended).setup rest)
+      × (whole ≡ true → missing ≡ []))
+
+-- the peer had concluded it: no more than it is sent was said, and the parting
+pub record LeftConcluded (end : ConnEnd) (standing : Standing) (rows : CentreRows) (past : Past)
+    (who : ℕ) (items : List Item) (answered : List Turn) (said : List ℕ) : Type 0 where
+  pub key : Key
+  pub opened : HasOpened past who key
+  pub closed : is_closed key past ≡ true
+  pub asked : reverse (events_by who past) ≡ asks_behind rows [] answered
+  pub before : List ℕ
+  pub octets : Whatever items answered (λ text ended rest.
+      (said ≡ before ++ parting end standing (talk_of (reading_of text) ended).setup)
+      × (others : List ℕ) × (sent rows past key text ended ≡ before ++ others))
+
+abbrev pub LeftBy : Bool → Stage → ConnEnd → Standing → Course → CentreRows → Past → ℕ → List Item
+    → List Turn → List ℕ → Type 0
+LeftBy whole stages.Early end standing course rows past who items answered said =
+    LeftEarly rows past who items answered said
+LeftBy whole (stages.Open peer detail) end standing course rows past who items answered said =
+    LeftOpen whole standing course rows past who items answered said
+LeftBy whole (stages.Closed peer) end standing course rows past who items answered said =
+    LeftClosed whole end standing rows past who items answered said
+    ⊎ LeftConcluded end standing rows past who items answered said
+
+-- a connection that was left for this end while its association stood so; the turns whose events
+-- were answered begin those that the items tell
+pub record HasLeft (whole : Bool) (end : ConnEnd) (standing : Standing) (rows : CentreRows)
+    (past : Past) (who : ℕ) (items : List Item) (said : List ℕ) (waiting : Option EventKind)
+    (v : Talking) : Type 0 where
+  pub told : List Told
+  pub turns : List Turn
+  pub input : IsInput items
+  pub stands : StandsAt rows items told turns v
+  pub waits : IsClosing v.progress waiting end
+  pub owes : is_open_stage v.stage ≡ is_leaving v.progress
+  pub answered : List Turn
+  pub read : Begins answered (up_to_last rows (turns_of items))
+  pub says : LeftBy whole v.stage end standing v.course rows past who items answered said
+
+-- ---- what that means
+
+-- where the text tells nothing more, or a request, a close has no cause in it
+abbrev pub IsUnexplained : List Turn → Type 0
+IsUnexplained [] = Unit {0}
+IsUnexplained (asks invoke call ∷ turns) = Unit {0}
+IsUnexplained (turn ∷ turns) = ⊥
+
+-- no more than the association is sent was said, and the parting; or without one no more than a
+-- connection without one is sent
+abbrev pub HasSaidSome : ConnEnd → Standing → CentreRows → Past → ℕ → List Item → List ℕ → Type 0
+HasSaidSome end standing rows past who items said =
+    ((key : Key) × HasOpened past who key × (before : List ℕ) × (others : List ℕ)
+    × (said ≡ before
+    ++ parting end standing (talk_of (reading_of (text_of items)) (has_ended items)).setup)
+    × (sent rows past key (text_of items) (has_ended items) ≡ before ++ others))
+    ⊎ ((events_by who past ≡ []) × (others : List ℕ)
+    × (early_octets rows (text_of items) ≡ said ++ others))
+
+-- the seat has had the first of the events that the input asks, and then the close of an
+-- association that was open
+pub record WasLeft (end : ConnEnd) (standing : Standing) (rows : CentreRows) (past : Past)
+    (who : ℕ) (items : List Item) (said : List ℕ) : Type 0 where
+  pub asked : List EventKind
+  pub others : List EventKind
+  pub asks_are : asks_of rows items ≡ asked ++ others
+  pub events_are : (reverse (events_by who past) ≡ asked)
+      ⊎ (reverse (events_by who past) ≡ asked ++ events.Close ∷ [])
+  pub octets : HasSaidSome end standing rows past who items said
