@@ -237,14 +237,14 @@ running_kept rows past who items octets event fault end old (askeds.Closing caus
 -- ---- it is left
 
 -- how it stands then
-record Stands (end : ConnEnd) (old new : Talking) : Type 0 where
-  waits : IsClosing new.progress None end
-  owes : is_open_stage new.stage ≡ is_leaving new.progress
-  stage : new.stage ≡ old.stage
-  course : is_open_stage old.stage ≡ true → new.course ≡ old.course
-  pending : pending_of new ≡ pending_of old ++ left_said old.stage old.course end
+pub record Stands (end : ConnEnd) (old new : Talking) : Type 0 where
+  pub waits : IsClosing new.progress None end
+  pub owes : is_open_stage new.stage ≡ is_leaving new.progress
+  pub stage : new.stage ≡ old.stage
+  pub course : is_open_stage old.stage ≡ true → new.course ≡ old.course
+  pub pending : pending_of new ≡ pending_of old ++ left_said old.stage old.course end
 
-stands_by : (b : Bool) (end : ConnEnd) (old new : Talking) → is_open_stage old.stage ≡ b
+pub stands_by : (b : Bool) (end : ConnEnd) (old new : Talking) → is_open_stage old.stage ≡ b
     → MatchBool b (new ≡ record old { progress = progresses.Leaving end false })
     (Parts (progresses.Cut end) (parted old.course end) old new)
     → Stands end old new

@@ -12,3 +12,4 @@ pub mod Left
 pub mod Leftover
 pub mod Unnoted
 pub mod Unopened
+pub mod Resumed

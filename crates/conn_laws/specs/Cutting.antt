@@ -90,7 +90,7 @@ pub record LeftClosed (whole : Bool) (end : ConnEnd) (standing : Standing) (rows
       ≡ (before ++ missing) ++ close_octets (talk_of (reading_of text) ended).setup rest)
       × (whole ≡ true → missing ≡ []))
 
--- the peer had concluded it: no more than it is sent was said, and the parting
+-- it was closed before, at the peer's asking: no more than it is sent was said, and the parting
 pub record LeftConcluded (end : ConnEnd) (standing : Standing) (rows : CentreRows) (past : Past)
     (who : ℕ) (items : List Item) (answered : List Turn) (said : List ℕ) : Type 0 where
   pub key : Key

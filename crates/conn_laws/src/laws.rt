@@ -21,7 +21,7 @@ ghost use Rattle.tase_conn.specs.declared.stage.Asked.TheVariants as askeds;
 ghost use Rattle.tase_conn.specs.declared.stage.Progress.TheVariants as progresses;
 ghost use Rattle.tase_conn.specs.Talking.{Talking, pending_of, IsResting};
 ghost use Rattle.tase_conn.specs.Places.{StandsAt};
-ghost use Rattle.tase_conn.specs.Taken.{TakesIn};
+ghost use Rattle.tase_conn.specs.Taken.{TakesIn, IsSent};
 ghost use Rattle.tase_conn.specs.Wanting.{Wants, Passes, IsIdle, Leaves, IsLeaving};
 ghost use Rattle.tase_conn.specs.Leaving.{IsLeft};
 ghost use Rattle.tase_conn.specs.Answering.{told_said, stage_told, IsAnswerFor, end_of, aborts};
@@ -30,11 +30,12 @@ ghost use Rattle.conn_laws.specs.Serving.{Serves, AreOthers, HasTold, HasServed}
 ghost use Rattle.conn_laws.specs.Serving.{with_event};
 
 /// A connection serves a seat of the node: it does from its beginning on, with each item that its
-/// link gives, whatever other seats do, where it asks for an event or for none, and where the
-/// node's right answer was told. Each event that it asks is the next that the input asks, and
-/// none is refused for want of an association, or because the seat has one, or for its peer. Once
-/// nothing is left of what its link gave, the seat has had all events that the input asks, and
-/// the connection has said all octets that the peer is sent over the history, and no others.
+/// link gives, whatever other seats do and however its octets are sent, where it asks for an event
+/// or for none, and where the node's right answer was told. Each event that it asks is the next
+/// that the input asks, and none is refused for want of an association, or because the seat has
+/// one, or for its peer. Once nothing is left of what its link gave, the seat has had all events
+/// that the input asks, and the connection has said all octets that the peer is sent over the
+/// history, and no others.
 pub fn connections_serve()
     ensures begun { (rows : CentreRows) (past : Past) (who : ℕ) (v : Talking)
         → events_by who past ≡ [] → StandsAt rows [] [] [] v
@@ -61,6 +62,11 @@ pub fn connections_serve()
         → IsIdle new.progress → Passes rows items s.told s.turns old new
         → pending_of new ≡ pending_of old ++ added
         → Serves rows past who items (octets ++ added) None new }
+    ensures sent { (rows : CentreRows) (past : Past) (who : ℕ) (items : List Item)
+        (octets : List ℕ) (waiting : Option AnyEvent) (old new : Talking)
+        → (s : Serves rows past who items octets waiting old)
+        → StandsAt rows items s.told s.turns new → IsSent old new
+        → Serves rows past who items octets waiting new }
     ensures next { (rows : CentreRows) (past : Past) (who : ℕ) (items : List Item)
         (octets : List ℕ) (event : AnyEvent) (v : Talking)
         → Serves rows past who items octets (Some event) v
@@ -121,8 +127,8 @@ pub fn connections_leave()
         (octets ++ added) None new }
     ensures closing { (rows : CentreRows) (past : Past) (who : ℕ) (items : List Item)
         (octets : List ℕ) (event : Option AnyEvent) (whole : Bool) (end : AnyEnd)
-        (standing : Standing) (old new : Talking) →
-        (h : HasLeft whole end standing rows past who items octets None old)
+        (standing : Standing) (old new : Talking)
+        → (h : HasLeft whole end standing rows past who items octets None old)
         → IsLeaving old.progress → Leaves event old new × StandsAt rows items h.told h.turns new
         → HasLeft whole end standing rows past who items octets event new }
     ensures closed { (rows : CentreRows) (past : Past) (who : ℕ) (items : List Item)
@@ -133,20 +139,30 @@ pub fn connections_leave()
         → HasLeft whole end standing rows (with_event who event past) who items
         (octets ++ told_said old.progress old.stage old.course (Ok answer)) None new }
     ensures others { (whole : Bool) (end : AnyEnd) (standing : Standing) (rows : CentreRows)
-        (past others : Past)
-        (who : ℕ) (items : List Item) (octets : List ℕ) (waiting : Option AnyEvent) (v : Talking)
+        (past others : Past) (who : ℕ) (items : List Item) (octets : List ℕ)
+        (waiting : Option AnyEvent) (v : Talking)
         → HasLeft whole end standing rows past who items octets waiting v → AreOthers who others
         → HasLeft whole end standing rows (others ++ past) who items octets waiting v }
+    ensures sent { (whole : Bool) (end : AnyEnd) (standing : Standing) (rows : CentreRows)
+        (past : Past) (who : ℕ) (items : List Item) (octets : List ℕ)
+        (waiting : Option AnyEvent) (old new : Talking)
+        → (h : HasLeft whole end standing rows past who items octets waiting old)
+        → StandsAt rows items h.told h.turns new → IsSent old new
+        → HasLeft whole end standing rows past who items octets waiting new }
+    ensures again { (whole : Bool) (end other : AnyEnd) (standing : Standing) (rows : CentreRows)
+        (past : Past) (who : ℕ) (items : List Item) (octets : List ℕ) (old new : Talking)
+        → (h : HasLeft whole end standing rows past who items octets None old)
+        → IsLeaving old.progress → StandsAt rows items h.told h.turns new → IsLeft other old new
+        → HasLeft whole other standing rows past who items octets None new }
     ensures dropped { (whole : Bool) (end : AnyEnd) (standing : Standing) (rows : CentreRows)
-        (past : Past)
-        (who : ℕ) (items : List Item) (item : Item) (octets : List ℕ) (old new : Talking)
+        (past : Past) (who : ℕ) (items : List Item) (item : Item) (octets : List ℕ)
+        (old new : Talking)
         → (h : HasLeft whole end standing rows past who items octets None old)
         → old.progress ≡ progresses.Cut end → IsInput (items ++ item ∷ [])
         → StandsAt rows (items ++ item ∷ []) h.told h.turns new → TakesIn old new
         → HasLeft whole end standing rows past who (items ++ item ∷ []) octets None new }
     ensures left { (whole : Bool) (end : AnyEnd) (standing : Standing) (rows : CentreRows)
-        (past : Past)
-        (who : ℕ) (items : List Item) (octets : List ℕ) (v : Talking)
+        (past : Past) (who : ℕ) (items : List Item) (octets : List ℕ) (v : Talking)
         → HasLeft whole end standing rows past who items octets None v
         → v.progress ≡ progresses.Cut end
         → WasLeft end standing rows past who items octets }

@@ -5,6 +5,7 @@ use Rattle.conn_laws.proofs.Unopened.{unopened_said}
 use Rattle.tase_conn.specs.Leaving.{IsLeft}
 use Rattle.tase_conn.specs.Talking.{Talking}
 use Rattle.std.proofs.Common.{subst}
+use Rattle.conn_laws.proofs.Resumed.{sent_leaves, left_again}
 use Rattle.conn_laws.proofs.laws.connections_leave.Goals as goal
 
 pub returns-clause-refused : goal.returns-clause-refused
@@ -50,3 +51,12 @@ returns-clause-whole c end standing rows past who items answered rest octets i t
 pub returns-clause-unopened : goal.returns-clause-unopened
 returns-clause-unopened c rows past who items octets peer v s =
     unopened_said rows past who items octets peer v s
+
+pub returns-clause-sent : goal.returns-clause-sent
+returns-clause-sent c whole end standing rows past who items octets waiting old new h stands same =
+    sent_leaves whole end standing rows past who items octets waiting old new h stands same
+
+pub returns-clause-again : goal.returns-clause-again
+returns-clause-again c whole end other standing rows past who items octets old new h leaving stands
+    left =
+    left_again whole end other standing rows past who items octets old new h leaving stands left

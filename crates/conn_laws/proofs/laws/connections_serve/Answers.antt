@@ -2,6 +2,7 @@ use Rattle.conn_laws.proofs.Answered.{answered_serves}
 use Rattle.conn_laws.proofs.Ended.{wants_on, passes_on}
 use Rattle.conn_laws.proofs.Kept.{begun_serves, taken_serves, others_serve}
 use Rattle.conn_laws.proofs.Served.{next_asked, never_refused, has_served}
+use Rattle.conn_laws.proofs.Resumed.{sent_serves}
 use Rattle.conn_laws.proofs.laws.connections_serve.Goals as goal
 
 pub returns-clause-begun : goal.returns-clause-begun
@@ -38,3 +39,7 @@ returns-clause-answered c setup past who items octets event answer old new s rig
 pub returns-clause-served : goal.returns-clause-served
 returns-clause-served c rows past who items octets v s at =
     has_served rows past who items octets v s at
+
+pub returns-clause-sent : goal.returns-clause-sent
+returns-clause-sent c rows past who items octets waiting old new s stands same =
+    sent_serves rows past who items octets waiting old new s stands same
