@@ -40,12 +40,13 @@ use Rattle.tase_conn.specs.Places.{is_connected, standing_by, served_standing, I
 use Rattle.tase_conn.specs.Answering.{told_said, stage_told, progress_told, progress_closed}
 use Rattle.tase_conn.specs.Answering.{detail_in}
 use Rattle.tase_conn.specs.Answering.{answer_said, closed_said, closed}
+use Rattle.tase_map.proofs.AskedOn.{asks_join}
 use Rattle.conn_laws.specs.Serving.{with_event, AsksLast, IsWaiting, SaysOpen, SaysClosed, SaysBy}
 use Rattle.conn_laws.specs.Serving.{Serves, HasTold}
 use Rattle.conn_laws.proofs.Seats.{event_here}
 use Rattle.conn_laws.proofs.Steps.{answer_octets, opened_says, requested_says, taken_says}
 use Rattle.conn_laws.proofs.Steps.{closed_says}
-use Rattle.conn_laws.proofs.TurnLists.{asks_join, same_ends}
+use Rattle.conn_laws.proofs.TurnLists.{same_ends}
 
 -- ---- what was asked
 

@@ -42,13 +42,16 @@ use Rattle.tase_conn.specs.Places.{has_begun, has_finished}
 use Rattle.tase_conn.specs.Wanting.{quiet_at, quiet_behind, behind_close, refusal_said, GoesOn}
 use Rattle.tase_conn.specs.Wanting.{Passes, IsIdle, IsWhole, Stays, WantsBy, Wants}
 use Rattle.tase_conn.specs.Wanting as wanting
+use Rattle.tase_conn.proofs.Composed.{quiet_join}
+use Rattle.tase_map.proofs.AskedOn.{asks_join}
+use Rattle.tase_conn.proofs.LastTurns.{last_of_cause}
 use Rattle.conn_laws.specs.Serving.{IsWaiting, SaysClosed, SaysBy, Serves, Whatever}
 use Rattle.tase_map.proofs.Fronts.{HasFront, whole_front, front_read, size_first, setup_kept}
 use Rattle.tase_map.proofs.Fronts.{setup_fixed, answers_told}
-use Rattle.conn_laws.proofs.Served.{kept_front, cause_last, at_end}
+use Rattle.conn_laws.proofs.Served.{kept_front, at_end}
 use Rattle.conn_laws.proofs.Texts.{answers-append, longer_front, text-append, text_turns}
 use Rattle.conn_laws.proofs.Texts.{fixed_over}
-use Rattle.conn_laws.proofs.TurnLists.{asks_join, quiet_join, quiet_none, any_front, any_back}
+use Rattle.conn_laws.proofs.TurnLists.{quiet_none, any_front, any_back}
 use Rattle.conn_laws.proofs.TurnLists.{behind_silent, same_ends, right_none, silent, follow_behind}
 use Rattle.conn_laws.proofs.TurnLists.{begins_offered, input_follows}
 use Rattle.conn_laws.proofs.Wanted.{last_of, goes_on, asks_on}
@@ -301,7 +304,7 @@ last_within rows items told turns end e =
     let k = kept_front rows (turns_of e.done) in
     ap (λ (ts : List Turn). list_any (is_last rows) ts)
     (k.1 ∙ ap (λ (ts : List Turn). ts ++ k.0) (e.whole ∙ e.ends.is))
-    ∙ any_here (is_last rows) e.ends.front k.0 e.last (cause_last rows items end e.last e.cause)
+    ∙ any_here (is_last rows) e.ends.front k.0 e.last (last_of_cause rows items end e.last e.cause)
 
 early_end : (rows : CentreRows) (items : List Item) (told later : List Told) (turns : List Turn)
     (octets octets_more : List ℕ) (end : ConnEnd)
@@ -316,7 +319,7 @@ early_end rows items told later turns octets octets_more end e none unbegun said
     let front = e.ends.front in
     let last = e.last in
     let extra = e.dropped ++ more in
-    let is = cause_last rows items end last e.cause in
+    let is = last_of_cause rows items end last e.cause in
     let all : items ++ more ≡ e.done ++ extra =
     ap (λ (is : List Item). is ++ more) e.items_are ∙ append_assoc e.done e.dropped more in
     let input : IsInput (e.done ++ extra) = subst (λ (x : List Item). IsInput x) all i in
@@ -451,7 +454,7 @@ closed_end rows past who items told later turns more octets octets_more end old 
     let key = says.key in
     let setup = setup_after (told ++ later) in
     let k = setup_fixed (text_of items) told old.course r.stands connect in
-    let is = cause_last rows items end last e.cause in
+    let is = last_of_cause rows items end last e.cause in
     let goes : list_any (is_last rows) (turns ++ n.quiet_front) ≡ false =
     ap (λ (ts : List Turn). list_any (is_last rows) ts) (sym n.front_is) ∙ e.ends.goes in
     let moved : Whatever items front (λ text ended rest.
@@ -540,7 +543,7 @@ says_end rows past who items told later turns more octets octets_more end
     let unfinished = tests_kept finishes refl turns n.quiet_front front false n.front_is alone
     (r.finished ∙ ap (λ (x : Stage). has_finished x askeds.Nothing) st) in
     absurd (never_open rows front e.last (open_of_tests rows front true false begun unfinished)
-    (cause_last rows items end e.last e.cause) e.ends.goes follows n.last_none)
+    (last_of_cause rows items end e.last e.cause) e.ends.goes follows n.last_none)
 says_end rows past who items told later turns more octets octets_more end (stages.Closed peer) old
     i e n r st asked alone follows added says =
     let front = e.ends.front in
@@ -568,7 +571,7 @@ ends_on rows past who items octets octets_more end old new s p st q g pending =
     let r : Runs rows items s.told s.turns askeds.Nothing old =
     subst (λ (x : Progress). GoesBy x rows items s.told s.turns old) p s.stands.goes in
     let e = (subst (λ (x : Progress). GoesBy x rows items told turns new) q g.stands.goes).0 in
-    let is = cause_last rows items end e.last e.cause in
+    let is = last_of_cause rows items end e.last e.cause in
     let n = ending rows s.turns g.more e.last e.ends is r.ending g.asks_are in
     let a = at_end rows items told turns end e in
     let follow : AllFollow [] (e.ends.front ++ e.last ∷ a.rest) =

@@ -27,6 +27,8 @@ use Rattle.tase_conn.specs.Talking.{Talking, is_open_stage}
 use Rattle.tase_conn.specs.Places.{StandsAt}
 use Rattle.tase_conn.specs.Taken.{TakesIn}
 use Rattle.tase_conn.specs.Answering as answering
+use Rattle.tase_map.proofs.AskedOn.{turns_on}
+use Rattle.tase_map.proofs.AskedOn.{asks_join}
 use Rattle.conn_laws.specs.Cutting.{IsClosing, parting, LeftClosed}
 use Rattle.conn_laws.specs.Cutting.{LeftBy, HasLeft, HasSaidSome, WasLeft, IsUnexplained}
 use Rattle.conn_laws.specs.Cutting.{is_leaving}
@@ -34,8 +36,8 @@ use Rattle.conn_laws.proofs.Left.{kept_on}
 use Rattle.conn_laws.specs.Serving.{AreOthers}
 use Rattle.conn_laws.proofs.Seats.{others_none, others_seat, others_sent, still_opened}
 use Rattle.conn_laws.proofs.Seats.{closed_still}
-use Rattle.conn_laws.proofs.Served.{over_all, kept_front, turns_on}
-use Rattle.conn_laws.proofs.TurnLists.{one_item_more, asks_join}
+use Rattle.conn_laws.proofs.Served.{over_all, kept_front}
+use Rattle.conn_laws.proofs.TurnLists.{one_item_more}
 
 -- ---- with entries of other seats
 

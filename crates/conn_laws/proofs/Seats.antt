@@ -1,18 +1,17 @@
 -- The association of a seat, and entries of other seats.
 use Rattle.std.proofs.Common.{◌≡◌, ◌==◌, ℕ, ◌<◌, Bool, true, false, List, [], ◌∷◌, ◌++◌}
-use Rattle.std.proofs.Common.{Option, Some, None, refl, sym, ap, subst, ◌∙◌, ⊎_elim, arith}
+use Rattle.std.proofs.Common.{Option, Some, None, refl, sym, ap, ◌∙◌}
 use Rattle.std.proofs.Common.{append_assoc}
 use Rattle.std.specs.Prelude.{if◌then◌else◌, ◌||◌}
 use Rattle.std.specs.List.{list_any, cons_option}
-use Rattle.std.proofs.lemmas.Bool.{false≢true, eq-eqb, ne_eqb, cases_eq}
-use Rattle.std.proofs.lemmas.Option.{same_Some, none-some}
+use Rattle.std.proofs.lemmas.Bool.{false≢true, eq-eqb, ne_eqb}
 use Rattle.sbo_device.specs.declared.key.Key.{Key}
 use Rattle.bilateral.specs.Rows.{CentreRows}
 use Rattle.tase_views.specs.declared.event.EventKind.{EventKind}
 use Rattle.tase_views.specs.declared.event.EventKind.TheVariants.{Open, Request, Take, Close}
 use Rattle.tase_views.specs.declared.event.EventKind.TheVariants.{Update, Stop}
 use Rattle.tase_views.specs.declared.event.Entry.{Entry}
-use Rattle.tase_views.specs.History.{Past, opens_in, next_key, association_after}
+use Rattle.tase_views.specs.History.{Past, opens_in, association_after}
 use Rattle.tase_views.specs.History.{association_in, key_at, is_key, entries_of}
 use Rattle.tase_views.specs.OwnTable.{own_table}
 use Rattle.tase_views.specs.Outcomes.{is_close}
@@ -20,7 +19,8 @@ use Rattle.tase_map.specs.Closed.{is_closed}
 use Rattle.tase_map.specs.Readings.{reading_of}
 use Rattle.tase_map.specs.Out.{talk_of, turns_behind}
 use Rattle.tase_map.specs.Sent.{events_by, sent, turns_left}
-use Rattle.tase_map.proofs.Closing.{issued, closed_spent, octets_kept}
+use Rattle.tase_map.proofs.Closing.{issued, closed_spent, octets_kept, at_other, next_new}
+use Rattle.tase_map.proofs.Closing.{one_seat}
 use Rattle.tase_map.proofs.Adding.{other_adds}
 use Rattle.tase_map.proofs.Passing.{made_apart}
 use Rattle.conn_laws.specs.Serving.{with_event, HasOpened, AreOthers}
@@ -42,12 +42,6 @@ pub at_seat : (event : EventKind) (past : Past) (who : ℕ)
 at_seat event past who =
     if_true (who == who) (association_after event past (association_in past who))
     (association_in past who) (eq-eqb who who refl)
-
-at_other : (entry : Entry) (past : Past) (who : ℕ) → (entry.who ≡ who → ⊥)
-    → association_in (entry ∷ past) who ≡ association_in past who
-at_other entry past who other =
-    if_false (entry.who == who) (association_after entry.event past (association_in past who))
-    (association_in past who) (ne_eqb entry.who who other)
 
 pub event_here : (event : EventKind) (past : Past) (who : ℕ)
     → events_by who (with_event who event past) ≡ event ∷ events_by who past
@@ -79,54 +73,6 @@ none_open (entry ∷ past) who e =
 
 abbrev IsGiven : Key → Past → Type 0
 IsGiven key past = key.ordinal < opens_in past key.peer
-
-next_new : (past : Past) (peer : ℕ) (key : Key) → Some (next_key past peer) ≡ Some key
-    → IsGiven key past → ⊥
-next_new past peer key e g =
-    let old : opens_in past peer < opens_in past peer =
-    subst (λ (k : Key). IsGiven k past) (sym (same_Some (next_key past peer) key e)) g in
-    omega (arith, old)
-
--- an event gives no key that was given out before
-held_before : (event : EventKind) (past : Past) (before : Option Key) (key : Key)
-    → IsGiven key past → association_after event past before ≡ Some key → before ≡ Some key
-held_before (Open peer) past before key g e = absurd (next_new past peer key e g)
-held_before (Request call) past before key g e = e
-held_before Take past before key g e = e
-held_before Close past before key g e = absurd (none-some key e)
-held_before (Update point value) past before key g e = e
-held_before Stop past before key g e = e
-
-own_seat : (entry : Entry) (past : Past) (who : ℕ) → entry.who ≡ who
-    → association_in (entry ∷ past) who
-    ≡ association_after entry.event past (association_in past who)
-own_seat entry past who same =
-    if_true (entry.who == who) (association_after entry.event past (association_in past who))
-    (association_in past who) (eq-eqb entry.who who same)
-
--- two seats never have one key
-one_seat : (past : Past) (a b : ℕ) (key : Key) → association_in past a ≡ Some key
-    → association_in past b ≡ Some key → a ≡ b
-one_seat [] a b key ea eb = absurd (none-some key ea)
-one_seat (entry ∷ past) a b key ea eb =
-    ⊎_elim
-    (λ as_a. ⊎_elim
-    (λ as_b. sym as_a ∙ as_b)
-    (λ not_b.
-    let fb : association_in past b ≡ Some key = sym (at_other entry past b not_b) ∙ eb in
-    one_seat past a b key
-    (held_before entry.event past (association_in past a) key (issued past b key fb)
-    (sym (own_seat entry past a as_a) ∙ ea)) fb)
-    (cases_eq entry.who b))
-    (λ not_a.
-    let fa : association_in past a ≡ Some key = sym (at_other entry past a not_a) ∙ ea in
-    ⊎_elim
-    (λ as_b. one_seat past a b key fa
-    (held_before entry.event past (association_in past b) key (issued past a key fa)
-    (sym (own_seat entry past b as_b) ∙ eb)))
-    (λ not_b. one_seat past a b key fa (sym (at_other entry past b not_b) ∙ eb))
-    (cases_eq entry.who b))
-    (cases_eq entry.who a)
 
 -- an event of another seat is none of this seat's association
 other_key : (event : EventKind) (past : Past) (other who : ℕ) (key : Key)

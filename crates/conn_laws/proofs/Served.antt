@@ -2,7 +2,7 @@
 use Rattle.std.proofs.Common.{◌≡◌, ℕ, Bool, true, false, List, [], ◌∷◌, ◌++◌, Option, Some, None}
 use Rattle.std.proofs.Common.{refl, sym, ap, subst, ◌∙◌, append_assoc, reverse, inl, inr}
 use Rattle.std.proofs.Common.{MatchOption}
-use Rattle.std.specs.Prelude.{if◌then◌else◌, not}
+use Rattle.std.specs.Prelude.{if◌then◌else◌}
 use Rattle.std.specs.List.{list_any}
 use Rattle.std.proofs.lemmas.Bool.{false≢true}
 use Rattle.std.proofs.lemmas.List.{append-nil}
@@ -19,7 +19,7 @@ use Rattle.tase_views.specs.Outcomes.{seat_refusal, name_refusal}
 use Rattle.tase_map.specs.Inputs.{Item, IsInput, text_of, has_ended}
 use Rattle.tase_map.specs.Readings.{reading_of}
 use Rattle.tase_map.specs.Turns.{Turn, offers, offers_badly, asks, concludes, releases, aborts}
-use Rattle.tase_map.specs.Turns.{breaks, ends, pauses, turns_told, turns_at, turns_from, turns_of}
+use Rattle.tase_map.specs.Turns.{breaks, ends, pauses, turns_told, turns_of}
 use Rattle.tase_map.specs.Asks.{is_last, up_to_last, asks_at, asks_behind, asks_of, without_pauses}
 use Rattle.tase_map.specs.Asks.{AreInTurn}
 use Rattle.tase_map.specs.Out.{talk_of, concluded_octets, early_octets, is_declined, refusal_octets}
@@ -33,19 +33,21 @@ use Rattle.tase_conn.specs.declared.stage.Asked.TheVariants as askeds
 use Rattle.tase_conn.specs.declared.stage.Behind.{Behind}
 use Rattle.tase_conn.specs.declared.stage.Coming.{Coming}
 use Rattle.tase_conn.specs.declared.stage.ConnEnd.{ConnEnd}
-use Rattle.tase_conn.specs.declared.stage.ConnEnd.TheVariants as conn_ends
 use Rattle.tase_conn.specs.declared.stage.Progress.{Progress}
 use Rattle.tase_conn.specs.declared.stage.Progress.TheVariants as progresses
 use Rattle.tase_conn.specs.declared.stage.Stage.{Stage}
 use Rattle.tase_conn.specs.declared.stage.Stage.TheVariants as stages
 use Rattle.tase_conn.specs.Talking.{Talking, IsResting}
-use Rattle.tase_conn.specs.Places.{Runs, GoesBy, EndsBy, IsCause, IsDone, ReadsBy}
+use Rattle.tase_conn.specs.Places.{Runs, GoesBy, EndsBy, IsDone, ReadsBy}
 use Rattle.tase_conn.specs.Places.{Begins, turns_held, fault_seen}
+use Rattle.tase_conn.proofs.LastTurns.{last_of_cause}
+use Rattle.tase_map.proofs.AskedOn.{turns_on}
+use Rattle.tase_map.proofs.AskedOn.{asks_join}
 use Rattle.conn_laws.specs.Serving.{IsWaiting, SaysBy, Serves, HasSaid}
 use Rattle.conn_laws.specs.Serving.{HasServed, Whatever}
 use Rattle.tase_conn.proofs.SeenTurns.{seen_front}
 use Rattle.conn_laws.proofs.Texts.{text_turns}
-use Rattle.conn_laws.proofs.TurnLists.{asks_join, any_front, or_left, or_right}
+use Rattle.conn_laws.proofs.TurnLists.{any_front, or_left, or_right}
 use Rattle.conn_laws.proofs.Wanted.{waiting_of, answered_goes}
 
 -- ---- turns up to the last
@@ -94,16 +96,6 @@ kept_front rows [] = ([], refl)
 kept_front rows (turn ∷ turns) =
     let r = kept_front rows turns in
     kept_by (is_last rows turn) turn turns (up_to_last rows turns) r.0 r.1
-
-pub turns_on : (before items more : List Item)
-    → (others : List Turn) × (turns_from before (items ++ more) ≡ turns_from before items ++ others)
-turns_on before [] more = (turns_from before more, refl)
-turns_on before (item ∷ items) more =
-    let r = turns_on (before ++ item ∷ []) items more in (
-      r.0,
-      ap (λ (ts : List Turn). turns_at before item ++ ts) r.1
-          ∙ sym (append_assoc (turns_at before item) (turns_from (before ++ item ∷ []) items) r.0),
-    )
 
 -- ---- the event that waits
 
@@ -258,28 +250,6 @@ running_served rows past who items octets v s p at =
 
 -- ---- at its end
 
-pub cause_last : (rows : CentreRows) (items : List Item) (end : ConnEnd) (last : Turn)
-    → IsCause rows items end last → is_last rows last ≡ true
-cause_last rows items conn_ends.Finished last c = ap (λ t. is_last rows t) c
-cause_last rows items conn_ends.PeerEnd last (inl c) = ap (λ t. is_last rows t) c
-cause_last rows items conn_ends.PeerEnd last (inr c) = ap (λ t. is_last rows t) c
-cause_last rows items conn_ends.Declined (offers title) c = ap (λ b. not b) c
-cause_last rows items conn_ends.Declined offers_badly c = refl
-cause_last rows items conn_ends.Declined (asks invoke call) c = absurd cc
-cause_last rows items conn_ends.Declined concludes c = absurd cc
-cause_last rows items conn_ends.Declined releases c = refl
-cause_last rows items conn_ends.Declined aborts c = refl
-cause_last rows items conn_ends.Declined breaks c = refl
-cause_last rows items conn_ends.Declined ends c = refl
-cause_last rows items conn_ends.Declined pauses c = absurd cc
-cause_last rows items (conn_ends.Refused fault) last c = ap (λ t. is_last rows t) c.0
-cause_last rows items (conn_ends.TooLong len detail) last c = absurd c
-cause_last rows items (conn_ends.Overflow pending limit) last c = absurd c
-cause_last rows items conn_ends.LinkFault last c = absurd c
-cause_last rows items conn_ends.Stopped last c = absurd c
-cause_last rows items (conn_ends.Full weight limit) last c = absurd c
-cause_last rows items conn_ends.Memory last c = absurd c
-
 last_alone : (rows : CentreRows) (b : Bool) (last : Turn) (more : List Turn) → b ≡ true
     → (if b then last ∷ [] else last ∷ more) ≡ last ∷ []
 last_alone rows true last more e = refl
@@ -315,7 +285,7 @@ at_end rows items told turns end e =
       whole = ap (λ (ts : List Turn). up_to_last rows ts)
           (is ∙ ap (λ (ts : List Turn). ts ++ (k.0 ++ o.0)) e.ends.is)
           ∙ cut_there rows e.ends.front (k.0 ++ o.0) e.last e.ends.goes
-          (cause_last rows items end e.last e.cause)
+          (last_of_cause rows items end e.last e.cause)
           ∙ sym e.ends.is;
     }
 

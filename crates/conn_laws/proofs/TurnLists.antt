@@ -14,7 +14,7 @@ use Rattle.tase_map.specs.Inputs.{Item, IsInput, text_of, has_ended}
 use Rattle.tase_map.specs.Turns.{Turn, offers, offers_badly, asks, concludes, releases, aborts}
 use Rattle.tase_map.specs.Turns.{breaks, ends, pauses, turns_of}
 use Rattle.tase_map.specs.Asks.{is_peers, begins, finishes, is_open, is_last, event_if, open_of}
-use Rattle.tase_map.specs.Asks.{asks_at, asks_behind, without_pauses}
+use Rattle.tase_map.specs.Asks.{asks_behind, without_pauses}
 use Rattle.tase_map.proofs.Uncut.{without-append}
 use Rattle.tase_map.proofs.TurnOrder.{offered, concluded, IsBegun, AllFollow, turns_follow}
 use Rattle.tase_conn.specs.Wanting.{quiet_at, quiet_behind}
@@ -50,34 +50,6 @@ pub none_more : (p : Turn → Bool) (front : List Turn) (turn : Turn)
 none_more p front turn f t = list_any-append p front (turn ∷ []) ∙ rw (f, t) refl
 
 -- ---- joined
-
-pub asks_join : (rows : CentreRows) (before turns more : List Turn)
-    → asks_behind rows before (turns ++ more)
-    ≡ asks_behind rows before turns ++ asks_behind rows (before ++ turns) more
-asks_join rows before [] more =
-    ap (λ (ts : List Turn). asks_behind rows ts more) (sym (append-nil before))
-asks_join rows before (turn ∷ turns) more =
-    ap (λ (es : List EventKind). asks_at rows before turn ++ es)
-    (asks_join rows (before ++ turn ∷ []) turns more
-    ∙ ap (λ (ts : List Turn). asks_behind rows (before ++ turn ∷ []) turns
-    ++ asks_behind rows ts more) (append_assoc before (turn ∷ []) turns))
-    ∙ sym (append_assoc (asks_at rows before turn)
-    (asks_behind rows (before ++ turn ∷ []) turns)
-    (asks_behind rows (before ++ turn ∷ turns) more))
-
-pub quiet_join : (rows : CentreRows) (setup : Setup) (before turns more : List Turn)
-    → quiet_behind rows setup before (turns ++ more)
-    ≡ quiet_behind rows setup before turns ++ quiet_behind rows setup (before ++ turns) more
-quiet_join rows setup before [] more =
-    ap (λ (ts : List Turn). quiet_behind rows setup ts more) (sym (append-nil before))
-quiet_join rows setup before (turn ∷ turns) more =
-    ap (λ (os : List ℕ). quiet_at rows setup before turn ++ os)
-    (quiet_join rows setup (before ++ turn ∷ []) turns more
-    ∙ ap (λ (ts : List Turn). quiet_behind rows setup (before ++ turn ∷ []) turns
-    ++ quiet_behind rows setup ts more) (append_assoc before (turn ∷ []) turns))
-    ∙ sym (append_assoc (quiet_at rows setup before turn)
-    (quiet_behind rows setup (before ++ turn ∷ []) turns)
-    (quiet_behind rows setup (before ++ turn ∷ turns) more))
 
 pub follow_behind : (before front more : List Turn) → AllFollow before (front ++ more)
     → AllFollow (before ++ front) more

@@ -33,11 +33,13 @@ use Rattle.tase_conn.specs.Talking.{Talking, pending_of}
 use Rattle.tase_conn.specs.Places.{StandsAt, Runs, GoesBy, EndsWith, is_connected, turn_for}
 use Rattle.tase_conn.specs.Places.{has_begun, has_finished}
 use Rattle.tase_conn.specs.Wanting.{quiet_at, quiet_behind, GoesOn, WaitsFor}
+use Rattle.tase_conn.proofs.Composed.{quiet_join}
+use Rattle.tase_map.proofs.AskedOn.{asks_join}
 use Rattle.conn_laws.specs.Serving.{IsWaiting, SaysOpen, SaysClosed, SaysBy, Serves, owed}
 use Rattle.conn_laws.proofs.Answered.{take_served, close_served}
 use Rattle.conn_laws.proofs.Texts.{answers-append, connected_once}
 use Rattle.tase_map.proofs.Fronts.{has_front}
-use Rattle.conn_laws.proofs.TurnLists.{asks_join, quiet_join, quiet_none, any_front, any_back}
+use Rattle.conn_laws.proofs.TurnLists.{quiet_none, any_front, any_back}
 use Rattle.conn_laws.proofs.TurnLists.{behind_silent, same_ends}
 
 -- ---- what is said on the way

@@ -14,7 +14,7 @@ use Rattle.stack_assoc.specs.Handing.{answer_to, answers_to}
 use Rattle.tase_views.specs.declared.event.EventKind.{EventKind}
 use Rattle.tase_map.specs.Inputs.{Item}
 use Rattle.tase_map.specs.Turns.{Turn, turns_of}
-use Rattle.tase_map.specs.Asks.{asks_at, asks_behind, up_to_last}
+use Rattle.tase_map.specs.Asks.{asks_behind, up_to_last}
 use Rattle.tase_conn.specs.declared.stage.ConnEnd.{ConnEnd}
 use Rattle.tase_conn.specs.declared.stage.Behind.{Behind}
 use Rattle.tase_conn.specs.declared.stage.Behind.TheVariants as behinds
@@ -30,26 +30,13 @@ use Rattle.tase_conn.specs.Places.{fault_seen, RoomBy}
 use Rattle.tase_conn.specs.Wanting.{quiet_at, quiet_behind, GoesOn, IsWhole, Reads}
 use Rattle.tase_conn.specs.Wanting.{Passes, IsIdle}
 use Rattle.tase_conn.specs.Acting.{Acts, Steps, HasEnded, has_more, is_left}
+use Rattle.tase_map.proofs.AskedOn.{asks_join}
 use Rattle.tase_conn.proofs.Acted.{running_idle, uncut}
 use Rattle.tase_conn.proofs.LastTurns.{whole_now}
 
 -- ---- turns behind turns
 
-asks_join : (rows : CentreRows) (before turns more : List Turn)
-    → asks_behind rows before (turns ++ more)
-    ≡ asks_behind rows before turns ++ asks_behind rows (before ++ turns) more
-asks_join rows before [] more =
-    ap (λ (ts : List Turn). asks_behind rows ts more) (sym (append-nil before))
-asks_join rows before (turn ∷ turns) more =
-    ap (λ (es : List EventKind). asks_at rows before turn ++ es)
-    (asks_join rows (before ++ turn ∷ []) turns more
-    ∙ ap (λ (ts : List Turn). asks_behind rows (before ++ turn ∷ []) turns
-    ++ asks_behind rows ts more) (append_assoc before (turn ∷ []) turns))
-    ∙ sym (append_assoc (asks_at rows before turn)
-    (asks_behind rows (before ++ turn ∷ []) turns)
-    (asks_behind rows (before ++ turn ∷ turns) more))
-
-quiet_join : (rows : CentreRows) (setup : Setup) (before turns more : List Turn)
+pub quiet_join : (rows : CentreRows) (setup : Setup) (before turns more : List Turn)
     → quiet_behind rows setup before (turns ++ more)
     ≡ quiet_behind rows setup before turns ++ quiet_behind rows setup (before ++ turns) more
 quiet_join rows setup before [] more =

@@ -11,10 +11,11 @@ use Rattle.stack_assoc.specs.Told.{Told, called}
 use Rattle.stack_assoc.proofs.StreamLaws.{fault_stays}
 use Rattle.tase_map.specs.Inputs.{Item, octets_of, text_of}
 use Rattle.tase_map.specs.Readings.{Reading, Reads, reading_of}
-use Rattle.tase_map.specs.Turns.{Turn, turns_of, turns_at, turns_from}
+use Rattle.tase_map.specs.Turns.{Turn, turns_of}
 use Rattle.tase_map.specs.Turns.{offers, offers_badly, asks, concludes, releases, aborts, breaks}
 use Rattle.tase_map.specs.Turns.{ends, pauses}
 use Rattle.tase_map.specs.Asks.{is_last, up_to_last}
+use Rattle.tase_map.proofs.AskedOn.{turns_on}
 use Rattle.tase_map.proofs.ReadingLaws.{reading_only, reading_found}
 use Rattle.tase_conn.specs.declared.stage.ConnEnd.{ConnEnd}
 use Rattle.tase_conn.specs.declared.stage.ConnEnd.TheVariants as conn_ends
@@ -26,16 +27,6 @@ pub text_on : (items : List Item) (item : Item)
     → text_of (items ++ item ∷ []) ≡ text_of items ++ octets_of item
 text_on items item = flat_map-append octets_of items (item ∷ [])
     ∙ ap (λ (os : List ℕ). text_of items ++ os) (append-nil (octets_of item))
-
-turns_on : (before items more : List Item)
-    → (others : List Turn) × (turns_from before (items ++ more) ≡ turns_from before items ++ others)
-turns_on before [] more = (turns_from before more, refl)
-turns_on before (item ∷ items) more =
-    let r = turns_on (before ++ item ∷ []) items more in (
-      r.0,
-      ap (λ (ts : List Turn). turns_at before item ++ ts) r.1
-          ∙ sym (append_assoc (turns_at before item) (turns_from (before ++ item ∷ []) items) r.0),
-    )
 
 broken_by : (text more : List ℕ) (told : List Told) (broken : Option StackFault)
     (fault : StackFault) → Reads text told broken → broken ≡ Some fault
@@ -55,7 +46,7 @@ broken_stays items item fault e =
 
 -- ---- the last turn
 
-last_of_cause : (rows : CentreRows) (items : List Item) (end : ConnEnd) (last : Turn)
+pub last_of_cause : (rows : CentreRows) (items : List Item) (end : ConnEnd) (last : Turn)
     → IsCause rows items end last → is_last rows last ≡ true
 last_of_cause rows items conn_ends.Finished last c = ap (λ (t : Turn). is_last rows t) c
 last_of_cause rows items conn_ends.PeerEnd last (inl c) = ap (λ (t : Turn). is_last rows t) c

@@ -1,6 +1,7 @@
 -- What was asked stays asked, and only the takes depend on how a text is cut.
 use Rattle.std.proofs.Common.{◌≡◌, Bool, true, false, List, [], ◌∷◌, ◌++◌, refl, sym, ap, ◌∙◌}
 use Rattle.std.proofs.Common.{append_assoc}
+use Rattle.std.proofs.lemmas.List.{append-nil}
 use Rattle.std.specs.Prelude.{if◌then◌else◌}
 use Rattle.bilateral.specs.Rows.{CentreRows}
 use Rattle.tase_views.specs.declared.event.EventKind.{EventKind}
@@ -8,7 +9,7 @@ use Rattle.tase_map.specs.Inputs.{Item}
 use Rattle.tase_map.specs.Turns.{Turn, turns_at, turns_from, turns_of}
 use Rattle.tase_map.specs.Asks.{is_last, up_to_last, asks_at, asks_behind, asks_of}
 
-turns_on : (before items more : List Item)
+pub turns_on : (before items more : List Item)
     → (others : List Turn) × (turns_from before (items ++ more) ≡ turns_from before items ++ others)
 turns_on before [] more = (turns_from before more, refl)
 turns_on before (item ∷ items) more =
@@ -32,17 +33,26 @@ up_to_last_on rows (turn ∷ turns) more =
     last_on rows (is_last rows turn) turn (up_to_last rows turns)
     (up_to_last rows (turns ++ more)) (up_to_last_on rows turns more)
 
+-- what turns ask behind turns
+pub asks_join : (rows : CentreRows) (before turns more : List Turn)
+    → asks_behind rows before (turns ++ more)
+    ≡ asks_behind rows before turns ++ asks_behind rows (before ++ turns) more
+asks_join rows before [] more =
+    ap (λ (ts : List Turn). asks_behind rows ts more) (sym (append-nil before))
+asks_join rows before (turn ∷ turns) more =
+    ap (λ (es : List EventKind). asks_at rows before turn ++ es)
+    (asks_join rows (before ++ turn ∷ []) turns more
+    ∙ ap (λ (ts : List Turn). asks_behind rows (before ++ turn ∷ []) turns
+    ++ asks_behind rows ts more) (append_assoc before (turn ∷ []) turns))
+    ∙ sym (append_assoc (asks_at rows before turn)
+    (asks_behind rows (before ++ turn ∷ []) turns)
+    (asks_behind rows (before ++ turn ∷ turns) more))
+
 asks_on : (rows : CentreRows) (before turns more : List Turn)
     → (others : List EventKind)
     × (asks_behind rows before (turns ++ more) ≡ asks_behind rows before turns ++ others)
-asks_on rows before [] more = (asks_behind rows before more, refl)
-asks_on rows before (turn ∷ turns) more =
-    let r = asks_on rows (before ++ turn ∷ []) turns more in (
-      r.0,
-      ap (λ (es : List EventKind). asks_at rows before turn ++ es) r.1
-          ∙ sym (append_assoc (asks_at rows before turn)
-          (asks_behind rows (before ++ turn ∷ []) turns) r.0),
-    )
+asks_on rows before turns more =
+    (asks_behind rows (before ++ turns) more, asks_join rows before turns more)
 
 -- with more items behind it an input asks what it asked, and then more
 pub asked_on : (rows : CentreRows) (items more : List Item)

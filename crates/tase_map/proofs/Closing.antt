@@ -43,7 +43,7 @@ next_given past peer key e =
     subst (λ (k : Key). k.ordinal < counts_open (Open peer) k.peer + opens_in past k.peer)
     (same_Some (next_key past peer) key e) (opened_given past peer)
 
-next_new : (past : Past) (peer : ℕ) (key : Key) → Some (next_key past peer) ≡ Some key
+pub next_new : (past : Past) (peer : ℕ) (key : Key) → Some (next_key past peer) ≡ Some key
     → IsGiven key past → ⊥
 next_new past peer key e g =
     let old : opens_in past peer < opens_in past peer =
@@ -77,7 +77,7 @@ issued (entry ∷ past) who key e =
     (issued past who key) e
 
 -- an event gives no key that was given out before
-held_before : (event : EventKind) (past : Past) (before : Option Key) (key : Key)
+pub held_before : (event : EventKind) (past : Past) (before : Option Key) (key : Key)
     → IsGiven key past → association_after event past before ≡ Some key → before ≡ Some key
 held_before (Open peer) past before key g e = absurd (next_new past peer key e g)
 held_before (Request call) past before key g e = e
@@ -95,21 +95,21 @@ if_false true x y e = absurd (false≢true (sym e))
 if_false false x y e = refl
 
 -- the association of the entry's own seat, and of another
-at_seat : (entry : Entry) (past : Past) (who : ℕ) → entry.who ≡ who
+pub at_seat : (entry : Entry) (past : Past) (who : ℕ) → entry.who ≡ who
     → association_in (entry ∷ past) who
     ≡ association_after entry.event past (association_in past who)
 at_seat entry past who same =
     if_true (entry.who == who) (association_after entry.event past (association_in past who))
     (association_in past who) (eq-eqb entry.who who same)
 
-at_other : (entry : Entry) (past : Past) (who : ℕ) → (entry.who ≡ who → ⊥)
+pub at_other : (entry : Entry) (past : Past) (who : ℕ) → (entry.who ≡ who → ⊥)
     → association_in (entry ∷ past) who ≡ association_in past who
 at_other entry past who other =
     if_false (entry.who == who) (association_after entry.event past (association_in past who))
     (association_in past who) (ne_eqb entry.who who other)
 
 -- two seats never have one key
-one_seat : (past : Past) (a b : ℕ) (key : Key) → association_in past a ≡ Some key
+pub one_seat : (past : Past) (a b : ℕ) (key : Key) → association_in past a ≡ Some key
     → association_in past b ≡ Some key → a ≡ b
 one_seat [] a b key ea eb = absurd (none-some key ea)
 one_seat (entry ∷ past) a b key ea eb =

@@ -1,6 +1,3 @@
-use Rattle.tase_map.proofs.Fronts.{told_front, last_comes, last_lawful, setup_fixed}
-use Rattle.tase_map.proofs.TurnsRead.{item_turns}
-use Rattle.tase_map.proofs.TurnOrder.{turns_follow}
 use Rattle.tase_map.proofs.AskedLaws.{call_again, request_again}
 use Rattle.tase_map.proofs.laws.calls_are_requests.Goals as goal
 
