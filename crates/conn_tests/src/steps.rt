@@ -1,0 +1,291 @@
+//! The steps of a connection with a node that answers all that it wants.
+ghost use Rattle.std.specs.Prelude.{◌≡◌, ◌≤◌, Ok, Err, None, true, IfOk, OnOk, length};
+ghost use Rattle.tase_conn.specs.Talking.{end_in, next_of};
+ghost use Rattle.tase_conn.specs.Places.{IsPlaced};
+ghost use Rattle.tase_conn.specs.Answering.{IsAnswerFor, IsCut};
+ghost use Rattle.conn_tests.specs.Playing.{IsReady, IsAtRest, IsAwaited, HasWanted, HasServed};
+ghost use Rattle.conn_tests.specs.Playing.{IsAnswerOf};
+
+use crate::rows::TABLES;
+use bilateral::{Centre, read_centre};
+use sbo_device::Key;
+use std::alloc::{AllocError, Global};
+use std::sync::Arc;
+use std::test::Fail;
+use tase_conn::{Conn, ConnEnd};
+use tase_views::{
+    Answer, Call, CallKind, Event, EventKind, Reply, ReplyKind, Reports, StepFault, WriteResults,
+};
+
+fn centre_of(alloc: Global) -> Result<Centre, Fail> {
+    match read_centre(alloc, TABLES.as_bytes())? {
+        Ok(centre) => Ok(centre),
+        Err(_) => Err("bad tables".into()),
+    }
+}
+
+fn conn_to(alloc: Global, centre: Arc<Centre>) -> Result<Conn, AllocError>
+    ensures { IfOk result (λ conn. IsAtRest conn) }
+{
+    Conn::new(alloc, centre)
+}
+
+/// A connection to the centre of the rows.
+pub(crate) fn conn_of(alloc: Global) -> Result<Conn, Fail>
+    ensures { IfOk result (λ conn. IsAtRest conn) }
+{
+    let centre = centre_of(alloc)?;
+    let centre = Arc::new(alloc, centre)?;
+    Ok(conn_to(alloc, centre)?)
+}
+
+/// What came of 600 writes: 1,200 octets.
+fn many_results(alloc: Global) -> Result<WriteResults, Fail> {
+    let mut results = WriteResults::new(alloc);
+    for _ in 0..600 {
+        results.push(None)?;
+    }
+    Ok(results)
+}
+
+/// An odd call is rejected, a list of names is answered at length, each other as an identify.
+fn reply_to(alloc: Global, call: &Call) -> Result<Reply, Fail> {
+    match call.kind() {
+        CallKind::Odd { kind, code } => Ok(Reply::new(ReplyKind::Reject {
+            kind: *kind,
+            code: *code,
+        })),
+        CallKind::NameList { .. } => Ok(Reply::new(ReplyKind::Written(many_results(alloc)?))),
+        _ => Ok(Reply::new(ReplyKind::Identified)),
+    }
+}
+
+fn letter(kind: &EventKind) -> u8 {
+    match kind {
+        EventKind::Open { .. } => b'O',
+        EventKind::Request { .. } => b'R',
+        EventKind::Take => b'T',
+        EventKind::Close => b'C',
+        _ => b'?',
+    }
+}
+
+/// What a node answers that refuses nothing.
+fn answer_to(alloc: Global, kind: &EventKind) -> Result<Answer, Fail>
+    ensures { IfOk result (λ answer. IsAnswerOf kind.now (Ok answer)) }
+{
+    match kind {
+        EventKind::Open { peer } => Ok(Answer::Opened {
+            key: Key {
+                peer: *peer,
+                ordinal: 1,
+            },
+        }),
+        EventKind::Request { call } => Ok(Answer::Reply(reply_to(alloc, call)?)),
+        EventKind::Take => Ok(Answer::Reports(Reports::new(alloc))),
+        EventKind::Close => Ok(Answer::Closed),
+        _ => Err("no event of a peer".into()),
+    }
+}
+
+/// A refusal that leaves the connection.
+fn cut_of(fault: StepFault) -> Result<StepFault, Fail>
+    ensures { IfOk result (λ fault. IsCut fault) }
+{
+    match fault {
+        StepFault::Stopped { .. } | StepFault::HistoryFull { .. } | StepFault::Memory => Ok(fault),
+        _ => Err("no refusal of an event that is wanted".into()),
+    }
+}
+
+fn refusal_of(kind: &EventKind, fault: StepFault) -> Result<StepFault, Fail>
+    ensures { IfOk result (λ fault. IsAnswerOf kind.now (Err fault)) }
+{
+    match kind {
+        EventKind::Open { .. } | EventKind::Request { .. } | EventKind::Take => cut_of(fault),
+        _ => Err("an event that isn't refused".into()),
+    }
+}
+
+/// What a node answers that refuses the event, if for a reason.
+fn told_of(
+    alloc: Global,
+    event: &Event,
+    fault: Option<StepFault>,
+) -> Result<Result<Answer, StepFault>, Fail>
+    ensures { IfOk result (λ told. IsAnswerOf event.now told) }
+{
+    match fault {
+        Some(fault) => Ok(Err(refusal_of(event.kind(), fault)?)),
+        None => Ok(Ok(answer_to(alloc, event.kind())?)),
+    }
+}
+
+/// Why the event at this place is refused, if it is.
+fn fault_at(refused: Option<(usize, StepFault)>, place: usize) -> Option<StepFault> {
+    match refused {
+        Some((at, fault)) if at == place => Some(fault),
+        _ => None,
+    }
+}
+
+fn want(conn: &mut Conn) -> Result<Option<Event>, AllocError>
+    requires { IsReady conn.old }
+    ensures { IfOk result (λ event. HasWanted event conn.new) }
+{
+    conn.want()
+}
+
+fn tell(conn: &mut Conn, told: Result<Answer, StepFault>) -> Result<(), AllocError>
+    requires placed { IsPlaced conn.old }
+    requires right { IsAnswerFor conn.old.progress told }
+    ensures { OnOk result (IsReady conn.new) }
+{
+    conn.tell(told)
+}
+
+fn answer(conn: &mut Conn, event: &Event, told: Result<Answer, StepFault>) -> Result<(), AllocError>
+    requires placed { IsPlaced conn.old }
+    requires awaited { IsAwaited conn.old.progress event.now }
+    requires right { IsAnswerOf event.now told }
+    ensures { OnOk result (IsReady conn.new) }
+{
+    let _kind = event.kind();
+    tell(conn, told)
+}
+
+/// Notes an event, and answers it.
+fn answer_event(
+    alloc: Global,
+    conn: &mut Conn,
+    event: &Event,
+    wants: &mut Vec<u8>,
+    refused: Option<(usize, StepFault)>,
+) -> Result<(), Fail>
+    requires placed { IsPlaced conn.old }
+    requires awaited { IsAwaited conn.old.progress event.now }
+    ensures { OnOk result (IsReady conn.new) }
+{
+    let told = told_of(alloc, event, fault_at(refused, wants.len()))?;
+    wants.push(letter(event.kind()))?;
+    Ok(answer(conn, event, told)?)
+}
+
+/// Answers the next event that is wanted; whether there was one.
+fn serve_one(
+    alloc: Global,
+    conn: &mut Conn,
+    wants: &mut Vec<u8>,
+    refused: Option<(usize, StepFault)>,
+) -> Result<bool, Fail>
+    requires { IsReady conn.old }
+    ensures { IfOk result (λ served. HasServed served conn.new) }
+{
+    match want(conn)? {
+        None => Ok(false),
+        Some(event) => {
+            answer_event(alloc, conn, &event, wants, refused)?;
+            Ok(true)
+        }
+    }
+}
+
+/// Answers all that is wanted; the event at a place is refused, if one is to be.
+pub(crate) fn serve(
+    alloc: Global,
+    conn: &mut Conn,
+    wants: &mut Vec<u8>,
+    refused: Option<(usize, StepFault)>,
+) -> Result<(), Fail>
+    requires { IsReady conn.old }
+    ensures { OnOk result (IsAtRest conn.new) }
+{
+    for _ in 0..1_000 {
+        if !serve_one(alloc, conn, wants, refused)? {
+            return Ok(());
+        }
+    }
+    Err("a thousand events".into())
+}
+
+fn take_some(conn: &mut Conn, piece: &[u8]) -> Result<(), AllocError>
+    requires rests { IsAtRest conn.old }
+    requires some { 1 ≤ length piece.now }
+    requires small { length piece.now ≤ 65536 }
+    ensures { OnOk result (IsReady conn.new) }
+{
+    conn.take_in(piece)
+}
+
+/// Takes in a piece.
+pub(crate) fn take(conn: &mut Conn, piece: &[u8]) -> Result<(), Fail>
+    requires { IsAtRest conn.old }
+    ensures { OnOk result (IsReady conn.new) }
+{
+    if piece.len() < 1 {
+        return Err("an empty piece".into());
+    }
+    if piece.len() > 65_536 {
+        return Err("a long piece".into());
+    }
+    Ok(take_some(conn, piece)?)
+}
+
+/// Takes in that the link gives no more.
+pub(crate) fn end(conn: &mut Conn)
+    requires { IsAtRest conn.old }
+    ensures { IsReady conn.new }
+{
+    conn.end_in();
+}
+
+/// Whether it hasn't ended.
+pub(crate) fn goes_on(conn: &Conn) -> bool
+    ensures { result ≡ true → end_in conn.now.progress ≡ None }
+{
+    match conn.ended() {
+        Some(_) => false,
+        None => true,
+    }
+}
+
+/// Gives it up.
+pub(crate) fn give_up(conn: &mut Conn, end: ConnEnd)
+    requires rests { IsAtRest conn.old }
+    requires goes_on { end_in conn.old.progress ≡ None }
+    ensures { IsReady conn.new }
+{
+    conn.give_up(end);
+}
+
+fn note_sent(conn: &mut Conn, count: usize)
+    requires rests { IsAtRest conn.old }
+    requires few { count ≤ length (next_of conn.old) }
+    ensures { IsAtRest conn.new }
+{
+    conn.sent(count);
+}
+
+/// Sends at most seven octets; whether there were any.
+fn send_some(conn: &mut Conn, out: &mut Vec<u8>) -> Result<bool, AllocError>
+    requires { IsAtRest conn.old }
+    ensures { IfOk result (λ more. IsAtRest conn.new) }
+{
+    let count = conn.pending().len().min(7);
+    out.extend_from_slice(&conn.pending()[..count])?;
+    note_sent(conn, count);
+    Ok(count > 0)
+}
+
+/// Sends all that is to be sent.
+pub(crate) fn send(conn: &mut Conn, out: &mut Vec<u8>) -> Result<(), Fail>
+    requires { IsAtRest conn.old }
+    ensures { OnOk result (IsAtRest conn.new) }
+{
+    for _ in 0..10_000 {
+        if !send_some(conn, out)? {
+            return Ok(());
+        }
+    }
+    Err("more than is sent".into())
+}
