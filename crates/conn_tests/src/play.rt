@@ -98,7 +98,7 @@ fn feed(
     alloc: Global,
     conn: &mut Conn,
     piece: &[u8],
-    refused: Option<(usize, StepFault)>,
+    refused: Option<(u8, StepFault)>,
     made: &mut Played,
 ) -> Result<(), Fail>
     requires { IsAtRest conn.old }
@@ -113,7 +113,7 @@ fn feed_all(
     alloc: Global,
     conn: &mut Conn,
     pieces: &[Vec<u8>],
-    refused: Option<(usize, StepFault)>,
+    refused: Option<(u8, StepFault)>,
     made: &mut Played,
 ) -> Result<(), Fail>
     requires { IsAtRest conn.old }

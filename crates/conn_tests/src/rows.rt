@@ -18,8 +18,8 @@ pub(crate) struct Row {
     pub(crate) given: &'static [&'static str],
     /// Whether the link ends behind it.
     pub(crate) ends: bool,
-    /// The place of the event that the node refuses, and why.
-    pub(crate) refused: Option<(usize, StepFault)>,
+    /// The letter of the events that the node refuses, and why.
+    pub(crate) refused: Option<(u8, StepFault)>,
     /// For what the connection is given up at the end.
     pub(crate) left: Option<ConnEnd>,
     /// The events that are wanted where the stream comes in its parts: open, request, take, close.
@@ -51,11 +51,11 @@ fn plain(
     }
 }
 
-/// A row whose event at a place is refused.
+/// A row whose first event of a letter is refused.
 fn refused(
     name: &'static str,
     given: &'static [&'static str],
-    refused: (usize, StepFault),
+    refused: (u8, StepFault),
     wants: &'static str,
     sent: &'static [&'static str],
     end: &'static str,
@@ -355,7 +355,7 @@ pub(crate) fn refusals() -> [Row; 5] {
         refused(
             "full at the open",
             &[REQUEST, CONNECT],
-            (0, full),
+            (b'O', full),
             "O",
             &[CONFIRM],
             "Full { weight: 9, limit: 8 }",
@@ -363,7 +363,7 @@ pub(crate) fn refusals() -> [Row; 5] {
         refused(
             "memory at the open",
             &[REQUEST, CONNECT],
-            (0, StepFault::Memory),
+            (b'O', StepFault::Memory),
             "O",
             &[CONFIRM],
             "Memory",
@@ -371,7 +371,7 @@ pub(crate) fn refusals() -> [Row; 5] {
         refused(
             "stopped at a request",
             &[REQUEST, CONNECT, IDENTIFY],
-            (2, StepFault::Stopped { at: 1 }),
+            (b'R', StepFault::Stopped { at: 1 }),
             "OTRC",
             &[CONFIRM, ACCEPT, ABORT],
             "Stopped",
@@ -379,7 +379,7 @@ pub(crate) fn refusals() -> [Row; 5] {
         refused(
             "full at a take",
             &[REQUEST, CONNECT],
-            (1, full),
+            (b'T', full),
             "OTC",
             &[CONFIRM, ACCEPT, ABORT],
             "Full { weight: 9, limit: 8 }",
@@ -387,7 +387,7 @@ pub(crate) fn refusals() -> [Row; 5] {
         refused(
             "memory at a take",
             &[REQUEST, CONNECT],
-            (1, StepFault::Memory),
+            (b'T', StepFault::Memory),
             "OTC",
             &[CONFIRM, ACCEPT, ABORT],
             "Memory",
@@ -401,15 +401,15 @@ pub(crate) fn left_rows() -> [Row; 8] {
         refused(
             "stopped at the open",
             &[REQUEST, CONNECT],
-            (0, StepFault::Stopped { at: 1 }),
+            (b'O', StepFault::Stopped { at: 1 }),
             "O",
             &[CONFIRM],
             "Stopped",
         ),
         refused(
             "stopped at a take",
-            &[REQUEST, CONNECT, IDENTIFY],
-            (1, StepFault::Stopped { at: 1 }),
+            &[REQUEST, CONNECT],
+            (b'T', StepFault::Stopped { at: 1 }),
             "OTC",
             &[CONFIRM, ACCEPT, ABORT],
             "Stopped",
@@ -418,7 +418,7 @@ pub(crate) fn left_rows() -> [Row; 8] {
             "full at a request",
             &[REQUEST, CONNECT, IDENTIFY],
             (
-                2,
+                b'R',
                 StepFault::HistoryFull {
                     weight: 9,
                     limit: 8,
@@ -431,7 +431,7 @@ pub(crate) fn left_rows() -> [Row; 8] {
         refused(
             "memory at a request",
             &[REQUEST, CONNECT, IDENTIFY],
-            (2, StepFault::Memory),
+            (b'R', StepFault::Memory),
             "OTRC",
             &[CONFIRM, ACCEPT, ABORT],
             "Memory",

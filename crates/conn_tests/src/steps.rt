@@ -121,10 +121,10 @@ fn told_of(
     }
 }
 
-/// Why the event at this place is refused, if it is.
-fn fault_at(refused: Option<(usize, StepFault)>, place: usize) -> Option<StepFault> {
+/// Why an event of this letter is refused, if it is.
+fn fault_of(refused: Option<(u8, StepFault)>, letter: u8) -> Option<StepFault> {
     match refused {
-        Some((at, fault)) if at == place => Some(fault),
+        Some((at, fault)) if at == letter => Some(fault),
         _ => None,
     }
 }
@@ -160,13 +160,13 @@ fn answer_event(
     conn: &mut Conn,
     event: &Event,
     wants: &mut Vec<u8>,
-    refused: Option<(usize, StepFault)>,
+    refused: Option<(u8, StepFault)>,
 ) -> Result<(), Fail>
     requires placed { IsPlaced conn.old }
     requires awaited { IsAwaited conn.old.progress event.now }
     ensures { OnOk result (IsReady conn.new) }
 {
-    let told = told_of(alloc, event, fault_at(refused, wants.len()))?;
+    let told = told_of(alloc, event, fault_of(refused, letter(event.kind())))?;
     wants.push(letter(event.kind()))?;
     Ok(answer(conn, event, told)?)
 }
@@ -176,7 +176,7 @@ fn serve_one(
     alloc: Global,
     conn: &mut Conn,
     wants: &mut Vec<u8>,
-    refused: Option<(usize, StepFault)>,
+    refused: Option<(u8, StepFault)>,
 ) -> Result<bool, Fail>
     requires { IsReady conn.old }
     ensures { IfOk result (λ served. HasServed served conn.new) }
@@ -190,12 +190,12 @@ fn serve_one(
     }
 }
 
-/// Answers all that is wanted; the event at a place is refused, if one is to be.
+/// Answers all that is wanted; the events of a letter are refused, if some are to be.
 pub(crate) fn serve(
     alloc: Global,
     conn: &mut Conn,
     wants: &mut Vec<u8>,
-    refused: Option<(usize, StepFault)>,
+    refused: Option<(u8, StepFault)>,
 ) -> Result<(), Fail>
     requires { IsReady conn.old }
     ensures { OnOk result (IsAtRest conn.new) }

@@ -33,23 +33,15 @@ fn is_right_cut(alloc: Global, row: &Row, cut: Cut) -> Result<bool, Fail> {
     is_right(alloc, row, &played)
 }
 
-/// Whether it comes to that where it is cut in two, at each seventh place.
+/// Whether it comes to that where it is cut in two, at each place.
 fn is_right_in_two(alloc: Global, row: &Row) -> Result<bool, Fail> {
     let len = joined(alloc, row.given)?.len();
     for place in 0..len {
-        if place % 7 == 0 && !is_right_cut(alloc, row, Cut::At(place))? {
+        if !is_right_cut(alloc, row, Cut::At(place))? {
             return Ok(false);
         }
     }
     Ok(true)
-}
-
-/// Whether it doesn't matter how a row's stream is cut: octet by octet, and in two.
-fn is_cut_alike(alloc: Global, row: &Row) -> Result<bool, Fail> {
-    if !is_right_cut(alloc, row, Cut::Each)? {
-        return Ok(false);
-    }
-    is_right_in_two(alloc, row)
 }
 
 /// Whether a row's stream in its parts comes to what the row says, the takes too.
@@ -61,18 +53,16 @@ fn is_served(alloc: Global, row: &Row) -> Result<bool, Fail> {
     is_right(alloc, row, &played)
 }
 
-/// The first row whose stream isn't served as it says is a failure with its name.
-fn are_served(alloc: Global, rows: &[Row]) -> Result<(), Fail> {
-    for row in rows {
-        if !is_served(alloc, row)? {
-            return Err(row.name.into());
-        }
+/// Whether it comes to that however it is cut: in its parts, octet by octet, and in two.
+fn is_cut_alike(alloc: Global, row: &Row) -> Result<bool, Fail> {
+    if !is_served(alloc, row)? || !is_right_cut(alloc, row, Cut::Each)? {
+        return Ok(false);
     }
-    Ok(())
+    is_right_in_two(alloc, row)
 }
 
-/// The first row for which it matters how its stream is cut is a failure with its name.
-fn are_cut_alike(alloc: Global, rows: &[Row]) -> Result<(), Fail> {
+/// The first row whose stream doesn't come to what it says is a failure with its name.
+fn are_served(alloc: Global, rows: &[Row]) -> Result<(), Fail> {
     for row in rows {
         if !is_cut_alike(alloc, row)? {
             return Err(row.name.into());
@@ -84,11 +74,6 @@ fn are_cut_alike(alloc: Global, rows: &[Row]) -> Result<(), Fail> {
 #[test]
 fn streams_are_served(mut rt: HostRuntime) -> Result<(), Fail> {
     are_served(rt.alloc(), &rows())
-}
-
-#[test]
-fn cuts_are_alike(mut rt: HostRuntime) -> Result<(), Fail> {
-    are_cut_alike(rt.alloc(), &rows())
 }
 
 #[test]
