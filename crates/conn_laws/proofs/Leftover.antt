@@ -266,6 +266,7 @@ said_some whole (stages.Closed peer) end standing course rows past who items ans
       inl (
         k.key,
         k.opened,
+        k.closed,
         k.before,
         e.1 ++ close,
         e.0,
@@ -279,7 +280,7 @@ said_some whole (stages.Closed peer) end standing course rows past who items ans
     (octets ≡ k.before ++ parting end standing (talk_of (reading_of text) ended).setup)
     × (others : List ℕ) × (sent rows past k.key text ended ≡ k.before ++ others)) items answered
     rest i t k.octets in
-    (inl k.asked, inl (k.key, k.opened, k.before, e.1, e.0, e.2))
+    (inl k.asked, inl (k.key, k.opened, k.closed, k.before, e.1, e.0, e.2))
 
 -- once it has ended
 pub was_left : (whole : Bool) (end : ConnEnd) (standing : Standing) (rows : CentreRows)

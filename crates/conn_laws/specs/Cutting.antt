@@ -135,12 +135,12 @@ IsUnexplained [] = Unit {0}
 IsUnexplained (asks invoke call ∷ turns) = Unit {0}
 IsUnexplained (turn ∷ turns) = ⊥
 
--- no more than the association is sent was said, and the parting; or without one no more than a
--- connection without one is sent
+-- the association is closed, and no more than it is sent was said, and the parting; or without one
+-- no more than a connection without one is sent
 abbrev pub HasSaidSome : ConnEnd → Standing → CentreRows → Past → ℕ → List Item → List ℕ → Type 0
 HasSaidSome end standing rows past who items said =
-    ((key : Key) × HasOpened past who key × (before : List ℕ) × (others : List ℕ)
-    × (said ≡ before
+    ((key : Key) × HasOpened past who key × (is_closed key past ≡ true) × (before : List ℕ)
+    × (others : List ℕ) × (said ≡ before
     ++ parting end standing (talk_of (reading_of (text_of items)) (has_ended items)).setup)
     × (sent rows past key (text_of items) (has_ended items) ≡ before ++ others))
     ⊎ ((events_by who past ≡ []) × (others : List ℕ)
