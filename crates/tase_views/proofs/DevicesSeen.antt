@@ -22,20 +22,19 @@ use Rattle.sbo_device.specs.Controls as controls
 use Rattle.sbo_device.specs.SameMoves.{renumbered_key, renumbered_hold, renumbered, is_kept}
 use Rattle.sbo_device.specs.SameMoves.{TellsApart, AreByKnown, shown}
 use Rattle.sbo_device.proofs.SameHolders.{hold_shown}
-use Rattle.tase_views.specs.OwnTable.{OwnPoint, is_scope_of}
-use Rattle.tase_views.specs.NodeMoves.{NodeAct, NodeMove, opens, takes, closes, reads, writes}
-use Rattle.tase_views.specs.NodeMoves.{defines, deletes, calls, acts, updates, tags, ticks}
-use Rattle.tase_views.specs.NodeMoves.{asks_report, takes_orders, stops}
-use Rattle.tase_views.specs.PeerTables.{OwnDevice, PeerTable, peer_table, Object, NamedObject}
-use Rattle.tase_views.specs.PeerTables.{constant, next_transfer_set, report_variable}
-use Rattle.tase_views.specs.PeerTables.{indication_point, control_point, selection, device_tag, timeout}
-use Rattle.tase_views.specs.PeerTables.{transfer_set, transfer_set_status}
-use Rattle.tase_views.specs.PeerTables.{named_by, objects_of_device, objects_of_slot, objects}
-use Rattle.tase_views.specs.PeerTables.{own_objects}
-use Rattle.tase_views.specs.PeerTables.{object_named}
+use Rattle.tase_views.specs.OwnTable.{OwnPoint, OwnTable}
+use Rattle.tase_views.specs.Objects.{OwnDevice, Object, NamedObject, constant, next_transfer_set}
+use Rattle.tase_views.specs.Objects.{report_variable, indication_point, control_point, selection}
+use Rattle.tase_views.specs.Objects.{device_tag, timeout, transfer_set, transfer_set_status}
+use Rattle.tase_views.specs.Objects.{named_by, point_object, own_objects, is_named}
+use Rattle.tase_views.specs.View.{Act, opens, takes, closes, reads, writes, defines, deletes, calls}
+use Rattle.tase_views.specs.View.{Seen, own, other_acted, other_closed, updated, asked, tagged}
+use Rattle.tase_views.specs.NodeMoves.{NodeMove, acts, updates, tags, ticks, asks_report}
+use Rattle.tase_views.specs.NodeMoves.{takes_orders, stops}
+use Rattle.tase_views.specs.PeerTables.{PeerTable, peer_table, objects_of_device, objects_of_slot}
+use Rattle.tase_views.specs.PeerTables.{objects, object_named}
 use Rattle.tase_views.specs.NodeViews.{number_in, tag_in, Deed, read_deed, write_deed, deed_of}
-use Rattle.tase_views.specs.NodeViews.{SeenMove, own, other_acted, other_closed, updated, asked}
-use Rattle.tase_views.specs.NodeViews.{tagged, device_named}
+use Rattle.tase_views.specs.NodeViews.{device_named}
 use Rattle.tase_views.specs.NodeViews.{is_selectable, shows_act, other_seen, seen_by, view_by}
 use Rattle.tase_views.specs.NodeViews.{seen_key, peer_number, done_to, control_seen, controls_seen}
 use Rattle.tase_views.specs.NodeViews.{control_in, controls_in}
@@ -169,7 +168,7 @@ key_of rows key = refl
 
 -- what a deed of an association with this table is, as a peer sees it: by its own ordinal, or by
 -- the key of the other peer
-own_act : (rows : CentreRows) (peer ordinal : ℕ) (name : List ℕ) (act : NodeAct)
+own_act : (rows : CentreRows) (peer ordinal : ℕ) (name : List ℕ) (act : Act)
     → control_seen (peer_table rows peer) name (own ordinal act)
     ≡ option_and_then (kept (is_known rows peer) (peer_number rows))
     (control_in rows name (acts (record { peer = peer; ordinal = ordinal }) act))
@@ -200,7 +199,7 @@ other_close : (rows : CentreRows) (peer : ℕ) (name : List ℕ) (key : Key) (b 
 other_close rows peer name key true = refl
 other_close rows peer name key false = refl
 
-other_act : (rows : CentreRows) (peer : ℕ) (name : List ℕ) (key : Key) (act : NodeAct)
+other_act : (rows : CentreRows) (peer : ℕ) (name : List ℕ) (key : Key) (act : Act)
     → is_selectable (peer_table rows peer) name ≡ true → (key.peer == peer) ≡ false
     → option_and_then (control_seen (peer_table rows peer) name)
     (other_seen (peer_table rows peer) (peer_table rows key.peer) key.ordinal act)
@@ -341,7 +340,7 @@ objects_joined devices (o ∷ os) other first second =
     (first.0, objects_joined devices os other first.1 second)
 
 points_are : (devices : List OwnDevice) (points : List OwnPoint)
-    → AreObjectsOf devices (map (λ (p : OwnPoint). named_by p.vmd p.name (indication_point p)) points)
+    → AreObjectsOf devices (map point_object points)
 points_are devices [] = tt
 points_are devices (p ∷ points) = (tt, points_are devices points)
 
@@ -375,18 +374,51 @@ devices_are devices (d ∷ some) all =
     behind true b e = refl
     behind false b e = e
 
+own_are : (devices : List OwnDevice) (table : OwnTable) → AreObjectsOf devices (own_objects table)
+own_are devices table = (
+  tt,
+  (
+    tt,
+    (
+      tt,
+      (
+        tt,
+        (
+          tt,
+          (
+            tt,
+            (
+              tt,
+              (
+                tt,
+                (
+                  tt,
+                  (
+                    tt,
+                    (
+                      tt,
+                      points_are devices table.points,
+                    ),
+                  ),
+                ),
+              ),
+            ),
+          ),
+        ),
+      ),
+    ),
+  ),
+)
+
 objects_are : (table : PeerTable) → AreObjectsOf table.devices (objects table)
 objects_are table =
-    let points = map (λ (p : OwnPoint). named_by p.vmd p.name (indication_point p))
-    table.own.points in
     let devices = flat_map objects_of_device table.devices in
-    objects_joined table.devices (own_objects table ++ points ++ devices)
-    (flat_map objects_of_slot (range_with_len 0 table.slots))
-    (objects_joined table.devices (own_objects table ++ points) devices
-    (objects_joined table.devices (own_objects table) points
-    (tt, (tt, (tt, (tt, (tt, (tt, (tt, (tt, (tt, (tt, (tt, (tt, tt))))))))))))
-    (points_are table.devices table.own.points))
-    (devices_are table.devices table.devices (λ d there. there)))
+    let slots = flat_map objects_of_slot (range_with_len 0 table.slots) in
+    let next = named_by false (codes "Next_DSTransfer_Set") next_transfer_set in
+    objects_joined table.devices (own_objects table.own ++ next ∷ devices) slots
+    (objects_joined table.devices (own_objects table.own) (next ∷ devices)
+    (own_are table.devices table.own)
+    (tt, devices_are table.devices table.devices (λ d there. there)))
     (slots_are table.devices (range_with_len 0 table.slots))
 
 found_first : (P : Object → Type 0) (t : Bool) (o : NamedObject) (rest : Option NamedObject)
@@ -411,8 +443,7 @@ named_is : (table : PeerTable) (name : ObjectName) (object : Object)
     → object_named table name ≡ Some object → IsObjectOf table.devices object
 named_is table name object e =
     found_is table.devices
-    (λ o. is_scope_of table.own name.scope o.vmd && bytes_eq o.item name.item) (objects table)
-    (objects_are table) object e
+    (is_named table.own name) (objects table) (objects_are table) object e
 
 one_device : (a b : Deed) → Some a ≡ Some b → a.device ≡ b.device
 one_device a b e = ap (λ (d : Deed). d.device) (same_Some a b e)
@@ -483,7 +514,7 @@ deed_by table name (Some object) deeds deed found is e =
     is object e (named_is table name object found)
 
 -- the device of a deed is one of the table
-deed_is : (table : PeerTable) (act : NodeAct) (deed : Deed) → deed_of table act ≡ Some deed
+deed_is : (table : PeerTable) (act : Act) (deed : Deed) → deed_of table act ≡ Some deed
     → IsIn table.devices deed.device
 deed_is table (reads name) deed e =
     deed_by table name (object_named table name) read_deed deed refl
@@ -535,7 +566,7 @@ either_true true b e = refl
 either_true false b e = e
 
 -- who does something to the device of a table that isn't direct shares it
-does_known : (rows : CentreRows) (peer : ℕ) (name : List ℕ) (key : Key) (act : NodeAct)
+does_known : (rows : CentreRows) (peer : ℕ) (name : List ℕ) (key : Key) (act : Act)
     → is_selectable (peer_table rows peer) name ≡ true
     → IsByKnown (is_known rows peer)
     (option_and_then (done_to name key) (deed_of (peer_table rows key.peer) act))
@@ -732,7 +763,7 @@ other_close_tag : (table : PeerTable) (name key_text : List ℕ) (ordinal : ℕ)
 other_close_tag table name key_text ordinal true = refl
 other_close_tag table name key_text ordinal false = refl
 
-own_tag : (rows : CentreRows) (peer ordinal : ℕ) (name : List ℕ) (act : NodeAct)
+own_tag : (rows : CentreRows) (peer ordinal : ℕ) (name : List ℕ) (act : Act)
     → option_and_then tag_move (control_seen (peer_table rows peer) name (own ordinal act))
     ≡ option_and_then tag_move
     (control_in rows name (acts (record { peer = peer; ordinal = ordinal }) act))
@@ -750,7 +781,7 @@ own_tag rows peer ordinal name (defines set members) = refl
 own_tag rows peer ordinal name (deletes set) = refl
 own_tag rows peer ordinal name (calls call) = refl
 
-other_tag : (rows : CentreRows) (peer : ℕ) (name : List ℕ) (key : Key) (act : NodeAct)
+other_tag : (rows : CentreRows) (peer : ℕ) (name : List ℕ) (key : Key) (act : Act)
     → is_some (device_named (peer_table rows peer) name) ≡ true
     → option_and_then tag_move (option_and_then (control_seen (peer_table rows peer) name)
     (other_seen (peer_table rows peer) (peer_table rows key.peer) key.ordinal act))
@@ -816,9 +847,9 @@ tag-seen rows moves peer name there =
     ∙ sym (filter_map-twice (control_in rows name) tag_move moves))
     ∙ sym (tag-first (controls_in rows moves name))
   where
-    joined : (seen : Option SeenMove)
+    joined : (seen : Option Seen)
         → option_and_then
-        (λ (s : SeenMove). option_and_then tag_move (control_seen (peer_table rows peer) name s))
+        (λ (s : Seen). option_and_then tag_move (control_seen (peer_table rows peer) name s))
         seen
         ≡ option_and_then tag_move
         (option_and_then (control_seen (peer_table rows peer) name) seen)

@@ -7,7 +7,8 @@ use Rattle.std.proofs.lemmas.List.{get_or_past}
 use Rattle.ber_values.specs.Visible.{is_visible_octet}
 use Rattle.table_words.proofs.VisibleWords.{IsVisible-from_identifier}
 use Rattle.bilateral.specs.Rows.{CentreRows, IsCentre, table_of, no_table}
-use Rattle.tase_views.specs.PeerTables.{OwnDevice, peer_table}
+use Rattle.tase_views.specs.Objects.{OwnDevice}
+use Rattle.tase_views.specs.PeerTables.{peer_table}
 use Rattle.tase_views.specs.NodeViews.{key_number, peer_number}
 
 same_digits : (x y m n : ℕ) → x < 256 → y < 256 → 1 + x + 256 * m ≡ 1 + y + 256 * n

@@ -9,3 +9,4 @@ pub mod UnseenMoves
 pub mod NodeSample
 mod WorkedReports
 mod WorkedDevices
+mod WorkedSets

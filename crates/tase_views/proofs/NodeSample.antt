@@ -14,9 +14,10 @@ use Rattle.sbo_device.specs.declared.kind.CommandKind.TheVariants.{Command}
 use Rattle.transfer_sets.specs.declared.wish.Wish.{Wish}
 use Rattle.transfer_sets.specs.Wishes.{empty_wish}
 use Rattle.transfer_sets.specs.WishData.{shown_wish}
+use Rattle.tase_views.specs.declared.call.CallKind.{CallKind}
 use Rattle.tase_views.specs.declared.call.CallKind.TheVariants.{Read, Write}
-use Rattle.tase_views.specs.NodeMoves.{NodeCall, asks, NodeAct, NodeMove, acts, updates, tags}
-use Rattle.tase_views.specs.NodeMoves.{reads, writes, defines}
+use Rattle.tase_views.specs.View.{Act, reads, writes, defines}
+use Rattle.tase_views.specs.NodeMoves.{NodeMove, acts, updates, tags}
 use Rattle.tase_views.specs.NodeOrders.{NodeAnswer, node_answer, requesting, taking}
 
 abbrev pub table_a : Table
@@ -82,10 +83,10 @@ key_a = record { peer = 0; ordinal = 0 }
 abbrev pub key_b : Key
 key_b = record { peer = 1; ordinal = 0 }
 
-abbrev pub by_a : NodeAct → NodeMove
+abbrev pub by_a : Act → NodeMove
 by_a act = acts key_a act
 
-abbrev pub by_b : NodeAct → NodeMove
+abbrev pub by_b : Act → NodeMove
 by_b act = acts key_b act
 
 abbrev pub in_a : List ℕ → ObjectName
@@ -95,10 +96,10 @@ abbrev pub in_b : List ℕ → ObjectName
 in_b item = record { scope = Domain (codes "DOMB"); item = item }
 
 -- what each is answered behind these moves
-abbrev pub told_a : List NodeMove → NodeCall → NodeAnswer
+abbrev pub told_a : List NodeMove → CallKind → NodeAnswer
 told_a moves call = node_answer rows moves (Some key_a) (requesting call)
 
-abbrev pub told_b : List NodeMove → NodeCall → NodeAnswer
+abbrev pub told_b : List NodeMove → CallKind → NodeAnswer
 told_b moves call = node_answer rows moves (Some key_b) (requesting call)
 
 abbrev pub taken_a : List NodeMove → NodeAnswer
@@ -107,11 +108,11 @@ taken_a moves = node_answer rows moves (Some key_a) taking
 abbrev pub taken_b : List NodeMove → NodeAnswer
 taken_b moves = node_answer rows moves (Some key_b) taking
 
-abbrev pub read_one : ObjectName → NodeCall
-read_one name = asks (Read (name ∷ []) false)
+abbrev pub read_one : ObjectName → CallKind
+read_one name = Read (name ∷ []) false
 
-abbrev pub write_one : ObjectName → Datum → NodeCall
-write_one name value = asks (Write (name ∷ []) (value ∷ []))
+abbrev pub write_one : ObjectName → Datum → CallKind
+write_one name value = Write (name ∷ []) (value ∷ [])
 
 -- a new value of a point, at so many seconds
 abbrev pub update : ℕ → Body → ℕ → NodeMove

@@ -6,7 +6,7 @@ use Rattle.std.proofs.lemmas.List.{length-append}
 use Rattle.mms_data.specs.Datum.{Datum}
 use Rattle.mms_data.specs.ObjectName.{ObjectName}
 use Rattle.mms_text.specs.Texts.{name_text, data_text}
-use Rattle.tase_views.specs.EventTexts.{next_name, assigned_text}
+use Rattle.tase_views.specs.EventTexts.{next_name, next_value, assigned_text}
 
 names_by_suc : (names : List ObjectName) (i : ℕ) (d : ObjectName) → i < length names
     → length (flat_map next_name (take (suc i) names))
@@ -25,6 +25,24 @@ pub length-names : (names : List ObjectName) (i : ℕ) (d : ObjectName) → i < 
     → length (flat_map next_name (take (i + 1) names))
     ≡ length (flat_map next_name (take i names)) + (1 + length (name_text (get_or names i d)))
 length-names names i d within = rw (add-one i) (names_by_suc names i d within)
+
+values_by_suc : (values : List Datum) (i : ℕ) (d : Datum) → i < length values
+    → length (flat_map next_value (take (suc i) values))
+    ≡ length (flat_map next_value (take i values)) + (1 + length (data_text (get_or values i d)))
+values_by_suc [] i d within = absurd (omega (arith, within))
+values_by_suc (value ∷ values) zero d within = omega (arith, length-append (next_value value) [])
+values_by_suc (value ∷ values) (suc i) d within =
+    omega (
+      arith,
+      values_by_suc values i d (omega (arith, within)),
+      length-append (next_value value) (flat_map next_value (take (suc i) values)),
+      length-append (next_value value) (flat_map next_value (take i values)),
+    )
+
+pub length-values : (values : List Datum) (i : ℕ) (d : Datum) → i < length values
+    → length (flat_map next_value (take (i + 1) values))
+    ≡ length (flat_map next_value (take i values)) + (1 + length (data_text (get_or values i d)))
+length-values values i d within = rw (add-one i) (values_by_suc values i d within)
 
 assigned_by_suc : (names : List ObjectName) (values : List Datum) (i : ℕ) (d : ObjectName)
     (v : Datum) → i < length names → i < length values

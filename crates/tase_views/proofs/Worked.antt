@@ -104,14 +104,21 @@ no_names_of_an_association :
 no_names_of_an_association = refl
 
 names-are :
-    asked (names 0 (codes "DOMA") None) ≡ Reply (NamesAre (codes "BUS1" ∷ codes "LOAD1" ∷ []) false)
+    asked (names 0 (codes "DOMA") None)
+    ≡ Reply (NamesAre (codes "BUS1" ∷ codes "Bilateral_Table_ID" ∷ codes "DSConditions_Detected"
+    ∷ codes "Event_Code_Detected" ∷ codes "LOAD1" ∷ codes "Transfer_Set_Name"
+    ∷ codes "Transfer_Set_Time_Stamp" ∷ []) false)
 names-are = refl
 
-names_after-are : asked (names 0 (codes "DOMA") (Some (codes "BUS1")))
-    ≡ Reply (NamesAre (codes "LOAD1" ∷ []) false)
+names_after-are : asked (names 0 (codes "DOMA") (Some (codes "Event_Code_Detected")))
+    ≡ Reply (NamesAre (codes "LOAD1" ∷ codes "Transfer_Set_Name" ∷ codes "Transfer_Set_Time_Stamp"
+    ∷ []) false)
 names_after-are = refl
 
-names_of_the_device-are : asked (NameList (pos 0) Vmd None) ≡ Reply (NamesAre [] false)
+names_of_the_device-are : asked (NameList (pos 0) Vmd None)
+    ≡ Reply (NamesAre (codes "DSConditions_Detected" ∷ codes "Event_Code_Detected"
+    ∷ codes "Supported_Features" ∷ codes "TASE2_Version" ∷ codes "Transfer_Set_Name"
+    ∷ codes "Transfer_Set_Time_Stamp" ∷ []) false)
 names_of_the_device-are = refl
 
 no_sets-are : asked (names 2 (codes "DOMA") None) ≡ Reply (NamesAre [] false)

@@ -6,11 +6,11 @@ use Rattle.mms_data.specs.Datum.{integer, bits, text, structure, data_of}
 use Rattle.mms_data.specs.declared.object_name.Scope.TheVariants.{Domain}
 use Rattle.mms_data.specs.declared.outcome.Outcome.TheVariants.{Good, Fail}
 use Rattle.sbo_device.specs.Controls.{selecting}
-use Rattle.tase_views.specs.declared.call.CallKind.TheVariants.{Write, NameList}
+use Rattle.tase_views.specs.declared.call.CallKind.TheVariants.{Write, NameList, MembersOf}
 use Rattle.tase_views.specs.declared.reply.ReplyKind.TheVariants.{Results, Written, NamesAre, Error}
-use Rattle.tase_views.specs.NodeMoves.{NodeMove, asks, asks_members, replies, of_variables, opens}
-use Rattle.tase_views.specs.NodeMoves.{closes, reads, writes, ticks, takes_orders}
-use Rattle.tase_views.specs.NodeViews.{view_by, own, other_acted, other_closed}
+use Rattle.tase_views.specs.View.{opens, closes, reads, writes, own, other_acted, other_closed}
+use Rattle.tase_views.specs.NodeMoves.{NodeMove, of_variables, ticks, takes_orders}
+use Rattle.tase_views.specs.NodeViews.{view_by}
 use Rattle.tase_views.specs.NodeOrders.{replied, reported, ordered, node_answer, taking_orders}
 use Rattle.tase_views.proofs.NodeSample.{rows, by_a, by_b, in_a, in_b, told_a, told_b, taken_a}
 use Rattle.tase_views.proofs.NodeSample.{read_one, write_one, tagged_with}
@@ -22,22 +22,22 @@ abbrev selected : List NodeMove
 selected = by_a (reads (in_a (codes "BRK1_SBO"))) ∷ both_open
 
 a_selects : told_a both_open (read_one (in_a (codes "BRK1_SBO")))
-    ≡ replied (replies (Results None (Good (integer (pos 77)) ∷ [])))
+    ≡ replied (Results None (Good (integer (pos 77)) ∷ []))
 unfolding digits
 a_selects = refl
 
 held_by_another : told_b selected (read_one (in_b (codes "BRK1_SBO")))
-    ≡ replied (replies (Results None (Fail 2 ∷ [])))
+    ≡ replied (Results None (Fail 2 ∷ []))
 unfolding digits
 held_by_another = refl
 
 not_the_holder : told_b selected (write_one (in_b (codes "BRK1")) (integer (pos 1)))
-    ≡ replied (replies (Written (Some 3 ∷ [])))
+    ≡ replied (Written (Some 3 ∷ []))
 unfolding digits
 not_the_holder = refl
 
 holder_operates : told_a selected (write_one (in_a (codes "BRK1")) (integer (pos 1)))
-    ≡ replied (replies (Written (None ∷ [])))
+    ≡ replied (Written (None ∷ []))
 unfolding digits
 holder_operates = refl
 
@@ -53,13 +53,13 @@ operated =
     ∷ by_b (writes (in_b (codes "BRK1")) (integer (pos 1))) ∷ selected
 
 second_operate_is_refused : told_a operated (write_one (in_a (codes "BRK1")) (integer (pos 1)))
-    ≡ replied (replies (Written (Some 3 ∷ [])))
+    ≡ replied (Written (Some 3 ∷ []))
 unfolding digits
 second_operate_is_refused = refl
 
-direct_device : told_b operated (asks (Write (in_b (codes "CAP1") ∷ in_b (codes "CAP1") ∷ [])
-    (integer (pos 2) ∷ integer (pos 1) ∷ [])))
-    ≡ replied (replies (Written (Some 11 ∷ None ∷ [])))
+direct_device : told_b operated (Write (in_b (codes "CAP1") ∷ in_b (codes "CAP1") ∷ [])
+    (integer (pos 2) ∷ integer (pos 1) ∷ []))
+    ≡ replied (Written (Some 11 ∷ None ∷ []))
 unfolding digits
 direct_device = refl
 
@@ -87,7 +87,7 @@ selected_late =
     ticks 69999 ∷ by_a (reads (in_a (codes "BRK1_SBO"))) ∷ by_a opens ∷ ticks 40000 ∷ []
 
 before_the_end : told_a selected_late (write_one (in_a (codes "BRK1")) (integer (pos 0)))
-    ≡ replied (replies (Written (None ∷ [])))
+    ≡ replied (Written (None ∷ []))
 unfolding digits
 before_the_end = refl
 
@@ -97,7 +97,7 @@ run_out =
     ∷ by_a (writes (in_a (codes "BRK1")) (integer (pos 0))) ∷ selected_late
 
 at_the_end : told_a run_out (write_one (in_a (codes "BRK1")) (integer (pos 0)))
-    ≡ replied (replies (Written (Some 3 ∷ [])))
+    ≡ replied (Written (Some 3 ∷ []))
 unfolding digits
 at_the_end = refl
 
@@ -114,17 +114,17 @@ at_work = by_a (reads (in_a (codes "BRK1_SBO"))) ∷ tagged_with 2 (codes "work"
 
 select_at_work :
     told_a (tagged_with 2 (codes "work") ∷ by_a opens ∷ []) (read_one (in_a (codes "BRK1_SBO")))
-    ≡ replied (replies (Results None (Good (integer (pos 77)) ∷ [])))
+    ≡ replied (Results None (Good (integer (pos 77)) ∷ []))
 unfolding digits
 select_at_work = refl
 
 no_closing_at_work : told_a at_work (write_one (in_a (codes "BRK1")) (integer (pos 1)))
-    ≡ replied (replies (Written (Some 3 ∷ [])))
+    ≡ replied (Written (Some 3 ∷ []))
 unfolding digits
 no_closing_at_work = refl
 
 opening_at_work : told_a at_work (write_one (in_a (codes "BRK1")) (integer (pos 0)))
-    ≡ replied (replies (Written (None ∷ [])))
+    ≡ replied (Written (None ∷ []))
 unfolding digits
 opening_at_work = refl
 
@@ -132,39 +132,39 @@ abbrev at_test : List NodeMove
 at_test = tagged_with 1 (codes "test") ∷ at_work
 
 no_select_at_test : told_a at_test (read_one (in_a (codes "BRK1_SBO")))
-    ≡ replied (replies (Results None (Fail 3 ∷ [])))
+    ≡ replied (Results None (Fail 3 ∷ []))
 unfolding digits
 no_select_at_test = refl
 
 tag_at_test : told_a at_test (read_one (in_a (codes "BRK1_TAG")))
-    ≡ replied (replies (Results None
+    ≡ replied (Results None
     (Good (structure (data_of (bits (record { count = 2; octets = 64 ∷ [] })
-    ∷ text (codes "test") ∷ []))) ∷ [])))
+    ∷ text (codes "test") ∷ []))) ∷ []))
 unfolding digits
 tag_at_test = refl
 
 -- a peer with the right writes a tag, of two bits that aren't 3; another may not
 tag_is_written : told_a both_open (write_one (in_a (codes "BRK1_TAG")) (structure (data_of
     (bits (record { count = 2; octets = 64 ∷ [] }) ∷ text (codes "test") ∷ []))))
-    ≡ replied (replies (Written (None ∷ [])))
+    ≡ replied (Written (None ∷ []))
 unfolding digits
 tag_is_written = refl
 
 no_third_tag : told_a both_open (write_one (in_a (codes "BRK1_TAG")) (structure (data_of
     (bits (record { count = 2; octets = 192 ∷ [] }) ∷ text (codes "test") ∷ []))))
-    ≡ replied (replies (Written (Some 11 ∷ [])))
+    ≡ replied (Written (Some 11 ∷ []))
 unfolding digits
 no_third_tag = refl
 
 no_right_to_tag : told_b both_open (write_one (in_b (codes "BRK1_TAG")) (structure (data_of
     (bits (record { count = 2; octets = 64 ∷ [] }) ∷ text (codes "test") ∷ []))))
-    ≡ replied (replies (Written (Some 3 ∷ [])))
+    ≡ replied (Written (Some 3 ∷ []))
 unfolding digits
 no_right_to_tag = refl
 
 -- the close of an association frees what it selected, and no other close does
 freed_by_its_close : told_b (by_a closes ∷ selected) (read_one (in_b (codes "BRK1_SBO")))
-    ≡ replied (replies (Results None (Good (integer (pos 77)) ∷ [])))
+    ≡ replied (Results None (Good (integer (pos 77)) ∷ []))
 unfolding digits
 freed_by_its_close = refl
 
@@ -174,20 +174,20 @@ unfolding digits
 close_seen_by_b = refl
 
 -- the names of A's domain, with devices and transfer sets
-names_of_a : told_a both_open (asks (NameList (pos 0) (Domain (codes "DOMA")) None))
-    ≡ replied (replies (NamesAre (codes "BRK1" ∷ codes "BRK1_SBO" ∷ codes "BRK1_TAG"
+names_of_a : told_a both_open (NameList (pos 0) (Domain (codes "DOMA")) None)
+    ≡ replied (NamesAre (codes "BRK1" ∷ codes "BRK1_SBO" ∷ codes "BRK1_TAG"
     ∷ codes "BRK1_TIMEOUT" ∷ codes "BUS1" ∷ codes "Bilateral_Table_ID"
     ∷ codes "DSConditions_Detected" ∷ codes "DSTrans1" ∷ codes "DSTrans1$Status"
     ∷ codes "Event_Code_Detected" ∷ codes "LOAD1" ∷ codes "Next_DSTransfer_Set"
-    ∷ codes "Transfer_Set_Name" ∷ codes "Transfer_Set_Time_Stamp" ∷ []) false))
+    ∷ codes "Transfer_Set_Name" ∷ codes "Transfer_Set_Time_Stamp" ∷ []) false)
 unfolding digits
 names_of_a = refl
 
-no_names_of_another : told_a both_open (asks (NameList (pos 2) (Domain (codes "DOMB")) None))
-    ≡ replied (replies (Error 7 2))
+no_names_of_another : told_a both_open (NameList (pos 2) (Domain (codes "DOMB")) None)
+    ≡ replied (Error 7 2)
 unfolding digits
 no_names_of_another = refl
 
-no_such_set : told_a both_open (asks_members (in_a (codes "S"))) ≡ replied (replies (Error 7 2))
+no_such_set : told_a both_open (MembersOf (in_a (codes "S"))) ≡ replied (Error 7 2)
 unfolding digits
 no_such_set = refl

@@ -9,10 +9,12 @@ use Rattle.mms_data.specs.declared.outcome.Outcome.TheVariants.{Good, Fail}
 use Rattle.mms_data.specs.ObjectName.{ObjectName}
 use Rattle.transfer_sets.specs.declared.wish.Wish.{Wish}
 use Rattle.transfer_sets.proofs.DueNumbers.{some_number}
-use Rattle.tase_views.specs.declared.reply.ReplyKind.TheVariants.{Results, Written}
-use Rattle.tase_views.specs.NodeMoves.{NodeAct, NodeMove, acts, NodeReport, opens, takes, writes}
-use Rattle.tase_views.specs.NodeMoves.{closes, reads, asks_report, deletes, ticks, defined, deleted, replies}
-use Rattle.tase_views.specs.NodeMoves.{defines_set, deletes_sets, of_set, of_variables}
+use Rattle.tase_views.specs.declared.call.CallKind.TheVariants.{Define, Delete}
+use Rattle.tase_views.specs.declared.reply.ReplyKind.TheVariants.{Results, Written, Defined}
+use Rattle.tase_views.specs.declared.reply.ReplyKind.TheVariants.{Deleted}
+use Rattle.tase_views.specs.View.{Act, opens, takes, closes, reads, writes, deletes}
+use Rattle.tase_views.specs.NodeMoves.{NodeMove, acts, asks_report, ticks, NodeReport, of_set}
+use Rattle.tase_views.specs.NodeMoves.{of_variables}
 use Rattle.tase_views.specs.NodeOrders.{node_answer, requesting, replied, reported}
 use Rattle.tase_views.specs.PeerTables.{peer_table}
 use Rattle.tase_views.specs.NodeViews.{view_by}
@@ -36,12 +38,12 @@ running =
     ∷ in_a (codes "BUS1") ∷ []) opened
 
 set_is_defined :
-    told_a opened (defines_set (in_a (codes "S1")) (in_a (codes "BUS1") ∷ [])) ≡ replied defined
+    told_a opened (Define (in_a (codes "S1")) (in_a (codes "BUS1") ∷ [])) ≡ replied Defined
 unfolding digits
 set_is_defined = refl
 
 slot_is_handed_out : told_a opened (read_one (in_a (codes "Next_DSTransfer_Set")))
-    ≡ replied (replies (Results None (Good first_slot ∷ [])))
+    ≡ replied (Results None (Good first_slot ∷ []))
 unfolding digits
 slot_is_handed_out = refl
 
@@ -143,12 +145,12 @@ report_of_b = refl
 
 -- a data set that an enabled transfer set wishes is kept; when that is off, it goes, once
 delete_while_enabled :
-    told_a running (deletes_sets (in_a (codes "S1") ∷ [])) ≡ replied (deleted 1 0)
+    told_a running (Delete (in_a (codes "S1") ∷ [])) ≡ replied (Deleted 1 0)
 unfolding digits
 delete_while_enabled = refl
 
 switch_off : told_a running (write_one (in_a (codes "DSTrans1$Status")) (boolean false))
-    ≡ replied (replies (Written (None ∷ [])))
+    ≡ replied (Written (None ∷ []))
 unfolding digits
 switch_off = refl
 
@@ -158,17 +160,17 @@ switched_off =
     ∷ running
 
 delete_after :
-    told_a switched_off (deletes_sets (in_a (codes "S1") ∷ [])) ≡ replied (deleted 1 1)
+    told_a switched_off (Delete (in_a (codes "S1") ∷ [])) ≡ replied (Deleted 1 1)
 unfolding digits
 delete_after = refl
 
 delete_again : told_a (by_a (deletes (in_a (codes "S1"))) ∷ switched_off)
-    (deletes_sets (in_a (codes "S1") ∷ [])) ≡ replied (deleted 0 0)
+    (Delete (in_a (codes "S1") ∷ [])) ≡ replied (Deleted 0 0)
 unfolding digits
 delete_again = refl
 
 none_left : told_a running (read_one (in_a (codes "Next_DSTransfer_Set")))
-    ≡ replied (replies (Results None (Fail 2 ∷ [])))
+    ≡ replied (Results None (Fail 2 ∷ []))
 unfolding digits
 none_left = refl
 
@@ -178,7 +180,7 @@ wished_off =
     wished_a (record each_two { status = false }) (codes "S1") (in_a (codes "BUS1") ∷ []) opened
 
 status_is_false : told_a wished_off (read_one (in_a (codes "DSTrans1$Status")))
-    ≡ replied (replies (Results None (Good (boolean false) ∷ [])))
+    ≡ replied (Results None (Good (boolean false) ∷ []))
 unfolding digits
 status_is_false = refl
 
@@ -220,14 +222,14 @@ unfolding digits
 not_on_request = refl
 
 -- a transfer set is free again behind the close of its owner, and the lowest is handed out
-abbrev next_b : NodeAct
+abbrev next_b : Act
 next_b = reads (in_b (codes "Next_DSTransfer_Set"))
 
 abbrev slot_b : List ℕ → Outcome
 slot_b item =
     Good (structure (data_of (integer (pos 1) ∷ text (codes "DOMB") ∷ text item ∷ [])))
 
-abbrev second_b : NodeAct → NodeMove
+abbrev second_b : Act → NodeMove
 second_b act = acts (record { peer = 1; ordinal = 1 }) act
 
 abbrev both_taken : List NodeMove
@@ -235,19 +237,19 @@ both_taken = second_b next_b ∷ by_b next_b ∷ second_b opens ∷ by_b opens �
 
 second_is_handed_out : told_b (by_b next_b ∷ by_b opens ∷ [])
     (read_one (in_b (codes "Next_DSTransfer_Set")))
-    ≡ replied (replies (Results None (slot_b (codes "DSTrans2") ∷ [])))
+    ≡ replied (Results None (slot_b (codes "DSTrans2") ∷ []))
 unfolding digits
 second_is_handed_out = refl
 
 lowest_after_a_close :
     node_answer rows (by_b closes ∷ both_taken) (Some (record { peer = 1; ordinal = 1 }))
     (requesting (read_one (in_b (codes "Next_DSTransfer_Set"))))
-    ≡ replied (replies (Results None (slot_b (codes "DSTrans1") ∷ [])))
+    ≡ replied (Results None (slot_b (codes "DSTrans1") ∷ []))
 unfolding digits
 lowest_after_a_close = refl
 
 -- nobody but its owner reads a transfer set
 not_of_the_owner : told_b both_taken (read_one (in_b (codes "DSTrans2$Status")))
-    ≡ replied (replies (Results None (Fail 3 ∷ [])))
+    ≡ replied (Results None (Fail 3 ∷ []))
 unfolding digits
 not_of_the_owner = refl

@@ -11,8 +11,9 @@ use Rattle.mms_data.specs.Datum.{Datum}
 use Rattle.mms_data.specs.ObjectName.{ObjectName}
 use Rattle.mms_text.specs.Texts.{data_text, scope_text, name_text}
 use Rattle.tase_views.specs.declared.call.CallKind.{CallKind}
-use Rattle.tase_views.specs.declared.call.CallKind.TheVariants.{Identify, Read, Write, NameList}
-use Rattle.tase_views.specs.declared.call.CallKind.TheVariants.{Odd}
+use Rattle.tase_views.specs.declared.call.CallKind.TheVariants.{Identify, Read, ReadSet, Write}
+use Rattle.tase_views.specs.declared.call.CallKind.TheVariants.{WriteSet, NameList, Define}
+use Rattle.tase_views.specs.declared.call.CallKind.TheVariants.{MembersOf, Delete, DeleteScope, Odd}
 use Rattle.tase_views.specs.declared.event.EventKind.{EventKind}
 use Rattle.tase_views.specs.declared.event.EventKind.TheVariants.{Open, Request, Take, Close}
 use Rattle.tase_views.specs.declared.event.EventKind.TheVariants.{Update, Stop}
@@ -20,6 +21,10 @@ use Rattle.tase_views.specs.declared.event.EventKind.TheVariants.{Update, Stop}
 -- a name after a space
 abbrev pub next_name : ObjectName → List ℕ
 next_name name = 32 ∷ name_text name
+
+-- a value after a space
+abbrev pub next_value : Datum → List ℕ
+next_value value = 32 ∷ data_text value
 
 -- each name with the value at its place, after a space
 abbrev pub assigned_text : List ObjectName → List Datum → List ℕ
@@ -37,14 +42,27 @@ after_text (Some after) = 32 ∷ escaped_text after
 abbrev pub read_verb : Bool → List ℕ
 read_verb echo = if echo then codes "read+" else codes "read"
 
--- `identify`, `read NAME ..`, `read+ NAME ..`, `write NAME=DATA ..`, `names CLASS SCOPE`,
--- `names CLASS SCOPE AFTER` or `odd KIND CODE`
+-- the same of a read of a data set
+abbrev pub read_set_verb : Bool → List ℕ
+read_set_verb echo = if echo then codes "readset+" else codes "readset"
+
+-- `identify`, `read NAME ..`, `read+ NAME ..`, `readset NAME`, `readset+ NAME`,
+-- `write NAME=DATA ..`, `writeset NAME DATA ..`, `names CLASS SCOPE`, `names CLASS SCOPE AFTER`,
+-- `define NAME MEMBER ..`, `members NAME`, `delete NAME ..`, `deletescope SCOPE` or `odd KIND CODE`
 abbrev pub call_text : CallKind → List ℕ
 call_text Identify = codes "identify"
 call_text (Read names echo) = read_verb echo ++ flat_map next_name names
+call_text (ReadSet set echo) = read_set_verb echo ++ next_name set
 call_text (Write names values) = codes "write" ++ assigned_text names values
+call_text (WriteSet set values) =
+    codes "writeset" ++ next_name set ++ flat_map next_value values
 call_text (NameList class scope after) =
     codes "names " ++ signed_decimal class ++ 32 ∷ scope_text scope ++ after_text after
+call_text (Define set members) =
+    codes "define" ++ next_name set ++ flat_map next_name members
+call_text (MembersOf set) = codes "members" ++ next_name set
+call_text (Delete sets) = codes "delete" ++ flat_map next_name sets
+call_text (DeleteScope scope) = codes "deletescope " ++ signed_decimal scope
 call_text (Odd kind code) = codes "odd " ++ decimal kind ++ 32 ∷ decimal code
 
 -- `s` and a state, `d` and a discrete value, `r` and the eight digits of a real one

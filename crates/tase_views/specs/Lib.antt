@@ -9,9 +9,11 @@ pub mod History
 pub mod EventTexts
 pub mod Weights
 pub mod OwnTable
+pub mod Objects
 pub mod NameLists
 pub mod View
 pub mod Values
+pub mod Sets
 pub mod Concerns
 pub mod Answers
 pub mod Outcomes

@@ -13,6 +13,7 @@ use Rattle.tase_views.specs.declared.reply.ReplyKind.TheVariants.{NamesAre, Erro
 use Rattle.tase_views.specs.declared.reply.TheConstants.{ACCESS_ERRORS, NON_EXISTENT}
 use Rattle.tase_views.specs.declared.reply.TheConstants.{ACCESS_DENIED, NAMES_LIMIT}
 use Rattle.tase_views.specs.OwnTable.{OwnTable, is_scope_of}
+use Rattle.tase_views.specs.Objects.{NamedObject}
 
 -- whether a name stands below another in the order of octets
 abbrev pub is_below : List ℕ → List ℕ → Bool
@@ -49,18 +50,20 @@ is_foreign table Vmd = false
 is_foreign table (Domain domain) = not (bytes_eq domain table.domain)
 is_foreign table Association = false
 
--- the names of the table's points in a scope
-abbrev pub variables_in : OwnTable → Scope → List (List ℕ)
-variables_in table scope =
-    map (λ point. point.name) (filter (λ point. is_scope_of table scope point.vmd) table.points)
+-- the names of these objects in a scope
+abbrev pub variables_in : OwnTable → List NamedObject → Scope → List (List ℕ)
+variables_in table objects scope =
+    map (λ o. o.item) (filter (λ o. is_scope_of table scope o.vmd) objects)
 
--- the names of the objects of a class in a scope: the variables of each scope, the domain of the
--- whole device, and no lists of variables
-abbrev pub objects_in : OwnTable → ℤ → Scope → Option (List (List ℕ))
-objects_in table class scope =
-    if int_eq class NAMED_VARIABLES then Some (variables_in table scope)
+-- the names of the objects of a class in a scope, where there are these variables and these data
+-- sets: the variables of each scope, the data sets of the domain, the domain of the whole device
+abbrev pub objects_in : OwnTable → List NamedObject → List (List ℕ) → ℤ → Scope
+    → Option (List (List ℕ))
+objects_in table objects sets class scope =
+    if int_eq class NAMED_VARIABLES then Some (variables_in table objects scope)
     else (if int_eq class DOMAINS && is_vmd scope then Some (table.domain ∷ [])
-    else (if int_eq class NAMED_VARIABLE_LISTS then Some [] else None))
+    else (if int_eq class NAMED_VARIABLE_LISTS
+    then Some (if is_scope_of table scope false then sets else []) else None))
 
 -- of these names those after a name, in order; no other class may be listed
 abbrev pub listed : Option (List ℕ) → Option (List (List ℕ)) → ReplyKind
@@ -68,7 +71,8 @@ listed after None = Error ACCESS_ERRORS ACCESS_DENIED
 listed after (Some names) = first_of (in_order (filter (is_after after) names))
 
 -- the reply to a list of names: there is no other domain than the table's
-abbrev pub names_listed : OwnTable → ℤ → Scope → Option (List ℕ) → ReplyKind
-names_listed table class scope after =
+abbrev pub names_listed : OwnTable → List NamedObject → List (List ℕ) → ℤ → Scope
+    → Option (List ℕ) → ReplyKind
+names_listed table objects sets class scope after =
     if is_foreign table scope then Error ACCESS_ERRORS NON_EXISTENT
-    else listed after (objects_in table class scope)
+    else listed after (objects_in table objects sets class scope)

@@ -20,39 +20,32 @@ use Rattle.sbo_device.specs.States.{select_answer, operate_answer}
 use Rattle.sbo_device.specs.Controls.{Tag, tag_of, device_in}
 use Rattle.transfer_sets.specs.SlotMoves.{last_wish}
 use Rattle.transfer_sets.specs.WishData.{shown_wish}
-use Rattle.tase_views.specs.declared.call.CallKind.TheVariants.{Identify, Read, Write, NameList}
-use Rattle.tase_views.specs.declared.call.CallKind.TheVariants.{Odd}
-use Rattle.tase_views.specs.declared.call.TheConstants.{NAMED_VARIABLES, NAMED_VARIABLE_LISTS}
-use Rattle.tase_views.specs.declared.call.TheConstants.{DOMAINS}
+use Rattle.tase_views.specs.declared.call.CallKind.{CallKind}
+use Rattle.tase_views.specs.declared.call.CallKind.TheVariants.{Identify, Read, ReadSet, Write}
+use Rattle.tase_views.specs.declared.call.CallKind.TheVariants.{WriteSet, NameList, Define}
+use Rattle.tase_views.specs.declared.call.CallKind.TheVariants.{MembersOf, Delete, DeleteScope, Odd}
+use Rattle.tase_views.specs.declared.reply.ReplyKind.{ReplyKind}
 use Rattle.tase_views.specs.declared.reply.ReplyKind.TheVariants.{Identified, Results, Written}
-use Rattle.tase_views.specs.declared.reply.ReplyKind.TheVariants.{Error, Reject}
+use Rattle.tase_views.specs.declared.reply.ReplyKind.TheVariants.{MembersAre, Error, Reject}
 use Rattle.tase_views.specs.declared.reply.TheConstants.{OBJECT_NON_EXISTENT}
 use Rattle.tase_views.specs.declared.reply.TheConstants.{OBJECT_ACCESS_DENIED, ACCESS_ERRORS}
-use Rattle.tase_views.specs.declared.reply.TheConstants.{NON_EXISTENT, ACCESS_DENIED}
-use Rattle.tase_views.specs.OwnTable.{OwnPoint, is_scope_of}
-use Rattle.tase_views.specs.Values.{last_of, change_count_of}
-use Rattle.tase_views.specs.NameLists.{is_vmd, is_foreign, listed}
-use Rattle.tase_views.specs.Answers.{echoed}
-use Rattle.tase_views.specs.NodeMoves.{NodeCall, asks, reads_set, defines_set}
-use Rattle.tase_views.specs.NodeMoves.{asks_members, deletes_sets, NodeReply, replies}
-use Rattle.tase_views.specs.NodeMoves.{set_results, defined, members_are, deleted}
-use Rattle.tase_views.specs.NodeMoves.{reads, writes, deletes}
-use Rattle.tase_views.specs.PeerTables.{PeerTable, OwnDevice, Object, constant, next_transfer_set}
-use Rattle.tase_views.specs.PeerTables.{indication_point, control_point, selection, device_tag}
-use Rattle.tase_views.specs.PeerTables.{transfer_set, transfer_set_status, slot_item, objects}
-use Rattle.tase_views.specs.PeerTables.{object_named, control_of}
-use Rattle.tase_views.specs.NodeViews.{NodeView, own, number_in, tag_in, seen_key, controls_seen}
-use Rattle.tase_views.specs.SlotViews.{type_inconsistent, value_invalid, values_seen, owns, slot_of}
-use Rattle.tase_views.specs.SlotViews.{lowest_free, wish_written, sets_there, define_fault}
-use Rattle.tase_views.specs.SlotViews.{is_wished, set_members, slot_moves}
+use Rattle.tase_views.specs.declared.reply.TheConstants.{ACCESS_DENIED}
+use Rattle.tase_views.specs.Objects.{OwnDevice, Object, next_transfer_set, control_point, selection}
+use Rattle.tase_views.specs.Objects.{device_tag, transfer_set, transfer_set_status}
+use Rattle.tase_views.specs.NameLists.{names_listed}
+use Rattle.tase_views.specs.View.{View, own, reads, writes}
+use Rattle.tase_views.specs.Sets.{sets_there, define_fault, members_among, Deletion, deletion_by}
+use Rattle.tase_views.specs.Answers.{outcome_of_object, echoed, echoed_set, set_replied}
+use Rattle.tase_views.specs.Answers.{define_replied, delete_replied}
+use Rattle.tase_views.specs.PeerTables.{PeerTable, slot_item, objects, object_named, control_of}
+use Rattle.tase_views.specs.NodeViews.{number_in, tag_in, seen_key, controls_seen}
+use Rattle.tase_views.specs.SlotViews.{type_inconsistent, value_invalid, owns, slot_of}
+use Rattle.tase_views.specs.SlotViews.{lowest_free, wish_written, is_wished, set_members}
+use Rattle.tase_views.specs.SlotViews.{slot_moves}
 
--- further reasons of an access (ISO 9506-2, DataAccessError: temporarily-unavailable,
--- object-access-unsupported)
+-- a further reason of an access (ISO 9506-2, DataAccessError: temporarily-unavailable)
 abbrev pub temporarily_unavailable : ℕ
 temporarily_unavailable = 2
-
-abbrev pub access_unsupported : ℕ
-access_unsupported = 9
 
 -- a select is answered by the device's checkback; not while another association holds it, nor where
 -- the tag inhibits it
@@ -77,17 +70,6 @@ abbrev pub reason_of : {A : Type 0} → Result A ℕ → Option ℕ
 reason_of (Ok done) = None
 reason_of (Err reason) = Some reason
 
--- a reply about a data set, which has to be there
-abbrev pub set_replied : (List ObjectName → NodeReply) → Option (List ObjectName) → NodeReply
-set_replied reply members =
-    option_map_or reply members (replies (Error ACCESS_ERRORS NON_EXISTENT))
-
--- a point of the table as it stands in a view
-abbrev pub point_outcome : NodeView → OwnPoint → Outcome
-point_outcome view p =
-    let values = values_seen view p.name in
-    Good (shown_as (last_of p.kind values) (change_count_of p.kind values) p.layout)
-
 module _ (table : PeerTable) where
   -- the name of a transfer set as data: scope, domain, item
   abbrev pub slot_name : ℕ → Datum
@@ -95,23 +77,20 @@ module _ (table : PeerTable) where
       structure (data_of (integer (pos 1) ∷ text table.own.domain ∷ text (slot_item s) ∷ []))
 
   -- a device of the table as it stands in a view
-  abbrev pub device_state : NodeView → OwnDevice → DeviceState
+  abbrev pub device_state : View → OwnDevice → DeviceState
   device_state view d = device_in (control_of d) (controls_seen table view d.row.name)
 
   -- what its owner, and nobody else, reads of a transfer set
-  abbrev pub for_owner : NodeView → ℕ → ℕ → Datum → Outcome
+  abbrev pub for_owner : View → ℕ → ℕ → Datum → Outcome
   for_owner view ordinal s value =
       if owns ordinal (slot_moves table view s) then Good value else Fail OBJECT_ACCESS_DENIED
 
   -- what one variable of a read by the association with this ordinal gives; an object that is none
-  -- of these can't be read
-  abbrev pub object_read : NodeView → ℕ → Option Object → Outcome
-  object_read view ordinal None = Fail OBJECT_NON_EXISTENT
-  object_read view ordinal (Some (constant value)) = Good value
+  -- of these as elsewhere
+  abbrev pub object_read : View → ℕ → Option Object → Outcome
   object_read view ordinal (Some next_transfer_set) =
       option_map_or (λ s. Good (slot_name s)) (lowest_free table (slot_moves table view))
       (Fail temporarily_unavailable)
-  object_read view ordinal (Some (indication_point p)) = point_outcome view p
   object_read view ordinal (Some (selection d)) =
       select_outcome d.row.checkback
       (select_answer (device_state view d) (seen_key table.key ordinal))
@@ -121,10 +100,10 @@ module _ (table : PeerTable) where
       for_owner view ordinal s (shown_wish (last_wish (slot_moves table view s)).0)
   object_read view ordinal (Some (transfer_set_status s)) =
       for_owner view ordinal s (boolean (last_wish (slot_moves table view s)).0.status)
-  object_read view ordinal (Some _) = Fail access_unsupported
+  object_read view ordinal object = outcome_of_object view object
 
   -- what a write to a transfer set or its status gives
-  abbrev pub slot_written : NodeView → ℕ → Option Object → Datum → ℕ → Option ℕ
+  abbrev pub slot_written : View → ℕ → Option Object → Datum → ℕ → Option ℕ
   slot_written view ordinal object value s =
       if owns ordinal (slot_moves table view s)
       then reason_of
@@ -132,7 +111,7 @@ module _ (table : PeerTable) where
       else Some OBJECT_ACCESS_DENIED
 
   -- what one variable of a write gives: none where it is written, else the reason
-  abbrev pub object_written : NodeView → ℕ → Option Object → Datum → Option ℕ
+  abbrev pub object_written : View → ℕ → Option Object → Datum → Option ℕ
   object_written view ordinal None value = Some OBJECT_NON_EXISTENT
   object_written view ordinal (Some (control_point d)) value =
       let key = seen_key table.key ordinal in
@@ -147,64 +126,43 @@ module _ (table : PeerTable) where
       (Some OBJECT_ACCESS_DENIED)
 
   -- what the variables of a read and of a write give, each after those before it
-  abbrev pub read_outcomes : NodeView → ℕ → List ObjectName → List Outcome
+  abbrev pub read_outcomes : View → ℕ → List ObjectName → List Outcome
   read_outcomes view ordinal [] = []
   read_outcomes view ordinal (name ∷ names) =
       object_read view ordinal (object_named table name)
       ∷ read_outcomes (own ordinal (reads name) ∷ view) ordinal names
 
-  abbrev pub write_outcomes : NodeView → ℕ → List ObjectName → List Datum → List (Option ℕ)
+  abbrev pub write_outcomes : View → ℕ → List ObjectName → List Datum → List (Option ℕ)
   write_outcomes view ordinal (name ∷ names) (value ∷ values) =
       object_written view ordinal (object_named table name) value
       ∷ write_outcomes (own ordinal (writes name value) ∷ view) ordinal names values
   write_outcomes view ordinal _ _ = []
 
-  -- the members of the data set of the domain with a name
-  abbrev pub members_of : NodeView → ObjectName → Option (List ObjectName)
-  members_of view set =
-      if same_scope set.scope (Domain table.own.domain) then set_members table view set.item
-      else None
+  -- the members of the data set that a name is that of
+  abbrev pub members_seen : View → ObjectName → Option (List ObjectName)
+  members_seen view set = members_among table.own (set_members table view) set
 
-  -- how many of some names are those of data sets, and how many of these a deletion deletes: all
-  -- that no enabled transfer set wishes, each after those before it
-  abbrev pub deletion : NodeView → ℕ → List ObjectName → ℕ × ℕ
-  deletion view ordinal [] = (0, 0)
-  deletion view ordinal (set ∷ sets) =
-      let rest = deletion (own ordinal (deletes set) ∷ view) ordinal sets in
-      let kept = is_wished table (slot_moves table view) set.item in
-      if is_some (members_of view set)
-      then (1 + rest.0, (if kept then rest.1 else 1 + rest.1)) else rest
-
-  -- the names of the objects of a class in a scope: the variables that there are, the data sets of
-  -- the domain, the domain itself in the whole device
-  abbrev pub names_in : NodeView → ℤ → Scope → Option (List (List ℕ))
-  names_in view class scope =
-      let variables = filter (λ o. is_scope_of table.own scope o.vmd) (objects table) in
-      let sets = sets_there table (set_members table view) view in
-      if int_eq class NAMED_VARIABLES then Some (map (λ o. o.item) variables)
-      else if int_eq class NAMED_VARIABLE_LISTS
-      then Some (if is_scope_of table.own scope false then sets else [])
-      else if int_eq class DOMAINS && is_vmd scope then Some (table.own.domain ∷ []) else None
+  -- a deletion deletes the data sets that no enabled transfer set wishes
+  abbrev pub deletion_seen : View → ℕ → List ObjectName → Deletion
+  deletion_seen view ordinal sets =
+      deletion_by (λ v set. is_some (members_seen v set))
+      (λ v. is_wished table (slot_moves table v)) view ordinal sets
 
   -- the reply to a call of the association with this ordinal
-  abbrev pub node_reply : NodeView → ℕ → NodeCall → NodeReply
-  node_reply view ordinal (asks Identify) = replies Identified
-  node_reply view ordinal (asks (Read names echo)) =
-      replies (Results (echoed echo names) (read_outcomes view ordinal names))
-  node_reply view ordinal (asks (Write names values)) =
-      replies (Written (write_outcomes view ordinal names values))
-  node_reply view ordinal (asks (NameList class scope after)) =
-      replies (if is_foreign table.own scope then Error ACCESS_ERRORS NON_EXISTENT
-      else listed after (names_in view class scope))
-  node_reply view ordinal (asks (Odd kind code)) = replies (Reject kind code)
-  node_reply view ordinal (reads_set set echo) =
-      set_replied
-      (λ members. set_results (if echo then Some set else None)
-      (read_outcomes view ordinal members)) (members_of view set)
-  node_reply view ordinal (defines_set set members) =
-      option_map_or (λ fault. replies (Error fault.0 fault.1))
-      (define_fault table (set_members table view) view set members) defined
-  node_reply view ordinal (asks_members set) = set_replied members_are (members_of view set)
-  node_reply view ordinal (deletes_sets sets) =
-      deleted (deletion view ordinal sets).0 (deletion view ordinal sets).1
-  node_reply view ordinal _ = replies (Error ACCESS_ERRORS ACCESS_DENIED)
+  abbrev pub node_reply : View → ℕ → CallKind → ReplyKind
+  node_reply view ordinal Identify = Identified
+  node_reply view ordinal (Read names echo) =
+      Results (echoed echo names) (read_outcomes view ordinal names)
+  node_reply view ordinal (ReadSet set echo) =
+      set_replied (λ members. Results (echoed_set echo set) (read_outcomes view ordinal members))
+      (members_seen view set)
+  node_reply view ordinal (Write names values) = Written (write_outcomes view ordinal names values)
+  node_reply view ordinal (NameList class scope after) =
+      names_listed table.own (objects table) (sets_there (set_members table view) view) class scope
+      after
+  node_reply view ordinal (Define set members) =
+      define_replied (define_fault table.own (set_members table view) view set members)
+  node_reply view ordinal (MembersOf set) = set_replied MembersAre (members_seen view set)
+  node_reply view ordinal (Delete sets) = delete_replied (deletion_seen view ordinal sets)
+  node_reply view ordinal (Odd kind code) = Reject kind code
+  node_reply view ordinal _ = Error ACCESS_ERRORS ACCESS_DENIED

@@ -5,10 +5,13 @@ use Rattle.std.specs.Option.{option_map_or}
 use Rattle.bilateral.specs.Rows.{CentreRows}
 use Rattle.sbo_device.specs.declared.key.Key.{Key}
 use Rattle.sbo_device.specs.Controls.{DeviceAct, operating, permits}
-use Rattle.tase_views.specs.NodeMoves.{NodeCall, NodeReply, NodeReport, NodeMove, acts}
-use Rattle.tase_views.specs.NodeMoves.{takes_orders}
-use Rattle.tase_views.specs.PeerTables.{OwnDevice, PeerTable, peer_table, control_of}
-use Rattle.tase_views.specs.NodeViews.{deed_of, NodeView, view_by, controls_in}
+use Rattle.tase_views.specs.declared.call.CallKind.{CallKind}
+use Rattle.tase_views.specs.declared.reply.ReplyKind.{ReplyKind}
+use Rattle.tase_views.specs.Objects.{OwnDevice}
+use Rattle.tase_views.specs.View.{View}
+use Rattle.tase_views.specs.NodeMoves.{NodeReport, NodeMove, acts, takes_orders}
+use Rattle.tase_views.specs.PeerTables.{PeerTable, peer_table, control_of}
+use Rattle.tase_views.specs.NodeViews.{deed_of, view_by, controls_in}
 use Rattle.tase_views.specs.NodeReports.{reports_pending}
 use Rattle.tase_views.specs.NodeAnswers.{node_reply}
 
@@ -46,7 +49,7 @@ orders_left rows moves = drop (length (orders_taken rows moves)) (orders_of rows
 -- closed; the plant takes its orders; another move of the centre's own comes
 pub data NodeEvent : Type 0 where
   opening : ℕ → NodeEvent
-  requesting : NodeCall → NodeEvent
+  requesting : CallKind → NodeEvent
   taking : NodeEvent
   closing : NodeEvent
   taking_orders : NodeEvent
@@ -56,14 +59,14 @@ pub data NodeEvent : Type 0 where
 -- or that it was noted
 pub data NodeAnswer : Type 0 where
   opened : Key → NodeAnswer
-  replied : NodeReply → NodeAnswer
+  replied : ReplyKind → NodeAnswer
   reported : List NodeReport → NodeAnswer
   closed : NodeAnswer
   ordered : List PlantOrder → NodeAnswer
   noted : NodeAnswer
 
 -- the answer to an event of an association, from its peer's own table and view alone
-abbrev pub association_answer : PeerTable → NodeView → Key → NodeEvent → NodeAnswer
+abbrev pub association_answer : PeerTable → View → Key → NodeEvent → NodeAnswer
 association_answer table view key (opening peer) = opened key
 association_answer table view key (requesting call) =
     replied (node_reply table view key.ordinal call)

@@ -12,10 +12,13 @@ use Rattle.sbo_device.specs.declared.key.Key.{Key}
 use Rattle.sbo_device.specs.Controls.{Tag, DeviceAct, selecting, operating, tagging, ControlMove}
 use Rattle.sbo_device.specs.Controls.{done_by, moment_of, tag_of, hold_of}
 use Rattle.sbo_device.specs.Controls as controls
-use Rattle.tase_views.specs.NodeMoves.{NodeAct, NodeMove, reads, writes, closes, acts, updates}
+use Rattle.tase_views.specs.Objects.{OwnDevice, Object}
+use Rattle.tase_views.specs.Objects as objects
+use Rattle.tase_views.specs.View.{Act, reads, writes, closes, Seen, own, other_acted, other_closed}
+use Rattle.tase_views.specs.View.{updated, tagged, asked, ticked, stopped, View}
+use Rattle.tase_views.specs.NodeMoves.{NodeMove, acts, updates}
 use Rattle.tase_views.specs.NodeMoves.{tags, ticks, asks_report, takes_orders, stops}
-use Rattle.tase_views.specs.PeerTables.{OwnDevice, PeerTable, peer_table, object_named, Object}
-use Rattle.tase_views.specs.PeerTables as objects
+use Rattle.tase_views.specs.PeerTables.{PeerTable, peer_table, object_named}
 
 -- the number that a device is operated with: an integer or an unsigned one
 abbrev pub number_in : Datum → Option ℤ
@@ -53,24 +56,10 @@ write_deed value _ = None
 
 -- what an act of an association with this table is to a device: a select, an operate, a tagging, or
 -- nothing
-abbrev pub deed_of : PeerTable → NodeAct → Option Deed
+abbrev pub deed_of : PeerTable → Act → Option Deed
 deed_of table (reads name) = option_and_then read_deed (object_named table name)
 deed_of table (writes name value) = option_and_then (write_deed value) (object_named table name)
 deed_of table _ = None
-
--- A move as a peer sees it: an act of its own association with this ordinal; by an association of
--- another peer, by its key and ordinal, an act on a device, by its name, and its close; a new value
--- of a point and a tag of a device, by their names; the operator asks for a report of a transfer
--- set of its own; a tick; the stop.
-pub data SeenMove : Type 0 where
-  own : ℕ → NodeAct → SeenMove
-  other_acted : List ℕ → ℕ → List ℕ → DeviceAct → SeenMove
-  other_closed : List ℕ → ℕ → SeenMove
-  updated : List ℕ → Sample → SeenMove
-  tagged : List ℕ → Tag → SeenMove
-  asked : ℕ → SeenMove
-  ticked : ℕ → SeenMove
-  stopped : SeenMove
 
 -- the device of the table with this name
 abbrev pub device_named : PeerTable → List ℕ → Option OwnDevice
@@ -88,7 +77,7 @@ shows_act table name _ = is_selectable table name
 
 -- what a peer with a table sees of an act of an association of another; a close where the other's
 -- table has a device in common with its own that isn't direct
-abbrev pub other_seen : PeerTable → PeerTable → ℕ → NodeAct → Option SeenMove
+abbrev pub other_seen : PeerTable → PeerTable → ℕ → Act → Option Seen
 other_seen table other ordinal closes =
     if list_any (λ d. is_selectable table d.row.name) other.devices
     then Some (other_closed other.key ordinal) else None
@@ -99,7 +88,7 @@ other_seen table other ordinal act =
     (deed_of other act)
 
 -- what a peer sees of a move
-abbrev pub seen_by : CentreRows → ℕ → NodeMove → Option SeenMove
+abbrev pub seen_by : CentreRows → ℕ → NodeMove → Option Seen
 seen_by rows peer (acts key act) =
     if key.peer == peer then Some (own key.ordinal act)
     else other_seen (peer_table rows peer) (peer_table rows key.peer) key.ordinal act
@@ -115,18 +104,15 @@ seen_by rows peer takes_orders = None
 seen_by rows peer stops = Some stopped
 
 -- what a peer sees, the newest first
-abbrev pub NodeView : Type 0
-NodeView = List SeenMove
-
-abbrev pub view_by : CentreRows → ℕ → List NodeMove → NodeView
+abbrev pub view_by : CentreRows → ℕ → List NodeMove → View
 view_by rows peer moves = filter_map (seen_by rows peer) moves
 
 -- the moment in a view: that of the last tick, at first 0
-abbrev pub tick_seen : SeenMove → Option ℕ
+abbrev pub tick_seen : Seen → Option ℕ
 tick_seen (ticked now) = Some now
 tick_seen _ = None
 
-abbrev pub moment_in : NodeView → ℕ
+abbrev pub moment_in : View → ℕ
 moment_in view = moment_of (filter_map tick_seen view)
 
 -- a peer's key as a number, so that associations of different peers differ by it
@@ -147,7 +133,7 @@ done_to name key deed =
     if bytes_eq deed.device.row.name name then Some (done_by key deed.act) else None
 
 -- what a seen move is to the device with this name
-abbrev pub control_seen : PeerTable → List ℕ → SeenMove → Option ControlMove
+abbrev pub control_seen : PeerTable → List ℕ → Seen → Option ControlMove
 control_seen table name (own ordinal closes) = Some (controls.closes (seen_key table.key ordinal))
 control_seen table name (own ordinal act) =
     option_and_then (done_to name (seen_key table.key ordinal)) (deed_of table act)
@@ -160,7 +146,7 @@ control_seen table name (ticked now) = Some (controls.ticks now)
 control_seen table name _ = None
 
 -- the moves of a device in a view: its machine is that of `sbo_device`
-abbrev pub controls_seen : PeerTable → NodeView → List ℕ → List ControlMove
+abbrev pub controls_seen : PeerTable → View → List ℕ → List ControlMove
 controls_seen table view name = filter_map (control_seen table name) view
 
 -- the same in all moves of the node

@@ -15,10 +15,12 @@ pub record OwnPoint : Type 0 where
   pub vmd : Bool
   pub layout : List Component
 
+-- the domain, the table's identifier, its points, and how many data sets it allows
 pub record OwnTable : Type 0 where
   pub domain : List ℕ
   pub id : List ℕ
   pub points : List OwnPoint
+  pub sets : ℕ
 
 abbrev pub own_point : CentreRows → See → OwnPoint
 own_point rows see =
@@ -36,6 +38,7 @@ own_table rows peer =
       domain = (table_of rows peer).domain;
       id = (table_of rows peer).id;
       points = map (own_point rows) (table_of rows peer).sees;
+      sets = (table_of rows peer).sets;
     }
 
 -- whether a scope is where the point is found: the whole device, or the table's domain
@@ -49,3 +52,7 @@ abbrev pub point_named : OwnTable → ObjectName → Option OwnPoint
 point_named table name =
     find (λ point. is_scope_of table name.scope point.vmd && bytes_eq point.name name.item)
     table.points
+
+-- a name in the table's domain
+abbrev pub domain_name : OwnTable → List ℕ → ObjectName
+domain_name table item = record { scope = Domain table.domain; item = item }

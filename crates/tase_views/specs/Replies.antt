@@ -7,18 +7,23 @@ use Rattle.tase_views.specs.declared.reply.ReadSpec.{ReadSpec}
 use Rattle.tase_views.specs.declared.reply.ReadSpec.TheVariants as specs
 use Rattle.tase_views.specs.declared.reply.ReplyKind.{ReplyKind}
 use Rattle.tase_views.specs.declared.reply.ReplyKind.TheVariants.{Identified, Results, Written}
-use Rattle.tase_views.specs.declared.reply.ReplyKind.TheVariants.{NamesAre, Error, Reject}
+use Rattle.tase_views.specs.declared.reply.ReplyKind.TheVariants.{NamesAre, Defined, MembersAre}
+use Rattle.tase_views.specs.declared.reply.ReplyKind.TheVariants.{Deleted, Error, Reject}
 
 -- a list of names has a name
 abbrev pub IsReadSpec : ReadSpec → Type 0
 IsReadSpec (specs.List names) = 0 < length names
+IsReadSpec (specs.Set name) = Unit {0}
 
--- the data are lawful, what a read named has a name, names are identifiers, an error's class is at
--- most 15, and a reject's kind is 1 to 15
+-- the data are lawful, what a read named has a name, and so have members; names are identifiers, an
+-- error's class is at most 15, and a reject's kind is 1 to 15
 abbrev pub IsReply : ReplyKind → Type 0
 IsReply Identified = Unit {0}
 IsReply (Results spec results) = IfSome spec IsReadSpec × All IsLawfulOutcome results
 IsReply (Written results) = Unit {0}
 IsReply (NamesAre names more) = All IsIdentifier names
+IsReply Defined = Unit {0}
+IsReply (MembersAre names) = 0 < length names
+IsReply (Deleted matched deleted) = Unit {0}
 IsReply (Error class code) = class ≤ 15
 IsReply (Reject kind code) = (1 ≤ kind) × (kind ≤ 15)

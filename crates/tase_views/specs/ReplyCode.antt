@@ -10,30 +10,52 @@ use Rattle.tase_views.specs.declared.reply.ReadSpec.{ReadSpec}
 use Rattle.tase_views.specs.declared.reply.ReadSpec.TheVariants as specs
 use Rattle.tase_views.specs.declared.reply.ReplyKind.{ReplyKind}
 use Rattle.tase_views.specs.declared.reply.ReplyKind.TheVariants.{Identified, Results, Written}
-use Rattle.tase_views.specs.declared.reply.ReplyKind.TheVariants.{NamesAre, Error, Reject}
+use Rattle.tase_views.specs.declared.reply.ReplyKind.TheVariants.{NamesAre, Defined, MembersAre}
+use Rattle.tase_views.specs.declared.reply.ReplyKind.TheVariants.{Deleted, Error, Reject}
 use Rattle.tase_views.specs.Codes.{outcome_code, name_code}
 
-abbrev pub spec_names : ReadSpec → List ObjectName
-spec_names (specs.List names) = names
+abbrev pub spec_parts : ReadSpec → List ObjectName ⊎ ObjectName
+spec_parts (specs.List names) = inl names
+spec_parts (specs.Set name) = inr name
 
-pub spec_from-names : (s : ReadSpec) → specs.List (spec_names s) ≡ s
-spec_from-names (specs.List names) = refl
+abbrev pub spec_from : List ObjectName ⊎ ObjectName → ReadSpec
+spec_from (inl names) = specs.List names
+spec_from (inr name) = specs.Set name
+
+pub spec_from-parts : (s : ReadSpec) → spec_from (spec_parts s) ≡ s
+spec_from-parts (specs.List names) = refl
+spec_from-parts (specs.Set name) = refl
 
 abbrev pub spec_code : Coded ReadSpec
-spec_code = code_by (List ObjectName) (coded_list name_code) spec_names specs.List spec_from-names
+spec_code =
+    code_by (List ObjectName ⊎ ObjectName) (coded⊎ (coded_list name_code) name_code) spec_parts
+    spec_from spec_from-parts
+
+-- a reply about data sets: one is defined, its members, how many were meant and deleted
+abbrev pub SetReplyParts : Type 0
+SetReplyParts = Unit {0} ⊎ (List ObjectName ⊎ (ℕ × ℕ))
 
 abbrev pub ReplyParts : Type 0
 ReplyParts =
     Unit {0} ⊎ ((Option ReadSpec × List Outcome) ⊎ (List (Option ℕ)
-    ⊎ ((List (List ℕ) × Bool) ⊎ ((ℕ × ℕ) ⊎ (ℕ × ℕ)))))
+    ⊎ ((List (List ℕ) × Bool) ⊎ ((ℕ × ℕ) ⊎ ((ℕ × ℕ) ⊎ SetReplyParts)))))
 
 abbrev pub reply_parts : ReplyKind → ReplyParts
 reply_parts Identified = inl tt
 reply_parts (Results spec results) = inr (inl (spec, results))
 reply_parts (Written results) = inr (inr (inl results))
 reply_parts (NamesAre names more) = inr (inr (inr (inl (names, more))))
+reply_parts Defined = inr (inr (inr (inr (inr (inr (inl tt))))))
+reply_parts (MembersAre names) = inr (inr (inr (inr (inr (inr (inr (inl names)))))))
+reply_parts (Deleted matched deleted) =
+    inr (inr (inr (inr (inr (inr (inr (inr (matched, deleted))))))))
 reply_parts (Error class code) = inr (inr (inr (inr (inl (class, code)))))
-reply_parts (Reject kind code) = inr (inr (inr (inr (inr (kind, code)))))
+reply_parts (Reject kind code) = inr (inr (inr (inr (inr (inl (kind, code))))))
+
+abbrev pub set_reply_from : SetReplyParts → ReplyKind
+set_reply_from (inl u) = Defined
+set_reply_from (inr (inl names)) = MembersAre names
+set_reply_from (inr (inr p)) = Deleted p.0 p.1
 
 abbrev pub reply_from : ReplyParts → ReplyKind
 reply_from (inl u) = Identified
@@ -41,15 +63,22 @@ reply_from (inr (inl p)) = Results p.0 p.1
 reply_from (inr (inr (inl results))) = Written results
 reply_from (inr (inr (inr (inl p)))) = NamesAre p.0 p.1
 reply_from (inr (inr (inr (inr (inl p))))) = Error p.0 p.1
-reply_from (inr (inr (inr (inr (inr p))))) = Reject p.0 p.1
+reply_from (inr (inr (inr (inr (inr (inl p)))))) = Reject p.0 p.1
+reply_from (inr (inr (inr (inr (inr (inr p)))))) = set_reply_from p
 
 pub reply_from-parts : (r : ReplyKind) → reply_from (reply_parts r) ≡ r
 reply_from-parts Identified = refl
 reply_from-parts (Results spec results) = refl
 reply_from-parts (Written results) = refl
 reply_from-parts (NamesAre names more) = refl
+reply_from-parts Defined = refl
+reply_from-parts (MembersAre names) = refl
+reply_from-parts (Deleted matched deleted) = refl
 reply_from-parts (Error class code) = refl
 reply_from-parts (Reject kind code) = refl
+
+abbrev pub set_reply_code : Coded SetReplyParts
+set_reply_code = coded⊎ coded_unit (coded⊎ (coded_list name_code) (coded× coded_ℕ coded_ℕ))
 
 abbrev pub reply_code : Coded ReplyKind
 reply_code =
@@ -58,5 +87,5 @@ reply_code =
     (coded⊎ (coded× (coded_option spec_code) (coded_list outcome_code))
     (coded⊎ (coded_list (coded_option coded_ℕ))
     (coded⊎ (coded× (coded_list (coded_list coded_ℕ)) coded_bool)
-    (coded⊎ (coded× coded_ℕ coded_ℕ) (coded× coded_ℕ coded_ℕ))))))
+    (coded⊎ (coded× coded_ℕ coded_ℕ) (coded⊎ (coded× coded_ℕ coded_ℕ) set_reply_code))))))
     reply_parts reply_from reply_from-parts

@@ -1,17 +1,15 @@
--- Data sets and transfer sets in a peer's view (IEC 60870-6-503, data set and DS transfer set
--- objects; ISO 9506-2, named variable lists).
-use Rattle.std.specs.Prelude.{ℕ, ◌==◌, nat_le, nat_lt, nat_eq, not, ◌&&◌, ◌||◌, if◌then◌else◌, Bool}
-use Rattle.std.specs.Prelude.{true, false, List, [], ◌∷◌, length, filter, filter_map, find}
+-- Transfer sets in a peer's view, and the data sets beside them (IEC 60870-6-503, DS transfer set
+-- objects).
+use Rattle.std.specs.Prelude.{ℕ, ◌==◌, nat_eq, not, ◌&&◌, ◌||◌, if◌then◌else◌, Bool}
+use Rattle.std.specs.Prelude.{true, false, List, [], ◌∷◌, filter_map, find}
 use Rattle.std.specs.Prelude.{Option, Some, None, is_some, is_none, bytes_eq, Result, Ok, Err}
-use Rattle.std.specs.List.{range_with_len, list_all, list_any}
+use Rattle.std.specs.List.{range_with_len, list_any}
 use Rattle.std.specs.Option.{option_map_or, option_eq, unwrap_or}
 use Rattle.tase_points.specs.Sample.{Sample}
 use Rattle.tase_points.specs.Values.{is_change}
+use Rattle.point_db.specs.Updates.{last_of}
 use Rattle.mms_data.specs.Datum.{Datum}
-use Rattle.mms_data.specs.declared.object_name.Scope.TheVariants.{Domain}
-use Rattle.mms_data.specs.ObjectName.{ObjectName, same_scope, same_name}
-use Rattle.data_sets.specs.declared.book.TheConstants.{MOST_MEMBERS}
-use Rattle.table_words.specs.Words.{is_identifier}
+use Rattle.mms_data.specs.ObjectName.{ObjectName}
 use Rattle.transfer_sets.specs.declared.wish.Wish.{Wish}
 use Rattle.transfer_sets.specs.declared.wish.WishFault.{WishFault}
 use Rattle.transfer_sets.specs.declared.wish.WishFault.TheVariants.{Form, Range}
@@ -23,12 +21,12 @@ use Rattle.transfer_sets.specs.SlotMoves.{SlotMove, handed_out, wishes, changes,
 use Rattle.transfer_sets.specs.SlotMoves.{last_wish, slot_in}
 use Rattle.transfer_sets.specs.Due.{conditions_due}
 use Rattle.tase_views.specs.OwnTable.{OwnPoint, point_named}
-use Rattle.tase_views.specs.Values.{last_of}
-use Rattle.tase_views.specs.NodeMoves.{reads, writes, defines, deletes, closes}
-use Rattle.tase_views.specs.PeerTables.{PeerTable, Object, next_transfer_set, transfer_set}
-use Rattle.tase_views.specs.PeerTables.{transfer_set_status, report_variable, indication_point}
-use Rattle.tase_views.specs.PeerTables.{object_named, domain_name}
-use Rattle.tase_views.specs.NodeViews.{SeenMove, own, updated, asked, ticked, NodeView, moment_in}
+use Rattle.tase_views.specs.Values.{values_in}
+use Rattle.tase_views.specs.Objects.{Object, next_transfer_set, transfer_set, transfer_set_status}
+use Rattle.tase_views.specs.View.{reads, writes, closes, own, updated, asked, ticked, View}
+use Rattle.tase_views.specs.Sets.{Sets, set_behind}
+use Rattle.tase_views.specs.PeerTables.{PeerTable, object_named}
+use Rattle.tase_views.specs.NodeViews.{moment_in}
 
 -- reasons of an access (ISO 9506-2, DataAccessError: type-inconsistent, object-value-invalid)
 abbrev pub type_inconsistent : ℕ
@@ -36,18 +34,6 @@ type_inconsistent = 7
 
 abbrev pub value_invalid : ℕ
 value_invalid = 11
-
--- the values that a point was given, by its name, the newest first
-abbrev pub value_seen : List ℕ → SeenMove → Option Sample
-value_seen name (updated point value) = if bytes_eq point name then Some value else None
-value_seen name _ = None
-
-abbrev pub values_seen : NodeView → List ℕ → List Sample
-values_seen view name = filter_map (value_seen name) view
-
--- the data sets that there are, by their names in the domain
-abbrev pub Sets : Type 0
-Sets = List ℕ → Option (List ObjectName)
 
 -- what befell each transfer set since it was handed out, by its number
 abbrev pub Slots : Type 0
@@ -66,12 +52,6 @@ slot_of _ = None
 abbrev pub is_next_slot : Option Object → Bool
 is_next_slot (Some next_transfer_set) = true
 is_next_slot _ = false
-
--- a member that a data set may have: a point, or a report variable
-abbrev pub is_member : Option Object → Bool
-is_member (Some (indication_point p)) = true
-is_member (Some (report_variable v)) = true
-is_member _ = false
 
 -- the wish that a write to a transfer set or its status asks for: one of its own, or the one that
 -- stands with another status; or why the value is none
@@ -103,20 +83,13 @@ abbrev pub with_report :
 with_report state conditions moves =
     if makes_report (state moves) (conditions (state moves)) then reports ∷ moves else moves
 
--- the names that definitions in a view have, each once
-abbrev pub names_defined : NodeView → List (List ℕ)
-names_defined [] = []
-names_defined (own ordinal (defines set members) ∷ view) =
-    set.item ∷ filter (λ name. not (bytes_eq name set.item)) (names_defined view)
-names_defined (_ ∷ view) = names_defined view
-
 module _ (table : PeerTable) where
   -- whether a new value of a point of the table is a change of it (this project's profile)
-  abbrev pub changes_point : NodeView → List ℕ → Sample → Bool
+  abbrev pub changes_point : View → List ℕ → Sample → Bool
   changes_point view name value =
       list_any
       (λ (p : OwnPoint). bytes_eq p.name name
-      && is_change (last_of p.kind (values_seen view name)) value) table.own.points
+      && is_change (last_of p.kind (values_in view name)) value) table.own.points
 
   -- the lowest transfer set without an owner
   abbrev pub lowest_free : Slots → Option ℕ
@@ -147,23 +120,6 @@ module _ (table : PeerTable) where
   wish_written sets moves object value =
       taken sets (wish_asked (last_wish moves).0 object value)
 
-  -- the data sets that there are
-  abbrev pub sets_there : Sets → NodeView → List (List ℕ)
-  sets_there sets view = filter (λ name. is_some (sets name)) (names_defined view)
-
-  -- why a data set isn't defined, the class and code of an error (ISO 9506-2, ServiceError), the
-  -- first of: its name is none of the domain (object-access-denied); it is there (object-exists);
-  -- there are too many members or sets (resource, other); a member doesn't exist (object-undefined)
-  abbrev pub define_fault : Sets → NodeView → ObjectName → List ObjectName → Option (ℕ × ℕ)
-  define_fault sets view set members =
-      if not (same_scope set.scope (Domain table.own.domain) && is_identifier set.item)
-      then Some (7, 3)
-      else if is_some (sets set.item) then Some (2, 5)
-      else if nat_lt MOST_MEMBERS (length members)
-      || nat_le table.sets (length (sets_there sets view)) then Some (3, 0)
-      else if not (list_all (λ m. is_member (object_named table m)) members) then Some (2, 1)
-      else None
-
   -- whether an enabled transfer set wishes a data set of the domain
   abbrev pub is_wished : Slots → List ℕ → Bool
   is_wished slots name =
@@ -175,19 +131,15 @@ module _ (table : PeerTable) where
   abbrev mutual
     -- the members of the data set with a name: those of its last definition that had no error,
     -- unless it was deleted since, while no enabled transfer set wished it
-    pub set_members : NodeView → Sets
+    pub set_members : View → Sets
     set_members [] name = None
-    set_members (own ordinal (defines set members) ∷ view) name =
-        if bytes_eq set.item name && is_none (define_fault (set_members view) view set members)
-        then Some members else set_members view name
-    set_members (own ordinal (deletes set) ∷ view) name =
-        if same_name set (domain_name table name) && not (is_wished (slot_moves view) name)
-        then None else set_members view name
+    set_members (own ordinal act ∷ view) name =
+        set_behind table.own (is_wished (slot_moves view)) (set_members view) view act name
     set_members (_ ∷ view) name = set_members view name
 
     -- what befell a transfer set since it was handed out, unless its owner was closed: its owner's
     -- writes that were taken, the changes of points, its reports
-    pub slot_moves : NodeView → Slots
+    pub slot_moves : View → Slots
     slot_moves [] s = []
     slot_moves (own ordinal closes ∷ view) s =
         if owns ordinal (slot_moves view s) then [] else slot_moves view s

@@ -6,22 +6,26 @@ use Rattle.mms_data.specs.Datum.{Datum}
 use Rattle.mms_data.specs.ObjectName.{ObjectName}
 use Rattle.bilateral.specs.Rows.{CentreRows, table_of, point_of, place_of_see}
 use Rattle.sbo_device.specs.declared.key.Key.{Key}
+use Rattle.sbo_device.specs.Controls.{Tag, DeviceAct}
 use Rattle.tase_views.specs.declared.call.CallKind.{CallKind}
-use Rattle.tase_views.specs.declared.call.CallKind.TheVariants.{Identify, Read, Write, NameList}
-use Rattle.tase_views.specs.declared.call.CallKind.TheVariants.{Odd}
+use Rattle.tase_views.specs.declared.call.CallKind.TheVariants.{Identify, Read, ReadSet, Write}
+use Rattle.tase_views.specs.declared.call.CallKind.TheVariants.{WriteSet, NameList, Define}
+use Rattle.tase_views.specs.declared.call.CallKind.TheVariants.{MembersOf, Delete, DeleteScope, Odd}
 use Rattle.tase_views.specs.declared.event.EventKind.{EventKind}
 use Rattle.tase_views.specs.declared.event.EventKind.TheVariants.{Open, Request, Take, Close}
 use Rattle.tase_views.specs.declared.event.EventKind.TheVariants.{Update, Stop}
 use Rattle.tase_views.specs.History.{Past, key_at}
 
--- what an association does: it is opened, takes reports, is closed, reads or writes a variable, or
--- makes another call
+-- what an association does: it is opened, takes reports, is closed, reads or writes a variable,
+-- defines or deletes a data set, or makes another call
 pub data Act : Type 0 where
   opens : Act
   takes : Act
   closes : Act
   reads : ObjectName → Act
   writes : ObjectName → Datum → Act
+  defines : ObjectName → List ObjectName → Act
+  deletes : ObjectName → Act
   calls : CallKind → Act
 
 -- an act of an association, a new value of a point, by its number, or the stop of the node
@@ -36,13 +40,19 @@ writes_of [] values = []
 writes_of (name ∷ names) [] = []
 writes_of (name ∷ names) (value ∷ values) = writes name value ∷ writes_of names values
 
--- the acts of a call, one for each variable of a read or a write and one for every other call, the
--- newest first
+-- the acts of a call, the newest first: one for each variable of a read or a write, one for each
+-- name of a deletion, and one for every other call
 abbrev pub acts_of_call : CallKind → List Act
 acts_of_call Identify = calls Identify ∷ []
 acts_of_call (Read names echo) = reverse (map reads names)
+acts_of_call (ReadSet set echo) = calls (ReadSet set echo) ∷ []
 acts_of_call (Write names values) = reverse (writes_of names values)
+acts_of_call (WriteSet set values) = calls (WriteSet set values) ∷ []
 acts_of_call (NameList class scope after) = calls (NameList class scope after) ∷ []
+acts_of_call (Define set members) = defines set members ∷ []
+acts_of_call (MembersOf set) = calls (MembersOf set) ∷ []
+acts_of_call (Delete sets) = reverse (map deletes sets)
+acts_of_call (DeleteScope scope) = calls (DeleteScope scope) ∷ []
 acts_of_call (Odd kind code) = calls (Odd kind code) ∷ []
 
 -- acts of an association; a seat without one does nothing
@@ -65,11 +75,19 @@ moves_in [] = []
 moves_in (entry ∷ past) =
     moves_of_event entry.event (key_at entry.event past entry.who) ++ moves_in past
 
--- A move as a peer sees it: an act of its own association with this ordinal, a new value of a
--- point, by its name, or the stop.
+-- A move as a peer sees it: an act of its own association with this ordinal; by an association of
+-- another peer, by its key and ordinal, an act on a device, by its name, and its close; a new value
+-- of a point and a tag of a device, by their names; the operator asks for a report of a transfer
+-- set of its own; a tick; the stop. No event of a node makes moves of devices, ticks or requests of
+-- the operator yet.
 pub data Seen : Type 0 where
   own : ℕ → Act → Seen
+  other_acted : List ℕ → ℕ → List ℕ → DeviceAct → Seen
+  other_closed : List ℕ → ℕ → Seen
   updated : List ℕ → Sample → Seen
+  tagged : List ℕ → Tag → Seen
+  asked : ℕ → Seen
+  ticked : ℕ → Seen
   stopped : Seen
 
 -- an act of the peer's own associations, an update of a point that its table names, or the stop;

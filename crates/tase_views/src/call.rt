@@ -3,7 +3,7 @@ ghost use Rattle.tase_views.specs.Calls.{IsCall};
 
 use ber_values::Visible;
 use item_list::ItemList;
-use mms_data::{MmsData, Names, Scope};
+use mms_data::{MmsData, Name, Names, Scope};
 use std::alloc::AllocError;
 use std::marker::Model;
 
@@ -30,9 +30,20 @@ pub enum CallKind {
         /// Whether the reply is to repeat the names.
         echo: bool,
     },
+    /// Reads the members of a data set in order.
+    ReadSet {
+        set: Name,
+        /// Whether the reply is to repeat the data set's name.
+        echo: bool,
+    },
     /// Writes each named variable the value at the same place, in order.
     Write {
         names: Names,
+        values: Values,
+    },
+    /// Writes the members of a data set, in order.
+    WriteSet {
+        set: Name,
         values: Values,
     },
     /// The names of the objects of a class in a scope.
@@ -43,6 +54,25 @@ pub enum CallKind {
         /// The name after which the list goes on.
         after: Option<Visible>,
     },
+    /// Defines a data set of these members.
+    Define {
+        set: Name,
+        members: Names,
+    },
+    /// The members of a data set.
+    MembersOf {
+        set: Name,
+    },
+    /// Deletes data sets, in order.
+    Delete {
+        sets: Names,
+    },
+    /// Deletes all data sets of a scope.
+    DeleteScope {
+        /// The number of the scope (`DeleteNamedVariableList`), which isn't 0: that means the data
+        /// sets that are named.
+        scope: i64,
+    },
     /// A request that no service of the profile is: the kind and the code of the reject that
     /// answers it.
     Odd {
@@ -52,8 +82,8 @@ pub enum CallKind {
 }
 
 /// A call of a peer: a [`CallKind`] with at least one name in each of its lists of names, as many
-/// lawful values as names, one to 64 octets in each name, and the kind and code 1 and 1 or 5 and 1
-/// of an odd one.
+/// lawful values as names and at least one for a data set, one to 64 octets in each name, a scope
+/// of deletion other than 0, and the kind and code 1 and 1 or 5 and 1 of an odd one.
 #[derive(Debug, Drop)]
 pub struct Call {
     kind: CallKind,
@@ -101,8 +131,16 @@ impl Clone for Call {
                 names: names.clone()?,
                 echo: *echo,
             },
+            CallKind::ReadSet { set, echo } => CallKind::ReadSet {
+                set: set.clone()?,
+                echo: *echo,
+            },
             CallKind::Write { names, values } => CallKind::Write {
                 names: names.clone()?,
+                values: values.clone()?,
+            },
+            CallKind::WriteSet { set, values } => CallKind::WriteSet {
+                set: set.clone()?,
                 values: values.clone()?,
             },
             CallKind::NameList {
@@ -114,6 +152,15 @@ impl Clone for Call {
                 scope: scope.clone()?,
                 after: copy_of(after)?,
             },
+            CallKind::Define { set, members } => CallKind::Define {
+                set: set.clone()?,
+                members: members.clone()?,
+            },
+            CallKind::MembersOf { set } => CallKind::MembersOf { set: set.clone()? },
+            CallKind::Delete { sets } => CallKind::Delete {
+                sets: sets.clone()?,
+            },
+            CallKind::DeleteScope { scope } => CallKind::DeleteScope { scope: *scope },
             CallKind::Odd { kind, code } => CallKind::Odd {
                 kind: *kind,
                 code: *code,

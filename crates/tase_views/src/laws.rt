@@ -13,12 +13,12 @@ ghost use Rattle.tase_views.specs.declared.event.EventKind.TheVariants.{Open, Re
 ghost use Rattle.tase_views.specs.declared.event.EventKind.TheVariants.{Close, Update};
 ghost use Rattle.tase_views.specs.History.{Past, association_in};
 ghost use Rattle.tase_views.specs.OwnTable.{own_table};
-ghost use Rattle.tase_views.specs.View.{view_of};
+ghost use Rattle.tase_views.specs.View.{View, view_of};
 ghost use Rattle.tase_views.specs.Concerns.{entries_for, reseated, IsInjective};
 ghost use Rattle.tase_views.specs.Answers.{reply_to};
-ghost use Rattle.tase_views.specs.NodeMoves.{NodeCall, NodeMove};
+ghost use Rattle.tase_views.specs.NodeMoves.{NodeMove};
 ghost use Rattle.tase_views.specs.PeerTables.{PeerTable, peer_table};
-ghost use Rattle.tase_views.specs.NodeViews.{NodeView, seen_by, view_by, is_selectable};
+ghost use Rattle.tase_views.specs.NodeViews.{seen_by, view_by, is_selectable};
 ghost use Rattle.tase_views.specs.NodeViews.{device_named, controls_seen, controls_in, peer_number};
 ghost use Rattle.tase_views.specs.NodeAnswers.{node_reply};
 ghost use Rattle.tase_views.specs.NodeReports.{AreDueAt, due_conditions, reports_pending};
@@ -94,7 +94,7 @@ pub fn devices_are_held_once()
         (point : ControlPoint) (a b : Key) (u v : ℕ)
         → Holds point (with_moments (controls_in rows moves name)) a u
         → Holds point (with_moments (controls_in rows moves name)) b v → (a ≡ b) × (u ≡ v) }
-    ensures view { (table : PeerTable) (view : NodeView) (name : List ℕ)
+    ensures view { (table : PeerTable) (view : View) (name : List ℕ)
         (point : ControlPoint) (a b : Key) (u v : ℕ)
         → Holds point (with_moments (controls_seen table view name)) a u
         → Holds point (with_moments (controls_seen table view name)) b v → (a ≡ b) × (u ≡ v) }
@@ -117,7 +117,7 @@ pub fn unseen_moves_change_nothing()
 /// The conditions that are due at a tick are those that some whole multiple of a period, or a
 /// change that has waited, brings about, and no other number is.
 pub fn due_conditions_are_those()
-    ensures { (table : PeerTable) (view : NodeView) (slot to conditions : ℕ)
+    ensures { (table : PeerTable) (view : View) (slot to conditions : ℕ)
         → AreDueAt table view slot to conditions
         ↔ (conditions ≡ due_conditions table view slot to) }
 {}
@@ -127,7 +127,7 @@ pub fn due_conditions_are_those()
 /// else they hold.
 pub fn two_worlds_answer_alike()
     ensures reply { (here there : CentreRows) (moves others : List NodeMove)
-        (peer other ordinal : ℕ) (call : NodeCall)
+        (peer other ordinal : ℕ) (call : AnyCall)
         → peer_table here peer ≡ peer_table there other
         → view_by here peer moves ≡ view_by there other others
         → node_reply (peer_table here peer) (view_by here peer moves) ordinal call

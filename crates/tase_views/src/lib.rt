@@ -19,8 +19,8 @@ pub use laws::{
     unseen_moves_change_nothing, views_are_of_entries,
 };
 pub use reply::{
-    ACCESS_DENIED, ACCESS_ERRORS, Answer, NAMES_LIMIT, NON_EXISTENT, OBJECT_ACCESS_DENIED,
-    OBJECT_NON_EXISTENT, ObjectNames, ReadSpec, Reply, ReplyKind, Report, Reports, Results,
-    WriteResults,
+    ACCESS_DENIED, ACCESS_ERRORS, Answer, DEFINITION_ERRORS, EXISTS, NAMES_LIMIT, NON_EXISTENT,
+    OBJECT_ACCESS_DENIED, OBJECT_ACCESS_UNSUPPORTED, OBJECT_NON_EXISTENT, OTHER, ObjectNames,
+    RESOURCE_ERRORS, ReadSpec, Reply, ReplyKind, Report, Reports, Results, UNDEFINED, WriteResults,
 };
 pub use weights::weight;

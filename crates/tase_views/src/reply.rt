@@ -3,7 +3,7 @@ ghost use Rattle.tase_views.specs.Replies.{IsReply};
 
 use ber_values::Visible;
 use item_list::ItemList;
-use mms_data::{Names, Outcome};
+use mms_data::{Name, Names, Outcome};
 use sbo_device::Key;
 use std::marker::Model;
 
@@ -14,6 +14,25 @@ pub const OBJECT_NON_EXISTENT: u8 = 10;
 /// The reason of an access that the peer may not have it (`DataAccessError`:
 /// object-access-denied).
 pub const OBJECT_ACCESS_DENIED: u8 = 3;
+
+/// The reason of an access that an object takes no part in such a service
+/// (`DataAccessError`: object-access-unsupported).
+pub const OBJECT_ACCESS_UNSUPPORTED: u8 = 9;
+
+/// The class of errors of definition (ISO 9506-2, `ServiceError`: definition).
+pub const DEFINITION_ERRORS: u8 = 2;
+
+/// The error of definition that an object isn't there (object-undefined).
+pub const UNDEFINED: u8 = 1;
+
+/// The error of definition that an object is there already (object-exists).
+pub const EXISTS: u8 = 5;
+
+/// The class of errors of resources (`ServiceError`: resource).
+pub const RESOURCE_ERRORS: u8 = 3;
+
+/// The error of resources of which no more is told (other).
+pub const OTHER: u8 = 0;
 
 /// The class of errors of access (ISO 9506-2, `ServiceError`: access).
 pub const ACCESS_ERRORS: u8 = 7;
@@ -42,6 +61,8 @@ pub type ObjectNames = ItemList<Visible>;
 pub enum ReadSpec {
     /// These variables.
     List(Names),
+    /// The members of this data set.
+    Set(Name),
 }
 
 /// What a call is answered.
@@ -49,7 +70,8 @@ pub enum ReadSpec {
 pub enum ReplyKind {
     /// To an identify: the node's name.
     Identified,
-    /// To a read: what it named, where it asked for that, and an outcome for each variable.
+    /// To a read, also of a data set: what it named, where it asked for that, and an outcome for
+    /// each variable.
     Results {
         spec: Option<ReadSpec>,
         results: Results,
@@ -60,6 +82,17 @@ pub enum ReplyKind {
     NamesAre {
         names: ObjectNames,
         more: bool,
+    },
+    /// To a definition: the data set is there now.
+    Defined,
+    /// To a request for the members of a data set.
+    MembersAre(Names),
+    /// To a deletion.
+    Deleted {
+        /// How many of the names were those of data sets that were there.
+        matched: u32,
+        /// How many of these were deleted.
+        deleted: u32,
     },
     /// The call failed: an error's class and code (ISO 9506-2, `ServiceError`).
     Error {
@@ -73,8 +106,8 @@ pub enum ReplyKind {
     },
 }
 
-/// The reply to a call: a [`ReplyKind`] with at least one name in what a read named, one to 64
-/// octets in each name, an error's class up to 15, and a reject's kind from 1 to 15.
+/// The reply to a call: a [`ReplyKind`] with at least one name in what a read named and in members,
+/// one to 64 octets in each name, an error's class up to 15, and a reject's kind from 1 to 15.
 #[derive(Drop)]
 pub struct Reply {
     kind: ReplyKind,

@@ -6,6 +6,7 @@ ghost use Rattle.tase_points.specs.declared.body.Body.{Body as AnyBody};
 ghost use Rattle.tase_views.specs.declared.event.EventKind.TheVariants.{Update};
 ghost use Rattle.tase_views.specs.declared.call.CallKind.{CallKind as AnyCall};
 ghost use Rattle.tase_views.specs.EventTexts.{call_text, read_verb, next_name};
+ghost use Rattle.tase_views.specs.EventTexts.{read_set_verb, next_value};
 ghost use Rattle.tase_views.specs.EventTexts.{assigned_text, after_text, body_text, value_text};
 ghost use Rattle.tase_views.specs.Weights.{weight};
 
@@ -76,14 +77,24 @@ fn call_len(call: &Call) -> u64
     match call.kind() {
         CallKind::Identify => 8,
         CallKind::Read { names, echo } => add_len(verb_len(*echo), names_len(names.as_slice())),
+        CallKind::ReadSet { set, echo } => set_verb_len(*echo) + 1 + name_text_len(set),
         CallKind::Write { names, values } => {
             add_len(5, assigned_len(names.as_slice(), values.as_slice()))
+        }
+        CallKind::WriteSet { set, values } => {
+            add_len(9 + name_text_len(set), values_len(values.as_slice()))
         }
         CallKind::NameList {
             class,
             scope,
             after,
         } => list_len(*class, scope, after),
+        CallKind::Define { set, members } => {
+            add_len(7 + name_text_len(set), names_len(members.as_slice()))
+        }
+        CallKind::MembersOf { set } => 8 + name_text_len(set),
+        CallKind::Delete { sets } => add_len(6, names_len(sets.as_slice())),
+        CallKind::DeleteScope { scope } => 12 + signed_decimal_len(*scope),
         CallKind::Odd { kind, code } => odd_len(*kind, *code),
     }
 }
@@ -93,6 +104,24 @@ fn verb_len(echo: bool) -> u64
     ensures few { result ≤ 5 }
 {
     if echo { 5 } else { 4 }
+}
+
+fn set_verb_len(echo: bool) -> u64
+    ensures exact { result ≡ length (read_set_verb echo) }
+    ensures few { result ≤ 8 }
+{
+    if echo { 8 } else { 7 }
+}
+
+/// Values, each after a space.
+fn values_len(values: &[MmsData]) -> u64
+    ensures { result ≡ capped (length (flat_map next_value values.now)) }
+{
+    let mut len = 0;
+    for value in values {
+        len = add_len(len, add_len(1, data_text_len(value)));
+    }
+    len
 }
 
 /// Names, each after a space.
