@@ -11,20 +11,22 @@ use Rattle.std.proofs.lemmas.Slice.Eq.{bytes_eq-Decides}
 use Rattle.mms_data.specs.Datum.{Datum}
 use Rattle.mms_data.specs.Lawful.{IsLawful}
 use Rattle.mms_data.specs.ObjectName.{ObjectName, IsName, IsIdentifier}
-use Rattle.mms_text.specs.Texts.{name_text, scope_text}
+use Rattle.mms_text.specs.Texts.{name_text, scope_text, data_text}
 use Rattle.mms_text.specs.TextRead.{HasText}
 use Rattle.mms_text.proofs.WordText.{chosen}
 use Rattle.tase_views.specs.declared.call.CallKind.{CallKind}
-use Rattle.tase_views.specs.declared.call.CallKind.TheVariants.{Identify, Read, Write, NameList}
-use Rattle.tase_views.specs.declared.call.CallKind.TheVariants.{Odd}
+use Rattle.tase_views.specs.declared.call.CallKind.TheVariants.{Identify, Read, ReadSet, Write}
+use Rattle.tase_views.specs.declared.call.CallKind.TheVariants.{WriteSet, NameList, Define}
+use Rattle.tase_views.specs.declared.call.CallKind.TheVariants.{MembersOf, Delete, DeleteScope, Odd}
 use Rattle.tase_views.specs.Calls.{IsCall}
-use Rattle.tase_views.specs.EventTexts.{read_verb}
+use Rattle.tase_views.specs.EventTexts.{read_verb, read_set_verb}
 use Rattle.event_text.specs.CallWords.{call_words, assigned_words, after_words, HasWords}
 use Rattle.event_text.specs.CallWords.{SpellsCall, AreCallWords}
 use Rattle.event_text.specs.Breaks.{Breaks}
 use Rattle.event_text.specs.Assigned.{AreAssignments}
-use Rattle.event_text.specs.Verbs.{verb_text, verb_in, Behind, Each, OneOrMore, AtMostOne}
-use Rattle.event_text.specs.Verbs.{IsNameWord, IsAssignedWord, IsAfterWord, IsOddKind}
+use Rattle.event_text.specs.Verbs.{verb_text, verb_in, set_verb_in, Behind, Each, OneOrMore, AtMostOne}
+use Rattle.event_text.specs.Verbs.{IsNameWord, IsAssignedWord, IsValueWord, IsAfterWord}
+use Rattle.event_text.specs.Verbs.{IsOddKind}
 use Rattle.event_text.specs.declared.reading.verbs.Verb.{Verb}
 use Rattle.event_text.specs.declared.reading.verbs.Verb.TheVariants as verbs
 use Rattle.event_text.specs.Verbs.{Halts, one_more}
@@ -37,15 +39,28 @@ abbrev pub verb_of : CallKind → Verb
 verb_of Identify = verbs.Identify
 verb_of (Read names true) = verbs.ReadEcho
 verb_of (Read names false) = verbs.Read
+verb_of (ReadSet set true) = verbs.ReadSetEcho
+verb_of (ReadSet set false) = verbs.ReadSet
 verb_of (Write names values) = verbs.Write
+verb_of (WriteSet set values) = verbs.WriteSet
 verb_of (NameList class scope after) = verbs.NameList
+verb_of (Define set members) = verbs.Define
+verb_of (MembersOf set) = verbs.MembersOf
+verb_of (Delete sets) = verbs.Delete
+verb_of (DeleteScope scope) = verbs.DeleteScope
 verb_of (Odd kind code) = verbs.Odd
 
 abbrev pub others_of : CallKind → List (List ℕ)
 others_of Identify = []
 others_of (Read names echo) = map name_text names
+others_of (ReadSet set echo) = name_text set ∷ []
 others_of (Write names values) = assigned_words names values
+others_of (WriteSet set values) = name_text set ∷ map data_text values
 others_of (NameList class scope after) = signed_decimal class ∷ scope_text scope ∷ after_words after
+others_of (Define set members) = name_text set ∷ map name_text members
+others_of (MembersOf set) = name_text set ∷ []
+others_of (Delete sets) = map name_text sets
+others_of (DeleteScope scope) = signed_decimal scope ∷ []
 others_of (Odd kind code) = decimal kind ∷ decimal code ∷ []
 
 pub call_words-are : (call : CallKind)
@@ -53,8 +68,15 @@ pub call_words-are : (call : CallKind)
 call_words-are Identify = refl
 call_words-are (Read names true) = refl
 call_words-are (Read names false) = refl
+call_words-are (ReadSet set true) = refl
+call_words-are (ReadSet set false) = refl
 call_words-are (Write names values) = refl
+call_words-are (WriteSet set values) = refl
 call_words-are (NameList class scope after) = refl
+call_words-are (Define set members) = refl
+call_words-are (MembersOf set) = refl
+call_words-are (Delete sets) = refl
+call_words-are (DeleteScope scope) = refl
 call_words-are (Odd kind code) = refl
 
 -- a verb's word is that verb
@@ -65,11 +87,40 @@ verb_in-verb_text verbs.ReadEcho = refl
 verb_in-verb_text verbs.Write = refl
 verb_in-verb_text verbs.NameList = refl
 verb_in-verb_text verbs.Odd = refl
+verb_in-verb_text verbs.ReadSet = refl
+verb_in-verb_text verbs.ReadSetEcho = refl
+verb_in-verb_text verbs.WriteSet = refl
+verb_in-verb_text verbs.Define = refl
+verb_in-verb_text verbs.MembersOf = refl
+verb_in-verb_text verbs.Delete = refl
+verb_in-verb_text verbs.DeleteScope = refl
 
 is_word : (word text : List ℕ) (verb found : Verb) → text ≡ verb_text verb
     → bytes_eq word text ≡ true → Some verb ≡ Some found → word ≡ verb_text found
 is_word word text verb found e test k =
     (bytes_eq-Decides word text).0 test ∙ e ∙ ap verb_text (some_same verb found k)
+
+set_verb_in-found : (word : List ℕ) (verb : Verb) → set_verb_in word ≡ Some verb
+    → word ≡ verb_text verb
+set_verb_in-found word verb e =
+    chosen goal verb (bytes_eq word (codes "readset")) _ _
+    (λ t k. is_word word (codes "readset") verbs.ReadSet verb refl t k) (λ t k.
+    chosen goal verb (bytes_eq word (codes "readset+")) _ _
+    (λ t k. is_word word (codes "readset+") verbs.ReadSetEcho verb refl t k) (λ t k.
+    chosen goal verb (bytes_eq word (codes "writeset")) _ _
+    (λ t k. is_word word (codes "writeset") verbs.WriteSet verb refl t k) (λ t k.
+    chosen goal verb (bytes_eq word (codes "define")) _ _
+    (λ t k. is_word word (codes "define") verbs.Define verb refl t k) (λ t k.
+    chosen goal verb (bytes_eq word (codes "members")) _ _
+    (λ t k. is_word word (codes "members") verbs.MembersOf verb refl t k) (λ t k.
+    chosen goal verb (bytes_eq word (codes "delete")) _ _
+    (λ t k. is_word word (codes "delete") verbs.Delete verb refl t k) (λ t k.
+    chosen goal verb (bytes_eq word (codes "deletescope")) _ _
+    (λ t k. is_word word (codes "deletescope") verbs.DeleteScope verb refl t k) (λ t k.
+    absurd cc) k) k) k) k) k) k) e
+  where
+    goal : Type 0
+    goal = word ≡ verb_text verb
 
 pub verb_in-found : (word : List ℕ) (verb : Verb) → verb_in word ≡ Some verb
     → word ≡ verb_text verb
@@ -85,7 +136,8 @@ verb_in-found word verb e =
     chosen goal verb (bytes_eq word (codes "names")) _ _
     (λ t k. is_word word (codes "names") verbs.NameList verb refl t k) (λ t k.
     chosen goal verb (bytes_eq word (codes "odd")) _ _
-    (λ t k. is_word word (codes "odd") verbs.Odd verb refl t k) (λ t k. absurd cc) k) k) k) k) k) e
+    (λ t k. is_word word (codes "odd") verbs.Odd verb refl t k) (λ t k.
+    set_verb_in-found word verb k) k) k) k) k) k) e
   where
     goal : Type 0
     goal = word ≡ verb_text verb
@@ -102,6 +154,29 @@ pub names_are : (names : List ObjectName) → 0 < length names → All IsName na
     → OneOrMore IsNameWord (map name_text names)
 names_are [] some all = absurd (omega (arith, some))
 names_are (name ∷ names) some all = names_each (name ∷ names) all
+
+-- so is each value
+pub values_each : (values : List Datum) → All IsLawful values → All HasText values
+    → Each IsValueWord (map data_text values)
+values_each [] lawful textual = tt
+values_each (value ∷ values) lawful textual = (
+  record {
+    value = value;
+    spelled = refl;
+    lawful = All-head IsLawful value values lawful;
+    textual = All-head HasText value values textual;
+  },
+  values_each values (All-tail IsLawful value values lawful)
+      (All-tail HasText value values textual),
+)
+
+values_are : (values : List Datum) → 0 < length values → All IsLawful values → All HasText values
+    → OneOrMore IsValueWord (map data_text values)
+values_are [] some lawful textual = absurd (omega (arith, some))
+values_are (value ∷ values) some lawful textual = values_each (value ∷ values) lawful textual
+
+name_is : (name : ObjectName) → IsName name → IsNameWord (name_text name)
+name_is name named = record { name = name; spelled = refl; named = named }
 
 -- so is each name with its value
 pub assigned_each : (names : List ObjectName) (values : List Datum) → All IsName names
@@ -152,6 +227,14 @@ pub others-behind : (call : CallKind) → IsCall call → HasWords call
 others-behind Identify h k = tt
 others-behind (Read names true) h k = names_are names h k
 others-behind (Read names false) h k = names_are names h k
+others-behind (ReadSet set true) h k = (name_is set k, tt)
+others-behind (ReadSet set false) h k = (name_is set k, tt)
+others-behind (WriteSet set values) h k = (name_is set k.0, values_are values h.0 h.1 k.1)
+others-behind (Define set members) h k = (name_is set k.0, names_are members h k.1)
+others-behind (MembersOf set) h k = (name_is set k, tt)
+others-behind (Delete sets) h k = names_are sets h k
+others-behind (DeleteScope scope) h k =
+    (record { scope = scope; spelled = refl; fits = k; other = h }, tt)
 others-behind (Write names values) h k = assigned_are names values h.0 h.1 k.0 h.2 k.1
 others-behind (NameList class scope after) h k = (
   record { class = class; spelled = refl; fits = k },
@@ -244,6 +327,37 @@ read_words echo word words each =
       },
     )
 
+-- the values that words are
+record AreValues (words : List (List ℕ)) : Type 0 where
+  pub values : List Datum
+  pub spelled : words ≡ map data_text values
+  pub lawful : All IsLawful values
+  pub textual : All HasText values
+
+each-values : (words : List (List ℕ)) → Each IsValueWord words → AreValues words
+each-values [] each = record {
+  values = [];
+  spelled = refl;
+  lawful = All-nil IsLawful;
+  textual = All-nil HasText;
+}
+each-values (word ∷ words) each =
+    let w = each.0 in
+    let more = each-values words each.1 in
+    record {
+      values = w.value ∷ more.values;
+      spelled = λ i. w.spelled i ∷ more.spelled i;
+      lawful = All-cons IsLawful w.value more.values w.lawful more.lawful;
+      textual = All-cons HasText w.value more.values w.textual more.textual;
+    }
+
+read_set_words : (echo : Bool) (word : List ℕ) → IsNameWord word
+    → (call : CallKind) × SpellsCall (read_set_verb echo ∷ word ∷ []) call
+read_set_words echo word w = (
+  ReadSet w.name echo,
+  record { spelled = λ i. read_set_verb echo ∷ w.spelled i ∷ []; lawful = tt; textual = w.named },
+)
+
 -- and what may stand behind a verb makes a call
 pub behind-spells : (verb : Verb) (words : List (List ℕ)) → Behind verb words
     → AreCallWords (verb_text verb ∷ words)
@@ -253,6 +367,72 @@ behind-spells verbs.Read [] b = absurd b
 behind-spells verbs.Read (word ∷ words) b = read_words false word words b
 behind-spells verbs.ReadEcho [] b = absurd b
 behind-spells verbs.ReadEcho (word ∷ words) b = read_words true word words b
+behind-spells verbs.ReadSet [] b = absurd b
+behind-spells verbs.ReadSet (set ∷ []) b = read_set_words false set b.0
+behind-spells verbs.ReadSet (set ∷ word ∷ words) b = absurd b.1
+behind-spells verbs.ReadSetEcho [] b = absurd b
+behind-spells verbs.ReadSetEcho (set ∷ []) b = read_set_words true set b.0
+behind-spells verbs.ReadSetEcho (set ∷ word ∷ words) b = absurd b.1
+behind-spells verbs.WriteSet [] b = absurd b
+behind-spells verbs.WriteSet (set ∷ []) b = absurd b.1
+behind-spells verbs.WriteSet (set ∷ word ∷ words) b =
+    let first = b.1.0 in
+    let more = each-values words b.1.1 in (
+      WriteSet b.0.name (first.value ∷ more.values),
+      record {
+        spelled = λ i. codes "writeset" ∷ b.0.spelled i ∷ first.spelled i ∷ more.spelled i;
+        lawful = (
+          omega arith,
+          All-cons IsLawful first.value more.values first.lawful more.lawful,
+        );
+        textual = (
+          b.0.named,
+          All-cons HasText first.value more.values first.textual more.textual,
+        );
+      },
+    )
+behind-spells verbs.Define [] b = absurd b
+behind-spells verbs.Define (set ∷ []) b = absurd b.1
+behind-spells verbs.Define (set ∷ word ∷ words) b =
+    let first = b.1.0 in
+    let more = each-names words b.1.1 in (
+      Define b.0.name (first.name ∷ more.names),
+      record {
+        spelled = λ i. codes "define" ∷ b.0.spelled i ∷ first.spelled i ∷ more.spelled i;
+        lawful = omega arith;
+        textual = (
+          b.0.named,
+          All-cons IsName first.name more.names first.named more.named,
+        );
+      },
+    )
+behind-spells verbs.MembersOf [] b = absurd b
+behind-spells verbs.MembersOf (set ∷ []) b = (
+  MembersOf b.0.name,
+  record { spelled = λ i. codes "members" ∷ b.0.spelled i ∷ []; lawful = tt; textual = b.0.named },
+)
+behind-spells verbs.MembersOf (set ∷ word ∷ words) b = absurd b.1
+behind-spells verbs.Delete [] b = absurd b
+behind-spells verbs.Delete (word ∷ words) b =
+    let first = b.0 in
+    let more = each-names words b.1 in (
+      Delete (first.name ∷ more.names),
+      record {
+        spelled = λ i. codes "delete" ∷ first.spelled i ∷ more.spelled i;
+        lawful = omega arith;
+        textual = All-cons IsName first.name more.names first.named more.named;
+      },
+    )
+behind-spells verbs.DeleteScope [] b = absurd b
+behind-spells verbs.DeleteScope (scope ∷ []) b = (
+  DeleteScope b.0.scope,
+  record {
+    spelled = λ i. codes "deletescope" ∷ b.0.spelled i ∷ [];
+    lawful = b.0.other;
+    textual = b.0.fits;
+  },
+)
+behind-spells verbs.DeleteScope (scope ∷ word ∷ words) b = absurd b.1
 behind-spells verbs.Write [] b = absurd b
 behind-spells verbs.Write (word ∷ words) b =
     let all = each-assigned (word ∷ words) b in (

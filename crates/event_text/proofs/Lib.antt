@@ -6,6 +6,7 @@ pub mod Behind
 pub mod Assigning
 pub mod OneCall
 pub mod Wrong
+pub mod SetWords
 pub mod SoFar
 pub mod Places
 pub mod Graphic

@@ -8,16 +8,18 @@ use Rattle.std.specs.Str.{bytes_eq}
 use Rattle.std.proofs.lemmas.List.Elements.{All-head, All-tail}
 use Rattle.mms_data.specs.Datum.{Datum}
 use Rattle.mms_data.specs.ObjectName.{ObjectName, IsName, IsIdentifier}
-use Rattle.mms_text.specs.Texts.{name_text}
+use Rattle.mms_text.specs.Texts.{name_text, data_text}
 use Rattle.mms_text.specs.TextRead.{HasText}
 use Rattle.tase_views.specs.declared.call.CallKind.{CallKind}
-use Rattle.tase_views.specs.declared.call.CallKind.TheVariants.{Identify, Read, Write, NameList}
-use Rattle.tase_views.specs.declared.call.CallKind.TheVariants.{Odd}
+use Rattle.tase_views.specs.declared.call.CallKind.TheVariants.{Identify, Read, ReadSet, Write}
+use Rattle.tase_views.specs.declared.call.CallKind.TheVariants.{WriteSet, NameList, Define}
+use Rattle.tase_views.specs.declared.call.CallKind.TheVariants.{MembersOf, Delete, DeleteScope, Odd}
 use Rattle.tase_views.specs.Calls.{IsCall}
 use Rattle.event_text.specs.CallWords.{assigned_words, after_words}
 use Rattle.event_text.specs.CallWords.{HasWords, SpellsCall}
 use Rattle.event_text.proofs.WordsRead.{same_name, same_assignment, same_class, same_scope}
 use Rattle.event_text.proofs.WordsRead.{same_after}
+use Rattle.mms_text.proofs.TextBreaks.{one_datum}
 use Rattle.event_text.proofs.Behind.{verb_of, others_of, call_words-are, spells-verb}
 use Rattle.event_text.proofs.Behind.{one-is, five-is}
 use Rattle.event_text.specs.declared.reading.verbs.Verb.{Verb}
@@ -35,6 +37,18 @@ same_names (x ∷ a) [] h k e = absurd cc
 same_names (x ∷ a) (y ∷ b) h k e =
     let first = same_name x y (All-head IsName x a h) (All-head IsName y b k) (ap first_word e) in
     let others = same_names a b (All-tail IsName x a h) (All-tail IsName y b k) (ap (drop 1) e) in
+    λ i. first i ∷ others i
+
+same_data : (a b : List Datum) → All HasText a → All HasText b → map data_text a ≡ map data_text b
+    → a ≡ b
+same_data [] [] h k e = refl
+same_data [] (y ∷ b) h k e = absurd cc
+same_data (x ∷ a) [] h k e = absurd cc
+same_data (x ∷ a) (y ∷ b) h k e =
+    let t = All-head HasText x a h in
+    let u = All-head HasText y b k in
+    let first = one_datum x y t.parts u.parts (ap first_word e) in
+    let others = same_data a b (All-tail HasText x a h) (All-tail HasText y b k) (ap (drop 1) e) in
     λ i. first i ∷ others i
 
 same_assigned : (a b : List ObjectName) (x y : List Datum) → length x ≡ length a
@@ -81,6 +95,12 @@ kind_number (Read names echo) = 1
 kind_number (Write names values) = 2
 kind_number (NameList class scope after) = 3
 kind_number (Odd kind code) = 4
+kind_number (ReadSet set echo) = 5
+kind_number (WriteSet set values) = 6
+kind_number (Define set members) = 7
+kind_number (MembersOf set) = 8
+kind_number (Delete sets) = 9
+kind_number (DeleteScope scope) = 10
 
 abbrev verb_number : Verb → ℕ
 verb_number verbs.Identify = 0
@@ -89,6 +109,13 @@ verb_number verbs.ReadEcho = 1
 verb_number verbs.Write = 2
 verb_number verbs.NameList = 3
 verb_number verbs.Odd = 4
+verb_number verbs.ReadSet = 5
+verb_number verbs.ReadSetEcho = 5
+verb_number verbs.WriteSet = 6
+verb_number verbs.Define = 7
+verb_number verbs.MembersOf = 8
+verb_number verbs.Delete = 9
+verb_number verbs.DeleteScope = 10
 
 number-is : (call : CallKind) → verb_number (verb_of call) ≡ kind_number call
 number-is Identify = refl
@@ -97,6 +124,13 @@ number-is (Read names false) = refl
 number-is (Write names values) = refl
 number-is (NameList class scope after) = refl
 number-is (Odd kind code) = refl
+number-is (ReadSet set true) = refl
+number-is (ReadSet set false) = refl
+number-is (WriteSet set values) = refl
+number-is (Define set members) = refl
+number-is (MembersOf set) = refl
+number-is (Delete sets) = refl
+number-is (DeleteScope scope) = refl
 
 same_others : (a b : CallKind) → kind_number a ≡ kind_number b → verb_of a ≡ verb_of b
     → others_of a ≡ others_of b → IsCall a
@@ -119,6 +153,25 @@ same_others (Odd c x) (Odd d y) r v e h t k u =
     let kind = same_kinds c d h.0 k.0 (ap first_word e) in
     let code : x ≡ y = h.1 ∙ sym k.1 in
     λ i. Odd (kind i) (code i)
+same_others (ReadSet x true) (ReadSet y true) r v e h t k u =
+    ap (λ n. ReadSet n true) (same_name x y t u (ap first_word e))
+same_others (ReadSet x false) (ReadSet y false) r v e h t k u =
+    ap (λ n. ReadSet n false) (same_name x y t u (ap first_word e))
+same_others (ReadSet x true) (ReadSet y false) r v e h t k u = absurd cc
+same_others (ReadSet x false) (ReadSet y true) r v e h t k u = absurd cc
+same_others (WriteSet a x) (WriteSet b y) r v e h t k u =
+    let set = same_name a b t.0 u.0 (ap first_word e) in
+    let values = same_data x y t.1 u.1 (ap (drop 1) e) in
+    λ i. WriteSet (set i) (values i)
+same_others (Define a x) (Define b y) r v e h t k u =
+    let set = same_name a b t.0 u.0 (ap first_word e) in
+    let members = same_names x y t.1 u.1 (ap (drop 1) e) in
+    λ i. Define (set i) (members i)
+same_others (MembersOf a) (MembersOf b) r v e h t k u =
+    ap MembersOf (same_name a b t u (ap first_word e))
+same_others (Delete x) (Delete y) r v e h t k u = ap Delete (same_names x y t u e)
+same_others (DeleteScope a) (DeleteScope b) r v e h t k u =
+    ap DeleteScope (same_class a b t u (ap first_word e))
 same_others a b r v e h t k u = absurd cc
 
 -- words spell one call at most

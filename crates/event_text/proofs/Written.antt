@@ -13,17 +13,20 @@ use Rattle.std.proofs.lemmas.List.Elements.{All-head, All-tail}
 use Rattle.std.proofs.lemmas.Fmt.{decimal_is_IsNumeral}
 use Rattle.plain_text.specs.Escaped.{is_plain, escaped_octet, escaped_text}
 use Rattle.plain_text.specs.Words.{words}
-use Rattle.mms_data.specs.Datum.{Datum}
+use Rattle.mms_data.specs.Datum.{Datum, boolean, integer, unsigned, bits, real, octets, text}
+use Rattle.mms_data.specs.Datum.{structure, array}
 use Rattle.mms_data.specs.declared.object_name.Scope.{Scope}
 use Rattle.mms_data.specs.declared.object_name.Scope.TheVariants.{Vmd, Domain, Association}
 use Rattle.mms_data.specs.ObjectName.{ObjectName, IsName, IsScope, IsIdentifier}
 use Rattle.mms_text.specs.Texts.{data_text, name_text, scope_text}
 use Rattle.mms_text.specs.TextRead.{HasText}
 use Rattle.tase_views.specs.declared.call.CallKind.{CallKind}
-use Rattle.tase_views.specs.declared.call.CallKind.TheVariants.{Identify, Read, Write, NameList}
-use Rattle.tase_views.specs.declared.call.CallKind.TheVariants.{Odd}
+use Rattle.tase_views.specs.declared.call.CallKind.TheVariants.{Identify, Read, ReadSet, Write}
+use Rattle.tase_views.specs.declared.call.CallKind.TheVariants.{WriteSet, NameList, Define}
+use Rattle.tase_views.specs.declared.call.CallKind.TheVariants.{MembersOf, Delete, DeleteScope, Odd}
 use Rattle.tase_views.specs.Calls.{IsCall}
-use Rattle.tase_views.specs.EventTexts.{call_text, next_name, assigned_text, after_text}
+use Rattle.tase_views.specs.EventTexts.{call_text, next_name, next_value, assigned_text}
+use Rattle.tase_views.specs.EventTexts.{after_text}
 use Rattle.event_text.specs.CallWords.{assigned_words, after_words}
 use Rattle.event_text.specs.CallWords.{HasWords}
 use Rattle.event_text.specs.CallTexts.{IsCallText}
@@ -40,6 +43,18 @@ names-after : (names : List ObjectName)
     → flat_map next_name names ≡ after_spaces (map name_text names)
 names-after [] = refl
 names-after (name ∷ names) = ap (λ t. next_name name ++ t) (names-after names)
+
+values-after : (values : List Datum)
+    → flat_map next_value values ≡ after_spaces (map data_text values)
+values-after [] = refl
+values-after (value ∷ values) = ap (λ t. next_value value ++ t) (values-after values)
+
+name-after : (name : ObjectName) → next_name name ≡ after_spaces (name_text name ∷ [])
+name-after name = sym (append-nil (32 ∷ name_text name))
+
+name-first : (name : ObjectName) (rest : List ℕ) (words : List (List ℕ))
+    → rest ≡ after_spaces words → next_name name ++ rest ≡ after_spaces (name_text name ∷ words)
+name-first name rest words e = ap (λ t. next_name name ++ t) e
 
 assigned-after : (names : List ObjectName) (values : List Datum)
     → assigned_text names values ≡ after_spaces (assigned_words names values)
@@ -59,6 +74,16 @@ call_text-is Identify = refl
 call_text-is (Read names true) = ap (λ t. codes "read+" ++ t) (names-after names)
 call_text-is (Read names false) = ap (λ t. codes "read" ++ t) (names-after names)
 call_text-is (Write names values) = ap (λ t. codes "write" ++ t) (assigned-after names values)
+call_text-is (ReadSet set true) = ap (λ t. codes "readset+" ++ t) (name-after set)
+call_text-is (ReadSet set false) = ap (λ t. codes "readset" ++ t) (name-after set)
+call_text-is (WriteSet set values) =
+    ap (λ t. codes "writeset" ++ t) (name-first set (flat_map next_value values) (map data_text values) (values-after values))
+call_text-is (Define set members) =
+    ap (λ t. codes "define" ++ t) (name-first set (flat_map next_name members) (map name_text members) (names-after members))
+call_text-is (MembersOf set) = ap (λ t. codes "members" ++ t) (name-after set)
+call_text-is (Delete sets) = ap (λ t. codes "delete" ++ t) (names-after sets)
+call_text-is (DeleteScope scope) =
+    ap (λ t. codes "deletescope " ++ t) (sym (append-nil (signed_decimal scope)))
 call_text-is (NameList class scope after) =
     ap (λ t. codes "names " ++ signed_decimal class ++ 32 ∷ scope_text scope ++ t)
     (afters-after after)
@@ -128,6 +153,28 @@ assigned_printed (name ∷ names) (value ∷ values) all textual =
           (All-tail HasText value values textual),
     )
 
+data_some : (d : Datum) → 0 < length (data_text d)
+data_some (boolean true) = omega arith
+data_some (boolean false) = omega arith
+data_some (integer z) = omega arith
+data_some (unsigned n) = omega arith
+data_some (bits b) = omega arith
+data_some (real o) = omega arith
+data_some (octets o) = omega arith
+data_some (text o) = omega arith
+data_some (structure ds) = omega arith
+data_some (array ds) = omega arith
+
+data_printed : (d : Datum) → HasText d → IsPrinted (data_text d)
+data_printed d h = record { some = data_some d; graphic = data_graphic d h }
+
+values_printed : (values : List Datum) → All HasText values → ArePrinted (map data_text values)
+values_printed [] textual = tt
+values_printed (value ∷ values) textual = (
+  data_printed value (All-head HasText value values textual),
+  values_printed values (All-tail HasText value values textual),
+)
+
 after_printed : (after : Option (List ℕ)) → IfSome after IsIdentifier
     → ArePrinted (after_words after)
 after_printed None h = tt
@@ -141,6 +188,12 @@ odd_small kind (inr e) = omega (arith, e)
 others_printed : (call : CallKind) → IsCall call → HasWords call → ArePrinted (others_of call)
 others_printed Identify h k = tt
 others_printed (Read names echo) h k = names_printed names k
+others_printed (ReadSet set echo) h k = (name_printed set k, tt)
+others_printed (WriteSet set values) h k = (name_printed set k.0, values_printed values k.1)
+others_printed (Define set members) h k = (name_printed set k.0, names_printed members k.1)
+others_printed (MembersOf set) h k = (name_printed set k, tt)
+others_printed (Delete sets) h k = names_printed sets k
+others_printed (DeleteScope scope) h k = (signed_printed scope k, tt)
 others_printed (Write names values) h k = assigned_printed names values k.0 k.1
 others_printed (NameList class scope after) h k = (
   signed_printed class k,
@@ -158,6 +211,13 @@ verb_printed verbs.Read = record { some = omega arith; graphic = refl }
 verb_printed verbs.ReadEcho = record { some = omega arith; graphic = refl }
 verb_printed verbs.Write = record { some = omega arith; graphic = refl }
 verb_printed verbs.NameList = record { some = omega arith; graphic = refl }
+verb_printed verbs.ReadSet = record { some = omega arith; graphic = refl }
+verb_printed verbs.ReadSetEcho = record { some = omega arith; graphic = refl }
+verb_printed verbs.WriteSet = record { some = omega arith; graphic = refl }
+verb_printed verbs.Define = record { some = omega arith; graphic = refl }
+verb_printed verbs.MembersOf = record { some = omega arith; graphic = refl }
+verb_printed verbs.Delete = record { some = omega arith; graphic = refl }
+verb_printed verbs.DeleteScope = record { some = omega arith; graphic = refl }
 verb_printed verbs.Odd = record { some = omega arith; graphic = refl }
 
 pub written-is_read : (call : CallKind) → IsCall call → HasWords call

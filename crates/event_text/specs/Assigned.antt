@@ -27,6 +27,12 @@ pub record IsAssignment (word : List ℕ) (name : ObjectName) (value : Datum) : 
   pub lawful : IsLawful value
   pub textual : HasText value
 
+-- a word is this value
+pub record IsValue (word : List ℕ) (value : Datum) : Type 0 where
+  pub spelled : word ≡ data_text value
+  pub lawful : IsLawful value
+  pub textual : HasText value
+
 -- words are these names with these values
 pub record AreAssignments (words : List (List ℕ)) (names : List ObjectName)
     (values : List Datum) : Type 0 where

@@ -6,8 +6,9 @@ use Rattle.mms_data.specs.declared.outcome.Outcome.{Outcome}
 use Rattle.mms_text.specs.Texts.{outcome_text}
 use Rattle.tase_views.specs.declared.reply.ReplyKind.{ReplyKind}
 use Rattle.tase_views.specs.declared.reply.ReplyKind.TheVariants.{Identified, Results, Written}
-use Rattle.tase_views.specs.declared.reply.ReplyKind.TheVariants.{NamesAre, Error, Reject}
-use Rattle.tase_views.specs.EventTexts.{read_verb}
+use Rattle.tase_views.specs.declared.reply.ReplyKind.TheVariants.{NamesAre, Defined, MembersAre}
+use Rattle.tase_views.specs.declared.reply.ReplyKind.TheVariants.{Deleted, Error, Reject}
+use Rattle.tase_views.specs.EventTexts.{read_verb, next_name}
 
 -- an outcome of a read, after a space
 abbrev pub result_text : Outcome → List ℕ
@@ -28,12 +29,17 @@ more_text more = if more then codes "more" else codes "end"
 
 -- `identify`, `read OUTCOME ..`, or `read+ OUTCOME ..` where the reply repeats what the read named,
 -- `write` with `ok` or `!N` for each variable, `names end ITEM ..`, `names more ITEM ..`,
--- `error CLASS CODE` or `reject KIND CODE`
+-- `defined`, `members NAME ..`, `deleted MATCHED DELETED`, `error CLASS CODE` or
+-- `reject KIND CODE`
 abbrev pub reply_text : ReplyKind → List ℕ
 reply_text Identified = codes "identify"
 reply_text (Results spec results) = read_verb (is_some spec) ++ flat_map result_text results
 reply_text (Written results) = codes "write" ++ flat_map written_text results
 reply_text (NamesAre names more) =
     codes "names " ++ more_text more ++ flat_map item_text names
+reply_text Defined = codes "defined"
+reply_text (MembersAre names) = codes "members" ++ flat_map next_name names
+reply_text (Deleted matched deleted) =
+    codes "deleted " ++ decimal matched ++ 32 ∷ decimal deleted
 reply_text (Error class code) = codes "error " ++ decimal class ++ 32 ∷ decimal code
 reply_text (Reject kind code) = codes "reject " ++ decimal kind ++ 32 ∷ decimal code

@@ -1,6 +1,7 @@
 -- The first word of a call, and the words that may stand behind it.
-use Rattle.std.specs.Prelude.{◌≡◌, ℕ, ◌⊎◌, ◌==◌, ◌+◌, ◌-◌, if◌then◌else◌, List, [], ◌∷◌, length}
-use Rattle.std.specs.Prelude.{slice_index}
+use Rattle.std.specs.Prelude.{◌≡◌, ◌≢◌, ℕ, ◌⊎◌, ◌==◌, ◌+◌, ◌-◌, if◌then◌else◌, List, [], ◌∷◌, length}
+use Rattle.std.specs.Prelude.{slice_index, not, option_and_then}
+use Rattle.std.specs.Ordering.{int_eq}
 use Rattle.std.specs.Prelude.{Option, Some, None, option_map, IfSome, codes, bytes_eq, ℤ, pos}
 use Rattle.std.specs.Prelude.{negsuc, ◌^◌}
 use Rattle.std.proofs.Common.{take}
@@ -8,14 +9,14 @@ use Rattle.std.specs.Fmt.{signed_decimal}
 use Rattle.std.specs.Int.{w64}
 use Rattle.std.specs.Int.RustNames.{FitsSigned}
 use Rattle.plain_text.specs.Escaped.{escaped_text}
-use Rattle.plain_text.specs.Numbers.{integer_within}
+use Rattle.plain_text.specs.Numbers.{integer_within, if_passes}
 use Rattle.mms_data.specs.Datum.{Datum}
 use Rattle.mms_data.specs.Lawful.{IsLawful}
 use Rattle.mms_data.specs.ObjectName.{ObjectName, IsName, IsScope, IsIdentifier}
 use Rattle.mms_data.specs.declared.object_name.Scope.{Scope}
 use Rattle.mms_data.specs.declared.object_name.Scope.TheVariants as scopes
 use Rattle.mms_text.specs.NameIn.{identifier_in}
-use Rattle.mms_text.specs.Texts.{name_text, scope_text}
+use Rattle.mms_text.specs.Texts.{name_text, scope_text, data_text}
 use Rattle.mms_text.specs.TextRead.{HasText}
 use Rattle.event_text.specs.CallWords.{assigned_word, after_words}
 use Rattle.event_text.specs.declared.reading.verbs.Verb.{Verb}
@@ -38,9 +39,27 @@ abbrev pub verb_text : Verb → List ℕ
 verb_text verbs.Identify = codes "identify"
 verb_text verbs.Read = codes "read"
 verb_text verbs.ReadEcho = codes "read+"
+verb_text verbs.ReadSet = codes "readset"
+verb_text verbs.ReadSetEcho = codes "readset+"
 verb_text verbs.Write = codes "write"
+verb_text verbs.WriteSet = codes "writeset"
 verb_text verbs.NameList = codes "names"
+verb_text verbs.Define = codes "define"
+verb_text verbs.MembersOf = codes "members"
+verb_text verbs.Delete = codes "delete"
+verb_text verbs.DeleteScope = codes "deletescope"
 verb_text verbs.Odd = codes "odd"
+
+-- the verb of data sets that a word is
+abbrev pub set_verb_in : List ℕ → Option Verb
+set_verb_in word =
+    if bytes_eq word (codes "readset") then Some verbs.ReadSet
+    else (if bytes_eq word (codes "readset+") then Some verbs.ReadSetEcho
+    else (if bytes_eq word (codes "writeset") then Some verbs.WriteSet
+    else (if bytes_eq word (codes "define") then Some verbs.Define
+    else (if bytes_eq word (codes "members") then Some verbs.MembersOf
+    else (if bytes_eq word (codes "delete") then Some verbs.Delete
+    else (if bytes_eq word (codes "deletescope") then Some verbs.DeleteScope else None))))))
 
 -- the verb that a word is
 abbrev pub verb_in : List ℕ → Option Verb
@@ -50,7 +69,8 @@ verb_in word =
     else (if bytes_eq word (codes "read+") then Some verbs.ReadEcho
     else (if bytes_eq word (codes "write") then Some verbs.Write
     else (if bytes_eq word (codes "names") then Some verbs.NameList
-    else (if bytes_eq word (codes "odd") then Some verbs.Odd else None)))))
+    else (if bytes_eq word (codes "odd") then Some verbs.Odd
+    else set_verb_in word)))))
 
 -- a word is a name
 pub record IsNameWord (word : List ℕ) : Type 0 where
@@ -66,6 +86,20 @@ pub record IsAssignedWord (word : List ℕ) : Type 0 where
   pub named : IsName name
   pub lawful : IsLawful value
   pub textual : HasText value
+
+-- a word is a value
+pub record IsValueWord (word : List ℕ) : Type 0 where
+  pub value : Datum
+  pub spelled : word ≡ data_text value
+  pub lawful : IsLawful value
+  pub textual : HasText value
+
+-- a word is a scope of deletion, which isn't 0
+pub record IsDeletionWord (word : List ℕ) : Type 0 where
+  pub scope : ℤ
+  pub spelled : word ≡ signed_decimal scope
+  pub fits : FitsSigned w64 scope
+  pub other : scope ≢ pos 0
 
 -- a word is a class
 pub record IsClassWord (word : List ℕ) : Type 0 where
@@ -122,13 +156,24 @@ abbrev pub Behind : Verb → List (List ℕ) → Type 0
 Behind verbs.Identify words = NoWord words
 Behind verbs.Read words = OneOrMore IsNameWord words
 Behind verbs.ReadEcho words = OneOrMore IsNameWord words
+Behind verbs.ReadSet words = Then IsNameWord NoWord words
+Behind verbs.ReadSetEcho words = Then IsNameWord NoWord words
 Behind verbs.Write words = OneOrMore IsAssignedWord words
+Behind verbs.WriteSet words = Then IsNameWord (OneOrMore IsValueWord) words
 Behind verbs.NameList words = Then IsClassWord (Then IsScopeWord (AtMostOne IsAfterWord)) words
+Behind verbs.Define words = Then IsNameWord (OneOrMore IsNameWord) words
+Behind verbs.MembersOf words = Then IsNameWord NoWord words
+Behind verbs.Delete words = OneOrMore IsNameWord words
+Behind verbs.DeleteScope words = Then IsDeletionWord NoWord words
 Behind verbs.Odd words = Then IsOddKind (Then IsOddCode NoWord) words
 
 -- the class that a word is
 abbrev pub class_in : List ℕ → Option ℤ
 class_in word = integer_within (negsuc (2 ^ 63 - 1)) (pos (2 ^ 63 - 1)) word
+
+-- the scope of deletion that a word is
+abbrev pub deletion_in : List ℕ → Option ℤ
+deletion_in word = option_and_then (if_passes (λ scope. not (int_eq scope (pos 0)))) (class_in word)
 
 -- the scope that a word without a slash at its end is
 abbrev pub bare_scope_in : List ℕ → Option Scope

@@ -2,17 +2,18 @@
 ghost use Rattle.std.specs.Prelude.{◌≡◌, ◌↔◌, ◌∷◌, ◌≤◌, ℕ, length, Ok, Err, codes, IfOk, IfErr};
 ghost use Rattle.plain_text.specs.Words.{words};
 ghost use Rattle.tase_views.specs.declared.call.CallKind.{CallKind as AnyCall};
-ghost use Rattle.tase_views.specs.EventTexts.{read_verb};
+ghost use Rattle.tase_views.specs.EventTexts.{read_verb, read_set_verb};
 ghost use Rattle.event_text.specs.CallWords.{SpellsCall, AreCallWords};
 ghost use Rattle.event_text.specs.Breaks.{Breaks};
 ghost use Rattle.event_text.specs.CallTexts.{IsCallText, CallBreaksAt};
-ghost use Rattle.event_text.specs.Verbs.{Halts, Behind, NoWord, OneOrMore, IsNameWord};
+ghost use Rattle.event_text.specs.Verbs.{Halts, Behind, NoWord, Then, OneOrMore, IsNameWord};
 ghost use Rattle.event_text.specs.Verbs.{IsAssignedWord, verb_text};
 
 mod halt;
 mod lists;
 mod names;
 mod places;
+mod sets;
 mod verbs;
 
 use halt::Halt;
@@ -20,6 +21,7 @@ use lists::{one_more, read_name_list, read_odd};
 use names::{read_assignments, read_names};
 use places::{blank_place, word_place};
 use plain_text::{is_spaced, next_word};
+use sets::{read_define, read_delete_scope, read_sole_name, read_write_set};
 use std::alloc::{AllocError, Global};
 use tase_views::{Call, CallKind};
 use verbs::{Verb, find_verb};
@@ -92,8 +94,15 @@ fn behind_verb(alloc: Global, verb: Verb, text: &[u8]) -> Result<Call, Halt>
         Verb::Identify => read_identify(text),
         Verb::Read => read_read(alloc, text, false),
         Verb::ReadEcho => read_read(alloc, text, true),
+        Verb::ReadSet => read_read_set(alloc, text, false),
+        Verb::ReadSetEcho => read_read_set(alloc, text, true),
         Verb::Write => read_write(alloc, text),
+        Verb::WriteSet => read_write_set(alloc, text),
         Verb::NameList => read_name_list(alloc, text),
+        Verb::Define => read_define(alloc, text),
+        Verb::MembersOf => read_members_of(alloc, text),
+        Verb::Delete => read_delete(alloc, text),
+        Verb::DeleteScope => read_delete_scope(text),
         Verb::Odd => read_odd(text),
     }
 }
@@ -134,4 +143,37 @@ fn read_write(alloc: Global, text: &[u8]) -> Result<Call, Halt>
         names: read.names,
         values: read.values,
     }))
+}
+
+/// `NAME` behind `readset` or `readset+`.
+fn read_read_set(alloc: Global, text: &[u8], echo: bool) -> Result<Call, Halt>
+    ensures found { IfOk result (λ call. SpellsCall (read_set_verb echo ∷ words text.now) call) }
+    ensures fault { IfErr result (λ halt. Halts halt
+        (λ count. Breaks (Then IsNameWord NoWord) (words text.now) count)) }
+    ensures within { IfErr result (λ halt. Halts halt (λ count. count ≤ length text.now)) }
+{
+    let set = read_sole_name(alloc, text)?;
+    Ok(Call::new(CallKind::ReadSet { set, echo }))
+}
+
+/// `NAME` behind `members`.
+fn read_members_of(alloc: Global, text: &[u8]) -> Result<Call, Halt>
+    ensures found { IfOk result (λ call. SpellsCall (codes "members" ∷ words text.now) call) }
+    ensures fault { IfErr result (λ halt. Halts halt
+        (λ count. Breaks (Then IsNameWord NoWord) (words text.now) count)) }
+    ensures within { IfErr result (λ halt. Halts halt (λ count. count ≤ length text.now)) }
+{
+    let set = read_sole_name(alloc, text)?;
+    Ok(Call::new(CallKind::MembersOf { set }))
+}
+
+/// `NAME ..` behind `delete`.
+fn read_delete(alloc: Global, text: &[u8]) -> Result<Call, Halt>
+    ensures found { IfOk result (λ call. SpellsCall (codes "delete" ∷ words text.now) call) }
+    ensures fault { IfErr result (λ halt. Halts halt
+        (λ count. Breaks (OneOrMore IsNameWord) (words text.now) count)) }
+    ensures within { IfErr result (λ halt. Halts halt (λ count. count ≤ length text.now)) }
+{
+    let sets = read_names(alloc, text)?;
+    Ok(Call::new(CallKind::Delete { sets }))
 }

@@ -13,9 +13,10 @@ use replies::put_reply;
 use std::alloc::AllocError;
 use tase_views::{Call, Event, Reply};
 
-/// Appends the text of a call: `identify`, `read NAME ..`, `read+ NAME ..`, `write NAME=DATA ..`,
-/// `names CLASS SCOPE`, `names CLASS SCOPE AFTER` or `odd KIND CODE`. After want of memory `out` is
-/// as before.
+/// Appends the text of a call: `identify`, `read NAME ..`, `read+ NAME ..`, `readset NAME`,
+/// `readset+ NAME`, `write NAME=DATA ..`, `writeset NAME DATA ..`, `names CLASS SCOPE`,
+/// `names CLASS SCOPE AFTER`, `define NAME MEMBER ..`, `members NAME`, `delete NAME ..`,
+/// `deletescope SCOPE` or `odd KIND CODE`. After want of memory `out` is as before.
 pub fn spell_call(out: &mut Vec<u8>, call: &Call) -> Result<(), AllocError>
     ensures ok { OnOk result (out.new.items ≡ out.old.items ++ call_text call.now) }
     ensures err { OnErr result (out.new.items ≡ out.old.items) }

@@ -5,7 +5,7 @@ ghost use Rattle.tase_views.specs.EventTexts.{read_verb};
 ghost use Rattle.event_text.specs.ReplyTexts.{reply_text, result_text, written_text, item_text};
 ghost use Rattle.event_text.specs.ReplyTexts.{more_text};
 
-use crate::writing::calls::{put_pair, put_read_verb};
+use crate::writing::calls::{put_names, put_pair, put_read_verb};
 use ber_values::Visible;
 use mms_data::Outcome;
 use mms_text::spell_outcome;
@@ -30,13 +30,22 @@ pub(crate) fn put_reply(out: &mut Vec<u8>, reply: &Reply) -> Result<(), AllocErr
             put_written(out, results.as_slice())
         }
         ReplyKind::NamesAre { names, more } => put_name_list(out, names.as_slice(), *more),
+        ReplyKind::Defined => out.extend_from_slice(b"defined"),
+        ReplyKind::MembersAre(names) => {
+            out.extend_from_slice(b"members")?;
+            put_names(out, names.as_slice())
+        }
+        ReplyKind::Deleted { matched, deleted } => {
+            out.extend_from_slice(b"deleted ")?;
+            put_pair(out, *matched, *deleted)
+        }
         ReplyKind::Error { class, code } => {
             out.extend_from_slice(b"error ")?;
-            put_pair(out, *class, *code)
+            put_pair(out, u32::from(*class), u32::from(*code))
         }
         ReplyKind::Reject { kind, code } => {
             out.extend_from_slice(b"reject ")?;
-            put_pair(out, *kind, *code)
+            put_pair(out, u32::from(*kind), u32::from(*code))
         }
     }
 }
