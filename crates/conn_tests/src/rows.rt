@@ -175,6 +175,83 @@ const ABORT: &str = "0300001e02f080 1915 11010b c110 a00e 610c300a020101a005 640
 /// A disconnect request of the transport.
 const DISCONNECT: &str = "0300000b06800001000100";
 
+/// DOMA/S with the members DOMA/BUS1 and vmd:Transfer_Set_Name is defined.
+const DEFINE: &str = "0300005102f08001000100 61443042020103a03d a03b 020101 ab36 a109 1a04444f4d41 \
+    1a0153 a029 3010 a00e a10c 1a04444f4d41 1a0442555331 3015 a013 8011 5472616e73666572 \
+    5f5365745f4e616d65";
+
+const DEFINED: &str = "0300001b02f08001000100 610e300c020103a007 a105 020101 8b00";
+
+/// It is read.
+const READ_SET: &str = "0300002a02f08001000100 611d301b020103a016 a014 020102 a40f a10d a10b a109 \
+    1a04444f4d41 1a0153";
+
+/// Object-access-unsupported.
+const UNREADABLE: &str = "0300002002f08001000100 61133011020103a00c a10a 020102 a405 a103 800109";
+
+/// It is read, and to be named.
+const READ_NAMED: &str = "0300002d02f08001000100 6120301e020103a019 a017 020103 a412 8001ff a10d \
+    a10b a109 1a04444f4d41 1a0153";
+
+const NAMED: &str = "0300002f02f08001000100 61223020020103a01b a119 020103 a414 a00d a10b a109 \
+    1a04444f4d41 1a0153 a103 800109";
+
+const MEMBERS: &str = "0300002602f08001000100 61193017020103a012 a010 020104 ac0b a109 \
+    1a04444f4d41 1a0153";
+
+const MEMBERS_ARE: &str = "0300002f02f08001000100 61223020020103a01b a119 020104 ac14 8001ff a10f \
+    300d a00b a109 1a04444f4d41 1a0153";
+
+/// Two values.
+const WRITE_SET: &str = "0300003002f08001000100 61233021020103a01c a01a 020105 a515 a10b a109 \
+    1a04444f4d41 1a0153 a006 850101 850101";
+
+/// Access, object-access-denied.
+const WRITE_DENIED: &str = "0300002002f08001000100 61133011020103a00c a20a 800105 a205 a003 870103";
+
+const DELETE_SCOPE: &str = "0300001e02f08001000100 6111300f020103a00a a008 020106 ad03 800102";
+
+const SCOPE_DENIED: &str = "0300002002f08001000100 61133011020103a00c a20a 800106 a205 a003 870103";
+
+/// DOMA/S is deleted, twice.
+const DELETE: &str = "0300003302f08001000100 61263024020103a01f a01d 020107 ad18 a116 a109 \
+    1a04444f4d41 1a0153 a109 1a04444f4d41 1a0153";
+
+const DELETED: &str = "0300002102f08001000100 61143012020103a00d a10b 020107 ad06 800102 810101";
+
+/// A definition without members.
+const BROKEN_DEFINE: &str = "0300002802f08001000100 611b3019020103a014 a012 020101 ab0d a109 \
+    1a04444f4d41 1a0153 a000";
+
+/// Each of these requests breaks the form of its service: pdu-error, invalid-pdu.
+const INVALID_DEFINE: &str = "0300001c02f08001000100 610f300d020103a008 a406 800101 850101";
+
+/// A read of a data set without a name.
+const BROKEN_READ: &str = "0300001f02f08001000100 61123010020103a00b a009 020102 a404 a102 a100";
+
+const INVALID_READ: &str = "0300001c02f08001000100 610f300d020103a008 a406 800102 850101";
+
+/// The members of a data set whose name is empty.
+const BROKEN_MEMBERS: &str = "0300001d02f08001000100 6110300e020103a009 a007 020103 ac02 8000";
+
+const INVALID_MEMBERS: &str = "0300001c02f08001000100 610f300d020103a008 a406 800103 850101";
+
+/// No value for a data set.
+const BROKEN_WRITE: &str = "0300002a02f08001000100 611d301b020103a016 a014 020104 a50f a10b a109 \
+    1a04444f4d41 1a0153 a000";
+
+const INVALID_WRITE: &str = "0300001c02f08001000100 610f300d020103a008 a406 800104 850101";
+
+/// A deletion of no name.
+const BROKEN_DELETE: &str = "0300001d02f08001000100 6110300e020103a009 a007 020105 ad02 a100";
+
+const INVALID_DELETE: &str = "0300001c02f08001000100 610f300d020103a008 a406 800105 850101";
+
+/// A deletion of those that are named, and no names.
+const BROKEN_SCOPE: &str = "0300001e02f08001000100 6111300f020103a00a a008 020106 ad03 800100";
+
+const INVALID_SCOPE: &str = "0300001c02f08001000100 610f300d020103a008 a406 800106 850101";
+
 /// Streams to whose end the connection goes on.
 pub(crate) fn rows() -> [Row; 17] {
     [
@@ -303,6 +380,68 @@ pub(crate) fn rows() -> [Row; 17] {
             "OTC",
             &[CONFIRM, ACCEPT, CONCLUDED],
             "PeerEnd",
+        ),
+    ]
+}
+
+/// Requests on data sets, and such as break their forms.
+pub(crate) fn set_rows() -> [Row; 2] {
+    [
+        plain(
+            "data sets",
+            &[
+                REQUEST,
+                CONNECT,
+                DEFINE,
+                READ_SET,
+                READ_NAMED,
+                MEMBERS,
+                WRITE_SET,
+                DELETE_SCOPE,
+                DELETE,
+            ],
+            false,
+            "OTRTRTRTRTRTRTRT",
+            &[
+                CONFIRM,
+                ACCEPT,
+                DEFINED,
+                UNREADABLE,
+                NAMED,
+                MEMBERS_ARE,
+                WRITE_DENIED,
+                SCOPE_DENIED,
+                DELETED,
+            ],
+            "none",
+        ),
+        plain(
+            "broken requests on data sets",
+            &[
+                REQUEST,
+                CONNECT,
+                BROKEN_DEFINE,
+                BROKEN_READ,
+                BROKEN_MEMBERS,
+                BROKEN_WRITE,
+                BROKEN_DELETE,
+                BROKEN_SCOPE,
+                IDENTIFY,
+            ],
+            false,
+            "OTRTRTRTRTRTRTRT",
+            &[
+                CONFIRM,
+                ACCEPT,
+                INVALID_DEFINE,
+                INVALID_READ,
+                INVALID_MEMBERS,
+                INVALID_WRITE,
+                INVALID_DELETE,
+                INVALID_SCOPE,
+                IDENTIFIED,
+            ],
+            "none",
         ),
     ]
 }

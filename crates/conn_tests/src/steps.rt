@@ -1,5 +1,8 @@
 //! The steps of a connection with a node that answers all that it wants.
-ghost use Rattle.std.specs.Prelude.{◌≡◌, ◌≤◌, Ok, Err, None, true, IfOk, OnOk, length};
+ghost use Rattle.std.specs.Prelude.{◌≡◌, ◌≤◌, Ok, Err, None, true, IfOk, IfSome, OnOk, length};
+ghost use Rattle.std.specs.List.{All};
+ghost use Rattle.mms_data.specs.OutcomeOctets.{IsLawfulOutcome};
+ghost use Rattle.tase_views.specs.Replies.{IsReadSpec};
 ghost use Rattle.tase_conn.specs.Talking.{end_in, next_of};
 ghost use Rattle.tase_conn.specs.Places.{IsPlaced};
 ghost use Rattle.tase_conn.specs.Answering.{IsAnswerFor, IsCut};
@@ -8,13 +11,15 @@ ghost use Rattle.conn_tests.specs.Playing.{IsAnswerOf};
 
 use crate::rows::TABLES;
 use bilateral::{Centre, read_centre};
+use mms_data::{Name, Names, Outcome};
 use sbo_device::Key;
 use std::alloc::{AllocError, Global};
 use std::sync::Arc;
 use std::test::Fail;
 use tase_conn::{Conn, ConnEnd};
 use tase_views::{
-    Answer, Call, CallKind, Event, EventKind, Reply, ReplyKind, Reports, StepFault, WriteResults,
+    Answer, Call, CallKind, Event, EventKind, ReadSpec, Reply, ReplyKind, Reports, Results,
+    StepFault, WriteResults,
 };
 
 fn centre_of(alloc: Global) -> Result<Centre, Fail> {
@@ -48,7 +53,8 @@ fn many_results(alloc: Global) -> Result<WriteResults, Fail> {
     Ok(results)
 }
 
-/// An odd call is rejected, a list of names is answered at length, each other as an identify.
+/// An odd call is rejected, a list of names is answered at length, a call on data sets as one of
+/// them, each other as an identify.
 fn reply_to(alloc: Global, call: &Call) -> Result<Reply, Fail> {
     match call.kind() {
         CallKind::Odd { kind, code } => Ok(Reply::new(ReplyKind::Reject {
@@ -56,8 +62,58 @@ fn reply_to(alloc: Global, call: &Call) -> Result<Reply, Fail> {
             code: *code,
         })),
         CallKind::NameList { .. } => Ok(Reply::new(ReplyKind::Written(many_results(alloc)?))),
+        CallKind::Define { .. } => Ok(Reply::new(ReplyKind::Defined)),
+        CallKind::ReadSet { set, echo } => set_results(alloc, set, *echo),
+        CallKind::MembersOf { set } => members_of(alloc, set),
+        CallKind::Delete { sets } => Ok(deleted_of(sets)),
+        CallKind::WriteSet { .. } | CallKind::DeleteScope { .. } => Ok(denied()),
         _ => Ok(Reply::new(ReplyKind::Identified)),
     }
+}
+
+/// What was named, where that is to be repeated, and a member that can't be read.
+fn set_results(alloc: Global, set: &Name, echo: bool) -> Result<Reply, Fail> {
+    let spec = named(set, echo)?;
+    let results = unreadable(alloc)?;
+    Ok(Reply::new(ReplyKind::Results { spec, results }))
+}
+
+fn named(set: &Name, echo: bool) -> Result<Option<ReadSpec>, AllocError>
+    ensures { IfOk result (λ spec. IfSome spec IsReadSpec) }
+{
+    if !echo {
+        return Ok(None);
+    }
+    Ok(Some(ReadSpec::Set(set.clone()?)))
+}
+
+/// One variable that can't be read.
+fn unreadable(alloc: Global) -> Result<Results, AllocError>
+    ensures { IfOk result (λ results. All IsLawfulOutcome results) }
+{
+    let mut results = Results::new(alloc);
+    results.push(Outcome::Fail(9))?;
+    Ok(results)
+}
+
+/// The data set itself is its only member.
+fn members_of(alloc: Global, set: &Name) -> Result<Reply, Fail> {
+    let mut members = Names::new(alloc);
+    members.push(set.clone()?)?;
+    Ok(Reply::new(ReplyKind::MembersAre(members)))
+}
+
+/// All that are named were there, and one of them is gone.
+fn deleted_of(sets: &Names) -> Reply {
+    Reply::new(ReplyKind::Deleted {
+        matched: sets.len().min(9) as u32,
+        deleted: 1,
+    })
+}
+
+/// Access, object-access-denied.
+fn denied() -> Reply {
+    Reply::new(ReplyKind::Error { class: 7, code: 3 })
 }
 
 fn letter(kind: &EventKind) -> u8 {

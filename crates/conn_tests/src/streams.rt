@@ -1,6 +1,6 @@
 //! Streams fed in their parts, octet by octet, and cut in two.
 use crate::play::{Cut, Played, joined, play};
-use crate::rows::{Row, early_ends, left_rows, refusals, rows};
+use crate::rows::{Row, early_ends, left_rows, refusals, rows, set_rows};
 use std::alloc::Global;
 use std::test::*;
 
@@ -74,6 +74,11 @@ fn are_served(alloc: Global, rows: &[Row]) -> Result<(), Fail> {
 #[test]
 fn streams_are_served(mut rt: HostRuntime) -> Result<(), Fail> {
     are_served(rt.alloc(), &rows())
+}
+
+#[test]
+fn calls_on_sets_are_served(mut rt: HostRuntime) -> Result<(), Fail> {
+    are_served(rt.alloc(), &set_rows())
 }
 
 #[test]

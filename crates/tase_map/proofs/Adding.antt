@@ -186,6 +186,8 @@ asked_at table ordinal talk view act.takes i = absurd (false≢true i)
 asked_at table ordinal talk view act.closes i = absurd (false≢true i)
 asked_at table ordinal talk view (act.reads name) i = refl
 asked_at table ordinal talk view (act.writes name value) i = refl
+asked_at table ordinal talk view (act.defines set members) i = refl
+asked_at table ordinal talk view (act.deletes set) i = refl
 asked_at table ordinal talk view (act.calls call) i = refl
 
 seen_own : (table : OwnTable) (ordinal : ℕ) (talk : Talk) (view : View) (a : Act)
@@ -248,6 +250,10 @@ reads_asked : (names : List ObjectName) → AreAsked (map act.reads names)
 reads_asked [] = tt
 reads_asked (name ∷ names) = (refl, reads_asked names)
 
+deletes_asked : (sets : List ObjectName) → AreAsked (map act.deletes sets)
+deletes_asked [] = tt
+deletes_asked (set ∷ sets) = (refl, deletes_asked sets)
+
 writes_asked : (names : List ObjectName) (values : List Datum) → AreAsked (writes_of names values)
 writes_asked [] values = tt
 writes_asked (name ∷ names) [] = tt
@@ -257,7 +263,13 @@ pub acts_asked : (call : CallKind) → AreAsked (acts_of_call call)
 acts_asked kinds.Identify = (refl, tt)
 acts_asked (kinds.Read names echo) = reversed (map act.reads names) (reads_asked names)
 acts_asked (kinds.Write names values) = reversed (writes_of names values) (writes_asked names values)
+acts_asked (kinds.ReadSet set echo) = (refl, tt)
+acts_asked (kinds.WriteSet set values) = (refl, tt)
 acts_asked (kinds.NameList class scope after) = (refl, tt)
+acts_asked (kinds.Define set members) = (refl, tt)
+acts_asked (kinds.MembersOf set) = (refl, tt)
+acts_asked (kinds.Delete sets) = reversed (map act.deletes sets) (deletes_asked sets)
+acts_asked (kinds.DeleteScope scope) = (refl, tt)
 acts_asked (kinds.Odd kind code) = (refl, tt)
 
 some_writes : (names : List ObjectName) (values : List Datum) → length values ≡ length names
@@ -276,7 +288,15 @@ some_acts (kinds.Write names values) i =
     let r = length-reverse (writes_of names values) in
     let w = some_writes names values i.1 in
     let l : 0 < length names = i.0 in omega (arith, r, w, l)
+some_acts (kinds.ReadSet set echo) i = omega arith
+some_acts (kinds.WriteSet set values) i = omega arith
 some_acts (kinds.NameList class scope after) i = omega arith
+some_acts (kinds.Define set members) i = omega arith
+some_acts (kinds.MembersOf set) i = omega arith
+some_acts (kinds.Delete sets) i =
+    let r = length-reverse (map act.deletes sets) in
+    let m = length-map sets act.deletes in omega (arith, r, m, i)
+some_acts (kinds.DeleteScope scope) i = omega arith
 some_acts (kinds.Odd kind code) i = omega arith
 
 -- ---- entries

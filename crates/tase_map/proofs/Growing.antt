@@ -26,7 +26,9 @@ use Rattle.tase_views.specs.History.{Past, key_at, is_key, entries_of, opens_in}
 use Rattle.tase_views.specs.OwnTable.{OwnTable, own_table}
 use Rattle.tase_views.specs.Outcomes.{is_close}
 use Rattle.tase_views.specs.View.{Act, acts, acts_of_call, moves_by, moves_of_event, Seen, own}
-use Rattle.tase_views.specs.View.{updated, stopped, seen_by, View, view_of}
+use Rattle.tase_views.specs.View.{other_acted, other_closed, updated, tagged, asked, ticked}
+use Rattle.tase_views.specs.View.{stopped}
+use Rattle.tase_views.specs.View.{seen_by, View, view_of}
 use Rattle.tase_views.specs.View as act
 use Rattle.tase_views.proofs.Seen.{view_of-entry}
 use Rattle.tase_map.specs.Readings.{Reading, reading_of}
@@ -235,8 +237,7 @@ is_closes _ = false
 
 abbrev closes_by : ℕ → Seen → Bool
 closes_by ordinal (own other a) = if other == ordinal then is_closes a else false
-closes_by ordinal (updated point value) = false
-closes_by ordinal stopped = false
+closes_by ordinal _ = false
 
 -- whether an association is closed in a view
 abbrev has_close : ℕ → View → Bool
@@ -260,9 +261,9 @@ made_least ordinal seen view =
 made_one : (ordinal other : ℕ) (a : Act) (view : View) → (other == ordinal) ≡ true
     → is_asked a ≡ true
     → acts_made ordinal (own other a ∷ view) ≡ acts_made ordinal view + 1
-made_one ordinal other a view same asked =
+made_one ordinal other a view same by_call =
     one_more (is_asked_by ordinal (own other a)) (own other a)
-    (filter (is_asked_by ordinal) view) (rw (same, asked) refl)
+    (filter (is_asked_by ordinal) view) (rw (same, by_call) refl)
 
 neither : (a b : Bool) → (a || b) ≡ false → (a ≡ false) × (b ≡ false)
 neither true b e = absurd (false≢true (sym e))
@@ -293,6 +294,8 @@ module _ (table : OwnTable) (ordinal : ℕ) (opening : List ℕ) (setup : Setup)
   at_same view act.closes reply closes = absurd (false≢true (sym closes))
   at_same view (act.reads name) reply closes = reply refl
   at_same view (act.writes name value) reply closes = reply refl
+  at_same view (act.defines set members) reply closes = reply refl
+  at_same view (act.deletes set) reply closes = reply refl
   at_same view (act.calls call) reply closes = reply refl
 
   own_same : (b : Bool) (view : View) (a : Act)
@@ -309,6 +312,16 @@ module _ (table : OwnTable) (ordinal : ℕ) (opening : List ℕ) (setup : Setup)
       ap (λ (os : List ℕ). os ++ []) (same_octets view few free)
   same_octets (stopped ∷ view) few free =
       ap (λ (os : List ℕ). os ++ []) (same_octets view few free)
+  same_octets (other_acted key number name deed ∷ view) few free =
+      ap (λ (os : List ℕ). os ++ []) (same_octets view few free)
+  same_octets (other_closed key number ∷ view) few free =
+      ap (λ (os : List ℕ). os ++ []) (same_octets view few free)
+  same_octets (tagged name tag ∷ view) few free =
+      ap (λ (os : List ℕ). os ++ []) (same_octets view few free)
+  same_octets (asked slot ∷ view) few free =
+      ap (λ (os : List ℕ). os ++ []) (same_octets view few free)
+  same_octets (ticked now ∷ view) few free =
+      ap (λ (os : List ℕ). os ++ []) (same_octets view few free)
   same_octets (own other a ∷ view) few free =
       let n = neither (closes_by ordinal (own other a)) (has_close ordinal view) free in
       let least = made_least ordinal (own other a) view in
@@ -317,7 +330,7 @@ module _ (table : OwnTable) (ordinal : ℕ) (opening : List ℕ) (setup : Setup)
       ++ (if other == ordinal then octets_at table ordinal long view a else [])) before
       ∙ ap (λ (os : List ℕ). octets_in table ordinal short view ++ os)
       (own_same (other == ordinal) view a
-      (λ same asked. let one = made_one ordinal other a view same asked in
+      (λ same by_call. let one = made_one ordinal other a view same by_call in
       same_first table ordinal opening setup detail turns (turns ++ others) view turns others
       (acts_made ordinal view) count (omega (arith, one, few)) stand)
       (λ same. chosen (other == ordinal) (is_closes a) n.0 same))
@@ -364,6 +377,8 @@ asked_unclosed (this ∷ these) a = (asked_one this a.0, asked_unclosed these a.
     asked_one act.closes e = absurd (false≢true e)
     asked_one (act.reads name) e = refl
     asked_one (act.writes name value) e = refl
+    asked_one (act.defines set members) e = refl
+    asked_one (act.deletes set) e = refl
     asked_one (act.calls call) e = refl
 
 -- the close of another association

@@ -16,3 +16,4 @@ pub mod Growing
 pub mod Unrefused
 pub mod Worked
 mod WorkedStream
+mod WorkedSets

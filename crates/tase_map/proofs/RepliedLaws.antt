@@ -27,6 +27,7 @@ spec_writable : (spec : Option ReadSpec) → IfSome spec IsReadSpec
     → IsSpecIfAny (option_map spec_in spec)
 spec_writable None i = tt
 spec_writable (Some (named.List names)) i = i
+spec_writable (Some (named.Set name)) i = tt
 
 pdu_writable : (invoke : ℕ) (reply : ReplyKind) → IsReply reply → IsWritable (pdu_in invoke reply)
 pdu_writable invoke replies.Identified i = tt
@@ -34,6 +35,9 @@ pdu_writable invoke (replies.Results spec results) i =
     record { spec = spec_writable spec i.0; lawful = i.1 }
 pdu_writable invoke (replies.Written results) i = tt
 pdu_writable invoke (replies.NamesAre names more) i = i
+pdu_writable invoke replies.Defined i = tt
+pdu_writable invoke (replies.MembersAre names) i = i
+pdu_writable invoke (replies.Deleted matched deleted) i = tt
 pdu_writable invoke (replies.Error class code) i = i
 pdu_writable invoke (replies.Reject kind code) i = i
 
@@ -50,7 +54,7 @@ results_lawful : (results : List Outcome) (spec : Option Spec) → IsSpecIfAny s
     → All IsLawfulOutcome results → IsReplyIfAny (results_in results spec)
 results_lawful results None s l = (tt, l)
 results_lawful results (Some (specs.List names)) s l = (s, l)
-results_lawful results (Some (specs.Set name)) s l = tt
+results_lawful results (Some (specs.Set name)) s l = (tt, l)
 
 response_lawful : (response : Response) → IsLawfulResponse response
     → IsReplyIfAny (reply_in_response response)
@@ -59,7 +63,7 @@ response_lawful responses.Identify l = tt
 response_lawful (responses.Read r) l = results_lawful r.results r.spec l.spec l.lawful
 response_lawful (responses.Write r) l = tt
 response_lawful responses.Define l = tt
-response_lawful (responses.MembersOf r) l = tt
+response_lawful (responses.MembersOf r) l = l
 response_lawful (responses.Delete r) l = tt
 
 reply_lawful : (pdu : MmsPdu) → IsLawfulPdu pdu → IsReplyIfAny (reply_in pdu)
@@ -85,12 +89,16 @@ spec_again : (spec : Option ReadSpec) (results : List Outcome)
     → results_in results (option_map spec_in spec) ≡ Some (replies.Results spec results)
 spec_again None results = refl
 spec_again (Some (named.List names)) results = refl
+spec_again (Some (named.Set name)) results = refl
 
 pub reply_again : (invoke : ℕ) (reply : ReplyKind) → reply_in (pdu_in invoke reply) ≡ Some reply
 reply_again invoke replies.Identified = refl
 reply_again invoke (replies.Results spec results) = spec_again spec results
 reply_again invoke (replies.Written results) = refl
 reply_again invoke (replies.NamesAre names more) = refl
+reply_again invoke replies.Defined = refl
+reply_again invoke (replies.MembersAre names) = refl
+reply_again invoke (replies.Deleted matched deleted) = refl
 reply_again invoke (replies.Error class code) = refl
 reply_again invoke (replies.Reject kind code) = refl
 
@@ -99,6 +107,9 @@ number_again invoke replies.Identified = refl
 number_again invoke (replies.Results spec results) = refl
 number_again invoke (replies.Written results) = refl
 number_again invoke (replies.NamesAre names more) = refl
+number_again invoke replies.Defined = refl
+number_again invoke (replies.MembersAre names) = refl
+number_again invoke (replies.Deleted matched deleted) = refl
 number_again invoke (replies.Error class code) = refl
 number_again invoke (replies.Reject kind code) = refl
 
@@ -112,7 +123,7 @@ results_written : (invoke : ℕ) (results : List Outcome) (spec : Option Spec)
     (results_in results spec)
 results_written invoke results None = refl
 results_written invoke results (Some (specs.List names)) = refl
-results_written invoke results (Some (specs.Set name)) = tt
+results_written invoke results (Some (specs.Set name)) = refl
 
 response_written : (invoke : ℕ) (response : Response)
     → WrittenAs invoke (pdus.Response invoke response) (reply_in_response response)
@@ -120,9 +131,9 @@ response_written invoke (responses.NameList r) = refl
 response_written invoke responses.Identify = refl
 response_written invoke (responses.Read r) = results_written invoke r.results r.spec
 response_written invoke (responses.Write r) = refl
-response_written invoke responses.Define = tt
-response_written invoke (responses.MembersOf r) = tt
-response_written invoke (responses.Delete r) = tt
+response_written invoke responses.Define = refl
+response_written invoke (responses.MembersOf r) = refl
+response_written invoke (responses.Delete r) = refl
 
 -- by its number
 abbrev WrittenBy : Option ℕ → MmsPdu → Type 0

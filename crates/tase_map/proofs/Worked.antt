@@ -118,7 +118,7 @@ connecting = record {
   initiate = parameters;
 }
 
-abbrev first_two : List Told
+abbrev pub first_two : List Told
 first_two = asked (record {
   source = 1;
   parameters = record

@@ -1,7 +1,9 @@
--- Requests of MMS as calls of the node, and calls as requests (IEC 60870-6-503 on ISO 9506-2). The
--- services of named variable lists are known to no node yet: they are answered as unknown ones.
-use Rattle.std.specs.Prelude.{Bool, true, false, List}
+-- Requests of MMS as calls of the node, and calls as requests (IEC 60870-6-503 on ISO 9506-2):
+-- named variable lists are data sets.
+use Rattle.std.specs.Prelude.{ℤ, pos, if◌then◌else◌, Bool, true, false, List, []}
 use Rattle.mms_data.specs.Datum.{Datum}
+use Rattle.mms_data.specs.ObjectName.{ObjectName}
+use Rattle.mms_services.specs.Deletes.{is_specific}
 use Rattle.mms_services.specs.declared.request.Request.{Request}
 use Rattle.mms_services.specs.declared.request.Request.TheVariants as requests
 use Rattle.mms_services.specs.declared.spec.Spec.{Spec}
@@ -17,14 +19,18 @@ unrecognized = calls.Odd 1 1
 abbrev pub invalid : CallKind
 invalid = calls.Odd 5 1
 
--- variables are read and written by their names alone
+-- variables are read and written by their names, or by that of a data set
 abbrev pub read_asked : Bool → Spec → CallKind
 read_asked echo (specs.List names) = calls.Read names echo
-read_asked echo (specs.Set name) = unrecognized
+read_asked echo (specs.Set name) = calls.ReadSet name echo
 
 abbrev pub write_asked : List Datum → Spec → CallKind
 write_asked values (specs.List names) = calls.Write names values
-write_asked values (specs.Set name) = unrecognized
+write_asked values (specs.Set name) = calls.WriteSet name values
+
+-- the data sets that are named are deleted, or those of another scope
+abbrev pub delete_asked : ℤ → List ObjectName → CallKind
+delete_asked scope sets = if is_specific scope then calls.Delete sets else calls.DeleteScope scope
 
 -- the call that a request is
 abbrev pub call_in : Request → CallKind
@@ -32,9 +38,9 @@ call_in (requests.NameList r) = calls.NameList r.class r.scope r.after
 call_in requests.Identify = calls.Identify
 call_in (requests.Read r) = read_asked r.echo r.spec
 call_in (requests.Write r) = write_asked r.values r.spec
-call_in (requests.Define r) = unrecognized
-call_in (requests.MembersOf r) = unrecognized
-call_in (requests.Delete r) = unrecognized
+call_in (requests.Define r) = calls.Define r.set r.members
+call_in (requests.MembersOf r) = calls.MembersOf r.set
+call_in (requests.Delete r) = delete_asked r.scope r.sets
 call_in requests.Unknown = unrecognized
 
 -- whether a call is a request that no service is
@@ -47,6 +53,14 @@ abbrev pub request_in : CallKind → Request
 request_in calls.Identify = requests.Identify
 request_in (calls.Read names echo) =
     requests.Read (record { echo = echo; spec = specs.List names })
+request_in (calls.ReadSet set echo) =
+    requests.Read (record { echo = echo; spec = specs.Set set })
+request_in (calls.WriteSet set values) =
+    requests.Write (record { spec = specs.Set set; values = values })
+request_in (calls.Define set members) = requests.Define (record { set = set; members = members })
+request_in (calls.MembersOf set) = requests.MembersOf (record { set = set })
+request_in (calls.Delete sets) = requests.Delete (record { scope = pos 0; sets = sets })
+request_in (calls.DeleteScope scope) = requests.Delete (record { scope = scope; sets = [] })
 request_in (calls.Write names values) =
     requests.Write (record { spec = specs.List names; values = values })
 request_in (calls.NameList class scope after) =

@@ -16,7 +16,7 @@ use Rattle.stack_assoc.specs.Handing.{answers_to}
 use Rattle.bilateral.specs.Rows.{CentreRows}
 use Rattle.tase_views.specs.declared.reply.ReplyKind.{ReplyKind}
 use Rattle.tase_views.specs.OwnTable.{OwnTable}
-use Rattle.tase_views.specs.View.{View, Seen, own, updated, stopped, Act, acts_of_call}
+use Rattle.tase_views.specs.View.{View, Seen, own, Act, acts_of_call}
 use Rattle.tase_views.specs.View as acts
 use Rattle.tase_views.specs.Answers.{reply_to}
 use Rattle.tase_map.specs.Replied.{pdu_in}
@@ -111,12 +111,13 @@ is_asked acts.takes = false
 is_asked acts.closes = false
 is_asked (acts.reads name) = true
 is_asked (acts.writes name value) = true
+is_asked (acts.defines set members) = true
+is_asked (acts.deletes set) = true
 is_asked (acts.calls call) = true
 
 abbrev pub is_asked_by : ℕ → Seen → Bool
 is_asked_by ordinal (own other act) = if other == ordinal then is_asked act else false
-is_asked_by ordinal (updated point value) = false
-is_asked_by ordinal stopped = false
+is_asked_by ordinal _ = false
 
 -- how many acts the requests of an association have made
 abbrev pub acts_made : ℕ → View → ℕ
@@ -150,8 +151,7 @@ octets_at table ordinal talk view _ =
 abbrev pub octets_seen : OwnTable → ℕ → Talk → View → Seen → List ℕ
 octets_seen table ordinal talk view (own other act) =
     if other == ordinal then octets_at table ordinal talk view act else []
-octets_seen table ordinal talk view (updated point value) = []
-octets_seen table ordinal talk view stopped = []
+octets_seen table ordinal talk view _ = []
 
 abbrev pub octets_in : OwnTable → ℕ → Talk → View → List ℕ
 octets_in table ordinal talk [] = []

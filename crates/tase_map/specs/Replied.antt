@@ -1,5 +1,5 @@
--- Replies of the node as PDUs of MMS, and PDUs as replies (IEC 60870-6-503 on ISO 9506-2). No node
--- answers with the services of named variable lists yet: such a response is no reply.
+-- Replies of the node as PDUs of MMS, and PDUs as replies (IEC 60870-6-503 on ISO 9506-2): data
+-- sets are named variable lists.
 use Rattle.std.specs.Prelude.{ℕ, List, Option, Some, None, option_map}
 use Rattle.mms_data.specs.declared.outcome.Outcome.{Outcome}
 use Rattle.mms_services.specs.declared.spec.Spec.{Spec}
@@ -16,6 +16,7 @@ use Rattle.tase_views.specs.declared.reply.ReplyKind.TheVariants as replies
 -- what a read named, as the variables of a service
 abbrev pub spec_in : ReadSpec → Spec
 spec_in (named.List names) = specs.List names
+spec_in (named.Set name) = specs.Set name
 
 -- the PDU that a reply to the request with this number is
 abbrev pub pdu_in : ℕ → ReplyKind → MmsPdu
@@ -27,27 +28,32 @@ pdu_in invoke (replies.Written results) =
     pdus.Response invoke (responses.Write (record { results = results }))
 pdu_in invoke (replies.NamesAre names more) =
     pdus.Response invoke (responses.NameList (record { names = names; more = more }))
+pdu_in invoke replies.Defined = pdus.Response invoke responses.Define
+pdu_in invoke (replies.MembersAre names) =
+    pdus.Response invoke (responses.MembersOf (record { members = names }))
+pdu_in invoke (replies.Deleted matched deleted) =
+    pdus.Response invoke (responses.Delete (record { matched = matched; deleted = deleted }))
 pdu_in invoke (replies.Error class code) =
     pdus.Error (record { invoke = invoke; class = class; code = code })
 pdu_in invoke (replies.Reject kind code) =
     pdus.Reject (record { invoke = Some invoke; kind = kind; code = code })
 
--- the results of a read that named these variables, or doesn't repeat them; not of one that named a
--- list of variables
+-- the results of a read that named these variables or this data set, or doesn't repeat them
 abbrev pub results_in : List Outcome → Option Spec → Option ReplyKind
 results_in results None = Some (replies.Results None results)
 results_in results (Some (specs.List names)) =
     Some (replies.Results (Some (named.List names)) results)
-results_in results (Some (specs.Set name)) = None
+results_in results (Some (specs.Set name)) =
+    Some (replies.Results (Some (named.Set name)) results)
 
 abbrev pub reply_in_response : Response → Option ReplyKind
 reply_in_response (responses.NameList r) = Some (replies.NamesAre r.names r.more)
 reply_in_response responses.Identify = Some replies.Identified
 reply_in_response (responses.Read r) = results_in r.results r.spec
 reply_in_response (responses.Write r) = Some (replies.Written r.results)
-reply_in_response responses.Define = None
-reply_in_response (responses.MembersOf r) = None
-reply_in_response (responses.Delete r) = None
+reply_in_response responses.Define = Some replies.Defined
+reply_in_response (responses.MembersOf r) = Some (replies.MembersAre r.members)
+reply_in_response (responses.Delete r) = Some (replies.Deleted r.matched r.deleted)
 
 -- the reply that a PDU is, whatever the number of its request: a response, an error or a reject
 abbrev pub reply_in : MmsPdu → Option ReplyKind

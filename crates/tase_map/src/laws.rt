@@ -4,15 +4,18 @@ ghost use Rattle.mms_services.specs.declared.pdu.MmsPdu.{MmsPdu};
 ghost use Rattle.mms_services.specs.declared.request.Request.{Request};
 ghost use Rattle.tase_views.specs.declared.call.CallKind.{CallKind as AnyCall};
 ghost use Rattle.tase_views.specs.declared.reply.ReplyKind.{ReplyKind as AnyReply};
+ghost use Rattle.mms_services.specs.Lawful.{IsLawfulRequest};
+ghost use Rattle.tase_views.specs.Calls.{IsCall};
 ghost use Rattle.tase_map.specs.Asked.{call_in, request_in, is_odd};
 ghost use Rattle.tase_map.specs.Replied.{pdu_in, reply_in, number_in};
 
-/// What a call asks in MMS is that call again, and a request that is a call of the node is what
-/// that call asks.
+/// What a call asks in MMS is that call again, and a lawful request that is a call of the node is
+/// what that call asks.
 pub fn calls_are_requests()
-    ensures call { (call : AnyCall) → is_odd call ≡ false → call_in (request_in call) ≡ call }
+    ensures call { (call : AnyCall) → is_odd call ≡ false → IsCall call
+        → call_in (request_in call) ≡ call }
     ensures request { (request : Request) → is_odd (call_in request) ≡ false
-        → request_in (call_in request) ≡ request }
+        → IsLawfulRequest request → request_in (call_in request) ≡ request }
 {}
 
 /// What answers by a reply is that reply again and tells the number of the request, and a PDU that

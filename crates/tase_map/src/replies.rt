@@ -1,5 +1,5 @@
 //! Replies of the node as PDUs of MMS, and PDUs as replies.
-ghost use Rattle.std.specs.Prelude.{◌≡◌, IfOk, option_map};
+ghost use Rattle.std.specs.Prelude.{◌≡◌, Some, IfOk, option_map};
 ghost use Rattle.mms_services.specs.Lawful.{IsLawfulPdu, IsLawfulResponse};
 ghost use Rattle.mms_services.specs.PduOctets.{IsWritable};
 ghost use Rattle.tase_views.specs.declared.reply.ReplyKind.TheVariants as replies;
@@ -8,7 +8,8 @@ ghost use Rattle.tase_map.specs.Replied.{pdu_in, spec_in, reply_in, reply_in_res
 use crate::copies::{outcomes_of, written_of};
 use mms_data::{Name, Names, Outcome};
 use mms_services::{
-    ErrorPdu, MmsPdu, NameListResponse, ReadResponse, RejectPdu, Response, Spec, WriteResponse,
+    DeleteResponse, ErrorPdu, MembersResponse, MmsPdu, NameListResponse, ReadResponse, RejectPdu,
+    Response, Spec, WriteResponse,
 };
 use std::alloc::{AllocError, Global};
 use tase_views::{ObjectNames, ReadSpec, Reply, ReplyKind, Results, WriteResults};
@@ -24,6 +25,9 @@ pub fn pdu_of(alloc: Global, invoke: u32, reply: &Reply) -> Result<MmsPdu, Alloc
         ReplyKind::Results { spec, results } => results_pdu(alloc, invoke, spec, results),
         ReplyKind::Written(results) => written_pdu(alloc, invoke, results),
         ReplyKind::NamesAre { names, more } => names_pdu(invoke, names, *more),
+        ReplyKind::Defined => Ok(defined(invoke)),
+        ReplyKind::MembersAre(names) => members_pdu(invoke, names),
+        ReplyKind::Deleted { matched, deleted } => Ok(deleted_pdu(invoke, *matched, *deleted)),
         ReplyKind::Error { class, code } => Ok(error_pdu(invoke, *class, *code)),
         ReplyKind::Reject { kind, code } => Ok(reject_pdu(invoke, *kind, *code)),
     }
@@ -61,6 +65,7 @@ fn spec_of(spec: &Option<ReadSpec>) -> Result<Option<Spec>, AllocError>
 {
     match spec {
         Some(ReadSpec::List(names)) => Ok(Some(Spec::List(names.clone()?))),
+        Some(ReadSpec::Set(name)) => Ok(Some(Spec::Set(name.clone()?))),
         None => Ok(None),
     }
 }
@@ -90,6 +95,36 @@ fn names_pdu(invoke: u32, names: &ObjectNames, more: bool) -> Result<MmsPdu, All
     })
 }
 
+fn defined(invoke: u32) -> MmsPdu
+    ensures { result ≡ pdu_in invoke replies.Defined }
+{
+    MmsPdu::Response {
+        invoke,
+        response: Response::Define,
+    }
+}
+
+fn members_pdu(invoke: u32, names: &Names) -> Result<MmsPdu, AllocError>
+    ensures { IfOk result (λ pdu. pdu ≡ pdu_in invoke (replies.MembersAre names.now)) }
+{
+    let response = MembersResponse {
+        members: names.clone()?,
+    };
+    Ok(MmsPdu::Response {
+        invoke,
+        response: Response::MembersOf(response),
+    })
+}
+
+fn deleted_pdu(invoke: u32, matched: u32, deleted: u32) -> MmsPdu
+    ensures { result ≡ pdu_in invoke (replies.Deleted matched deleted) }
+{
+    MmsPdu::Response {
+        invoke,
+        response: Response::Delete(DeleteResponse { matched, deleted }),
+    }
+}
+
 fn error_pdu(invoke: u32, class: u8, code: u8) -> MmsPdu
     ensures { result ≡ pdu_in invoke (replies.Error class code) }
 {
@@ -111,8 +146,7 @@ fn reject_pdu(invoke: u32, kind: u8, code: u8) -> MmsPdu
 }
 
 /// The reply that a PDU is, whatever the number of its request; none where it is no response, error
-/// or reject, or a response of a service of named variable lists. Lists, names, numbers and data of
-/// the PDU are such as `read_pdu` gives.
+/// or reject. Lists, names, numbers and data of the PDU are such as `read_pdu` gives.
 #[tactic(auto, using(crate::proofs::RepliedLaws::lawful_reply))]
 pub fn reply_of(alloc: Global, pdu: &MmsPdu) -> Result<Option<Reply>, AllocError>
     requires lawful { IsLawfulPdu pdu.now }
@@ -153,9 +187,14 @@ fn kind_of_response(alloc: Global, response: &Response) -> Result<Option<ReplyKi
     match response {
         Response::NameList(answer) => Ok(Some(names_of(answer)?)),
         Response::Identify => Ok(Some(ReplyKind::Identified)),
-        Response::Read(answer) => results_of(alloc, answer),
+        Response::Read(answer) => Ok(Some(results_of(alloc, answer)?)),
         Response::Write(answer) => Ok(Some(written_kind(alloc, answer)?)),
-        Response::Define | Response::MembersOf(_) | Response::Delete(_) => Ok(None),
+        Response::Define => Ok(Some(ReplyKind::Defined)),
+        Response::MembersOf(answer) => Ok(Some(members_of(answer)?)),
+        Response::Delete(answer) => Ok(Some(ReplyKind::Deleted {
+            matched: answer.matched,
+            deleted: answer.deleted,
+        })),
     }
 }
 
@@ -175,14 +214,20 @@ fn written_kind(alloc: Global, answer: &WriteResponse) -> Result<ReplyKind, Allo
     Ok(ReplyKind::Written(results))
 }
 
-fn results_of(alloc: Global, answer: &ReadResponse) -> Result<Option<ReplyKind>, AllocError>
-    ensures { IfOk result (λ kind. kind ≡ results_in answer.now.results answer.now.spec) }
+fn members_of(answer: &MembersResponse) -> Result<ReplyKind, AllocError>
+    ensures { IfOk result (λ kind. kind ≡ replies.MembersAre answer.now.members) }
+{
+    Ok(ReplyKind::MembersAre(answer.members.clone()?))
+}
+
+fn results_of(alloc: Global, answer: &ReadResponse) -> Result<ReplyKind, AllocError>
+    ensures { IfOk result (λ kind. Some kind ≡ results_in answer.now.results answer.now.spec) }
 {
     let spec = match &answer.spec {
-        Some(Spec::Set(_)) => return Ok(None),
+        Some(Spec::Set(name)) => Some(ReadSpec::Set(name.clone()?)),
         Some(Spec::List(names)) => Some(ReadSpec::List(names.clone()?)),
         None => None,
     };
     let results = outcomes_of(alloc, answer.results.as_slice())?;
-    Ok(Some(ReplyKind::Results { spec, results }))
+    Ok(ReplyKind::Results { spec, results })
 }
