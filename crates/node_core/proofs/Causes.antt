@@ -1,10 +1,9 @@
 -- What follows where an event isn't refused, and that a refusal is never for want of memory.
-use Rattle.std.proofs.Common.{◌≡◌, ◌≢◌, ℕ, ◌+◌, ◌<◌, ◌≤◌, Bool, true, false, not, ◌&&◌, List, []}
-use Rattle.std.proofs.Common.{◌∷◌}
+use Rattle.std.proofs.Common.{◌≡◌, ◌≢◌, ℕ, ◌+◌, ◌<◌, ◌≤◌, Bool, true, false, not, ◌&&◌, [], ◌∷◌}
 use Rattle.std.proofs.Common.{length, reverse, ltb, Option, Some, None, is_some, refl, sym, subst}
 use Rattle.std.specs.Prelude.{if◌then◌else◌, option_map}
-use Rattle.std.proofs.lemmas.Bool.{false≢true, true≢false, ltb-true, ltb-false}
-use Rattle.std.proofs.lemmas.Option.{none-some, same_Some}
+use Rattle.std.proofs.lemmas.Bool.{true≢false, ltb-true, ltb-false}
+use Rattle.std.proofs.lemmas.Option.{none-some}
 use Rattle.tase_points.specs.Sample.{Sample}
 use Rattle.bilateral.specs.Rows.{CentreRows}
 use Rattle.sbo_device.specs.declared.key.Key.{Key}
@@ -22,7 +21,7 @@ use Rattle.tase_views.specs.Outcomes.{is_close, is_ending, is_known, stop_refusa
 use Rattle.tase_views.specs.Outcomes.{name_refusal, weight_refusal, first_refusal, refusal_of}
 use Rattle.tase_views.specs.Outcomes.{IsRefusal}
 use Rattle.node_core.specs.NodeState.{NodeState}
-use Rattle.node_core.specs.Stored.{IsQuiet}
+use Rattle.node_core.specs.Stored.{IsQuiet, IsRequest}
 
 -- none of the four refusals has its cause
 pub record IsFree (setup : Setup) (past : Past) (who : ℕ) (event : EventKind) : Type 0 where
@@ -183,7 +182,7 @@ IsRefusal-of setup past who event fault e =
 
 pub quiet-goes_on : (event : EventKind) → IsQuiet event → is_ending event ≡ false
 quiet-goes_on (Open peer) quiet = absurd quiet
-quiet-goes_on (Request call) quiet = refl
+quiet-goes_on (Request call) quiet = absurd quiet
 quiet-goes_on Take quiet = refl
 quiet-goes_on Close quiet = absurd quiet
 quiet-goes_on (Update point value) quiet = absurd quiet
@@ -191,8 +190,24 @@ quiet-goes_on Stop quiet = absurd quiet
 
 pub quiet-is_no_stop : (event : EventKind) → IsQuiet event → is_stop event ≡ false
 quiet-is_no_stop (Open peer) quiet = absurd quiet
-quiet-is_no_stop (Request call) quiet = refl
+quiet-is_no_stop (Request call) quiet = absurd quiet
 quiet-is_no_stop Take quiet = refl
 quiet-is_no_stop Close quiet = absurd quiet
 quiet-is_no_stop (Update point value) quiet = absurd quiet
 quiet-is_no_stop Stop quiet = absurd quiet
+
+pub request-goes_on : (event : EventKind) → IsRequest event → is_ending event ≡ false
+request-goes_on (Open peer) request = absurd request
+request-goes_on (Request call) request = refl
+request-goes_on Take request = absurd request
+request-goes_on Close request = absurd request
+request-goes_on (Update point value) request = absurd request
+request-goes_on Stop request = absurd request
+
+pub request-is_no_stop : (event : EventKind) → IsRequest event → is_stop event ≡ false
+request-is_no_stop (Open peer) request = absurd request
+request-is_no_stop (Request call) request = refl
+request-is_no_stop Take request = absurd request
+request-is_no_stop Close request = absurd request
+request-is_no_stop (Update point value) request = absurd request
+request-is_no_stop Stop request = absurd request

@@ -1,11 +1,16 @@
 pub mod Known
 pub mod Views
+pub mod SetBooks
+pub mod Deletions
+pub mod SetViews
 pub mod Names
+pub mod OwnObjects
 pub mod Steps
 pub mod Answered
 pub mod Outcomes
 pub mod Rooms
 pub mod Causes
 pub mod Sorted
+pub mod SetNames
 pub mod Listed
 pub mod Lawful

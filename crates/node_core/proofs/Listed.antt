@@ -1,30 +1,40 @@
--- The names that stand in a list: those of the rows of a table, each of them an identifier.
+-- The names that stand in a list: those of the protocol's own objects, of the rows of a table and
+-- of the data sets of a book, each of them an identifier.
 use Rattle.std.proofs.Common.{◌≡◌, ◌==◌, ℕ, zero, suc, ◌+◌, ◌<◌, ◌≤◌, min, Bool, true, false, not}
-use Rattle.std.proofs.Common.{◌&&◌, cond, List, [], ◌∷◌, ◌++◌, map, take, length, get_or, Bor}
+use Rattle.std.proofs.Common.{◌&&◌, List, [], ◌∷◌, ◌++◌, map, take, length, get_or, Bor}
 use Rattle.std.proofs.Common.{Option, Some, None, refl, sym, ap, ◌∙◌, arith, ⊎_elim, take_all}
-use Rattle.std.proofs.Common.{append-nil}
+use Rattle.std.proofs.Common.{append-nil, append_assoc, subst}
 use Rattle.std.specs.Prelude.{if◌then◌else◌, filter, IsPermutation, ℤ}
 use Rattle.std.specs.Ordering.{int_eq}
-use Rattle.std.specs.List.{All, filter_map, cons_option}
-use Rattle.std.specs.Option.{option_map}
-use Rattle.std.proofs.lemmas.Bool.{cases_lt, false≢true, and_parts, eq-eqb}
+use Rattle.std.specs.List.{All, filter_map, cons_option, list_all}
+use Rattle.std.proofs.lemmas.Bool.{cases_lt, false≢true, and_parts}
 use Rattle.std.proofs.lemmas.List.{get_or-map, take-map, length-map, take_more, map_push}
-use Rattle.std.proofs.lemmas.List.Elements.{All-head, All-tail, All-cons, filter_map-append}
+use Rattle.std.proofs.lemmas.List.{map-append}
+use Rattle.std.proofs.lemmas.List.Elements.{All-head, All-tail, All-nil, All-cons, All-append}
+use Rattle.std.proofs.lemmas.List.Elements.{All-filter, All-map, filter-append, filter_map-append}
 use Rattle.std.proofs.lemmas.Map.Views.{All-map-IsPermutation}
 use Rattle.mms_data.specs.declared.object_name.Scope.{Scope}
 use Rattle.mms_data.specs.ObjectName.{IsIdentifier}
+use Rattle.data_sets.specs.declared.book.DataSet.{DataSet}
+use Rattle.data_sets.specs.Books.{Book}
 use Rattle.bilateral.specs.declared.rows.See.{See}
 use Rattle.table_words.specs.Words.{is_name, is_identifier}
-use Rattle.bilateral.specs.Rows.{CentreRows, IsCentre, no_point, table_of, point_of}
+use Rattle.bilateral.specs.Rows.{CentreRows, IsCentre, no_point, table_of}
 use Rattle.table_words.proofs.VisibleWords.{IsVisible-from_name, IsVisible-from_identifier}
 use Rattle.tase_views.specs.declared.call.TheConstants.{NAMED_VARIABLES, NAMED_VARIABLE_LISTS}
 use Rattle.tase_views.specs.declared.call.TheConstants.{DOMAINS}
 use Rattle.tase_views.specs.declared.reply.ReplyKind.TheVariants.{Error}
 use Rattle.tase_views.specs.declared.reply.TheConstants.{NAMES_LIMIT, ACCESS_ERRORS, ACCESS_DENIED}
-use Rattle.tase_views.specs.OwnTable.{OwnPoint, OwnTable, own_point, own_table, is_scope_of}
+use Rattle.tase_views.specs.OwnTable.{OwnTable, own_point, own_table, is_scope_of}
+use Rattle.tase_views.specs.Objects.{NamedObject, special_objects, point_object, own_objects}
+use Rattle.tase_views.specs.View.{View}
+use Rattle.tase_views.specs.Answers.{set_names}
 use Rattle.tase_views.specs.NameLists.{is_after, variables_in, is_foreign, is_vmd, in_order}
 use Rattle.tase_views.specs.NameLists.{first_of, names_listed}
+use Rattle.node_core.specs.SetsKept.{IsBook}
 use Rattle.node_core.proofs.Known.{table_is_lawful}
+use Rattle.node_core.proofs.SetNames.{book_names, names_ordered}
+use Rattle.node_core.proofs.OwnObjects.{specials_in}
 
 abbrev pub names_of : List (Bor (List ℕ)) → List (List ℕ)
 names_of names = map (λ name. name.now) names
@@ -35,38 +45,83 @@ row_listed rows table scope after see =
     if is_scope_of table scope see.vmd && is_after after (own_point rows see).name
     then Some (own_point rows see).name else None
 
-listed_cons : (test : List ℕ → Bool) (here : Bool) (point : OwnPoint) (points : List OwnPoint)
-    (more : List (List ℕ)) → filter test (map (λ p. p.name) points) ≡ more
-    → filter test (map (λ p. p.name) (if here then point ∷ points else points))
-    ≡ cons_option (if here && test point.name then Some point.name else None) more
-listed_cons test true point points more rest =
-    passed (test point.name)
+listed_cons : (test : List ℕ → Bool) (here : Bool) (object : NamedObject)
+    (objects : List NamedObject) (more : List (List ℕ))
+    → filter test (map (λ o. o.item) objects) ≡ more
+    → filter test (map (λ o. o.item) (if here then object ∷ objects else objects))
+    ≡ cons_option (if here && test object.item then Some object.item else None) more
+listed_cons test true object objects more rest =
+    passed (test object.item)
   where
-    passed : (b : Bool) → (if b then point.name ∷ filter test (map (λ p. p.name) points)
-        else filter test (map (λ p. p.name) points))
-        ≡ cons_option (if b then Some point.name else None) more
-    passed true = ap (λ (names : List (List ℕ)). point.name ∷ names) rest
+    passed : (b : Bool) → (if b then object.item ∷ filter test (map (λ o. o.item) objects)
+        else filter test (map (λ o. o.item) objects))
+        ≡ cons_option (if b then Some object.item else None) more
+    passed true = ap (λ (names : List (List ℕ)). object.item ∷ names) rest
     passed false = rest
-listed_cons test false point points more rest = rest
+listed_cons test false object objects more rest = rest
+
+-- the points of rows, as objects
+abbrev points_of : CentreRows → List See → List NamedObject
+points_of rows sees = map point_object (map (own_point rows) sees)
 
 listed_rows : (rows : CentreRows) (table : OwnTable) (scope : Scope) (after : Option (List ℕ))
     (sees : List See)
-    → filter (is_after after) (map (λ point. point.name)
-    (filter (λ point. is_scope_of table scope point.vmd) (map (own_point rows) sees)))
+    → filter (is_after after) (variables_in table (points_of rows sees) scope)
     ≡ filter_map (row_listed rows table scope after) sees
 listed_rows rows table scope after [] = refl
 listed_rows rows table scope after (see ∷ sees) =
-    listed_cons (is_after after) (is_scope_of table scope see.vmd) (own_point rows see)
-    (filter (λ point. is_scope_of table scope point.vmd) (map (own_point rows) sees))
+    listed_cons (is_after after) (is_scope_of table scope see.vmd)
+    (point_object (own_point rows see))
+    (filter (λ o. is_scope_of table scope o.vmd) (points_of rows sees))
     (filter_map (row_listed rows table scope after) sees)
     (listed_rows rows table scope after sees)
 
--- the variables of a scope that stand in the list, row by row
+variables-append : (table : OwnTable) (scope : Scope) (some more : List NamedObject)
+    → variables_in table (some ++ more) scope
+    ≡ variables_in table some scope ++ variables_in table more scope
+variables-append table scope some more =
+    ap (map (λ (o : NamedObject). o.item))
+    (filter-append (λ o. is_scope_of table scope o.vmd) some more)
+    ∙ map-append (λ (o : NamedObject). o.item)
+    (filter (λ o. is_scope_of table scope o.vmd) some)
+    (filter (λ o. is_scope_of table scope o.vmd) more)
+
+-- the names of the protocol's own objects in a scope that stand in the list
+abbrev pub specials_listed : OwnTable → Scope → Option (List ℕ) → List (List ℕ)
+specials_listed table scope after = filter (is_after after) (specials_in table scope)
+
+-- the variables of a scope that stand in the list: those of the protocol itself, and row by row
 pub variables-listed : (rows : CentreRows) (peer : ℕ) (scope : Scope) (after : Option (List ℕ))
-    → filter (is_after after) (variables_in (own_table rows peer) scope)
-    ≡ filter_map (row_listed rows (own_table rows peer) scope after) (table_of rows peer).sees
+    → filter (is_after after) (variables_in (own_table rows peer)
+    (own_objects (own_table rows peer)) scope)
+    ≡ specials_listed (own_table rows peer) scope after
+    ++ filter_map (row_listed rows (own_table rows peer) scope after) (table_of rows peer).sees
 variables-listed rows peer scope after =
-    listed_rows rows (own_table rows peer) scope after (table_of rows peer).sees
+    let table = own_table rows peer in
+    let sees = (table_of rows peer).sees in
+    ap (filter (is_after after))
+    (variables-append table scope (special_objects table) (points_of rows sees))
+    ∙ filter-append (is_after after) (specials_in table scope)
+    (variables_in table (points_of rows sees) scope)
+    ∙ ap (λ (names : List (List ℕ)). specials_listed table scope after ++ names)
+    (listed_rows rows table scope after sees)
+
+-- names that were appended, where they stand in the list
+pub filtered_twice : (test : List ℕ → Bool) (some more names all : List (List ℕ))
+    → names ≡ filter test some → all ≡ names ++ filter test more
+    → all ≡ filter test (some ++ more)
+filtered_twice test some more names all before appended =
+    appended ∙ ap (λ (ns : List (List ℕ)). ns ++ filter test more) before
+    ∙ sym (filter-append test some more)
+
+-- the same behind names that stand there already
+pub filtered_behind : (test : List ℕ → Bool) (first some more names all : List (List ℕ))
+    → names ≡ first ++ filter test some → all ≡ names ++ filter test more
+    → all ≡ first ++ filter test (some ++ more)
+filtered_behind test first some more names all before appended =
+    appended ∙ ap (λ (ns : List (List ℕ)). ns ++ filter test more) before
+    ∙ append_assoc first (filter test some) (filter test more)
+    ∙ ap (λ (ns : List (List ℕ)). first ++ ns) (sym (filter-append test some more))
 
 -- one row more
 pub filter_map-more : {X Y : Type 0} (f : X → Option Y) (xs : List X) (i : ℕ) (d : X)
@@ -75,21 +130,28 @@ pub filter_map-more : {X Y : Type 0} (f : X → Option Y) (xs : List X) (i : ℕ
 filter_map-more f xs i d within =
     rw (take_more xs i d within) (filter_map-append f (take i xs) (get_or xs i d ∷ []))
 
--- a row that stands in the list, and one that doesn't
-pub row_pushed : {X : Type 0} (f : X → Option (List ℕ)) (xs : List X) (i : ℕ) (d : X)
-    (names : List (Bor (List ℕ))) (name : Bor (List ℕ)) → i < length xs
-    → f (get_or xs i d) ≡ Some name.now → names_of names ≡ filter_map f (take i xs)
-    → names_of (names ++ name ∷ []) ≡ filter_map f (take (i + 1) xs)
-row_pushed f xs i d names name within is so_far =
-    rw (filter_map-more f xs i d within, is, ← so_far)
-    (map_push (λ (n : Bor (List ℕ)). n.now) names name)
+-- a row that stands in the list, and one that doesn't, behind names that stand there already
+pub row_pushed : {X : Type 0} (f : X → Option (List ℕ)) (first : List (List ℕ)) (xs : List X)
+    (i : ℕ) (d : X) (names : List (Bor (List ℕ))) (name : Bor (List ℕ)) → i < length xs
+    → f (get_or xs i d) ≡ Some name.now → names_of names ≡ first ++ filter_map f (take i xs)
+    → names_of (names ++ name ∷ []) ≡ first ++ filter_map f (take (i + 1) xs)
+row_pushed f first xs i d names name within is so_far =
+    map_push (λ (n : Bor (List ℕ)). n.now) names name
+    ∙ ap (λ (ns : List (List ℕ)). ns ++ name.now ∷ []) so_far
+    ∙ append_assoc first (filter_map f (take i xs)) (name.now ∷ [])
+    ∙ ap (λ (ns : List (List ℕ)). first ++ ns)
+    (ap (λ (found : Option (List ℕ)). filter_map f (take i xs) ++ cons_option found []) (sym is)
+    ∙ sym (filter_map-more f xs i d within))
 
-pub row_passed : {X : Type 0} (f : X → Option (List ℕ)) (xs : List X) (i : ℕ) (d : X)
-    (names : List (Bor (List ℕ))) → i < length xs
-    → f (get_or xs i d) ≡ None → names_of names ≡ filter_map f (take i xs)
-    → names_of names ≡ filter_map f (take (i + 1) xs)
-row_passed f xs i d names within is so_far =
-    rw (filter_map-more f xs i d within, is) (so_far ∙ sym (append-nil (filter_map f (take i xs))))
+pub row_passed : {X : Type 0} (f : X → Option (List ℕ)) (first : List (List ℕ)) (xs : List X)
+    (i : ℕ) (d : X) (names : List (Bor (List ℕ))) → i < length xs
+    → f (get_or xs i d) ≡ None → names_of names ≡ first ++ filter_map f (take i xs)
+    → names_of names ≡ first ++ filter_map f (take (i + 1) xs)
+row_passed f first xs i d names within is so_far =
+    so_far ∙ ap (λ (ns : List (List ℕ)). first ++ ns)
+    (sym (filter_map-more f xs i d within
+    ∙ ap (λ (found : Option (List ℕ)). filter_map f (take i xs) ++ cons_option found []) is
+    ∙ append-nil (filter_map f (take i xs))))
 
 -- ---- names are identifiers
 
@@ -132,14 +194,51 @@ rows_named rows table scope after (see ∷ sees) lawful there =
     (rows_named rows table scope after sees lawful
     (All-tail (λ s. s.point < length rows.points) see sees there))
 
+abbrev NamedWell : NamedObject → Type 0
+NamedWell o = IsIdentifier o.item
+
+named_by_test : (objects : List NamedObject) → list_all (λ o. is_identifier o.item) objects ≡ true
+    → All NamedWell objects
+named_by_test [] e = All-nil NamedWell
+named_by_test (o ∷ objects) e =
+    let both = and_parts (is_identifier o.item) (list_all (λ o. is_identifier o.item) objects) e in
+    All-cons NamedWell o objects (IsIdentifier-word o.item both.0) (named_by_test objects both.1)
+
+-- the protocol's own names are identifiers
+specials_named : (table : OwnTable) → All NamedWell (special_objects table)
+specials_named table = named_by_test (special_objects table) refl
+
+pub specials_listed-named : (table : OwnTable) (scope : Scope) (after : Option (List ℕ))
+    → All IsIdentifier (specials_listed table scope after)
+specials_listed-named table scope after =
+    All-filter (is_after after) IsIdentifier (specials_in table scope)
+    (All-map IsIdentifier (λ (o : NamedObject). o.item)
+    (filter (λ o. is_scope_of table scope o.vmd) (special_objects table))
+    (All-filter (λ o. is_scope_of table scope o.vmd) NamedWell (special_objects table)
+    (specials_named table)))
+
 -- each of the variables that stand in the list has an identifier
 pub variables-named : (rows : CentreRows) (peer : ℕ) (scope : Scope) (after : Option (List ℕ))
     → IsCentre rows → peer < length rows.tables
-    → All IsIdentifier (filter (is_after after) (variables_in (own_table rows peer) scope))
+    → All IsIdentifier (filter (is_after after) (variables_in (own_table rows peer)
+    (own_objects (own_table rows peer)) scope))
 variables-named rows peer scope after lawful there =
-    rw (variables-listed rows peer scope after)
+    subst (λ (names : List (List ℕ)). All IsIdentifier names)
+    (sym (variables-listed rows peer scope after))
+    (All-append IsIdentifier (specials_listed (own_table rows peer) scope after)
+    (filter_map (row_listed rows (own_table rows peer) scope after) (table_of rows peer).sees)
+    (specials_listed-named (own_table rows peer) scope after)
     (rows_named rows (own_table rows peer) scope after (table_of rows peer).sees lawful
-    (table_is_lawful rows peer lawful there).known)
+    (table_is_lawful rows peer lawful there).known))
+
+-- so has each data set of a book, where its scope is the domain
+pub sets-named : (here : Bool) (sets : List DataSet) (after : Option (List ℕ))
+    → All (λ set. IsIdentifier set.name) sets
+    → All IsIdentifier (if here then filter (is_after after) (book_names sets) else [])
+sets-named true sets after named =
+    All-filter (is_after after) IsIdentifier (book_names sets)
+    (All-map IsIdentifier (λ (s : DataSet). s.name) sets named)
+sets-named false sets after named = All-nil IsIdentifier
 
 -- so has the domain
 pub domain-named : (rows : CentreRows) (peer : ℕ) (after : Option (List ℕ)) → IsCentre rows
@@ -205,27 +304,46 @@ shown_names names n is =
 
 -- ---- the classes that may be listed
 
-pub listed_variables : (table : OwnTable) (class : ℤ) (scope : Scope) (after : Option (List ℕ))
-    → is_foreign table scope ≡ false → int_eq class NAMED_VARIABLES ≡ true
-    → names_listed table class scope after
-    ≡ first_of (in_order (filter (is_after after) (variables_in table scope)))
-listed_variables table class scope after own here = rw (own, here) refl
+module _ (table : OwnTable) (objects : List NamedObject) (sets : List (List ℕ)) (class : ℤ)
+    (scope : Scope) (after : Option (List ℕ)) (own : is_foreign table scope ≡ false) where
+  pub listed_variables : int_eq class NAMED_VARIABLES ≡ true
+      → names_listed table objects sets class scope after
+      ≡ first_of (in_order (filter (is_after after) (variables_in table objects scope)))
+  listed_variables here = rw (own, here) refl
 
-pub listed_domain : (table : OwnTable) (class : ℤ) (scope : Scope) (after : Option (List ℕ))
-    → is_foreign table scope ≡ false → int_eq class NAMED_VARIABLES ≡ false
-    → int_eq class DOMAINS ≡ true → is_vmd scope ≡ true
-    → names_listed table class scope after
-    ≡ first_of (in_order (filter (is_after after) (table.domain ∷ [])))
-listed_domain table class scope after own other here whole = rw (own, other, here, whole) refl
+  pub listed_domain : int_eq class NAMED_VARIABLES ≡ false
+      → int_eq class DOMAINS ≡ true → is_vmd scope ≡ true
+      → names_listed table objects sets class scope after
+      ≡ first_of (in_order (filter (is_after after) (table.domain ∷ [])))
+  listed_domain other here whole = rw (own, other, here, whole) refl
 
-pub listed_lists : (table : OwnTable) (class : ℤ) (scope : Scope) (after : Option (List ℕ))
+  pub listed_nothing : int_eq class NAMED_VARIABLES ≡ false
+      → (int_eq class DOMAINS && is_vmd scope) ≡ false → int_eq class NAMED_VARIABLE_LISTS ≡ false
+      → names_listed table objects sets class scope after ≡ Error ACCESS_ERRORS ACCESS_DENIED
+  listed_nothing other apart away = rw (own, other, apart, away) refl
+
+  listed_lists : int_eq class NAMED_VARIABLES ≡ false
+      → (int_eq class DOMAINS && is_vmd scope) ≡ false → int_eq class NAMED_VARIABLE_LISTS ≡ true
+      → names_listed table objects sets class scope after
+      ≡ first_of (in_order (filter (is_after after)
+      (if is_scope_of table scope false then sets else [])))
+  listed_lists other apart here = rw (own, other, apart, here) refl
+
+-- the data sets that a book has are listed as those that the view shows
+pub listed_sets : (table : OwnTable) (view : View) (book : Book) (objects : List NamedObject)
+    (class : ℤ) (scope : Scope) (after : Option (List ℕ)) → IsBook table view book
     → is_foreign table scope ≡ false → int_eq class NAMED_VARIABLES ≡ false
     → (int_eq class DOMAINS && is_vmd scope) ≡ false → int_eq class NAMED_VARIABLE_LISTS ≡ true
-    → names_listed table class scope after ≡ first_of []
-listed_lists table class scope after own other apart here = rw (own, other, apart, here) refl
-
-pub listed_nothing : (table : OwnTable) (class : ℤ) (scope : Scope) (after : Option (List ℕ))
-    → is_foreign table scope ≡ false → int_eq class NAMED_VARIABLES ≡ false
-    → (int_eq class DOMAINS && is_vmd scope) ≡ false → int_eq class NAMED_VARIABLE_LISTS ≡ false
-    → names_listed table class scope after ≡ Error ACCESS_ERRORS ACCESS_DENIED
-listed_nothing table class scope after own other apart away = rw (own, other, apart, away) refl
+    → first_of (in_order (if is_scope_of table scope false
+    then filter (is_after after) (book_names book.sets) else []))
+    ≡ names_listed table objects (set_names table view) class scope after
+listed_sets table view book objects class scope after b own other apart here =
+    by (is_scope_of table scope false)
+    ∙ sym (listed_lists table objects (set_names table view) class scope after own other apart here)
+  where
+    by : (found : Bool)
+        → first_of (in_order (if found then filter (is_after after) (book_names book.sets) else []))
+        ≡ first_of (in_order (filter (is_after after)
+        (if found then set_names table view else [])))
+    by true = ap first_of (names_ordered table view book (is_after after) b)
+    by false = refl

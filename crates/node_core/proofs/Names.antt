@@ -1,8 +1,8 @@
 -- The point that a name stands for, found by the centre's points and the table's rows.
 use Rattle.std.proofs.Common.{◌≡◌, ◌≢◌, ◌==◌, ℕ, ◌<◌, ◌≤◌, suc, ltb, ⊎_elim, Bool, true, false}
 use Rattle.std.proofs.Common.{cond, ◌&&◌, List, [], ◌∷◌, map, length, get_or, Bor, Option, Some}
-use Rattle.std.proofs.Common.{None, is_some, bytes_eq, refl, sym, ap, ◌∙◌, arith}
-use Rattle.std.specs.Option.{option_map, option_and_then, MatchOption, IfSome}
+use Rattle.std.proofs.Common.{None, IsSome, is_some, bytes_eq, refl, sym, ap, ◌∙◌, arith}
+use Rattle.std.specs.Option.{option_map, option_and_then, option_copied, MatchOption, IfSome}
 use Rattle.std.specs.Prelude.{if◌then◌else◌}
 use Rattle.std.specs.Bool.{then_some}
 use Rattle.std.specs.List.{All, AllPairs, find, position, position_or_len, slice_get}
@@ -23,7 +23,7 @@ use Rattle.tase_views.specs.OwnTable.{OwnPoint, own_point, own_table, is_scope_o
 use Rattle.node_core.proofs.Known.{no_see, table_is_lawful, bytes_eq-names}
 
 -- the first of a mapped list that passes, where the test agrees with one of the list itself
-find-map : {X Y : Type 0} (f : X → Y) (test : Y → Bool) (same : X → Bool) (xs : List X)
+pub find-map : {X Y : Type 0} (f : X → Y) (test : Y → Bool) (same : X → Bool) (xs : List X)
     → All (λ x. test (f x) ≡ same x) xs → find test (map f xs) ≡ option_map f (find same xs)
 find-map f test same [] agree = refl
 find-map f test same (x ∷ xs) agree =
@@ -33,6 +33,11 @@ find-map f test same (x ∷ xs) agree =
     rw (here, rest) (elim (same x) as (λ b. cond b (Some (f x)) (option_map f (find same xs))
     ≡ option_map f (cond b (Some x) (find same xs))) [ true ↦ refl | false ↦ refl ])
 
+-- what is found behind a reference was found
+pub copied-IsSome : {X : Type 0} (o : Option (Bor X)) (x : X) → option_copied o ≡ Some x → IsSome o
+copied-IsSome None x e = absurd (none-some x e)
+copied-IsSome (Some r) x e = refl
+
 -- nothing passes
 find-none : {X : Type 0} (test : X → Bool) (xs : List X) → All (λ x. test x ≡ false) xs
     → find test xs ≡ None
@@ -41,12 +46,12 @@ find-none test (x ∷ xs) fails =
     let here : test x ≡ false = All-head (λ x. test x ≡ false) x xs fails in
     rw here (find-none test xs (All-tail (λ x. test x ≡ false) x xs fails))
 
-AllPairs-tail : {X : Type 0} (R : X → X → Type 0) (x : X) (xs : List X) → AllPairs R (x ∷ xs)
+pub AllPairs-tail : {X : Type 0} (R : X → X → Type 0) (x : X) (xs : List X) → AllPairs R (x ∷ xs)
     → AllPairs R xs
 AllPairs-tail R x xs pairs = λ i j d below within. pairs (suc i) (suc j) d (omega arith)
     (omega arith)
 
-AllPairs-head : {X : Type 0} (R : X → X → Type 0) (x : X) (xs : List X) → AllPairs R (x ∷ xs)
+pub AllPairs-head : {X : Type 0} (R : X → X → Type 0) (x : X) (xs : List X) → AllPairs R (x ∷ xs)
     → All (R x) xs
 AllPairs-head R x xs pairs = λ k d within. pairs 0 (suc k) d (omega arith) (omega arith)
 

@@ -1,7 +1,6 @@
 -- What a node keeps of the weight of its history and of the room in it stays right.
-use Rattle.std.proofs.Common.{◌≡◌, ℕ, ◌+◌, ◌*◌, ◌^◌, ◌<◌, ◌≤◌, false, List, [], ◌∷◌, length, Option}
-use Rattle.std.proofs.Common.{Some, None, refl, ap, sym, ◌∙◌, arith}
-use Rattle.std.specs.Prelude.{decimal}
+use Rattle.std.proofs.Common.{◌≡◌, ℕ, ◌+◌, ◌^◌, ◌<◌, ◌≤◌, false, [], ◌∷◌, length, Option, Some}
+use Rattle.std.proofs.Common.{None, refl, ap, ◌∙◌, arith}
 use Rattle.plain_lengths.proofs.TextLengths.{length-decimal-some}
 use Rattle.tase_views.specs.declared.event.EventKind.{EventKind}
 use Rattle.tase_views.specs.declared.event.EventKind.TheVariants.{Open, Close, Stop}

@@ -1,7 +1,7 @@
 -- Names that were sorted stand in the order that the definition gives.
-use Rattle.std.proofs.Common.{◌≡◌, ◌≢◌, ℕ, zero, suc, ◌+◌, ◌<◌, ◌≤◌, Bool, true, false, List, []}
+use Rattle.std.proofs.Common.{◌≡◌, ℕ, suc, ◌+◌, ◌<◌, Bool, true, false, List, []}
 use Rattle.std.proofs.Common.{◌∷◌, map, length, get_or, IsPermutation, IsSorted, Bor, Ordering}
-use Rattle.std.proofs.Common.{Less, Equal, Greater, bytes_eq, refl, sym, ap, ◌∙◌, arith, ⊎_elim}
+use Rattle.std.proofs.Common.{Less, Equal, Greater, bytes_eq, refl, sym, ap, ◌∙◌, arith}
 use Rattle.std.specs.Prelude.{if◌then◌else◌, sum_by}
 use Rattle.std.specs.List.{All}
 use Rattle.std.specs.Ordering.{is_lt, is_eq, nat_cmp, ordering_reverse}
@@ -51,14 +51,14 @@ abbrev pub count_of : List ℕ → List (List ℕ) → ℕ
 count_of name [] = 0
 count_of name (first ∷ names) = one_if name first + count_of name names
 
-count_of-sum_by : (name : List ℕ) (names : List (List ℕ))
+pub count_of-sum_by : (name : List ℕ) (names : List (List ℕ))
     → sum_by (one_if name) names ≡ count_of name names
 count_of-sum_by name [] = refl
 count_of-sum_by name (first ∷ names) =
     sum_by-cons (one_if name) first names
     ∙ ap (λ n. one_if name first + n) (count_of-sum_by name names)
 
-one_if-same : (name : List ℕ) → one_if name name ≡ 1
+pub one_if-same : (name : List ℕ) → one_if name name ≡ 1
 one_if-same name = rw ((bytes_eq-Decides name name).1 refl) refl
 
 among_here : (P : List ℕ → Type 0) (name first : List ℕ) (names : List (List ℕ)) (b : Bool)
@@ -92,7 +92,7 @@ count-with_name z name (first ∷ names) =
     count_placed z name first names (with_name name names) (is_below first name)
     (count-with_name z name names)
 
-count-in_order : (z : List ℕ) (names : List (List ℕ))
+pub count-in_order : (z : List ℕ) (names : List (List ℕ))
     → count_of z (in_order names) ≡ count_of z names
 count-in_order z [] = refl
 count-in_order z (name ∷ names) =
@@ -137,7 +137,7 @@ Rise-with_name name (first ∷ names) rise =
       rise,
     )
 
-Rise-in_order : (names : List (List ℕ)) → Rise (in_order names)
+pub Rise-in_order : (names : List (List ℕ)) → Rise (in_order names)
 Rise-in_order [] = tt
 Rise-in_order (name ∷ names) = Rise-with_name name (in_order names) (Rise-in_order names)
 
@@ -162,7 +162,7 @@ both_same : (x y : List ℕ) (xs ys : List (List ℕ)) → x ≡ y → xs ≡ ys
 both_same x y xs ys e es = rw (e, es) refl
 
 -- names that rise are the same where each stands as often among them
-rise_once : (xs ys : List (List ℕ)) → Rise xs → Rise ys
+pub rise_once : (xs ys : List (List ℕ)) → Rise xs → Rise ys
     → ((z : List ℕ) → count_of z xs ≡ count_of z ys) → xs ≡ ys
 rise_once [] [] rx ry same = refl
 rise_once [] (y ∷ ys) rx ry same = absurd (omega (arith, same y, first_counts y ys))

@@ -15,7 +15,8 @@ use Rattle.tase_views.specs.View.{Act, opens, takes, closes, Move, acts, acts_of
 use Rattle.tase_views.specs.View.{moves_of_event}
 use Rattle.tase_views.specs.View.{moves_in, own, updated, seen_by, View, view_of}
 use Rattle.tase_views.specs.Values.{values_in}
-use Rattle.node_core.specs.LastValues.{value_given, values_given}
+use Rattle.point_db.specs.Updates.{Updates, values_given}
+use Rattle.node_core.specs.LastValues.{update_in, updates_in}
 use Rattle.node_core.proofs.Known.{seen_is_there, bytes_eq-names}
 
 values_in-own : (mine : Bool) (ordinal : ℕ) (act : Act) (view : View) (name : List ℕ)
@@ -64,22 +65,24 @@ unseen_is_another rows peer p q named unseen =
 
 values_in-event : (rows : CentreRows) (peer p : ℕ) → IsCentre rows
     → is_some (place_of_see (table_of rows peer) p) ≡ true
-    → (event : EventKind) (key : Option Key) (moves : List Move) (values : List Sample)
-    → values_in (filter_map (seen_by rows peer) moves) (point_of rows p).name ≡ values
+    → (event : EventKind) (key : Option Key) (moves : List Move) (updates : Updates)
+    → values_in (filter_map (seen_by rows peer) moves) (point_of rows p).name
+    ≡ values_given updates p
     → values_in (filter_map (seen_by rows peer) (moves_of_event event key ++ moves))
-    (point_of rows p).name ≡ cons_option (value_given p event) values
-values_in-event rows peer p lawful named (Open opener) key moves values shown =
+    (point_of rows p).name ≡ values_given (cons_option (update_in event) updates) p
+values_in-event rows peer p lawful named (Open opener) key moves updates shown =
     values_in-by rows peer (point_of rows p).name key (opens ∷ []) moves ∙ shown
-values_in-event rows peer p lawful named (Request call) key moves values shown =
+values_in-event rows peer p lawful named (Request call) key moves updates shown =
     values_in-by rows peer (point_of rows p).name key (acts_of_call call) moves ∙ shown
-values_in-event rows peer p lawful named Take key moves values shown =
+values_in-event rows peer p lawful named Take key moves updates shown =
     values_in-by rows peer (point_of rows p).name key (takes ∷ []) moves ∙ shown
-values_in-event rows peer p lawful named Close key moves values shown =
+values_in-event rows peer p lawful named Close key moves updates shown =
     values_in-by rows peer (point_of rows p).name key (closes ∷ []) moves ∙ shown
-values_in-event rows peer p lawful named Stop key moves values shown = shown
-values_in-event rows peer p lawful named (Update q new) key moves values shown =
+values_in-event rows peer p lawful named Stop key moves updates shown = shown
+values_in-event rows peer p lawful named (Update q new) key moves updates shown =
     values_in-update (filter_map (seen_by rows peer) moves) (point_of rows p).name
-    (point_of rows q).name new values (is_some (place_of_see (table_of rows peer) q)) (q == p)
+    (point_of rows q).name new (values_given updates p) (is_some (place_of_see (table_of rows peer)
+    q)) (q == p)
     (λ seen. bytes_eq-names rows q p lawful (seen_is_there rows peer q lawful seen)
     (seen_is_there rows peer p lawful named))
     (unseen_is_another rows peer p q named)
@@ -88,9 +91,9 @@ values_in-event rows peer p lawful named (Update q new) key moves values shown =
 -- a peer's view gives each point that its table names the values that the history gives it
 pub values_in-view_of : (rows : CentreRows) (peer p : ℕ) → IsCentre rows
     → is_some (place_of_see (table_of rows peer) p) ≡ true → (past : Past)
-    → values_in (view_of rows peer past) (point_of rows p).name ≡ values_given past p
+    → values_in (view_of rows peer past) (point_of rows p).name ≡ values_given (updates_in past) p
 values_in-view_of rows peer p lawful named [] = refl
 values_in-view_of rows peer p lawful named (entry ∷ past) =
     values_in-event rows peer p lawful named entry.event (key_at entry.event past entry.who)
-    (moves_in past) (values_given past p)
+    (moves_in past) (updates_in past)
     (values_in-view_of rows peer p lawful named past)

@@ -1,30 +1,21 @@
--- What a history gives each point, by its number.
-use Rattle.std.specs.Prelude.{ℕ, ◌==◌, if◌then◌else◌, List, Option, Some, None, filter_map}
-use Rattle.tase_points.specs.Sample.{Sample}
-use Rattle.bilateral.specs.Rows.{CentreRows, point_of}
+-- The updates of a history, by which its points have their values.
+use Rattle.std.specs.Prelude.{List, map, Option, Some, None, filter_map}
+use Rattle.tase_points.specs.declared.kind.Kind.{Kind}
+use Rattle.point_db.specs.Updates.{Update as PointUpdate, Updates}
+use Rattle.bilateral.specs.Rows.{CentreRows}
 use Rattle.tase_views.specs.declared.event.EventKind.{EventKind}
-use Rattle.tase_views.specs.declared.event.EventKind.TheVariants.{Open, Request, Take, Close}
-use Rattle.tase_views.specs.declared.event.EventKind.TheVariants.{Update, Stop}
+use Rattle.tase_views.specs.declared.event.EventKind.TheVariants.{Update}
 use Rattle.tase_views.specs.History.{Past}
-use Rattle.tase_views.specs.Values.{last_of, changes_of}
 
--- the new value of a point that an event is, where it is one
-abbrev pub value_given : ℕ → EventKind → Option Sample
-value_given p (Open peer) = None
-value_given p (Request call) = None
-value_given p Take = None
-value_given p Close = None
-value_given p (Update point value) = if point == p then Some value else None
-value_given p Stop = None
+-- the update of a point that an event is, where it is one
+abbrev pub update_in : EventKind → Option PointUpdate
+update_in (Update point value) = Some (record { point = point; value = value })
+update_in _ = None
 
--- the values that a point was given, the newest first
-abbrev pub values_given : Past → ℕ → List Sample
-values_given past p = filter_map (λ entry. value_given p entry.event) past
+-- the updates of a history, the newest first
+abbrev pub updates_in : Past → Updates
+updates_in past = filter_map (λ entry. update_in entry.event) past
 
--- a point's last value
-abbrev pub last_value : CentreRows → Past → ℕ → Sample
-last_value rows past p = last_of (point_of rows p).kind (values_given past p)
-
--- how often a point has changed
-abbrev pub change_total : CentreRows → Past → ℕ → ℕ
-change_total rows past p = changes_of (point_of rows p).kind (values_given past p)
+-- the kinds of the centre's points
+abbrev pub kinds_of : CentreRows → List Kind
+kinds_of rows = map (λ row. row.kind) rows.points

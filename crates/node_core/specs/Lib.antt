@@ -1,4 +1,6 @@
 pub mod NodeState
 pub mod LastValues
+pub mod SetsKept
+pub mod Found
 pub mod Stored
 pub mod Room

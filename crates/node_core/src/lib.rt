@@ -5,6 +5,7 @@ mod listing;
 mod naming;
 mod node;
 mod refusals;
+mod sets;
 mod store;
 
 pub use node::Node;

@@ -1,17 +1,22 @@
 //! Lists of names.
-ghost use Rattle.std.specs.Prelude.{◌≡◌, ◌<◌, ◌&&◌, length, map, filter, Some, None, IfOk};
-ghost use Rattle.std.specs.Prelude.{if◌then◌else◌, option_map, [], ◌∷◌};
+ghost use Rattle.std.specs.Prelude.{◌≡◌, ◌<◌, ◌&&◌, true, false, length, map, filter, Some, None};
+ghost use Rattle.std.specs.Prelude.{if◌then◌else◌, IfOk, not, option_map, [], ◌∷◌, ◌++◌, OnOk};
 ghost use Rattle.std.specs.List.{All};
 ghost use Rattle.std.specs.Ordering.{int_eq};
 ghost use Rattle.mms_data.specs.ObjectName.{IsIdentifier};
 ghost use Rattle.bilateral.specs.Rows.{IsCentre};
 ghost use Rattle.tase_views.specs.OwnTable.{OwnTable, own_table, own_point, is_scope_of};
+ghost use Rattle.tase_views.specs.Objects.{own_objects, special_objects, report_variables};
+ghost use Rattle.tase_views.specs.View.{View};
+ghost use Rattle.tase_views.specs.Answers.{set_names};
 ghost use Rattle.tase_views.specs.NameLists as lists;
+ghost use Rattle.node_core.specs.SetsKept.{IsBook};
 ghost use Rattle.tase_views.specs.Replies.{IsReply};
 
 use crate::naming::is_found_in;
 use ber_values::Visible;
 use bilateral::{Centre, See};
+use data_sets::SetBook;
 use mms_data::Scope;
 use std::alloc::{AllocError, Global};
 use tase_views::{
@@ -25,14 +30,18 @@ pub fn list_names(
     alloc: Global,
     centre: &Centre,
     peer: u32,
+    book: &SetBook,
     class: i64,
     scope: &Scope,
     after: &Option<Visible>,
 ) -> Result<ReplyKind, AllocError>
     requires known { peer < length centre.now.tables }
     requires lawful { IsCentre centre.now }
-    ensures value { IfOk result (λ reply. reply
-        ≡ lists.names_listed (own_table centre.now peer) class scope.now after.now) }
+    requires named { All (λ set. IsIdentifier set.name) book.now.sets }
+    ensures value { (view : View) → IsBook (own_table centre.now peer) view book.now
+        → let table = own_table centre.now peer in IfOk result (λ reply. reply
+        ≡ lists.names_listed table (own_objects table) (set_names table view) class scope.now
+        after.now) }
     ensures lawful { IfOk result IsReply }
 {
     let domain = &centre.table(peer).domain;
@@ -51,7 +60,8 @@ pub fn list_names(
         return first_of(alloc, names.as_mut_slice());
     }
     if is_class(class, NAMED_VARIABLE_LISTS) {
-        return first_of(alloc, &mut []);
+        let mut names = sets(alloc, domain, book, scope, after)?;
+        return first_of(alloc, names.as_mut_slice());
     }
     Ok(ReplyKind::Error {
         class: ACCESS_ERRORS,
@@ -94,7 +104,131 @@ fn is_after(after: &Option<Visible>, name: &[u8]) -> bool
     }
 }
 
-/// The names of a peer's points in a scope that stand in a list.
+/// The names of the data sets of a peer with this domain in a scope that stand in a list.
+fn sets<'a>(
+    alloc: Global,
+    domain: &Visible,
+    book: &'a SetBook,
+    scope: &Scope,
+    after: &Option<Visible>,
+) -> Result<Vec<&'a [u8]>, AllocError>
+    ensures { (table : OwnTable) → table.domain ≡ domain.now → IfOk result (λ names.
+        map (λ name. name.now) names.items
+        ≡ (if is_scope_of table scope.now false
+        then filter (lists.is_after after.now) (map (λ set. set.name) book.now.sets) else [])) }
+{
+    if is_found_in(domain, scope, false) {
+        all_sets(alloc, book, after)
+    } else {
+        Ok(Vec::new(alloc))
+    }
+}
+
+/// The names of data sets that stand in a list.
+fn all_sets<'a>(
+    alloc: Global,
+    book: &'a SetBook,
+    after: &Option<Visible>,
+) -> Result<Vec<&'a [u8]>, AllocError>
+    ensures { IfOk result (λ names. map (λ name. name.now) names.items
+        ≡ filter (lists.is_after after.now) (map (λ set. set.name) book.now.sets)) }
+{
+    let mut names = Vec::new(alloc);
+    for index in 0..book.count() {
+        let name = book.name(index).unwrap();
+        push_after(&mut names, after, name.as_slice())?;
+    }
+    Ok(names)
+}
+
+/// The names of the protocol's own objects for a peer with this domain in a scope that stand in a
+/// list.
+fn specials<'a>(
+    alloc: Global,
+    domain: &Visible,
+    scope: &Scope,
+    after: &Option<Visible>,
+) -> Result<Vec<&'a [u8]>, AllocError>
+    ensures { (table : OwnTable) → table.domain ≡ domain.now → IfOk result (λ names.
+        map (λ name. name.now) names.items ≡ filter (lists.is_after after.now)
+        (map (λ o. o.item)
+        (filter (λ o. is_scope_of table scope.now o.vmd) (special_objects table)))) }
+{
+    if is_found_in(domain, scope, true) {
+        return specials_of_device(alloc, after);
+    }
+    if is_found_in(domain, scope, false) {
+        return specials_of_domain(alloc, after);
+    }
+    Ok(Vec::new(alloc))
+}
+
+/// The names of the protocol's own objects in the whole device that stand in a list.
+fn specials_of_device<'a>(
+    alloc: Global,
+    after: &Option<Visible>,
+) -> Result<Vec<&'a [u8]>, AllocError>
+    ensures { (table : OwnTable) → IfOk result (λ names. map (λ name. name.now) names.items
+        ≡ filter (lists.is_after after.now)
+        (map (λ o. o.item) (filter (λ o. o.vmd) (special_objects table)))) }
+{
+    let mut names = Vec::new(alloc);
+    push_after(&mut names, after, b"TASE2_Version")?;
+    push_after(&mut names, after, b"Supported_Features")?;
+    push_report_variables(&mut names, after)?;
+    Ok(names)
+}
+
+/// The names of the protocol's own objects in a domain that stand in a list.
+fn specials_of_domain<'a>(
+    alloc: Global,
+    after: &Option<Visible>,
+) -> Result<Vec<&'a [u8]>, AllocError>
+    ensures { (table : OwnTable) → IfOk result (λ names. map (λ name. name.now) names.items
+        ≡ filter (lists.is_after after.now)
+        (map (λ o. o.item) (filter (λ o. not o.vmd) (special_objects table)))) }
+{
+    let mut names = Vec::new(alloc);
+    push_after(&mut names, after, b"Bilateral_Table_ID")?;
+    push_report_variables(&mut names, after)?;
+    Ok(names)
+}
+
+/// Appends the names of the report variables that stand in a list.
+fn push_report_variables<'a>(
+    names: &mut Vec<&'a [u8]>,
+    after: &Option<Visible>,
+) -> Result<(), AllocError>
+    ensures { OnOk result (map (λ name. name.now) names.new.items
+        ≡ map (λ name. name.now) names.old.items
+        ++ filter (lists.is_after after.now) (map (λ o. o.item) (report_variables true))) }
+{
+    push_after(names, after, b"Transfer_Set_Name")?;
+    push_after(names, after, b"Transfer_Set_Time_Stamp")?;
+    push_after(names, after, b"DSConditions_Detected")?;
+    push_after(names, after, b"Event_Code_Detected")?;
+    Ok(())
+}
+
+/// Appends a name, if it stands in a list.
+fn push_after<'a>(
+    names: &mut Vec<&'a [u8]>,
+    after: &Option<Visible>,
+    name: &'a [u8],
+) -> Result<(), AllocError>
+    ensures { OnOk result (map (λ name. name.now) names.new.items
+        ≡ map (λ name. name.now) names.old.items
+        ++ filter (lists.is_after after.now) (name.now ∷ [])) }
+{
+    if !is_after(after, name) {
+        return Ok(());
+    }
+    names.push(name)?;
+    Ok(())
+}
+
+/// The names of the variables that there are for a peer in a scope that stand in a list: those of
+/// the protocol itself, and of the peer's points.
 fn variables<'a>(
     alloc: Global,
     centre: &'a Centre,
@@ -106,10 +240,11 @@ fn variables<'a>(
     requires lawful { IsCentre centre.now }
     ensures { IfOk result (λ names. map (λ name. name.now) names.items
         ≡ filter (lists.is_after after.now)
-        (lists.variables_in (own_table centre.now peer) scope.now)) }
+        (lists.variables_in (own_table centre.now peer) (own_objects (own_table centre.now peer))
+        scope.now)) }
 {
     let table = centre.table(peer);
-    let mut names = Vec::new(alloc);
+    let mut names = specials(alloc, &table.domain, scope, after)?;
     for see in table.sees.as_slice() {
         if let Some(name) = listed_name(centre, &table.domain, scope, after, see) {
             names.push(name)?;

@@ -1,18 +1,20 @@
-ghost use Rattle.std.specs.Prelude.{◌≡◌, ◌<◌, ◌≤◌, ◌^◌, [], length, reverse, slice_get, None, IfOk};
-ghost use Rattle.std.specs.Prelude.{false, OnOk, OnErr};
+ghost use Rattle.std.specs.Prelude.{◌≡◌, ◌<◌, ◌≤◌, ◌^◌, [], length, reverse, slice_get, Some};
+ghost use Rattle.std.specs.Prelude.{None, false, IfOk, OnOk, OnErr};
 ghost use Rattle.std.specs.Arc.{arc_value};
 ghost use Rattle.tase_views.specs.declared.event.EventKind.TheVariants.{Open, Update, Close, Stop};
 ghost use Rattle.tase_views.specs.Setup.{Setup};
+ghost use Rattle.tase_views.specs.History.{association_in};
 ghost use Rattle.tase_views.specs.Weights.{weight_of};
 ghost use Rattle.tase_views.specs.Outcomes.{is_ending, refusal_of, IsAnswer, IsRightOutcome};
 ghost use Rattle.node_core.specs.NodeState.{with_entry};
-ghost use Rattle.node_core.specs.Stored.{IsQuiet};
+ghost use Rattle.node_core.specs.Stored.{IsQuiet, IsRequest};
 
 mod replies;
 
 use crate::refusals::{name_refusal, seat_refusal, stop_refusal, weight_refusal};
 use crate::store::Store;
 use bilateral::Centre;
+use sbo_device::Key;
 use std::alloc::{AllocError, Global};
 use std::marker::Model;
 use std::sync::Arc;
@@ -157,7 +159,7 @@ impl Node {
             EventKind::Request { call } => {
                 let key = self.store.association(who).unwrap();
                 let reply = self.reply_to(alloc, key, call)?;
-                self.note(who, event)?;
+                self.request(who, key, event)?;
                 Ok(Answer::Reply(reply))
             }
             EventKind::Take => {
@@ -218,7 +220,23 @@ impl Node {
         Ok(Answer::Noted)
     }
 
-    /// Adds a request or a take to the history.
+    /// Adds a request to the history, and notes what it changes.
+    fn request(&mut self, who: u64, key: Key, event: Event) -> Result<(), AllocError>
+        requires request { IsRequest event }
+        requires seated { association_in (reverse self.old.history) who ≡ Some key }
+        requires free { refusal_of self.old.setup (reverse self.old.history) who event ≡ None }
+        ensures ok { OnOk result (self.new ≡ with_entry self.old who event) }
+        ensures err { OnErr result (self.new ≡ self.old) }
+    {
+        let weight = weight(&event);
+        self.history.reserve(self.store.open_count() + 2)?;
+        self.store.request(&self.centre, key, &event)?;
+        self.weight += weight;
+        self.history.push_reserved(Entry { who, event });
+        Ok(())
+    }
+
+    /// Adds a take to the history.
     fn note(&mut self, who: u64, event: Event) -> Result<(), AllocError>
         requires quiet { IsQuiet event }
         requires free { refusal_of self.old.setup (reverse self.old.history) who event ≡ None }

@@ -1,26 +1,37 @@
-ghost use Rattle.std.specs.Prelude.{if◌then◌else◌, ◌≡◌, ◌+◌, ◌%◌, ◌^◌, ◌<◌, [], ◌∷◌, map};
-ghost use Rattle.std.specs.Prelude.{slice_get, slice_index, IfOk, OnErr, vec_len, nat_eq, None};
+ghost use Rattle.std.specs.Prelude.{◌≡◌, ◌+◌, ◌%◌, ◌^◌, ◌<◌, ℕ, [], ◌∷◌, map, length, Some, None};
+ghost use Rattle.std.specs.Prelude.{slice_get, slice_index, IfOk, OnOk, OnErr, vec_len, nat_eq};
 ghost use Rattle.std.specs.Prelude.{is_some, true};
 ghost use Rattle.std.specs.HashMap.{get, hash_map_len};
-ghost use Rattle.tase_points.specs.Values.{is_change, unknown_sample};
-ghost use Rattle.bilateral.specs.Rows.{CentreRows};
-ghost use Rattle.tase_views.specs.declared.event.EventKind.TheVariants.{Open, Close, Update};
+ghost use Rattle.tase_points.specs.declared.layout.TheConstants.{COV_MODULUS};
+ghost use Rattle.point_db.specs.Updates.{last_value, change_count};
+ghost use Rattle.bilateral.specs.Rows.{CentreRows, IsCentre, table_of};
+ghost use Rattle.tase_views.specs.declared.event.EventKind.TheVariants.{Open, Request, Close};
+ghost use Rattle.tase_views.specs.declared.event.EventKind.TheVariants.{Update};
+ghost use Rattle.tase_views.specs.declared.call.CallKind.TheVariants.{Define, Delete};
 ghost use Rattle.tase_views.specs.History.{Past, association_in};
-ghost use Rattle.node_core.specs.Stored.{Keeps};
+ghost use Rattle.node_core.specs.LastValues.{kinds_of, updates_in};
+ghost use Rattle.node_core.specs.LastValues as last_values;
+ghost use Rattle.node_core.specs.Stored.{Keeps, IsRequest};
 
+use crate::sets::{define_reply, delete_sets, is_defined};
+use ber_values::Visible;
 use bilateral::Centre;
+use data_sets::SetBook;
+use mms_data::{Name, Names};
+use point_db::PointDb;
 use sbo_device::Key;
 use std::alloc::{AllocError, Global};
 use std::collections::HashMap;
-use tase_points::{PointValue, changes, unknown};
+use tase_points::{Kind, PointValue};
+use tase_views::{Call, CallKind, Event, EventKind};
 
 /// What a node knows of its history without looking through it.
 #[derive(Drop)]
 pub struct Store {
-    /// The last value of each point.
-    values: Vec<PointValue>,
-    /// How often each point has changed, modulo 65,536.
-    counts: Vec<u16>,
+    /// The last value of each point, and how often it has changed.
+    points: PointDb,
+    /// The data sets of each peer.
+    sets: Vec<SetBook>,
     /// How many associations each peer has opened.
     opens: Vec<u64>,
     /// The open association of each seat that has one.
@@ -33,11 +44,11 @@ impl Store {
         ensures kept { IfOk result (Keeps centre.now []) }
         ensures none { IfOk result (λ store. hash_map_len store.associations ≡ 0) }
     {
-        let points = centre.points() as usize;
+        let kinds = point_kinds(alloc, centre)?;
         let peers = centre.peers() as usize;
         Ok(Store {
-            values: unknown_values(alloc, centre)?,
-            counts: vec![in alloc; 0u16; points]?,
+            points: PointDb::new(alloc, kinds.as_slice())?,
+            sets: books_of(alloc, centre)?,
             opens: vec![in alloc; 0u64; peers]?,
             associations: HashMap::new(alloc),
         })
@@ -61,18 +72,28 @@ impl Store {
 
     /// The last value of a point.
     pub fn value(&self, point: u32) -> PointValue
-        requires { point < vec_len self.now.values }
-        ensures { slice_get self.now.values.items point ≡ Some result }
+        requires { point < length self.now.points.values }
+        ensures { (rows : CentreRows) (past : Past) → Keeps rows past self.now
+            → result ≡ last_value (kinds_of rows) (updates_in past) point }
     {
-        self.values[point as usize]
+        *self.points.value(point)
     }
 
     /// How often a point has changed, modulo 65,536.
     pub fn count(&self, point: u32) -> u16
-        requires { point < vec_len self.now.counts }
-        ensures { slice_get self.now.counts.items point ≡ Some result }
+        requires { point < length self.now.points.values }
+        ensures { (rows : CentreRows) (past : Past) → Keeps rows past self.now
+            → result ≡ change_count (kinds_of rows) (updates_in past) point % COV_MODULUS }
     {
-        self.counts[point as usize]
+        self.points.cov(point)
+    }
+
+    /// The data sets of a peer.
+    pub fn book(&self, peer: u32) -> &SetBook
+        requires { peer < vec_len self.now.sets }
+        ensures { slice_get self.now.sets.items peer ≡ Some result.now }
+    {
+        &self.sets[peer as usize]
     }
 
     /// Notes that a seat opens an association of a peer, and gives that association.
@@ -113,37 +134,122 @@ impl Store {
 
     /// Notes a point's new value.
     pub fn update(&mut self, who: u64, point: u32, value: PointValue)
-        requires values { point < vec_len self.old.values }
-        requires counts { point < vec_len self.old.counts }
+        requires known { point < length self.old.points.values }
         ensures kept { (rows : CentreRows) (past : Past) → Keeps rows past self.old
             → Keeps rows (record { who = who; event = Update point value } ∷ past) self.new }
         ensures same_count { hash_map_len self.new.associations
             ≡ hash_map_len self.old.associations }
     {
-        let place = point as usize;
-        self.counts[place] = next_count(self.counts[place], &self.values[place], &value);
-        self.values[place] = value;
+        self.points.update(point, value);
+    }
+
+    /// Notes what a request of an association changes. After want of memory nothing has changed.
+    pub fn request(&mut self, centre: &Centre, key: Key, event: &Event) -> Result<(), AllocError>
+        requires request { IsRequest event.now }
+        requires known { key.peer < vec_len self.old.sets }
+        requires there { key.peer < length centre.now.tables }
+        requires lawful { IsCentre centre.now }
+        ensures ok { OnOk result ((past : Past) (who : ℕ) → Keeps centre.now past self.old
+            → association_in past who ≡ Some key
+            → Keeps centre.now (record { who = who; event = event.now } ∷ past) self.new) }
+        ensures err { OnErr result ((past : Past) → Keeps centre.now past self.old
+            → Keeps centre.now past self.new) }
+        ensures same_count { hash_map_len self.new.associations
+            ≡ hash_map_len self.old.associations }
+    {
+        let EventKind::Request { call } = event.kind() else {
+            return Ok(());
+        };
+        self.call(centre, key, call)
+    }
+
+    /// Notes what a call of an association changes: a definition that has no error, a deletion.
+    fn call(&mut self, centre: &Centre, key: Key, call: &Call) -> Result<(), AllocError>
+        requires known { key.peer < vec_len self.old.sets }
+        requires there { key.peer < length centre.now.tables }
+        requires lawful { IsCentre centre.now }
+        ensures ok { OnOk result ((past : Past) (who : ℕ) → Keeps centre.now past self.old
+            → association_in past who ≡ Some key
+            → Keeps centre.now (record { who = who; event = Request call.now } ∷ past) self.new) }
+        ensures err { OnErr result ((past : Past) → Keeps centre.now past self.old
+            → Keeps centre.now past self.new) }
+        ensures same_count { hash_map_len self.new.associations
+            ≡ hash_map_len self.old.associations }
+    {
+        match call.kind() {
+            CallKind::Define { set, members } => self.define(centre, key.peer, set, members),
+            CallKind::Delete { sets } => {
+                self.delete(&centre.table(key.peer).domain, key.peer, sets.as_slice());
+                Ok(())
+            }
+            _ => Ok(()),
+        }
+    }
+
+    /// Defines a data set, unless the definition has an error.
+    fn define(
+        &mut self,
+        centre: &Centre,
+        peer: u32,
+        set: &Name,
+        members: &Names,
+    ) -> Result<(), AllocError>
+        requires known { peer < vec_len self.old.sets }
+        requires there { peer < length centre.now.tables }
+        requires lawful { IsCentre centre.now }
+        requires some { 0 < length members.now }
+        ensures ok { OnOk result ((past : Past) (who : ℕ) (key : Key) → key.peer ≡ peer
+            → Keeps centre.now past self.old → association_in past who ≡ Some key
+            → Keeps centre.now
+            (record { who = who; event = Request (Define set.now members.now) } ∷ past) self.new) }
+        ensures err { OnErr result ((past : Past) → Keeps centre.now past self.old
+            → Keeps centre.now past self.new) }
+        ensures same_count { hash_map_len self.new.associations
+            ≡ hash_map_len self.old.associations }
+    {
+        let reply = define_reply(centre, peer, self.book(peer), set, members);
+        if !is_defined(&reply) {
+            return Ok(());
+        }
+        let name = set.item().clone()?;
+        let members = members.clone()?;
+        let _defined = self.sets[peer as usize].define(name, members)?;
+        Ok(())
+    }
+
+    /// Deletes the data sets of a peer that are named.
+    fn delete(&mut self, domain: &Visible, peer: u32, sets: &[Name])
+        requires known { peer < vec_len self.old.sets }
+        ensures kept { (rows : CentreRows) (past : Past) (who : ℕ) (key : Key) → key.peer ≡ peer
+            → domain.now ≡ (table_of rows peer).domain → Keeps rows past self.old
+            → association_in past who ≡ Some key
+            → Keeps rows (record { who = who; event = Request (Delete sets.now) } ∷ past) self.new }
+        ensures same_count { hash_map_len self.new.associations
+            ≡ hash_map_len self.old.associations }
+    {
+        delete_sets(domain, &mut self.sets[peer as usize], sets);
     }
 }
 
-fn unknown_values(alloc: Global, centre: &Centre) -> Result<Vec<PointValue>, AllocError>
-    ensures { IfOk result (λ values. values.items
-        ≡ map (λ row. unknown_sample row.kind) centre.now.points) }
+/// The kinds of the centre's points.
+fn point_kinds(alloc: Global, centre: &Centre) -> Result<Vec<Kind>, AllocError>
+    ensures { IfOk result (λ kinds. kinds.items ≡ last_values.kinds_of centre.now) }
 {
-    let mut values = Vec::new(alloc);
+    let mut kinds = Vec::new(alloc);
     for point in 0..centre.points() {
-        values.push(unknown(centre.point(point).kind))?;
+        kinds.push(centre.point(point).kind)?;
     }
-    Ok(values)
+    Ok(kinds)
 }
 
-/// The count of changes after a new value, modulo 65,536.
-fn next_count(count: u16, old: &PointValue, new: &PointValue) -> u16
-    ensures { result ≡ (if is_change old.now new.now then (count + 1) % 65536 else count) }
+/// No data sets for each peer, as many as its table allows.
+fn books_of(alloc: Global, centre: &Centre) -> Result<Vec<SetBook>, AllocError>
+    ensures { IfOk result (λ books. books.items
+        ≡ map (λ table. record { limit = table.sets; sets = [] }) centre.now.tables) }
 {
-    if changes(old, new) {
-        count.wrapping_add(1)
-    } else {
-        count
+    let mut books = Vec::new(alloc);
+    for peer in 0..centre.peers() {
+        books.push(SetBook::new(alloc, centre.table(peer).sets))?;
     }
+    Ok(books)
 }

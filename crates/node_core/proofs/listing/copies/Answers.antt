@@ -1,4 +1,4 @@
-use Rattle.std.proofs.Common.{get_or, arith}
+use Rattle.std.proofs.Common.{arith}
 use Rattle.node_core.proofs.Listed.{identifier_here}
 use Rattle.node_core.proofs.listing.copies.Goals as goal
 

@@ -1,8 +1,4 @@
-use Rattle.std.proofs.Common.{◌≡◌, ◌<◌, ℕ, ltb, min, length, map, take, refl, sym, ap, ◌∙◌, arith}
-use Rattle.tase_views.specs.declared.reply.ReplyKind.{ReplyKind}
-use Rattle.tase_views.specs.declared.reply.ReplyKind.TheVariants.{NamesAre}
-use Rattle.tase_views.specs.declared.reply.TheConstants.{NAMES_LIMIT}
-use Rattle.tase_views.specs.NameLists as lists
+use Rattle.std.proofs.Common.{◌≡◌, length, refl}
 use Rattle.std.proofs.lemmas.List.{length-map}
 use Rattle.node_core.proofs.Listed.{names_of, sorted_identifiers, shown_names}
 use Rattle.node_core.proofs.Sorted.{in_order-sorted}

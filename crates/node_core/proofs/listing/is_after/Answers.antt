@@ -1,7 +1,6 @@
 use Rattle.std.proofs.Common.{is_lt, refl, ap, ◌∙◌}
 use Rattle.std.specs.Ordering.{is_some_and}
 use Rattle.std.specs.Cmp.Lexicographic.{lists_agrees}
-use Rattle.tase_views.specs.NameLists.{is_below}
 use Rattle.node_core.proofs.listing.is_after.Goals as goal
 
 pub returns-in-Some : goal.returns-in-Some

@@ -9,14 +9,16 @@ use Rattle.std.specs.Ordering.{int_eq}
 use Rattle.std.proofs.lemmas.Int.{to_z-of_z}
 use Rattle.mms_data.specs.ObjectName.{IsIdentifier}
 use Rattle.bilateral.specs.declared.rows.Table.{Table}
-use Rattle.bilateral.specs.Rows.{table_of}
 use Rattle.tase_views.specs.declared.call.TheConstants.{NAMED_VARIABLES, NAMED_VARIABLE_LISTS}
 use Rattle.tase_views.specs.declared.call.TheConstants.{DOMAINS}
 use Rattle.tase_views.specs.declared.reply.ReplyKind.{ReplyKind}
-use Rattle.tase_views.specs.OwnTable.{own_table}
+use Rattle.tase_views.specs.OwnTable.{own_table, is_scope_of}
+use Rattle.tase_views.specs.Objects.{own_objects}
+use Rattle.tase_views.specs.Answers.{set_names}
 use Rattle.tase_views.specs.NameLists.{first_of, in_order, is_after, is_vmd}
 use Rattle.node_core.proofs.Listed.{variables-named, domain-named}
-use Rattle.node_core.proofs.Listed.{listed_variables, listed_domain, listed_lists, listed_nothing}
+use Rattle.node_core.proofs.Listed.{listed_variables, listed_domain, listed_nothing, listed_sets}
+use Rattle.node_core.proofs.Listed.{sets-named}
 use Rattle.node_core.proofs.Names.{table_of-slice_get}
 use Rattle.node_core.proofs.listing.list_names.Goals as goal
 use Rattle.node_core.proofs.listing.list_names.Goals.{else-is_class-2-via-then-is_class-2+else-is_vmd}
@@ -34,7 +36,7 @@ first_of-requires c =
     c.requires.lawful c.requires.known)
 
 pub returns-then-is_class-clause-value : goal.returns-then-is_class-clause-value
-returns-then-is_class-clause-value c =
+returns-then-is_class-clause-value c = λ view b.
     let rows = c.args.centre.now in
     let table = own_table rows c.args.peer in
     let same = table_of-slice_get rows c.args.peer c.table.result.now c.table.ensures in
@@ -44,7 +46,8 @@ returns-then-is_class-clause-value c =
     subst (λ (kind : ReplyKind). IfOk c.first_of.result (λ reply. reply ≡ kind))
     (ap (λ (names : List (List ℕ)). first_of (in_order names))
     (ap (map (λ name. name.now)) c.as_mut_slice.ensures.value ∙ c.in_ok-names.ensures)
-    ∙ sym (listed_variables table c.args.class c.args.scope.now c.args.after.now own
+    ∙ sym (listed_variables table (own_objects table) (set_names table view) c.args.class
+    c.args.scope.now c.args.after.now own
     (sym (c.is_class.ensures ∙ ap (λ (z : ℤ). int_eq z NAMED_VARIABLES) plain)
     ∙ c.if-is_class.true)))
     c.first_of.ensures.value
@@ -60,7 +63,7 @@ first_of-requires-then-is_vmd c =
     (domain-named rows c.args.peer c.args.after.now c.requires.lawful c.requires.known)
 
 pub returns-then-is_vmd-clause-value : goal.returns-then-is_vmd-clause-value
-returns-then-is_vmd-clause-value c =
+returns-then-is_vmd-clause-value c = λ view b.
     let rows = c.args.centre.now in
     let table = own_table rows c.args.peer in
     let same = table_of-slice_get rows c.args.peer c.table.result.now c.table.ensures in
@@ -72,15 +75,27 @@ returns-then-is_vmd-clause-value c =
     (ap (λ (names : List (List ℕ)). first_of (in_order names))
     (ap (map (λ name. name.now)) c.as_mut_slice-then-is_vmd.ensures.value
     ∙ c.in_ok-names-2.ensures ∙ sym domain)
-    ∙ sym (listed_domain table c.args.class c.args.scope.now c.args.after.now own
+    ∙ sym (listed_domain table (own_objects table) (set_names table view) c.args.class
+    c.args.scope.now c.args.after.now own
     (sym (c.is_class.ensures ∙ ap (λ (z : ℤ). int_eq z NAMED_VARIABLES) plain)
     ∙ c.if-is_class.false)
     (sym (c.is_class-2.ensures ∙ ap (λ (z : ℤ). int_eq z DOMAINS) plain) ∙ c.if-is_class-2.true)
     (sym c.is_vmd.ensures ∙ c.if-is_vmd.true)))
     c.first_of-then-is_vmd.ensures.value
 
+pub first_of-requires-then-is_class-3 : goal.first_of-requires-then-is_class-3
+first_of-requires-then-is_class-3 c =
+    let rows = c.args.centre.now in
+    let table = own_table rows c.args.peer in
+    let same = table_of-slice_get rows c.args.peer c.table.result.now c.table.ensures in
+    subst (λ (names : List (List ℕ)). All IsIdentifier names)
+    (sym (ap (map (λ name. name.now)) c.as_mut_slice-then-is_class-3.ensures.value
+    ∙ c.in_ok-names-3.ensures table (ap (λ (t : Table). t.domain) same)))
+    (sets-named (is_scope_of table c.args.scope.now false) c.args.book.now.sets c.args.after.now
+    c.requires.named)
+
 pub returns-then-is_class-3-clause-value : goal.returns-then-is_class-3-clause-value
-returns-then-is_class-3-clause-value c =
+returns-then-is_class-3-clause-value c = λ view b.
     let rows = c.args.centre.now in
     let table = own_table rows c.args.peer in
     let same = table_of-slice_get rows c.args.peer c.table.result.now c.table.ensures in
@@ -97,15 +112,19 @@ returns-then-is_class-3-clause-value c =
           ∙ w.if-is_class-2.false)
     ] in
     subst (λ (kind : ReplyKind). IfOk c.first_of-then-is_class-3.result (λ reply. reply ≡ kind))
-    (sym (listed_lists table c.args.class c.args.scope.now c.args.after.now own
+    (ap (λ (names : List (List ℕ)). first_of (in_order names))
+    (ap (map (λ name. name.now)) c.as_mut_slice-then-is_class-3.ensures.value
+    ∙ c.in_ok-names-3.ensures table (ap (λ (t : Table). t.domain) same))
+    ∙ listed_sets table view c.args.book.now (own_objects table) c.args.class c.args.scope.now
+    c.args.after.now b own
     (sym (c.is_class.ensures ∙ ap (λ (z : ℤ). int_eq z NAMED_VARIABLES) plain)
     ∙ c.if-is_class.false) apart
     (sym (c.is_class-3.ensures ∙ ap (λ (z : ℤ). int_eq z NAMED_VARIABLE_LISTS) plain)
-    ∙ c.if-is_class-3.true)))
+    ∙ c.if-is_class-3.true))
     c.first_of-then-is_class-3.ensures.value
 
 pub returns-clause-value : goal.returns-clause-value
-returns-clause-value c =
+returns-clause-value c = λ view b.
     let rows = c.args.centre.now in
     let table = own_table rows c.args.peer in
     let same = table_of-slice_get rows c.args.peer c.table.result.now c.table.ensures in
@@ -121,7 +140,8 @@ returns-clause-value c =
           (sym (c.is_class-2.ensures ∙ ap (λ (z : ℤ). int_eq z DOMAINS) plain)
           ∙ w.if-is_class-2.false)
     ] in
-    sym (listed_nothing table c.args.class c.args.scope.now c.args.after.now own
+    sym (listed_nothing table (own_objects table) (set_names table view) c.args.class
+    c.args.scope.now c.args.after.now own
     (sym (c.is_class.ensures ∙ ap (λ (z : ℤ). int_eq z NAMED_VARIABLES) plain)
     ∙ c.if-is_class.false) apart
     (sym (c.is_class-3.ensures ∙ ap (λ (z : ℤ). int_eq z NAMED_VARIABLE_LISTS) plain)

@@ -21,9 +21,8 @@ open-requires-clause-room c =
     c.args.self.now c.args.who c.args.event
     (Open c.args.peer) c.self.view_is c.requires.open c.requires.free in
     let there = named-open rows c.args.peer free.named in
-    let before = opens-at rows past c.self.inside.store.values.items
-    c.self.inside.store.counts.items c.self.inside.store.opens.items _ c.args.peer there
-    c.self.invariant.0 in
+    let before = opens-at rows past c.self.inside.store.points c.self.inside.store.sets.items
+    c.self.inside.store.opens.items _ c.args.peer there c.self.invariant.0 in
     omega (
       arith,
       before,

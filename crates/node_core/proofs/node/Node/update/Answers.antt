@@ -4,10 +4,25 @@ use Rattle.std.proofs.lemmas.List.{length-reverse}
 use Rattle.tase_views.specs.declared.event.EventKind.TheVariants.{Update}
 use Rattle.tase_views.specs.Setup.{Setup}
 use Rattle.tase_views.specs.Weights.{weight, weight_of}
-use Rattle.node_core.proofs.Causes.{free_in, light-fits}
-use Rattle.node_core.proofs.Outcomes.{reverse_push, IsAnswer-update}
+use Rattle.node_core.proofs.Causes.{free_in, named-update, light-fits}
+use Rattle.node_core.proofs.Outcomes.{reverse_push}
 use Rattle.node_core.proofs.Rooms.{HasRoom-noted}
+use Rattle.node_core.proofs.Steps.{points-there}
 use Rattle.node_core.proofs.node.Node.update.Goals as goal
+
+pub update-requires : goal.update-requires
+update-requires c =
+    let rows = arc_value c.self.inside.centre in
+    let past = reverse c.self.inside.history.items in
+    let setup : Setup = record { centre = rows; limit = c.self.inside.limit } in
+    let event = Update c.args.point c.args.value in
+    let free = free_in (record { setup = setup; history = c.self.inside.history.items })
+    c.args.self.now c.args.who c.args.event event c.self.view_is c.requires.update c.requires.free
+    in
+    record {
+      known = points-there rows past _ _ _ _ c.args.point c.args.value
+          (named-update rows c.args.point c.args.value free.named) c.self.invariant.0;
+    }
 
 pub invariant_of-self-2 : goal.invariant_of-self-2
 invariant_of-self-2 c =

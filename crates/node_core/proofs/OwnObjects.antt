@@ -1,0 +1,159 @@
+-- What a name stands for: an object of the protocol itself, or a point of the table.
+use Rattle.std.proofs.Common.{◌≡◌, ℕ, Bool, true, false, not, ◌&&◌, List, [], map, Option}
+use Rattle.std.proofs.Common.{Some, None, is_some, Bor, bytes_eq, refl, sym, ap, ◌∙◌}
+use Rattle.std.specs.List.{find, filter}
+use Rattle.std.specs.Option.{option_map, option_or, MatchOption}
+use Rattle.std.proofs.lemmas.Bool.{false≢true, true≢false}
+use Rattle.std.proofs.lemmas.List.Folds.{find-append}
+use Rattle.mms_data.specs.declared.object_name.Scope.{Scope}
+use Rattle.mms_data.specs.declared.object_name.Scope.TheVariants.{Vmd, Domain, Association}
+use Rattle.mms_data.specs.ObjectName.{ObjectName}
+use Rattle.bilateral.specs.declared.rows.See.{See}
+use Rattle.tase_views.specs.OwnTable.{OwnPoint, OwnTable, is_scope_of, point_named}
+use Rattle.tase_views.specs.Objects.{Object, NamedObject, indication_point, special_objects}
+use Rattle.tase_views.specs.Objects.{named_by, report_variables, point_object, is_named}
+use Rattle.tase_views.specs.Objects.{own_object, is_member}
+use Rattle.node_core.specs.declared.naming.Special.{Special}
+use Rattle.node_core.specs.Found.{special_object}
+use Rattle.node_core.proofs.Names.{find-map}
+
+or_mapped : {X Y : Type 0} (f : X → Y) (a b : Option X)
+    → option_map f (option_or a b) ≡ option_or (option_map f a) (option_map f b)
+or_mapped f None b = refl
+or_mapped f (Some x) b = refl
+
+object_of_point : (found : Option OwnPoint)
+    → option_map (λ (o : NamedObject). o.object) (option_map point_object found)
+    ≡ option_map indication_point found
+object_of_point None = refl
+object_of_point (Some p) = refl
+
+-- the object of the protocol itself that a name stands for
+abbrev pub special_named : OwnTable → ObjectName → Option Object
+special_named table name =
+    option_map (λ o. o.object) (find (is_named table name) (special_objects table))
+
+own_object-parts : (table : OwnTable) (name : ObjectName)
+    → own_object table name
+    ≡ option_or (special_named table name) (option_map indication_point (point_named table name))
+own_object-parts table name =
+    let test : NamedObject → Bool = is_named table name in
+    let points : List NamedObject = map point_object table.points in
+    ap (option_map (λ (o : NamedObject). o.object))
+    (find-append test (special_objects table) points)
+    ∙ or_mapped (λ (o : NamedObject). o.object) (find test (special_objects table))
+    (find test points)
+    ∙ ap (λ (found : Option NamedObject). option_or (special_named table name)
+    (option_map (λ (o : NamedObject). o.object) found))
+    (find-map point_object test (λ p. test (point_object p)) table.points (λ k d h. refl))
+    ∙ ap (option_or (special_named table name)) (object_of_point (point_named table name))
+
+-- an object of the protocol itself, where one has the name
+pub own_object-special : (table : OwnTable) (name : ObjectName) (found : Option Special)
+    (special : Special) → option_map (special_object table) found ≡ special_named table name
+    → found ≡ Some special → own_object table name ≡ Some (special_object table special)
+own_object-special table name found special named is =
+    own_object-parts table name
+    ∙ ap (λ (o : Option Object). option_or o (option_map indication_point (point_named table name)))
+    (sym named ∙ ap (option_map (special_object table)) is)
+
+-- else a point of the table
+pub own_object-point : (table : OwnTable) (name : ObjectName) (found : Option Special)
+    → option_map (special_object table) found ≡ special_named table name → found ≡ None
+    → own_object table name ≡ option_map indication_point (point_named table name)
+own_object-point table name found named is =
+    own_object-parts table name
+    ∙ ap (λ (o : Option Object). option_or o (option_map indication_point (point_named table name)))
+    (sym named ∙ ap (option_map (special_object table)) is)
+
+-- ---- the protocol's own objects in the whole device and in the domain
+
+-- those in a scope that has a name
+abbrev pub special_at : OwnTable → Scope → List ℕ → Option NamedObject
+special_at table scope item =
+    find (λ o. is_scope_of table scope o.vmd && bytes_eq o.item item) (special_objects table)
+
+abbrev object_of : Option NamedObject → Option Object
+object_of found = option_map (λ o. o.object) found
+
+pub special_at-device : (table : OwnTable) (scope : Scope) (item : List ℕ) (found : Option Object)
+    → is_scope_of table scope true ≡ true
+    → found ≡ object_of (find (λ o. o.vmd && bytes_eq o.item item) (special_objects table))
+    → found ≡ object_of (special_at table scope item)
+special_at-device table Vmd item found e is = is
+special_at-device table (Domain domain) item found e is = absurd (false≢true e)
+special_at-device table Association item found e is = absurd (false≢true e)
+
+pub special_at-domain : (table : OwnTable) (scope : Scope) (item : List ℕ) (found : Option Object)
+    → is_scope_of table scope false ≡ true
+    → found ≡ object_of (find (λ o. not o.vmd && bytes_eq o.item item) (special_objects table))
+    → found ≡ object_of (special_at table scope item)
+special_at-domain table Vmd item found e is = absurd (false≢true e)
+special_at-domain table (Domain domain) item found e is = rw e is
+special_at-domain table Association item found e is = absurd (false≢true e)
+
+pub special_at-nowhere : (table : OwnTable) (scope : Scope) (item : List ℕ)
+    → is_scope_of table scope true ≡ false → is_scope_of table scope false ≡ false
+    → None ≡ object_of (special_at table scope item)
+special_at-nowhere table Vmd item e f = absurd (true≢false e)
+special_at-nowhere table (Domain domain) item e f = rw f refl
+special_at-nowhere table Association item e f = refl
+
+-- the names of those in a scope
+abbrev pub specials_in : OwnTable → Scope → List (List ℕ)
+specials_in table scope =
+    map (λ o. o.item) (filter (λ o. is_scope_of table scope o.vmd) (special_objects table))
+
+pub specials_in-device : (table : OwnTable) (scope : Scope) → is_scope_of table scope true ≡ true
+    → specials_in table scope ≡ map (λ o. o.item) (filter (λ o. o.vmd) (special_objects table))
+specials_in-device table Vmd e = refl
+specials_in-device table (Domain domain) e = absurd (false≢true e)
+specials_in-device table Association e = absurd (false≢true e)
+
+pub specials_in-domain : (table : OwnTable) (scope : Scope) → is_scope_of table scope false ≡ true
+    → specials_in table scope
+    ≡ map (λ o. o.item) (filter (λ o. not o.vmd) (special_objects table))
+specials_in-domain table Vmd e = absurd (false≢true e)
+specials_in-domain table (Domain domain) e = rw e refl
+specials_in-domain table Association e = absurd (false≢true e)
+
+pub specials_in-nowhere : (table : OwnTable) (scope : Scope) → is_scope_of table scope true ≡ false
+    → is_scope_of table scope false ≡ false → specials_in table scope ≡ []
+specials_in-nowhere table Vmd e f = absurd (true≢false e)
+specials_in-nowhere table (Domain domain) e f = rw f refl
+specials_in-nowhere table Association e f = refl
+
+-- the report variables of both scopes are found alike
+abbrev in_domain : NamedObject → NamedObject
+in_domain o = named_by false o.item o.object
+
+found_in_domain : (found : Option NamedObject)
+    → option_map (λ (o : NamedObject). o.object) (option_map in_domain found)
+    ≡ option_map (λ (o : NamedObject). o.object) found
+found_in_domain None = refl
+found_in_domain (Some o) = refl
+
+pub reports_alike : (item : List ℕ)
+    → option_map (λ (o : NamedObject). o.object)
+    (find (λ o. bytes_eq o.item item) (report_variables false))
+    ≡ option_map (λ (o : NamedObject). o.object)
+    (find (λ o. bytes_eq o.item item) (report_variables true))
+reports_alike item =
+    let test : NamedObject → Bool = λ o. bytes_eq o.item item in
+    ap (option_map (λ (o : NamedObject). o.object))
+    (find-map in_domain test test (report_variables true) (λ k d h. refl))
+    ∙ found_in_domain (find test (report_variables true))
+
+-- ---- what a row that was found says of the object
+
+pub named_there : (found : Option (Bor See)) (named : Option OwnPoint) (own : See → OwnPoint)
+    → MatchOption found (named ≡ None) (λ see. named ≡ Some (own see.now))
+    → is_some found ≡ is_some (option_map indication_point named)
+named_there None named own e = rw e refl
+named_there (Some see) named own e = rw e refl
+
+pub named_member : (found : Option (Bor See)) (named : Option OwnPoint) (own : See → OwnPoint)
+    → MatchOption found (named ≡ None) (λ see. named ≡ Some (own see.now))
+    → is_some found ≡ is_member (option_map indication_point named)
+named_member None named own e = rw e refl
+named_member (Some see) named own e = rw e refl

@@ -1,0 +1,7 @@
+use Rattle.std.proofs.Common.{◌≡◌, drop}
+use Rattle.node_core.specs.SetsKept.{left_by}
+use Rattle.node_core.proofs.sets.delete_sets.Given as goal
+
+abbrev pub invariant-loop-name : goal.invariant-loop-name
+invariant-loop-name l =
+    left_by l.domain (drop l.name-index l.names) l.book ≡ left_by l.domain l.names l.initial.book

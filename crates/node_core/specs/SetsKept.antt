@@ -1,0 +1,33 @@
+-- What a node keeps of the data sets of a peer.
+use Rattle.std.specs.Prelude.{◌≡◌, ◌≢◌, ℕ, ◌<◌, ◌≤◌, ◌&&◌, Bool, if◌then◌else◌, List, [], ◌∷◌}
+use Rattle.std.specs.Prelude.{length, bytes_eq}
+use Rattle.std.specs.List.{All, AllPairs, list_any}
+use Rattle.mms_data.specs.declared.object_name.Scope.TheVariants.{Domain}
+use Rattle.mms_data.specs.ObjectName.{ObjectName, IsIdentifier, same_scope}
+use Rattle.data_sets.specs.Books.{Book, members_in, deleted}
+use Rattle.tase_views.specs.OwnTable.{OwnTable}
+use Rattle.tase_views.specs.View.{View}
+use Rattle.tase_views.specs.Sets.{sets_in}
+
+-- a book has the data sets that the view of a peer with this table shows, each once, and as many
+-- may stand in it as the table allows; names are identifiers, and each data set has a member
+pub record IsBook (table : OwnTable) (view : View) (book : Book) : Type 0 where
+  pub limit : book.limit ≡ table.sets
+  pub few : length book.sets ≤ table.sets
+  pub members : (name : List ℕ) → members_in book.sets name ≡ sets_in table view name
+  pub once : AllPairs (λ a b. a.name ≢ b.name) book.sets
+  pub named : All (λ set. IsIdentifier set.name) book.sets
+  pub some : All (λ set. 0 < length set.members) book.sets
+
+-- whether the data set with a name is among those of a domain that are named
+abbrev pub is_named_in : List ℕ → List ObjectName → List ℕ → Bool
+is_named_in domain names item =
+    list_any (λ name. same_scope name.scope (Domain domain) && bytes_eq name.item item) names
+
+-- a book behind deletions by names, one after another: those of the domain take their data sets
+-- away
+abbrev pub left_by : List ℕ → List ObjectName → Book → Book
+left_by domain [] book = book
+left_by domain (name ∷ names) book =
+    left_by domain names
+    (if same_scope name.scope (Domain domain) then deleted book name.item else book)

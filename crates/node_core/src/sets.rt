@@ -1,0 +1,204 @@
+//! The data sets of a peer: replies about them.
+ghost use Rattle.std.specs.Prelude.{◌≡◌, ◌<◌, ◌^◌, ◌&&◌, ◌||◌, ◌↔◌, ℕ, IsTrue, false};
+ghost use Rattle.std.specs.Prelude.{if◌then◌else◌, length, is_some, nat_le, nat_lt, slice_get};
+ghost use Rattle.std.specs.Prelude.{IfOk};
+ghost use Rattle.std.specs.List.{list_all};
+ghost use Rattle.std.specs.Option.{option_copied, option_map_or};
+ghost use Rattle.mms_data.specs.declared.object_name.Scope.TheVariants.{Domain as InDomain};
+ghost use Rattle.mms_data.specs.ObjectName.{same_scope};
+ghost use Rattle.table_words.specs.Words as identifiers;
+ghost use Rattle.data_sets.specs.Books.{members_in, deleted};
+ghost use Rattle.bilateral.specs.Rows.{IsCentre};
+ghost use Rattle.tase_views.specs.OwnTable.{OwnTable, own_table};
+ghost use Rattle.tase_views.specs.Objects as objects;
+ghost use Rattle.tase_views.specs.View.{View};
+ghost use Rattle.tase_views.specs.Sets as sets;
+ghost use Rattle.tase_views.specs.Answers as answers;
+ghost use Rattle.tase_views.specs.Replies.{IsReply};
+ghost use Rattle.node_core.specs.SetsKept.{IsBook, is_named_in, left_by};
+
+use crate::naming::is_member;
+use ber_values::Visible;
+use bilateral::Centre;
+use data_sets::{MOST_MEMBERS, Members, SetBook};
+use mms_data::{Name, Names, Scope};
+use std::alloc::AllocError;
+use table_words::is_identifier;
+use tase_views::{
+    ACCESS_DENIED, ACCESS_ERRORS, DEFINITION_ERRORS, EXISTS, NON_EXISTENT, OTHER, RESOURCE_ERRORS,
+    ReplyKind, UNDEFINED,
+};
+
+/// The reply to the definition of a data set (ISO 9506-2, `DefineNamedVariableList`).
+pub fn define_reply(
+    centre: &Centre,
+    peer: u32,
+    book: &SetBook,
+    set: &Name,
+    members: &Names,
+) -> ReplyKind
+    requires known { peer < length centre.now.tables }
+    requires lawful { IsCentre centre.now }
+    ensures value { (view : View) → IsBook (own_table centre.now peer) view book.now
+        → let table = own_table centre.now peer in result ≡ answers.define_replied
+        (sets.define_fault table (sets.sets_in table view) view set.now members.now) }
+    ensures lawful { IsReply result }
+{
+    let table = centre.table(peer);
+    if !is_set_name(&table.domain, set) {
+        return error(ACCESS_ERRORS, ACCESS_DENIED);
+    }
+    if has_set(book, set.item()) {
+        return error(DEFINITION_ERRORS, EXISTS);
+    }
+    if is_too_many(table.sets, book.count(), members.len()) {
+        return error(RESOURCE_ERRORS, OTHER);
+    }
+    if !are_members(centre, peer, members.as_slice()) {
+        return error(DEFINITION_ERRORS, UNDEFINED);
+    }
+    ReplyKind::Defined
+}
+
+/// Whether this is the reply to a definition that has no error.
+pub fn is_defined(reply: &ReplyKind) -> bool
+    ensures { IsTrue result ↔ (reply.now ≡ ReplyKind.Defined) }
+{
+    matches!(reply, ReplyKind::Defined)
+}
+
+fn error(class: u8, code: u8) -> ReplyKind
+    ensures { result ≡ ReplyKind.Error class code }
+{
+    ReplyKind::Error { class, code }
+}
+
+/// Whether a name is one that a data set of a domain may have.
+fn is_set_name(domain: &Visible, set: &Name) -> bool
+    ensures { result ≡ same_scope set.now.scope (InDomain domain.now)
+        && identifiers.is_identifier set.now.item }
+{
+    is_in_domain(domain, set) && is_identifier(set.item().as_slice())
+}
+
+/// Whether a data set has this name.
+fn has_set(book: &SetBook, name: &Visible) -> bool
+    ensures { result ≡ is_some (members_in book.now.sets name.now) }
+{
+    book.members(name).is_some()
+}
+
+/// Whether one data set more with so many members is too many beside so many, of which there may be
+/// `limit`.
+fn is_too_many(limit: u32, count: usize, members: usize) -> bool
+    ensures { result ≡ (nat_lt MOST_MEMBERS members || nat_le limit count) }
+{
+    MOST_MEMBERS < members || limit as usize <= count
+}
+
+/// Whether a name is of a domain.
+fn is_in_domain(domain: &Visible, name: &Name) -> bool
+    ensures { result ≡ same_scope name.now.scope (InDomain domain.now) }
+{
+    match name.scope() {
+        Scope::Domain(other) => other == domain,
+        Scope::Vmd | Scope::Association => false,
+    }
+}
+
+/// Whether each name is one that a data set may have as its member.
+fn are_members(centre: &Centre, peer: u32, members: &[Name]) -> bool
+    requires known { peer < length centre.now.tables }
+    requires lawful { IsCentre centre.now }
+    ensures { let table = own_table centre.now peer in result
+        ≡ list_all (λ member. objects.is_member (objects.own_object table member)) members.now }
+{
+    members.iter().all(|member| is_member(centre, peer, member))
+}
+
+/// The members of the data set that a name is that of.
+pub fn find_set<'a>(domain: &Visible, book: &'a SetBook, set: &Name) -> Option<&'a Members>
+    ensures { (table : OwnTable) (view : View) → table.domain ≡ domain.now
+        → IsBook table view book.now
+        → option_copied result ≡ sets.members_of table view set.now }
+{
+    if is_in_domain(domain, set) {
+        book.members(set.item())
+    } else {
+        None
+    }
+}
+
+/// The reply to a request for the members of a data set
+/// (ISO 9506-2, `GetNamedVariableListAttributes`).
+pub fn members_reply(domain: &Visible, book: &SetBook, set: &Name) -> Result<ReplyKind, AllocError>
+    ensures value { (table : OwnTable) (view : View) → table.domain ≡ domain.now
+        → IsBook table view book.now → IfOk result (λ kind. kind
+        ≡ answers.set_replied ReplyKind.MembersAre (sets.members_of table view set.now)) }
+    ensures lawful { (table : OwnTable) (view : View) → table.domain ≡ domain.now
+        → IsBook table view book.now → IfOk result IsReply }
+{
+    match find_set(domain, book, set) {
+        Some(members) => Ok(ReplyKind::MembersAre(members.clone()?)),
+        None => Ok(error(ACCESS_ERRORS, NON_EXISTENT)),
+    }
+}
+
+/// The reply to a deletion (ISO 9506-2, `DeleteNamedVariableList`): each data set that is named is
+/// deleted, and counts once.
+pub fn delete_reply(domain: &Visible, book: &SetBook, names: &Names) -> ReplyKind
+    requires few { length book.now.sets < 2 ^ 32 }
+    ensures { (table : OwnTable) (view : View) (ordinal : ℕ) → table.domain ≡ domain.now
+        → IsBook table view book.now → result
+        ≡ answers.delete_replied (sets.deletion_of table view ordinal names.now) }
+{
+    let names = names.as_slice();
+    let mut count = 0u32;
+    for index in 0..book.count() {
+        if is_named_at(domain, book, index, names) {
+            count += 1;
+        }
+    }
+    ReplyKind::Deleted {
+        matched: count,
+        deleted: count,
+    }
+}
+
+/// Whether the data set at a place is among those that are named.
+fn is_named_at(domain: &Visible, book: &SetBook, index: usize, names: &[Name]) -> bool
+    ensures { result ≡ option_map_or (λ set. is_named_in domain.now names.now set.name)
+        (slice_get book.now.sets index) false }
+{
+    match book.name(index) {
+        Some(set) => is_among(domain, set, names),
+        None => false,
+    }
+}
+
+/// Whether the data set with this name is among those that are named.
+fn is_among(domain: &Visible, set: &Visible, names: &[Name]) -> bool
+    ensures { result ≡ is_named_in domain.now names.now set.now }
+{
+    names
+        .iter()
+        .any(|name| is_in_domain(domain, name) && name.item() == set)
+}
+
+/// Deletes the data sets of a domain that are named.
+pub fn delete_sets(domain: &Visible, book: &mut SetBook, names: &[Name])
+    ensures { book.new ≡ left_by domain.now names.now book.old }
+{
+    for name in names {
+        delete_set(domain, book, name);
+    }
+}
+
+fn delete_set(domain: &Visible, book: &mut SetBook, name: &Name)
+    ensures { book.new ≡ (if same_scope name.now.scope (InDomain domain.now)
+        then deleted book.old name.now.item else book.old) }
+{
+    if is_in_domain(domain, name) {
+        book.delete(name.item());
+    }
+}
