@@ -7,7 +7,7 @@ use std::test::Fail;
 use tase_views::{Event, EventKind, Reply, ReplyKind, Results, WriteResults};
 
 /// Texts of calls, and these as they are written.
-const CALLS: [(&str, &str); 15] = [
+const CALLS: [(&str, &str); 23] = [
     ("identify", "identify"),
     ("read vmd:Supported", "read vmd:Supported"),
     ("read+ DOMA/BUS1 aa:X", "read+ DOMA/BUS1 aa:X"),
@@ -29,13 +29,27 @@ const CALLS: [(&str, &str); 15] = [
         "names 9223372036854775807 D%20M/ X",
     ),
     ("names -1 vmd:", "names -1 vmd:"),
+    ("readset DOMA/S", "readset DOMA/S"),
+    ("readset+  aa:S", "readset+ aa:S"),
+    ("writeset DOMA/S i1  {T,F}", "writeset DOMA/S i1 {T,F}"),
+    (
+        "define DOMA/S DOMA/BUS1  vmd:Transfer_Set_Name",
+        "define DOMA/S DOMA/BUS1 vmd:Transfer_Set_Name",
+    ),
+    ("members DOMA/A%20B", "members DOMA/A%20B"),
+    ("delete DOMA/S vmd:S  DOMA/S", "delete DOMA/S vmd:S DOMA/S"),
+    ("deletescope 2", "deletescope 2"),
+    (
+        "deletescope -9223372036854775808",
+        "deletescope -9223372036854775808",
+    ),
     ("odd 1 1", "odd 1 1"),
     ("odd 5 1", "odd 5 1"),
     ("odd   1    1", "odd 1 1"),
 ];
 
 /// Texts that are no calls, and the first bad place of each.
-const FAULTS: [(&str, usize); 52] = [
+const FAULTS: [(&str, usize); 68] = [
     ("", 0),
     ("Identify", 0),
     ("identif", 0),
@@ -75,6 +89,22 @@ const FAULTS: [(&str, usize); 52] = [
     ("names 0 /", 8),
     ("names 0 vmd: A/B", 13),
     ("names 0 vmd: A B", 15),
+    ("readset", 7),
+    ("readset+ S", 9),
+    ("readset DOMA/S DOMA/S", 15),
+    ("writeset", 8),
+    ("writeset DOMA/S", 15),
+    ("writeset DOMA/S i1 x", 19),
+    ("writeset DOMA/S=T", 9),
+    ("define", 6),
+    ("define DOMA/S", 13),
+    ("define DOMA/S BUS1", 14),
+    ("members", 7),
+    ("members DOMA/S DOMA/T", 15),
+    ("delete", 6),
+    ("delete DOMA/S T", 14),
+    ("deletescope 0", 12),
+    ("deletescope 2 3", 14),
     ("odd", 3),
     ("odd 2 1", 4),
     ("odd 1", 5),

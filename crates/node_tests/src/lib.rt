@@ -11,6 +11,8 @@ mod listing;
 #[cfg(test)]
 mod points;
 #[cfg(test)]
+mod sets;
+#[cfg(test)]
 mod shown;
 #[cfg(test)]
 mod steps;

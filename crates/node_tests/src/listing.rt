@@ -75,9 +75,9 @@ fn names_come_a_hundred_at_a_time(rt: HostRuntime) -> Result<(), Fail> {
     let mut node = Node::new(alloc, Arc::new(alloc, centre)?, 1000)?;
     node.step(alloc, 1, Event::new(EventKind::Open { peer: 0 }))?;
     for (after, ends, count, more) in [
-        ("", "P1000\nP1099\n", 100, true),
-        ("P1099", "P1100\nP1199\n", 100, true),
-        ("P1199", "P1200\nP1249\n", 50, false),
+        ("", "Bilateral_Table_ID\nP1096\n", 100, true),
+        ("P1096", "P1097\nP1196\n", 100, true),
+        ("P1196", "P1197\nTransfer_Set_Time_Stamp\n", 55, false),
     ] {
         let (first_and_last, len, follow) = listed(alloc, &mut node, after)?;
         assert_eq!(rt; first_and_last.as_slice(), ends.as_bytes(), "{after}");

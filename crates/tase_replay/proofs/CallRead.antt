@@ -11,7 +11,6 @@ use Rattle.std.specs.Option.{option_and_then}
 use Rattle.std.specs.Str.{bytes_eq}
 use Rattle.std.proofs.lemmas.List.Elements.{All-cons, All-head, All-tail}
 use Rattle.std.proofs.lemmas.Option.{option_and_then_some, none-some, same_Some}
-use Rattle.std.proofs.lemmas.Slice.Eq.{bytes_eq-Decides}
 use Rattle.plain_text.specs.Words.{each_in}
 use Rattle.plain_text.proofs.EscapedText.{option_map-found}
 use Rattle.mms_data.specs.Datum.{Datum}
@@ -25,7 +24,9 @@ use Rattle.mms_text.proofs.ReadName.{name_in-found, name_in-name_text}
 use Rattle.mms_text.proofs.TextBreaks as breaks
 use Rattle.mms_text.proofs.WordText.{chosen}
 use Rattle.tase_views.specs.declared.call.CallKind.{CallKind}
-use Rattle.tase_views.specs.declared.call.CallKind.TheVariants.{Identify, Read, Write, NameList, Odd}
+use Rattle.tase_views.specs.declared.call.CallKind.TheVariants.{Identify, Read, ReadSet, Write}
+use Rattle.tase_views.specs.declared.call.CallKind.TheVariants.{WriteSet, NameList, Define}
+use Rattle.tase_views.specs.declared.call.CallKind.TheVariants.{MembersOf, Delete, DeleteScope, Odd}
 use Rattle.tase_views.specs.EventTexts.{read_verb}
 use Rattle.event_text.specs.CallWords.{assigned_words, after_words, SpellsCall, AreCallWords}
 use Rattle.tase_replay.specs.CallIn.{assigned_in, some_in, read_in, write_in, class_in}
@@ -35,10 +36,9 @@ use Rattle.tase_replay.proofs.CallParts.{assigned_in-word, class_in-found, class
 use Rattle.tase_replay.proofs.CallParts.{scope_of_word-found, scope_of_word-text, after_in-found}
 use Rattle.tase_replay.proofs.CallParts.{after_in-words, each_in-found, each_in-words}
 use Rattle.tase_replay.proofs.CallParts.{if_some-found, if_some-whole}
-
--- words spell a call that isn't odd
-abbrev Said : List (List ℕ) → CallKind → Type 0
-Said words call = SpellsCall words call × (is_odd call ≡ false)
+use Rattle.tase_replay.proofs.SetCalls.{Said, verb_is, set_call_in-found, read_set_in-words}
+use Rattle.tase_replay.proofs.SetCalls.{members_in-words, delete_in-words, define_in-words}
+use Rattle.tase_replay.proofs.SetCalls.{write_set_in-words, delete_scope_in-words}
 
 read_in-found : (echo : Bool) (words : List (List ℕ)) (call : CallKind)
     → read_in echo words ≡ Some call → Said (read_verb echo ∷ words) call
@@ -217,12 +217,6 @@ identify_in-found [] call e =
     (record { spelled = refl; lawful = tt; textual = tt }, refl)
 identify_in-found (word ∷ words) call e = absurd (none-some call e)
 
--- a verb, and what stands behind it
-verb_is : (verb word : List ℕ) (words : List (List ℕ)) (call : CallKind)
-    → bytes_eq verb word ≡ true → Said (word ∷ words) call → Said (verb ∷ words) call
-verb_is verb word words call e said =
-    subst (λ (v : List ℕ). Said (v ∷ words) call) (sym ((bytes_eq-Decides verb word).0 e)) said
-
 pub call_in-found : (words : List (List ℕ)) (call : CallKind) → call_in words ≡ Some call
     → Said words call
 call_in-found [] call e = absurd (none-some call e)
@@ -237,7 +231,7 @@ call_in-found (verb ∷ words) call e =
     (λ is o. verb_is verb (codes "names") words call is (list_in-found words call o))
     (λ other o. chosen (Said (verb ∷ words) call) call (bytes_eq verb (codes "identify")) _ _
     (λ is p. verb_is verb (codes "identify") words call is (identify_in-found words call p))
-    (λ other p. absurd (none-some call p)) o) n) m) k) e
+    (λ other p. set_call_in-found verb words call p) o) n) m) k) e
 
 pub call_in-words : (words : List (List ℕ)) (call : CallKind) → SpellsCall words call
     → is_odd call ≡ false → call_in words ≡ Some call
@@ -249,6 +243,20 @@ call_in-words words (Read names false) s odd =
 call_in-words words (Write names values) s odd =
     ap call_in s.spelled
     ∙ write_in-words names values s.lawful.0 s.lawful.1 s.textual.0 s.textual.1
+call_in-words words (ReadSet set true) s odd =
+    ap call_in s.spelled ∙ read_set_in-words true set s.textual
+call_in-words words (ReadSet set false) s odd =
+    ap call_in s.spelled ∙ read_set_in-words false set s.textual
+call_in-words words (WriteSet set values) s odd =
+    ap call_in s.spelled
+    ∙ write_set_in-words set values s.textual.0 s.lawful.0 s.textual.1
+call_in-words words (Define set members) s odd =
+    ap call_in s.spelled ∙ define_in-words set members s.textual.0 s.lawful s.textual.1
+call_in-words words (MembersOf set) s odd = ap call_in s.spelled ∙ members_in-words set s.textual
+call_in-words words (Delete sets) s odd =
+    ap call_in s.spelled ∙ delete_in-words sets s.lawful s.textual
+call_in-words words (DeleteScope scope) s odd =
+    ap call_in s.spelled ∙ delete_scope_in-words scope s.textual s.lawful
 call_in-words words (NameList class scope after) s odd =
     ap call_in s.spelled ∙ list_in-words class scope after s.textual s.lawful.0 s.lawful.1
 call_in-words words (Odd kind code) s odd = absurd cc
@@ -265,7 +273,13 @@ call_in-odd : (words : List (List ℕ)) (call : CallKind) → SpellsCall words c
 call_in-odd words Identify s odd = absurd cc
 call_in-odd words (Read names echo) s odd = absurd cc
 call_in-odd words (Write names values) s odd = absurd cc
+call_in-odd words (ReadSet set echo) s odd = absurd cc
+call_in-odd words (WriteSet set values) s odd = absurd cc
 call_in-odd words (NameList class scope after) s odd = absurd cc
+call_in-odd words (Define set members) s odd = absurd cc
+call_in-odd words (MembersOf set) s odd = absurd cc
+call_in-odd words (Delete sets) s odd = absurd cc
+call_in-odd words (DeleteScope scope) s odd = absurd cc
 call_in-odd words (Odd kind code) s odd = ap call_in s.spelled
 
 -- of words that spell a call

@@ -1,5 +1,6 @@
 pub mod Foreign
 pub mod CallParts
+pub mod SetCalls
 pub mod CallRead
 pub mod Taking
 pub mod Reached

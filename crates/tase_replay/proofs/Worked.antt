@@ -12,7 +12,7 @@ use Rattle.mms_data.specs.Datum.{Datum, integer, bits}
 use Rattle.mms_data.specs.declared.object_name.Scope.TheVariants.{Domain}
 use Rattle.mms_data.specs.ObjectName.{ObjectName}
 use Rattle.mms_text.specs.TextRead.{HasText}
-use Rattle.tase_views.specs.declared.call.CallKind.TheVariants.{Write}
+use Rattle.tase_views.specs.declared.call.CallKind.TheVariants.{Write, WriteSet}
 use Rattle.tase_views.specs.declared.event.EventKind.TheVariants.{Request}
 use Rattle.tase_views.specs.declared.event.Entry.{Entry}
 use Rattle.tase_views.specs.History.{Past}
@@ -100,12 +100,14 @@ refused-shown = refl
 abbrev listed : List (List ℕ)
 listed = codes "open 1 A" ∷ codes "say 1 names 9 vmd:" ∷ codes "say 1 names 0 DOMB/"
     ∷ codes "say 1 names 0 aa:" ∷ codes "say 1 names 0 DOMA/"
-    ∷ codes "say 1 names 0 DOMA/ BUS1" ∷ []
+    ∷ codes "say 1 names 0 DOMA/ Event_Code_Detected" ∷ []
 
 listed-shown : shown_of (played listed)
     ≡ text_of (codes "reply 1 names end DOMA" ∷ codes "reply 1 error 7 2"
-    ∷ codes "reply 1 names end" ∷ codes "reply 1 names end BUS1 LOAD1"
-    ∷ codes "reply 1 names end LOAD1" ∷ [])
+    ∷ codes "reply 1 names end"
+    ∷ (codes "reply 1 names end BUS1 Bilateral_Table_ID DSConditions_Detected"
+    ++ codes " Event_Code_Detected LOAD1 Transfer_Set_Name Transfer_Set_Time_Stamp")
+    ∷ codes "reply 1 names end LOAD1 Transfer_Set_Name Transfer_Set_Time_Stamp" ∷ [])
 unfolding digits
 listed-shown = refl
 
@@ -205,3 +207,51 @@ two_peers-lines = refl
 two_peers-replies : replies_to 0 (played two_peers) ≡ text_of (codes "reply 1 read b8.80" ∷ [])
 unfolding digits
 two_peers-replies = refl
+
+-- data sets, and the names of the protocol itself
+abbrev sets : List (List ℕ)
+sets =
+    codes "open 1 A" ∷ codes "open 2 B" ∷ codes "update BUS1 s2 00 1700000000 0"
+    ∷ (codes "say 1 read vmd:TASE2_Version vmd:Supported_Features DOMA/Bilateral_Table_ID"
+    ++ codes " DOMA/Transfer_Set_Name")
+    ∷ codes "say 1 define DOMA/S DOMA/BUS1 DOMA/DSConditions_Detected"
+    ∷ codes "say 1 readset DOMA/S" ∷ codes "say 1 define DOMA/S DOMA/BUS1"
+    ∷ codes "say 1 define DOMA/X DOMA/NOPE"
+    ∷ codes "say 1 define DOMA/X vmd:Transfer_Set_Name DOMA/BUS1" ∷ codes "open 3 A"
+    ∷ codes "say 3 members DOMA/S" ∷ codes "say 2 readset DOMA/S" ∷ codes "say 1 deletescope 2"
+    ∷ codes "say 1 delete DOMA/S DOMA/S" ∷ codes "say 3 names 2 DOMA/" ∷ []
+
+sets-shown : shown_of (played sets)
+    ≡ text_of (codes "reply 1 read {i2000,i8} b12.c800 vTBLA !9" ∷ codes "reply 1 defined"
+    ∷ codes "reply 1 read b8.80 !9" ∷ codes "reply 1 error 2 5" ∷ codes "reply 1 error 2 1"
+    ∷ codes "reply 1 defined" ∷ codes "reply 3 members DOMA/BUS1 DOMA/DSConditions_Detected"
+    ∷ codes "reply 2 error 7 2" ∷ codes "reply 1 error 7 3" ∷ codes "reply 1 deleted 1 1"
+    ∷ codes "reply 3 names end X" ∷ [])
+unfolding digits
+sets-shown = refl
+
+-- a write of a data set
+abbrev define_line : List ℕ
+define_line = codes "say 1 define DOMA/S DOMA/BUS1 DOMA/LOAD1"
+
+abbrev write_set_line : List ℕ
+write_set_line = codes "say 1 writeset DOMA/S i1 i1"
+
+abbrev write_set_entry : Entry
+write_set_entry = record {
+  who = 1;
+  event = Request (WriteSet (name_a (codes "S")) (integer (pos 1) ∷ integer (pos 1) ∷ []));
+}
+
+write_set_line-entry : entry_in setup.centre write_set_line ≡ Some write_set_entry
+write_set_line-entry = rw one_read refl
+
+set_written-shown : shown_of (played (codes "open 1 A" ∷ define_line ∷ write_set_line ∷ []))
+    ≡ text_of (codes "reply 1 defined" ∷ codes "reply 1 error 7 3" ∷ [])
+unfolding digits
+set_written-shown =
+    ap (λ (found : Option Entry). shown_of (play_line (codes "open 1 A") 1 []
+    (line_in setup [] (codes "open 1 A"))
+    (λ (opened : Past). play_line define_line 2 opened (line_in setup opened define_line)
+    (λ (after : Past). play_line write_set_line 3 after (accepted setup after found) ends_there))))
+    write_set_line-entry

@@ -4,6 +4,7 @@ use Rattle.std.specs.Prelude.{negsuc, List, [], ◌∷◌, length, map, slice_in
 use Rattle.std.specs.Prelude.{option_map, option_and_then, codes, bytes_eq}
 use Rattle.std.proofs.Common.{take, drop, inl, inr}
 use Rattle.std.specs.List.{position}
+use Rattle.std.specs.Ordering.{int_eq}
 use Rattle.plain_text.specs.Numbers.{integer_within}
 use Rattle.plain_text.specs.Words.{each_in}
 use Rattle.mms_data.specs.Datum.{Datum}
@@ -13,7 +14,9 @@ use Rattle.mms_text.specs.NameIn.{identifier_in, is_separator, scope_in, name_in
 use Rattle.mms_text.specs.TextRead.{HasOneTextReading}
 use Rattle.mms_text.proofs.TextReading.{one_text_reading}
 use Rattle.tase_views.specs.declared.call.CallKind.{CallKind}
-use Rattle.tase_views.specs.declared.call.CallKind.TheVariants.{Identify, Read, Write, NameList, Odd}
+use Rattle.tase_views.specs.declared.call.CallKind.TheVariants.{Identify, Read, ReadSet, Write}
+use Rattle.tase_views.specs.declared.call.CallKind.TheVariants.{WriteSet, NameList, Define}
+use Rattle.tase_views.specs.declared.call.CallKind.TheVariants.{MembersOf, Delete, DeleteScope, Odd}
 
 -- the datum of a text that is the text of one
 abbrev pub datum_read : (text : List ℕ) → HasOneTextReading text → Option Datum
@@ -85,6 +88,53 @@ abbrev pub identify_in : List (List ℕ) → Option CallKind
 identify_in [] = Some Identify
 identify_in (word ∷ words) = None
 
+-- a name, and nothing behind it
+abbrev pub sole_in : List (List ℕ) → Option ObjectName
+sole_in [] = None
+sole_in (word ∷ []) = name_in word
+sole_in (word ∷ next ∷ more) = None
+
+-- `NAME` behind `readset` or `readset+`
+abbrev pub read_set_in : Bool → List (List ℕ) → Option CallKind
+read_set_in echo words = option_map (λ set. ReadSet set echo) (sole_in words)
+
+-- `NAME DATA ..` behind `writeset`
+abbrev pub write_set_in : List (List ℕ) → Option CallKind
+write_set_in [] = None
+write_set_in (set ∷ values) =
+    option_and_then (λ s. option_map (λ vs. WriteSet s vs) (some_in datum_in values)) (name_in set)
+
+-- `NAME MEMBER ..` behind `define`
+abbrev pub define_in : List (List ℕ) → Option CallKind
+define_in [] = None
+define_in (set ∷ members) =
+    option_and_then (λ s. option_map (λ ms. Define s ms) (some_in name_in members)) (name_in set)
+
+-- `NAME ..` behind `delete`
+abbrev pub delete_in : List (List ℕ) → Option CallKind
+delete_in words = option_map (λ sets. Delete sets) (some_in name_in words)
+
+-- a scope of deletion other than 0
+abbrev pub if_other : ℤ → Option CallKind
+if_other scope = if int_eq scope (pos 0) then None else Some (DeleteScope scope)
+
+-- `SCOPE` behind `deletescope`
+abbrev pub delete_scope_in : List (List ℕ) → Option CallKind
+delete_scope_in [] = None
+delete_scope_in (word ∷ []) = option_and_then if_other (class_in word)
+delete_scope_in (word ∷ next ∷ more) = None
+
+-- the call of data sets that a verb and the words behind it spell
+abbrev pub set_call_in : List ℕ → List (List ℕ) → Option CallKind
+set_call_in verb words =
+    if bytes_eq verb (codes "readset") then read_set_in false words
+    else (if bytes_eq verb (codes "readset+") then read_set_in true words
+    else (if bytes_eq verb (codes "writeset") then write_set_in words
+    else (if bytes_eq verb (codes "define") then define_in words
+    else (if bytes_eq verb (codes "members") then option_map (λ set. MembersOf set) (sole_in words)
+    else (if bytes_eq verb (codes "delete") then delete_in words
+    else (if bytes_eq verb (codes "deletescope") then delete_scope_in words else None))))))
+
 -- the call that words spell, but an odd one
 abbrev pub call_in : List (List ℕ) → Option CallKind
 call_in [] = None
@@ -93,12 +143,19 @@ call_in (verb ∷ words) =
     else (if bytes_eq verb (codes "read+") then read_in true words
     else (if bytes_eq verb (codes "write") then write_in words
     else (if bytes_eq verb (codes "names") then list_in words
-    else (if bytes_eq verb (codes "identify") then identify_in words else None))))
+    else (if bytes_eq verb (codes "identify") then identify_in words
+    else set_call_in verb words))))
 
 -- a reject's kind and code in place of a call
 abbrev pub is_odd : CallKind → Bool
 is_odd Identify = false
 is_odd (Read names echo) = false
 is_odd (Write names values) = false
+is_odd (ReadSet set echo) = false
+is_odd (WriteSet set values) = false
 is_odd (NameList class scope after) = false
+is_odd (Define set members) = false
+is_odd (MembersOf set) = false
+is_odd (Delete sets) = false
+is_odd (DeleteScope scope) = false
 is_odd (Odd kind code) = true

@@ -115,9 +115,6 @@ fn unless_odd(call: Call) -> Option<Call>
 {
     match call.kind() {
         CallKind::Odd { .. } => None,
-        CallKind::Identify
-        | CallKind::Read { .. }
-        | CallKind::Write { .. }
-        | CallKind::NameList { .. } => Some(call),
+        _ => Some(call),
     }
 }

@@ -57,7 +57,8 @@ const SCENARIOS: [(&str, Status, &str); 11] = [
     (
         "open 1 A\nsay 1 names 0 DOMA/\n",
         Status::Done,
-        "reply 1 names end BUS1 LOAD1\n",
+        "reply 1 names end BUS1 Bilateral_Table_ID DSConditions_Detected Event_Code_Detected \
+         LOAD1 Transfer_Set_Name Transfer_Set_Time_Stamp\n",
     ),
     (
         "open 1 A\nsay 1 write DOMA/BUS1=b8.80 DOMA/NOPE=i1\n",

@@ -93,7 +93,10 @@ const GOOD_LINES: [(&str, &str); 20] = [
     ("say 1 identify", "reply 1 identify\n"),
     ("say 1 read+ DOMA/BUS1", "reply 1 read+ b8.30\n"),
     ("say 1  write  DOMA/BUS1=b8.80", "reply 1 write !3\n"),
-    ("say 1 names 0 DOMA/ BUS1", "reply 1 names end LOAD1\n"),
+    (
+        "say 1 names 0 DOMA/ Event_Code_Detected",
+        "reply 1 names end LOAD1 Transfer_Set_Name Transfer_Set_Time_Stamp\n",
+    ),
     ("say 1 names 2 DOMA/", "reply 1 names end\n"),
     ("say   1  read   DOMA/BUS1", "reply 1 read b8.30\n"),
     ("say 1 read DOMA/A%2f", "reply 1 read !10\n"),
