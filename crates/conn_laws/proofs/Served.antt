@@ -190,7 +190,7 @@ early_said rows items i l =
 -- ---- at rest
 
 -- all that was read was acted on
-all_done : (rows : CentreRows) (items : List Item) (told : List Told) (turns : List Turn)
+pub all_done : (rows : CentreRows) (items : List Item) (told : List Told) (turns : List Turn)
     (v : Talking) → IsResting v → Runs rows items told turns askeds.Nothing v
     → IsDone items told (turns ++ []) v
 all_done rows items told turns v at r =

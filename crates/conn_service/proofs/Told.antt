@@ -1,0 +1,298 @@
+-- What the node answers to an event of a connection may be told to it.
+use Rattle.std.proofs.Common.{◌≡◌, ℕ, ◌+◌, Bool, true, false, List, [], ◌∷◌, Option, Some, None}
+use Rattle.std.proofs.Common.{Result}
+use Rattle.std.proofs.Common.{Ok, Err, is_some, refl, sym, ap, subst, ◌∙◌}
+use Rattle.std.specs.Prelude.{if◌then◌else◌, not, ◌&&◌, nat_lt, option_map}
+use Rattle.bilateral.specs.Rows.{CentreRows}
+use Rattle.sbo_device.specs.declared.key.Key.{Key}
+use Rattle.tase_views.specs.Setup.{Setup}
+use Rattle.tase_views.specs.History.{Past, association_in, stop_in}
+use Rattle.tase_views.specs.Weights.{weight, weight_of}
+use Rattle.tase_views.specs.Outcomes.{is_close, is_ending, stop_refusal, seat_refusal, name_refusal}
+use Rattle.tase_views.specs.Outcomes.{weight_refusal, first_refusal, refusal_of, answer_by}
+use Rattle.tase_views.specs.Outcomes.{answer_of}
+use Rattle.tase_views.specs.Outcomes.{IsRightOutcome}
+use Rattle.tase_views.specs.declared.event.EventKind.{EventKind}
+use Rattle.tase_views.specs.declared.event.EventKind.TheVariants as events
+use Rattle.tase_views.specs.declared.reply.Answer.{Answer}
+use Rattle.tase_views.specs.declared.fault.StepFault.{StepFault}
+use Rattle.tase_views.specs.declared.fault.StepFault.TheVariants as faults
+use Rattle.tase_conn.specs.declared.stage.Asked.{Asked}
+use Rattle.tase_conn.specs.declared.stage.Asked.TheVariants as askeds
+use Rattle.tase_conn.specs.declared.stage.ConnEnd.{ConnEnd}
+use Rattle.tase_conn.specs.declared.stage.Progress.{Progress}
+use Rattle.tase_conn.specs.declared.stage.Progress.TheVariants as progresses
+use Rattle.tase_conn.specs.Talking.{IsFree}
+use Rattle.tase_conn.specs.Wanting.{WaitsFor}
+use Rattle.tase_conn.specs.Answering.{IsAnswerTo, IsAnswerFor}
+use Rattle.conn_laws.specs.Serving.{IsWaiting}
+use Rattle.conn_laws.specs.Cutting.{IsClosing}
+
+-- ---- which events may be wanted
+
+pub waits_free : (p : Progress) → IsWaiting p None → IsFree p
+waits_free (progresses.Running askeds.Nothing) w = tt
+waits_free (progresses.Running (askeds.Opening peer granted)) w = absurd w
+waits_free (progresses.Running (askeds.Requesting invoke)) w = absurd w
+waits_free (progresses.Running askeds.Taking) w = absurd w
+waits_free (progresses.Running (askeds.Closing cause)) w = absurd w
+waits_free progresses.Refused w = absurd w
+waits_free (progresses.Leaving end asked) w = absurd w
+waits_free (progresses.Ended end) w = tt
+waits_free (progresses.Cut end) w = absurd w
+
+pub closing_free : (p : Progress) (left : ConnEnd) → IsClosing p None left → IsFree p
+closing_free (progresses.Running asked) left w = absurd w
+closing_free progresses.Refused left w = absurd w
+closing_free (progresses.Leaving end true) left w = absurd w
+closing_free (progresses.Leaving end false) left w = tt
+closing_free (progresses.Ended end) left w = absurd w
+closing_free (progresses.Cut end) left w = tt
+
+-- ---- the refusal of an event that may be wanted
+
+abbrev IsStopping : Option StepFault → Type 0
+IsStopping None = Unit {0}
+IsStopping (Some (faults.Stopped place)) = Unit {0}
+IsStopping (Some fault) = ⊥
+
+abbrev IsFilling : Option StepFault → Type 0
+IsFilling None = Unit {0}
+IsFilling (Some (faults.HistoryFull weight limit)) = Unit {0}
+IsFilling (Some fault) = ⊥
+
+-- a stop, or a full history
+abbrev pub IsOurs : Option StepFault → Type 0
+IsOurs None = Unit {0}
+IsOurs (Some (faults.Stopped place)) = Unit {0}
+IsOurs (Some (faults.HistoryFull weight limit)) = Unit {0}
+IsOurs (Some fault) = ⊥
+
+place_stops : (b : Bool) (s : Option ℕ)
+    → IsStopping (if b then None else option_map (λ place. faults.Stopped place) s)
+place_stops true s = tt
+place_stops false None = tt
+place_stops false (Some place) = tt
+
+weight_fills : (b : Bool) (w limit : ℕ)
+    → IsFilling (if b then Some (faults.HistoryFull w limit) else None)
+weight_fills true w limit = tt
+weight_fills false w limit = tt
+
+first_ours : (s w : Option StepFault) → IsStopping s → IsFilling w
+    → IsOurs (first_refusal (s ∷ None ∷ None ∷ w ∷ []))
+first_ours None None a b = tt
+first_ours None (Some faults.Memory) a b = absurd b
+first_ours None (Some (faults.Stopped place)) a b = absurd b
+first_ours None (Some (faults.HistoryFull weight limit)) a b = tt
+first_ours None (Some faults.NoAssociation) a b = absurd b
+first_ours None (Some faults.Already) a b = absurd b
+first_ours None (Some faults.UnknownName) a b = absurd b
+first_ours (Some faults.Memory) w a b = absurd a
+first_ours (Some (faults.Stopped place)) w a b = tt
+first_ours (Some (faults.HistoryFull weight limit)) w a b = absurd a
+first_ours (Some faults.NoAssociation) w a b = absurd a
+first_ours (Some faults.Already) w a b = absurd a
+first_ours (Some faults.UnknownName) w a b = absurd a
+
+pub refusal_is : (setup : Setup) (past : Past) (who : ℕ) (event : EventKind)
+    → seat_refusal (association_in past who) event ≡ None → name_refusal setup.centre event ≡ None
+    → refusal_of setup past who event ≡ first_refusal (stop_refusal past event ∷ None ∷ None
+    ∷ weight_refusal setup past event ∷ [])
+refusal_is setup past who event seat name =
+    ap (λ (s : Option StepFault). first_refusal (stop_refusal past event ∷ s
+    ∷ name_refusal setup.centre event ∷ weight_refusal setup past event ∷ [])) seat
+    ∙ ap (λ (n : Option StepFault). first_refusal (stop_refusal past event ∷ None ∷ n
+    ∷ weight_refusal setup past event ∷ [])) name
+
+-- an event that has its seat and its names is refused for a stop or a full history alone
+pub refused_ours : (setup : Setup) (past : Past) (who : ℕ) (event : EventKind)
+    → seat_refusal (association_in past who) event ≡ None → name_refusal setup.centre event ≡ None
+    → IsOurs (refusal_of setup past who event)
+refused_ours setup past who event seat name =
+    subst (λ (o : Option StepFault). IsOurs o) (sym (refusal_is setup past who event seat name))
+    (first_ours (stop_refusal past event) (weight_refusal setup past event)
+    (place_stops (is_close event) (stop_in past))
+    (weight_fills (not (is_ending event) && nat_lt setup.limit (weight_of past + weight event))
+    (weight_of past + weight event) setup.limit))
+
+-- a close is never refused
+pub close_taken : (setup : Setup) (past : Past) (who : ℕ)
+    → is_some (association_in past who) ≡ true → refusal_of setup past who events.Close ≡ None
+close_taken setup past who there =
+    refusal_is setup past who events.Close (seat_there (is_some (association_in past who)) there)
+    refl
+  where
+    seat_there : (b : Bool) → b ≡ true
+        → (if b then None else Some faults.NoAssociation) ≡ None
+    seat_there true e = refl
+    seat_there false e = absurd cc
+
+-- ---- the answer
+
+-- the seat of a request, a take and a close
+abbrev IsKept : Option Key → Type 0
+IsKept None = ⊥
+IsKept (Some key) = Unit {0}
+
+answer_told : (setup : Setup) (past : Past) (who : ℕ) (event : EventKind) (asked : Asked)
+    (found : Option Key) → WaitsFor (progresses.Running asked) event
+    → association_in past who ≡ found → seat_refusal found event ≡ None
+    → IsAnswerTo asked (Ok (answer_of setup past who event))
+answer_told setup past who (events.Open opened) askeds.Nothing found w f s = absurd w
+answer_told setup past who (events.Request call) askeds.Nothing found w f s = absurd w
+answer_told setup past who events.Take askeds.Nothing found w f s = absurd w
+answer_told setup past who events.Close askeds.Nothing found w f s = absurd w
+answer_told setup past who (events.Update point value) askeds.Nothing found w f s = absurd w
+answer_told setup past who events.Stop askeds.Nothing found w f s = absurd w
+answer_told setup past who (events.Open opened) (askeds.Opening peer granted) found w f s = tt
+answer_told setup past who (events.Request call) (askeds.Opening peer granted) found w f s =
+    absurd w
+answer_told setup past who events.Take (askeds.Opening peer granted) found w f s = absurd w
+answer_told setup past who events.Close (askeds.Opening peer granted) found w f s = absurd w
+answer_told setup past who (events.Update point value) (askeds.Opening peer granted) found w f s =
+    absurd w
+answer_told setup past who events.Stop (askeds.Opening peer granted) found w f s = absurd w
+answer_told setup past who (events.Open opened) (askeds.Requesting invoke) found w f s = absurd w
+answer_told setup past who (events.Request call) (askeds.Requesting invoke) None w f s = absurd cc
+answer_told setup past who (events.Request call) (askeds.Requesting invoke) (Some key) w f s =
+    subst (λ (k : Option Key). IsAnswerTo (askeds.Requesting invoke)
+    (Ok (answer_by setup.centre past (events.Request call) k))) (sym f) tt
+answer_told setup past who events.Take (askeds.Requesting invoke) found w f s = absurd w
+answer_told setup past who events.Close (askeds.Requesting invoke) found w f s = absurd w
+answer_told setup past who (events.Update point value) (askeds.Requesting invoke) found w f s =
+    absurd w
+answer_told setup past who events.Stop (askeds.Requesting invoke) found w f s = absurd w
+answer_told setup past who (events.Open opened) askeds.Taking found w f s = absurd w
+answer_told setup past who (events.Request call) askeds.Taking found w f s = absurd w
+answer_told setup past who events.Take askeds.Taking None w f s = absurd cc
+answer_told setup past who events.Take askeds.Taking (Some key) w f s =
+    subst (λ (k : Option Key). IsAnswerTo askeds.Taking
+    (Ok (answer_by setup.centre past events.Take k))) (sym f) tt
+answer_told setup past who events.Close askeds.Taking found w f s = absurd w
+answer_told setup past who (events.Update point value) askeds.Taking found w f s = absurd w
+answer_told setup past who events.Stop askeds.Taking found w f s = absurd w
+answer_told setup past who (events.Open opened) (askeds.Closing cause) found w f s = absurd w
+answer_told setup past who (events.Request call) (askeds.Closing cause) found w f s = absurd w
+answer_told setup past who events.Take (askeds.Closing cause) found w f s = absurd w
+answer_told setup past who events.Close (askeds.Closing cause) None w f s = absurd cc
+answer_told setup past who events.Close (askeds.Closing cause) (Some key) w f s =
+    subst (λ (k : Option Key). IsAnswerTo (askeds.Closing cause)
+    (Ok (answer_by setup.centre past events.Close k))) (sym f) tt
+answer_told setup past who (events.Update point value) (askeds.Closing cause) found w f s = absurd w
+answer_told setup past who events.Stop (askeds.Closing cause) found w f s = absurd w
+
+pub nothing_waits : (event : EventKind)
+    → IsWaiting (progresses.Running askeds.Nothing) (Some event) → ⊥
+nothing_waits (events.Open opened) w = absurd w
+nothing_waits (events.Request call) w = absurd w
+nothing_waits events.Take w = absurd w
+nothing_waits events.Close w = absurd w
+nothing_waits (events.Update point value) w = absurd w
+nothing_waits events.Stop w = absurd w
+
+waits_told : (setup : Setup) (past : Past) (who : ℕ) (event : EventKind) (p : Progress)
+    → IsWaiting p (Some event) → seat_refusal (association_in past who) event ≡ None
+    → IsAnswerFor p (Ok (answer_of setup past who event))
+waits_told setup past who event (progresses.Running askeds.Nothing) w s =
+    absurd (nothing_waits event w)
+waits_told setup past who event (progresses.Running (askeds.Opening peer granted)) w s =
+    answer_told setup past who event (askeds.Opening peer granted) (association_in past who) w refl
+    s
+waits_told setup past who event (progresses.Running (askeds.Requesting invoke)) w s =
+    answer_told setup past who event (askeds.Requesting invoke) (association_in past who) w refl s
+waits_told setup past who event (progresses.Running askeds.Taking) w s =
+    answer_told setup past who event askeds.Taking (association_in past who) w refl s
+waits_told setup past who event (progresses.Running (askeds.Closing cause)) w s =
+    answer_told setup past who event (askeds.Closing cause) (association_in past who) w refl s
+waits_told setup past who event progresses.Refused w s = absurd w
+waits_told setup past who event (progresses.Leaving end asked) w s = absurd w
+waits_told setup past who event (progresses.Ended end) w s = absurd w
+waits_told setup past who event (progresses.Cut end) w s = absurd w
+
+-- the right answer to the event that waits may be told
+pub right_told : (setup : Setup) (past : Past) (who : ℕ) (event : EventKind) (p : Progress)
+    (answer : Answer) → IsWaiting p (Some event)
+    → seat_refusal (association_in past who) event ≡ None
+    → IsRightOutcome setup past who event (Ok answer) → IsAnswerFor p (Ok answer)
+right_told setup past who event p answer w s right =
+    subst (λ (a : Answer). IsAnswerFor p (Ok a)) (sym right.1)
+    (waits_told setup past who event p w s)
+
+none_some : {f : StepFault} → None ≡ Some f → ⊥
+none_some e = absurd cc
+
+-- and that the node was stopped: a close isn't refused so
+stop_told : (setup : Setup) (past : Past) (who place : ℕ) (event : EventKind) (asked : Asked)
+    → WaitsFor (progresses.Running asked) event → (r : Option StepFault)
+    → (event ≡ events.Close → r ≡ None) → r ≡ Some (faults.Stopped place)
+    → IsAnswerTo asked (Err (faults.Stopped place))
+stop_told setup past who place (events.Open opened) askeds.Nothing w r c s = absurd w
+stop_told setup past who place (events.Request call) askeds.Nothing w r c s = absurd w
+stop_told setup past who place events.Take askeds.Nothing w r c s = absurd w
+stop_told setup past who place events.Close askeds.Nothing w r c s = absurd w
+stop_told setup past who place (events.Update point value) askeds.Nothing w r c s = absurd w
+stop_told setup past who place events.Stop askeds.Nothing w r c s = absurd w
+stop_told setup past who place (events.Open opened) (askeds.Opening peer granted) w r c s = tt
+stop_told setup past who place (events.Request call) (askeds.Opening peer granted) w r c s =
+    absurd w
+stop_told setup past who place events.Take (askeds.Opening peer granted) w r c s = absurd w
+stop_told setup past who place events.Close (askeds.Opening peer granted) w r c s = absurd w
+stop_told setup past who place (events.Update point value) (askeds.Opening peer granted) w r c s =
+    absurd w
+stop_told setup past who place events.Stop (askeds.Opening peer granted) w r c s = absurd w
+stop_told setup past who place (events.Open opened) (askeds.Requesting invoke) w r c s = absurd w
+stop_told setup past who place (events.Request call) (askeds.Requesting invoke) w r c s = tt
+stop_told setup past who place events.Take (askeds.Requesting invoke) w r c s = absurd w
+stop_told setup past who place events.Close (askeds.Requesting invoke) w r c s = absurd w
+stop_told setup past who place (events.Update point value) (askeds.Requesting invoke) w r c s =
+    absurd w
+stop_told setup past who place events.Stop (askeds.Requesting invoke) w r c s = absurd w
+stop_told setup past who place (events.Open opened) askeds.Taking w r c s = absurd w
+stop_told setup past who place (events.Request call) askeds.Taking w r c s = absurd w
+stop_told setup past who place events.Take askeds.Taking w r c s = tt
+stop_told setup past who place events.Close askeds.Taking w r c s = absurd w
+stop_told setup past who place (events.Update point value) askeds.Taking w r c s = absurd w
+stop_told setup past who place events.Stop askeds.Taking w r c s = absurd w
+stop_told setup past who place (events.Open opened) (askeds.Closing cause) w r c s = absurd w
+stop_told setup past who place (events.Request call) (askeds.Closing cause) w r c s = absurd w
+stop_told setup past who place events.Take (askeds.Closing cause) w r c s = absurd w
+stop_told setup past who place events.Close (askeds.Closing cause) w r c s =
+    absurd (none_some (sym (c refl) ∙ s))
+stop_told setup past who place (events.Update point value) (askeds.Closing cause) w r c s = absurd w
+stop_told setup past who place events.Stop (askeds.Closing cause) w r c s = absurd w
+
+stop_waits : (setup : Setup) (past : Past) (who place : ℕ) (event : EventKind) (p : Progress)
+    → IsWaiting p (Some event) → (r : Option StepFault) → (event ≡ events.Close → r ≡ None)
+    → r ≡ Some (faults.Stopped place) → IsAnswerFor p (Err (faults.Stopped place))
+stop_waits setup past who place event (progresses.Running askeds.Nothing) w r c s =
+    absurd (nothing_waits event w)
+stop_waits setup past who place event (progresses.Running (askeds.Opening peer granted)) w r c s =
+    stop_told setup past who place event (askeds.Opening peer granted) w r c s
+stop_waits setup past who place event (progresses.Running (askeds.Requesting invoke)) w r c s =
+    stop_told setup past who place event (askeds.Requesting invoke) w r c s
+stop_waits setup past who place event (progresses.Running askeds.Taking) w r c s =
+    stop_told setup past who place event askeds.Taking w r c s
+stop_waits setup past who place event (progresses.Running (askeds.Closing cause)) w r c s =
+    stop_told setup past who place event (askeds.Closing cause) w r c s
+stop_waits setup past who place event progresses.Refused w r c s = absurd w
+stop_waits setup past who place event (progresses.Leaving end asked) w r c s = absurd w
+stop_waits setup past who place event (progresses.Ended end) w r c s = absurd w
+stop_waits setup past who place event (progresses.Cut end) w r c s = absurd w
+
+-- a seat that a close has
+close_there : (found : Option Key) → seat_refusal found events.Close ≡ None
+    → is_some found ≡ true
+close_there None e = absurd cc
+close_there (Some key) e = refl
+
+pub waiting_stop : (setup : Setup) (past : Past) (who place : ℕ) (event : EventKind)
+    (p : Progress) → IsWaiting p (Some event)
+    → seat_refusal (association_in past who) event ≡ None
+    → IsRightOutcome setup past who event (Err (faults.Stopped place))
+    → IsAnswerFor p (Err (faults.Stopped place))
+waiting_stop setup past who place event p w seat right =
+    stop_waits setup past who place event p w (refusal_of setup past who event)
+    (λ is. ap (λ (e : EventKind). refusal_of setup past who e) is
+    ∙ close_taken setup past who (close_there (association_in past who)
+    (subst (λ (e : EventKind). seat_refusal (association_in past who) e ≡ None) is seat))) right
