@@ -27,14 +27,14 @@ use Rattle.tase_conn.specs.declared.stage.Progress.TheVariants as progresses
 use Rattle.tase_conn.specs.Talking.{Talking, pending_of, end_in, IsResting, IsFree}
 use Rattle.tase_conn.specs.Places.{StandsAt, GoesBy, Runs, EndsBy, IsOver}
 use Rattle.tase_conn.specs.Wanting.{Wants, WantsBy}
-use Rattle.conn_laws.specs.Serving.{Serves, IsWaiting, with_event, HasServed}
+use Rattle.conn_laws.specs.Serving.{Serves, IsWaiting, with_event, HasServed, HasSaid}
 use Rattle.conn_laws.proofs.Ended.{wants_on}
 use Rattle.conn_laws.proofs.Seats.{event_here}
 use Rattle.conn_laws.proofs.Served.{next_asked, has_served, begins_turns, goes_front, at_end}
 use Rattle.conn_laws.proofs.Served.{all_done}
 use Rattle.tase_map.proofs.AskedOn.{asks_join}
 use Rattle.tase_map.proofs.InTurn.{asked_in_turn}
-use Rattle.conn_service.specs.Linked.{link_octets, octets_by, peer_end}
+use Rattle.conn_service.specs.Linked.{link_octets, octets_by, opened_in, peer_end}
 use Rattle.conn_service.proofs.Opened.{none_opened, one_opened}
 use Rattle.conn_service.proofs.PeerEnds.{ended_so, unended_so}
 use Rattle.conn_service.specs.Attending.{Takes, Adds, HasTaken, IsRefused, IsThrough, IsStopped}
@@ -277,16 +277,28 @@ none_rests (progresses.Ended end) rows items told turns old new e w s r =
 none_rests (progresses.Cut end) rows items told turns old new e w s r = absurd w
 
 -- all octets, as a function of the history and the items
+octets_at : (rows : CentreRows) (past : Past) (items : List Item) (said : List ℕ)
+    (found opened : Option Key) → opened ≡ found → said ≡ octets_by rows past items found
+    → said ≡ octets_by rows past items opened
+octets_at rows past items said found opened e o =
+    subst (λ (k : Option Key). said ≡ octets_by rows past items k) (sym e) o
+
+said_by : (rows : CentreRows) (past : Past) (who : ℕ) (items : List Item) (said : List ℕ)
+    → AreInTurn rows (reverse (events_by who past) ++ []) → HasSaid rows past who items said
+    → said ≡ octets_by rows past items (opened_in past who)
+said_by rows past who items said turn (inl o) =
+    octets_at rows past items said (Some o.0) (opened_in past who)
+    (one_opened rows past who o.0 [] turn o.1) o.2
+said_by rows past who items said turn (inr n) =
+    octets_at rows past items said None (opened_in past who) (none_opened past who n.0) n.1
+
 pub said_so : (rows : CentreRows) (past : Past) (who : ℕ) (items : List Item) (said : List ℕ)
     → IsInput items → HasServed rows past who items said → said ≡ link_octets rows past who items
 said_so rows past who items said i h =
     let turn : AreInTurn rows (reverse (events_by who past) ++ []) =
     subst (λ (es : List EventKind). AreInTurn rows es)
     (sym h.asked ∙ sym (append-nil (reverse (events_by who past)))) (asked_in_turn rows items i) in
-    ⊎_elim (λ o. o.2 ∙ ap (λ (k : Option Key). octets_by rows past items k)
-    (sym (one_opened rows past who o.0 [] turn o.1)))
-    (λ n. n.1 ∙ ap (λ (k : Option Key). octets_by rows past items k)
-    (sym (none_opened past who n.0))) h.octets
+    said_by rows past who items said turn h.octets
 
 -- its end
 end_so : (rows : CentreRows) (past : Past) (who : ℕ) (items : List Item) (said : List ℕ)
