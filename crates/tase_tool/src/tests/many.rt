@@ -44,16 +44,18 @@ fn push_names(alloc: Global, text: &mut Vec<u8>, from: u32, to: u32) -> Result<(
     Ok(())
 }
 
-// What is printed of the names of 250 points, a hundred at a time.
+// What is printed of the names of 250 points and of the protocol's own objects, at most a hundred at a
+// time: the first, those after P099, and those after P199.
 fn many_names(alloc: Global) -> Result<Vec<u8>, AllocError> {
     let mut text = Vec::new(alloc);
-    text.extend_from_slice(b"reply 1 names more")?;
-    push_names(alloc, &mut text, 0, 100)?;
+    text.extend_from_slice(b"reply 1 names more Bilateral_Table_ID DSConditions_Detected")?;
+    text.extend_from_slice(b" Event_Code_Detected")?;
+    push_names(alloc, &mut text, 0, 97)?;
     text.extend_from_slice(b"\nreply 1 names more")?;
     push_names(alloc, &mut text, 100, 200)?;
     text.extend_from_slice(b"\nreply 1 names end")?;
     push_names(alloc, &mut text, 200, 250)?;
-    text.extend_from_slice(b"\n")?;
+    text.extend_from_slice(b" Transfer_Set_Name Transfer_Set_Time_Stamp\n")?;
     Ok(text)
 }
 
