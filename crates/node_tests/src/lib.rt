@@ -7,14 +7,8 @@ mod call_texts;
 #[cfg(test)]
 mod faults;
 #[cfg(test)]
-mod listing;
-#[cfg(test)]
 mod points;
 #[cfg(test)]
-mod sets;
-#[cfg(test)]
 mod shown;
-#[cfg(test)]
-mod steps;
 #[cfg(test)]
 mod tables;
