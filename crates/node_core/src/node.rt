@@ -116,6 +116,13 @@ impl Node {
         &self.centre
     }
 
+    /// The centre, as it is shared with the connections to its peers.
+    pub fn shared_centre(&self) -> &Arc<Centre>
+        ensures { arc_value result.now ≡ self.now.setup.centre }
+    {
+        &self.centre
+    }
+
     /// What the history weighs, in octets.
     pub fn weight(&self) -> u64
         ensures { result ≡ weight_of (reverse self.now.history) }
