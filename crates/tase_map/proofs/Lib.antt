@@ -15,5 +15,5 @@ pub mod InTurn
 pub mod Growing
 pub mod Unrefused
 pub mod Worked
-mod WorkedStream
+pub mod WorkedStream
 mod WorkedSets

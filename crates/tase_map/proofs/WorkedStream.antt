@@ -96,7 +96,7 @@ use Rattle.tase_map.proofs.Worked.{confirm_octets, accept_octets, identified_oct
 use Rattle.tase_map.proofs.Worked.{aborted_octets, still_open}
 use Rattle.tase_map.proofs.TurnOrder.{nothing_said}
 
-abbrev span : ℕ → ℕ → Span
+abbrev pub span : ℕ → ℕ → Span
 span from to = record { from = from; to = to }
 
 -- what a grammar reads in a layer is what the octets say, and its fault theirs
@@ -105,7 +105,7 @@ unfolding in_layer
 layer-says layer placed g at octets t exact e = (t, (exact at octets).found t e, refl)
 
 -- a connect of two control centres
-connecting_octets : List ℕ
+unfoldable pub connecting_octets : List ℕ
 connecting_octets =
     13 ∷ 168 ∷ 5 ∷ 6 ∷ 19 ∷ 1 ∷ 0 ∷ 22 ∷ 1 ∷ 2 ∷ 20 ∷ 2 ∷ 0 ∷ 2 ∷ 51 ∷ 2 ∷ 0 ∷ 1 ∷ 52 ∷ 2 ∷ 0 ∷
     1 ∷ 193 ∷ 146 ∷ 49 ∷ 129 ∷ 143 ∷ 160 ∷ 3 ∷ 128 ∷ 1 ∷ 1 ∷ 162 ∷ 129 ∷ 135 ∷ 129 ∷ 4 ∷ 0 ∷ 0 ∷
@@ -117,10 +117,10 @@ connecting_octets =
     1 ∷ 5 ∷ 130 ∷ 1 ∷ 5 ∷ 131 ∷ 1 ∷ 5 ∷ 164 ∷ 22 ∷ 128 ∷ 1 ∷ 1 ∷ 129 ∷ 3 ∷ 5 ∷ 241 ∷ 0 ∷ 130 ∷
     12 ∷ 3 ∷ 238 ∷ 28 ∷ 0 ∷ 0 ∷ 4 ∷ 8 ∷ 0 ∷ 0 ∷ 121 ∷ 239 ∷ 24 ∷ []
 
-wanted : Initiate
+unfoldable pub wanted : Initiate
 wanted = record { detail = Some (pos 65000); calling = pos 5; called = pos 5; nesting = Some (pos 5); version = pos 1 }
 
-abbrev on_offer : List Offered
+abbrev pub on_offer : List Offered
 on_offer = offered 1 (82 ∷ 1 ∷ 0 ∷ 1 ∷ []) true ∷ offered 3 (40 ∷ 202 ∷ 34 ∷ 2 ∷ 1 ∷ []) true ∷ []
 
 connect_spdu : session.spdu_in connecting_octets ≡ Ok (spdus.Connect (Some (0 ∷ 1 ∷ [])) (span 24 170))
@@ -143,7 +143,7 @@ abbrev opening : Expecting
 opening = record { side = sides.Called; phase = phases.Unassociated; acse = 1; mms = 3; awaited = false }
 
 -- it is heard at the called end, before an association stands
-connect_heard : (message opening connecting_octets).says (heard.Connect (record { session = Some (0 ∷ 1 ∷ []); presentation = Some (0 ∷ 0 ∷ 0 ∷ 1 ∷ []); contexts = on_offer; context = 40 ∷ 202 ∷ 34 ∷ 2 ∷ 3 ∷ []; title = Some (41 ∷ 135 ∷ 103 ∷ 1 ∷ []); initiate = wanted }))
+pub connect_heard : (message opening connecting_octets).says (heard.Connect (record { session = Some (0 ∷ 1 ∷ []); presentation = Some (0 ∷ 0 ∷ 0 ∷ 1 ∷ []); contexts = on_offer; context = 40 ∷ 202 ∷ 34 ∷ 2 ∷ 3 ∷ []; title = Some (41 ∷ 135 ∷ 103 ∷ 1 ∷ []); initiate = wanted }))
 unfolding message inside spdu_of connect_at ppdu_at apdu_at pdu_at says_just
 connect_heard = (
   spdus.Connect (Some (0 ∷ 1 ∷ [])) (span 24 170),
@@ -159,11 +159,11 @@ connect_heard = (
   ),
 )
 
-abbrev answering : Expecting
+abbrev pub answering : Expecting
 answering = record { side = sides.Called; phase = phases.Associated; acse = 1; mms = 3; awaited = false }
 
 -- a request to identify
-identify_octets : List ℕ
+unfoldable pub identify_octets : List ℕ
 identify_octets =
     1 ∷ 0 ∷ 1 ∷ 0 ∷ 97 ∷ 14 ∷ 48 ∷ 12 ∷ 2 ∷ 1 ∷ 3 ∷ 160 ∷ 7 ∷ 160 ∷ 5 ∷ 2 ∷ 1 ∷ 1 ∷ 130 ∷ 0 ∷ []
 
@@ -193,13 +193,13 @@ identify_heard = (
 
 -- ---- the stream
 
-abbrev opener : ConnectRequest
+abbrev pub opener : ConnectRequest
 opener = record {
   source = 1;
   parameters = record { size = Some 10; calling = Some (0 ∷ 1 ∷ []); called = Some (0 ∷ 1 ∷ []) };
 }
 
-abbrev connecting : Connecting
+abbrev pub connecting : Connecting
 connecting = record {
   session = Some (0 ∷ 1 ∷ []);
   presentation = Some (0 ∷ 0 ∷ 0 ∷ 1 ∷ []);
@@ -209,18 +209,18 @@ connecting = record {
   initiate = wanted;
 }
 
-abbrev identify : Heard
+abbrev pub identify : Heard
 identify = heard.Pdu (pdus.Request 1 asked_for.Identify)
 
 -- the three pieces: each TSDU in one TPKT
-first : List ℕ
+unfoldable pub first : List ℕ
 first = 3 ∷ 0 ∷ 0 ∷ 22 ∷ 17 ∷ 224 ∷ 0 ∷ 0 ∷ 0 ∷ 1 ∷ 0 ∷ 192 ∷ 1 ∷ 10 ∷ 193 ∷ 2 ∷ 0 ∷ 1 ∷ 194 ∷ 2 ∷ 0
     ∷ 1 ∷ []
 
-second : List ℕ
+unfoldable pub second : List ℕ
 second = 3 ∷ 0 ∷ 0 ∷ 177 ∷ 2 ∷ 240 ∷ 128 ∷ connecting_octets
 
-third : List ℕ
+unfoldable pub third : List ℕ
 third = 3 ∷ 0 ∷ 0 ∷ 27 ∷ 2 ∷ 240 ∷ 128 ∷ identify_octets
 
 said_first : (rest : List ℕ) × Says roles.Called first (asks opener ∷ []) rest
@@ -239,27 +239,27 @@ said_third = left_says roles.Called (first ++ second ++ third) 0 refl
 
 -- ---- what the octets so far tell
 
-abbrev reads : List Told → Reading
+abbrev pub reads : List Told → Reading
 reads told = record { told = told; broken = None }
 
-abbrev one : List Told
+abbrev pub one : List Told
 one = told.asked opener ∷ []
 
-abbrev two : List Told
+abbrev pub two : List Told
 two = told.asked opener ∷ told.heard (heard.Connect connecting) ∷ []
 
-abbrev three : List Told
+abbrev pub three : List Told
 three = told.asked opener ∷ told.heard (heard.Connect connecting) ∷ told.heard identify ∷ []
 
-read_none : reading_of [] ≡ reads []
+pub read_none : reading_of [] ≡ reads []
 read_none = reading_only [] [] None
     (nothing_said.0, record { messages = []; said = nothing_said.1; tell = tt })
 
-read_first : reading_of first ≡ reads one
+pub read_first : reading_of first ≡ reads one
 read_first = reading_only first one None
     (said_first.0, record { messages = asks opener ∷ []; said = said_first.1; tell = (refl, tt) })
 
-read_second : reading_of (first ++ second) ≡ reads two
+pub read_second : reading_of (first ++ second) ≡ reads two
 read_second = reading_only (first ++ second) two None (
   said_second.0,
   record {
@@ -269,7 +269,7 @@ read_second = reading_only (first ++ second) two None (
   },
 )
 
-read_third : reading_of (first ++ second ++ third) ≡ reads three
+pub read_third : reading_of (first ++ second ++ third) ≡ reads three
 read_third = reading_only (first ++ second ++ third) three None (
   said_third.0,
   record {
