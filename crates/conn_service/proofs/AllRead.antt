@@ -19,13 +19,12 @@ use Rattle.tase_views.specs.declared.event.EventKind.{EventKind}
 use Rattle.tase_views.specs.declared.event.EventKind.TheVariants as events
 use Rattle.tase_map.specs.Inputs.{Item, piece, idle, ended, text_of}
 use Rattle.tase_map.specs.Readings.{reading_of}
-use Rattle.tase_map.specs.Turns.{Turn, offers, offers_badly, asks, concludes, releases, aborts}
+use Rattle.tase_map.specs.Turns.{Turn}
 use Rattle.tase_map.specs.Turns.{breaks, ends, pauses, turn_of_pdu, turn_in, fault_turns, turns_of}
 use Rattle.tase_map.specs.Turns.{turns_behind_octets}
 use Rattle.tase_map.specs.Asks.{is_last, asks_behind}
 use Rattle.tase_map.proofs.Fronts.{told_front}
 use Rattle.tase_map.proofs.TurnsRead.{turns_heard}
-use Rattle.tase_conn.specs.declared.stage.Asked.{Asked}
 use Rattle.tase_conn.specs.declared.stage.Asked.TheVariants as askeds
 use Rattle.tase_conn.specs.declared.stage.Behind.{Behind}
 use Rattle.tase_conn.specs.declared.stage.Behind.TheVariants as behinds
@@ -34,10 +33,10 @@ use Rattle.tase_conn.specs.declared.stage.Coming.TheVariants as comings
 use Rattle.tase_conn.specs.declared.stage.Progress.{Progress}
 use Rattle.tase_conn.specs.declared.stage.Progress.TheVariants as progresses
 use Rattle.tase_conn.specs.Talking.{Talking}
-use Rattle.tase_conn.specs.Places.{StandsAt, GoesBy, Runs, EndsWith, IsWithin, IsDone, ReadsBy}
-use Rattle.tase_conn.specs.Places.{Begins, turns_held, turn_coming, listed, fault_held, fault_seen}
-use Rattle.tase_conn.specs.Places.{IsPassed, IsAskedAt}
-use Rattle.tase_conn.specs.Wanting.{Wants, WantsBy, WaitsFor, GoesOn}
+use Rattle.tase_conn.specs.Places.{StandsAt, GoesBy, Runs, EndsWith, IsWithin, ReadsBy}
+use Rattle.tase_conn.specs.Places.{Begins, turns_held, listed, fault_held, fault_seen}
+use Rattle.tase_conn.specs.Places.{IsPassed}
+use Rattle.tase_conn.specs.Wanting.{Wants, WantsBy, WaitsFor}
 use Rattle.tase_conn.proofs.SeenTurns.{within_turns}
 use Rattle.conn_laws.specs.Serving.{IsWaiting}
 use Rattle.conn_laws.proofs.Answered.{take_served}

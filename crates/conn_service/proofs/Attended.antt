@@ -1,5 +1,5 @@
 -- A connection goes on with one event after another, until nothing is wanted.
-use Rattle.std.proofs.Common.{◌≡◌, ℕ, ◌+◌, ◌<◌, ◌⊎◌, Bool, true, false, List, [], ◌∷◌, ◌++◌}
+use Rattle.std.proofs.Common.{◌≡◌, ℕ, ◌<◌, Bool, true, false, List, [], ◌∷◌, ◌++◌}
 use Rattle.std.proofs.Common.{reverse}
 use Rattle.std.proofs.Common.{Option, Some, None, Result, Ok, Err, refl, sym, ap, subst, ◌∙◌}
 use Rattle.std.proofs.Common.{inl, inr, append_assoc, ⊎_elim}
@@ -20,7 +20,6 @@ use Rattle.tase_map.specs.Inputs.{Item, IsInput}
 use Rattle.tase_map.specs.Turns.{Turn, turns_of}
 use Rattle.tase_map.specs.Asks.{asks_of, asks_behind, up_to_last, is_last, AreInTurn}
 use Rattle.tase_map.specs.Sent.{events_by}
-use Rattle.tase_conn.specs.declared.stage.Asked.{Asked}
 use Rattle.tase_conn.specs.declared.stage.Asked.TheVariants as askeds
 use Rattle.tase_conn.specs.declared.stage.Progress.{Progress}
 use Rattle.tase_conn.specs.declared.stage.Progress.TheVariants as progresses
@@ -37,7 +36,7 @@ use Rattle.tase_map.proofs.InTurn.{asked_in_turn}
 use Rattle.conn_service.specs.Linked.{link_octets, octets_by, opened_in, peer_end}
 use Rattle.conn_service.proofs.Opened.{none_opened, one_opened}
 use Rattle.conn_service.proofs.PeerEnds.{ended_so, unended_so}
-use Rattle.conn_service.specs.Attending.{Takes, Adds, HasTaken, IsRefused, IsThrough, IsStopped}
+use Rattle.conn_service.specs.Attending.{Takes, Adds, HasTaken, IsRefused}
 use Rattle.conn_service.specs.Attending.{Attends, Answers, IsLeftFor, IsServed, IsAsking, remaining}
 use Rattle.conn_service.proofs.AllRead.{wanted_read}
 use Rattle.conn_service.proofs.Remaining.{waits_less}

@@ -1,13 +1,11 @@
 -- What comes of an event that a connection wants, by what the node and the connection did.
-use Rattle.std.proofs.Common.{◌≡◌, ℕ, ◌+◌, ◌⊎◌, Bool, true, false, List, [], ◌∷◌, ◌++◌, reverse}
+use Rattle.std.proofs.Common.{◌≡◌, ℕ, Bool, true, false, List, ◌++◌, reverse}
 use Rattle.std.proofs.Common.{Option}
 use Rattle.std.proofs.Common.{Some, None, Result, Ok, Err, is_some, refl, sym, ap, subst, ◌∙◌, inl}
 use Rattle.std.proofs.Common.{inr}
-use Rattle.std.proofs.Common.{append_assoc}
-use Rattle.std.specs.Prelude.{if◌then◌else◌, MatchBool, unwrap_or}
+use Rattle.std.specs.Prelude.{MatchBool, unwrap_or}
 use Rattle.std.proofs.lemmas.Bool.{false≢true, true≢false}
 use Rattle.std.specs.Result.{IsErrAnd}
-use Rattle.std.proofs.lemmas.List.{append-nil, reverse-append}
 use Rattle.std.proofs.lemmas.Result.{err_from_is_err_and}
 use Rattle.stack_assoc.specs.Told.{Told}
 use Rattle.stack_assoc.specs.Courses.{Course}
@@ -16,8 +14,8 @@ use Rattle.bilateral.specs.Rows.{CentreRows}
 use Rattle.sbo_device.specs.declared.key.Key.{Key}
 use Rattle.tase_views.specs.Setup.{Setup}
 use Rattle.tase_views.specs.History.{Past, association_in}
-use Rattle.tase_views.specs.Outcomes.{IsRightOutcome, refusal_of, seat_refusal, name_refusal}
-use Rattle.tase_views.specs.Outcomes.{answer_by, answer_of, is_ending}
+use Rattle.tase_views.specs.Outcomes.{IsRightOutcome, refusal_of}
+use Rattle.tase_views.specs.Outcomes.{answer_by, answer_of}
 use Rattle.tase_views.specs.declared.event.EventKind.{EventKind}
 use Rattle.tase_views.specs.declared.event.EventKind.TheVariants as events
 use Rattle.tase_views.specs.declared.reply.Answer.{Answer}
@@ -28,7 +26,6 @@ use Rattle.node_core.specs.NodeState.{NodeState, with_entry}
 use Rattle.node_core.proofs.Outcomes.{reverse_push}
 use Rattle.tase_map.specs.Inputs.{Item}
 use Rattle.tase_map.specs.Turns.{Turn}
-use Rattle.tase_map.specs.Sent.{events_by}
 use Rattle.tase_conn.specs.declared.stage.Asked.{Asked}
 use Rattle.tase_conn.specs.declared.stage.Asked.TheVariants as askeds
 use Rattle.tase_conn.specs.declared.stage.ConnEnd.{ConnEnd}
@@ -43,17 +40,16 @@ use Rattle.tase_conn.specs.Places.{StandsAt, IsPlaced, GoesBy, Runs, IsAskedAt}
 use Rattle.tase_conn.specs.Wanting.{Wants, WantsBy, Leaves, IsLeaving, closing}
 use Rattle.tase_conn.specs.Leaving.{IsLeft, Parts}
 use Rattle.tase_conn.specs.Answering.{told_said, stage_told, progress_told, IsAnswerFor, parted}
-use Rattle.conn_laws.specs.Serving.{Serves, SaysBy, IsWaiting, with_event, HasTold}
+use Rattle.conn_laws.specs.Serving.{Serves, SaysBy, IsWaiting, with_event}
 use Rattle.conn_laws.specs.Cutting.{HasLeft, IsClosing, is_leaving, LeftBy}
 use Rattle.conn_laws.proofs.Answered.{answered_serves}
 use Rattle.conn_laws.proofs.Left.{refused_leaves, closing_leaves, closed_leaves}
-use Rattle.conn_laws.proofs.Seats.{none_open, event_here}
+use Rattle.conn_laws.proofs.Seats.{none_open}
 use Rattle.conn_laws.proofs.Served.{never_refused}
 use Rattle.conn_laws.proofs.Wanted.{waiting_of}
-use Rattle.conn_service.specs.Attending.{Takes, Adds, Answers, Closes, IsLeftFor, IsServed}
+use Rattle.conn_service.specs.Attending.{Answers, Closes, IsLeftFor, IsServed}
 use Rattle.conn_service.specs.Attending.{IsAsking}
 use Rattle.conn_service.specs.Attending.{IsParting, ClosesLeft, WasCut}
-use Rattle.conn_service.specs.Linked.{link_octets}
 use Rattle.conn_service.proofs.Told.{waits_free, closing_free, refused_ours, close_taken, IsOurs}
 use Rattle.conn_service.proofs.Told.{right_told, waiting_stop, nothing_waits}
 

@@ -1,11 +1,11 @@
 -- A node's history grows only so far, so that a connection wants nothing more at last.
-use Rattle.std.proofs.Common.{◌≡◌, ℕ, ◌+◌, ◌-◌, ◌*◌, ◌<◌, ◌≤◌, Bool, true, false, List, [], ◌∷◌}
-use Rattle.std.proofs.Common.{Option, Some, None, is_some, refl, sym, ap, subst, ◌∙◌, arith}
-use Rattle.std.specs.Prelude.{if◌then◌else◌, not, ◌&&◌, nat_lt}
+use Rattle.std.proofs.Common.{◌≡◌, ℕ, ◌+◌, ◌<◌, ◌≤◌, Bool, true, false, [], ◌∷◌}
+use Rattle.std.proofs.Common.{Option, Some, None, is_some, refl, ap, subst, arith}
+use Rattle.std.specs.Prelude.{if◌then◌else◌}
 use Rattle.std.proofs.lemmas.Bool.{ltb-false}
 use Rattle.sbo_device.specs.declared.key.Key.{Key}
 use Rattle.tase_views.specs.Setup.{Setup}
-use Rattle.tase_views.specs.History.{Past, association_in, association_after, next_key}
+use Rattle.tase_views.specs.History.{Past, association_in}
 use Rattle.tase_views.specs.Weights.{weight, weight_of}
 use Rattle.tase_views.specs.Outcomes.{stop_refusal, seat_refusal, name_refusal, weight_refusal}
 use Rattle.tase_views.specs.Outcomes.{first_refusal, refusal_of}
@@ -13,7 +13,6 @@ use Rattle.tase_views.specs.declared.call.CallKind.{CallKind}
 use Rattle.tase_views.specs.declared.event.EventKind.{EventKind}
 use Rattle.tase_views.specs.declared.event.EventKind.TheVariants as events
 use Rattle.tase_views.specs.declared.fault.StepFault.{StepFault}
-use Rattle.tase_views.specs.declared.fault.StepFault.TheVariants as faults
 use Rattle.tase_conn.specs.declared.stage.Asked.{Asked}
 use Rattle.tase_conn.specs.declared.stage.Asked.TheVariants as askeds
 use Rattle.tase_conn.specs.declared.stage.Progress.{Progress}

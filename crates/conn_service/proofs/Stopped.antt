@@ -27,7 +27,7 @@ use Rattle.tase_map.specs.Inputs.{Item, text_of, has_ended}
 use Rattle.tase_map.specs.Readings.{reading_of}
 use Rattle.tase_map.specs.Turns.{Turn, offers, offers_badly, asks, concludes, releases, aborts}
 use Rattle.tase_map.specs.Turns.{breaks, ends, pauses, turns_of}
-use Rattle.tase_map.specs.Asks.{asks_of, without_pauses, AreInTurn}
+use Rattle.tase_map.specs.Asks.{without_pauses, AreInTurn}
 use Rattle.tase_map.specs.Out.{talk_of, abort_octets, close_octets}
 use Rattle.tase_map.specs.Sent.{events_by, sent, turns_left}
 use Rattle.tase_map.proofs.Adding.{close_adds}
@@ -44,9 +44,9 @@ use Rattle.tase_conn.specs.declared.stage.Stage.TheVariants as stages
 use Rattle.tase_conn.specs.Talking.{Talking, pending_of, is_open_stage}
 use Rattle.tase_conn.specs.Places.{GoesBy, Runs, ReadsBy, IsDone, is_connected, standing_by}
 use Rattle.tase_conn.specs.Leaving.{IsLeft}
-use Rattle.tase_conn.specs.Answering.{told_said, parted, aborted, IsAnswerFor}
+use Rattle.tase_conn.specs.Answering.{told_said, parted, IsAnswerFor}
 use Rattle.conn_laws.specs.Serving.{Serves, SaysBy, SaysOpen, IsWaiting, with_event}
-use Rattle.conn_laws.specs.Cutting.{IsUnexplained, is_leaving}
+use Rattle.conn_laws.specs.Cutting.{IsUnexplained}
 use Rattle.conn_laws.proofs.Answered.{asked_turn, opens_early, request_served, take_served}
 use Rattle.conn_laws.proofs.Answered.{IsServedAt}
 use Rattle.conn_laws.proofs.Left.{setup_known, stands_by}
@@ -57,7 +57,7 @@ use Rattle.conn_service.specs.Attending.{Answers, Closes, ClosesLeft, WasCut, Is
 use Rattle.conn_service.specs.Attending.{IsAsking, IsParting}
 use Rattle.conn_service.specs.Linked.{link_octets, octets_by, opened_in}
 use Rattle.conn_service.proofs.AllRead.{taking_reads}
-use Rattle.conn_service.proofs.Going.{StaysAt, seat_open, stopped_left, left_goes, same_past}
+use Rattle.conn_service.proofs.Going.{StaysAt, seat_open, stopped_left, left_goes}
 use Rattle.conn_service.proofs.Going.{serving_stopped}
 use Rattle.conn_service.proofs.Opened.{none_opened, one_opened}
 use Rattle.conn_service.proofs.Told.{nothing_waits}
