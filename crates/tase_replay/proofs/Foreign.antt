@@ -1,6 +1,6 @@
 -- Octets that stand in no escaped text.
 use Rattle.std.proofs.Common.{◌≡◌, ℕ, ◌/◌, ◌%◌, ◌<◌, Bool, true, false, not, ◌==◌, List, [], ◌∷◌}
-use Rattle.std.proofs.Common.{◌++◌, refl, arith, codes}
+use Rattle.std.proofs.Common.{refl, arith, codes}
 use Rattle.std.specs.List.{list_all}
 use Rattle.std.proofs.lemmas.Bool.{and_parts}
 use Rattle.std.proofs.lemmas.Bool.Decides.{nat_tests}

@@ -1,6 +1,7 @@
--- A history, and the part of it that concerns a peer: what is allowed in the whole is allowed there.
-use Rattle.std.proofs.Common.{◌≡◌, ℕ, ◌+◌, ◌≤◌, ◌<◌, Bool, true, false, not, ◌&&◌, [], ◌∷◌}
-use Rattle.std.proofs.Common.{Option, Some, None, is_some, option_map, refl, sym, ◌∙◌, arith}
+-- A history, and the part of it that concerns a peer: what is allowed in the whole is allowed
+-- there.
+use Rattle.std.proofs.Common.{◌≡◌, ℕ, ◌+◌, ◌≤◌, Bool, true, false, not, ◌&&◌, [], ◌∷◌}
+use Rattle.std.proofs.Common.{Option, Some, None, is_some, option_map, refl, sym, arith}
 use Rattle.std.specs.Prelude.{if◌then◌else◌, nat_lt}
 use Rattle.std.proofs.lemmas.Bool.Decides.{nat_tests}
 use Rattle.std.proofs.lemmas.Option.{none-some}
@@ -21,13 +22,14 @@ use Rattle.tase_views.specs.Outcomes.{name_refusal, weight_refusal, first_refusa
 use Rattle.tase_views.proofs.Alike.{Alike, Alone, IsSeated, Alike-none, Alike-seen, Alike-unseen}
 use Rattle.tase_views.proofs.Alike.{Alone-none, Alone-seen, Alone-unseen, key_of}
 
--- the part is alike for the peer and has no other associations, weighs no more, and has no stop that
--- the whole doesn't have
+-- the part is alike for the peer and has no other associations, weighs no more, and has a stop
+-- where the whole has one
 pub record Kept (rows : CentreRows) (peer : ℕ) (full part : Past) : Type 0 where
   pub alike : Alike rows peer full part
   pub alone : Alone peer full part
   pub lighter : weight_of part ≤ weight_of full
   pub unstopped : stop_in full ≡ None → stop_in part ≡ None
+  pub stopped : stop_in part ≡ None → stop_in full ≡ None
 
 pub Kept-none : (rows : CentreRows) (peer : ℕ) → Kept rows peer [] []
 Kept-none rows peer = record {
@@ -35,6 +37,7 @@ Kept-none rows peer = record {
   alone = Alone-none peer;
   lighter = omega arith;
   unstopped = λ none. none;
+  stopped = λ none. none;
 }
 
 stays : (b : Bool) (place next : ℕ) (before kept : Option ℕ) → (before ≡ None → kept ≡ None)
@@ -56,7 +59,23 @@ Kept-seen rows peer full part entry own kept = record {
   alone = Alone-seen rows peer full part entry own kept.alone;
   lighter = omega (arith, kept.lighter);
   unstopped = stays (is_stop entry.event) _ _ (stop_in full) (stop_in part) kept.unstopped;
+  stopped = stays (is_stop entry.event) _ _ (stop_in part) (stop_in full) kept.stopped;
 }
+
+-- a stop concerns each peer
+apart_stop : (rows : CentreRows) (peer : ℕ) (event : EventKind) (key : Option Key)
+    → concerns rows peer event key ≡ false → is_stop event ≡ false
+apart_stop rows peer (Open opener) key apart = refl
+apart_stop rows peer (Request call) key apart = refl
+apart_stop rows peer Take key apart = refl
+apart_stop rows peer Close key apart = refl
+apart_stop rows peer (Update point value) key apart = refl
+apart_stop rows peer Stop key apart = absurd cc
+
+no_stop : (b : Bool) (place : ℕ) (before : Option ℕ) → b ≡ false → before ≡ None
+    → (if b then Some place else before) ≡ None
+no_stop true place before e f = absurd cc
+no_stop false place before e f = f
 
 -- an entry that doesn't, in the whole alone
 pub Kept-unseen : (rows : CentreRows) (peer : ℕ) (full part : Past) (entry : Entry)
@@ -68,6 +87,9 @@ Kept-unseen rows peer full part entry apart seated kept = record {
   alone = Alone-unseen rows peer full part entry apart seated kept.alone;
   lighter = omega (arith, kept.lighter);
   unstopped = before_stop (is_stop entry.event) _ (stop_in full) (stop_in part) kept.unstopped;
+  stopped = λ none. no_stop (is_stop entry.event) _ (stop_in full)
+      (apart_stop rows peer entry.event (key_at entry.event full entry.who) apart)
+      (kept.stopped none);
 }
 
 -- none of four refusals
@@ -112,12 +134,18 @@ seated_by past who Close e = tt
 seated_by past who (Update point value) e = tt
 seated_by past who Stop e = tt
 
+-- an event that is allowed is of a seat that may have it
+pub seat_taken : (setup : Setup) (past : Past) (who : ℕ) (event : EventKind)
+    → refusal_of setup past who event ≡ None
+    → seat_refusal (association_in past who) event ≡ None
+seat_taken setup past who event e =
+    let parts = none_of_event setup past who event e in parts.second
+
 -- an open that is allowed is of a free seat
 pub seated_of : (setup : Setup) (past : Past) (who : ℕ) (event : EventKind)
     → refusal_of setup past who event ≡ None → IsSeated past who event
 seated_of setup past who event e =
-    let parts = none_of_event setup past who event e in
-    seated_by past who event parts.second
+    seated_by past who event (seat_taken setup past who event e)
 
 stop_same : (closes : Bool) (full part : Option ℕ) → (full ≡ None → part ≡ None)
     → (if closes then None else option_map (λ place. Stopped place) full) ≡ None

@@ -5,7 +5,28 @@ pub mod CallRead
 pub mod Taking
 pub mod Reached
 pub mod Entering
+pub mod Served
+pub mod Linking
+pub mod Seating
+pub mod Still
+pub mod Acted
+pub mod Receiving
+pub mod Sending
+pub mod SoFar
+pub mod Pending
+pub mod Own
+pub mod TakenLines
 pub mod Keeping
-pub mod Isolation
 pub mod Reports
+pub mod LinkEnds
+pub mod LinkKeys
+pub mod LinkLines
+pub mod LinkSeats
+pub mod LinkFits
+pub mod Following
+pub mod PeerSteps
+pub mod Alongside
+pub mod Isolation
 mod Worked
+mod WorkedReadings
+mod WorkedLinks

@@ -1,29 +1,27 @@
 -- How far a play has come, and how a line takes it further or ends it.
-use Rattle.std.proofs.Common.{◌≡◌, ℕ, Bool, true, false, List, [], ◌∷◌, ◌++◌, reverse, refl}
+use Rattle.std.proofs.Common.{◌≡◌, ℕ, Bool, true, false, List, [], ◌∷◌, ◌++◌, refl}
 use Rattle.std.proofs.Common.{sym, ap, ◌∙◌, subst, append_assoc}
 use Rattle.std.specs.List.{flat_map}
 use Rattle.std.proofs.lemmas.List.{append-nil}
 use Rattle.std.proofs.lemmas.Grind.{flat_map-append}
 use Rattle.outside.specs.Sink.{SinkTold}
 use Rattle.tase_views.specs.declared.event.Entry.{Entry}
-use Rattle.tase_views.specs.History.{Past}
 use Rattle.tase_replay.specs.declared.playing.ReplayEnd.{ReplayEnd}
 use Rattle.tase_replay.specs.declared.playing.ReplayEnd.TheVariants.{Done, BadLine, Full}
 use Rattle.tase_replay.specs.declared.playing.ReplayEnd.TheVariants.{SinkFault, Memory}
-use Rattle.tase_replay.specs.Play.{Step, Meaning, bad, too_heavy, gives, Taken, End, done, bad_line}
-use Rattle.tase_replay.specs.Play.{history_full, Played}
-use Rattle.tase_replay.specs.Play.{past_after, play_line, ends_there, steps_of, entries_in}
+use Rattle.tase_replay.specs.Play.{Step, Scene, Meaning, bad, too_heavy, gives, Taken, End, done}
+use Rattle.tase_replay.specs.Play.{bad_line, history_full, Played, scene_by}
+use Rattle.tase_replay.specs.Play.{play_line, ends_there, steps_of}
 use Rattle.tase_replay.specs.Ends.{TakesAll, TakesPart, IsPlayed}
 use Rattle.tase_replay.proofs.Taking.{TakesAll-none, TakesAll-append, TakesPart-append}
 use Rattle.tase_replay.proofs.Taking.{TakesPart-front}
-use Rattle.node_core.proofs.Outcomes.{reverse_push}
 
 abbrev pub steps_in : List Taken → List Step
 steps_in lines = flat_map (λ taken. taken.steps) lines
 
 -- lines that were taken, and then a play
 abbrev pub continued : List Taken → Played → Played
-continued lines rest = record { taken = lines ++ rest.taken; end = rest.end }
+continued lines rest = record rest { taken = lines ++ rest.taken }
 
 -- the lines taken so far, and then those of the rest, are all
 pub record Reached (all rest : Played) (history now : List Entry)
@@ -45,88 +43,83 @@ steps_of-continued : (all rest : Played) (lines : List Taken) → all ≡ contin
     → steps_of all ≡ steps_in lines ++ steps_of rest
 steps_of-continued all rest lines whole =
     ap (λ (played : Played). steps_of played) whole
-    ∙ flat_map-append (λ (taken : Taken). taken.steps) lines rest.taken
+    ∙ ap (λ (steps : List Step). steps ++ rest.last)
+    (flat_map-append (λ (taken : Taken). taken.steps) lines rest.taken)
+    ∙ append_assoc (steps_in lines) (steps_in rest.taken) rest.last
 
 -- at the end of the lines
-pub Reached-end : (all : Played) (past : Past) (history now : List Entry) (before after : SinkTold)
-    → Reached all (ends_there past) history now before after
+pub Reached-end : (all : Played) (scene : Scene) (history now : List Entry)
+    (before after : SinkTold) → Reached all (ends_there scene) history now before after
     → IsPlayed all history now before after Done
-Reached-end all past history now before after reached =
+Reached-end all scene history now before after reached =
     let same : steps_of all ≡ steps_in reached.lines =
-    steps_of-continued all (ends_there past) reached.lines reached.whole
+    steps_of-continued all (ends_there scene) reached.lines reached.whole
     ∙ append-nil (steps_in reached.lines) in (
       ap (λ (played : Played). played.end) reached.whole,
       subst (λ (steps : List Step). TakesAll steps history now before after)
           (sym same) reached.takes,
     )
 
-past_after-reverse : (steps : List Step) (history : List Entry)
-    → past_after (reverse history) steps ≡ reverse (history ++ entries_in steps)
-past_after-reverse [] history = ap reverse (sym (append-nil history))
-past_after-reverse (step ∷ steps) history =
-    ap (λ (past : Past). past_after past steps) (sym (reverse_push history step.entry))
-    ∙ past_after-reverse steps (history ++ step.entry ∷ [])
-    ∙ ap reverse (append_assoc history (step.entry ∷ []) (entries_in steps))
+-- the steps of a line that is taken alone
+alone_steps : (steps : List Step) → (steps ++ []) ++ [] ≡ steps
+alone_steps steps = append-nil (steps ++ []) ∙ append-nil steps
 
 -- after a line that was taken the rest comes
-pub Reached-more : (line : List ℕ) (number : ℕ) (meaning : Meaning) (rest : Past → Played)
-    (all : Played) (history now later : List Entry) (before after next : SinkTold)
-    → Reached all (play_line line number (reverse now) meaning rest) history now before after
-    → IsPlayed (play_line line number (reverse now) meaning ends_there) now later after next Done
-    → Reached all (rest (reverse later)) history later before next
-Reached-more line number bad rest all history now later before after next reached played =
+pub Reached-more : (line : List ℕ) (number : ℕ) (scene : Scene) (meaning : Meaning)
+    (rest : Scene → Played) (all : Played) (history now later : List Entry)
+    (before after next : SinkTold)
+    → Reached all (play_line line number meaning rest) history now before after
+    → IsPlayed (play_line line number meaning ends_there) now later after next Done
+    → Reached all (rest (scene_by scene meaning)) history later before next
+Reached-more line number scene bad rest all history now later before after next reached played =
     absurd (done_or_bad played.0)
   where
     done_or_bad : bad_line number ≡ done → ⊥
     done_or_bad e = absurd cc
-Reached-more line number (too_heavy weight limit) rest all history now later before after next
-    reached played = absurd (done_or_full played.0)
+Reached-more line number scene (too_heavy steps weight limit) rest all history now later before
+    after next reached played = absurd (done_or_full played.0)
   where
     done_or_full : history_full weight limit ≡ done → ⊥
     done_or_full e = absurd cc
-Reached-more line number (gives steps) rest all history now later before after next reached played =
+Reached-more line number scene (gives steps behind) rest all history now later before after next
+    reached played =
     let taken : Taken = record { line = line; steps = steps } in
-    let past : past_after (reverse now) steps ≡ reverse later =
-    past_after-reverse steps now ∙ ap reverse
-    (sym (played.1.entries ∙ ap (λ (these : List Step). now ++ entries_in these)
-    (append-nil steps))) in
     record {
       lines = reached.lines ++ taken ∷ [];
       whole = reached.whole
-          ∙ ap (λ (p : Past). continued (reached.lines) (continued (taken ∷ []) (rest p))) past
           ∙ ap (λ (lines : List Taken). let p : Played =
-          record { taken = lines; end = (rest (reverse later)).end } in p)
-          (sym (append_assoc reached.lines (taken ∷ []) (rest (reverse later)).taken));
+          record (rest behind) { taken = lines } in p)
+          (sym (append_assoc reached.lines (taken ∷ []) (rest behind).taken));
       takes = subst (λ (these : List Step). TakesAll these history later before next)
           (sym (flat_map-append (λ (t : Taken). t.steps) reached.lines (taken ∷ [])))
-          (TakesAll-append (steps_in reached.lines)
-          (steps ++ []) history now later before after next reached.takes played.1);
+          (TakesAll-append (steps_in reached.lines) (steps ++ []) history now later before after
+          next reached.takes
+          (subst (λ (these : List Step). TakesAll these now later after next)
+          (append-nil (steps ++ [])) played.1));
     }
 
 -- what a line gives alone comes first
-steps_of-line : (line : List ℕ) (number : ℕ) (past : Past) (meaning : Meaning) (rest : Past
-    → Played) → (more : List Step)
-    × (steps_of (play_line line number past meaning rest)
-    ≡ steps_of (play_line line number past meaning ends_there) ++ more)
-steps_of-line line number past bad rest = ([], refl)
-steps_of-line line number past (too_heavy weight limit) rest = ([], refl)
-steps_of-line line number past (gives steps) rest = (
-  steps_of (rest (past_after past steps)),
-  ap (λ (these : List Step). these ++ steps_of (rest (past_after past steps)))
-      (sym (append-nil steps)),
+steps_of-line : (line : List ℕ) (number : ℕ) (meaning : Meaning) (rest : Scene → Played)
+    → (more : List Step) × (steps_of (play_line line number meaning rest)
+    ≡ steps_of (play_line line number meaning ends_there) ++ more)
+steps_of-line line number bad rest = ([], refl)
+steps_of-line line number (too_heavy steps weight limit) rest = ([], sym (append-nil steps))
+steps_of-line line number (gives steps behind) rest = (
+  steps_of (rest behind),
+  append_assoc steps (steps_in (rest behind).taken) (rest behind).last
+      ∙ ap (λ (these : List Step). these ++ steps_of (rest behind)) (sym (alone_steps steps)),
 )
 
-Reached-part : (line : List ℕ) (number : ℕ) (meaning : Meaning) (rest : Past → Played)
+Reached-part : (line : List ℕ) (number : ℕ) (meaning : Meaning) (rest : Scene → Played)
     (all : Played) (history now later : List Entry) (before after next : SinkTold) (failed : Bool)
-    → Reached all (play_line line number (reverse now) meaning rest) history now before after
-    → TakesPart (steps_of (play_line line number (reverse now) meaning ends_there)) now later after
-    next failed
+    → Reached all (play_line line number meaning rest) history now before after
+    → TakesPart (steps_of (play_line line number meaning ends_there)) now later after next failed
     → TakesPart (steps_of all) history later before next failed
 Reached-part line number meaning rest all history now later before after next failed reached part =
-    let alone : List Step = steps_of (play_line line number (reverse now) meaning ends_there) in
-    let first = steps_of-line line number (reverse now) meaning rest in
+    let alone : List Step = steps_of (play_line line number meaning ends_there) in
+    let first = steps_of-line line number meaning rest in
     let same : steps_of all ≡ steps_in reached.lines ++ (alone ++ first.0) =
-    steps_of-continued all (play_line line number (reverse now) meaning rest) reached.lines
+    steps_of-continued all (play_line line number meaning rest) reached.lines
     reached.whole ∙ ap (λ (these : List Step). steps_in reached.lines ++ these) first.1 in
     subst (λ (these : List Step). TakesPart these history later before next failed) (sym same)
     (TakesPart-append (steps_in reached.lines) (alone ++ first.0) history now later before after
@@ -134,42 +127,39 @@ Reached-part line number meaning rest all history now later before after next fa
     (TakesPart-front alone first.0 now later after next failed part))
 
 -- a line that isn't taken is the last
-Reached-ended : (line : List ℕ) (number : ℕ) (meaning : Meaning) (rest : Past → Played)
+Reached-ended : (line : List ℕ) (number : ℕ) (meaning : Meaning) (rest : Scene → Played)
     (all : Played) (history now later : List Entry) (before after next : SinkTold) (end : End)
-    → (end ≡ done → ⊥) → Reached all (play_line line number (reverse now) meaning rest) history now
-    before after
-    → (play_line line number (reverse now) meaning ends_there).end ≡ end
-    → TakesAll (steps_of (play_line line number (reverse now) meaning ends_there)) now later after
-    next
+    → (end ≡ done → ⊥) → Reached all (play_line line number meaning rest) history now before after
+    → (play_line line number meaning ends_there).end ≡ end
+    → TakesAll (steps_of (play_line line number meaning ends_there)) now later after next
     → (all.end ≡ end) × TakesAll (steps_of all) history later before next
 Reached-ended line number bad rest all history now later before after next end other reached ends
     takes = (
       ap (λ (p : Played). p.end) reached.whole ∙ ends,
       subst (λ (these : List Step). TakesAll these history later before next)
-          (sym (steps_of-continued all (play_line line number (reverse now) bad rest) reached.lines
+          (sym (steps_of-continued all (play_line line number bad rest) reached.lines
           reached.whole))
-          (TakesAll-append (steps_in reached.lines) [] history now later before after next reached.takes
-          takes),
+          (TakesAll-append (steps_in reached.lines) [] history now later before after next
+          reached.takes takes),
     )
-Reached-ended line number (too_heavy weight limit) rest all history now later before after next end
-    other reached ends takes = (
+Reached-ended line number (too_heavy steps weight limit) rest all history now later before after
+    next end other reached ends takes = (
       ap (λ (p : Played). p.end) reached.whole ∙ ends,
       subst (λ (these : List Step). TakesAll these history later before next)
           (sym (steps_of-continued all
-          (play_line line number (reverse now) (too_heavy weight limit) rest) reached.lines
+          (play_line line number (too_heavy steps weight limit) rest) reached.lines
           reached.whole))
-          (TakesAll-append (steps_in reached.lines) [] history now later before after next reached.takes
-          takes),
+          (TakesAll-append (steps_in reached.lines) steps history now later before after next
+          reached.takes takes),
     )
-Reached-ended line number (gives steps) rest all history now later before after next end other
-    reached ends takes = absurd (other (sym ends))
+Reached-ended line number (gives steps behind) rest all history now later before after next end
+    other reached ends takes = absurd (other (sym ends))
 
 -- a line that ends the play ends all so
-pub Reached-last : (line : List ℕ) (number : ℕ) (meaning : Meaning) (rest : Past → Played)
+pub Reached-last : (line : List ℕ) (number : ℕ) (meaning : Meaning) (rest : Scene → Played)
     (all : Played) (history now later : List Entry) (before after next : SinkTold) (end : ReplayEnd)
-    → (end ≡ Done → ⊥) → Reached all (play_line line number (reverse now) meaning rest) history now
-    before after
-    → IsPlayed (play_line line number (reverse now) meaning ends_there) now later after next end
+    → (end ≡ Done → ⊥) → Reached all (play_line line number meaning rest) history now before after
+    → IsPlayed (play_line line number meaning ends_there) now later after next end
     → IsPlayed all history later before next end
 Reached-last line number meaning rest all history now later before after next Done other reached
     played = absurd (other refl)

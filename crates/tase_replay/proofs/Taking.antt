@@ -1,7 +1,8 @@
 -- Steps that were taken, and then further ones.
-use Rattle.std.proofs.Common.{◌≡◌, Bool, false, ℕ, ◌+◌, List, [], ◌++◌, length, take, sym}
-use Rattle.std.proofs.Common.{ap, ◌∙◌, subst, append_assoc, arith}
-use Rattle.std.proofs.lemmas.List.{append-nil, map-append, length-append, take-append-le}
+use Rattle.std.proofs.Common.{◌≡◌, ◌==◌, Bool, true, false, ℕ, ◌+◌, List, [], ◌∷◌, ◌++◌, length}
+use Rattle.std.proofs.Common.{take, refl, sym, ap, ◌∙◌, subst, append_assoc, arith}
+use Rattle.std.specs.Prelude.{if◌then◌else◌}
+use Rattle.std.proofs.lemmas.List.{append-nil, length-append, take-append-le}
 use Rattle.std.proofs.lemmas.Grind.{flat_map-append}
 use Rattle.std.proofs.Math.Seq.{take-append-add}
 use Rattle.outside.specs.Sink.{SinkTold, AppendsAll, AppendsPart}
@@ -9,15 +10,41 @@ use Rattle.outside.proofs.Writing.{Appends-none, Appends-append, AppendsPart-non
 use Rattle.outside.proofs.Writing.{AppendsPart-append}
 use Rattle.tase_views.specs.declared.event.Entry.{Entry}
 use Rattle.tase_replay.specs.Play.{Step, entries_in, printed_in}
+use Rattle.tase_replay.specs.AllSent.{octets_to}
 use Rattle.tase_replay.specs.Ends.{TakesAll, TakesPart}
 
-entries_in-append : (first next : List Step) → entries_in (first ++ next) ≡ entries_in first
+pub entries_in-append : (first next : List Step) → entries_in (first ++ next) ≡ entries_in first
     ++ entries_in next
-entries_in-append first next = map-append (λ (step : Step). step.entry) first next
+entries_in-append first next = flat_map-append (λ (step : Step). step.entries) first next
 
-printed_in-append : (first next : List Step) → printed_in (first ++ next) ≡ printed_in first
+pub printed_in-append : (first next : List Step) → printed_in (first ++ next) ≡ printed_in first
     ++ printed_in next
 printed_in-append first next = flat_map-append (λ (step : Step). step.printed) first next
+
+pub octets_to-append : (who : ℕ) (first next : List Step)
+    → octets_to who (first ++ next) ≡ octets_to who first ++ octets_to who next
+octets_to-append who first next =
+    flat_map-append (λ (step : Step). if step.who == who then step.octets else []) first next
+
+-- what one step adds to them: nothing, where it has no octets, or is of another seat
+pub octets_to-silent : (who : ℕ) (step : Step) → step.octets ≡ []
+    → octets_to who (step ∷ []) ≡ []
+octets_to-silent who step none =
+    append-nil (if step.who == who then step.octets else []) ∙ either (step.who == who)
+  where
+    either : (b : Bool) → (if b then step.octets else []) ≡ []
+    either true = none
+    either false = refl
+
+pub octets_to-other : (who : ℕ) (step : Step) → (step.who == who) ≡ false
+    → octets_to who (step ∷ []) ≡ []
+octets_to-other who step other =
+    ap (λ (b : Bool). (if b then step.octets else []) ++ []) other
+
+pub octets_to-own : (who : ℕ) (step : Step) → (step.who == who) ≡ true
+    → octets_to who (step ∷ []) ≡ step.octets
+octets_to-own who step own =
+    ap (λ (b : Bool). (if b then step.octets else []) ++ []) own ∙ append-nil step.octets
 
 -- nothing was taken
 pub TakesAll-none : (history : List Entry) (sink : SinkTold) → TakesAll [] history history sink sink

@@ -8,27 +8,25 @@ use Rattle.std.specs.Fmt.{digits}
 use Rattle.bilateral.specs.Rows.{CentreRows}
 use Rattle.bilateral.specs.Reading.{centre_in, no_rows}
 use Rattle.tase_views.specs.Setup.{Setup}
-use Rattle.mms_data.specs.Datum.{Datum, integer, bits}
+use Rattle.mms_data.specs.Datum.{integer, bits}
 use Rattle.mms_data.specs.declared.object_name.Scope.TheVariants.{Domain}
 use Rattle.mms_data.specs.ObjectName.{ObjectName}
-use Rattle.mms_text.specs.TextRead.{HasText}
 use Rattle.tase_views.specs.declared.call.CallKind.TheVariants.{Write, WriteSet}
 use Rattle.tase_views.specs.declared.event.EventKind.TheVariants.{Request}
 use Rattle.tase_views.specs.declared.event.Entry.{Entry}
-use Rattle.tase_views.specs.History.{Past}
 use Rattle.tase_replay.specs.CallIn.{datum_in}
-use Rattle.tase_replay.specs.Lines.{entry_in}
+use Rattle.tase_replay.specs.Links.{Asking, an_event, asking_in}
 use Rattle.tase_replay.specs.Play.{Played, done, bad_line, history_full, shown_of, scenario_of}
-use Rattle.tase_replay.specs.Play.{accepted, line_in, play_line, ends_there}
+use Rattle.tase_replay.specs.Play.{Scene, first_scene, means, line_in, play_line, ends_there}
 use Rattle.tase_replay.specs.Isolation.{lines_of, replies_to}
 use Rattle.tase_replay.proofs.CallParts.{datum_in-text}
 
 -- lines, each with its end
-abbrev text_of : List (List ℕ) → List ℕ
+abbrev pub text_of : List (List ℕ) → List ℕ
 text_of texts = flat_map (λ line. line ++ 10 ∷ []) texts
 
 -- two peers, each with a table of its own
-abbrev tables : List ℕ
+abbrev pub tables : List ℕ
 tables =
     text_of (codes "point BUS1 state" ∷ codes "point LOAD1 discrete" ∷ codes "point FREQ1 real"
     ∷ codes "peer A 1.1.999.1 DOMA TBLA" ∷ codes "see BUS1 domain value"
@@ -36,14 +34,14 @@ tables =
     ∷ codes "peer B 1.1.999.2 DOMB TBLB" ∷ codes "see BUS1 domain value,time"
     ∷ codes "see LOAD1 domain value,flags" ∷ codes "see FREQ1 vmd value" ∷ [])
 
-abbrev rows_of : {E : Type 0} → Result CentreRows E → CentreRows
+abbrev pub rows_of : {E : Type 0} → Result CentreRows E → CentreRows
 rows_of (Ok rows) = rows
 rows_of (Err fault) = no_rows
 
-abbrev setup : Setup
+abbrev pub setup : Setup
 setup = record { centre = rows_of (centre_in tables); limit = 2 ^ 31 }
 
-abbrev played : List (List ℕ) → Played
+abbrev pub played : List (List ℕ) → Played
 played scenario = scenario_of setup (text_of scenario)
 
 abbrev two_peers : List (List ℕ)
@@ -152,7 +150,8 @@ abbrev light : Setup
 light = record { centre = setup.centre; limit = 40 }
 
 abbrev heavy : List (List ℕ)
-heavy = codes "open 1 A" ∷ codes "update BUS1 s2 00 1700000000 0" ∷ codes "say 1 read DOMA/BUS1" ∷ []
+heavy =
+    codes "open 1 A" ∷ codes "update BUS1 s2 00 1700000000 0" ∷ codes "say 1 read DOMA/BUS1" ∷ []
 
 heavy-end : (scenario_of light (text_of heavy)).end ≡ history_full 52 40
 unfolding digits
@@ -186,17 +185,17 @@ one_read = datum_in-text (integer (pos 1)) (record {
   parts = search (rules, lit<);
 })
 
-write_line-entry : entry_in setup.centre write_line ≡ Some write_entry
-write_line-entry = rw (bits_read, one_read) refl
+write_line-asking : asking_in setup.centre write_line ≡ Some (an_event write_entry)
+write_line-asking = rw (bits_read, one_read) refl
 
 written-shown : shown_of (played (codes "open 1 A" ∷ write_line ∷ []))
     ≡ text_of (codes "reply 1 write !3 !10" ∷ [])
 unfolding digits
 written-shown =
-    ap (λ (found : Option Entry). shown_of (play_line (codes "open 1 A") 1 []
-    (line_in setup [] (codes "open 1 A"))
-    (λ (after : Past). play_line write_line 2 after (accepted setup after found) ends_there)))
-    write_line-entry
+    ap (λ (found : Option Asking). shown_of (play_line (codes "open 1 A") 1
+    (line_in setup (first_scene []) (codes "open 1 A"))
+    (λ (after : Scene). play_line write_line 2 (means setup after found) ends_there)))
+    write_line-asking
 
 -- the lines that concern the first peer, and the replies to it
 two_peers-lines : lines_of setup.centre 0 (played two_peers) ≡ codes "open 1 A"
@@ -243,15 +242,15 @@ write_set_entry = record {
   event = Request (WriteSet (name_a (codes "S")) (integer (pos 1) ∷ integer (pos 1) ∷ []));
 }
 
-write_set_line-entry : entry_in setup.centre write_set_line ≡ Some write_set_entry
-write_set_line-entry = rw one_read refl
+write_set_line-asking : asking_in setup.centre write_set_line ≡ Some (an_event write_set_entry)
+write_set_line-asking = rw one_read refl
 
 set_written-shown : shown_of (played (codes "open 1 A" ∷ define_line ∷ write_set_line ∷ []))
     ≡ text_of (codes "reply 1 defined" ∷ codes "reply 1 error 7 3" ∷ [])
 unfolding digits
 set_written-shown =
-    ap (λ (found : Option Entry). shown_of (play_line (codes "open 1 A") 1 []
-    (line_in setup [] (codes "open 1 A"))
-    (λ (opened : Past). play_line define_line 2 opened (line_in setup opened define_line)
-    (λ (after : Past). play_line write_set_line 3 after (accepted setup after found) ends_there))))
-    write_set_line-entry
+    ap (λ (found : Option Asking). shown_of (play_line (codes "open 1 A") 1
+    (line_in setup (first_scene []) (codes "open 1 A"))
+    (λ (opened : Scene). play_line define_line 2 (line_in setup opened define_line)
+    (λ (after : Scene). play_line write_set_line 3 (means setup after found) ends_there))))
+    write_set_line-asking

@@ -1,6 +1,6 @@
 -- What a replay leaves, by how it ended.
-use Rattle.std.specs.Prelude.{◌≡◌, ℕ, ◌≤◌, Bool, true, false, List, ◌++◌, length, take, Option}
-use Rattle.std.specs.Prelude.{Some, None, Result, Ok, Err}
+use Rattle.std.specs.Prelude.{◌≡◌, ℕ, ◌≤◌, Bool, true, false, List, ◌++◌, length, take}
+use Rattle.std.specs.Prelude.{Result, Ok, Err}
 use Rattle.outside.specs.Sink.{SinkTold, AppendsAll, AppendsPart}
 use Rattle.tase_views.specs.declared.event.Entry.{Entry}
 use Rattle.tase_views.specs.declared.fault.StepFault.{StepFault}
@@ -53,12 +53,6 @@ IsShown text before after (BadLine line) = ⊥
 IsShown text before after (Full weight limit) = ⊥
 IsShown text before after SinkFault = AppendsPart before after text true
 IsShown text before after Memory = AppendsPart before after text false
-
--- the entry of the line with this number, by what was read of it; or how the line ends
-abbrev pub entry_or_end : {E : Type 0} → ℕ → Result (Option Entry) E → Result Entry ReplayEnd
-entry_or_end number (Ok (Some entry)) = Ok entry
-entry_or_end number (Ok None) = Err (BadLine number)
-entry_or_end number (Err none) = Err Memory
 
 -- how the line with this number ends whose event was refused
 abbrev pub end_of_refusal : ℕ → StepFault → ReplayEnd

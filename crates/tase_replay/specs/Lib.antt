@@ -1,5 +1,8 @@
 pub mod CallIn
 pub mod Lines
+pub mod Links
 pub mod Play
+pub mod Standing
 pub mod Isolation
 pub mod Ends
+pub mod AllSent

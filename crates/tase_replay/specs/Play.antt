@@ -1,7 +1,9 @@
 -- What a scenario gives: the lines that are taken, their entries and what is printed at each, and
 -- how it ends.
-use Rattle.std.specs.Prelude.{ℕ, ◌+◌, if◌then◌else◌, List, [], ◌∷◌, ◌++◌, map, flat_map, Option}
-use Rattle.std.specs.Prelude.{Some, None, codes, decimal}
+use Rattle.std.specs.Prelude.{ℕ, ◌+◌, ◌==◌, ◌&&◌, ◌||◌, not, if◌then◌else◌, Bool, List, [], ◌∷◌}
+use Rattle.std.specs.Prelude.{◌++◌, length, flat_map, Option, Some, None, codes, decimal}
+use Rattle.std.proofs.Common.{drop}
+use Rattle.std.specs.List.{list_any}
 use Rattle.std.specs.Str.Lines.{lines}
 use Rattle.plain_text.specs.Lines.{is_skipped}
 use Rattle.sbo_device.specs.declared.key.Key.{Key}
@@ -16,10 +18,20 @@ use Rattle.tase_views.specs.declared.fault.StepFault.TheVariants.{Memory, Stoppe
 use Rattle.tase_views.specs.declared.fault.StepFault.TheVariants.{NoAssociation, Already}
 use Rattle.tase_views.specs.declared.fault.StepFault.TheVariants.{UnknownName}
 use Rattle.tase_views.specs.Setup.{Setup}
-use Rattle.tase_views.specs.History.{Past, key_at}
+use Rattle.tase_views.specs.History.{Past, association_in, key_at}
+use Rattle.tase_views.specs.declared.event.EventKind.{EventKind}
+use Rattle.tase_views.specs.declared.event.EventKind.TheVariants.{Close}
+use Rattle.bilateral.specs.Rows.{CentreRows}
+use Rattle.tase_map.specs.Inputs.{Item}
+use Rattle.tase_conn.specs.declared.stage.ConnEnd.{ConnEnd}
+use Rattle.tase_conn.specs.declared.stage.ConnEnd.TheVariants as conn_ends
 use Rattle.tase_views.specs.Outcomes.{refusal_of, answer_of}
 use Rattle.event_text.specs.ReplyTexts.{reply_text}
-use Rattle.tase_replay.specs.Lines.{entry_in}
+use Rattle.tase_replay.specs.Lines.{entry_by}
+use Rattle.conn_service.specs.Linked.{peer_end, opened_in, link_octets}
+use Rattle.tase_replay.specs.Links.{Given, Asking, an_event, an_item, asking_in}
+use Rattle.tase_replay.specs.Links.{items_of, asks_more}
+use Rattle.tase_replay.specs.Links.{line_of_out, line_of_end}
 
 -- a reply to a seat, as a line
 abbrev pub line_of_reply : ℕ → ReplyKind → List ℕ
@@ -41,46 +53,196 @@ printed_of who (Reports reports) = flat_map (line_of_report who) reports
 printed_of who Closed = []
 printed_of who Noted = []
 
--- an entry that was taken, the association that it is of, and what is printed at it
+-- a step of a seat: the entry that was taken, if one was, the association that it is of, the octets
+-- that the peer of its link is sent, and what is printed at it
 pub record Step : Type 0 where
-  pub entry : Entry
+  pub who : ℕ
+  pub entries : List Entry
   pub key : Option Key
+  pub octets : List ℕ
   pub printed : List ℕ
 
 abbrev pub step_of : Setup → Past → Entry → Step
 step_of setup past entry =
     record {
-      entry = entry;
+      who = entry.who;
+      entries = entry ∷ [];
       key = key_at entry.event past entry.who;
+      octets = [];
       printed = printed_of entry.who (answer_of setup past entry.who entry.event);
     }
 
--- what a line means after the lines before it: that it is bad, that with its event the history
--- would weigh so much, which is more than its limit, or what it gives, in order
+-- ---- where a scenario stands
+
+-- the history so far, what links have given, and the seats whose connections have ended
+pub record Scene : Type 0 where
+  pub past : Past
+  pub given : List Given
+  pub ended : List ℕ
+
+-- the scene with an entry more
+abbrev pub with_taken : Entry → Scene → Scene
+with_taken entry scene = record scene { past = entry ∷ scene.past }
+
+-- whether a seat is a link's; or whether it has had events, though no link of its own
+abbrev pub is_linked : ℕ → Scene → Bool
+is_linked who scene = list_any (λ given. given.who == who) scene.given
+
+abbrev pub is_seated : ℕ → Scene → Bool
+is_seated who scene =
+    list_any (λ entry. entry.who == who) scene.past && not (is_linked who scene)
+
+abbrev pub has_ended : ℕ → Scene → Bool
+has_ended who scene = list_any (λ ended. ended == who) scene.ended
+
+-- what a line means behind the lines before it: that it is bad; that with one of its events, behind
+-- these steps, the history would weigh so much, which is more than its limit; or what it gives, in
+-- order, and the scene behind it
 pub data Meaning : Type 0 where
   bad : Meaning
-  too_heavy : ℕ → ℕ → Meaning
-  gives : List Step → Meaning
+  too_heavy : List Step → ℕ → ℕ → Meaning
+  gives : List Step → Scene → Meaning
+
+-- ---- a line of a seat
 
 -- a step that the node takes, or why it refuses it
-abbrev pub meaning_of : Step → Option StepFault → Meaning
-meaning_of step None = gives (step ∷ [])
-meaning_of step (Some Memory) = bad
-meaning_of step (Some (Stopped place)) = bad
-meaning_of step (Some (HistoryFull weight limit)) = too_heavy weight limit
-meaning_of step (Some NoAssociation) = bad
-meaning_of step (Some Already) = bad
-meaning_of step (Some UnknownName) = bad
+abbrev pub meaning_of : Scene → Step → Option StepFault → Meaning
+meaning_of after step None = gives (step ∷ []) after
+meaning_of after step (Some Memory) = bad
+meaning_of after step (Some (Stopped place)) = bad
+meaning_of after step (Some (HistoryFull weight limit)) = too_heavy [] weight limit
+meaning_of after step (Some NoAssociation) = bad
+meaning_of after step (Some Already) = bad
+meaning_of after step (Some UnknownName) = bad
 
--- an entry that the node doesn't refuse
-abbrev pub accepted : Setup → Past → Option Entry → Meaning
-accepted setup past None = bad
-accepted setup past (Some entry) =
-    meaning_of (step_of setup past entry) (refusal_of setup past entry.who entry.event)
+-- an entry that the node doesn't refuse, of a seat that isn't a link's
+abbrev pub accepted : Setup → Scene → Entry → Meaning
+accepted setup scene entry = if is_linked entry.who scene then bad
+    else meaning_of (with_taken entry scene) (step_of setup scene.past entry)
+    (refusal_of setup scene.past entry.who entry.event)
 
-abbrev pub line_in : Setup → Past → List ℕ → Meaning
-line_in setup past line =
-    if is_skipped line then gives [] else accepted setup past (entry_in setup.centre line)
+-- ---- a line of a link
+
+-- an event of a connection, of which nothing is printed
+abbrev pub quiet_step : Past → Entry → Step
+quiet_step past entry = record {
+  who = entry.who;
+  entries = entry ∷ [];
+  key = key_at entry.event past entry.who;
+  octets = [];
+  printed = [];
+}
+
+-- how a node went on with the events of a connection: it took all; it was stopped; it refused one
+-- since the history would weigh too much, or for another cause
+pub data Halt : Type 0 where
+  through : Halt
+  stopped : Halt
+  full : ℕ → ℕ → Halt
+  refused : Halt
+
+-- the steps that it took, and the history behind them
+pub record Served : Type 0 where
+  pub steps : List Step
+  pub past : Past
+  pub halt : Halt
+
+abbrev pub halts : Past → Halt → Served
+halts past halt = record { steps = []; past = past; halt = halt }
+
+abbrev pub behind_step : Step → Served → Served
+behind_step step served = record served { steps = step ∷ served.steps }
+
+-- where the node was stopped the association of the seat is closed, if it has one
+abbrev pub closes : Past → ℕ → Option Key → Served
+closes past who None = halts past stopped
+closes past who (Some key) =
+    behind_step (quiet_step past (entry_by Close who)) (halts (entry_by Close who ∷ past) stopped)
+
+abbrev pub serves_by : Past → Entry → Option StepFault → (Past → Served) → Served
+serves_by past entry None rest = behind_step (quiet_step past entry) (rest (entry ∷ past))
+serves_by past entry (Some (Stopped place)) rest =
+    closes past entry.who (association_in past entry.who)
+serves_by past entry (Some (HistoryFull weight limit)) rest = halts past (full weight limit)
+serves_by past entry (Some Memory) rest = halts past refused
+serves_by past entry (Some NoAssociation) rest = halts past refused
+serves_by past entry (Some Already) rest = halts past refused
+serves_by past entry (Some UnknownName) rest = halts past refused
+
+-- these events of a seat, one after another, up to the first that is refused
+abbrev pub serves : Setup → ℕ → Past → List EventKind → Served
+serves setup who past [] = halts past through
+serves setup who past (event ∷ events) =
+    serves_by past (entry_by event who) (refusal_of setup past who event)
+    (λ after. serves setup who after events)
+
+-- the octets by which those that a seat's link is sent grew
+abbrev pub octets_between : CentreRows → ℕ → Scene → Scene → List ℕ
+octets_between rows who before after =
+    drop (length (link_octets rows before.past who (items_of who before.given)))
+    (link_octets rows after.past who (items_of who after.given))
+
+-- what is printed at a line of a link: these octets, and the end of the connection, where it came
+abbrev pub link_step : CentreRows → Scene → Scene → Given → Option ConnEnd → Step
+link_step rows before after given end = record {
+  who = given.who;
+  entries = [];
+  key = opened_in after.past given.who;
+  octets = octets_between rows given.who before after;
+  printed = line_of_out given.who (octets_between rows given.who before after)
+      ++ line_of_end given.who end;
+}
+
+-- the scene behind such a line
+abbrev pub ended_by : ℕ → Option ConnEnd → List ℕ → List ℕ
+ended_by who None ended = ended
+ended_by who (Some end) ended = who ∷ ended
+
+abbrev pub behind_link : Scene → Past → Given → Option ConnEnd → Scene
+behind_link scene past given end = record {
+  past = past;
+  given = scene.given ++ given ∷ [];
+  ended = ended_by given.who end scene.ended;
+}
+
+abbrev pub linked : CentreRows → Scene → Given → List Step → Past → Option ConnEnd → Meaning
+linked rows scene given steps past end =
+    let after : Scene = behind_link scene past given end in
+    gives (steps ++ link_step rows scene after given end ∷ []) after
+
+abbrev pub linked_by : CentreRows → Scene → Given → List Item → Served → Halt → Meaning
+linked_by rows scene given items served through =
+    linked rows scene given served.steps served.past (peer_end rows items)
+linked_by rows scene given items served stopped =
+    linked rows scene given served.steps served.past (Some conn_ends.Stopped)
+linked_by rows scene given items served (full weight limit) = too_heavy served.steps weight limit
+linked_by rows scene given items served refused = bad
+
+-- an item of a link, of a seat that no other line uses, and whose connection hasn't ended
+abbrev pub is_unfit : ℕ → Scene → Bool
+is_unfit who scene = is_seated who scene || has_ended who scene
+
+abbrev pub served_item : Setup → Scene → Given → Served
+served_item setup scene given = serves setup given.who scene.past
+    (asks_more setup.centre (items_of given.who scene.given) given.item)
+
+abbrev pub received : Setup → Scene → Given → Meaning
+received setup scene given = if is_unfit given.who scene then bad
+    else linked_by setup.centre scene given (items_of given.who scene.given ++ given.item ∷ [])
+    (served_item setup scene given) (served_item setup scene given).halt
+
+-- ---- a line
+
+abbrev pub means : Setup → Scene → Option Asking → Meaning
+means setup scene None = bad
+means setup scene (Some (an_event entry)) = accepted setup scene entry
+means setup scene (Some (an_item given)) = received setup scene given
+
+abbrev pub line_in : Setup → Scene → List ℕ → Meaning
+line_in setup scene line = if is_skipped line then gives [] scene
+    else means setup scene (asking_in setup.centre line)
+
+-- ---- a scenario
 
 -- a line that was taken, and what it gave
 pub record Taken : Type 0 where
@@ -94,45 +256,64 @@ pub data End : Type 0 where
   bad_line : ℕ → End
   history_full : ℕ → ℕ → End
 
+-- the lines that are taken, the steps of a line before its event for which the history has no room,
+-- and the end
 pub record Played : Type 0 where
   pub taken : List Taken
+  pub last : List Step
   pub end : End
 
--- the past after these steps
-abbrev pub past_after : Past → List Step → Past
-past_after past [] = past
-past_after past (step ∷ steps) = past_after (step.entry ∷ past) steps
+abbrev pub ends_by : List Step → End → Played
+ends_by steps end = record { taken = []; last = steps; end = end }
 
--- a line with this number and then the rest, which `rest` plays from a past
-abbrev pub play_line : List ℕ → ℕ → Past → Meaning → (Past → Played) → Played
-play_line line number past bad rest = record { taken = []; end = bad_line number }
-play_line line number past (too_heavy weight limit) rest =
-    record { taken = []; end = history_full weight limit }
-play_line line number past (gives steps) rest =
-    let after : Played = rest (past_after past steps) in
-    record { taken = record { line = line; steps = steps } ∷ after.taken; end = after.end }
+-- a line with this number and then the rest, which `rest` plays from a scene
+abbrev pub play_line : List ℕ → ℕ → Meaning → (Scene → Played) → Played
+play_line line number bad rest = ends_by [] (bad_line number)
+play_line line number (too_heavy steps weight limit) rest =
+    ends_by steps (history_full weight limit)
+play_line line number (gives steps after) rest =
+    let later : Played = rest after in
+    record later { taken = record { line = line; steps = steps } ∷ later.taken }
 
 -- each line after those before it, up to the first that isn't taken; the first line has this number
-abbrev pub play : Setup → List (List ℕ) → Past → ℕ → Played
-play setup [] past number = record { taken = []; end = done }
-play setup (line ∷ more) past number =
-    play_line line number past (line_in setup past line)
+abbrev pub play : Setup → List (List ℕ) → Scene → ℕ → Played
+play setup [] scene number = ends_by [] done
+play setup (line ∷ more) scene number =
+    play_line line number (line_in setup scene line)
     (λ after. play setup more after (number + 1))
 
 -- nothing more
-abbrev pub ends_there : Past → Played
-ends_there past = record { taken = []; end = done }
+abbrev pub ends_there : Scene → Played
+ends_there scene = ends_by [] done
 
 -- a line and nothing after it
-abbrev pub play_alone : Setup → List ℕ → Past → ℕ → Played
-play_alone setup line past number = play_line line number past (line_in setup past line) ends_there
+abbrev pub play_alone : Setup → List ℕ → Scene → ℕ → Played
+play_alone setup line scene number = play_line line number (line_in setup scene line) ends_there
+
+-- the scene behind a line that is taken
+abbrev pub scene_by : Scene → Meaning → Scene
+scene_by scene bad = scene
+scene_by scene (too_heavy steps weight limit) = scene
+scene_by scene (gives steps after) = after
+
+abbrev pub scene_behind : Setup → List ℕ → Scene → Scene
+scene_behind setup line scene = scene_by scene (line_in setup scene line)
+
+-- what such a line gives
+abbrev pub steps_by : Meaning → List Step
+steps_by bad = []
+steps_by (too_heavy steps weight limit) = []
+steps_by (gives steps after) = steps
+
+abbrev pub steps_behind : Setup → List ℕ → Scene → List Step
+steps_behind setup line scene = steps_by (line_in setup scene line)
 
 -- all that was taken, in order
 abbrev pub steps_of : Played → List Step
-steps_of played = flat_map (λ taken. taken.steps) played.taken
+steps_of played = flat_map (λ taken. taken.steps) played.taken ++ played.last
 
 abbrev pub entries_in : List Step → List Entry
-entries_in steps = map (λ step. step.entry) steps
+entries_in steps = flat_map (λ step. step.entries) steps
 
 abbrev pub printed_in : List Step → List ℕ
 printed_in steps = flat_map (λ step. step.printed) steps
@@ -141,9 +322,13 @@ printed_in steps = flat_map (λ step. step.printed) steps
 abbrev pub shown_of : Played → List ℕ
 shown_of played = printed_in (steps_of played)
 
+-- before the first line, over a node with this history
+abbrev pub first_scene : Past → Scene
+first_scene past = record { past = past; given = []; ended = [] }
+
 -- the lines of a scenario over a node whose history is empty
 abbrev pub played_of : Setup → List (List ℕ) → Played
-played_of setup scenario = play setup scenario [] 1
+played_of setup scenario = play setup scenario (first_scene []) 1
 
 -- the text of a scenario over such a node
 abbrev pub scenario_of : Setup → List ℕ → Played

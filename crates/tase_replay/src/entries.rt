@@ -1,16 +1,68 @@
 ghost use Rattle.std.specs.Prelude.{◌≡◌, if◌then◌else◌, IfOk, None, Some, option_map};
 ghost use Rattle.plain_text.specs.Words.{words};
+ghost use Rattle.std.specs.Prelude.{IfSome};
+ghost use Rattle.tase_replay.specs.Links.{an_item, an_event, asking_in, asking_seen, given_seen};
+ghost use Rattle.tase_replay.specs.Links.{IsFit, IsFitting};
 ghost use Rattle.tase_replay.specs.CallIn.{call_in, is_odd};
 ghost use Rattle.tase_replay.specs.Lines.{seat_in, entry_by, open_in, say_in, seated_in, entry_in};
 
+use crate::links::{Given, is_link_word, read_given};
 use bilateral::Centre;
 use event_text::{read_call_words, read_feed_line};
 use plain_text::{is_spaced, next_word, read_number};
 use std::alloc::{AllocError, Global};
 use tase_views::{Call, CallKind, Entry, Event, EventKind};
 
+/// What a line asks for.
+#[derive(Drop)]
+pub(crate) enum Asked {
+    /// An event of a seat.
+    Event(Entry),
+    /// That the link of a seat gives something.
+    Item(Given),
+}
+
 /// The highest number of a peer's seat.
 const SEAT_LIMIT: u64 = 4_294_967_295;
+
+/// What a line asks for, where it is one of the forms.
+pub(crate) fn read_asked(
+    alloc: Global,
+    centre: &Centre,
+    line: &[u8],
+) -> Result<Option<Asked>, AllocError>
+    ensures asked { IfOk result (λ found.
+        option_map asking_seen found ≡ asking_in centre.now line.now) }
+    ensures fits { IfOk result (λ found. IfSome found IsFitting) }
+{
+    if !is_spaced(line) {
+        return Ok(None);
+    }
+    let Some((verb, rest)) = next_word(line) else {
+        return Ok(None);
+    };
+    if is_link_word(verb) {
+        Ok(as_item(read_given(alloc, verb, rest)?))
+    } else {
+        Ok(as_event(read_entry(alloc, centre, line)?))
+    }
+}
+
+fn as_item(given: Option<Given>) -> Option<Asked>
+    requires { IfSome given (λ g. IsFit g.item) }
+    ensures asked { option_map asking_seen result
+        ≡ option_map (λ g. an_item (given_seen g)) given }
+    ensures fits { IfSome result IsFitting }
+{
+    Some(Asked::Item(given?))
+}
+
+fn as_event(entry: Option<Entry>) -> Option<Asked>
+    ensures asked { option_map asking_seen result ≡ option_map an_event entry }
+    ensures fits { IfSome result IsFitting }
+{
+    Some(Asked::Event(entry?))
+}
 
 /// The entry that a line asks for, where it is one of the forms and names what the centre has.
 pub(crate) fn read_entry(
@@ -40,7 +92,7 @@ pub(crate) fn read_entry(
 }
 
 /// The seat of a peer that a word is, from 1 on.
-fn read_seat(word: &[u8]) -> Option<u64>
+pub(crate) fn read_seat(word: &[u8]) -> Option<u64>
     ensures { result ≡ seat_in word.now }
 {
     let seat = read_number(word, SEAT_LIMIT)?;

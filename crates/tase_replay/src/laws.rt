@@ -1,5 +1,5 @@
 //! Laws of scenarios: which calls are read, and isolation of peers.
-ghost use Rattle.std.specs.Prelude.{◌≡◌, ◌↔◌, ℕ, Bool, false, List, ◌++◌, map, Some};
+ghost use Rattle.std.specs.Prelude.{◌≡◌, ◌↔◌, ℕ, false, List, ◌++◌, map, Some};
 ghost use Rattle.tase_views.specs.declared.call.CallKind.{CallKind as AnyCall};
 ghost use Rattle.tase_views.specs.Setup.{Setup};
 ghost use Rattle.event_text.specs.CallWords.{SpellsCall};

@@ -17,6 +17,7 @@
 
 mod entries;
 mod laws;
+mod links;
 mod playing;
 mod printing;
 

@@ -1,15 +1,23 @@
-ghost use Rattle.std.specs.Prelude.{◌≡◌, ℕ, List, reverse, Some};
+ghost use Rattle.std.specs.Prelude.{◌≡◌, ℕ, List, reverse, false};
+ghost use Rattle.tase_replay.specs.declared.playing.ReplayEnd.TheVariants.{Done};
 ghost use Rattle.std.specs.Str.Lines.{lines};
-ghost use Rattle.tase_replay.specs.Play.{play, play_alone, play_line, accepted, printed_of};
-ghost use Rattle.tase_replay.specs.Play.{ends_there};
-ghost use Rattle.tase_replay.specs.Ends.{IsPlayed, IsShown, entry_or_end, end_of_refusal};
+ghost use Rattle.tase_replay.specs.Play.{play, play_alone, play_line, accepted, printed_of, Scene};
+ghost use Rattle.tase_replay.specs.Play.{ends_there, first_scene, scene_by, scene_behind};
+ghost use Rattle.tase_replay.specs.Play.{received, is_linked, is_unfit, steps_of, steps_by};
+ghost use Rattle.tase_replay.specs.Play.{steps_behind};
+ghost use Rattle.tase_replay.specs.AllSent.{AreSentAll, StaySent};
+ghost use Rattle.tase_replay.specs.Links.{given_seen, IsFit};
+ghost use Rattle.tase_replay.specs.Standing.{IsScene, GoesOn, IsBehind};
+ghost use Rattle.tase_replay.specs.Ends.{IsPlayed, IsShown, end_of_refusal};
 
-use crate::entries::read_entry;
-use crate::printing::print_reply;
+use crate::entries::{Asked, read_asked};
+use crate::links::{Given, Seats, receive};
+use crate::printing::{print_reply, print_sent};
 use node_core::Node;
 use outside::Sink;
 use plain_text::{is_skipped, next_line};
-use std::alloc::{AllocError, Global};
+use std::alloc::Global;
+use tase_conn::Conn;
 use tase_views::{Answer, Entry, StepFault};
 
 /// How the play of a scenario ended.
@@ -30,19 +38,48 @@ pub enum ReplayEnd {
 }
 
 /// Plays a scenario on a node: takes each line's event after those before it, and prints the reply
-/// to each request and the reports that are taken. At the first bad line it stops, and at the first
-/// event with which the history would be too heavy; what was printed and taken before stands.
+/// to each request and the reports that are taken; what a line gives to a link its connection takes
+/// in, and what is to be sent is printed, and how the connection ended. At the first bad line it
+/// stops, and at the first event with which the history would be too heavy; what was printed and
+/// taken before stands.
 pub fn replay<K: Sink>(alloc: Global, node: &mut Node, scenario: &[u8], sink: &mut K) -> ReplayEnd
     ensures played { IsPlayed (play node.old.setup (lines scenario.now)
-        (reverse node.old.history) 1)
+        (first_scene (reverse node.old.history)) 1)
         node.old.history node.new.history (K.told sink.old) (K.told sink.new) result }
+    ensures sent { result ≡ Done → AreSentAll node.old.setup.centre (lines scenario.now)
+        (reverse node.new.history) (steps_of (play node.old.setup (lines scenario.now)
+        (first_scene (reverse node.old.history)) 1)) }
+    ensures setup { node.new.setup ≡ node.old.setup }
+{
+    match Seats::of(alloc, node) {
+        Ok(mut seats) => play_lines(alloc, node, &mut seats, scenario, sink),
+        Err(_) => ReplayEnd::Memory,
+    }
+}
+
+/// Plays all lines of a scenario, over the seats that the node's history has.
+fn play_lines<K: Sink>(
+    alloc: Global,
+    node: &mut Node,
+    seats: &mut Seats,
+    scenario: &[u8],
+    sink: &mut K,
+) -> ReplayEnd
+    requires { IsScene node.old.setup.centre node.old.history
+        (first_scene (reverse node.old.history)) seats.old }
+    ensures played { IsPlayed (play node.old.setup (lines scenario.now)
+        (first_scene (reverse node.old.history)) 1)
+        node.old.history node.new.history (K.told sink.old) (K.told sink.new) result }
+    ensures sent { result ≡ Done → AreSentAll node.old.setup.centre (lines scenario.now)
+        (reverse node.new.history) (steps_of (play node.old.setup (lines scenario.now)
+        (first_scene (reverse node.old.history)) 1)) }
     ensures setup { node.new.setup ≡ node.old.setup }
 {
     let mut text = Vec::new(alloc);
     let mut rest = scenario;
     let mut number = 1;
     while let Some((line, more)) = next_line(rest) {
-        match play_line(alloc, node, line, number, sink, &mut text) {
+        match play_line(alloc, node, seats, line, number, sink, &mut text) {
             ReplayEnd::Done => {}
             end => return end,
         }
@@ -56,33 +93,139 @@ pub fn replay<K: Sink>(alloc: Global, node: &mut Node, scenario: &[u8], sink: &m
 fn play_line<K: Sink>(
     alloc: Global,
     node: &mut Node,
+    seats: &mut Seats,
     line: &[u8],
     number: u64,
     sink: &mut K,
     text: &mut Vec<u8>,
 ) -> ReplayEnd
-    ensures played { IsPlayed (play_alone node.old.setup line.now (reverse node.old.history) number)
+    requires { (scene : Scene) × IsScene node.old.setup.centre node.old.history scene seats.old }
+    ensures played { (scene : Scene)
+        → IsScene node.old.setup.centre node.old.history scene seats.old
+        → IsPlayed (play_alone node.old.setup line.now scene number)
         node.old.history node.new.history (K.told sink.old) (K.told sink.new) result }
+    ensures stands { (scene : Scene)
+        → IsScene node.old.setup.centre node.old.history scene seats.old → result ≡ Done
+        → IsScene node.old.setup.centre node.new.history
+        (scene_behind node.old.setup line.now scene) seats.new }
+    ensures sent { (scene : Scene)
+        → IsScene node.old.setup.centre node.old.history scene seats.old → result ≡ Done
+        → StaySent node.old.setup.centre scene (scene_behind node.old.setup line.now scene)
+        (steps_behind node.old.setup line.now scene) }
     ensures setup { node.new.setup ≡ node.old.setup }
 {
     if is_skipped(line) {
         return ReplayEnd::Done;
     }
-    let read = read_entry(alloc, node.centre(), line);
-    match entry_read(read, number) {
-        Ok(entry) => play_entry(alloc, node, entry, number, sink, text),
-        Err(end) => end,
+    match read_asked(alloc, node.centre(), line) {
+        Ok(Some(Asked::Event(entry))) => play_own(alloc, node, seats, entry, number, sink, text),
+        Ok(Some(Asked::Item(given))) => play_given(alloc, node, seats, given, number, sink, text),
+        Ok(None) => ReplayEnd::BadLine { line: number },
+        Err(_) => ReplayEnd::Memory,
     }
 }
 
-/// The entry of the line with this number, by what was read of it; else how the line ends.
-fn entry_read(read: Result<Option<Entry>, AllocError>, number: u64) -> Result<Entry, ReplayEnd>
-    ensures { result ≡ entry_or_end number read }
+/// Takes the entry of the line with this number, unless its seat is a link's.
+fn play_own<K: Sink>(
+    alloc: Global,
+    node: &mut Node,
+    seats: &mut Seats,
+    entry: Entry,
+    number: u64,
+    sink: &mut K,
+    text: &mut Vec<u8>,
+) -> ReplayEnd
+    ensures played { (line : List ℕ) (scene : Scene)
+        → IsScene node.old.setup.centre node.old.history scene seats.old
+        → IsPlayed (play_line line number (accepted node.old.setup scene entry) ends_there)
+        node.old.history node.new.history (K.told sink.old) (K.told sink.new) result }
+    ensures stands { (scene : Scene)
+        → IsScene node.old.setup.centre node.old.history scene seats.old → result ≡ Done
+        → IsScene node.old.setup.centre node.new.history
+        (scene_by scene (accepted node.old.setup scene entry)) seats.new }
+    ensures setup { node.new.setup ≡ node.old.setup }
 {
-    match read {
-        Ok(Some(entry)) => Ok(entry),
-        Ok(None) => Err(ReplayEnd::BadLine { line: number }),
-        Err(_) => Err(ReplayEnd::Memory),
+    match seats.note_own(entry.who) {
+        Ok(true) => play_entry(alloc, node, entry, number, sink, text),
+        Ok(false) => ReplayEnd::BadLine { line: number },
+        Err(_) => ReplayEnd::Memory,
+    }
+}
+
+/// Has the connection of a link take in what the line with this number gives, unless lines of its own
+/// use the seat, or the connection has ended; and prints what is sent then.
+fn play_given<K: Sink>(
+    alloc: Global,
+    node: &mut Node,
+    seats: &mut Seats,
+    given: Given,
+    number: u64,
+    sink: &mut K,
+    text: &mut Vec<u8>,
+) -> ReplayEnd
+    requires fits { IsFit given.item }
+    requires stands { (scene : Scene)
+        × IsScene node.old.setup.centre node.old.history scene seats.old }
+    ensures played { (line : List ℕ) (scene : Scene)
+        → IsScene node.old.setup.centre node.old.history scene seats.old
+        → IsPlayed (play_line line number (received node.old.setup scene (given_seen given))
+        ends_there) node.old.history node.new.history (K.told sink.old) (K.told sink.new) result }
+    ensures stands { (scene : Scene)
+        → IsScene node.old.setup.centre node.old.history scene seats.old → result ≡ Done
+        → IsScene node.old.setup.centre node.new.history
+        (scene_by scene (received node.old.setup scene (given_seen given))) seats.new }
+    ensures sent { (scene : Scene)
+        → IsScene node.old.setup.centre node.old.history scene seats.old → result ≡ Done
+        → StaySent node.old.setup.centre scene
+        (scene_by scene (received node.old.setup scene (given_seen given)))
+        (steps_by (received node.old.setup scene (given_seen given))) }
+    ensures setup { node.new.setup ≡ node.old.setup }
+{
+    match seats.place_of(alloc, node.shared_centre(), given.who) {
+        Ok(Some(place)) => {
+            let conn = &mut seats.conns[place];
+            serve(alloc, node, conn, &given, number, sink, text)
+        }
+        Ok(None) => ReplayEnd::BadLine { line: number },
+        Err(_) => ReplayEnd::Memory,
+    }
+}
+
+/// Has a connection take in what the line with this number gives, and prints what is sent then.
+fn serve<K: Sink>(
+    alloc: Global,
+    node: &mut Node,
+    conn: &mut Conn,
+    given: &Given,
+    number: u64,
+    sink: &mut K,
+    text: &mut Vec<u8>,
+) -> ReplayEnd
+    requires fits { IsFit given.now.item }
+    requires goes { (scene : Scene) × (scene.past ≡ reverse node.old.history)
+        × GoesOn node.old.setup.centre scene given.now.who conn.old }
+    ensures played { (line : List ℕ) (scene : Scene) → scene.past ≡ reverse node.old.history
+        → GoesOn node.old.setup.centre scene given.now.who conn.old
+        → is_unfit given.now.who scene ≡ false
+        → IsPlayed (play_line line number (received node.old.setup scene (given_seen given.now))
+        ends_there) node.old.history node.new.history (K.told sink.old) (K.told sink.new) result }
+    ensures stands { (scene : Scene) → scene.past ≡ reverse node.old.history
+        → GoesOn node.old.setup.centre scene given.now.who conn.old
+        → is_unfit given.now.who scene ≡ false → result ≡ Done
+        → IsBehind node.old.setup.centre scene (given_seen given.now)
+        (scene_by scene (received node.old.setup scene (given_seen given.now)))
+        node.new.history conn.new }
+    ensures sent { (scene : Scene) → scene.past ≡ reverse node.old.history
+        → GoesOn node.old.setup.centre scene given.now.who conn.old
+        → is_unfit given.now.who scene ≡ false → result ≡ Done
+        → StaySent node.old.setup.centre scene
+        (scene_by scene (received node.old.setup scene (given_seen given.now)))
+        (steps_by (received node.old.setup scene (given_seen given.now))) }
+    ensures setup { node.new.setup ≡ node.old.setup }
+{
+    match receive(alloc, node, given.who, conn, &given.item) {
+        Ok(()) => print_sent(given.who, conn, sink, text),
+        Err(fault) => refused(fault, number),
     }
 }
 
@@ -95,9 +238,9 @@ fn play_entry<K: Sink>(
     sink: &mut K,
     text: &mut Vec<u8>,
 ) -> ReplayEnd
-    ensures played { (line : List ℕ) → IsPlayed
-        (play_line line number (reverse node.old.history)
-        (accepted node.old.setup (reverse node.old.history) (Some entry)) ends_there)
+    ensures played { (line : List ℕ) (scene : Scene) → scene.past ≡ reverse node.old.history
+        → is_linked entry.who scene ≡ false
+        → IsPlayed (play_line line number (accepted node.old.setup scene entry) ends_there)
         node.old.history node.new.history (K.told sink.old) (K.told sink.new) result }
     ensures setup { node.new.setup ≡ node.old.setup }
 {

@@ -27,6 +27,7 @@ use Rattle.tase_tool.specs.Saying.{refused, centre_or_refusal, tables_read, with
 use Rattle.tase_tool.specs.Saying.{text_duty, scenario_said, scenario_duty, duty_over, duty_after}
 use Rattle.tase_tool.specs.Saying.{opening, second_text, duty_of}
 use Rattle.tase_tool.specs.Tables.{IsCentreFrom, IsRead, IsTables, ReadsTables}
+use Rattle.tase_tool.specs.Sent.{node_of, SendsAll, OnTold, SendsOver, SendsBy}
 
 is_less : (m n : ℕ) → m < n → nat_lt m n ≡ true
 is_less m n h = grind (arith, nat_tests)
@@ -152,18 +153,19 @@ module _ (b m : OutsideTold) (name : List ℕ) where
         opens = reads.opens;
       }
 
-over_is_command : (read : Result CentreRows Refusal) (name : List ℕ) (text : Text)
-    → (duty_over read name text).is_command ≡ true
-over_is_command (Ok rows) name text = refl
-over_is_command (Err refusal) name text = refl
+over_is_command : (read : Result CentreRows Refusal) (limit : ℕ) (name : List ℕ) (text : Text)
+    → (duty_over read limit name text).is_command ≡ true
+over_is_command (Ok rows) limit name text = refl
+over_is_command (Err refusal) limit name text = refl
 
-after_is_command : (tables : Text) (name : List ℕ) (text : Text)
-    → (duty_after tables name text).is_command ≡ true
-after_is_command untold name text = refl
-after_is_command missing name text = refl
-after_is_command (told octets) name text = over_is_command (tables_read octets) name text
+after_is_command : (tables : Text) (limit : ℕ) (name : List ℕ) (text : Text)
+    → (duty_after tables limit name text).is_command ≡ true
+after_is_command untold limit name text = refl
+after_is_command missing limit name text = refl
+after_is_command (told octets) limit name text =
+    over_is_command (tables_read octets) limit name text
 
-module _ (b m a : OutsideTold) (tables scenario : List ℕ) where
+module _ (b m a : OutsideTold) (tables scenario : List ℕ) (limit : ℕ) where
   -- the text of the scenario, after the tables were read
   second_read : (rows : CentreRows) → ReadsTables b m tables (Ok rows)
       → second_text (texts_of b) tables scenario ≡ texts_of m scenario
@@ -178,71 +180,95 @@ module _ (b m a : OutsideTold) (tables scenario : List ℕ) where
           ap (λ t. cond t (emptied (texts_of b tables)) (texts_of b scenario)) at
           ∙ ap text_of (sym (reads.opens.uses.sources.others scenario (ap (λ t. t || false) at)))
 
+  -- all was sent of a scenario over tables that were read
+  pub SendsBy-tables : (rows : CentreRows) → ReadsTables b m tables (Ok rows)
+      → OnTold (SendsAll (node_of rows limit)) (texts_of m scenario)
+      → SendsBy (Some (replays tables scenario limit)) (texts_of b)
+  SendsBy-tables rows reads sent = here (texts_of b tables) reads.tables
+    where
+      here : (t : Text) → IsTables (Ok rows) t
+          → OnTold (λ octets. SendsOver (tables_read octets) limit
+          (second_text (texts_of b) tables scenario)) t
+      here untold told_tables = tt
+      here missing told_tables = absurd cc
+      here (told octets) told_tables =
+          subst (λ read. SendsOver read limit (second_text (texts_of b) tables scenario))
+          (sym told_tables)
+          (subst (λ text. OnTold (SendsAll (node_of rows limit)) text)
+          (sym (second_read rows reads)) sent)
+
   -- the run over tables that are there
   pub IsRun-tables : (rows : CentreRows) (status : Status) → ReadsTables b m tables (Ok rows)
-      → IsRun (scenario_duty rows scenario (texts_of m scenario)) m a status
-      → IsRun (duty_of (Some (replays tables scenario)) (texts_of b)) b a status
+      → IsRun (scenario_duty rows limit scenario (texts_of m scenario)) m a status
+      → IsRun (duty_of (Some (replays tables scenario limit)) (texts_of b)) b a status
   IsRun-tables rows status reads run =
-      IsRun-then (duty_of (Some (replays tables scenario)) (texts_of b))
-      (scenario_duty rows scenario (texts_of m scenario)) b m a tables status
-      (after_is_command (texts_of b tables) scenario (second_text (texts_of b) tables scenario))
+      IsRun-then (duty_of (Some (replays tables scenario limit)) (texts_of b))
+      (scenario_duty rows limit scenario (texts_of m scenario)) b m a tables status
+      (after_is_command (texts_of b tables) limit scenario
+      (second_text (texts_of b) tables scenario))
       refl (follows (texts_of b tables) reads.tables) reads.opens run
     where
       follows : (t : Text) → IsTables (Ok rows) t
           → Follows
-          (opening tables (duty_after t scenario (second_text (texts_of b) tables scenario)))
-          tables (scenario_duty rows scenario (texts_of m scenario))
+          (opening tables (duty_after t limit scenario (second_text (texts_of b) tables scenario)))
+          tables (scenario_duty rows limit scenario (texts_of m scenario))
       follows untold told_tables = nothing_told [] refl refl
       follows missing told_tables = absurd cc
       follows (told octets) told_tables =
           subst (λ r. Follows
-          (opening tables (duty_over r scenario (second_text (texts_of b) tables scenario)))
-          tables (scenario_duty rows scenario (texts_of m scenario)))
+          (opening tables (duty_over r limit scenario (second_text (texts_of b) tables scenario)))
+          tables (scenario_duty rows limit scenario (texts_of m scenario)))
           (sym told_tables)
           (same_said
-          (ap (said_of (λ octets. Some (within_limit (codes "scenario") (scenario_said rows) octets)))
+          (ap (said_of (λ octets. Some
+          (within_limit (codes "scenario") (scenario_said rows limit) octets)))
           (second_read rows reads)) refl)
 
   -- with refused tables
   pub IsRun-refused : (refusal : Refusal) (status : Status)
       → ReadsTables b m tables (Err (Refused refusal))
       → IsRun (duty_to_say true (refused (codes "tables") refusal)) m a status
-      → IsRun (duty_of (Some (replays tables scenario)) (texts_of b)) b a status
+      → IsRun (duty_of (Some (replays tables scenario limit)) (texts_of b)) b a status
   IsRun-refused refusal status reads run =
-      IsRun-then (duty_of (Some (replays tables scenario)) (texts_of b))
+      IsRun-then (duty_of (Some (replays tables scenario limit)) (texts_of b))
       (duty_to_say true (refused (codes "tables") refusal)) b m a tables status
-      (after_is_command (texts_of b tables) scenario (second_text (texts_of b) tables scenario))
+      (after_is_command (texts_of b tables) limit scenario
+      (second_text (texts_of b) tables scenario))
       refl (follows (texts_of b tables) reads.tables) reads.opens run
     where
       follows : (t : Text) → IsTables (Err (Refused refusal)) t
           → Follows
-          (opening tables (duty_after t scenario (second_text (texts_of b) tables scenario)))
+          (opening tables (duty_after t limit scenario (second_text (texts_of b) tables scenario)))
           tables (duty_to_say true (refused (codes "tables") refusal))
       follows untold told_tables = nothing_told (scenario ∷ []) refl refl
       follows missing told_tables = absurd cc
       follows (told octets) told_tables =
           subst (λ r. Follows
-          (opening tables (duty_over r scenario (second_text (texts_of b) tables scenario)))
+          (opening tables (duty_over r limit scenario (second_text (texts_of b) tables scenario)))
           tables (duty_to_say true (refused (codes "tables") refusal)))
           (sym told_tables) (same_said refl refl)
 
   -- and without tables
   pub IsRun-outside : ReadsTables b m tables (Err Outside)
-      → IsRun (duty_of (Some (replays tables scenario)) (texts_of b)) b m statuses.Outside
+      → IsRun (duty_of (Some (replays tables scenario limit)) (texts_of b)) b m statuses.Outside
   IsRun-outside reads =
-      IsRun-unread (duty_of (Some (replays tables scenario)) (texts_of b)) b m tables
-      (duty_after (texts_of b tables) scenario (second_text (texts_of b) tables scenario)).inputs
+      IsRun-unread (duty_of (Some (replays tables scenario limit)) (texts_of b)) b m tables
+      (duty_after (texts_of b tables) limit scenario
+      (second_text (texts_of b) tables scenario)).inputs
       statuses.Outside tt
-      (after_is_command (texts_of b tables) scenario (second_text (texts_of b) tables scenario))
+      (after_is_command (texts_of b tables) limit scenario
+      (second_text (texts_of b) tables scenario))
       refl reads.opens
 
   pub IsRun-memory : ReadsTables b m tables (Err Memory)
-      → IsRun (duty_of (Some (replays tables scenario)) (texts_of b)) b m statuses.Memory
+      → IsRun (duty_of (Some (replays tables scenario limit)) (texts_of b)) b m statuses.Memory
   IsRun-memory reads =
-      IsRun-unread (duty_of (Some (replays tables scenario)) (texts_of b)) b m tables
-      (duty_after (texts_of b tables) scenario (second_text (texts_of b) tables scenario)).inputs
+      IsRun-unread (duty_of (Some (replays tables scenario limit)) (texts_of b)) b m tables
+      (duty_after (texts_of b tables) limit scenario
+      (second_text (texts_of b) tables scenario)).inputs
       statuses.Memory tt
-      (after_is_command (texts_of b tables) scenario (second_text (texts_of b) tables scenario))
+      (after_is_command (texts_of b tables) limit scenario
+      (second_text (texts_of b) tables scenario))
       refl reads.opens
 
 module _ (b m a : OutsideTold) (input : List ℕ) (say : List ℕ → Said) (name : List ℕ) where

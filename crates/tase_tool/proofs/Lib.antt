@@ -1,3 +1,5 @@
 mod Duties
 mod Playing
 mod Telling
+mod Sending
+mod Unasked

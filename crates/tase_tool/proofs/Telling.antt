@@ -1,8 +1,8 @@
 -- What is said of a PDU that was read, and of the first rule that octets break.
-use Rattle.std.proofs.Common.{◌≡◌, ℕ, List, [], Ok, Err, ◌∙◌, sym, ap, refl, true}
-use Rattle.std.specs.Prelude.{length, Result}
+use Rattle.std.proofs.Common.{◌≡◌, ℕ, List, Ok, Err, ap, refl}
+use Rattle.std.specs.Prelude.{length}
 use Rattle.command_io.specs.declared.status.Status.TheVariants.{Done, Input}
-use Rattle.command_io.specs.Saying.{Said, prints}
+use Rattle.command_io.specs.Saying.{prints}
 use Rattle.ber_values.specs.Readers.{IsReadBy, taken_whole}
 use Rattle.mms_services.specs.declared.fault.MmsFault.{MmsFault}
 use Rattle.mms_services.specs.declared.pdu.MmsPdu.{MmsPdu}

@@ -15,7 +15,6 @@ use Rattle.bilateral.specs.declared.fault.TableFault.{TableFault}
 use Rattle.tase_views.specs.Setup.{Setup}
 use Rattle.tase_replay.specs.Play.{Played, End, done, bad_line, history_full, shown_of}
 use Rattle.tase_replay.specs.Play.{scenario_of}
-use Rattle.tase_tool.specs.declared.running.TheConstants.{HISTORY_LIMIT}
 use Rattle.tase_tool.specs.Words.{Asked, replays, lists_stream, decodes_pdu}
 use Rattle.tase_tool.specs.Decoding.{capture_said}
 use Rattle.capture_listing.specs.Listing.{stream_said}
@@ -48,11 +47,11 @@ abbrev pub played_said : Played → Said
 played_said played = said_at (shown_of played) played.end
 
 -- the setup of the node that a scenario is played on
-abbrev pub setup_of : CentreRows → Setup
-setup_of rows = record { centre = rows; limit = HISTORY_LIMIT }
+abbrev pub setup_of : CentreRows → ℕ → Setup
+setup_of rows limit = record { centre = rows; limit = limit }
 
-abbrev pub scenario_said : CentreRows → List ℕ → Said
-scenario_said rows text = played_said (scenario_of (setup_of rows) text)
+abbrev pub scenario_said : CentreRows → ℕ → List ℕ → Said
+scenario_said rows limit text = played_said (scenario_of (setup_of rows limit) text)
 
 -- what is said of an input's text, which has at most so many octets
 abbrev pub within_limit : List ℕ → (List ℕ → Said) → List ℕ → Said
@@ -75,22 +74,23 @@ text_duty input say name text = record {
 }
 
 -- the duty to play the text under a name over these tables
-abbrev pub scenario_duty : CentreRows → List ℕ → Text → Duty
-scenario_duty rows name text = text_duty (codes "scenario") (scenario_said rows) name text
+abbrev pub scenario_duty : CentreRows → ℕ → List ℕ → Text → Duty
+scenario_duty rows limit name text =
+    text_duty (codes "scenario") (scenario_said rows limit) name text
 
 -- over tables that are read, and with refused ones
-abbrev pub duty_over : Result CentreRows Refusal → List ℕ → Text → Duty
-duty_over (Ok rows) name text = scenario_duty rows name text
-duty_over (Err refusal) name text =
+abbrev pub duty_over : Result CentreRows Refusal → ℕ → List ℕ → Text → Duty
+duty_over (Ok rows) limit name text = scenario_duty rows limit name text
+duty_over (Err refusal) limit name text =
     record { is_command = true; says = Some (refused (codes "tables") refusal); inputs = [] }
 
 -- the duty to read tables and then to play the text under a name; where nothing is told of the
 -- tables, nothing is said of the rest
-abbrev pub duty_after : Text → List ℕ → Text → Duty
-duty_after untold name text = record { is_command = true; says = None; inputs = name ∷ [] }
-duty_after missing name text =
+abbrev pub duty_after : Text → ℕ → List ℕ → Text → Duty
+duty_after untold limit name text = record { is_command = true; says = None; inputs = name ∷ [] }
+duty_after missing limit name text =
     record { is_command = true; says = Some (prints Outside []); inputs = [] }
-duty_after (told octets) name text = duty_over (tables_read octets) name text
+duty_after (told octets) limit name text = duty_over (tables_read octets) limit name text
 
 -- one more input before the others
 abbrev pub opening : List ℕ → Duty → Duty
@@ -114,7 +114,7 @@ list_duty name text = text_duty (codes "in") (λ octets. stream_said (capture_in
 -- what a run of these words owes, by what is told under each name
 abbrev pub duty_of : Option Asked → (List ℕ → Text) → Duty
 duty_of None texts = record { is_command = false; says = Some usage; inputs = [] }
-duty_of (Some (replays tables scenario)) texts =
-    opening tables (duty_after (texts tables) scenario (second_text texts tables scenario))
+duty_of (Some (replays tables scenario limit)) texts =
+    opening tables (duty_after (texts tables) limit scenario (second_text texts tables scenario))
 duty_of (Some (lists_stream capture)) texts = list_duty capture (texts capture)
 duty_of (Some (decodes_pdu capture)) texts = decode_duty capture (texts capture)

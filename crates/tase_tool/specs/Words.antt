@@ -1,13 +1,17 @@
 -- The words of a command.
-use Rattle.std.specs.Prelude.{ℕ, Bool, false, not, ◌&&◌, ◌||◌, ◌==◌, if◌then◌else◌, List, [], ◌∷◌}
-use Rattle.std.specs.Prelude.{Option, Some, None, codes, bytes_eq}
+use Rattle.std.specs.Prelude.{ℕ, ◌≤◌, Bool, false, not, ◌&&◌, ◌||◌, ◌==◌, if◌then◌else◌}
+use Rattle.std.specs.Prelude.{List, [], ◌∷◌, Option, Some, None, option_map, option_and_then}
+use Rattle.std.specs.Prelude.{nat_le, codes, bytes_eq}
+use Rattle.plain_text.specs.Numbers.{if_passes, number_up_to}
+use Rattle.tase_tool.specs.declared.words.TheConstants.{HISTORY_LIMIT, MOST_LIMIT}
 use Rattle.tase_tool.specs.declared.words.Command.{Command}
 use Rattle.tase_tool.specs.declared.words.Command.TheVariants.{Replay, Decode, DecodePdu}
 
 -- what words ask for
 pub data Asked : Type 0 where
-  -- the scenario under the second name is played over the tables under the first
-  replays : List ℕ → List ℕ → Asked
+  -- the scenario under the second name is played over the tables under the first, on a node whose
+  -- history may weigh so many octets
+  replays : List ℕ → List ℕ → ℕ → Asked
   -- the messages of the stream that the capture under the name holds are listed
   lists_stream : List ℕ → Asked
   -- the PDU that the capture under the name holds is told
@@ -15,9 +19,15 @@ pub data Asked : Type 0 where
 
 -- what a command asks for
 abbrev pub asked_by : Command → Asked
-asked_by (Replay tables scenario) = replays tables.now scenario.now
+asked_by (Replay tables scenario limit) = replays tables.now scenario.now limit
 asked_by (Decode capture) = lists_stream capture.now
 asked_by (DecodePdu capture) = decodes_pdu capture.now
+
+-- a limit that a history may have
+abbrev pub IsLimited : Command → Type 0
+IsLimited (Replay tables scenario limit) = limit ≤ MOST_LIMIT
+IsLimited (Decode capture) = Unit {0}
+IsLimited (DecodePdu capture) = Unit {0}
 
 -- a name of a file: not empty, and beginning with `-` only where it is `-`, which is standard input
 abbrev pub is_name : List ℕ → Bool
@@ -28,6 +38,12 @@ is_name (first ∷ more) = not (first == 45) || bytes_eq more []
 abbrev pub is_replay : List ℕ → List ℕ → List ℕ → Bool
 is_replay verb tables scenario =
     bytes_eq verb (codes "replay") && is_name tables && is_name scenario
+
+-- `--limit N`: from 1 to 268,435,456
+abbrev pub limit_in : List ℕ → List ℕ → Option ℕ
+limit_in option word = if bytes_eq option (codes "--limit")
+    then option_and_then (if_passes (λ limit. nat_le 1 limit)) (number_up_to MOST_LIMIT word)
+    else None
 
 -- `decode IN`
 abbrev pub is_decode : List ℕ → List ℕ → Bool
@@ -43,6 +59,9 @@ abbrev pub asked_in : List (List ℕ) → Option Asked
 asked_in (first ∷ second ∷ []) =
     if is_decode first second then Some (lists_stream second) else None
 asked_in (first ∷ second ∷ third ∷ []) =
-    if is_replay first second third then Some (replays second third)
+    if is_replay first second third then Some (replays second third HISTORY_LIMIT)
     else (if is_decode_pdu first second third then Some (decodes_pdu third) else None)
+asked_in (first ∷ second ∷ third ∷ option ∷ word ∷ []) =
+    if is_replay first second third
+    then option_map (λ limit. replays second third limit) (limit_in option word) else None
 asked_in words = None

@@ -1,12 +1,10 @@
 //! The commands.
-ghost use Rattle.std.specs.Prelude.{◌≡◌, [], map, reverse, string_bytes, Some, IfOk, true};
-ghost use Rattle.std.specs.Str.Lines.{lines};
-ghost use Rattle.command_io.specs.Saying.{texts_of, text_of, duty_to_say};
+ghost use Rattle.std.specs.Prelude.{◌≡◌, ◌≤◌, ◌^◌, map, string_bytes, Some, IfOk, true};
+ghost use Rattle.command_io.specs.Saying.{texts_of, duty_to_say};
 ghost use Rattle.command_io.specs.Runs.{IsRun, Tells};
-ghost use Rattle.tase_replay.specs.Play.{play};
 ghost use Rattle.tase_tool.specs.Words.{asked_in, replays};
-ghost use Rattle.tase_tool.specs.Saying.{setup_of, scenario_said, scenario_duty, duty_of};
-ghost use Rattle.tase_tool.specs.Saying.{played_said};
+ghost use Rattle.tase_tool.specs.Saying.{scenario_said, scenario_duty, duty_of, played_said};
+ghost use Rattle.tase_tool.specs.Sent.{node_of, played_on, SendsAll, OnTold, SendsBy};
 
 use crate::decoding::run_decode;
 use crate::listing::run_listing;
@@ -22,27 +20,36 @@ use std::alloc::{AllocError, Global};
 use std::sync::Arc;
 use tase_replay::{ReplayEnd, replay};
 
-/// The limit on the weight of a history, in octets.
-pub(crate) const HISTORY_LIMIT: u64 = 134_217_728;
-
 /// Runs the command of these words: `replay TABLES SCENARIO` plays a scenario over tables and
-/// prints the replies, `decode IN` lists the messages of a captured stream of either end of a
-/// connection, `decode --pdu IN` tells which PDU (ISO 9506-2) a capture holds. All is printed on
-/// standard output, which is `-` of the outside's sinks.
+/// prints the replies, on a node whose history may weigh 134,217,728 octets, or as many as
+/// `--limit N` behind it says, from 1 to 268,435,456; `decode IN` lists the messages of a captured
+/// stream of either end of a connection, `decode --pdu IN` tells which PDU (ISO 9506-2) a capture
+/// holds. All is printed on standard output, which is `-` of the outside's sinks.
 ///
 /// What it answers and prints is, where the outside tells its octets, what the definitions say of
 /// those octets alone: the tables that the first text spells, and over them what the scenario
 /// shows, each reply from the asking peer's own table and its view of the history, up to the first
-/// bad line or the first event with which the history would weigh more than 134,217,728 octets,
-/// which is told so; or the messages that the octets of a capture are, each with its place, and the
-/// first rule that they break; or the PDU that they are, or that rule.
+/// bad line or the first event with which the history would weigh more than its limit, which is
+/// told so; or the messages that the octets of a capture are, each with its place, and the first
+/// rule that they break; or the PDU that they are, or that rule.
+///
+/// Where a whole scenario was played, the octets that were printed for each link are all that its
+/// peer is sent: over the tables, the history that the lines leave and all octets that they gave.
 pub fn run<O: Outside>(alloc: Global, words: &[String], outside: &mut O) -> Status
-    ensures { let told = O.told outside.old in
+    ensures runs { let told = O.told outside.old in
         IsRun (duty_of (asked_in (map string_bytes words.now)) (texts_of told))
         told (O.told outside.new) result }
+    ensures sent { result ≡ Status.Done
+        → SendsBy (asked_in (map string_bytes words.now)) (texts_of (O.told outside.old)) }
 {
     match read_command(words) {
-        Some(Command::Replay { tables, scenario }) => run_replay(alloc, outside, tables, scenario),
+        Some(
+            Command::Replay {
+                tables,
+                scenario,
+                limit,
+            },
+        ) => run_replay(alloc, outside, tables, scenario, limit),
         Some(Command::Decode { capture }) => run_listing(alloc, outside, capture),
         Some(Command::DecodePdu { capture }) => run_decode(alloc, outside, capture),
         None => print(outside, Status::Usage, b"usage\n"),
@@ -50,13 +57,22 @@ pub fn run<O: Outside>(alloc: Global, words: &[String], outside: &mut O) -> Stat
 }
 
 // Reads the tables, and runs the scenario over them.
-fn run_replay<O: Outside>(alloc: Global, outside: &mut O, tables: &str, scenario: &str) -> Status
-    ensures { let told = O.told outside.old in
-        IsRun (duty_of (Some (replays tables.now scenario.now)) (texts_of told))
+fn run_replay<O: Outside>(
+    alloc: Global,
+    outside: &mut O,
+    tables: &str,
+    scenario: &str,
+    limit: u64,
+) -> Status
+    requires { limit ≤ 2 ^ 31 }
+    ensures runs { let told = O.told outside.old in
+        IsRun (duty_of (Some (replays tables.now scenario.now limit)) (texts_of told))
         told (O.told outside.new) result }
+    ensures sent { result ≡ Status.Done → SendsBy
+        (Some (replays tables.now scenario.now limit)) (texts_of (O.told outside.old)) }
 {
     match read_tables(alloc, outside, tables) {
-        Ok(centre) => run_scenario(alloc, outside, centre, scenario),
+        Ok(centre) => run_scenario(alloc, outside, centre, scenario, limit),
         Err(InputEnd::Refused(refusal)) => refuse(alloc, outside, "tables", refusal),
         Err(InputEnd::Outside) => Status::Outside,
         Err(InputEnd::Memory) => Status::Memory,
@@ -69,24 +85,29 @@ fn run_scenario<O: Outside>(
     outside: &mut O,
     centre: Centre,
     scenario: &str,
+    limit: u64,
 ) -> Status
-    ensures { let told = O.told outside.old in
-        IsRun (scenario_duty centre scenario.now (texts_of told scenario.now))
+    requires { limit ≤ 2 ^ 31 }
+    ensures runs { let told = O.told outside.old in
+        IsRun (scenario_duty centre limit scenario.now (texts_of told scenario.now))
         told (O.told outside.new) result }
+    ensures sent { result ≡ Status.Done → OnTold (SendsAll (node_of centre limit))
+        (texts_of (O.told outside.old) scenario.now) }
 {
     match read_input(alloc, outside, scenario) {
-        Ok(text) => play_scenario(alloc, outside, centre, &text),
+        Ok(text) => play_scenario(alloc, outside, centre, limit, &text),
         Err(InputEnd::Refused(refusal)) => refuse(alloc, outside, "scenario", refusal),
         Err(InputEnd::Outside) => Status::Outside,
         Err(InputEnd::Memory) => Status::Memory,
     }
 }
 
-// A node of this centre, with an empty history.
-fn new_node(alloc: Global, centre: Centre) -> Result<Node, AllocError>
-    ensures { IfOk result (λ node. node ≡ record { setup = setup_of centre; history = [] }) }
+// A node of this centre, with an empty history, which may weigh so many octets.
+fn new_node(alloc: Global, centre: Centre, limit: u64) -> Result<Node, AllocError>
+    requires { limit ≤ 2 ^ 31 }
+    ensures { IfOk result (λ node. node ≡ node_of centre limit) }
 {
-    Node::new(alloc, Arc::new(alloc, centre)?, HISTORY_LIMIT)
+    Node::new(alloc, Arc::new(alloc, centre)?, limit)
 }
 
 // Plays a scenario on a new node of this centre, on standard output.
@@ -94,13 +115,15 @@ fn play_scenario<O: Outside>(
     alloc: Global,
     outside: &mut O,
     centre: Centre,
+    limit: u64,
     scenario: &[u8],
 ) -> Status
-    ensures { IsRun
-        (duty_to_say true (played_said (play (setup_of centre) (lines scenario.now) [] 1)))
+    requires { limit ≤ 2 ^ 31 }
+    ensures runs { IsRun (duty_to_say true (scenario_said centre limit scenario.now))
         (O.told outside.old) (O.told outside.new) result }
+    ensures sent { result ≡ Status.Done → SendsAll (node_of centre limit) scenario.now }
 {
-    match new_node(alloc, centre) {
+    match new_node(alloc, centre, limit) {
         Ok(node) => play_on_output(alloc, outside, node, scenario),
         Err(AllocError) => Status::Memory,
     }
@@ -108,9 +131,9 @@ fn play_scenario<O: Outside>(
 
 // Opens standard output, plays a scenario on a node, and closes it.
 fn play_on_output<O: Outside>(alloc: Global, outside: &mut O, node: Node, scenario: &[u8]) -> Status
-    ensures { let played = play node.setup (lines scenario.now) (reverse node.history) 1 in
-        IsRun (duty_to_say true (played_said played)) (O.told outside.old) (O.told outside.new)
-        result }
+    ensures runs { IsRun (duty_to_say true (played_said (played_on node scenario.now)))
+        (O.told outside.old) (O.told outside.new) result }
+    ensures sent { result ≡ Status.Done → SendsAll node scenario.now }
 {
     let Some(sink) = outside.open_out(OUTPUT) else {
         return Status::Outside;
@@ -123,8 +146,9 @@ fn play_on_output<O: Outside>(alloc: Global, outside: &mut O, node: Node, scenar
 // Plays a scenario on a node; what it shows is gathered, and goes out in large pieces.
 fn play_gathered<K: Sink + Drop>(alloc: Global, node: Node, scenario: &[u8], sink: K) -> (K, Status)
     requires { (K.told sink).held ≡ 0 }
-    ensures { let played = play node.setup (lines scenario.now) (reverse node.history) 1 in
-        Tells (played_said played) (K.told sink) (K.told result.0) result.1 }
+    ensures tells { Tells (played_said (played_on node scenario.now))
+        (K.told sink) (K.told result.0) result.1 }
+    ensures sent { result.1 ≡ Status.Done → SendsAll node scenario.now }
 {
     let mut gathering = match BufferedSink::new(alloc, sink) {
         Ok(gathering) => gathering,
@@ -142,8 +166,9 @@ fn play_gathered<K: Sink + Drop>(alloc: Global, node: Node, scenario: &[u8], sin
 // Plays a scenario on a node, and prints the refusal of a bad line, or of an event for which the
 // history has no room, after what the lines before it show.
 fn play_on<K: Sink>(alloc: Global, node: Node, scenario: &[u8], sink: &mut K) -> Status
-    ensures { let played = play node.setup (lines scenario.now) (reverse node.history) 1 in
-        Tells (played_said played) (K.told sink.old) (K.told sink.new) result }
+    ensures tells { Tells (played_said (played_on node scenario.now))
+        (K.told sink.old) (K.told sink.new) result }
+    ensures sent { result ≡ Status.Done → SendsAll node scenario.now }
 {
     let mut node = node;
     match replay(alloc, &mut node, scenario, sink) {

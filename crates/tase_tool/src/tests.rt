@@ -1,9 +1,11 @@
 mod decoding;
 mod faults;
 mod files;
+mod hostile;
 mod lines;
 mod listing;
 mod many;
+mod octets;
 
 use super::*;
 use command_io::Status;
@@ -106,6 +108,36 @@ const COMMANDS: [(&[&str], &str, Status, &str); 9] = [
     ),
 ];
 
+// The options behind the names, the scenario, how its run ends, and what it prints.
+const LIMITS: [(&[&str], &str, Status, &str); 11] = [
+    (
+        &["--limit", "40"],
+        "open 1 A\nupdate BUS1 s2 00 1700000000 0\nsay 1 read DOMA/BUS1\n",
+        Status::Full,
+        "full 52 40\n",
+    ),
+    (
+        &["--limit", "52"],
+        "open 1 A\nupdate BUS1 s2 00 1700000000 0\nsay 1 read DOMA/BUS1\n",
+        Status::Done,
+        "reply 1 read b8.80\n",
+    ),
+    (&["--limit", "1"], "open 1 A\n", Status::Full, "full 6 1\n"),
+    (&["--limit", "268435456"], "open 1 A\n", Status::Done, ""),
+    (&["--limit", "268435457"], "", Status::Usage, "usage\n"),
+    (&["--limit", "0"], "", Status::Usage, "usage\n"),
+    (&["--limit", "040"], "", Status::Usage, "usage\n"),
+    (&["--limit", "-4"], "", Status::Usage, "usage\n"),
+    (&["--limit"], "", Status::Usage, "usage\n"),
+    (&["--limits", "40"], "", Status::Usage, "usage\n"),
+    (
+        &["--limit", "40", "--limit", "40"],
+        "",
+        Status::Usage,
+        "usage\n",
+    ),
+];
+
 // A text, and the numbers of its reads that fail.
 #[derive(Clone, Copy)]
 struct Text<'a> {
@@ -200,6 +232,17 @@ fn runs_so(
 fn plays_scenarios(rt: HostRuntime) -> Result<(), Fail> {
     for (scenario, status, shown) in SCENARIOS {
         runs_so(&rt, &LAWFUL, TABLES, scenario, status, shown)?;
+    }
+    Ok(())
+}
+
+#[test]
+fn limits_the_history(rt: HostRuntime) -> Result<(), Fail> {
+    let alloc = rt.alloc();
+    for (options, scenario, status, shown) in LIMITS {
+        let mut words = Vec::from_slice(alloc, &LAWFUL)?;
+        words.extend_from_slice(options)?;
+        runs_so(&rt, words.as_slice(), TABLES, scenario, status, shown)?;
     }
     Ok(())
 }

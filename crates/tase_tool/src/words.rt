@@ -1,18 +1,35 @@
 //! The words of a command.
-ghost use Rattle.std.specs.Prelude.{◌≡◌, [], ◌∷◌, map, string_bytes};
+ghost use Rattle.std.specs.Prelude.{◌≡◌, ◌≤◌, [], ◌∷◌, map, string_bytes, IfSome};
 ghost use Rattle.std.specs.Option.{option_map};
-ghost use Rattle.tase_tool.specs.Words.{asked_by, asked_in};
+ghost use Rattle.tase_tool.specs.Words.{asked_by, asked_in, IsLimited};
 ghost use Rattle.tase_tool.specs.Words as own;
+
+use plain_text::read_number;
+
+/// The limit on the weight of a history, in octets, where no other is given.
+pub(crate) const HISTORY_LIMIT: u64 = 134_217_728;
+
+/// The most octets of that limit.
+const MOST_LIMIT: u64 = 268_435_456;
 
 /// What words ask for.
 #[derive(Clone, Copy)]
 pub(crate) enum Command<'a> {
-    /// `replay TABLES SCENARIO`: the scenario is played over the tables.
-    Replay { tables: &'a str, scenario: &'a str },
+    /// `replay TABLES SCENARIO`, and perhaps `--limit N`: the scenario is played over the tables,
+    /// on a node whose history may weigh so many octets.
+    Replay {
+        tables: &'a str,
+        scenario: &'a str,
+        limit: u64,
+    },
     /// `decode IN`: the messages of the stream that the capture holds are listed.
-    Decode { capture: &'a str },
+    Decode {
+        capture: &'a str,
+    },
     /// `decode --pdu IN`: the PDU that the capture holds is told.
-    DecodePdu { capture: &'a str },
+    DecodePdu {
+        capture: &'a str,
+    },
 }
 
 // Whether a word is the name of a file: not empty, and beginning with `-` only where it is `-`.
@@ -46,7 +63,8 @@ fn is_decode_pdu(verb: &str, option: &str, capture: &str) -> bool
 
 // The command of two words.
 fn of_two<'a>(first: &'a str, second: &'a str) -> Option<Command<'a>>
-    ensures { option_map asked_by result ≡ asked_in (first.now ∷ second.now ∷ []) }
+    ensures asked { option_map asked_by result ≡ asked_in (first.now ∷ second.now ∷ []) }
+    ensures limit { IfSome result IsLimited }
 {
     if is_decode(first, second) {
         return Some(Command::Decode { capture: second });
@@ -56,12 +74,15 @@ fn of_two<'a>(first: &'a str, second: &'a str) -> Option<Command<'a>>
 
 // The command of three words.
 fn of_three<'a>(first: &'a str, second: &'a str, third: &'a str) -> Option<Command<'a>>
-    ensures { option_map asked_by result ≡ asked_in (first.now ∷ second.now ∷ third.now ∷ []) }
+    ensures asked { option_map asked_by result
+        ≡ asked_in (first.now ∷ second.now ∷ third.now ∷ []) }
+    ensures limit { IfSome result IsLimited }
 {
     if is_replay(first, second, third) {
         return Some(Command::Replay {
             tables: second,
             scenario: third,
+            limit: HISTORY_LIMIT,
         });
     }
     if is_decode_pdu(first, second, third) {
@@ -70,13 +91,57 @@ fn of_three<'a>(first: &'a str, second: &'a str, third: &'a str) -> Option<Comma
     None
 }
 
+// The limit that two words give.
+fn read_limit(option: &str, word: &str) -> Option<u64>
+    ensures value { result ≡ own.limit_in option.now word.now }
+    ensures most { IfSome result (λ limit. limit ≤ MOST_LIMIT) }
+{
+    if option != "--limit" {
+        return None;
+    }
+    let limit = read_number(word.as_bytes(), MOST_LIMIT)?;
+    if limit >= 1 { Some(limit) } else { None }
+}
+
+// The command of five words.
+fn of_five<'a>(
+    first: &'a str,
+    tables: &'a str,
+    scenario: &'a str,
+    option: &'a str,
+    word: &'a str,
+) -> Option<Command<'a>>
+    ensures limit { IfSome result IsLimited }
+    ensures asked { option_map asked_by result ≡ asked_in
+        (first.now ∷ tables.now ∷ scenario.now ∷ option.now ∷ word.now ∷ []) }
+{
+    if !is_replay(first, tables, scenario) {
+        return None;
+    }
+    let limit = read_limit(option, word)?;
+    Some(Command::Replay {
+        tables,
+        scenario,
+        limit,
+    })
+}
+
 /// The command of these words; nothing where they are none.
+#[tactic(auto, using(crate::proofs::Unasked::unasked))]
 pub(crate) fn read_command(words: &[String]) -> Option<Command<'_>>
-    ensures { option_map asked_by result ≡ asked_in (map string_bytes words.now) }
+    ensures asked { option_map asked_by result ≡ asked_in (map string_bytes words.now) }
+    ensures limit { IfSome result IsLimited }
 {
     match words {
         [first, second] => of_two(first.as_str(), second.as_str()),
         [first, second, third] => of_three(first.as_str(), second.as_str(), third.as_str()),
+        [first, second, third, option, word] => of_five(
+            first.as_str(),
+            second.as_str(),
+            third.as_str(),
+            option.as_str(),
+            word.as_str(),
+        ),
         _ => None,
     }
 }

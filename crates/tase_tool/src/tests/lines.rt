@@ -4,7 +4,7 @@ use std::process::Abort;
 use std::test::Fail;
 
 // Scenario lines that are bad behind `open 1 A` and `open 2 B`.
-const BAD_LINES: [&str; 70] = [
+const BAD_LINES: [&str; 87] = [
     "open 1 A",
     "open 0 A",
     "open 4294967296 A",
@@ -37,6 +37,23 @@ const BAD_LINES: [&str; 70] = [
     "in 1 00",
     "idle 1",
     "end 1",
+    "in",
+    "in 3",
+    "in 3 ",
+    "in 3 0",
+    "in 3 0g",
+    "in 3 0x03",
+    "in 3 03 00",
+    "in 03 03",
+    "in 0 03",
+    "in 4294967296 03",
+    "IN 3 03",
+    "idle",
+    "idle 0",
+    "idle 3 2",
+    "end",
+    "end 0",
+    "end 3 03",
     "ask A 1",
     "tag BRK1 1 vwork",
     "orders",
@@ -78,8 +95,10 @@ const BAD_LINES: [&str; 70] = [
 ];
 
 // Lines that are taken behind these two opens, and what they print.
-const GOOD_LINES: [(&str, &str); 20] = [
+const GOOD_LINES: [(&str, &str); 22] = [
     ("open 4294967295 A", ""),
+    ("in 4294967295 03\nidle 4294967295", ""),
+    ("in  3  0300\r\nend  3", "ended 3 peerend\n"),
     ("update BUS1 s3 3f 2147483647 999", ""),
     ("update LOAD1 d-2147483648 00 0 0", ""),
     ("update LOAD1 d2147483647 00 0 0", ""),

@@ -1,26 +1,149 @@
-use Rattle.std.proofs.Common.{◌≡◌, false, reverse, sym, ◌∙◌}
+use Rattle.std.proofs.Common.{◌≡◌, true, false, sym, ap, ◌∙◌, subst, Option, Some, None}
+use Rattle.std.specs.Prelude.{IfSome}
 use Rattle.plain_text.specs.Lines.{is_skipped}
-use Rattle.tase_replay.proofs.Entering.{IsPlayed-read, IsPlayed-unread}
+use Rattle.tase_replay.specs.declared.entries.Asked.{Asked}
+use Rattle.tase_replay.specs.declared.entries.Asked.TheVariants as askeds
+use Rattle.tase_replay.specs.Links.{an_event, an_item, given_seen, IsFitting}
+use Rattle.tase_replay.specs.Play.{line_in}
+use Rattle.tase_replay.proofs.Entering.{IsPlayed-skipped, IsPlayed-bad, IsPlayed-none, line_in-skipped}
+use Rattle.tase_replay.proofs.Entering.{line_in-read}
+use Rattle.tase_replay.proofs.Own.{read_played, read_scene, skipped_scene, asked_so, unasked_so}
+use Rattle.tase_replay.proofs.Sending.{accepted_stays, read_stays, skipped_stays}
 use Rattle.tase_replay.proofs.playing.play_line.Goals as goal
 
-pub returns-in-Ok-clause-played : goal.returns-in-Ok-clause-played
-returns-in-Ok-clause-played g c =
+pub play_given-requires : goal.play_given-requires
+play_given-requires g c =
+    let is = c.in-Ok-Some-Item.field-0-is
+    ∙ ap (λ (a : Asked). Some a) c.in-Ok-Some-Item.field-0-0-is in
+    record {
+      fits = subst (λ (o : Option Asked). IfSome o IsFitting) is c.in-Ok-Some-Item.ensures.fits;
+      stands = c.requires;
+    }
+
+pub returns-then-is_skipped-clause-played : goal.returns-then-is_skipped-clause-played
+returns-then-is_skipped-clause-played g c = λ scene s.
+    IsPlayed-skipped c.args.line.now c.args.number scene
+    (line_in c.args.node.now.setup scene c.args.line.now) c.args.node.now.history
+    (g.K.Sink.told c.args.sink.now)
+    (line_in-skipped c.args.node.now.setup c.args.line.now scene
+    (sym c.is_skipped.ensures ∙ c.if-is_skipped.true))
+
+pub returns-then-is_skipped-clause-stands : goal.returns-then-is_skipped-clause-stands
+returns-then-is_skipped-clause-stands g c = λ scene s done.
+    skipped_scene c.args.node.now.setup c.args.line.now scene c.args.node.now.history
+    c.args.seats.now (sym c.is_skipped.ensures ∙ c.if-is_skipped.true) s
+
+pub returns-then-is_skipped-clause-sent : goal.returns-then-is_skipped-clause-sent
+returns-then-is_skipped-clause-sent g c = λ scene s done.
+    skipped_stays c.args.node.now.setup c.args.line.now scene
+    (sym c.is_skipped.ensures ∙ c.if-is_skipped.true)
+
+pub returns-in-Ok-Some-Event-clause-played : goal.returns-in-Ok-Some-Event-clause-played
+returns-in-Ok-Some-Event-clause-played g c = λ scene s.
     let node = c.args.node.now in
+    let is = c.in-Ok-Some-Event.field-0-is
+    ∙ ap (λ (a : Asked). Some a) c.in-Ok-Some-Event.field-0-0-is in
+    let asked = asked_so node.setup.centre c.centre.result.now c.args.line.now _
+    (askeds.Event c.in-Ok-Some-Event.entry) c.centre.ensures is
+    c.in-Ok-Some-Event.ensures.asked in
     let words : is_skipped c.args.line.now ≡ false = sym c.is_skipped.ensures
     ∙ c.if-is_skipped.false in
-    IsPlayed-read node.setup c.args.line.now c.args.number
-    (reverse node.history) c.read_entry-read.result c.in-Ok.entry node.history
-    c.play_entry.new.node.history
-    (g.K.Sink.told c.args.sink.now) (g.K.Sink.told c.play_entry.new.sink) c.play_entry.result
-    words (rw c.centre.ensures at c.read_entry-read.ensures) c.in-Ok.ensures
-    (c.play_entry.ensures.played c.args.line.now)
+    read_played node.setup c.args.line.now c.args.number scene
+    (Some (an_event c.in-Ok-Some-Event.entry)) node.history c.play_own.new.node.history
+    (g.K.Sink.told c.args.sink.now) (g.K.Sink.told c.play_own.new.sink) c.play_own.result words
+    asked (c.play_own.ensures.played c.args.line.now scene s)
+
+pub returns-in-Ok-Some-Event-clause-stands : goal.returns-in-Ok-Some-Event-clause-stands
+returns-in-Ok-Some-Event-clause-stands g c = λ scene s done.
+    let node = c.args.node.now in
+    let is = c.in-Ok-Some-Event.field-0-is
+    ∙ ap (λ (a : Asked). Some a) c.in-Ok-Some-Event.field-0-0-is in
+    let asked = asked_so node.setup.centre c.centre.result.now c.args.line.now _
+    (askeds.Event c.in-Ok-Some-Event.entry) c.centre.ensures is
+    c.in-Ok-Some-Event.ensures.asked in
+    let words : is_skipped c.args.line.now ≡ false = sym c.is_skipped.ensures
+    ∙ c.if-is_skipped.false in
+    read_scene node.setup c.args.line.now scene (Some (an_event c.in-Ok-Some-Event.entry))
+    c.play_own.new.node.history c.play_own.new.seats words
+    asked (c.play_own.ensures.stands scene s done)
+
+pub returns-in-Ok-Some-Event-clause-sent : goal.returns-in-Ok-Some-Event-clause-sent
+returns-in-Ok-Some-Event-clause-sent g c = λ scene s done.
+    let node = c.args.node.now in
+    let is = c.in-Ok-Some-Event.field-0-is
+    ∙ ap (λ (a : Asked). Some a) c.in-Ok-Some-Event.field-0-0-is in
+    let asked = asked_so node.setup.centre c.centre.result.now c.args.line.now _
+    (askeds.Event c.in-Ok-Some-Event.entry) c.centre.ensures is
+    c.in-Ok-Some-Event.ensures.asked in
+    let words : is_skipped c.args.line.now ≡ false = sym c.is_skipped.ensures
+    ∙ c.if-is_skipped.false in
+    read_stays node.setup c.args.line.now scene
+    (Some (an_event c.in-Ok-Some-Event.entry)) words asked
+    (accepted_stays node.setup scene c.in-Ok-Some-Event.entry)
+
+pub returns-in-Ok-Some-Item-clause-played : goal.returns-in-Ok-Some-Item-clause-played
+returns-in-Ok-Some-Item-clause-played g c = λ scene s.
+    let node = c.args.node.now in
+    let is = c.in-Ok-Some-Item.field-0-is
+    ∙ ap (λ (a : Asked). Some a) c.in-Ok-Some-Item.field-0-0-is in
+    let asked = asked_so node.setup.centre c.centre.result.now c.args.line.now _
+    (askeds.Item c.in-Ok-Some-Item.given) c.centre.ensures is
+    c.in-Ok-Some-Item.ensures.asked in
+    let words : is_skipped c.args.line.now ≡ false = sym c.is_skipped.ensures
+    ∙ c.if-is_skipped.false in
+    read_played node.setup c.args.line.now c.args.number scene
+    (Some (an_item (given_seen c.in-Ok-Some-Item.given))) node.history
+    c.play_given.new.node.history (g.K.Sink.told c.args.sink.now)
+    (g.K.Sink.told c.play_given.new.sink) c.play_given.result words
+    asked (c.play_given.ensures.played c.args.line.now scene s)
+
+pub returns-in-Ok-Some-Item-clause-stands : goal.returns-in-Ok-Some-Item-clause-stands
+returns-in-Ok-Some-Item-clause-stands g c = λ scene s done.
+    let node = c.args.node.now in
+    let is = c.in-Ok-Some-Item.field-0-is
+    ∙ ap (λ (a : Asked). Some a) c.in-Ok-Some-Item.field-0-0-is in
+    let asked = asked_so node.setup.centre c.centre.result.now c.args.line.now _
+    (askeds.Item c.in-Ok-Some-Item.given) c.centre.ensures is
+    c.in-Ok-Some-Item.ensures.asked in
+    let words : is_skipped c.args.line.now ≡ false = sym c.is_skipped.ensures
+    ∙ c.if-is_skipped.false in
+    read_scene node.setup c.args.line.now scene
+    (Some (an_item (given_seen c.in-Ok-Some-Item.given))) c.play_given.new.node.history
+    c.play_given.new.seats words asked (c.play_given.ensures.stands scene s done)
+
+pub returns-in-Ok-Some-Item-clause-sent : goal.returns-in-Ok-Some-Item-clause-sent
+returns-in-Ok-Some-Item-clause-sent g c = λ scene s done.
+    let node = c.args.node.now in
+    let is = c.in-Ok-Some-Item.field-0-is
+    ∙ ap (λ (a : Asked). Some a) c.in-Ok-Some-Item.field-0-0-is in
+    let asked = asked_so node.setup.centre c.centre.result.now c.args.line.now _
+    (askeds.Item c.in-Ok-Some-Item.given) c.centre.ensures is
+    c.in-Ok-Some-Item.ensures.asked in
+    let words : is_skipped c.args.line.now ≡ false = sym c.is_skipped.ensures
+    ∙ c.if-is_skipped.false in
+    read_stays node.setup c.args.line.now scene
+    (Some (an_item (given_seen c.in-Ok-Some-Item.given))) words asked
+    (c.play_given.ensures.sent scene s done)
+
+pub returns-in-Ok-None-clause-played : goal.returns-in-Ok-None-clause-played
+returns-in-Ok-None-clause-played g c = λ scene s.
+    let node = c.args.node.now in
+    let unasked = unasked_so node.setup.centre c.centre.result.now c.args.line.now _
+    c.centre.ensures c.in-Ok-None.field-0-is c.in-Ok-None.ensures.asked in
+    let words : is_skipped c.args.line.now ≡ false = sym c.is_skipped.ensures
+    ∙ c.if-is_skipped.false in
+    IsPlayed-bad c.args.line.now c.args.number (line_in node.setup scene c.args.line.now)
+    node.history (g.K.Sink.told c.args.sink.now)
+    (line_in-read node.setup c.args.line.now scene None words unasked)
+
+pub returns-in-Ok-None-clause-stands : goal.returns-in-Ok-None-clause-stands
+returns-in-Ok-None-clause-stands g c = λ scene s done. absurd cc
+
+pub returns-in-Ok-None-clause-sent : goal.returns-in-Ok-None-clause-sent
+returns-in-Ok-None-clause-sent g c = λ scene s done. absurd cc
 
 pub returns-in-Err-clause-played : goal.returns-in-Err-clause-played
-returns-in-Err-clause-played g c =
+returns-in-Err-clause-played g c = λ scene s.
     let node = c.args.node.now in
-    let words : is_skipped c.args.line.now ≡ false = sym c.is_skipped.ensures
-    ∙ c.if-is_skipped.false in
-    IsPlayed-unread node.setup c.args.line.now c.args.number
-    (reverse node.history) c.read_entry-read.result node.history
-    (g.K.Sink.told c.args.sink.now) c.in-Err.end words
-    (rw c.centre.ensures at c.read_entry-read.ensures) c.in-Err.ensures
+    IsPlayed-none c.args.line.now c.args.number (line_in node.setup scene c.args.line.now)
+    node.history (g.K.Sink.told c.args.sink.now)

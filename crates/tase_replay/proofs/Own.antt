@@ -1,0 +1,117 @@
+-- The scene behind a line of its own, and behind one of a link.
+use Rattle.std.proofs.Common.{◌≡◌, ℕ, Bool, true, false, List, [], ◌∷◌, ◌++◌, reverse, Option, get_or}
+use Rattle.std.proofs.Common.{Some, None, sym, ap, subst, ◌∙◌}
+use Rattle.std.specs.Prelude.{if◌then◌else◌, option_map}
+use Rattle.std.proofs.lemmas.Option.{get_or_from_slice_get}
+use Rattle.plain_text.specs.Lines.{is_skipped}
+use Rattle.bilateral.specs.Rows.{CentreRows}
+use Rattle.tase_conn.specs.Talking.{Talking}
+use Rattle.outside.specs.Sink.{SinkTold}
+use Rattle.tase_views.specs.Setup.{Setup}
+use Rattle.tase_views.specs.declared.event.Entry.{Entry}
+use Rattle.node_core.proofs.Outcomes.{reverse_push}
+use Rattle.tase_replay.specs.declared.entries.Asked.{Asked}
+use Rattle.tase_replay.specs.declared.links.Seats.{Seats}
+use Rattle.tase_replay.specs.declared.playing.ReplayEnd.{ReplayEnd}
+use Rattle.tase_replay.specs.declared.playing.ReplayEnd.TheVariants.{Done}
+use Rattle.tase_replay.specs.Links.{Given, Asking, asking_in, asking_seen, items_of}
+use Rattle.tase_replay.specs.Play.{Scene, Step, Meaning, gives, accepted, scene_by, with_taken}
+use Rattle.tase_replay.specs.Play.{step_of, play_line, play_alone, ends_there, steps_of, bad}
+use Rattle.tase_replay.specs.Play.{means, scene_behind, received, is_unfit, linked_by, served_item}
+use Rattle.tase_replay.specs.Ends.{IsPlayed, TakesAll}
+use Rattle.tase_replay.specs.Standing.{IsScene, Notes, Finds, Awaits, GoesOn}
+use Rattle.tase_replay.proofs.Entering.{accepted_done, line_in-read, line_in-skipped}
+use Rattle.tase_replay.proofs.Seating.{own_unlinked, own_sits}
+
+pub own_scene : (setup : Setup) (line : List ℕ) (number : ℕ) (scene : Scene) (entry : Entry)
+    (history now : List Entry) (before after : SinkTold) (old new : Seats)
+    → IsScene setup.centre history scene old → Notes entry.who old true new
+    → IsPlayed (play_line line number (accepted setup scene entry) ends_there) history now before
+    after Done
+    → IsScene setup.centre now (scene_by scene (accepted setup scene entry)) new
+own_scene setup line number scene entry history now before after old new s n played =
+    let own = own_unlinked setup.centre scene entry.who old new n s.sits in
+    let step : Step = step_of setup scene.past entry in
+    let same : accepted setup scene entry ≡ gives (step ∷ []) (with_taken entry scene) =
+    accepted_done setup line number scene entry own played.0 in
+    let takes : TakesAll (((step ∷ []) ++ []) ++ []) history now before after =
+    subst (λ (m : Meaning). TakesAll (steps_of (play_line line number m ends_there)) history now
+    before after) same played.1 in
+    subst (λ (m : Meaning). IsScene setup.centre now (scene_by scene m) new) (sym same) (record {
+      past_is = ap (λ (p : List Entry). entry ∷ p) s.past_is ∙ sym (reverse_push history entry)
+          ∙ ap reverse (sym takes.entries);
+      sits = own_sits setup.centre scene entry old new n s.sits;
+    })
+
+-- ---- any line that isn't skipped
+
+pub read_played : (setup : Setup) (line : List ℕ) (number : ℕ) (scene : Scene)
+    (found : Option Asking) (history now : List Entry) (before after : SinkTold)
+    (end : ReplayEnd) → is_skipped line ≡ false → asking_in setup.centre line ≡ found
+    → IsPlayed (play_line line number (means setup scene found) ends_there) history now before
+    after end
+    → IsPlayed (play_alone setup line scene number) history now before after end
+read_played setup line number scene found history now before after end words is played =
+    subst (λ (m : Meaning). IsPlayed (play_line line number m ends_there) history now before after
+    end) (sym (line_in-read setup line scene found words is)) played
+
+pub read_scene : (setup : Setup) (line : List ℕ) (scene : Scene) (found : Option Asking)
+    (now : List Entry) (new : Seats) → is_skipped line ≡ false
+    → asking_in setup.centre line ≡ found
+    → IsScene setup.centre now (scene_by scene (means setup scene found)) new
+    → IsScene setup.centre now (scene_behind setup line scene) new
+read_scene setup line scene found now new words is s =
+    subst (λ (m : Meaning). IsScene setup.centre now (scene_by scene m) new)
+    (sym (line_in-read setup line scene found words is)) s
+
+-- what was read of it is what it asks
+pub asked_so : (rows centre : CentreRows) (line : List ℕ) (found : Option Asked) (asked : Asked)
+    → centre ≡ rows → found ≡ Some asked → option_map asking_seen found ≡ asking_in centre line
+    → asking_in rows line ≡ Some (asking_seen asked)
+asked_so rows centre line found asked e f is =
+    ap (λ (r : CentreRows). asking_in r line) (sym e) ∙ sym is
+    ∙ ap (λ (o : Option Asked). option_map asking_seen o) f
+
+pub unasked_so : (rows centre : CentreRows) (line : List ℕ) (found : Option Asked)
+    → centre ≡ rows → found ≡ None → option_map asking_seen found ≡ asking_in centre line
+    → asking_in rows line ≡ None
+unasked_so rows centre line found e f is =
+    ap (λ (r : CentreRows). asking_in r line) (sym e) ∙ sym is
+    ∙ ap (λ (o : Option Asked). option_map asking_seen o) f
+
+pub skipped_scene : (setup : Setup) (line : List ℕ) (scene : Scene) (now : List Entry)
+    (new : Seats) → is_skipped line ≡ true → IsScene setup.centre now scene new
+    → IsScene setup.centre now (scene_behind setup line scene) new
+skipped_scene setup line scene now new words s =
+    subst (λ (m : Meaning). IsScene setup.centre now (scene_by scene m) new)
+    (sym (line_in-skipped setup line scene words)) s
+
+-- a link's line, whose seat may not be used by one
+pub received_bad : (setup : Setup) (scene : Scene) (given : Given)
+    → is_unfit given.who scene ≡ true → received setup scene given ≡ bad
+received_bad setup scene given unfit =
+    let items = items_of given.who scene.given ++ given.item ∷ [] in
+    ap (λ (b : Bool). if b then bad else linked_by setup.centre scene given items
+    (served_item setup scene given) (served_item setup scene given).halt) unfit
+
+-- the connection of a seat at its place
+pub goes_there : (rows : CentreRows) (scene : Scene) (who place : ℕ) (seats : Seats)
+    (conn : Talking) → (a : Awaits rows scene seats who place)
+    → conn ≡ get_or seats.conns.items place conn → GoesOn rows scene who conn
+goes_there rows scene who place seats conn a e =
+    let same : get_or seats.conns.items place conn ≡ a.conn =
+    get_or_from_slice_get seats.conns.items place a.conn conn a.there in
+    subst (λ (v : Talking). GoesOn rows scene who v) (sym (e ∙ same)) a.goes
+
+-- what a seat has, where it was looked for by the rows of a centre
+pub found_so : (rows centre : CentreRows) (scene : Scene) (who : ℕ) (seats : Seats)
+    (found : Option ℕ) (place : ℕ) → centre ≡ rows → found ≡ Some place
+    → Finds centre scene who seats found → Awaits rows scene seats who place
+found_so rows centre scene who seats found place e f h =
+    subst (λ (r : CentreRows). Awaits r scene seats who place) e
+    (subst (λ (o : Option ℕ). Finds centre scene who seats o) f h)
+
+pub none_so : (rows : CentreRows) (scene : Scene) (who : ℕ) (seats : Seats) (found : Option ℕ)
+    → found ≡ None → Finds rows scene who seats found → is_unfit who scene ≡ true
+none_so rows scene who seats found f h =
+    subst (λ (o : Option ℕ). Finds rows scene who seats o) f h

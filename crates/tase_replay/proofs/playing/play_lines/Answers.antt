@@ -1,0 +1,74 @@
+use Rattle.std.proofs.Common.{◌+◌, reverse, arith, ◌∙◌, refl}
+use Rattle.std.specs.Str.Lines.{lines}
+use Rattle.tase_replay.specs.Play.{Scene, play, line_in, first_scene, scene_behind}
+use Rattle.tase_replay.proofs.Reached.{Reached-none, Reached-more, Reached-last}
+use Rattle.tase_replay.proofs.SoFar.{SentSoFar-none, SentSoFar-more}
+use Rattle.tase_replay.proofs.playing.play_lines.Goals as goal
+
+pub loop-line-init : goal.loop-line-init
+loop-line-init g c =
+    let node = c.args.node.now in (
+      first_scene (reverse node.history),
+      Reached-none
+          (play node.setup (lines c.args.scenario.now) (first_scene (reverse node.history)) 1)
+          node.history (g.K.Sink.told c.args.sink.now),
+      SentSoFar-none node.setup.centre (lines c.args.scenario.now)
+          (play node.setup (lines c.args.scenario.now) (first_scene (reverse node.history)) 1)
+          (reverse node.history),
+      c.requires,
+      refl,
+      omega arith,
+    )
+
+pub play_line-requires : goal.play_line-requires
+play_line-requires g c = (c.loop-line.invariant.0, c.loop-line.invariant.3)
+
+pub returns-in_default-play_line : goal.returns-in_default-play_line
+returns-in_default-play_line g c =
+    let first = c.args.node.now in
+    let node = c.loop-line.node in
+    let scene = c.loop-line.invariant.0 in
+    let rest = λ (s : Scene). play node.setup (lines c.in-Some.more.now) s
+    (c.loop-line.number + 1) in
+    let reached = rw c.in-Some.ensures.some at c.loop-line.invariant.1 in
+    record {
+      played = Reached-last c.in-Some.line.now c.loop-line.number
+          (line_in node.setup scene c.in-Some.line.now) rest
+          (play first.setup (lines c.args.scenario.now) (first_scene (reverse first.history)) 1)
+          first.history node.history c.play_line.new.node.history
+          (g.K.Sink.told c.args.sink.now) (g.K.Sink.told c.loop-line.sink)
+          (g.K.Sink.told c.play_line.new.sink) c.play_line.result
+          c.in_default-play_line.not-Done reached
+          (c.play_line.ensures.played scene c.loop-line.invariant.3);
+      sent = λ done. absurd (c.in_default-play_line.not-Done done);
+      setup = c.play_line.ensures.setup ∙ c.loop-line.invariant.4;
+    }
+
+pub loop-line-preserved : goal.loop-line-preserved
+loop-line-preserved g c =
+    let first = c.args.node.now in
+    let node = c.loop-line.node in
+    let scene = c.loop-line.invariant.0 in
+    let rest = λ (s : Scene). play node.setup (lines c.in-Some.more.now) s
+    (c.loop-line.number + 1) in
+    let reached = rw c.in-Some.ensures.some at c.loop-line.invariant.1 in
+    let further = Reached-more c.in-Some.line.now c.loop-line.number scene
+    (line_in node.setup scene c.in-Some.line.now) rest
+    (play first.setup (lines c.args.scenario.now) (first_scene (reverse first.history)) 1)
+    first.history node.history c.play_line.new.node.history
+    (g.K.Sink.told c.args.sink.now) (g.K.Sink.told c.loop-line.sink)
+    (g.K.Sink.told c.play_line.new.sink)
+    reached (c.in-Done.ensures.played scene c.loop-line.invariant.3) in
+    let sofar = rw c.in-Some.ensures.some at c.loop-line.invariant.2 in
+    let sent = SentSoFar-more node.setup c.in-Some.line.now c.loop-line.number
+    (lines c.args.scenario.now) (lines c.in-Some.more.now)
+    (play first.setup (lines c.args.scenario.now) (first_scene (reverse first.history)) 1) rest
+    scene sofar (c.in-Done.ensures.played scene c.loop-line.invariant.3).0
+    (c.in-Done.ensures.sent scene c.loop-line.invariant.3 refl) in (
+      scene_behind node.setup c.in-Some.line.now scene,
+      rw c.in-Done.ensures.setup further,
+      rw c.in-Done.ensures.setup sent,
+      rw c.in-Done.ensures.setup (c.in-Done.ensures.stands scene c.loop-line.invariant.3 refl),
+      c.in-Done.ensures.setup ∙ c.loop-line.invariant.4,
+      omega (arith, c.in-Some.ensures.shorter),
+    )

@@ -1,0 +1,45 @@
+-- That what a replay prints for each seat is all that the peer of its link is sent.
+use Rattle.std.specs.Prelude.{ℕ, ◌++◌, List, [], reverse, Option, Some, None, Result, Ok, Err}
+use Rattle.std.specs.Str.Lines.{lines}
+use Rattle.command_io.specs.declared.input.Refusal.{Refusal}
+use Rattle.command_io.specs.Saying.{Text, untold, missing, told}
+use Rattle.bilateral.specs.Rows.{CentreRows}
+use Rattle.node_core.specs.NodeState.{NodeState}
+use Rattle.tase_replay.specs.Play.{Step, Played, play, first_scene, steps_of, entries_in}
+use Rattle.tase_replay.specs.AllSent.{AreSentAll}
+use Rattle.tase_tool.specs.Words.{Asked, replays, lists_stream, decodes_pdu}
+use Rattle.tase_tool.specs.Saying.{setup_of, tables_read, second_text}
+
+-- a new node of a centre
+abbrev pub node_of : CentreRows → ℕ → NodeState
+node_of rows limit = record { setup = setup_of rows limit; history = [] }
+
+-- the text of a scenario over a node
+abbrev pub played_on : NodeState → List ℕ → Played
+played_on node text = play node.setup (lines text) (first_scene (reverse node.history)) 1
+
+-- what is printed for each seat is all that its peer is sent, over the history that the lines leave
+abbrev pub SendsAll : NodeState → List ℕ → Type 0
+SendsAll node text =
+    let steps : List Step = steps_of (played_on node text) in
+    AreSentAll node.setup.centre (lines text) (reverse (node.history ++ entries_in steps)) steps
+
+-- a fact of the octets of a text, where they are told
+abbrev pub OnTold : (List ℕ → Type 0) → Text → Type 0
+OnTold fact untold = Unit {0}
+OnTold fact missing = Unit {0}
+OnTold fact (told octets) = fact octets
+
+-- so of a scenario over tables that are read
+abbrev pub SendsOver : Result CentreRows Refusal → ℕ → Text → Type 0
+SendsOver (Ok rows) limit text = OnTold (SendsAll (node_of rows limit)) text
+SendsOver (Err refusal) limit text = Unit {0}
+
+-- and of the replay that words ask for, by what is told under each name
+abbrev pub SendsBy : Option Asked → (List ℕ → Text) → Type 0
+SendsBy None texts = Unit {0}
+SendsBy (Some (replays tables scenario limit)) texts =
+    OnTold (λ octets. SendsOver (tables_read octets) limit (second_text texts tables scenario))
+    (texts tables)
+SendsBy (Some (lists_stream capture)) texts = Unit {0}
+SendsBy (Some (decodes_pdu capture)) texts = Unit {0}
