@@ -10,7 +10,7 @@ use std::process::Abort;
 use std::test::Fail;
 
 // At the beginning of a stream: nothing is sent.
-const FIRST: [(&str, &str); 9] = [
+const FIRST: &[(&str, &str)] = &[
     // Not the version of the TPKT; a length below 7.
     ("02", "refused transport 0 value"),
     ("03000006", "refused transport 2 length"),
@@ -30,7 +30,7 @@ const FIRST: [(&str, &str); 9] = [
 ];
 
 // Behind the connect request of the transport: the confirm is sent.
-const BEHIND_CALL: [(&str, &str); 12] = [
+const BEHIND_CALL: &[(&str, &str)] = &[
     // No octet of user data; a second connect request; a disconnect.
     ("0300000702f080", "refused transport 29 short"),
     (CALL, "refused transport 22 order"),
@@ -63,7 +63,7 @@ const BEHIND_CALL: [(&str, &str); 12] = [
 
 // A connect with one octet changed, by its place in the TSDU: the confirm is sent, and to an offer that
 // is declined a refusal.
-const OFFERS: [(usize, &str, &str); 15] = [
+const OFFERS: &[(usize, &str, &str)] = &[
     // Of the presentation: another tag, another length, another mode, another tag of a context, another
     // context of the user data.
     (24, "32", "refused presentation 24 tag"),
@@ -89,7 +89,7 @@ const OFFERS: [(usize, &str, &str); 15] = [
 
 // On an association that stands: behind these messages and with an octet of the last one changed, what
 // is sent, and how it ends.
-const STANDING: [(&[&str], Option<(usize, &str)>, &[&str], &str); 14] = [
+const STANDING: &[(&[&str], Option<(usize, &str)>, &[&str], &str)] = &[
     (&[CONNECT], None, &[ABORT], "refused session 0 order"),
     (
         &[CUT_IDENTIFY],
@@ -223,10 +223,10 @@ fn compare(
 
 #[test]
 fn bad_beginnings(rt: HostRuntime) -> Result<(), Fail> {
-    for (last, end) in FIRST {
+    for &(last, end) in FIRST {
         compare(&rt, rt.alloc(), last.as_bytes(), b"".as_slice(), end)?;
     }
-    for (last, end) in BEHIND_CALL {
+    for &(last, end) in BEHIND_CALL {
         let given = joined(rt.alloc(), &[CALL, last])?;
         compare(&rt, rt.alloc(), given.as_slice(), CONFIRM.as_bytes(), end)?;
     }
@@ -235,7 +235,7 @@ fn bad_beginnings(rt: HostRuntime) -> Result<(), Fail> {
 
 #[test]
 fn bad_offers(rt: HostRuntime) -> Result<(), Fail> {
-    for (place, octet, end) in OFFERS {
+    for &(place, octet, end) in OFFERS {
         let mut given = joined(rt.alloc(), &[CALL])?;
         let last = changed(rt.alloc(), CONNECT, Some((place, octet)))?;
         given.extend_from_slice(last.as_slice())?;
@@ -270,7 +270,7 @@ fn sent_behind(alloc: Global, answers: &[&str]) -> Result<Vec<u8>, AllocError> {
 
 #[test]
 fn bad_messages(rt: HostRuntime) -> Result<(), Fail> {
-    for (messages, change, answers, end) in STANDING {
+    for &(messages, change, answers, end) in STANDING {
         let given = changed_behind(rt.alloc(), messages, change)?;
         let sent = sent_behind(rt.alloc(), answers)?;
         compare(&rt, rt.alloc(), given.as_slice(), sent.as_slice(), end)?;

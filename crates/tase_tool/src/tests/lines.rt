@@ -3,99 +3,97 @@ use command_io::Status;
 use std::process::Abort;
 use std::test::Fail;
 
-// Scenario lines that are bad behind `open 1 A` and `open 2 B`.
-const BAD_LINES: [&str; 87] = [
-    "open 1 A",
-    "open 0 A",
-    "open 4294967296 A",
-    "open 18446744073709551617 A",
-    "open 03 A",
-    "open +3 A",
-    "open 3 C",
-    "open 3",
-    "open 3 A B",
-    "open 3 A ",
-    " open 3 A",
-    "open\t3 A",
-    "OPEN 3 A",
-    "take 3",
-    "take 0",
-    "take 4294967296",
-    "take 01",
-    "take",
-    "take 1 1",
-    "Take 1",
-    "close 3",
-    "close 0",
-    "close 4294967296",
-    "close",
-    "close 1 1",
-    "CLOSE 1",
-    "stop 1",
-    "Stop",
-    "tick 5",
-    "in 1 00",
-    "idle 1",
-    "end 1",
-    "in",
-    "in 3",
-    "in 3 ",
-    "in 3 0",
-    "in 3 0g",
-    "in 3 0x03",
-    "in 3 03 00",
-    "in 03 03",
-    "in 0 03",
-    "in 4294967296 03",
-    "IN 3 03",
-    "idle",
-    "idle 0",
-    "idle 3 2",
-    "end",
-    "end 0",
-    "end 3 03",
-    "ask A 1",
-    "tag BRK1 1 vwork",
-    "orders",
-    "update BUS2 s1 00 1 0",
-    "update BUS1 s4 00 1 0",
-    "update BUS1 s 00 1 0",
-    "update BUS1 s01 00 1 0",
-    "update BUS1 s1 40 1 0",
-    "update BUS1 s1 3F 1 0",
-    "update BUS1 s1 0 1 0",
-    "update BUS1 s1 00 2147483648 0",
-    "update BUS1 s1 00 1 1000",
-    "update BUS1 s1 00 1",
-    "update BUS1 s1 00 1 0 0",
-    "update BUS1 d1 00 1 0",
-    "update LOAD1 d2147483648 00 1 0",
-    "update LOAD1 d-2147483649 00 1 0",
-    "update LOAD1 d-0 00 1 0",
-    "update LOAD1 d+1 00 1 0",
-    "update LOAD1 d01 00 1 0",
-    "update LOAD1 d 00 1 0",
-    "update FREQ1 r0000000 00 1 0",
-    "update FREQ1 r0000000A 00 1 0",
-    "update FREQ1 r000000000 00 1 0",
-    "say 3 read DOMA/BUS1",
-    "say 1 read",
-    "say 1 read BUS1",
-    "say 1 read vmd:",
-    "say 1 read /BUS1",
-    "say 1 read DOMA/%42US1",
-    "say 1 read DOMA/A%2F",
-    "say 1 write",
-    "say 1 write DOMA/BUS1",
-    "say 1 write DOMA/BUS1=",
-    "say 1 identify DOMA/BUS1",
-    "say 1 names 0",
-    "say 1 odd 5 1",
-    "say 1 read DOMA/AAAAAAAAAAAAAAAAAAAAAAAAAAAAAAAAAAAAAAAAAAAAAAAAAAAAAAAAAAAAAAAAA",
-];
+// Scenario lines, each of them bad behind `open 1 A` and `open 2 B`.
+const BAD_LINES: &str = "open 1 A
+open 0 A
+open 4294967296 A
+open 18446744073709551617 A
+open 03 A
+open +3 A
+open 3 C
+open 3
+open 3 A B
+open 3 A\x20
+\x20open 3 A
+open\t3 A
+OPEN 3 A
+take 3
+take 0
+take 4294967296
+take 01
+take
+take 1 1
+Take 1
+close 3
+close 0
+close 4294967296
+close
+close 1 1
+CLOSE 1
+stop 1
+Stop
+tick 5
+in 1 00
+idle 1
+end 1
+in
+in 3
+in 3 
+in 3 0
+in 3 0g
+in 3 0x03
+in 3 03 00
+in 03 03
+in 0 03
+in 4294967296 03
+IN 3 03
+idle
+idle 0
+idle 3 2
+end
+end 0
+end 3 03
+ask A 1
+tag BRK1 1 vwork
+orders
+update BUS2 s1 00 1 0
+update BUS1 s4 00 1 0
+update BUS1 s 00 1 0
+update BUS1 s01 00 1 0
+update BUS1 s1 40 1 0
+update BUS1 s1 3F 1 0
+update BUS1 s1 0 1 0
+update BUS1 s1 00 2147483648 0
+update BUS1 s1 00 1 1000
+update BUS1 s1 00 1
+update BUS1 s1 00 1 0 0
+update BUS1 d1 00 1 0
+update LOAD1 d2147483648 00 1 0
+update LOAD1 d-2147483649 00 1 0
+update LOAD1 d-0 00 1 0
+update LOAD1 d+1 00 1 0
+update LOAD1 d01 00 1 0
+update LOAD1 d 00 1 0
+update FREQ1 r0000000 00 1 0
+update FREQ1 r0000000A 00 1 0
+update FREQ1 r000000000 00 1 0
+say 3 read DOMA/BUS1
+say 1 read
+say 1 read BUS1
+say 1 read vmd:
+say 1 read /BUS1
+say 1 read DOMA/%42US1
+say 1 read DOMA/A%2F
+say 1 write
+say 1 write DOMA/BUS1
+say 1 write DOMA/BUS1=
+say 1 identify DOMA/BUS1
+say 1 names 0
+say 1 odd 5 1
+say 1 read DOMA/AAAAAAAAAAAAAAAAAAAAAAAAAAAAAAAAAAAAAAAAAAAAAAAAAAAAAAAAAAAAAAAAA";
 
 // Lines that are taken behind these two opens, and what they print.
-const GOOD_LINES: [(&str, &str); 22] = [
+const GOOD_LINES: &[(&str, &str)] = &[
     ("open 4294967295 A", ""),
     ("in 4294967295 03\nidle 4294967295", ""),
     ("in  3  0300\r\nend  3", "ended 3 peerend\n"),
@@ -151,7 +149,7 @@ fn played(
 
 #[test]
 fn scenario_lines_are_refused(rt: HostRuntime) -> Result<(), Fail> {
-    for line in BAD_LINES {
+    for line in BAD_LINES.lines() {
         played(&rt, line, Status::Input, "input scenario line 4\n")?;
     }
     Ok(())
@@ -159,7 +157,7 @@ fn scenario_lines_are_refused(rt: HostRuntime) -> Result<(), Fail> {
 
 #[test]
 fn scenario_lines_are_taken(rt: HostRuntime) -> Result<(), Fail> {
-    for (line, shown) in GOOD_LINES {
+    for &(line, shown) in GOOD_LINES {
         played(&rt, line, Status::Done, shown)?;
     }
     Ok(())

@@ -82,7 +82,7 @@ const RELEASE: &str = "0300001902f0800a10c10e610c300a020101a0056303800100";
 // The lines of a scenario, how its run ends, and what it prints.
 type Row = (&'static [&'static str], Status, &'static [&'static str]);
 
-const ROWS: [Row; 23] = [
+const ROWS: &[Row] = &[
     (
         &["in 1 ", CALL, "\nin 1 ", CONNECT, "\nin 1 ", IDENTIFY, "\n"],
         Status::Done,
@@ -331,7 +331,7 @@ fn serves_links(rt: HostRuntime) -> Result<(), Fail> {
         octets: 2000,
         fails: &[],
     };
-    for (lines, status, shown) in ROWS {
+    for &(lines, status, shown) in ROWS {
         let scenario = joined(alloc, lines)?;
         let wanted = joined(alloc, shown)?;
         let texts = (sound(TABLES.as_bytes()), sound(scenario.as_slice()));
@@ -427,7 +427,7 @@ fn zeros_line(alloc: Global, count: usize) -> Result<Vec<u8>, AllocError> {
 }
 
 // The octets of a line, how the run ends, and what it prints: 0 is no first octet of a TPKT.
-const PIECES: [(usize, Status, &str); 2] = [
+const PIECES: &[(usize, Status, &str)] = &[
     (16_384, Status::Done, "ended 1 refused transport 0 value\n"),
     (16_385, Status::Input, "input scenario line 1\n"),
 ];
@@ -439,7 +439,7 @@ fn lines_have_a_limit(rt: HostRuntime) -> Result<(), Fail> {
         octets: 2000,
         fails: &[],
     };
-    for (count, status, shown) in PIECES {
+    for &(count, status, shown) in PIECES {
         let scenario = zeros_line(alloc, count)?;
         let texts = (sound(TABLES.as_bytes()), sound(scenario.as_slice()));
         let (end, printed) = ran(alloc, &LAWFUL, texts.0, texts.1, room)?;
