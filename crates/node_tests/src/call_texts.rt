@@ -7,7 +7,7 @@ use std::test::Fail;
 use tase_views::{Event, EventKind, Reply, ReplyKind, Results, WriteResults};
 
 /// Texts of calls, and these as they are written.
-const CALLS: [(&str, &str); 23] = [
+const CALLS: &[(&str, &str)] = &[
     ("identify", "identify"),
     ("read vmd:Supported", "read vmd:Supported"),
     ("read+ DOMA/BUS1 aa:X", "read+ DOMA/BUS1 aa:X"),
@@ -49,7 +49,7 @@ const CALLS: [(&str, &str); 23] = [
 ];
 
 /// Texts that are no calls, and the first bad place of each.
-const FAULTS: [(&str, usize); 68] = [
+const FAULTS: &[(&str, usize)] = &[
     ("", 0),
     ("Identify", 0),
     ("identif", 0),
@@ -134,7 +134,7 @@ fn again(alloc: Global, text: &str) -> Result<Result<Vec<u8>, usize>, Fail> {
 
 #[test]
 fn calls_are_read(rt: HostRuntime) -> Result<(), Fail> {
-    for (text, written) in CALLS {
+    for &(text, written) in CALLS {
         let read = again(rt.alloc(), text)?.ok().ok_or("a call")?;
         assert_eq!(rt; read.as_slice(), written.as_bytes(), "{text}");
     }
@@ -143,7 +143,7 @@ fn calls_are_read(rt: HostRuntime) -> Result<(), Fail> {
 
 #[test]
 fn first_bad_places(rt: HostRuntime) -> Result<(), Fail> {
-    for (text, place) in FAULTS {
+    for &(text, place) in FAULTS {
         let bad = again(rt.alloc(), text)?.err().ok_or("no call")?;
         assert_eq!(rt; bad, place, "{text}");
     }
@@ -156,7 +156,7 @@ point FREQ1 real
 ";
 
 /// Lines of a feed, and the texts of their events; those of other lines are empty.
-const LINES: [(&str, &str); 14] = [
+const LINES: &[(&str, &str)] = &[
     (
         "update BUS1 s2 00 1700000000 0",
         "update 0 s2 00 1700000000 0",
@@ -191,7 +191,7 @@ fn event_of(alloc: Global, line: &str) -> Result<Vec<u8>, Fail> {
 
 #[test]
 fn feed_lines_are_read(rt: HostRuntime) -> Result<(), Fail> {
-    for (line, event) in LINES {
+    for &(line, event) in LINES {
         let out = event_of(rt.alloc(), line)?;
         assert_eq!(rt; out.as_slice(), event.as_bytes(), "{line}");
     }

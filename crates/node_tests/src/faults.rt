@@ -12,7 +12,7 @@ see BUS1 domain value
 ";
 
 /// Verb, seat, number of a peer or a point, and why the event is refused.
-const STEPS: [(&str, u64, u32, Option<StepFault>); 15] = [
+const STEPS: &[(&str, u64, u32, Option<StepFault>)] = &[
     ("take", 1, 0, Some(StepFault::NoAssociation)),
     ("close", 1, 0, Some(StepFault::NoAssociation)),
     ("open", 1, 7, Some(StepFault::UnknownName)),
@@ -69,7 +69,7 @@ fn node_within(alloc: Global, limit: u64) -> Result<Node, Fail> {
 fn each_fault_has_its_cause(rt: HostRuntime) -> Result<(), Fail> {
     let alloc = rt.alloc();
     let mut node = node_within(alloc, 15)?;
-    for (verb, who, number, fault) in STEPS {
+    for &(verb, who, number, fault) in STEPS {
         let outcome = node.step(alloc, who, event_of(verb, number)).err();
         assert_eq!(rt; outcome, fault, "{verb} {who} {number}");
     }

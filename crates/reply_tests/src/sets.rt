@@ -19,7 +19,7 @@ see BUS1 domain value
 ";
 
 /// Calls one after another, seat 1 of the peer A, seat 2 of B, and the reply to each.
-const REPLIES: [(u64, &str, &str); 53] = [
+const REPLIES: &[(u64, &str, &str)] = &[
     // A name that no data set may have.
     (1, "define DOMB/S DOMA/BUS1", "error 7 3"),
     (1, "define vmd:S DOMA/BUS1", "error 7 3"),
@@ -114,7 +114,7 @@ fn replied(alloc: Global, node: &mut Node, who: u64, text: &str) -> Result<Vec<u
 fn data_sets_are_answered(rt: HostRuntime) -> Result<(), Fail> {
     let alloc = rt.alloc();
     let mut node = new_node(alloc)?;
-    for (who, call, reply) in REPLIES {
+    for &(who, call, reply) in REPLIES {
         let out = replied(alloc, &mut node, who, call)?;
         assert_eq!(rt; out.as_slice(), reply.as_bytes(), "{call}");
     }

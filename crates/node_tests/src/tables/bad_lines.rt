@@ -18,7 +18,7 @@ const FULL: &str = "point P state\ndevice V command sbo 1 1000\npeer A 1.1.1 D T
 peer B * D T\nslots 8\nsets 64\npending 1024\nsee P domain value\ncontrol V\n";
 
 // Lines of points.
-pub const POINTS: [BadLine; 27] = [
+pub const POINTS: &[BadLine] = &[
     (NOTHING, "x", 1, Word),
     (NOTHING, "POINT P state", 1, Word),
     (NOTHING, "point", 1, Word),
@@ -49,7 +49,7 @@ pub const POINTS: [BadLine; 27] = [
 ];
 
 // Lines of devices.
-pub const DEVICES: [BadLine; 36] = [
+pub const DEVICES: &[BadLine] = &[
     (NOTHING, "device", 1, Word),
     (NOTHING, "device V", 1, Word),
     (NOTHING, "device V command", 1, Word),
@@ -94,7 +94,7 @@ pub const DEVICES: [BadLine; 36] = [
 ];
 
 // Lines that may not stand before the first peer, or that repeat one there.
-pub const PLACES: [BadLine; 24] = [
+pub const PLACES: &[BadLine] = &[
     (NOTHING, "see P domain value", 1, Place),
     (NOTHING, "control V", 1, Place),
     (NOTHING, "slots 1", 1, Place),
@@ -122,7 +122,7 @@ pub const PLACES: [BadLine; 24] = [
 ];
 
 // Lines of peers.
-pub const PEERS: [BadLine; 18] = [
+pub const PEERS: &[BadLine] = &[
     (ROWS, "peer", 3, Word),
     (ROWS, "peer A 1.1.1 D", 3, Word),
     (ROWS, "peer A 1.1.1 D T x", 3, Word),
@@ -159,7 +159,7 @@ pub const PEERS: [BadLine; 18] = [
 ];
 
 // Lines of a table: its limits and what its peer sees.
-pub const ROWS_OF_TABLES: [BadLine; 35] = [
+pub const ROWS_OF_TABLES: &[BadLine] = &[
     (PEER, "point R state", 4, Place),
     (PEER, "point P state", 4, Place),
     (PEER, "device W command direct", 4, Place),
@@ -209,7 +209,7 @@ pub const ROWS_OF_TABLES: [BadLine; 35] = [
 
 // Lines of a table: what its peer controls, limits that are passed, names that aren't there, and all
 // that is there already.
-pub const LAST_ROWS: [BadLine; 28] = [
+pub const LAST_ROWS: &[BadLine] = &[
     (PEER, "control", 4, Word),
     (PEER, "control V tags", 4, Word),
     (PEER, "control V Tag", 4, Word),

@@ -41,7 +41,7 @@ fn too_many(line: u64) -> Option<TableFault> {
 }
 
 // Kinds of rows, the most of each, and the line of one more.
-const KINDS: [(Row, usize, u64); 3] = [
+const KINDS: &[(Row, usize, u64)] = &[
     (Row::Point, POINT_LIMIT, 20001),
     (Row::Device, DEVICE_LIMIT, 2001),
     (Row::Peer, PEER_LIMIT, 257),
@@ -49,7 +49,7 @@ const KINDS: [(Row, usize, u64); 3] = [
 
 #[test]
 fn as_many_rows_as_the_limit_are_taken(rt: HostRuntime) -> Result<(), Fail> {
-    for (row, limit, line) in KINDS {
+    for &(row, limit, line) in KINDS {
         let mut text = Vec::new(rt.alloc());
         push_rows(rt.alloc(), &mut text, row, limit)?;
         assert_eq!(rt; read_centre(rt.alloc(), &text)?.err(), None);

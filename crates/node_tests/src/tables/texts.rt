@@ -9,7 +9,7 @@ use std::test::Fail;
 const FRONT: &str = "point P state\ndevice V command sbo 1 1000\npeer A 1.1.1 D T\n";
 
 // Texts that are taken behind those three lines.
-const GOOD_TEXTS: [&str; 17] = [
+const GOOD_TEXTS: &[&str] = &[
     "see P domain value",
     "see   P  vmd   cov,flags,millis,time,value",
     "control V",
@@ -30,7 +30,7 @@ const GOOD_TEXTS: [&str; 17] = [
 ];
 
 // Texts that are taken as they are.
-const GOOD_FIRSTS: [&str; 7] = [
+const GOOD_FIRSTS: &[&str] = &[
     "point ABCDEFGHIJKLMNOPQRSTUVWX state",
     "device ABCDEFGHIJKLMNOPQRSTUVWX command direct",
     "device V command sbo -32768 1",
@@ -41,7 +41,7 @@ const GOOD_FIRSTS: [&str; 7] = [
 ];
 
 // Texts with a bad line that isn't their last, its number and the reason.
-const BAD_TEXTS: [(&str, u64, TableWhy); 3] = [
+const BAD_TEXTS: &[(&str, u64, TableWhy)] = &[
     ("\r\n# a remark\r\nsee P domain\r\nx\n", 3, TableWhy::Word),
     ("point P state\npoint P real\nx\n", 2, TableWhy::Again),
     (
@@ -72,7 +72,7 @@ fn is_refused(
 
 #[test]
 fn points_are_refused_with_their_reasons(rt: HostRuntime) -> Result<(), Fail> {
-    for (front, text, line, why) in POINTS {
+    for &(front, text, line, why) in POINTS {
         is_refused(&rt, front, text, line, why)?;
     }
     Ok(())
@@ -80,7 +80,7 @@ fn points_are_refused_with_their_reasons(rt: HostRuntime) -> Result<(), Fail> {
 
 #[test]
 fn devices_are_refused_with_their_reasons(rt: HostRuntime) -> Result<(), Fail> {
-    for (front, text, line, why) in DEVICES {
+    for &(front, text, line, why) in DEVICES {
         is_refused(&rt, front, text, line, why)?;
     }
     Ok(())
@@ -88,7 +88,7 @@ fn devices_are_refused_with_their_reasons(rt: HostRuntime) -> Result<(), Fail> {
 
 #[test]
 fn places_are_refused_with_their_reasons(rt: HostRuntime) -> Result<(), Fail> {
-    for (front, text, line, why) in PLACES {
+    for &(front, text, line, why) in PLACES {
         is_refused(&rt, front, text, line, why)?;
     }
     Ok(())
@@ -96,7 +96,7 @@ fn places_are_refused_with_their_reasons(rt: HostRuntime) -> Result<(), Fail> {
 
 #[test]
 fn peers_are_refused_with_their_reasons(rt: HostRuntime) -> Result<(), Fail> {
-    for (front, text, line, why) in PEERS {
+    for &(front, text, line, why) in PEERS {
         is_refused(&rt, front, text, line, why)?;
     }
     Ok(())
@@ -104,7 +104,7 @@ fn peers_are_refused_with_their_reasons(rt: HostRuntime) -> Result<(), Fail> {
 
 #[test]
 fn rows_of_tables_are_refused_with_their_reasons(rt: HostRuntime) -> Result<(), Fail> {
-    for (front, text, line, why) in ROWS_OF_TABLES {
+    for &(front, text, line, why) in ROWS_OF_TABLES {
         is_refused(&rt, front, text, line, why)?;
     }
     Ok(())
@@ -112,7 +112,7 @@ fn rows_of_tables_are_refused_with_their_reasons(rt: HostRuntime) -> Result<(), 
 
 #[test]
 fn last_rows_are_refused_with_their_reasons(rt: HostRuntime) -> Result<(), Fail> {
-    for (front, text, line, why) in LAST_ROWS {
+    for &(front, text, line, why) in LAST_ROWS {
         is_refused(&rt, front, text, line, why)?;
     }
     Ok(())
@@ -120,7 +120,7 @@ fn last_rows_are_refused_with_their_reasons(rt: HostRuntime) -> Result<(), Fail>
 
 #[test]
 fn texts_are_refused_at_their_first_bad_line(rt: HostRuntime) -> Result<(), Fail> {
-    for (text, line, why) in BAD_TEXTS {
+    for &(text, line, why) in BAD_TEXTS {
         is_refused(&rt, "", text, line, why)?;
     }
     Ok(())
