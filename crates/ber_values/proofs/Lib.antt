@@ -18,3 +18,5 @@ pub mod Capped
 pub mod Settled
 pub mod WrittenParts
 pub mod DottedOctets
+pub mod Pieces
+pub mod Holding

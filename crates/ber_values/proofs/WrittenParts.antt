@@ -1,10 +1,10 @@
 -- Written forms of what grammars read: their lengths, and that they are read back, whatever follows.
-use Rattle.std.proofs.Common.{◌≡◌, ℕ, zero, suc, ◌+◌, ◌-◌, ◌^◌, ◌≤◌, ◌<◌, Bool, true, false, ◌%◌, ◌≢◌, List, [], ◌∷◌, ◌++◌, length, take, drop, get_or, flat_map, Ok, refl, sym, ap, subst, ◌∙◌, inr, append_assoc, append-nil, arith}
+use Rattle.std.proofs.Common.{◌≡◌, ℕ, zero, suc, ◌+◌, ◌-◌, ◌^◌, ◌≤◌, ◌<◌, Bool, true, false, ◌%◌, ◌≢◌, List, [], ◌∷◌, ◌++◌, length, take, drop, get_or, flat_map, Some, None, Ok, refl, sym, ap, subst, ◌∙◌, inl, inr, append_assoc, append-nil, arith}
 use Rattle.std.proofs.lemmas.List.{length-append, take_more, drop_at}
 use Rattle.std.proofs.lemmas.List.Concat.{flat_map-append}
 use Rattle.ber_values.specs.Writing.{head_octets, length_octets, written}
-use Rattle.ber_values.specs.Grammars.{Grammar, taken, gives, then_in, map_in, branch_in, first_is, skip, by_length, pass_within, pass_in}
-use Rattle.ber_values.specs.Parts.{Contents, part_in, all_in, whole_in}
+use Rattle.ber_values.specs.Grammars.{Grammar, taken, gives, then_in, map_in, branch_in, has_tag, first_is, skip, by_length, pass_within, pass_in}
+use Rattle.ber_values.specs.Parts.{Contents, part_in, maybe_in, all_in, whole_in}
 use Rattle.ber_values.specs.Lists.{BeginsList, count_in, list_in}
 use Rattle.ber_values.proofs.Written.{head_written, head_written-next, head_spelled}
 use Rattle.ber_values.proofs.Grammars.{skip_reads, part-written}
@@ -147,3 +147,25 @@ list-spelled g spell least at xs enough each = record { end = at + length (flat_
 pub count-spelled : {X : Type 0} (g : Grammar X) (spell : X → List ℕ) (least most at : ℕ) (xs : List X) → least ≤ length xs → length xs ≤ most → WriteAll g spell xs → (count_in least most g).spells at xs (flat_map spell xs)
 unfolding count_in
 count-spelled g spell least most at xs enough few each = record { end = at + length (flat_map spell xs); spelled = list-begins g spell at xs each; enough = enough; few = few }
+
+-- ---- elements that may be absent
+
+-- one that is absent
+pub maybe-none : {X : Type 0} (tag : ℕ) (c : Contents X) (at : ℕ) (octets : List ℕ) → has_tag tag octets ≡ false → (maybe_in tag c).begins at octets (taken None at octets)
+unfolding maybe_in branch_in gives
+maybe-none tag c at octets other = inr (other, refl)
+
+-- one that is there
+pub maybe-some : {X : Type 0} (tag : ℕ) (c : Contents X) (at : ℕ) (x : X) (octets rest : List ℕ) (end : ℕ) → has_tag tag octets ≡ true → (part_in tag c).begins at octets (taken x end rest) → (maybe_in tag c).begins at octets (taken (Some x) end rest)
+unfolding maybe_in branch_in map_in
+maybe-some tag c at x octets rest end has b = inl (has, (taken x end rest, b, refl))
+
+-- two, one after the other, where what follows the first has a say in how it is read
+pub before-ends : {X Y : Type 0} (g : Grammar X) (next : X → Grammar Y) (at : ℕ) (x : X) (one : List ℕ) (y : Y) (two : List ℕ) → g.begins at (one ++ two) (taken x (at + length one) two) → Ends (next x) (at + length one) y two → Ends (then_in g next) at y (one ++ two)
+unfolding then_in
+before-ends {X} {Y} g next at x one y two b e =
+    let far : at + length one + length two ≡ at + length (one ++ two) = omega (arith, length-append one two) in (
+      taken x (at + length one) two,
+      b,
+      subst (λ (k : ℕ). (next x).begins (at + length one) two (taken y k [])) far e,
+    )

@@ -24,28 +24,6 @@ use Rattle.mms_services.specs.Specifications.{sole_spec, spec_octets, IsNamedSpe
 use Rattle.mms_services.specs.Reads.{read_asked, read_answered, echo_in, read_request, read_response, echo_octets, read_request_octets, echoed_octets, outcomes_octets, read_response_octets, IsSpecIfAny, IsNamedIfAny, IsReadRequest, IsReadResponse, IsHeldReadResponse}
 use Rattle.mms_services.proofs.SpecsWritten.{sole_spec-spelled, contents-few}
 
--- ---- elements that may be absent
-
--- one that is absent
-pub maybe-none : {X : Type 0} (tag : ℕ) (c : Contents X) (at : ℕ) (octets : List ℕ) → has_tag tag octets ≡ false → (maybe_in tag c).begins at octets (taken None at octets)
-unfolding maybe_in branch_in gives
-maybe-none tag c at octets other = inr (other, refl)
-
--- one that is there
-pub maybe-some : {X : Type 0} (tag : ℕ) (c : Contents X) (at : ℕ) (x : X) (octets rest : List ℕ) (end : ℕ) → has_tag tag octets ≡ true → (part_in tag c).begins at octets (taken x end rest) → (maybe_in tag c).begins at octets (taken (Some x) end rest)
-unfolding maybe_in branch_in map_in
-maybe-some tag c at x octets rest end has b = inl (has, (taken x end rest, b, refl))
-
--- two, one after the other, where what follows the first has a say in how it is read
-pub before-ends : {X Y : Type 0} (g : Grammar X) (next : X → Grammar Y) (at : ℕ) (x : X) (one : List ℕ) (y : Y) (two : List ℕ) → g.begins at (one ++ two) (taken x (at + length one) two) → Ends (next x) (at + length one) y two → Ends (then_in g next) at y (one ++ two)
-unfolding then_in
-before-ends {X} {Y} g next at x one y two b e =
-    let far : at + length one + length two ≡ at + length (one ++ two) = omega (arith, length-append one two) in (
-      taken x (at + length one) two,
-      b,
-      subst (λ (k : ℕ). (next x).begins (at + length one) two (taken y k [])) far e,
-    )
-
 -- ---- outcomes
 
 -- data have some octets

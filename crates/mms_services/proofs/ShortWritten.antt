@@ -12,12 +12,6 @@ use Rattle.mms_services.specs.Initiates.{some_integer_octets, initiate_detail_oc
 use Rattle.mms_services.specs.Initiates.{later_octets, initiate_octets}
 use Rattle.mms_services.specs.Identities.{identify_response_octets}
 
--- an integer's element, by the length of its contents
-pub integer-sized : (tag n : ℕ) (value : ℤ) → n ≡ length (integer_octets value) → n ≤ 8
-    → 2 + n ≡ length (written tag (integer_octets value))
-integer-sized tag n value is few =
-    omega (arith, is, short-sized tag (integer_octets value) (omega (arith, is, few)))
-
 service_error-sized : (class code : ℕ) → length (service_error_octets class code) ≡ 7
 unfolding service_error_octets length_octets
 service_error-sized class code = refl
