@@ -70,7 +70,7 @@ service_error-writes at class code few =
     let error : Coded = record { number = class; code = code } in
     let inner = written 160 one in
     part-writes 162 service_error at error inner (omega arith)
-    (all-spelled _ _ error inner (skipped-ends (part_in 160 error_class) (λ e. e) (is_other 0 255 (160 ∷ [])) _ error inner
+    (all-spelled _ _ error inner (skipped-ends (part_in 160 error_class) (λ e. e) (is_other 0 255 []) _ error inner
     (ends_of (part_in 160 error_class) _ error inner (part-writes 160 error_class _ error one (omega arith) (error_class-spelled _ class code few)))))
 
 -- what is written for an error is the error
@@ -144,7 +144,7 @@ initiate_detail-spelled at =
     let one : List ℕ = written 128 (1 ∷ []) in
     let two : List ℕ = written 129 parameters in
     let three : List ℕ = written 130 services in
-    let skips = is_other 0 255 (128 ∷ 129 ∷ 130 ∷ []) in
+    let skips = is_other 0 255 [] in
     let next = at + length one in
     let last = next + length two in
     all-spelled _ at (pos 1) (one ++ (two ++ three))

@@ -16,7 +16,7 @@ error_class = all_in (coded_in 128 143)
 unfoldable pub service_error : Contents Coded
 service_error = all_in
     (then_in (part_in 160 error_class) (λ error.
-    map_in (λ u. error) (pass_in (is_other 0 255 (160 ∷ [])))))
+    map_in (λ u. error) (pass_in (is_other 0 255 []))))
 
 abbrev pub error_of : ℕ → Coded → ErrorPdu
 error_of invoke error =

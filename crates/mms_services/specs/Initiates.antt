@@ -16,7 +16,7 @@ initiate_detail = all_in
     (then_in (part_in 128 integer) (λ version.
     then_in (part_in 129 raw) (λ parameters.
     then_in (part_in 130 raw) (λ services.
-    map_in (λ u. version) (pass_in (is_other 0 255 (128 ∷ 129 ∷ 130 ∷ [])))))))
+    map_in (λ u. version) (pass_in (is_other 0 255 []))))))
 
 abbrev pub initiate_of : Option ℤ → ℤ → ℤ → Option ℤ → ℤ → Initiate
 initiate_of detail calling called nesting version = record {

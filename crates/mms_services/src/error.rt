@@ -59,13 +59,7 @@ fn service_error_from(part: &Part<'_>) -> Result<Coded, BerFault>
 {
     let class_part = take_part(part.contents, part.head.body, ERROR_CLASS)?;
     let error = error_class_from(&class_part)?;
-    let end = skip_parts(
-        class_part.rest,
-        class_part.head.next,
-        0,
-        0xFF,
-        &[ERROR_CLASS],
-    )?;
+    let end = skip_parts(class_part.rest, class_part.head.next, 0, 0xFF, &[])?;
     take_end(octets_from(class_part.rest, class_part.head.next, end), end)?;
     Ok(error)
 }

@@ -100,8 +100,7 @@ fn version_in(part: &Part<'_>) -> Result<i64, BerFault>
     let version = first.integer()?;
     let parameters = take_part(first.rest, first.head.next, PARAMETERS)?;
     let services = take_part(parameters.rest, parameters.head.next, SERVICES)?;
-    let named = [VERSION, PARAMETERS, SERVICES];
-    let end = skip_parts(services.rest, services.head.next, 0, 0xFF, &named)?;
+    let end = skip_parts(services.rest, services.head.next, 0, 0xFF, &[])?;
     take_end(octets_from(services.rest, services.head.next, end), end)?;
     Ok(version)
 }
