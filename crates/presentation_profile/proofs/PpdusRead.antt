@@ -46,7 +46,7 @@ result_reads accepting =
     part_reads 48 _ (all_reads _
     (then_reads _ _ (part_reads 128 _ (where_reads (may_be accepting) octet octet_contents)) (λ result.
     then_reads _ _ (maybe_reads 129 oid oid_contents) (λ name.
-    map_reads (λ u. result) _ (pass_reads (is_other 0 255 (128 ∷ 129 ∷ [])))))))
+    map_reads (λ u. result) _ (pass_reads (is_other 0 255 []))))))
 
 any_read : IsContentsGrammar any_results
 any_read = list_reads 0 (one_result false) (result_reads false)

@@ -91,7 +91,7 @@ accepted-spelled accepting at =
       (
         taken (Some (81 ∷ 1 ∷ [])) end [],
         inl (refl, (taken (81 ∷ 1 ∷ []) end [], ends_of (part_in 129 oid) next (81 ∷ 1 ∷ []) last (part-writes 129 oid next (81 ∷ 1 ∷ []) (81 ∷ 1 ∷ []) (omega arith) (oid-spelled _ (81 ∷ 1 ∷ []) ber_is)), refl)),
-        (taken tt end [], none_passed (is_other 0 255 (128 ∷ 129 ∷ [])) end [] refl, ap (λ (k : ℕ). taken 0 k []) (sym ends)),
+        (taken tt end [], none_passed (is_other 0 255 []) end [] refl, ap (λ (k : ℕ). taken 0 k []) (sym ends)),
       ),
     )
 
@@ -106,7 +106,7 @@ refused-spelled at value =
       (
         taken None end [],
         inr (refl, refl),
-        (taken tt end [], none_passed (is_other 0 255 (128 ∷ 129 ∷ [])) end [] refl, refl),
+        (taken tt end [], none_passed (is_other 0 255 []) end [] refl, refl),
       ),
     )
 

@@ -13,12 +13,12 @@ use Rattle.ber_values.specs.Leaves.{octet, oid}
 abbrev pub may_be : Bool → ℕ → Bool
 may_be accepting result = not accepting || (result == 0)
 
--- a result, the transfer syntax's name, if there is one, and whatever else
+-- a result, the transfer syntax's name, if there is one, and whatever else behind them
 unfoldable pub result_contents : Bool → Contents ℕ
 result_contents accepting = all_in
     (then_in (part_in 128 (contents_where (may_be accepting) octet)) (λ result.
     then_in (maybe_in 129 oid) (λ name.
-    map_in (λ u. result) (pass_in (is_other 0 255 (128 ∷ 129 ∷ []))))))
+    map_in (λ u. result) (pass_in (is_other 0 255 [])))))
 
 unfoldable pub one_result : Bool → Grammar ℕ
 one_result accepting = part_in 48 (result_contents accepting)

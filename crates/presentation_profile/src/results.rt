@@ -128,7 +128,7 @@ fn result_from(part: &Part<'_>, judged: bool) -> Result<u8, BerFault>
     let value = judged_octet(&value_part, judged)?;
     let (_name, next) = maybe_name(value_part.rest, value_part.head.next, NAME)?;
     let rest = octets_from(value_part.rest, value_part.head.next, next);
-    let end = skip_parts(rest, next, 0, 0xFF, &[RESULT, NAME])?;
+    let end = skip_parts(rest, next, 0, 0xFF, &[])?;
     take_end(octets_from(rest, next, end), end)?;
     Ok(value)
 }
