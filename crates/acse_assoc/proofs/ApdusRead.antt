@@ -1,5 +1,5 @@
 -- Reading APDUs is exact.
-use Rattle.std.proofs.Common.{ℕ}
+use Rattle.std.proofs.Common.{ℕ, Option}
 use Rattle.acse_assoc.specs.declared.expected.Expected.{Expected}
 use Rattle.ber_values.specs.Grammars.{IsGrammar}
 use Rattle.ber_values.specs.Parts.{IsContentsGrammar}
@@ -16,9 +16,9 @@ use Rattle.acse_assoc.specs.Apdus.{one_apdu, apdu}
 use Rattle.acse_assoc.proofs.RisingReads.{either_reads, rising_reads, named_reads, perhaps_reads}
 use Rattle.acse_assoc.proofs.RisingReads.{attempt_reads}
 
-pub user_contents : (e : Expected) → IsContentsGrammar (user_information e)
+pub user_contents : (id : Option ℕ) → IsContentsGrammar (user_information id)
 unfolding user_information
-user_contents e = all_reads _ (part_reads 40 _ (external_contents e.id))
+user_contents id = all_reads _ (part_reads 40 _ (external_contents id))
 
 pub one_oid_contents : IsContentsGrammar one_oid
 unfolding one_oid
@@ -37,7 +37,7 @@ calling_title_reads = then_reads _ _ (rising_reads _ _) (λ least.
 user_last_reads : (e : Expected) (from : ℕ) → IsGrammar (user_last e from)
 unfolding user_last
 user_last_reads e from = then_reads _ _ (rising_reads _ _) (λ least.
-    then_reads _ _ (named_reads _ _ (user_contents e) least) (λ user.
+    then_reads _ _ (named_reads _ _ (user_contents e.request_id) least) (λ user.
     map_reads _ _ (rising_reads _ _)))
 
 pub request_contents : (e : Expected) → IsContentsGrammar (request e)
@@ -66,8 +66,8 @@ user_of_result_reads : (e : Expected) (result least : ℕ)
     → IsGrammar (user_of_result e result least)
 unfolding user_of_result
 user_of_result_reads e result least = either_reads _ _ _
-    (map_reads _ _ (named_reads _ _ (user_contents e) least))
-    (perhaps_reads _ _ (user_contents e) least)
+    (map_reads _ _ (named_reads _ _ (user_contents e.response_id) least))
+    (perhaps_reads _ _ (user_contents e.response_id) least)
 
 some_user_last_reads : (e : Expected) (result : ℕ) → IsGrammar (some_user_last e result)
 unfolding some_user_last

@@ -21,7 +21,7 @@ use Rattle.acse_assoc.specs.Responses.{some_user_last, response}
 use Rattle.acse_assoc.specs.Apdus.{one_apdu, apdu}
 
 any : Expected
-any = record { id = None; accepted = false }
+any = record { request_id = None; response_id = None; accepted = false }
 
 -- an AARQ with a title, an element that counts for nothing, and four octets of user data
 asked : List ℕ

@@ -132,28 +132,28 @@ external_few id body small few = omega (
   written-few 160 body (omega (arith, few)),
 )
 
-user_spelled : (e : Expected) (id : ℕ) (body : List ℕ) (at : ℕ) → id < 2 ^ 32
-    → length body ≤ MOST_BODY → is_wanted e.id id ≡ true
-    → (user_information e).spells at
+user_spelled : (expected : Option ℕ) (id : ℕ) (body : List ℕ) (at : ℕ) → id < 2 ^ 32
+    → length body ≤ MOST_BODY → is_wanted expected id ≡ true
+    → (user_information expected).spells at
     (external_of id (last_span (at + length (written 40 (external_octets id body))) body))
     (written 40 (external_octets id body))
 unfolding user_information all_in
-user_spelled e id body at small few wanted =
+user_spelled expected id body at small few wanted =
     let value = external_octets id body in
     let from = at + 1 + length (length_octets (length value)) in (
       taken (external_of id (last_span (from + length value) body))
           (at + length (written 40 value)) [],
-      last-written 40 (external e.id) at _ value (omega (arith, external_few id body small few, few))
-          (external-spelled e.id id body from small (omega (arith, few)) wanted),
+      last-written 40 (external expected) at _ value (omega (arith, external_few id body small few, few))
+          (external-spelled expected id body from small (omega (arith, few)) wanted),
       (refl, sym (last_in at from id 40 value body refl)),
     )
 
-user_part_begins : (e : Expected) (id : ℕ) (body : List ℕ) (at : ℕ) → id < 2 ^ 32
-    → length body ≤ MOST_BODY → is_wanted e.id id ≡ true
-    → (part_in 190 (user_information e)).begins at (user_octets id body)
+user_part_begins : (expected : Option ℕ) (id : ℕ) (body : List ℕ) (at : ℕ) → id < 2 ^ 32
+    → length body ≤ MOST_BODY → is_wanted expected id ≡ true
+    → (part_in 190 (user_information expected)).begins at (user_octets id body)
     (taken (external_of id (last_span (at + length (user_octets id body)) body))
     (at + length (user_octets id body)) [])
-user_part_begins e id body at small few wanted =
+user_part_begins expected id body at small few wanted =
     let inner = written 40 (external_octets id body) in
     let from = at + 1 + length (length_octets (length inner)) in
     let size : length inner ≤ length body + 26 = omega (
@@ -162,24 +162,24 @@ user_part_begins e id body at small few wanted =
       written-few 40 (external_octets id body)
           (omega (arith, external_few id body small few, few)),
     ) in
-    subst (λ (u : External). (part_in 190 (user_information e)).begins at
+    subst (λ (u : External). (part_in 190 (user_information expected)).begins at
     (user_octets id body) (taken u (at + length (user_octets id body)) []))
     (last_in at from id 190 inner body refl)
-    (last-written 190 (user_information e) at _ inner (omega (arith, size, few))
-    (user_spelled e id body from small few wanted))
+    (last-written 190 (user_information expected) at _ inner (omega (arith, size, few))
+    (user_spelled expected id body from small few wanted))
 
-user_begins : (e : Expected) (least id : ℕ) (body : List ℕ) (at : ℕ) → (nat_le least 30 ≡ true)
-    → id < 2 ^ 32 → length body ≤ MOST_BODY → is_wanted e.id id ≡ true
-    → (named_in 30 (user_information e) least).begins at (user_octets id body)
+user_begins : (expected : Option ℕ) (least id : ℕ) (body : List ℕ) (at : ℕ) → (nat_le least 30 ≡ true)
+    → id < 2 ^ 32 → length body ≤ MOST_BODY → is_wanted expected id ≡ true
+    → (named_in 30 (user_information expected) least).begins at (user_octets id body)
     (taken (external_of id (last_span (at + length (user_octets id body)) body))
     (at + length (user_octets id body)) [])
 unfolding named_in branch_in
-user_begins e least id body at le small few wanted =
-    inl (le, user_part_begins e id body at small few wanted)
+user_begins expected least id body at le small few wanted =
+    inl (le, user_part_begins expected id body at small few wanted)
 
 user_last_begins : (e : Expected) (from id : ℕ) (body : List ℕ) (at : ℕ)
     → (from ≡ 2) ⊎ (from ≡ 7) → id < 2 ^ 32 → length body ≤ MOST_BODY
-    → is_wanted e.id id ≡ true → (user_last e from).begins at (user_octets id body)
+    → is_wanted e.request_id id ≡ true → (user_last e from).begins at (user_octets id body)
     (taken (external_of id (last_span (at + length (user_octets id body)) body))
     (at + length (user_octets id body)) [])
 unfolding user_last then_in map_in
@@ -190,7 +190,7 @@ user_last_begins e from id body at which small few wanted =
       rising_stops 30 from at (user_octets id body) (before_user from at _ which),
       (
         taken user end [],
-        user_begins e from id body at (below from which) small few wanted,
+        user_begins e.request_id from id body at (below from which) small few wanted,
         (taken 31 end [], rising_stops _ 31 end [] (at_end _ 31 end), refl),
       ),
     )
@@ -264,7 +264,7 @@ title_least (Some title) = inr refl
 
 request_spelled : (e : Expected) (context : List ℕ) (title : Option (List ℕ)) (id : ℕ)
     (body : List ℕ) (at : ℕ) (front last whole : List ℕ) → IsOid context → IsTitle title → id < 2 ^ 32
-    → length body ≤ MOST_BODY → is_wanted e.id id ≡ true
+    → length body ≤ MOST_BODY → is_wanted e.request_id id ≡ true
     → front ≡ written 161 (written 6 context) → last ≡ user_octets id body
     → whole ≡ front ++ (title_octets title ++ last)
     → (request e).spells at (record {
@@ -465,7 +465,7 @@ diagnostic_passes at result user body =
 
 -- the user information that goes with a result
 user_of_result_begins : (e : Expected) (result : ℕ) (user : Option External) (body : List ℕ)
-    (at : ℕ) → HasUser result user → IsSmall user → length body ≤ MOST_BODY → IsOfId e.id user
+    (at : ℕ) → HasUser result user → IsSmall user → length body ≤ MOST_BODY → IsOfId e.response_id user
     → (user_of_result e result 4).begins at (some_user_octets user body)
     (taken (some_moved (last_span (at + length (some_user_octets user body)) body) user)
     (at + length (some_user_octets user body)) [])
@@ -484,13 +484,13 @@ user_of_result_begins e result None body at has small few wanted =
 user_of_result_begins e result (Some user) body at has small few wanted =
     let end = at + length (user_octets user.id body) in
     let moved_user = external_of user.id (last_span end body) in
-    let part = user_part_begins e user.id body at small few wanted in
+    let part = user_part_begins e.response_id user.id body at small few wanted in
     elim (cases_Bool (eqb result 0)) [
       | inl is ↦ inl (
         is,
         (
           taken moved_user end [],
-          user_begins e 4 user.id body at refl small few wanted,
+          user_begins e.response_id 4 user.id body at refl small few wanted,
           refl,
         ),
       )
@@ -499,7 +499,7 @@ user_of_result_begins e result (Some user) body at has small few wanted =
 
 -- what is left after the result
 some_user_last_begins : (e : Expected) (result : ℕ) (user : Option External) (body : List ℕ)
-    (at : ℕ) → HasUser result user → IsSmall user → length body ≤ MOST_BODY → IsOfId e.id user
+    (at : ℕ) → HasUser result user → IsSmall user → length body ≤ MOST_BODY → IsOfId e.response_id user
     → (some_user_last e result).begins at (diagnostic result ++ some_user_octets user body)
     (taken (some_moved (last_span (at + length (diagnostic result)
     + length (some_user_octets user body)) body) user)
@@ -520,7 +520,7 @@ some_user_last_begins e result user body at has small few wanted =
 
 response_spelled : (e : Expected) (result : ℕ) (user : Option External) (body : List ℕ) (at : ℕ)
     → result < 256 → result ≤ largest_result e → HasUser result user → IsSmall user
-    → length body ≤ MOST_BODY → IsOfId e.id user
+    → length body ≤ MOST_BODY → IsOfId e.response_id user
     → (response e).spells at (response_of result (some_moved (last_span
     (at + length (response_contents (response_of result user) body)) body) user))
     (response_contents (response_of result user) body)
@@ -642,7 +642,7 @@ whole_begins e at v octets end begins = (
 )
 
 request_begins : (e : Expected) (r : AssociateRequest) (body : List ℕ) (at : ℕ) → IsHeld (Aarq r)
-    → is_wanted e.id r.user.id ≡ true → length body ≤ MOST_BODY
+    → is_wanted e.request_id r.user.id ≡ true → length body ≤ MOST_BODY
     → (one_apdu e).begins at (request_octets r body ++ [])
     (taken (as_written at (Aarq r) body) (at + length (request_octets r body)) [])
 unfolding one_apdu contents_as
@@ -669,7 +669,7 @@ request_begins e r body at held wanted few =
 
 response_begins : (e : Expected) (r : AssociateResponse) (body : List ℕ) (at : ℕ)
     → HasUser r.result r.user → IsHeld (Aare r) → r.result ≤ largest_result e
-    → IsOfId e.id r.user → length body ≤ MOST_BODY
+    → IsOfId e.response_id r.user → length body ≤ MOST_BODY
     → (one_apdu e).begins at (response_octets r body ++ [])
     (taken (as_written at (Aare r) body) (at + length (response_octets r body)) [])
 unfolding one_apdu contents_as

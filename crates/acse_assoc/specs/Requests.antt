@@ -41,7 +41,7 @@ calling_title = then_in (rising_in CALLING_TITLE (CONTEXT_NAME + 1)) (λ least.
 -- the user information, and the elements after it
 unfoldable pub user_last : Expected → ℕ → Grammar External
 user_last e from = then_in (rising_in USER_INFORMATION from) (λ least.
-    then_in (named_in USER_INFORMATION (user_information e) least) (λ user.
+    then_in (named_in USER_INFORMATION (user_information e.request_id) least) (λ user.
     map_in (λ last. user) (rising_in LARGEST_NUMBER (USER_INFORMATION + 1))))
 
 abbrev pub request_of : List ℕ → Titled → External → AssociateRequest

@@ -33,8 +33,8 @@ result_next e from =
 -- where the association is accepted there is user information, else perhaps
 unfoldable pub user_of_result : Expected → ℕ → ℕ → Grammar (Option External)
 user_of_result e result least = either_in (result == 0)
-    (map_in Some (named_in USER_INFORMATION (user_information e) least))
-    (perhaps_in USER_INFORMATION (user_information e) least)
+    (map_in Some (named_in USER_INFORMATION (user_information e.response_id) least))
+    (perhaps_in USER_INFORMATION (user_information e.response_id) least)
 
 -- the user information, and the elements after it
 unfoldable pub some_user_last : Expected → ℕ → Grammar (Option External)

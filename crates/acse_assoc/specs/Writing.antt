@@ -122,6 +122,6 @@ IsOfId wanted (Some user) = is_wanted wanted user.id ≡ true
 
 -- an APDU has what is expected of it
 abbrev pub IsAsExpected : Expected → Apdu → Type 0
-IsAsExpected e (Aarq r) = is_wanted e.id r.user.id ≡ true
-IsAsExpected e (Aare r) = (r.result ≤ largest_result e) × IsOfId e.id r.user
+IsAsExpected e (Aarq r) = is_wanted e.request_id r.user.id ≡ true
+IsAsExpected e (Aare r) = (r.result ≤ largest_result e) × IsOfId e.response_id r.user
 IsAsExpected e apdu = Unit {0}

@@ -193,7 +193,7 @@ fn take_user<'a>(
         (from.now.at + length from.now.octets.now) x.0.body) }
 {
     let left = pass_rising(from.octets, from.at, USER_INFORMATION, from.least)?;
-    let (user, at, octets) = named_user(&left, expected)?;
+    let (user, at, octets) = named_user(&left, expected.request_id)?;
     let last = pass_rising(octets, at, LARGEST_NUMBER, USER_INFORMATION + 1)?;
     Ok((user, last.at, last.octets))
 }

@@ -124,11 +124,11 @@ fn take_result<'a>(from: &Left<'a>, expected: Expected) -> Result<(u8, usize, &'
 #[tactic(auto, unfolding(crate::specs::Rising::perhaps_in, ber_values::specs::Grammars::map_in, ber_values::specs::Grammars::branch_in, ber_values::specs::Grammars::gives, ber_values::specs::Parts::maybe_in, ber_values::specs::Parts::part_in))]
 fn perhaps_user<'a>(
     left: &Left<'a>,
-    expected: Expected,
+    id: Option<u32>,
 ) -> Result<(Option<External>, usize, &'a [u8]), BerFault>
     requires { left.now.at + length left.now.octets.now < 2 ^ 64 }
     ensures exact { Gives (λ x. taken x.0 x.1 x.2.now) result
-        ((perhaps_in USER_INFORMATION (user_information expected) left.now.least).reading
+        ((perhaps_in USER_INFORMATION (user_information id) left.now.least).reading
         left.now.at left.now.octets.now) }
     ensures within { IfOk result (λ x. (left.now.at ≤ x.1)
         × (x.1 + length x.2.now ≡ left.now.at + length left.now.octets.now)) }
@@ -142,7 +142,7 @@ fn perhaps_user<'a>(
         return Ok((None, left.at, left.octets));
     }
     let part = take_part(left.octets, left.at, USER_INFORMATION_TAG)?;
-    let user = user_from(&part, expected)?;
+    let user = user_from(&part, id)?;
     Ok((Some(user), part.head.next, part.rest))
 }
 
@@ -163,10 +163,10 @@ fn user_of_result<'a>(
         (left.now.at + length left.now.octets.now) x.0) }
 {
     if code == 0 {
-        let (user, at, octets) = named_user(left, expected)?;
+        let (user, at, octets) = named_user(left, expected.response_id)?;
         return Ok((Some(user), at, octets));
     }
-    perhaps_user(left, expected)
+    perhaps_user(left, expected.response_id)
 }
 
 /// The user information, and what is left after the elements that follow it.

@@ -12,7 +12,6 @@ ghost use Rattle.ber_values.specs.Writing.{written};
 ghost use Rattle.ber_values.specs.Externals.{external_octets, IsSpanWithin};
 ghost use Rattle.acse_assoc.specs.Writing.{user_octets};
 
-use crate::expected::Expected;
 use crate::numbers::{EXTERNAL, USER_INFORMATION, USER_INFORMATION_TAG};
 use crate::rising::{Left, refused};
 use ber_values::{
@@ -21,15 +20,16 @@ use ber_values::{
 };
 use std::alloc::AllocError;
 
-/// The user information, where its number may still follow, and what is left after it.
+/// The user information of the context with this id, where it is known, if its number may still
+/// follow; and what is left after it.
 #[tactic(auto, unfolding(crate::specs::Rising::named_in, ber_values::specs::Grammars::branch_in, ber_values::specs::Grammars::refused, ber_values::specs::Parts::part_in))]
 pub(crate) fn named_user<'a>(
     left: &Left<'a>,
-    expected: Expected,
+    id: Option<u32>,
 ) -> Result<(External, usize, &'a [u8]), BerFault>
     requires { left.now.at + length left.now.octets.now < 2 ^ 64 }
     ensures exact { Gives (λ x. taken x.0 x.1 x.2.now) result
-        ((named_in USER_INFORMATION (user_information expected) left.now.least).reading
+        ((named_in USER_INFORMATION (user_information id) left.now.least).reading
         left.now.at left.now.octets.now) }
     ensures within { IfOk result (λ x. (left.now.at ≤ x.1)
         × (x.1 + length x.2.now ≡ left.now.at + length left.now.octets.now)) }
@@ -40,21 +40,21 @@ pub(crate) fn named_user<'a>(
         return Err(refused(left));
     }
     let part = take_part(left.octets, left.at, USER_INFORMATION_TAG)?;
-    let user = user_from(&part, expected)?;
+    let user = user_from(&part, id)?;
     Ok((user, part.head.next, part.rest))
 }
 
-/// The user information in this element.
+/// The user information in this element, of the context with this id, where it is known.
 #[tactic(auto, unfolding(crate::specs::Users::user_information, ber_values::specs::Parts::all_in, ber_values::specs::Parts::part_in))]
-pub(crate) fn user_from(part: &Part<'_>, expected: Expected) -> Result<External, BerFault>
+pub(crate) fn user_from(part: &Part<'_>, id: Option<u32>) -> Result<External, BerFault>
     requires { part.now.head.body + length part.now.contents.now < 2 ^ 64 }
     ensures exact { result
-        ≡ (user_information expected).reading part.now.head part.now.contents.now }
+        ≡ (user_information id).reading part.now.head part.now.contents.now }
     ensures body { IfOk result (λ user. IsSpanWithin part.now.head.body
         (part.now.head.body + length part.now.contents.now) user.body) }
 {
     let external = take_part(part.contents, part.head.body, EXTERNAL)?;
-    let user = external.external(expected.id)?;
+    let user = external.external(id)?;
     take_end(external.rest, external.head.next)?;
     Ok(user)
 }

@@ -54,9 +54,11 @@ aarq_in tsdu session called contexts (apdus.Aarq request) =
     inside (pdu_at tsdu request.user.body) (initiate_in session called contexts request)
 aarq_in tsdu session called contexts _ = says_nothing (out_of_order layers.Acse)
 
--- the user information of an AARQ is of MMS's context, where the offers agree
+-- the user information of an AARQ is of MMS's context, where the offers agree; another APDU is
+-- out of order, whatever its id
 abbrev pub asked : List Offered → Expected
-asked contexts = record { id = mms_of contexts; accepted = false }
+asked contexts =
+    record { request_id = mms_of contexts; response_id = None; accepted = false }
 
 -- a connect in a connect of the session
 abbrev pub offers_in : List ℕ → Option (List ℕ) → Ppdu → Meaning Heard
@@ -95,9 +97,11 @@ abbrev pub aare_in : List ℕ → ℕ → Apdu → Meaning Heard
 aare_in tsdu acse (apdus.Aare response) = user_in tsdu acse response.user
 aare_in tsdu acse _ = says_nothing (out_of_order layers.Acse)
 
--- an AARE accepts; its user information is of MMS's context, where this end offered it
+-- an AARE accepts; its user information is of MMS's context, where this end offered it; another
+-- APDU is out of order, whatever its id
 abbrev pub answered : Expecting → Expected
-answered e = record { id = offered_by e.side e.mms; accepted = true }
+answered e =
+    record { request_id = None; response_id = offered_by e.side e.mms; accepted = true }
 
 -- an accept in an accept of the session
 abbrev pub results_in : Expecting → List ℕ → Ppdu → Meaning Heard

@@ -76,7 +76,8 @@ fn read_request(
         read) }
 {
     let expected = acse_assoc::Expected {
-        id: mms_id(contexts.as_slice()),
+        request_id: mms_id(contexts.as_slice()),
+        response_id: None,
         accepted: false,
     };
     match read_acse(alloc, tsdu, body, expected)? {
@@ -208,7 +209,8 @@ fn read_response(
         (inside (apdu_at (answered expecting) tsdu.now body) (aare_in tsdu.now acse)) read) }
 {
     let expected = acse_assoc::Expected {
-        id: offered_by(expecting.side, expecting.mms),
+        request_id: None,
+        response_id: offered_by(expecting.side, expecting.mms),
         accepted: true,
     };
     match read_acse(alloc, tsdu, body, expected)? {

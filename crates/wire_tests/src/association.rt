@@ -17,13 +17,15 @@ use std::test::*;
 
 /// Nothing is known of what comes.
 const ANY: Expected = Expected {
-    id: None,
+    request_id: None,
+    response_id: None,
     accepted: false,
 };
 
 /// An id and an accepting result are expected.
 const ACCEPTED: Expected = Expected {
-    id: Some(3),
+    request_id: Some(3),
+    response_id: Some(3),
     accepted: true,
 };
 

@@ -1,4 +1,4 @@
-use Rattle.std.proofs.Common.{ℕ, Option, false, ap, subst, ◌∙◌}
+use Rattle.std.proofs.Common.{ℕ, Option, None, false, ap, subst, ◌∙◌}
 use Rattle.presentation_profile.specs.Agreements.{mms_of}
 use Rattle.stack_messages.specs.Meanings.{IsReadAs}
 use Rattle.stack_messages.specs.Layers.{apdu_at}
@@ -7,7 +7,7 @@ use Rattle.stack_messages.proofs.setting.read_request.Goals as goal
 
 pub returns-in-Ok : goal.returns-in-Ok
 returns-in-Ok c =
-    let read = subst (λ (id : Option ℕ). IsReadAs (apdu_at (record { id = id; accepted = false })
+    let read = subst (λ (id : Option ℕ). IsReadAs (apdu_at (record { request_id = id; response_id = None; accepted = false })
     c.args.tsdu.now c.args.body) c.in_ok-apdu.field-0) (c.mms_id.ensures ∙ ap mms_of c.as_slice.ensures)
     c.in_ok-apdu.ensures.exact in
     inside-goes _ _ c.in-Ok.apdu c.in_ok-apdu.field-0 c.read_aarq.result c.in-Ok.is read
@@ -15,7 +15,7 @@ returns-in-Ok c =
 
 pub returns-in-Err : goal.returns-in-Err
 returns-in-Err c =
-    let read = subst (λ (id : Option ℕ). IsReadAs (apdu_at (record { id = id; accepted = false })
+    let read = subst (λ (id : Option ℕ). IsReadAs (apdu_at (record { request_id = id; response_id = None; accepted = false })
     c.args.tsdu.now c.args.body) c.in_ok-apdu.field-0) (c.mms_id.ensures ∙ ap mms_of c.as_slice.ensures)
     c.in_ok-apdu.ensures.exact in
     inside-stops _ _ c.in-Err.fault c.in_ok-apdu.field-0 c.in-Err.is read

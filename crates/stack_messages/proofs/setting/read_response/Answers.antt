@@ -1,4 +1,4 @@
-use Rattle.std.proofs.Common.{ℕ, Option, true, subst}
+use Rattle.std.proofs.Common.{ℕ, Option, None, true, subst}
 use Rattle.stack_messages.specs.Meanings.{IsReadAs}
 use Rattle.stack_messages.specs.Layers.{apdu_at}
 use Rattle.stack_messages.proofs.Exact.{inside-goes, inside-stops}
@@ -6,7 +6,7 @@ use Rattle.stack_messages.proofs.setting.read_response.Goals as goal
 
 pub returns-in-Ok : goal.returns-in-Ok
 returns-in-Ok c =
-    let read = subst (λ (id : Option ℕ). IsReadAs (apdu_at (record { id = id; accepted = true })
+    let read = subst (λ (id : Option ℕ). IsReadAs (apdu_at (record { request_id = None; response_id = id; accepted = true })
     c.args.tsdu.now c.args.body) c.in_ok-apdu.field-0) c.offered_by.ensures
     c.in_ok-apdu.ensures.exact in
     inside-goes _ _ c.in-Ok.apdu c.in_ok-apdu.field-0 c.read_aare.result c.in-Ok.is read
@@ -14,7 +14,7 @@ returns-in-Ok c =
 
 pub returns-in-Err : goal.returns-in-Err
 returns-in-Err c =
-    let read = subst (λ (id : Option ℕ). IsReadAs (apdu_at (record { id = id; accepted = true })
+    let read = subst (λ (id : Option ℕ). IsReadAs (apdu_at (record { request_id = None; response_id = id; accepted = true })
     c.args.tsdu.now c.args.body) c.in_ok-apdu.field-0) c.offered_by.ensures
     c.in_ok-apdu.ensures.exact in
     inside-stops _ _ c.in-Err.fault c.in_ok-apdu.field-0 c.in-Err.is read
