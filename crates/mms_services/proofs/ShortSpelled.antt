@@ -8,8 +8,8 @@ use Rattle.ber_values.specs.Grammars.{Grammar, taken, then_in, map_in, branch_in
 use Rattle.ber_values.specs.Parts.{part_in, maybe_in, contents_as}
 use Rattle.ber_values.specs.Leaves.{integer, unsigned, octet, raw, visible, fixed}
 use Rattle.ber_values.proofs.Externals.{integer-few, unsigned_spelled}
-use Rattle.ber_values.proofs.Written.{integer_spelled}
 use Rattle.ber_values.proofs.WrittenParts.{Writes, Ends, ends_of, then-ends, map-ends, part-writes, all-spelled, none_passed}
+use Rattle.mms_names.proofs.NameListsSpelled.{integer-writes}
 use Rattle.mms_services.specs.declared.coded.Coded.{Coded}
 use Rattle.mms_services.specs.declared.error.ErrorPdu.{ErrorPdu}
 use Rattle.mms_services.specs.declared.reject.RejectPdu.{RejectPdu}
@@ -19,7 +19,7 @@ use Rattle.mms_services.specs.Errors.{error_class, service_error, error_of, erro
 use Rattle.mms_services.specs.Rejects.{reject_of, reject_pdu, some_invoke_octets, reason_octets, reject_pdu_octets}
 use Rattle.mms_services.specs.Initiates.{initiate_detail, initiate_of, initiate, some_integer_octets, initiate_detail_octets, last_octets, later_octets, initiate_octets, IsHeldInitiate}
 use Rattle.mms_services.specs.Identities.{identify_request, some_syntaxes, identify_response, identify_response_octets}
-use Rattle.mms_services.proofs.ReadWritten.{maybe-none, maybe-some, before-ends}
+use Rattle.ber_values.proofs.WrittenParts.{maybe-none, maybe-some, before-ends}
 
 -- ---- pieces
 
@@ -44,13 +44,6 @@ coded-writes low high number code at within rest =
       part-writes (128 + number) (contents_as (coded (128 + number)) octet) at (record { number = number; code = code }) (code ∷ []) (omega arith)
           (code, octet-spelled _ code, ap (λ (n : ℕ). record { number = n; code = code }) back) rest,
     )
-
-pub integer-spelled : (at : ℕ) (z : ℤ) → FitsSigned w64 z → integer.spells at z (integer_octets z)
-unfolding integer
-integer-spelled at z fits = integer_spelled z fits
-
-pub integer-writes : (tag : ℕ) (z : ℤ) (at : ℕ) → FitsSigned w64 z → Writes (part_in tag integer) at z (written tag (integer_octets z))
-integer-writes tag z at fits = part-writes tag integer at z (integer_octets z) (omega (arith, (integer_spelled z fits).0.1)) (integer-spelled _ z fits)
 
 unsigned-writes : (tag n at : ℕ) → n < 2 ^ 32 → Writes (part_in tag unsigned) at n (written tag (integer_octets (pos n)))
 unsigned-writes tag n at small = part-writes tag unsigned at n (integer_octets (pos n)) (omega (arith, integer-few n (omega (arith, small)))) (unsigned_spelled _ n small)

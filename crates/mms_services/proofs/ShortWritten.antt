@@ -1,8 +1,8 @@
 -- Lengths of written forms that are short.
-use Rattle.std.proofs.Common.{◌≡◌, ℕ, ◌+◌, ◌≤◌, ◌++◌, length, ℤ, pos, refl, arith}
+use Rattle.std.proofs.Common.{◌≡◌, ℕ, ◌+◌, ◌≤◌, ◌++◌, length, pos, refl, arith}
 use Rattle.std.proofs.lemmas.List.{length-append}
 use Rattle.ber_values.specs.Writing.{written, integer_octets, length_octets}
-use Rattle.ber_values.proofs.Capped.{short-sized}
+use Rattle.ber_values.proofs.Pieces.{integer-sized}
 use Rattle.mms_services.specs.declared.error.ErrorPdu.{ErrorPdu}
 use Rattle.mms_services.specs.declared.reject.RejectPdu.{RejectPdu}
 use Rattle.mms_services.specs.declared.initiate.Initiate.{Initiate}

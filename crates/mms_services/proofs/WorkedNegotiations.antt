@@ -1,28 +1,21 @@
--- What is agreed on, what fails, and lists of names, computed.
+-- What is agreed on, and what fails, computed.
 use Rattle.std.proofs.Common.{◌≡◌, List, ℕ, [], ◌∷◌, pos, true, false, Some, None, Ok, Err, refl}
 use Rattle.ber_values.specs.declared.head.Head.{Head}
 use Rattle.ber_values.specs.Tags.{length_in, tag_in}
 use Rattle.ber_values.specs.Heads.{head_in, head_of}
 use Rattle.ber_values.specs.Numbers.{integer_in, unsigned_in}
-use Rattle.ber_values.specs.Booleans.{boolean_in}
 use Rattle.ber_values.specs.TextContents.{visible_in}
 use Rattle.ber_values.specs.Grammars.{taken, gives, then_in, map_in, branch_in, refused, skip}
 use Rattle.ber_values.specs.Grammars.{by_length, pass_within, pass_in}
-use Rattle.ber_values.specs.Parts.{sized_part_in, parted_in, part_in, choose_in, maybe_in, all_in}
+use Rattle.ber_values.specs.Parts.{sized_part_in, parted_in, part_in, maybe_in, all_in}
 use Rattle.ber_values.specs.Parts.{contents_as}
-use Rattle.ber_values.specs.Lists.{more_in, list_in}
-use Rattle.ber_values.specs.Leaves.{integer, unsigned, octet_in, octet, raw, boolean, visible, fixed}
-use Rattle.ber_values.specs.Leaves.{text_in, visible_within}
+use Rattle.ber_values.specs.Leaves.{integer, unsigned, octet_in, octet, raw, visible, fixed}
 use Rattle.ber_values.specs.Faults.{fault_at}
 use Rattle.ber_values.specs.declared.fault.Why.TheVariants as whys
-use Rattle.mms_data.specs.NameOctets.{identifier}
-use Rattle.mms_data.specs.declared.object_name.Scope.TheVariants.{Domain}
 use Rattle.mms_services.specs.Coded.{by_first, coded_in}
 use Rattle.mms_services.specs.Errors.{error_class, service_error, error_pdu}
 use Rattle.mms_services.specs.Identities.{identify_request, some_syntaxes, identify_response}
 use Rattle.mms_services.specs.Initiates.{initiate_detail, initiate}
-use Rattle.mms_services.specs.NameLists.{object_class, one_scope, object_scope, name_list_request}
-use Rattle.mms_services.specs.NameLists.{after_name, listed, more_names, name_list_response}
 use Rattle.mms_services.specs.Negotiations.{granted}
 use Rattle.mms_services.specs.Rejects.{reject_pdu}
 
@@ -102,32 +95,6 @@ asked_read : identify_request.reading (at_place 7) [] ≡ Ok tt
 unfolding at_place identify_request fixed
 asked_read = refl
 
--- variables of the domain D after A
-names_asked : List ℕ
-names_asked = 160 ∷ 3 ∷ 128 ∷ 1 ∷ 0 ∷ 161 ∷ 3 ∷ 129 ∷ 1 ∷ 68 ∷ 130 ∷ 1 ∷ 65 ∷ []
-
-names_asked_read : name_list_request.reading (at_place 7) names_asked ≡ Ok (record {
-  class = pos 0;
-  scope = Domain (68 ∷ []);
-  after = Some (65 ∷ []);
-})
-unfolding at_place names_asked name_list_request after_name object_class object_scope one_scope identifier then_in map_in branch_in gives maybe_in choose_in part_in parted_in sized_part_in length_in all_in contents_as integer integer_in visible_within text_in fixed
-names_asked_read = refl
-
--- A and B, and nothing said of more
-names_given : List ℕ
-names_given = 160 ∷ 6 ∷ 26 ∷ 1 ∷ 65 ∷ 26 ∷ 1 ∷ 66 ∷ []
-
-names_given_read : name_list_response.reading (at_place 7) names_given
-    ≡ Ok (record { names = (65 ∷ []) ∷ (66 ∷ []) ∷ []; more = true })
-unfolding at_place names_given name_list_response more_names listed identifier then_in map_in branch_in gives maybe_in part_in parted_in sized_part_in length_in all_in list_in more_in visible_within text_in
-names_given_read = refl
-
-no_names_read : name_list_response.reading (at_place 7) (160 ∷ 0 ∷ 129 ∷ 1 ∷ 0 ∷ [])
-    ≡ Ok (record { names = []; more = false })
-unfolding at_place name_list_response more_names then_in map_in branch_in maybe_in part_in parted_in sized_part_in length_in all_in list_in more_in boolean boolean_in
-no_names_read = refl
-
 -- of what a control centre offers, all is granted
 all_granted : granted (record {
   detail = Some (pos 65000);
@@ -164,16 +131,6 @@ most_granted = refl
 called_missing : initiate.reading (at_place 2) (129 ∷ 1 ∷ 1 ∷ 131 ∷ 1 ∷ 5 ∷ []) ≡ Err (fault_at 5 whys.Tag)
 unfolding at_place initiate then_in branch_in gives maybe_in part_in parted_in sized_part_in length_in all_in integer integer_in
 called_missing = refl
-
--- a scope of the whole device has no contents
-scope_too_long : name_list_request.reading (at_place 2) (160 ∷ 3 ∷ 128 ∷ 1 ∷ 0 ∷ 161 ∷ 3 ∷ 128 ∷ 1 ∷ 0 ∷ []) ≡ Err (fault_at 10 whys.Length)
-unfolding at_place name_list_request object_class object_scope one_scope then_in branch_in choose_in part_in parted_in sized_part_in length_in all_in contents_as integer integer_in fixed
-scope_too_long = refl
-
--- a name has an octet at least
-empty_name : name_list_response.reading (at_place 2) (160 ∷ 2 ∷ 26 ∷ 0 ∷ []) ≡ Err (fault_at 5 whys.Length)
-unfolding at_place name_list_response listed identifier then_in part_in parted_in sized_part_in length_in all_in list_in more_in visible_within text_in
-empty_name = refl
 
 -- identify is answered with three texts, and nothing else after the abstract syntaxes
 two_texts : identify_response.reading (at_place 2) (128 ∷ 0 ∷ 129 ∷ 0 ∷ []) ≡ Err (fault_at 6 whys.Short)

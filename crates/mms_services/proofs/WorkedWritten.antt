@@ -1,14 +1,10 @@
 -- What is written for answers to a control centre, computed.
-use Rattle.std.proofs.Common.{◌≡◌, [], ◌∷◌, pos, false, Some, None, refl}
+use Rattle.std.proofs.Common.{◌≡◌, [], ◌∷◌, pos, Some, None, refl}
 use Rattle.ber_values.specs.Writing.{length_octets, integer_octets}
-use Rattle.mms_data.specs.declared.object_name.Scope.TheVariants.{Vmd, Domain}
 use Rattle.mms_services.specs.Errors.{service_error_octets, error_pdu_octets}
 use Rattle.mms_services.specs.Identities.{identify_response_octets}
 use Rattle.mms_services.specs.Initiates.{initiate_detail_octets, last_octets, later_octets}
 use Rattle.mms_services.specs.Initiates.{initiate_octets}
-use Rattle.mms_services.specs.NameLists.{class_octets, in_scope_octets, name_list_request_octets}
-use Rattle.mms_services.specs.NameLists.{listed_octets, names_octets, list_octets, more_octets}
-use Rattle.mms_services.specs.NameLists.{name_list_response_octets}
 use Rattle.mms_services.specs.Rejects.{reason_octets, reject_pdu_octets}
 
 -- the answer to an initiate
@@ -45,28 +41,3 @@ identify_written : identify_response_octets ≡ 128 ∷ 6 ∷ 67 ∷ 69 ∷ 78 �
     ∷ 129 ∷ 5 ∷ 84 ∷ 65 ∷ 83 ∷ 69 ∷ 50 ∷ 130 ∷ 1 ∷ 49 ∷ []
 unfolding identify_response_octets length_octets
 identify_written = refl
-
--- variables of the domain D after A, and domains of the device
-names_of_domain : name_list_request_octets (record {
-  class = pos 0;
-  scope = Domain (68 ∷ []);
-  after = Some (65 ∷ []);
-}) ≡ 160 ∷ 3 ∷ 128 ∷ 1 ∷ 0 ∷ 161 ∷ 3 ∷ 129 ∷ 1 ∷ 68 ∷ 130 ∷ 1 ∷ 65 ∷ []
-unfolding name_list_request_octets class_octets in_scope_octets integer_octets length_octets
-names_of_domain = refl
-
-names_of_device : name_list_request_octets (record {
-  class = pos 9;
-  scope = Vmd;
-  after = None;
-}) ≡ 160 ∷ 3 ∷ 128 ∷ 1 ∷ 9 ∷ 161 ∷ 2 ∷ 128 ∷ 0 ∷ []
-unfolding name_list_request_octets class_octets in_scope_octets integer_octets length_octets
-names_of_device = refl
-
--- A and B, and no more
-names_written : name_list_response_octets (record {
-  names = (65 ∷ []) ∷ (66 ∷ []) ∷ [];
-  more = false;
-}) ≡ 160 ∷ 6 ∷ 26 ∷ 1 ∷ 65 ∷ 26 ∷ 1 ∷ 66 ∷ 129 ∷ 1 ∷ 0 ∷ []
-unfolding name_list_response_octets list_octets names_octets listed_octets more_octets length_octets
-names_written = refl

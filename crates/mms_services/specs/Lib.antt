@@ -1,15 +1,7 @@
-pub mod Specifications
-pub mod Defines
-pub mod MemberLists
-pub mod Deletes
-pub mod Reads
-pub mod Writes
-pub mod Reports
 pub mod Coded
 pub mod Errors
 pub mod Identities
 pub mod Initiates
-pub mod NameLists
 pub mod Negotiations
 pub mod Rejects
 pub mod Requests

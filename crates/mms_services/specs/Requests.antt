@@ -4,13 +4,13 @@ use Rattle.ber_values.specs.Grammars.{Grammar, map_in, branch_in, first_is, refu
 use Rattle.ber_values.specs.Parts.{choose_in, contents_as}
 use Rattle.mms_services.specs.declared.request.Request.{Request}
 use Rattle.mms_services.specs.declared.request.Request.TheVariants as services
-use Rattle.mms_services.specs.NameLists.{name_list_request}
+use Rattle.mms_names.specs.NameLists.{name_list_request}
 use Rattle.mms_services.specs.Identities.{identify_request}
-use Rattle.mms_services.specs.Reads.{read_request}
-use Rattle.mms_services.specs.Writes.{write_request}
-use Rattle.mms_services.specs.Defines.{define_request}
-use Rattle.mms_services.specs.MemberLists.{members_request}
-use Rattle.mms_services.specs.Deletes.{delete_request}
+use Rattle.mms_access.specs.Reads.{read_request}
+use Rattle.mms_access.specs.Writes.{write_request}
+use Rattle.mms_names.specs.Defines.{define_request}
+use Rattle.mms_names.specs.MemberLists.{members_request}
+use Rattle.mms_names.specs.Deletes.{delete_request}
 
 -- whether an element with this first octet is of the context class
 abbrev pub is_context : ℕ → Bool

@@ -4,8 +4,8 @@ ghost use Rattle.ber_values.specs.Faults.{Gives};
 ghost use Rattle.ber_values.specs.Grammars.{taken};
 ghost use Rattle.mms_services.specs.Coded.{coded_in};
 
-use crate::missing::{short, surplus};
 use ber_values::{BerFault, take_part};
+use mms_access::{short, surplus};
 
 /// The tag with the number 0 of those that are particular to their container.
 pub(crate) const FIRST_TAG: u8 = 0x80;

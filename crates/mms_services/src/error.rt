@@ -84,7 +84,7 @@ pub(crate) fn error_pdu_len(error: &ErrorPdu) -> usize
 }
 
 /// Appends an error as the contents of an element.
-#[tactic(auto, using(crate::proofs::Pieces::extended), unfolding(crate::specs::Errors::error_pdu_octets))]
+#[tactic(auto, using(ber_values::proofs::Pieces::extended), unfolding(crate::specs::Errors::error_pdu_octets))]
 pub(crate) fn put_error_pdu(out: &mut Vec<u8>, error: &ErrorPdu) -> Result<(), AllocError>
     requires { error.now.class ≤ 15 }
     ensures ok { OnOk result (out.new.items ≡ out.old.items ++ error_pdu_octets error.now) }

@@ -203,7 +203,7 @@ fn some_integer_len(value: Option<i64>) -> usize
 }
 
 /// Appends parameters as the contents of an element, with version 1.
-#[tactic(auto, using(crate::proofs::Pieces::extended), unfolding(crate::specs::Initiates::initiate_octets))]
+#[tactic(auto, using(ber_values::proofs::Pieces::extended), unfolding(crate::specs::Initiates::initiate_octets))]
 pub(crate) fn put_initiate(out: &mut Vec<u8>, offer: &Initiate) -> Result<(), AllocError>
     ensures ok { OnOk result (out.new.items ≡ out.old.items ++ initiate_octets offer.now) }
     ensures err { OnErr result (Extends out.old.items out.new.items) }
@@ -214,7 +214,7 @@ pub(crate) fn put_initiate(out: &mut Vec<u8>, offer: &Initiate) -> Result<(), Al
 }
 
 /// Appends the parameters from the called end's services on.
-#[tactic(auto, using(crate::proofs::Pieces::extended), unfolding(crate::specs::Initiates::later_octets))]
+#[tactic(auto, using(ber_values::proofs::Pieces::extended), unfolding(crate::specs::Initiates::later_octets))]
 fn put_later(out: &mut Vec<u8>, offer: &Initiate) -> Result<(), AllocError>
     ensures ok { OnOk result (out.new.items ≡ out.old.items ++ later_octets offer.now) }
     ensures err { OnErr result (Extends out.old.items out.new.items) }

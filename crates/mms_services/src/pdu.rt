@@ -18,13 +18,13 @@ use crate::error::{ErrorPdu, error_pdu_from, error_pdu_len, put_error_pdu};
 use crate::fault::{MmsFault, numbered};
 use crate::initiate::{Initiate, initiate_from, initiate_len, put_initiate};
 use crate::reject::{RejectPdu, put_reject_pdu, reject_pdu_from, reject_pdu_len};
-use crate::report::{ReportPdu, put_report_pdu, report_pdu_from, report_pdu_len};
 use crate::request::{Request, put_request, request_len, take_request};
 use crate::response::{Response, put_response, response_len, take_response};
 use ber_values::{
     MOST_LENGTH, Part, Stop, add_len, has_tag, natural_len, octets_from, part_len, settle,
     take_end, take_part, write_head, write_natural,
 };
+use mms_access::{ReportPdu, put_report_pdu, report_pdu_from, report_pdu_len};
 use std::alloc::{AllocError, Global};
 
 /// A protocol data unit.
@@ -285,7 +285,7 @@ pub fn write_pdu(out: &mut Vec<u8>, pdu: &MmsPdu) -> Result<(), AllocError>
     written
 }
 
-#[tactic(auto, using(crate::proofs::Pieces::extended))]
+#[tactic(auto, using(ber_values::proofs::Pieces::extended))]
 fn put_pdu(out: &mut Vec<u8>, pdu: &MmsPdu) -> Result<(), AllocError>
     requires writable { IsWritable pdu.now }
     requires bounded { pdu_len pdu.now < MOST_LENGTH }
@@ -318,7 +318,7 @@ fn put_contents(out: &mut Vec<u8>, pdu: &MmsPdu) -> Result<(), AllocError>
     }
 }
 
-#[tactic(auto, using(crate::proofs::Pieces::extended), unfolding(crate::specs::PduOctets::invoke_octets))]
+#[tactic(auto, using(ber_values::proofs::Pieces::extended), unfolding(crate::specs::PduOctets::invoke_octets))]
 fn put_confirmed_request(
     out: &mut Vec<u8>,
     invoke: u32,
@@ -335,7 +335,7 @@ fn put_confirmed_request(
     Ok(())
 }
 
-#[tactic(auto, using(crate::proofs::Pieces::extended), unfolding(crate::specs::PduOctets::invoke_octets))]
+#[tactic(auto, using(ber_values::proofs::Pieces::extended), unfolding(crate::specs::PduOctets::invoke_octets))]
 fn put_confirmed_response(
     out: &mut Vec<u8>,
     invoke: u32,

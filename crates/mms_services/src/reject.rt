@@ -83,7 +83,7 @@ fn some_invoke_len(invoke: Option<u32>) -> usize
 }
 
 /// Appends a reject as the contents of an element.
-#[tactic(auto, using(crate::proofs::Pieces::extended), unfolding(crate::specs::Rejects::reject_pdu_octets))]
+#[tactic(auto, using(ber_values::proofs::Pieces::extended), unfolding(crate::specs::Rejects::reject_pdu_octets))]
 pub(crate) fn put_reject_pdu(out: &mut Vec<u8>, reject: &RejectPdu) -> Result<(), AllocError>
     requires { reject.now.kind ≤ 15 }
     ensures ok { OnOk result (out.new.items ≡ out.old.items ++ reject_pdu_octets reject.now) }

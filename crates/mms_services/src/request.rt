@@ -14,20 +14,19 @@ ghost use Rattle.mms_services.specs.declared.request.Request.TheVariants as serv
 ghost use Rattle.mms_services.specs.Requests.{is_context, unknown_request, set_request};
 ghost use Rattle.mms_services.specs.Requests.{one_request};
 
-use crate::define::{DefineRequest, define_request_from, define_request_len, put_define_request};
-use crate::delete::{DeleteRequest, delete_request_from, delete_request_len, put_delete_request};
 use crate::identify::identify_request_from;
-use crate::members::{
-    MembersRequest, members_request_from, members_request_len, put_members_request,
-};
-use crate::missing::{short, surplus};
-use crate::name_list::{
-    NameListRequest, name_list_request_from, name_list_request_len, put_name_list_request,
-};
-use crate::read::{ReadRequest, put_read_request, read_request_from, read_request_len};
-use crate::write::{WriteRequest, put_write_request, write_request_from, write_request_len};
 use ber_values::{
     BerFault, MOST_LENGTH, Stop, has_tag, part_len, skip_part, take_part, write_head,
+};
+use mms_access::{
+    ReadRequest, WriteRequest, put_read_request, put_write_request, read_request_from,
+    read_request_len, short, surplus, write_request_from, write_request_len,
+};
+use mms_names::{
+    DefineRequest, DeleteRequest, MembersRequest, NameListRequest, define_request_from,
+    define_request_len, delete_request_from, delete_request_len, members_request_from,
+    members_request_len, name_list_request_from, name_list_request_len, put_define_request,
+    put_delete_request, put_members_request, put_name_list_request,
 };
 use std::alloc::{AllocError, Global};
 
@@ -208,7 +207,7 @@ pub(crate) fn request_len(request: &Request) -> usize
 }
 
 /// Appends a request.
-#[tactic(auto, using(crate::proofs::Pieces::extended))]
+#[tactic(auto, using(ber_values::proofs::Pieces::extended))]
 pub(crate) fn put_request(out: &mut Vec<u8>, request: &Request) -> Result<(), AllocError>
     requires lawful { IsLawfulRequest request.now }
     requires bounded { length (request_octets request.now) < MOST_LENGTH }

@@ -11,7 +11,7 @@ use Rattle.ber_values.specs.Leaves.{unsigned_within, oid}
 use Rattle.ber_values.specs.Grammars.{has_tag}
 use Rattle.ber_values.specs.Parts.{all_in}
 use Rattle.ber_values.specs.declared.external.External.{External}
-use Rattle.mms_services.proofs.Holding.{part-holds, map-holds, all-holds, list-holds}
+use Rattle.ber_values.proofs.Holding.{part-holds, map-holds, all-holds, list-holds}
 use Rattle.presentation_profile.specs.declared.expected.Expected.{Expected}
 use Rattle.presentation_profile.specs.declared.offers.Offered.{Offered}
 use Rattle.presentation_profile.specs.declared.offers.TheConstants.{MOST_OFFERS, LARGEST_ID}

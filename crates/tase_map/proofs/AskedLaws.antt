@@ -6,11 +6,11 @@ use Rattle.std.proofs.lemmas.Bool.{false≢true}
 use Rattle.mms_data.specs.Datum.{Datum}
 use Rattle.mms_services.specs.declared.request.Request.{Request}
 use Rattle.mms_services.specs.declared.request.Request.TheVariants as requests
-use Rattle.mms_services.specs.declared.spec.Spec.{Spec}
-use Rattle.mms_services.specs.declared.spec.Spec.TheVariants as specs
-use Rattle.mms_services.specs.Specifications.{IsSpec}
-use Rattle.mms_services.specs.Writes.{HasValues}
-use Rattle.mms_services.specs.Deletes.{is_specific}
+use Rattle.mms_access.specs.declared.spec.Spec.{Spec}
+use Rattle.mms_access.specs.declared.spec.Spec.TheVariants as specs
+use Rattle.mms_access.specs.Specifications.{IsSpec}
+use Rattle.mms_access.specs.Writes.{HasValues}
+use Rattle.mms_names.specs.Deletes.{is_specific}
 use Rattle.mms_services.specs.Lawful.{IsLawfulRequest}
 use Rattle.mms_services.specs.PduOctets.{IsWritableRequest}
 use Rattle.std.specs.List.{All}

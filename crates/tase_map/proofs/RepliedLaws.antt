@@ -4,13 +4,13 @@ use Rattle.std.specs.Prelude.{option_map, IfSome}
 use Rattle.std.specs.List.{All}
 use Rattle.mms_data.specs.declared.outcome.Outcome.{Outcome}
 use Rattle.mms_data.specs.OutcomeOctets.{IsLawfulOutcome}
-use Rattle.mms_services.specs.declared.spec.Spec.{Spec}
-use Rattle.mms_services.specs.declared.spec.Spec.TheVariants as specs
+use Rattle.mms_access.specs.declared.spec.Spec.{Spec}
+use Rattle.mms_access.specs.declared.spec.Spec.TheVariants as specs
 use Rattle.mms_services.specs.declared.response.Response.{Response}
 use Rattle.mms_services.specs.declared.response.Response.TheVariants as responses
 use Rattle.mms_services.specs.declared.pdu.MmsPdu.{MmsPdu}
 use Rattle.mms_services.specs.declared.pdu.MmsPdu.TheVariants as pdus
-use Rattle.mms_services.specs.Reads.{IsSpecIfAny}
+use Rattle.mms_access.specs.Reads.{IsSpecIfAny}
 use Rattle.mms_services.specs.Lawful.{IsLawfulPdu, IsLawfulResponse}
 use Rattle.mms_services.specs.PduOctets.{IsWritable}
 use Rattle.tase_views.specs.declared.reply.ReadSpec.{ReadSpec}

@@ -25,20 +25,20 @@ use Rattle.mms_data.specs.DataOctets.{plain_datum, datum_within, one_datum}
 use Rattle.mms_data.specs.NameOctets.{identifier, domain_name, one_name}
 use Rattle.mms_services.specs.declared.pdu.MmsPdu.{MmsPdu}
 use Rattle.mms_services.specs.Coded.{coded_in}
-use Rattle.mms_services.specs.NameLists.{object_class, one_scope, object_scope, after_name}
-use Rattle.mms_services.specs.NameLists.{name_list_request, listed_octets, names_octets}
-use Rattle.mms_services.specs.NameLists.{more_octets, list_octets, name_list_response_octets}
-use Rattle.mms_services.specs.Specifications.{sole_name, sole_variable, variable, variables}
-use Rattle.mms_services.specs.Specifications.{specification, sole_spec, variable_octets}
-use Rattle.mms_services.specs.Specifications.{variables_octets, spec_octets}
-use Rattle.mms_services.specs.Reads.{echo_in, read_request, echoed_octets, outcomes_octets}
-use Rattle.mms_services.specs.Reads.{read_response_octets}
-use Rattle.mms_services.specs.Writes.{values_of, write_request}
-use Rattle.mms_services.specs.Defines.{define_request}
-use Rattle.mms_services.specs.MemberLists.{members_request, deletable_octets}
-use Rattle.mms_services.specs.MemberLists.{members_response_octets}
-use Rattle.mms_services.specs.Deletes.{deletion_scope, free, set_names, delete_request}
-use Rattle.mms_services.specs.Deletes.{delete_response_octets}
+use Rattle.mms_names.specs.NameLists.{object_class, one_scope, object_scope, after_name}
+use Rattle.mms_names.specs.NameLists.{name_list_request, listed_octets, names_octets}
+use Rattle.mms_names.specs.NameLists.{more_octets, list_octets, name_list_response_octets}
+use Rattle.mms_access.specs.Specifications.{sole_name, sole_variable, variable, variables}
+use Rattle.mms_access.specs.Specifications.{specification, sole_spec, variable_octets}
+use Rattle.mms_access.specs.Specifications.{variables_octets, spec_octets}
+use Rattle.mms_access.specs.Reads.{echo_in, read_request, echoed_octets, outcomes_octets}
+use Rattle.mms_access.specs.Reads.{read_response_octets}
+use Rattle.mms_access.specs.Writes.{values_of, write_request}
+use Rattle.mms_names.specs.Defines.{define_request}
+use Rattle.mms_names.specs.MemberLists.{members_request, deletable_octets}
+use Rattle.mms_names.specs.MemberLists.{members_response_octets}
+use Rattle.mms_names.specs.Deletes.{deletion_scope, free, set_names, delete_request}
+use Rattle.mms_names.specs.Deletes.{delete_response_octets}
 use Rattle.mms_services.specs.Errors.{error_pdu_octets, service_error_octets}
 use Rattle.mms_services.specs.Requests.{unknown_request, set_request, one_request}
 use Rattle.mms_services.specs.Pdus.{invoke_in, confirmed_request, confirmed_response, frame_pdu}

@@ -3,11 +3,11 @@
 use Rattle.std.specs.Prelude.{ℤ, pos, if◌then◌else◌, Bool, true, false, List, []}
 use Rattle.mms_data.specs.Datum.{Datum}
 use Rattle.mms_data.specs.ObjectName.{ObjectName}
-use Rattle.mms_services.specs.Deletes.{is_specific}
+use Rattle.mms_names.specs.Deletes.{is_specific}
 use Rattle.mms_services.specs.declared.request.Request.{Request}
 use Rattle.mms_services.specs.declared.request.Request.TheVariants as requests
-use Rattle.mms_services.specs.declared.spec.Spec.{Spec}
-use Rattle.mms_services.specs.declared.spec.Spec.TheVariants as specs
+use Rattle.mms_access.specs.declared.spec.Spec.{Spec}
+use Rattle.mms_access.specs.declared.spec.Spec.TheVariants as specs
 use Rattle.tase_views.specs.declared.call.CallKind.{CallKind}
 use Rattle.tase_views.specs.declared.call.CallKind.TheVariants as calls
 

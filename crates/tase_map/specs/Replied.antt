@@ -2,8 +2,8 @@
 -- sets are named variable lists.
 use Rattle.std.specs.Prelude.{ℕ, List, Option, Some, None, option_map}
 use Rattle.mms_data.specs.declared.outcome.Outcome.{Outcome}
-use Rattle.mms_services.specs.declared.spec.Spec.{Spec}
-use Rattle.mms_services.specs.declared.spec.Spec.TheVariants as specs
+use Rattle.mms_access.specs.declared.spec.Spec.{Spec}
+use Rattle.mms_access.specs.declared.spec.Spec.TheVariants as specs
 use Rattle.mms_services.specs.declared.response.Response.{Response}
 use Rattle.mms_services.specs.declared.response.Response.TheVariants as responses
 use Rattle.mms_services.specs.declared.pdu.MmsPdu.{MmsPdu}

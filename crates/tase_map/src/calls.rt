@@ -4,17 +4,16 @@ ghost use Rattle.mms_services.specs.Lawful.{IsLawfulRequest};
 ghost use Rattle.mms_services.specs.PduOctets.{IsWritableRequest};
 ghost use Rattle.mms_services.specs.declared.request.Request.TheVariants as requests;
 ghost use Rattle.tase_views.specs.declared.call.CallKind.TheVariants as calls;
-ghost use Rattle.mms_services.specs.Deletes as deletes;
+ghost use Rattle.mms_names.specs.Deletes as deletes;
 ghost use Rattle.tase_map.specs.Asked.{call_in, request_in, delete_asked, is_odd, unrecognized};
 ghost use Rattle.tase_map.specs.Asked.{invalid};
 
 use crate::copies::{data_of, values_of};
 use ber_values::Visible;
 use mms_data::{Name, Names, Scope};
-use mms_services::{
-    DefineRequest, DeleteRequest, MembersRequest, NameListRequest, ReadRequest, Request, Spec,
-    WriteRequest,
-};
+use mms_access::{ReadRequest, Spec, WriteRequest};
+use mms_names::{DefineRequest, DeleteRequest, MembersRequest, NameListRequest};
+use mms_services::Request;
 use std::alloc::{AllocError, Global};
 use tase_views::{Call, CallKind, Values};
 

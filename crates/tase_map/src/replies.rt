@@ -7,10 +7,9 @@ ghost use Rattle.tase_map.specs.Replied.{pdu_in, spec_in, reply_in, reply_in_res
 
 use crate::copies::{outcomes_of, written_of};
 use mms_data::{Name, Names, Outcome};
-use mms_services::{
-    DeleteResponse, ErrorPdu, MembersResponse, MmsPdu, NameListResponse, ReadResponse, RejectPdu,
-    Response, Spec, WriteResponse,
-};
+use mms_access::{ReadResponse, Spec, WriteResponse};
+use mms_names::{DeleteResponse, MembersResponse, NameListResponse};
+use mms_services::{ErrorPdu, MmsPdu, RejectPdu, Response};
 use std::alloc::{AllocError, Global};
 use tase_views::{ObjectNames, ReadSpec, Reply, ReplyKind, Results, WriteResults};
 

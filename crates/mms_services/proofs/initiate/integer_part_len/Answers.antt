@@ -2,7 +2,7 @@ use Rattle.std.proofs.Common.{◌∙◌, ap, length}
 use Rattle.std.specs.Int.{w64}
 use Rattle.std.proofs.lemmas.Int.{to_z-of_z}
 use Rattle.ber_values.specs.Writing.{integer_octets}
-use Rattle.mms_services.proofs.ShortWritten.{integer-sized}
+use Rattle.ber_values.proofs.Pieces.{integer-sized}
 use Rattle.mms_services.proofs.initiate.integer_part_len.Goals as goal
 
 pub returns-clause-value : goal.returns-clause-value

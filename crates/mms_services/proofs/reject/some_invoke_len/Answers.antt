@@ -1,7 +1,7 @@
 use Rattle.std.proofs.Common.{ℕ, ◌∙◌, sym, ap, length, pos}
 use Rattle.ber_values.specs.Writing.{integer_octets}
 use Rattle.mms_services.specs.Rejects.{some_invoke_octets}
-use Rattle.mms_services.proofs.ShortWritten.{integer-sized}
+use Rattle.ber_values.proofs.Pieces.{integer-sized}
 use Rattle.mms_services.proofs.reject.some_invoke_len.Goals as goal
 
 pub returns-in-Some-clause-value : goal.returns-in-Some-clause-value

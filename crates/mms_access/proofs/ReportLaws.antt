@@ -1,0 +1,26 @@
+-- Reading reports is exact.
+use Rattle.std.proofs.Common.{length}
+use Rattle.ber_values.specs.Parts.{IsContentsGrammar}
+use Rattle.ber_values.proofs.Grammars.{then_reads, map_reads, part_reads, all_reads}
+use Rattle.ber_values.proofs.Lists.{count_reads, list_reads}
+use Rattle.mms_data.proofs.OutcomeRead.{one_outcome_reads}
+use Rattle.mms_access.specs.declared.spec.Spec.{Spec}
+use Rattle.mms_access.specs.declared.spec.Spec.TheVariants as kinds
+use Rattle.mms_access.specs.Reports.{results_of, report, report_pdu}
+use Rattle.mms_access.proofs.ReadSpecs.{specification_reads}
+
+results_contents : (spec : Spec) → IsContentsGrammar (results_of spec)
+unfolding results_of
+results_contents (kinds.List names) =
+    count_reads (length names) (length names) _ one_outcome_reads
+results_contents (kinds.Set name) = list_reads 0 _ one_outcome_reads
+
+report_contents : IsContentsGrammar report
+unfolding report
+report_contents = all_reads _
+    (then_reads _ _ specification_reads (λ spec.
+    map_reads _ _ (part_reads 160 _ (results_contents spec))))
+
+pub report_pdu_contents : IsContentsGrammar report_pdu
+unfolding report_pdu
+report_pdu_contents = all_reads _ (part_reads 160 _ report_contents)

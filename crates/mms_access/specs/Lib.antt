@@ -1,0 +1,4 @@
+pub mod Specifications
+pub mod Reads
+pub mod Writes
+pub mod Reports

@@ -1,0 +1,4 @@
+pub mod Defines
+pub mod MemberLists
+pub mod Deletes
+pub mod NameLists
