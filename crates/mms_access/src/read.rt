@@ -218,10 +218,7 @@ pub(crate) fn outcomes_len(outcomes: &[Outcome]) -> usize
 
 /// Appends the contents of a response.
 #[tactic(auto, using(ber_values::proofs::Pieces::extended))]
-pub fn put_read_response(
-    out: &mut Vec<u8>,
-    response: &ReadResponse,
-) -> Result<(), AllocError>
+pub fn put_read_response(out: &mut Vec<u8>, response: &ReadResponse) -> Result<(), AllocError>
     requires lawful { All IsLawfulOutcome response.now.results }
     requires bounded { length (read_response_octets response.now) < MOST_LENGTH }
     ensures ok { OnOk result (out.new.items ≡ out.old.items ++ read_response_octets response.now) }

@@ -228,10 +228,7 @@ fn written_len(written: &Option<u8>) -> usize
 
 /// Appends the contents of a response.
 #[tactic(auto, unfolding(crate::specs::Writes::write_response_octets))]
-pub fn put_write_response(
-    out: &mut Vec<u8>,
-    response: &WriteResponse,
-) -> Result<(), AllocError>
+pub fn put_write_response(out: &mut Vec<u8>, response: &WriteResponse) -> Result<(), AllocError>
     ensures ok { OnOk result
         (out.new.items ≡ out.old.items ++ write_response_octets response.now) }
     ensures err { OnErr result (Extends out.old.items out.new.items) }

@@ -43,10 +43,7 @@ pub fn define_request_len(request: &DefineRequest) -> usize
 
 /// Appends the contents of a request.
 #[tactic(auto, using(ber_values::proofs::Pieces::extended), unfolding(crate::specs::Defines::define_request_octets))]
-pub fn put_define_request(
-    out: &mut Vec<u8>,
-    request: &DefineRequest,
-) -> Result<(), AllocError>
+pub fn put_define_request(out: &mut Vec<u8>, request: &DefineRequest) -> Result<(), AllocError>
     requires { length (define_request_octets request.now) < MOST_LENGTH }
     ensures ok { OnOk result
         (out.new.items ≡ out.old.items ++ define_request_octets request.now) }

@@ -138,10 +138,7 @@ fn set_names_len(sets: &[Name]) -> usize
 }
 
 /// Appends the contents of a request.
-pub fn put_delete_request(
-    out: &mut Vec<u8>,
-    request: &DeleteRequest,
-) -> Result<(), AllocError>
+pub fn put_delete_request(out: &mut Vec<u8>, request: &DeleteRequest) -> Result<(), AllocError>
     requires { length (delete_request_octets request.now) < MOST_LENGTH }
     ensures ok { OnOk result
         (out.new.items ≡ out.old.items ++ delete_request_octets request.now) }
@@ -187,10 +184,7 @@ pub fn delete_response_len(response: &DeleteResponse) -> usize
 
 /// Appends the contents of a response.
 #[tactic(auto, using(ber_values::proofs::Pieces::extended), unfolding(crate::specs::Deletes::delete_response_octets))]
-pub fn put_delete_response(
-    out: &mut Vec<u8>,
-    response: &DeleteResponse,
-) -> Result<(), AllocError>
+pub fn put_delete_response(out: &mut Vec<u8>, response: &DeleteResponse) -> Result<(), AllocError>
     ensures ok { OnOk result
         (out.new.items ≡ out.old.items ++ delete_response_octets response.now) }
     ensures err { OnErr result (Extends out.old.items out.new.items) }

@@ -66,10 +66,7 @@ pub fn members_request_len(request: &MembersRequest) -> usize
 
 /// Appends the contents of a request.
 #[tactic(auto, unfolding(crate::specs::MemberLists::members_request_octets))]
-pub fn put_members_request(
-    out: &mut Vec<u8>,
-    request: &MembersRequest,
-) -> Result<(), AllocError>
+pub fn put_members_request(out: &mut Vec<u8>, request: &MembersRequest) -> Result<(), AllocError>
     ensures ok { OnOk result
         (out.new.items ≡ out.old.items ++ members_request_octets request.now) }
     ensures err { OnErr result (Extends out.old.items out.new.items) }
@@ -86,10 +83,7 @@ pub fn members_response_len(response: &MembersResponse) -> usize
 
 /// Appends the contents of a response.
 #[tactic(auto, using(ber_values::proofs::Pieces::extended), unfolding(crate::specs::MemberLists::members_response_octets))]
-pub fn put_members_response(
-    out: &mut Vec<u8>,
-    response: &MembersResponse,
-) -> Result<(), AllocError>
+pub fn put_members_response(out: &mut Vec<u8>, response: &MembersResponse) -> Result<(), AllocError>
     requires { length (members_response_octets response.now) < MOST_LENGTH }
     ensures ok { OnOk result
         (out.new.items ≡ out.old.items ++ members_response_octets response.now) }

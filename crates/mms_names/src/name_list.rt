@@ -72,10 +72,7 @@ const VISIBLE_STRING: u8 = 0x1A;
 
 /// The request that the contents of an element are.
 #[tactic(auto, unfolding(crate::specs::NameLists::name_list_request, ber_values::specs::Parts::all_in, ber_values::specs::Parts::part_in, ber_values::specs::Grammars::then_in, ber_values::specs::Grammars::map_in))]
-pub fn name_list_request_from(
-    alloc: Global,
-    part: &Part<'_>,
-) -> Result<NameListRequest, Stop>
+pub fn name_list_request_from(alloc: Global, part: &Part<'_>) -> Result<NameListRequest, Stop>
     requires { part.now.head.body + length part.now.contents.now < 2 ^ 64 }
     ensures { Answers (λ r. r) result
         (name_list_request.reading part.now.head part.now.contents.now) }
@@ -212,10 +209,7 @@ fn after_len(after: &Option<Visible>) -> usize
 
 /// Appends a request as the contents of an element.
 #[tactic(auto, using(ber_values::proofs::Pieces::extended), unfolding(crate::specs::NameLists::name_list_request_octets))]
-pub fn put_name_list_request(
-    out: &mut Vec<u8>,
-    request: &NameListRequest,
-) -> Result<(), AllocError>
+pub fn put_name_list_request(out: &mut Vec<u8>, request: &NameListRequest) -> Result<(), AllocError>
     ensures ok { OnOk result
         (out.new.items ≡ out.old.items ++ name_list_request_octets request.now) }
     ensures err { OnErr result (Extends out.old.items out.new.items) }
@@ -266,10 +260,7 @@ fn put_after(out: &mut Vec<u8>, after: &Option<Visible>) -> Result<(), AllocErro
 
 /// The response that the contents of an element are.
 #[tactic(auto, unfolding(crate::specs::NameLists::name_list_response, ber_values::specs::Parts::all_in, ber_values::specs::Parts::part_in, ber_values::specs::Grammars::then_in, ber_values::specs::Grammars::map_in))]
-pub fn name_list_response_from(
-    alloc: Global,
-    part: &Part<'_>,
-) -> Result<NameListResponse, Stop>
+pub fn name_list_response_from(alloc: Global, part: &Part<'_>) -> Result<NameListResponse, Stop>
     requires { part.now.head.body + length part.now.contents.now < 2 ^ 64 }
     ensures { Answers (λ r. r) result
         (name_list_response.reading part.now.head part.now.contents.now) }

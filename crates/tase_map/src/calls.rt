@@ -10,8 +10,8 @@ ghost use Rattle.tase_map.specs.Asked.{invalid};
 
 use crate::copies::{data_of, values_of};
 use ber_values::Visible;
-use mms_data::{Name, Names, Scope};
 use mms_access::{ReadRequest, Spec, WriteRequest};
+use mms_data::{Name, Names, Scope};
 use mms_names::{DefineRequest, DeleteRequest, MembersRequest, NameListRequest};
 use mms_services::Request;
 use std::alloc::{AllocError, Global};

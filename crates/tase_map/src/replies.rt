@@ -6,8 +6,8 @@ ghost use Rattle.tase_views.specs.declared.reply.ReplyKind.TheVariants as replie
 ghost use Rattle.tase_map.specs.Replied.{pdu_in, spec_in, reply_in, reply_in_response, results_in};
 
 use crate::copies::{outcomes_of, written_of};
-use mms_data::{Name, Names, Outcome};
 use mms_access::{ReadResponse, Spec, WriteResponse};
+use mms_data::{Name, Names, Outcome};
 use mms_names::{DeleteResponse, MembersResponse, NameListResponse};
 use mms_services::{ErrorPdu, MmsPdu, RejectPdu, Response};
 use std::alloc::{AllocError, Global};
