@@ -2,5 +2,4 @@ pub mod Words
 pub mod Decoding
 pub mod Saying
 pub mod Tables
-pub mod Starting
 pub mod Sent

@@ -1,6 +1,5 @@
 mod decoding;
 mod faults;
-mod files;
 mod hostile;
 mod lines;
 mod listing;

@@ -1,14 +1,14 @@
 //! How the program starts: its words as the system gives them, and the run of these.
 ghost use Rattle.std.specs.Prelude.{◌≡◌, drop, IfOk};
 ghost use Rattle.std.specs.Vec.Iter.{into_iter_items};
-ghost use Rattle.tase_tool.specs.Starting.{IsWordsFrom, IsStart};
+ghost use Rattle.tase_main.specs.Starting.{IsWordsFrom, IsStart};
 
-use crate::running::run;
 use command_io::Status;
 use outside::Outside;
 use std::alloc::{AllocError, Global};
 use std::env::Args;
 use std::io;
+use tase_tool::run;
 
 /// The words after the program's name; none where one of them isn't text, since such words are no
 /// command.

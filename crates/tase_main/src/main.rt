@@ -2,17 +2,11 @@
 //! status.
 #![tactic(auto)]
 
-mod decoding;
-mod listing;
-mod running;
 mod starting;
-mod tables;
 #[cfg(test)]
 mod tests;
-mod words;
 
 use outside_real::RealOutside;
-pub use running::run;
 use starting::{run_words, words_from};
 use std::env;
 use std::process::ExitCode;

@@ -1,0 +1,76 @@
+//! Plays the cases that stand on standard input, case files one behind another, each behind a line
+//! `file NAME`, and prints what differs for each that fails, and at its end how many passed and how
+//! many failed. Its status is 0 only where none failed and one passed at least.
+#![tactic(auto)]
+
+mod cases;
+mod cutting;
+mod entries;
+mod judging;
+mod playing;
+mod reading;
+mod showing;
+
+use cases::{BadLine, Case};
+use judging::{Verdict, judge};
+use reading::{Sheet, read_cases};
+use showing::{bad_line, failure_line};
+use std::alloc::Global;
+use std::io::{self, Write};
+use std::process::ExitCode;
+
+/// How many cases passed, and how many failed.
+#[derive(Clone, Copy)]
+struct Tally {
+    passed: u64,
+    failed: u64,
+}
+
+impl Tally {
+    fn count(&mut self, is_passed: bool) {
+        if is_passed {
+            self.passed = self.passed.saturating_add(1);
+        } else {
+            self.failed = self.failed.saturating_add(1);
+        }
+    }
+
+    fn is_good(self) -> bool {
+        self.failed == 0 && self.passed > 0
+    }
+}
+
+fn tell_bad_lines<W: Write>(out: &mut W, alloc: Global, lines: &[BadLine], tally: &mut Tally) -> io::Result<()> {
+    for line in lines {
+        out.write_all(bad_line(alloc, line)?.as_bytes())?;
+        tally.count(false);
+    }
+    Ok(())
+}
+
+fn play_case<W: Write>(out: &mut W, alloc: Global, case: &Case, tally: &mut Tally) -> io::Result<()> {
+    let verdict = judge(alloc, case)?;
+    tally.count(matches!(&verdict, Verdict::Passed));
+    out.write_all(&failure_line(alloc, case, &verdict)?)
+}
+
+fn play_sheet<W: Write>(out: &mut W, alloc: Global, sheet: &Sheet) -> io::Result<Tally> {
+    let mut tally = Tally {
+        passed: 0,
+        failed: 0,
+    };
+    tell_bad_lines(out, alloc, &sheet.bad_lines, &mut tally)?;
+    for case in &sheet.cases {
+        play_case(out, alloc, case, &mut tally)?;
+    }
+    Ok(tally)
+}
+
+fn main(rt: HostRuntime) -> io::Result<ExitCode> {
+    let text = io::read_to_string(rt.alloc(), rt.reader())?;
+    let sheet = read_cases(rt.alloc(), &text)?;
+    let tally = play_sheet(&mut io::writer(&rt), rt.alloc(), &sheet)?;
+    let (passed, failed) = (tally.passed, tally.failed);
+    println!(rt; "{passed} passed, {failed} failed")?;
+    Ok(if tally.is_good() { ExitCode::SUCCESS } else { ExitCode::FAILURE })
+}

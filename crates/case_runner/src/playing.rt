@@ -1,0 +1,105 @@
+//! How a case is played: over an outside in memory.
+
+use crate::cases::{Case, FailedRead, Input, Wanted};
+use outside::{ByteSink, MemoryOutside, TextSource};
+use std::alloc::{AllocError, Global};
+use tase_tool::run;
+
+/// How a command ended, and what it printed.
+#[derive(Drop)]
+pub(crate) struct Played {
+    pub(crate) status: u64,
+    pub(crate) shown: Vec<u8>,
+}
+
+// The most octets of room, and what there is of it beyond what is wanted.
+const MOST_ROOM: u64 = 268_435_456;
+const MORE_ROOM: u64 = 65_536;
+
+// The numbers of an input's reads that fail.
+fn failed_reads(alloc: Global, failed: &[FailedRead], name: &str) -> Result<Vec<u64>, AllocError> {
+    let mut numbers = Vec::new(alloc);
+    for read in failed {
+        if read.name.as_str() == name {
+            numbers.push(read.number)?;
+        }
+    }
+    Ok(numbers)
+}
+
+// The room of standard output. Where none is said it is more than a case can want that passes: in
+// pieces what is shown may take a line for each of its octets.
+fn room_of(case: &Case) -> usize {
+    let wanted = match &case.wanted {
+        Wanted::Octets(octets) => octets.len() as u64,
+        Wanted::Count(count) => *count,
+    };
+    let room = match case.room {
+        Some(room) => room,
+        None => wanted.saturating_mul(8).saturating_add(MORE_ROOM),
+    };
+    room.min(MOST_ROOM) as usize
+}
+
+fn put_text(
+    alloc: Global,
+    outside: &mut MemoryOutside,
+    case: &Case,
+    name: &str,
+    text: Vec<u8>,
+) -> Result<(), AllocError> {
+    let fails = failed_reads(alloc, &case.failed_reads, name)?;
+    outside.put_in(alloc, name, TextSource::new(text, fails))
+}
+
+fn put_inputs(
+    alloc: Global,
+    outside: &mut MemoryOutside,
+    case: &Case,
+    inputs: &[Input],
+) -> Result<(), AllocError> {
+    for input in inputs {
+        put_text(alloc, outside, case, &input.name, input.octets(alloc)?)?;
+    }
+    Ok(())
+}
+
+// What stands outside of a case.
+fn outside_of(alloc: Global, case: &Case) -> Result<MemoryOutside, AllocError> {
+    let mut outside = MemoryOutside::new(alloc);
+    put_inputs(alloc, &mut outside, case, &case.given)?;
+    put_inputs(alloc, &mut outside, case, &case.own)?;
+    let fails = Vec::from_slice(alloc, &case.failed_writes)?;
+    let output = ByteSink::new(alloc, room_of(case), fails)?;
+    outside.put_out(alloc, "-", output)?;
+    Ok(outside)
+}
+
+// Runs the words of a case.
+fn run_words(alloc: Global, case: &Case, outside: &mut MemoryOutside) -> Result<Played, AllocError> {
+    let status = u64::from(run(alloc, &case.words, outside).code());
+    let taken = match outside.sink("-") {
+        Some(sink) => sink.taken(),
+        None => &[],
+    };
+    let shown = Vec::from_slice(alloc, taken)?;
+    Ok(Played { status, shown })
+}
+
+/// Plays a case as it stands.
+pub(crate) fn play(alloc: Global, case: &Case) -> Result<Played, AllocError> {
+    let mut outside = outside_of(alloc, case)?;
+    run_words(alloc, case, &mut outside)
+}
+
+/// Plays a case with another text under a name.
+pub(crate) fn play_with(
+    alloc: Global,
+    case: &Case,
+    name: &str,
+    text: Vec<u8>,
+) -> Result<Played, AllocError> {
+    let mut outside = outside_of(alloc, case)?;
+    put_text(alloc, &mut outside, case, name, text)?;
+    run_words(alloc, case, &mut outside)
+}

@@ -1,0 +1,12 @@
+//! The commands of the program: `run` runs the command of its words over an outside.
+#![tactic(auto)]
+
+mod decoding;
+mod listing;
+mod running;
+mod tables;
+#[cfg(test)]
+mod tests;
+mod words;
+
+pub use running::run;
