@@ -52,11 +52,7 @@ fn stream_of(words: &[String]) -> Option<Stream> {
 }
 
 // The text of a case's stream as it is to be cut.
-fn whole_text(
-    alloc: Global,
-    case: &Case,
-    stream: Stream,
-) -> Result<Option<Vec<u8>>, AllocError> {
+fn whole_text(alloc: Global, case: &Case, stream: Stream) -> Result<Option<Vec<u8>>, AllocError> {
     let Some(text) = case.text_of(alloc, subject(&case.words))? else {
         return Ok(None);
     };
@@ -70,12 +66,7 @@ fn whole_text(
 }
 
 // Plays a case with its stream cut.
-fn judge_cut(
-    alloc: Global,
-    case: &Case,
-    text: Vec<u8>,
-    cut: Cut,
-) -> Result<Verdict, AllocError> {
+fn judge_cut(alloc: Global, case: &Case, text: Vec<u8>, cut: Cut) -> Result<Verdict, AllocError> {
     let played = play_with(alloc, case, subject(&case.words), text)?;
     let is_same = is_wanted_joined(alloc, &case.wanted, &played.shown)?;
     if is_same && played.status == case.status {

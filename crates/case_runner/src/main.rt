@@ -40,7 +40,12 @@ impl Tally {
     }
 }
 
-fn tell_bad_lines<W: Write>(out: &mut W, alloc: Global, lines: &[BadLine], tally: &mut Tally) -> io::Result<()> {
+fn tell_bad_lines<W: Write>(
+    out: &mut W,
+    alloc: Global,
+    lines: &[BadLine],
+    tally: &mut Tally,
+) -> io::Result<()> {
     for line in lines {
         out.write_all(bad_line(alloc, line)?.as_bytes())?;
         tally.count(false);
@@ -48,7 +53,12 @@ fn tell_bad_lines<W: Write>(out: &mut W, alloc: Global, lines: &[BadLine], tally
     Ok(())
 }
 
-fn play_case<W: Write>(out: &mut W, alloc: Global, case: &Case, tally: &mut Tally) -> io::Result<()> {
+fn play_case<W: Write>(
+    out: &mut W,
+    alloc: Global,
+    case: &Case,
+    tally: &mut Tally,
+) -> io::Result<()> {
     let verdict = judge(alloc, case)?;
     tally.count(matches!(&verdict, Verdict::Passed));
     out.write_all(&failure_line(alloc, case, &verdict)?)
@@ -72,5 +82,9 @@ fn main(rt: HostRuntime) -> io::Result<ExitCode> {
     let tally = play_sheet(&mut io::writer(&rt), rt.alloc(), &sheet)?;
     let (passed, failed) = (tally.passed, tally.failed);
     println!(rt; "{passed} passed, {failed} failed")?;
-    Ok(if tally.is_good() { ExitCode::SUCCESS } else { ExitCode::FAILURE })
+    Ok(if tally.is_good() {
+        ExitCode::SUCCESS
+    } else {
+        ExitCode::FAILURE
+    })
 }

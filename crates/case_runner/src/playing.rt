@@ -14,6 +14,7 @@ pub(crate) struct Played {
 
 // The most octets of room, and what there is of it beyond what is wanted.
 const MOST_ROOM: u64 = 268_435_456;
+
 const MORE_ROOM: u64 = 65_536;
 
 // The numbers of an input's reads that fail.
@@ -75,14 +76,22 @@ fn outside_of(alloc: Global, case: &Case) -> Result<MemoryOutside, AllocError> {
     Ok(outside)
 }
 
-// Runs the words of a case.
-fn run_words(alloc: Global, case: &Case, outside: &mut MemoryOutside) -> Result<Played, AllocError> {
-    let status = u64::from(run(alloc, &case.words, outside).code());
-    let taken = match outside.sink("-") {
+// What standard output took.
+fn printed(outside: &MemoryOutside) -> &[u8] {
+    match outside.sink("-") {
         Some(sink) => sink.taken(),
         None => &[],
-    };
-    let shown = Vec::from_slice(alloc, taken)?;
+    }
+}
+
+// Runs the words of a case.
+fn run_words(
+    alloc: Global,
+    case: &Case,
+    outside: &mut MemoryOutside,
+) -> Result<Played, AllocError> {
+    let status = u64::from(run(alloc, &case.words, outside).code());
+    let shown = Vec::from_slice(alloc, printed(outside))?;
     Ok(Played { status, shown })
 }
 

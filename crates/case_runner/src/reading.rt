@@ -93,7 +93,12 @@ fn name_in(text: &str) -> Result<&str, Refused> {
 
 impl Case {
     // `shows`, `shows octets HEX`, `shows N octets`.
-    fn take_shows(&mut self, alloc: Global, rest: &str, block: Option<Vec<u8>>) -> Result<(), Refused> {
+    fn take_shows(
+        &mut self,
+        alloc: Global,
+        rest: &str,
+        block: Option<Vec<u8>>,
+    ) -> Result<(), Refused> {
         if rest.is_empty() {
             self.wanted = Wanted::Octets(block_of(block)?);
             return Ok(());
@@ -121,7 +126,9 @@ impl Case {
     // `fails read NAME N`, `fails write N`.
     fn take_fails(&mut self, alloc: Global, rest: &str) -> Result<(), Refused> {
         if let Some(number) = rest.strip_prefix("write ") {
-            self.failed_writes.push(number_in(number)?).map_err(AllocError::from)?;
+            self.failed_writes
+                .push(number_in(number)?)
+                .map_err(AllocError::from)?;
             return Ok(());
         }
         let read = rest.strip_prefix("read ").ok_or(Refused::NotRead)?;
@@ -135,13 +142,25 @@ impl Case {
     }
 
     // Appends octets to an own input.
-    fn take_input(&mut self, alloc: Global, name: &str, octets: Vec<u8>, times: u64) -> Result<(), Refused> {
+    fn take_input(
+        &mut self,
+        alloc: Global,
+        name: &str,
+        octets: Vec<u8>,
+        times: u64,
+    ) -> Result<(), Refused> {
         append_to(alloc, &mut self.own, name_in(name)?, octets, times)?;
         Ok(())
     }
 
     // An entry that has a block.
-    fn take_block(&mut self, alloc: Global, word: &str, rest: &str, block: Vec<u8>) -> Result<(), Refused> {
+    fn take_block(
+        &mut self,
+        alloc: Global,
+        word: &str,
+        rest: &str,
+        block: Vec<u8>,
+    ) -> Result<(), Refused> {
         match word {
             "text" => self.take_input(alloc, rest, block, 1),
             "repeat" => {
@@ -171,7 +190,13 @@ impl Case {
         Ok(())
     }
 
-    fn take(&mut self, alloc: Global, word: &str, rest: &str, block: Option<Vec<u8>>) -> Result<(), Refused> {
+    fn take(
+        &mut self,
+        alloc: Global,
+        word: &str,
+        rest: &str,
+        block: Option<Vec<u8>>,
+    ) -> Result<(), Refused> {
         if word == "shows" {
             return self.take_shows(alloc, rest, block);
         }
@@ -193,7 +218,13 @@ fn columns_in(row: &str) -> Option<(&str, &str, &str, &str)> {
 
 impl Rows {
     // The case of a row.
-    fn case_of(&self, alloc: Global, file: &str, given: &[Input], row: &str) -> Result<Case, Refused> {
+    fn case_of(
+        &self,
+        alloc: Global,
+        file: &str,
+        given: &[Input],
+        row: &str,
+    ) -> Result<Case, Refused> {
         let (input, status, output, title) = columns_in(row).ok_or(Refused::NotRead)?;
         if title.contains(" | ") {
             return Err(Refused::NotRead);
@@ -257,7 +288,12 @@ impl Reader {
     }
 
     // An entry of what stands open.
-    fn take_within(&mut self, word: &str, rest: &str, block: Option<Vec<u8>>) -> Result<(), Refused> {
+    fn take_within(
+        &mut self,
+        word: &str,
+        rest: &str,
+        block: Option<Vec<u8>>,
+    ) -> Result<(), Refused> {
         match &mut self.within {
             Within::Case(case) => case.take(self.alloc, word, rest, block),
             Within::Rows(rows) if word == "cuts" => {

@@ -51,7 +51,12 @@ fn push_line(out: &mut Vec<u8>, line: Option<&[u8]>) -> Result<(), AllocError> {
     }
 }
 
-fn push_shown(alloc: Global, out: &mut Vec<u8>, wanted: &[u8], came: &[u8]) -> Result<(), AllocError> {
+fn push_shown(
+    alloc: Global,
+    out: &mut Vec<u8>,
+    wanted: &[u8],
+    came: &[u8],
+) -> Result<(), AllocError> {
     let Some(difference) = first_difference(wanted, came) else {
         return Ok(());
     };
@@ -62,14 +67,25 @@ fn push_shown(alloc: Global, out: &mut Vec<u8>, wanted: &[u8], came: &[u8]) -> R
     push_line(out, difference.came)
 }
 
-fn push_played(alloc: Global, out: &mut Vec<u8>, case: &Case, played: &Played) -> Result<(), AllocError> {
+fn push_played(
+    alloc: Global,
+    out: &mut Vec<u8>,
+    case: &Case,
+    played: &Played,
+) -> Result<(), AllocError> {
     let (wanted, came) = (case.status, played.status);
-    push(out, &format!(in alloc; "status {wanted} wanted, {came} came")?)?;
+    push(
+        out,
+        &format!(in alloc; "status {wanted} wanted, {came} came")?,
+    )?;
     match &case.wanted {
         Wanted::Octets(octets) => push_shown(alloc, out, octets, &played.shown),
         Wanted::Count(count) => {
             let (wanted, came) = (*count, played.shown.len());
-            push(out, &format!(in alloc; "; {wanted} octets wanted, {came} came")?)
+            push(
+                out,
+                &format!(in alloc; "; {wanted} octets wanted, {came} came")?,
+            )
         }
     }
 }
@@ -83,7 +99,11 @@ fn push_manner(alloc: Global, out: &mut Vec<u8>, manner: Manner) -> Result<(), A
 }
 
 /// The line of a case that failed; empty where it passed.
-pub(crate) fn failure_line(alloc: Global, case: &Case, verdict: &Verdict) -> Result<Vec<u8>, AllocError> {
+pub(crate) fn failure_line(
+    alloc: Global,
+    case: &Case,
+    verdict: &Verdict,
+) -> Result<Vec<u8>, AllocError> {
     let mut out = Vec::new(alloc);
     let (file, title) = (case.file.as_str(), case.title.as_str());
     let front = format!(in alloc; "{file}: {title}: ")?;
