@@ -10,6 +10,7 @@ mod judging;
 mod playing;
 mod reading;
 mod showing;
+mod tally;
 
 use cases::{BadLine, Case};
 use judging::{Verdict, judge};
@@ -18,27 +19,7 @@ use showing::{bad_line, failure_line};
 use std::alloc::Global;
 use std::io::{self, Write};
 use std::process::ExitCode;
-
-/// How many cases passed, and how many failed.
-#[derive(Clone, Copy)]
-struct Tally {
-    passed: u64,
-    failed: u64,
-}
-
-impl Tally {
-    fn count(&mut self, is_passed: bool) {
-        if is_passed {
-            self.passed = self.passed.saturating_add(1);
-        } else {
-            self.failed = self.failed.saturating_add(1);
-        }
-    }
-
-    fn is_good(self) -> bool {
-        self.failed == 0 && self.passed > 0
-    }
-}
+use tally::Tally;
 
 fn tell_bad_lines<W: Write>(
     out: &mut W,
