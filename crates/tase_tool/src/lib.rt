@@ -5,8 +5,6 @@ mod decoding;
 mod listing;
 mod running;
 mod tables;
-#[cfg(test)]
-mod tests;
 mod words;
 
 pub use running::run;
