@@ -1,5 +1,6 @@
 //! Tests of the crates of the ground, apart from these, so that no crate is proved a second time
-//! with its tests.
+//! with its tests: the doubles of the outside, and what no command shows of lists, texts and values
+//! of ASN.1.
 #![tactic(auto)]
 
 #[cfg(test)]

@@ -1,18 +1,20 @@
 use item_list::ItemList;
+use std::alloc::{AllocError, Global};
 use std::test::Fail;
 
-#[test]
-fn keeps_items(rt: HostRuntime) -> Result<(), Fail> {
-    let mut list = ItemList::new(rt.alloc());
-    assert!(rt; list.get(0).is_none());
+fn cloned(alloc: Global) -> Result<ItemList<u32>, AllocError> {
+    let mut list = ItemList::new(alloc);
     for number in [3u32, 1, 4] {
         list.push(number)?;
     }
     let copy = list.clone()?;
-    assert_eq!(rt; copy.len(), 3);
-    assert_eq!(rt; copy.get(2), Some(&4));
+    Ok(ItemList::from_vec(copy.into_vec()))
+}
+
+#[test]
+fn keeps_items(rt: HostRuntime) -> Result<(), Fail> {
+    let list = cloned(rt.alloc())?;
     assert_eq!(rt; list.as_slice(), [3, 1, 4].as_slice());
-    let again = ItemList::from_vec(list.into_vec());
-    assert_eq!(rt; again.as_slice(), copy.as_slice());
+    assert_eq!(rt; (list.len(), list.get(2), list.get(3)), (3, Some(&4), None));
     Ok(())
 }

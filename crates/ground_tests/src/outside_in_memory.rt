@@ -1,12 +1,12 @@
 use outside::{
-    BufferedSink, ByteSink, MemoryOutside, Outside, Sink, SinkFailed, Source, TextEnd, TextSource,
-    read_text, write_all,
+    BufferedSink, ByteSink, MemoryOutside, Outside, Sink, Source, TextEnd, TextSource, read_text,
+    write_all,
 };
 use std::alloc::{AllocError, Global};
 use std::test::Fail;
 
 // A text, the calls that fail, the limit, what is read, and how many faults there were.
-const READINGS: [(&[u8], &[u64], u64, Result<&[u8], &TextEnd>, u64); 6] = [
+const READINGS: &[(&[u8], &[u64], u64, Result<&[u8], &TextEnd>, u64)] = &[
     (b"abc", &[], 3, Ok(b"abc"), 0),
     (b"", &[], 0, Ok(b""), 0),
     (b"abc", &[], 2, Err(&TextEnd::Long), 0),
@@ -29,23 +29,30 @@ fn read_of(
 
 #[test]
 fn reads_texts(rt: HostRuntime) -> Result<(), Fail> {
-    for (octets, fails, limit, want, count) in READINGS {
+    for &(octets, fails, limit, want, count) in READINGS {
         let (read, faults) = read_of(rt.alloc(), octets, fails, limit)?;
-        assert_eq!(rt; read.as_deref(), want, "at limit {limit}");
-        assert_eq!(rt; faults, count, "at limit {limit}");
+        assert_eq!(rt; (read.as_deref(), faults), (want, count), "at limit {limit}");
     }
     Ok(())
 }
 
+// Whether each of three pieces goes out where there is room for four octets and the second call
+// fails, what was taken, and how many faults there were.
+fn written(alloc: Global) -> Result<([bool; 3], Vec<u8>, u64), AllocError> {
+    let mut sink = ByteSink::new(alloc, 4, [1].to_vec(alloc)?)?;
+    let went = [
+        write_all(&mut sink, b"abc").is_ok(),
+        write_all(&mut sink, b"d").is_ok(),
+        write_all(&mut sink, b"de").is_ok(),
+    ];
+    Ok((went, sink.taken().to_vec(alloc)?, sink.faults()))
+}
+
 #[test]
 fn writes_as_far_as_the_room_goes(rt: HostRuntime) -> Result<(), Fail> {
-    let alloc = rt.alloc();
-    let mut sink = ByteSink::new(alloc, 4, [1].to_vec(alloc)?)?;
-    assert_eq!(rt; write_all(&mut sink, b"abc"), Ok(()));
-    assert_eq!(rt; write_all(&mut sink, b"d"), Err(SinkFailed));
-    assert_eq!(rt; write_all(&mut sink, b"de"), Err(SinkFailed));
-    assert_eq!(rt; sink.taken(), b"abcd".as_slice());
-    assert_eq!(rt; sink.faults(), 2);
+    let (went, taken, faults) = written(rt.alloc())?;
+    assert_eq!(rt; (went, faults), ([true, false, false], 2));
+    assert_eq!(rt; taken.as_slice(), b"abcd".as_slice());
     Ok(())
 }
 
@@ -58,90 +65,102 @@ fn one_of_each(alloc: Global) -> Result<MemoryOutside, AllocError> {
     Ok(outside)
 }
 
+// Whether a source is handed out while it is out, under the name of a sink, and once it is back; how
+// many faults there were, and how many names were read.
+fn handed_out(alloc: Global) -> Result<([bool; 3], u64, Option<usize>), Fail> {
+    let mut outside = one_of_each(alloc)?;
+    let source = outside.open_in("in").ok_or("in")?;
+    let twice = outside.open_in("in").is_some();
+    let a_sink = outside.open_in("out").is_some();
+    outside.close_in(source);
+    let again = outside.open_in("in").is_some();
+    let names = outside.read_names().map(|names| names.len());
+    Ok(([twice, a_sink, again], outside.faults(), names))
+}
+
 #[test]
 fn hands_out_a_source_once(rt: HostRuntime) -> Result<(), Fail> {
-    let mut outside = one_of_each(rt.alloc())?;
-    let source = outside.open_in("in").ok_or("in")?;
-    for name in ["in", "out"] {
-        assert!(rt; outside.open_in(name).is_none(), "{name}");
-    }
-    outside.close_in(source);
-    assert!(rt; outside.open_in("in").is_some());
-    assert_eq!(rt; outside.faults(), 2);
-    assert_eq!(rt; outside.read_names().ok_or("names")?.len(), 4);
+    let want = ([false, false, true], 2, Some(4));
+    assert_eq!(rt; handed_out(rt.alloc())?, want);
     Ok(())
+}
+
+// The text that was put, and how many faults there were.
+fn text_put(alloc: Global) -> Result<(Vec<u8>, u64), Fail> {
+    let mut outside = one_of_each(alloc)?;
+    let mut source = outside.open_in("in").ok_or("in")?;
+    let text = read_text(alloc, &mut source, 9)?.map_err(|_| "read")?;
+    outside.close_in(source);
+    Ok((text, outside.faults()))
 }
 
 #[test]
 fn reads_what_was_put(rt: HostRuntime) -> Result<(), Fail> {
-    let mut outside = one_of_each(rt.alloc())?;
-    let mut source = outside.open_in("in").ok_or("in")?;
-    let text = read_text(rt.alloc(), &mut source, 9)?.map_err(|_| "read")?;
-    assert_eq!(rt; text.as_slice(), b"text".as_slice());
-    outside.close_in(source);
-    assert!(rt; outside.open_in("in").is_some());
-    assert_eq!(rt; outside.faults(), 0);
+    let (text, faults) = text_put(rt.alloc())?;
+    assert_eq!(rt; (text.as_slice(), faults), (b"text".as_slice(), 0));
     Ok(())
 }
 
-// What the sink under a name took, if it stands there.
-fn taken<'a>(outside: &'a MemoryOutside, name: &str) -> Option<&'a [u8]> {
-    Some(outside.sink(name)?.taken())
+// Whether a sink stands there while it is out, what it took once it is back, how many faults there
+// were, and how many names were written.
+fn sink_put(alloc: Global) -> Result<(bool, Vec<u8>, u64, Option<usize>), Fail> {
+    let mut outside = one_of_each(alloc)?;
+    let mut sink = outside.open_out("out").ok_or("out")?;
+    write_all(&mut sink, b"text")?;
+    let stands = outside.sink("out").is_some();
+    outside.close_out(sink);
+    let taken = outside.sink("out").ok_or("sink")?.taken().to_vec(alloc)?;
+    let names = outside.written_names().map(|names| names.len());
+    Ok((stands, taken, outside.faults(), names))
 }
 
 #[test]
 fn hands_out_a_sink_once(rt: HostRuntime) -> Result<(), Fail> {
-    let mut outside = one_of_each(rt.alloc())?;
-    let sink = outside.open_out("out").ok_or("out")?;
-    assert_eq!(rt; taken(&outside, "out"), None);
-    outside.close_out(sink);
-    assert_eq!(rt; outside.faults(), 0);
-    assert_eq!(rt; outside.written_names().ok_or("names")?.len(), 1);
-    Ok(())
-}
-
-#[test]
-fn writes_where_room_was_put(rt: HostRuntime) -> Result<(), Fail> {
-    let mut outside = one_of_each(rt.alloc())?;
-    let mut sink = outside.open_out("out").ok_or("out")?;
-    write_all(&mut sink, b"text")?;
-    assert_eq!(rt; taken(&outside, "out"), None);
-    outside.close_out(sink);
-    assert_eq!(rt; taken(&outside, "out"), Some(b"text".as_slice()));
+    let (stands, taken, faults, names) = sink_put(rt.alloc())?;
+    assert_eq!(rt; (stands, faults, names), (false, 0, Some(1)));
+    assert_eq!(rt; taken.as_slice(), b"text".as_slice());
     Ok(())
 }
 
 // The room of a sink, its calls that fail, whether all went out, and what it took.
-const GATHERINGS: [(usize, &[u64], bool, &[u8]); 3] = [
+const GATHERINGS: &[(usize, &[u64], bool, &[u8])] = &[
     (9, &[], true, b"abcd"),
     (3, &[], false, b"abc"),
     (9, &[0], false, b""),
 ];
 
+// Whether two pieces go out through a buffer, and what was taken.
+fn gathered(alloc: Global, room: usize, fails: &[u64]) -> Result<(bool, Vec<u8>), Fail> {
+    let sink = ByteSink::new(alloc, room, fails.to_vec(alloc)?)?;
+    let mut buffered = BufferedSink::new(alloc, sink).ok().ok_or("memory")?;
+    write_all(&mut buffered, b"ab")?;
+    write_all(&mut buffered, b"cd")?;
+    let (sink, end) = buffered.finish();
+    Ok((end.is_ok(), sink.taken().to_vec(alloc)?))
+}
+
 #[test]
 fn gathers_what_is_written(rt: HostRuntime) -> Result<(), Fail> {
-    let alloc = rt.alloc();
-    for (room, fails, is_whole, want) in GATHERINGS {
-        let sink = ByteSink::new(alloc, room, fails.to_vec(alloc)?)?;
-        let mut buffered = BufferedSink::new(alloc, sink).ok().ok_or("memory")?;
-        write_all(&mut buffered, b"ab")?;
-        write_all(&mut buffered, b"cd")?;
-        let (sink, end) = buffered.finish();
-        assert_eq!(rt; end.is_ok(), is_whole);
-        assert_eq!(rt; sink.taken(), want);
+    for &(room, fails, is_whole, want) in GATHERINGS {
+        let (whole, taken) = gathered(rt.alloc(), room, fails)?;
+        assert_eq!(rt; (whole, taken.as_slice()), (is_whole, want));
     }
     Ok(())
 }
 
-#[test]
-fn hands_on_before_the_room_is_full(rt: HostRuntime) -> Result<(), Fail> {
-    let alloc = rt.alloc();
+// How much a buffer holds behind two pieces of 40,000 octets, and how much it handed on.
+fn held_and_taken(alloc: Global) -> Result<(usize, usize), Fail> {
     let piece = vec![in alloc; 7u8; 40_000]?;
     let sink = ByteSink::new(alloc, 90_000, Vec::new(alloc))?;
     let mut buffered = BufferedSink::new(alloc, sink).ok().ok_or("memory")?;
     write_all(&mut buffered, &piece)?;
     write_all(&mut buffered, &piece)?;
-    assert_eq!(rt; buffered.held(), 40_000);
-    assert_eq!(rt; buffered.into_sink().taken().len(), 40_000);
+    let held = buffered.held();
+    Ok((held, buffered.into_sink().taken().len()))
+}
+
+#[test]
+fn hands_on_before_the_room_is_full(rt: HostRuntime) -> Result<(), Fail> {
+    assert_eq!(rt; held_and_taken(rt.alloc())?, (40_000, 40_000));
     Ok(())
 }
