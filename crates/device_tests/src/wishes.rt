@@ -1,12 +1,11 @@
-use ber_values::is_visible;
 use mms_data::MmsData;
 use mms_text::{read_data_text, spell_data};
 use std::alloc::{AllocError, Global};
 use std::test::Fail;
-use transfer_sets::{WishFault, read_wish, wish_data};
+use transfer_sets::{Slot, WishFault, read_wish, wish_data};
 
 /// The components of a right wish, in order.
-const RIGHT: [&str; 13] = [
+const RIGHT: &[&str] = &[
     "{i1,vDOMA,vS1}",
     "i0",
     "i2",
@@ -23,7 +22,7 @@ const RIGHT: [&str; 13] = [
 ];
 
 /// One datum of each kind.
-const KINDS: [&str; 9] = [
+const KINDS: &[&str] = &[
     "T",
     "i1",
     "u1",
@@ -45,7 +44,7 @@ fn push_all(out: &mut Vec<u8>, texts: &[&str]) -> Result<(), AllocError> {
     Ok(())
 }
 
-/// A right wish's text with another component at this place.
+/// A right wish's text with another component at this place; at place 13 none is another.
 fn with_component(alloc: Global, place: usize, text: &str) -> Result<Vec<u8>, AllocError> {
     let mut out = Vec::new(alloc);
     out.push(b'{')?;
@@ -72,174 +71,169 @@ fn shown(alloc: Global, text: &[u8]) -> Result<Result<Vec<u8>, WishFault>, Fail>
     Ok(Ok(out))
 }
 
+/// What a text is: a wish, or why it is none.
 fn fault_of(alloc: Global, text: &[u8]) -> Result<Option<WishFault>, Fail> {
     Ok(shown(alloc, text)?.err())
 }
 
+const WISH: &[u8] = b"{{i1,vDOMA,vS1},i0,i2,i3,i4,i5,b5.80,F,T,F,T,F,i-7}";
+
 #[test]
 fn a_right_wish(rt: HostRuntime) -> Result<(), Fail> {
-    let alloc = rt.alloc();
-    for place in 0..13 {
-        let text = with_component(alloc, place, RIGHT[place])?;
-        let want = b"{{i1,vDOMA,vS1},i0,i2,i3,i4,i5,b5.80,F,T,F,T,F,i-7}";
-        assert_eq!(rt; text.as_slice(), want.as_slice());
-        let again = shown(alloc, &text)?.ok().ok_or("no wish")?;
-        assert_eq!(rt; again.as_slice(), want.as_slice());
-    }
+    let text = with_component(rt.alloc(), 13, "")?;
+    assert_eq!(rt; text.as_slice(), WISH);
+    let again = shown(rt.alloc(), WISH)?.ok().ok_or("no wish")?;
+    assert_eq!(rt; again.as_slice(), WISH);
     Ok(())
 }
 
 /// The kind of each component, as its place in `KINDS`.
-const KIND_OF: [usize; 13] = [7, 1, 1, 1, 1, 1, 3, 0, 0, 0, 0, 0, 1];
+const KIND_OF: &[usize] = &[7, 1, 1, 1, 1, 1, 3, 0, 0, 0, 0, 0, 1];
+
+/// The fault of a right wish with a component of another kind, if it is another.
+fn fault_of_kind(is_own: bool) -> Option<WishFault> {
+    if is_own { None } else { Some(WishFault::Form) }
+}
 
 // 117 wishes: each component of each kind, of which all but its own are wrong
 #[test]
 fn components_of_each_kind(rt: HostRuntime) -> Result<(), Fail> {
-    let alloc = rt.alloc();
-    for place in 0..13 {
-        for kind in 0..9 {
-            let text = with_component(alloc, place, KINDS[kind])?;
-            let want = if kind == KIND_OF[place] {
-                None
-            } else {
-                Some(WishFault::Form)
-            };
-            assert_eq!(rt; fault_of(alloc, &text)?, want, "{place} {kind}");
+    for (place, own) in KIND_OF.iter().enumerate() {
+        for (kind, text) in KINDS.iter().enumerate() {
+            let wish = with_component(rt.alloc(), place, text)?;
+            let want = fault_of_kind(kind == *own);
+            assert_eq!(rt; fault_of(rt.alloc(), &wish)?, want, "{place} {kind}");
         }
     }
     Ok(())
 }
 
+const FORM: Option<WishFault> = Some(WishFault::Form);
+
+const RANGE: Option<WishFault> = Some(WishFault::Range);
+
+/// Places of components, these, and why the wish is none.
+const COMPONENTS: &[(usize, &str, Option<WishFault>)] = &[
+    (1, "i-1", RANGE),
+    (1, "i0", None),
+    (1, "i2147483647", None),
+    (1, "i2147483648", RANGE),
+    (1, "i9223372036854775807", RANGE),
+    (1, "i-9223372036854775808", RANGE),
+    (2, "i-1", RANGE),
+    (2, "i0", None),
+    (2, "i2147483647", None),
+    (2, "i2147483648", RANGE),
+    (2, "i9223372036854775807", RANGE),
+    (2, "i-9223372036854775808", RANGE),
+    (3, "i-1", RANGE),
+    (3, "i0", None),
+    (3, "i2147483647", None),
+    (3, "i2147483648", RANGE),
+    (3, "i9223372036854775807", RANGE),
+    (3, "i-9223372036854775808", RANGE),
+    (4, "i-1", RANGE),
+    (4, "i0", None),
+    (4, "i2147483647", None),
+    (4, "i2147483648", RANGE),
+    (4, "i9223372036854775807", RANGE),
+    (4, "i-9223372036854775808", RANGE),
+    (5, "i-1", RANGE),
+    (5, "i0", None),
+    (5, "i2147483647", None),
+    (5, "i2147483648", RANGE),
+    (5, "i9223372036854775807", RANGE),
+    (5, "i-9223372036854775808", RANGE),
+    (12, "i-32769", RANGE),
+    (12, "i-32768", None),
+    (12, "i32767", None),
+    (12, "i32768", RANGE),
+    (0, "{i0,vD,vS}", None),
+    (0, "{i-9,vD,vS}", None),
+    (0, "{u0,vD,vS}", None),
+    (0, "{u9223372036854775807,vD,vS}", None),
+    (0, "{i1,v,v}", None),
+    (0, "{T,vD,vS}", FORM),
+    (0, "{b5.80,vD,vS}", FORM),
+    (0, "{f00000000,vD,vS}", FORM),
+    (0, "{o00,vD,vS}", FORM),
+    (0, "{vA,vD,vS}", FORM),
+    (0, "{{i1},vD,vS}", FORM),
+    (0, "{[i1],vD,vS}", FORM),
+    (0, "{i1,T,vS}", FORM),
+    (0, "{i1,i1,vS}", FORM),
+    (0, "{i1,o00,vS}", FORM),
+    (0, "{i1,{vD},vS}", FORM),
+    (0, "{i1,vD,u1}", FORM),
+    (0, "{i1,vD,b5.80}", FORM),
+    (0, "{i1,vD,o00}", FORM),
+    (0, "{i1,vD,[vS]}", FORM),
+    (0, "{}", FORM),
+    (0, "{i1}", FORM),
+    (0, "{i1,vD}", FORM),
+    (0, "{i1,vD,vS,vS}", FORM),
+    (0, "{vD,vS}", FORM),
+    (0, "[i1,vD,vS]", FORM),
+    (6, "b4.f0", FORM),
+    (6, "b1.80", FORM),
+    (6, "b0.", FORM),
+];
+
 #[test]
-fn ends_of_ranges(rt: HostRuntime) -> Result<(), Fail> {
-    let alloc = rt.alloc();
-    let range = Some(WishFault::Range);
-    let rows = [
-        ("i-1", range),
-        ("i0", None),
-        ("i2147483647", None),
-        ("i2147483648", range),
-        ("i9223372036854775807", range),
-        ("i-9223372036854775808", range),
-    ];
-    for place in 1..6 {
-        for (text, want) in rows {
-            let wish = with_component(alloc, place, text)?;
-            assert_eq!(rt; fault_of(alloc, &wish)?, want, "{place} {text}");
-        }
+fn components_have_their_forms_and_ranges(rt: HostRuntime) -> Result<(), Fail> {
+    for &(place, text, want) in COMPONENTS {
+        let wish = with_component(rt.alloc(), place, text)?;
+        assert_eq!(rt; fault_of(rt.alloc(), &wish)?, want, "{place} {text}");
     }
     Ok(())
 }
 
-#[test]
-fn ends_of_the_range_of_event_codes(rt: HostRuntime) -> Result<(), Fail> {
-    let alloc = rt.alloc();
-    let range = Some(WishFault::Range);
-    for (text, want) in [
-        ("i-32769", range),
-        ("i-32768", None),
-        ("i32767", None),
-        ("i32768", range),
-    ] {
-        let wish = with_component(alloc, 12, text)?;
-        assert_eq!(rt; fault_of(alloc, &wish)?, want, "{text}");
-    }
-    Ok(())
-}
+/// Whole wishes: a fault of form comes before a number out of its range.
+const WISHES: &[(&str, Option<WishFault>)] = &[
+    ("{{i1,vD,vS},i-1,i0,i0,i0,i0,b5.80,F,F,F,F,T,i0}", RANGE),
+    ("{{i1,vD,vS},i-1,i0,i0,i0,i0,b5.80,F,F,F,F,T,u0}", FORM),
+    ("{{i1,vD,vS},i-1,u0,i0,i0,i0,b5.80,F,F,F,F,T,i0}", FORM),
+    ("{{i1,vD,vS},i-1,i0,i0,i0,i0,b4.80,F,F,F,F,T,i0}", FORM),
+    ("{{i1,vD,off},i-1,i0,i0,i0,i0,b5.80,F,F,F,F,T,i0}", FORM),
+    ("{{i1,vD,vS},i0,i0,i0,i0,i0,b5.80,F,F,F,F,i1,i99999}", FORM),
+    ("{{i1,vD,vS},i0,i0,i0,i0,i0,b5.80,F,F,F,F,T,i99999}", RANGE),
+    // one component short, and one too many
+    ("{{i1,vD,vS},i0,i0,i0,i0,i0,b5.80,F,F,F,F,T}", FORM),
+    ("{{i1,vD,vS},i0,i0,i0,i0,i0,b5.80,F,F,F,F,T,i0,i0}", FORM),
+    ("{i0,i0,i0,i0,i0,b5.80,F,F,F,F,T,i0}", FORM),
+    ("{}", FORM),
+    ("[{i1,vD,vS},i0,i0,i0,i0,i0,b5.80,F,F,F,F,T,i0]", FORM),
+    ("i0", FORM),
+    ("T", FORM),
+];
 
-#[test]
-fn names_of_data_sets(rt: HostRuntime) -> Result<(), Fail> {
-    let alloc = rt.alloc();
-    let form = Some(WishFault::Form);
-    let rows = [
-        ("{i0,vD,vS}", None),
-        ("{i-9,vD,vS}", None),
-        ("{u0,vD,vS}", None),
-        ("{u9223372036854775807,vD,vS}", None),
-        ("{i1,v,v}", None),
-        ("{T,vD,vS}", form),
-        ("{b5.80,vD,vS}", form),
-        ("{f00000000,vD,vS}", form),
-        ("{o00,vD,vS}", form),
-        ("{vA,vD,vS}", form),
-        ("{{i1},vD,vS}", form),
-        ("{[i1],vD,vS}", form),
-        ("{i1,T,vS}", form),
-        ("{i1,i1,vS}", form),
-        ("{i1,o00,vS}", form),
-        ("{i1,{vD},vS}", form),
-        ("{i1,vD,u1}", form),
-        ("{i1,vD,b5.80}", form),
-        ("{i1,vD,o00}", form),
-        ("{i1,vD,[vS]}", form),
-        ("{}", form),
-        ("{i1}", form),
-        ("{i1,vD}", form),
-        ("{i1,vD,vS,vS}", form),
-        ("{vD,vS}", form),
-        ("[i1,vD,vS]", form),
-    ];
-    for (text, want) in rows {
-        let wish = with_component(alloc, 0, text)?;
-        assert_eq!(rt; fault_of(alloc, &wish)?, want, "{text}");
-    }
-    Ok(())
-}
-
-// a fault of form comes before a number out of its range
 #[test]
 fn form_before_range(rt: HostRuntime) -> Result<(), Fail> {
-    let alloc = rt.alloc();
-    let form = Some(WishFault::Form);
-    let range = Some(WishFault::Range);
-    let rows = [
-        ("{{i1,vD,vS},i-1,i0,i0,i0,i0,b5.80,F,F,F,F,T,i0}", range),
-        ("{{i1,vD,vS},i-1,i0,i0,i0,i0,b5.80,F,F,F,F,T,u0}", form),
-        ("{{i1,vD,vS},i-1,u0,i0,i0,i0,b5.80,F,F,F,F,T,i0}", form),
-        ("{{i1,vD,vS},i-1,i0,i0,i0,i0,b4.80,F,F,F,F,T,i0}", form),
-        ("{{i1,vD,off},i-1,i0,i0,i0,i0,b5.80,F,F,F,F,T,i0}", form),
-        ("{{i1,vD,vS},i0,i0,i0,i0,i0,b5.80,F,F,F,F,i1,i99999}", form),
-        ("{{i1,vD,vS},i0,i0,i0,i0,i0,b5.80,F,F,F,F,T,i99999}", range),
-        // one component short, and one too many
-        ("{{i1,vD,vS},i0,i0,i0,i0,i0,b5.80,F,F,F,F,T}", form),
-        ("{{i1,vD,vS},i0,i0,i0,i0,i0,b5.80,F,F,F,F,T,i0,i0}", form),
-        ("{i0,i0,i0,i0,i0,b5.80,F,F,F,F,T,i0}", form),
-        ("{}", form),
-        ("[{i1,vD,vS},i0,i0,i0,i0,i0,b5.80,F,F,F,F,T,i0]", form),
-        ("i0", form),
-        ("T", form),
-    ];
-    for (text, want) in rows {
-        assert_eq!(rt; fault_of(alloc, text.as_bytes())?, want, "{text}");
+    for &(text, want) in WISHES {
+        assert_eq!(rt; fault_of(rt.alloc(), text.as_bytes())?, want, "{text}");
     }
     Ok(())
 }
+
+/// Conditions, and these as they are shown again: five bits.
+const CONDITIONS: &[(&str, &str)] = &[
+    ("b5.80", "b5.80"),
+    ("b5.f8", "b5.f8"),
+    ("b5.00", "b5.00"),
+    ("b6.fc", "b5.f8"),
+    ("b6.04", "b5.00"),
+    ("b8.2f", "b5.28"),
+    ("b9.0780", "b5.00"),
+    ("b16.50ff", "b5.50"),
+];
 
 #[test]
 fn conditions_are_five_bits(rt: HostRuntime) -> Result<(), Fail> {
-    let alloc = rt.alloc();
-    let rows = [
-        ("b5.80", Some("b5.80")),
-        ("b5.f8", Some("b5.f8")),
-        ("b5.00", Some("b5.00")),
-        ("b6.fc", Some("b5.f8")),
-        ("b6.04", Some("b5.00")),
-        ("b8.2f", Some("b5.28")),
-        ("b9.0780", Some("b5.00")),
-        ("b16.50ff", Some("b5.50")),
-        ("b4.f0", None),
-        ("b1.80", None),
-        ("b0.", None),
-    ];
-    for (text, want) in rows {
-        let wish = with_component(alloc, 6, text)?;
-        match (shown(alloc, &wish)?, want) {
-            (Ok(again), Some(bits)) => {
-                assert_eq!(rt; again, with_component(alloc, 6, bits)?, "{text}");
-            }
-            (Err(WishFault::Form), None) => {}
-            _ => return Err("another answer".into()),
-        }
+    for &(text, bits) in CONDITIONS {
+        let wish = with_component(rt.alloc(), 6, text)?;
+        let again = shown(rt.alloc(), &wish)?.ok().ok_or("no wish")?;
+        let want = with_component(rt.alloc(), 6, bits)?;
+        assert_eq!(rt; again.as_slice(), want.as_slice(), "{text}");
     }
     Ok(())
 }
@@ -275,28 +269,37 @@ fn is_shown_again(alloc: Global, text: &[u8]) -> Result<bool, Fail> {
     }
 }
 
+/// Lengths of names, and whether they are names.
+const LENGTHS: &[(usize, bool)] = &[(0, true), (1, true), (64, true), (65, false)];
+
+/// Whether a name and a domain of so many octets are shown again.
+fn are_shown_again(alloc: Global, size: usize) -> Result<(bool, bool), Fail> {
+    let long = long_text(alloc, size)?;
+    let name = text_of_set(alloc, b"D", &long)?;
+    let domain = text_of_set(alloc, &long, b"S")?;
+    Ok((is_shown_again(alloc, &name)?, is_shown_again(alloc, &domain)?))
+}
+
 #[test]
 fn names_of_64_octets(rt: HostRuntime) -> Result<(), Fail> {
-    let alloc = rt.alloc();
-    for (size, can_be) in [(0, true), (1, true), (64, true), (65, false)] {
-        let long = long_text(alloc, size)?;
-        assert_eq!(rt; is_visible(&long), can_be, "{size}");
-        let name = text_of_set(alloc, b"D", &long)?;
-        assert_eq!(rt; is_shown_again(alloc, &name)?, can_be, "{size}");
-        let domain = text_of_set(alloc, &long, b"S")?;
-        assert_eq!(rt; is_shown_again(alloc, &domain)?, can_be, "{size}");
+    for &(size, can_be) in LENGTHS {
+        assert_eq!(rt; are_shown_again(rt.alloc(), size)?, (can_be, can_be), "{size}");
     }
     Ok(())
 }
 
-#[test]
-fn the_empty_wish(rt: HostRuntime) -> Result<(), Fail> {
-    let alloc = rt.alloc();
-    let want = b"{{i1,v,v},i0,i0,i0,i0,i0,b5.00,F,F,F,F,F,i0}";
-    let slot = transfer_sets::Slot::new(alloc);
+/// The wish of a new transfer set.
+fn empty_wish(alloc: Global) -> Result<Vec<u8>, Fail> {
+    let slot = Slot::new(alloc);
     let mut out = Vec::new(alloc);
     spell_data(&mut out, &wish_data(alloc, slot.wish())?)?;
+    Ok(out)
+}
+
+#[test]
+fn the_empty_wish(rt: HostRuntime) -> Result<(), Fail> {
+    let out = empty_wish(rt.alloc())?;
+    let want = b"{{i1,v,v},i0,i0,i0,i0,i0,b5.00,F,F,F,F,F,i0}";
     assert_eq!(rt; out.as_slice(), want.as_slice());
-    assert!(rt; !slot.enabled());
     Ok(())
 }
