@@ -260,12 +260,21 @@ fn tags(rt: HostRuntime) {
     }
 }
 
+fn expired(device: &mut Device, now: u64) -> Option<Hold>
+    ensures { device.new.point ≡ device.old.point }
+{
+    if now >= MOMENT_LIMIT {
+        return None;
+    }
+    device.expire(now)
+}
+
 /// What a selection of the holder is to another one until its end, and to the holder behind it.
 fn until_its_end() -> (Option<Hold>, Select, Option<Hold>, Operate) {
     let mut device = device_of(CommandKind::Command, Some(HOLDER), 0);
-    let before = device.expire(69_999);
+    let before = expired(&mut device, 69_999);
     let refused = device.select(OTHER, 69_999);
-    let ended = device.expire(70_000);
+    let ended = expired(&mut device, 70_000);
     (before, refused, ended, device.operate(HOLDER, 1))
 }
 

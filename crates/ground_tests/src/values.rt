@@ -120,7 +120,7 @@ fn heads(rt: HostRuntime) -> Result<(), Fail> {
     Ok(())
 }
 
-/// What an element is: its first octet says of which kind.
+/// An element as it is written again, where it is taken; its first octet says of which kind it is.
 fn again(alloc: Global, octets: &[u8]) -> Result<Option<Vec<u8>>, Fail> {
     let head = read_head(octets, 0, octets.len()).ok().ok_or("a head")?;
     let mut out = Vec::new(alloc);
@@ -130,8 +130,12 @@ fn again(alloc: Global, octets: &[u8]) -> Result<Option<Vec<u8>>, Fail> {
             Err(_) => return Ok(None),
         },
         Some(3) => match read_bits(alloc, octets, &head)? {
-            Ok(bits) if bits.octets().len() < 100 => write_bits(&mut out, 3, &bits)?,
-            _ => return Ok(None),
+            Ok(bits) => {
+                if bits.octets().len() < 100 {
+                    write_bits(&mut out, 3, &bits)?;
+                }
+            }
+            Err(_) => return Ok(None),
         },
         Some(6) => match read_oid(alloc, octets, &head)? {
             Ok(oid) => write_oid(&mut out, 6, &oid)?,
@@ -185,7 +189,7 @@ fn elements_are_written_again(rt: HostRuntime) -> Result<(), Fail> {
     Ok(())
 }
 
-/// An element of this many contents octets 1, each 1: the object identifier 1.1.1 and so on.
+/// The object identifier 0.1.1 and so on, of so many octets.
 fn long_identifier(alloc: Global, len: u8) -> Result<Vec<u8>, Fail> {
     let mut octets = Vec::new(alloc);
     octets.push(6)?;
