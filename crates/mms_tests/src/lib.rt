@@ -1,12 +1,6 @@
-//! Tests of the data of MMS, as octets and as texts, apart from their crates, so that neither of
-//! these is proved a second time with its tests.
+//! Tests of the data of MMS, apart from their crates, so that neither of these is proved a second
+//! time with its tests: what stands in no file of `cases`, as no command shows it.
 #![tactic(auto)]
 
 #[cfg(test)]
-mod access_octets;
-#[cfg(test)]
-mod data_octets;
-#[cfg(test)]
-mod data_texts;
-#[cfg(test)]
-mod written_texts;
+mod values;

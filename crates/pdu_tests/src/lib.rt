@@ -1,11 +1,6 @@
-//! Tests of PDUs of MMS, apart from their crate, so that it isn't proved a second time with them.
+//! Tests of PDUs of MMS, apart from their crate, so that it isn't proved a second time with them:
+//! what stands in no file of `cases`, as no command shows it.
 #![tactic(auto)]
 
 #[cfg(test)]
-mod faults;
-#[cfg(test)]
 mod lawful;
-#[cfg(test)]
-mod rows;
-#[cfg(test)]
-mod values;

@@ -1,20 +1,14 @@
-//! Tests of the protocols of the wire, apart from their crates, so that none of these is proved a
-//! second time with its tests.
+//! Tests of what no command reaches of the protocols of the wire: want of memory amid a stream, and
+//! what an end that calls reads and writes. All else stands in `cases`.
 #![tactic(auto)]
 
 #[cfg(test)]
-mod association;
+mod accepts;
 #[cfg(test)]
-mod fixed_answers;
+mod memory;
 #[cfg(test)]
 mod offers;
 #[cfg(test)]
-mod presentation;
-#[cfg(test)]
-mod presentation_faults;
+mod responses;
 #[cfg(test)]
 mod session;
-#[cfg(test)]
-mod texts;
-#[cfg(test)]
-mod transport;
