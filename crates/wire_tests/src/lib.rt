@@ -5,6 +5,10 @@
 #[cfg(test)]
 mod accepts;
 #[cfg(test)]
+mod bodies;
+#[cfg(test)]
+mod contexts;
+#[cfg(test)]
 mod memory;
 #[cfg(test)]
 mod offers;
