@@ -39,10 +39,7 @@ const DATA: &[(&[u8], &str)] = &[
     (&[0xA2, 0], "{}"),
     (&[0xA2, 8, 0x83, 1, 0xFF, 0xA1, 3, 0x85, 1, 5], "{T,[i5]}"),
     (&[0xA1, 7, 0xA1, 0, 0x85, 3, 0, 0x80, 0], "[[],i32768]"),
-    (
-        &[0xA2, 8, 0xA2, 6, 0xA2, 4, 0xA2, 2, 0xA2, 0],
-        "{{{{{}}}}}",
-    ),
+    (&[0xA2, 8, 0xA2, 6, 0xA2, 4, 0xA2, 2, 0xA2, 0], "{{{{{}}}}}"),
 ];
 
 /// The text of the datum that octets are.
@@ -56,7 +53,8 @@ fn text_of(alloc: Global, octets: &[u8]) -> Result<Vec<u8>, Fail> {
 
 /// The octets of the datum that a text is.
 fn octets_of(alloc: Global, text: &str) -> Result<Vec<u8>, Fail> {
-    let value = read_data_text(alloc, text.as_bytes())?.ok().ok_or("a datum")?;
+    let read = read_data_text(alloc, text.as_bytes())?;
+    let value = read.ok().ok_or("a datum")?;
     let mut octets = Vec::new(alloc);
     if data_len(&value) < MOST_LENGTH {
         write_data(&mut octets, &value)?;
