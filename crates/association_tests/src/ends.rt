@@ -11,71 +11,51 @@ ghost use Rattle.association_tests.specs.Playing.{IsReady};
 
 use ber_values::Oid;
 use mms_services::{Initiate, MmsPdu, pdu_len};
+use plain_text::read_hex;
 use stack_assoc::{Hearing, Stack, StackState, saying_takes_nothing};
 use stack_messages::StackFault;
 use std::alloc::{AllocError, Global};
 use std::test::Fail;
 
-/// An end, and what it does with what it hears.
-#[derive(Clone, Copy, Debug, PartialEq, Eq)]
-pub(crate) enum Habit {
-    /// The called end, which accepts what it may.
-    Called,
-    /// The called end, which refuses every offer.
-    Refusing,
-    /// The calling end, with the title 1.1.999.1.
-    Calling,
-    /// The calling end, which says conclude once it has heard what its rows begin with, if the
-    /// association stands.
-    Concluding,
+/// The octets of hexadecimal digits.
+pub(crate) fn octets_of(alloc: Global, digits: &str) -> Result<Vec<u8>, Fail> {
+    Ok(read_hex(alloc, digits.as_bytes())?.ok_or("not hexadecimal")?)
 }
 
-impl Habit {
-    /// What it grants of an offer, if it accepts any.
-    pub(crate) fn granted(self) -> Option<Initiate>
-        ensures { IfSome result IsFullInitiate }
-    {
-        match self {
-            Habit::Refusing => None,
-            _ => Some(Initiate {
-                detail: Some(65_000),
-                calling: 5,
-                called: 5,
-                nesting: Some(5),
-                version: 1,
-            }),
-        }
+/// The octets of each part.
+pub(crate) fn pieces_of(alloc: Global, parts: &[&str]) -> Result<Vec<Vec<u8>>, Fail> {
+    let mut pieces = Vec::new(alloc);
+    for part in parts {
+        pieces.push(octets_of(alloc, part)?)?;
     }
+    Ok(pieces)
 }
 
-fn called(alloc: Global) -> Result<Stack, AllocError>
-    ensures { IfOk result (λ stack. IsReady stack) }
+/// The title 1.1.999.1.
+pub(crate) fn title(alloc: Global) -> Result<Option<Oid>, AllocError> {
+    Ok(Some(Oid::new(Vec::from_slice(
+        alloc,
+        &[0x29, 0x87, 0x67, 1],
+    )?)))
+}
+
+/// A called end at the start of a stream.
+pub(crate) fn called(alloc: Global) -> Result<Hearing, AllocError>
+    ensures { IfOk result (λ hearing. IsReady hearing.stack) }
 {
-    Stack::called(alloc)
+    Ok(Hearing {
+        stack: Stack::called(alloc)?,
+        inputs: Vec::new(alloc),
+        out: Vec::new(alloc),
+    })
 }
 
-fn calling(alloc: Global, out: &mut Vec<u8>) -> Result<Stack, AllocError>
-    ensures { IfOk result (λ stack. IsReady stack) }
-{
-    let title = Oid::new(Vec::from_slice(alloc, &[0x29, 0x87, 0x67, 1])?);
-    Stack::calling(alloc, Some(title), out)
-}
-
-fn stack_of(alloc: Global, habit: Habit, out: &mut Vec<u8>) -> Result<Stack, AllocError>
-    ensures { IfOk result (λ stack. IsReady stack) }
-{
-    match habit {
-        Habit::Called | Habit::Refusing => called(alloc),
-        Habit::Calling | Habit::Concluding => calling(alloc, out),
-    }
-}
-
-/// An end at the start of a stream.
-pub(crate) fn hearing_of(alloc: Global, habit: Habit) -> Result<Hearing, AllocError>
+/// A calling end at the start of a stream, with this title.
+pub(crate) fn calling(alloc: Global, title: Option<Oid>) -> Result<Hearing, AllocError>
     ensures { IfOk result (λ hearing. IsReady hearing.stack) }
 {
     let mut out = Vec::new(alloc);
-    let stack = stack_of(alloc, habit, &mut out)?;
+    let stack = Stack::calling(alloc, title, &mut out)?;
     Ok(Hearing {
         stack,
         inputs: Vec::new(alloc),
@@ -155,26 +135,26 @@ fn say_short(stack: &mut Stack, pdu: &MmsPdu, out: &mut Vec<u8>) -> Result<(), A
 }
 
 /// Says a PDU, where the association stands.
-pub(crate) fn say(stack: &mut Stack, pdu: &MmsPdu, out: &mut Vec<u8>) -> Result<(), AllocError>
-    requires ready { IsReady stack.old }
+pub(crate) fn say(hearing: &mut Hearing, pdu: &MmsPdu) -> Result<(), AllocError>
+    requires ready { IsReady hearing.old.stack }
     requires writable { IsWritable pdu.now }
-    ensures { OnOk result (IsReady stack.new) }
+    ensures { OnOk result (IsReady hearing.new.stack) }
 {
-    match stack.state() {
-        StackState::Accepted => say_short(stack, pdu, out),
+    match hearing.stack.state() {
+        StackState::Accepted => say_short(&mut hearing.stack, pdu, &mut hearing.out),
         _ => Ok(()),
     }
 }
 
-/// Says conclude, where that is the habit.
-pub(crate) fn conclude(hearing: &mut Hearing, habit: Habit) -> Result<(), AllocError>
+/// Says conclude, if it is to.
+pub(crate) fn conclude(hearing: &mut Hearing, does: bool) -> Result<(), AllocError>
     requires { IsReady hearing.old.stack }
     ensures { OnOk result (IsReady hearing.new.stack) }
 {
-    match habit {
-        Habit::Concluding => say(&mut hearing.stack, &MmsPdu::Conclude, &mut hearing.out),
-        _ => Ok(()),
+    if !does {
+        return Ok(());
     }
+    say(hearing, &MmsPdu::Conclude)
 }
 
 fn release_now(stack: &mut Stack, out: &mut Vec<u8>) -> Result<(), AllocError>

@@ -1,19 +1,15 @@
-//! Tests of the ends of an association over whole streams, apart from the crates of the stack, so
-//! that none of these is proved a second time with its tests.
+//! Tests of the calling end of an association, which no command plays yet, and of both ends that
+//! talk to each other.
 #![tactic(auto)]
 
 #[cfg(test)]
-mod calls;
-#[cfg(test)]
-mod cuts;
+mod ending;
 #[cfg(test)]
 mod ends;
 #[cfg(test)]
-mod parts;
-#[cfg(test)]
-mod play;
-#[cfg(test)]
 mod rows;
+#[cfg(test)]
+mod streams;
 #[cfg(test)]
 mod talk;
 #[cfg(test)]

@@ -3,10 +3,8 @@ ghost use Rattle.std.specs.Prelude.{IfOk, OnOk};
 ghost use Rattle.mms_services.specs.PduOctets.{IsWritable};
 ghost use Rattle.association_tests.specs.Playing.{IsReady};
 
-use crate::ends;
-use crate::ends::{Habit, hear, hearing_of};
-use crate::parts::hex_of;
-use crate::play::{Cut, made_of, pieces_of};
+use crate::ends::{called, calling, hear, pieces_of, release, say, title};
+use crate::telling::text_of;
 use mms_services::{Initiate, MmsPdu, Request, Response};
 use stack_assoc::Hearing;
 use std::alloc::{AllocError, Global};
@@ -98,14 +96,6 @@ const GRANTED: Initiate = Initiate {
     version: 1,
 };
 
-fn say(hearing: &mut Hearing, pdu: &MmsPdu) -> Result<(), AllocError>
-    requires ready { IsReady hearing.old.stack }
-    requires writable { IsWritable pdu.now }
-    ensures { OnOk result (IsReady hearing.new.stack) }
-{
-    ends::say(&mut hearing.stack, pdu, &mut hearing.out)
-}
-
 fn identify(hearing: &mut Hearing) -> Result<(), AllocError>
     requires { IsReady hearing.old.stack }
     ensures { OnOk result (IsReady hearing.new.stack) }
@@ -138,7 +128,15 @@ fn act(hearing: &mut Hearing, deed: Deed) -> Result<(), AllocError>
         Deed::Identity => identity(hearing),
         Deed::Conclude => say(hearing, &MmsPdu::Conclude),
         Deed::Concluded => say(hearing, &MmsPdu::Concluded),
-        Deed::Release => ends::release(&mut hearing.stack, &mut hearing.out),
+        Deed::Release => release(&mut hearing.stack, &mut hearing.out),
+    }
+}
+
+/// Whether these octets are those of the one piece.
+fn is_piece(octets: &[u8], pieces: &[Vec<u8>]) -> bool {
+    match pieces {
+        [piece] => piece.as_slice() == octets,
+        _ => false,
     }
 }
 
@@ -149,13 +147,12 @@ fn turn(alloc: Global, one: &mut Hearing, other: &mut Hearing, doing: Doing) -> 
     ensures one { IfOk result (λ u. IsReady one.new.stack) }
     ensures other { IfOk result (λ u. IsReady other.new.stack) }
 {
-    let wanted = hex_of(alloc, doing.1.as_bytes())?;
+    let pieces = pieces_of(alloc, &[doing.1])?;
     act(one, doing.0)?;
-    let pieces = pieces_of(alloc, one.out.as_slice(), Cut::Whole)?;
-    hear(other, pieces.as_slice(), Some(GRANTED))?;
-    if one.out.as_slice() != wanted.as_slice() {
+    if !is_piece(one.out.as_slice(), pieces.as_slice()) {
         return Err(doing.into());
     }
+    hear(other, pieces.as_slice(), Some(GRANTED))?;
     one.out.clear();
     Ok(())
 }
@@ -191,24 +188,27 @@ fn talk(alloc: Global, calling: &mut Hearing, called: &mut Hearing) -> Result<()
 }
 
 /// What an end has heard in all, as words.
-fn is_told(alloc: Global, hearing: &mut Hearing, wanted: &[u8]) -> Result<bool, Fail>
+fn told(alloc: Global, hearing: &mut Hearing) -> Result<Vec<u8>, Fail>
     requires { IsReady hearing.old.stack }
 {
     let end = hear(hearing, &[], None)?;
-    let played = made_of(alloc, hearing, end)?;
-    Ok(played.text.as_slice() == wanted)
+    Ok(text_of(alloc, hearing, end)?)
+}
+
+/// What the calling end and the called end have heard of each other.
+fn talked(alloc: Global) -> Result<(Vec<u8>, Vec<u8>), Fail> {
+    let mut one = calling(alloc, title(alloc)?)?;
+    let mut other = called(alloc)?;
+    talk(alloc, &mut one, &mut other)?;
+    Ok((told(alloc, &mut one)?, told(alloc, &mut other)?))
 }
 
 #[test]
 fn both_ends(rt: HostRuntime) -> Result<(), Fail> {
-    let mut calling = hearing_of(rt.alloc(), Habit::Calling)?;
-    let mut called = hearing_of(rt.alloc(), Habit::Called)?;
-    talk(rt.alloc(), &mut calling, &mut called)?;
+    let (calling, called) = talked(rt.alloc())?;
     let wanted = b"accepted 65000 response 1 concluded released none Ended".as_slice();
-    let is_told_calling = is_told(rt.alloc(), &mut calling, wanted)?;
-    let wanted = b"offer 29876701 65000 request 1 conclude released none Ended".as_slice();
-    let is_told_called = is_told(rt.alloc(), &mut called, wanted)?;
-    assert!(rt; is_told_calling);
-    assert!(rt; is_told_called);
+    assert_eq!(rt; calling.as_slice(), wanted);
+    let wanted = b"offer 65000 request 1 conclude released none Ended".as_slice();
+    assert_eq!(rt; called.as_slice(), wanted);
     Ok(())
 }

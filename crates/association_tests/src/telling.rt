@@ -1,8 +1,9 @@
 //! What an end hands out, as the words of the rows.
 use mms_services::{Initiate, MmsPdu};
-use plain_text::{push_decimal, push_hex};
-use stack_assoc::StackIn;
-use std::alloc::AllocError;
+use plain_text::push_decimal;
+use stack_assoc::{Hearing, StackIn};
+use stack_messages::StackFault;
+use std::alloc::{AllocError, Global};
 
 /// Appends a word and a number.
 fn push_number(out: &mut Vec<u8>, word: &[u8], number: u64) -> Result<(), AllocError> {
@@ -10,53 +11,54 @@ fn push_number(out: &mut Vec<u8>, word: &[u8], number: u64) -> Result<(), AllocE
     push_decimal(out, number)
 }
 
-/// Appends a title, or `-`.
-fn push_title(out: &mut Vec<u8>, title: Option<&[u8]>) -> Result<(), AllocError> {
-    out.push(b' ')?;
-    match title {
-        Some(title) => push_hex(out, title),
-        None => out.extend_from_slice(b"-"),
-    }
-}
-
-/// Appends the most octets of a PDU, or 0.
-fn push_detail(out: &mut Vec<u8>, initiate: &Initiate) -> Result<(), AllocError> {
+/// Appends a word and the most octets of a PDU, or 0.
+fn push_detail(out: &mut Vec<u8>, word: &[u8], initiate: &Initiate) -> Result<(), AllocError> {
     let detail = initiate.detail.unwrap_or(0);
-    push_number(out, b" ", u64::try_from(detail).unwrap_or(0))
+    push_number(out, word, u64::try_from(detail).unwrap_or(0))
 }
 
 fn push_pdu(out: &mut Vec<u8>, pdu: &MmsPdu) -> Result<(), AllocError> {
     match pdu {
         MmsPdu::Request { invoke, .. } => push_number(out, b"request ", u64::from(*invoke)),
         MmsPdu::Response { invoke, .. } => push_number(out, b"response ", u64::from(*invoke)),
-        MmsPdu::Error(error) => push_number(out, b"error ", u64::from(error.invoke)),
         MmsPdu::Report(_) => out.extend_from_slice(b"report"),
-        MmsPdu::Reject(_) => out.extend_from_slice(b"reject"),
         MmsPdu::Conclude => out.extend_from_slice(b"conclude"),
         MmsPdu::Concluded => out.extend_from_slice(b"concluded"),
-        _ => out.extend_from_slice(b"initiate"),
+        _ => out.extend_from_slice(b"another"),
     }
 }
 
 /// Appends what was handed out.
-pub(crate) fn push_input(out: &mut Vec<u8>, input: &StackIn) -> Result<(), AllocError> {
+fn push_input(out: &mut Vec<u8>, input: &StackIn) -> Result<(), AllocError> {
     match input {
-        StackIn::Offer { title, initiate } => {
-            out.extend_from_slice(b"offer")?;
-            push_title(out, title.as_ref().map(|one| one.octets()))?;
-            push_detail(out, initiate)?;
-        }
-        StackIn::BadOffer => out.extend_from_slice(b"badoffer")?,
-        StackIn::Accepted(initiate) => {
-            out.extend_from_slice(b"accepted")?;
-            push_detail(out, initiate)?;
-        }
+        StackIn::Offer { initiate, .. } => push_detail(out, b"offer ", initiate)?,
+        StackIn::Accepted(initiate) => push_detail(out, b"accepted ", initiate)?,
         StackIn::Pdu(pdu) => push_pdu(out, pdu)?,
-        StackIn::BadRequest { invoke } => push_number(out, b"bad ", u64::from(*invoke))?,
         StackIn::Released => out.extend_from_slice(b"released")?,
         StackIn::Aborted => out.extend_from_slice(b"aborted")?,
         StackIn::Refused => out.extend_from_slice(b"refused")?,
+        _ => out.extend_from_slice(b"bad")?,
     }
     out.push(b' ')?;
     Ok(())
+}
+
+/// What an end has made of a stream that has ended so: all that was handed out, and how far the
+/// association is, or the rule that is broken.
+pub(crate) fn text_of(
+    alloc: Global,
+    hearing: &Hearing,
+    end: Option<StackFault>,
+) -> Result<Vec<u8>, AllocError> {
+    let mut text = Vec::new(alloc);
+    for input in hearing.inputs.as_slice() {
+        push_input(&mut text, input)?;
+    }
+    let state = hearing.stack.state();
+    let end = match end {
+        None => format!(in alloc; "none {state:?}")?,
+        Some(fault) => format!(in alloc; "{:?} {} {:?}", fault.layer, fault.place, fault.why)?,
+    };
+    text.extend_from_slice(end.as_bytes())?;
+    Ok(text)
 }
