@@ -1,4 +1,4 @@
-//! Tests of a connection: streams of a peer and answers of the node, and what it wants and sends.
+//! Tests of connections that are left in ways that no command shows: what they want, send and end with.
 #![tactic(auto)]
 
 #[cfg(test)]
@@ -7,5 +7,3 @@ mod play;
 mod rows;
 #[cfg(test)]
 mod steps;
-#[cfg(test)]
-mod streams;

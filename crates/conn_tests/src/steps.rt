@@ -1,8 +1,5 @@
-//! The steps of a connection with a node that answers all that it wants.
-ghost use Rattle.std.specs.Prelude.{◌≡◌, ◌≤◌, Ok, Err, None, true, IfOk, IfSome, OnOk, length};
-ghost use Rattle.std.specs.List.{All};
-ghost use Rattle.mms_data.specs.OutcomeOctets.{IsLawfulOutcome};
-ghost use Rattle.tase_views.specs.Replies.{IsReadSpec};
+//! The steps of a connection with a node that answers opens, takes and closes, and refuses what it is to.
+ghost use Rattle.std.specs.Prelude.{◌≡◌, ◌≤◌, Ok, Err, None, true, IfOk, OnOk, length};
 ghost use Rattle.tase_conn.specs.Talking.{end_in, next_of};
 ghost use Rattle.tase_conn.specs.Places.{IsPlaced};
 ghost use Rattle.tase_conn.specs.Answering.{IsAnswerFor, IsCut};
@@ -11,16 +8,12 @@ ghost use Rattle.conn_tests.specs.Playing.{IsAnswerOf};
 
 use crate::rows::TABLES;
 use bilateral::{Centre, read_centre};
-use mms_data::{Name, Names, Outcome};
 use sbo_device::Key;
 use std::alloc::{AllocError, Global};
 use std::sync::Arc;
 use std::test::Fail;
 use tase_conn::{Conn, ConnEnd};
-use tase_views::{
-    Answer, Call, CallKind, Event, EventKind, ReadSpec, Reply, ReplyKind, Reports, Results,
-    StepFault, WriteResults,
-};
+use tase_views::{Answer, Event, EventKind, Reports, StepFault};
 
 fn centre_of(alloc: Global) -> Result<Centre, Fail> {
     match read_centre(alloc, TABLES.as_bytes())? {
@@ -44,78 +37,6 @@ pub(crate) fn conn_of(alloc: Global) -> Result<Conn, Fail>
     Ok(conn_to(alloc, centre)?)
 }
 
-/// What came of 600 writes: 1,200 octets.
-fn many_results(alloc: Global) -> Result<WriteResults, Fail> {
-    let mut results = WriteResults::new(alloc);
-    for _ in 0..600 {
-        results.push(None)?;
-    }
-    Ok(results)
-}
-
-/// An odd call is rejected, a list of names is answered at length, a call on data sets as one of
-/// them, each other as an identify.
-fn reply_to(alloc: Global, call: &Call) -> Result<Reply, Fail> {
-    match call.kind() {
-        CallKind::Odd { kind, code } => Ok(Reply::new(ReplyKind::Reject {
-            kind: *kind,
-            code: *code,
-        })),
-        CallKind::NameList { .. } => Ok(Reply::new(ReplyKind::Written(many_results(alloc)?))),
-        CallKind::Define { .. } => Ok(Reply::new(ReplyKind::Defined)),
-        CallKind::ReadSet { set, echo } => set_results(alloc, set, *echo),
-        CallKind::MembersOf { set } => members_of(alloc, set),
-        CallKind::Delete { sets } => Ok(deleted_of(sets)),
-        CallKind::WriteSet { .. } | CallKind::DeleteScope { .. } => Ok(denied()),
-        _ => Ok(Reply::new(ReplyKind::Identified)),
-    }
-}
-
-/// What was named, where that is to be repeated, and a member that can't be read.
-fn set_results(alloc: Global, set: &Name, echo: bool) -> Result<Reply, Fail> {
-    let spec = named(set, echo)?;
-    let results = unreadable(alloc)?;
-    Ok(Reply::new(ReplyKind::Results { spec, results }))
-}
-
-fn named(set: &Name, echo: bool) -> Result<Option<ReadSpec>, AllocError>
-    ensures { IfOk result (λ spec. IfSome spec IsReadSpec) }
-{
-    if !echo {
-        return Ok(None);
-    }
-    Ok(Some(ReadSpec::Set(set.clone()?)))
-}
-
-/// One variable that can't be read.
-fn unreadable(alloc: Global) -> Result<Results, AllocError>
-    ensures { IfOk result (λ results. All IsLawfulOutcome results) }
-{
-    let mut results = Results::new(alloc);
-    results.push(Outcome::Fail(9))?;
-    Ok(results)
-}
-
-/// The data set itself is its only member.
-fn members_of(alloc: Global, set: &Name) -> Result<Reply, Fail> {
-    let mut members = Names::new(alloc);
-    members.push(set.clone()?)?;
-    Ok(Reply::new(ReplyKind::MembersAre(members)))
-}
-
-/// All that are named were there, and one of them is gone.
-fn deleted_of(sets: &Names) -> Reply {
-    Reply::new(ReplyKind::Deleted {
-        matched: sets.len().min(9) as u32,
-        deleted: 1,
-    })
-}
-
-/// Access, object-access-denied.
-fn denied() -> Reply {
-    Reply::new(ReplyKind::Error { class: 7, code: 3 })
-}
-
 fn letter(kind: &EventKind) -> u8 {
     match kind {
         EventKind::Open { .. } => b'O',
@@ -126,7 +47,7 @@ fn letter(kind: &EventKind) -> u8 {
     }
 }
 
-/// What a node answers that refuses nothing.
+/// What a node answers that refuses nothing; no request comes to it.
 fn answer_to(alloc: Global, kind: &EventKind) -> Result<Answer, Fail>
     ensures { IfOk result (λ answer. IsAnswerOf kind.now (Ok answer)) }
 {
@@ -137,10 +58,9 @@ fn answer_to(alloc: Global, kind: &EventKind) -> Result<Answer, Fail>
                 ordinal: 1,
             },
         }),
-        EventKind::Request { call } => Ok(Answer::Reply(reply_to(alloc, call)?)),
         EventKind::Take => Ok(Answer::Reports(Reports::new(alloc))),
         EventKind::Close => Ok(Answer::Closed),
-        _ => Err("no event of a peer".into()),
+        _ => Err("no event that is answered".into()),
     }
 }
 
@@ -256,12 +176,12 @@ pub(crate) fn serve(
     requires { IsReady conn.old }
     ensures { OnOk result (IsAtRest conn.new) }
 {
-    for _ in 0..1_000 {
+    for _ in 0..100 {
         if !serve_one(alloc, conn, wants, refused)? {
             return Ok(());
         }
     }
-    Err("a thousand events".into())
+    Err("a hundred events".into())
 }
 
 fn take_some(conn: &mut Conn, piece: &[u8]) -> Result<(), AllocError>
@@ -285,14 +205,6 @@ pub(crate) fn take(conn: &mut Conn, piece: &[u8]) -> Result<(), Fail>
         return Err("a long piece".into());
     }
     Ok(take_some(conn, piece)?)
-}
-
-/// Takes in that the link gives no more.
-pub(crate) fn end(conn: &mut Conn)
-    requires { IsAtRest conn.old }
-    ensures { IsReady conn.new }
-{
-    conn.end_in();
 }
 
 /// Whether it hasn't ended.
