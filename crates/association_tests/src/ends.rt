@@ -33,10 +33,7 @@ pub(crate) fn pieces_of(alloc: Global, parts: &[&str]) -> Result<Vec<Vec<u8>>, F
 
 /// The title 1.1.999.1.
 pub(crate) fn title(alloc: Global) -> Result<Option<Oid>, AllocError> {
-    Ok(Some(Oid::new(Vec::from_slice(
-        alloc,
-        &[0x29, 0x87, 0x67, 1],
-    )?)))
+    Ok(Some(Oid::new(Vec::from_slice(alloc, &[0x29, 0x87, 0x67, 1])?)))
 }
 
 /// A called end at the start of a stream.

@@ -16,7 +16,8 @@ const CR: &str = "0300001611e00000000100c0010ac1020001c2020001";
 const DR: &str = "0300000b06800001000100";
 
 /// The accept that answers a connect: ACSE is 1, MMS is 3.
-pub(crate) const ACCEPT: &str = "0300008f02f0800e8605061301001601021402000234020001c1743172a003800101a26b8304\
+pub(crate) const ACCEPT: &str =
+    "0300008f02f0800e8605061301001601021402000234020001c1743172a003800101a26b8304\
     00000001a512300780010081025101300780010081025101614f304d020101a0486146a107060528ca220203a20302\
     0100a305a103020100be2f282d020103a028a926800300fde8810105820105830105a416800101810305e100820c03\
     6c1c000000000000000110";
@@ -46,7 +47,8 @@ const OTHER_MMS: &str = "0300008f02f0800e8605061301001601021402000234020001c1743
     0c036c1c000000000000000110";
 
 /// A connect of the other end.
-pub(crate) const CONNECT: &str = "030000b102f0800da80506130100160102140200023302000134020001c19231818fa00380\
+pub(crate) const CONNECT: &str =
+    "030000b102f0800da80506130100160102140200023302000134020001c19231818fa00380\
     0101a28187810400000001820400000001a423300f0201010604520100013004060251013010020103060528ca2202\
     0130040602510161543052020101a04d604ba107060528ca220203a606060429876701a70302010cbe332831060251\
     01020103a028a826800300fde8810105820105830105a416800101810305f100820c03ee1c00000408000079ef18";
@@ -81,37 +83,113 @@ pub(crate) const ROWS: &[Row] = &[
     (&[DR], false, "aborted none Ended"),
     (&[DR, ACCEPT], false, "aborted Session 0 Order"),
     (&[DR, CC], false, "aborted Transport 11 Order"),
-    (&[CC, DR, ACCEPT], false, "aborted accepted 65000 none Accepted"),
-    (&[CC, ACCEPT, ABORT], false, "accepted 65000 aborted none Ended"),
+    (
+        &[CC, DR, ACCEPT],
+        false,
+        "aborted accepted 65000 none Accepted",
+    ),
+    (
+        &[CC, ACCEPT, ABORT],
+        false,
+        "accepted 65000 aborted none Ended",
+    ),
     (&[CC, REFUSE], false, "refused none Ended"),
     (&[CC, REFUSE, ACCEPT], false, "refused Session 0 Order"),
     (&[CC, REFUSE, DISCONNECT], false, "refused Session 0 Order"),
     (&[CC, ACCEPT, REQUEST], false, "accepted 65000 Mms 0 Order"),
     (&[CC, ACCEPT, CONCLUDE], false, "accepted 65000 Mms 0 Order"),
-    (&[CC, ACCEPT, ACCEPT], false, "accepted 65000 Session 0 Order"),
-    (&[CC, ACCEPT, CONNECT], false, "accepted 65000 Session 0 Order"),
-    (&[CC, ACCEPT, FINISH], false, "accepted 65000 Session 0 Order"),
-    (&[CC, ACCEPT, REFUSE], false, "accepted 65000 Session 0 Order"),
-    (&[CC, ACCEPT, DISCONNECT, RESPONSE], false, "accepted 65000 released response 1 none Ended"),
-    (&[CC, ACCEPT, CONCLUDED], false, "accepted 65000 Mms 0 Order"),
+    (
+        &[CC, ACCEPT, ACCEPT],
+        false,
+        "accepted 65000 Session 0 Order",
+    ),
+    (
+        &[CC, ACCEPT, CONNECT],
+        false,
+        "accepted 65000 Session 0 Order",
+    ),
+    (
+        &[CC, ACCEPT, FINISH],
+        false,
+        "accepted 65000 Session 0 Order",
+    ),
+    (
+        &[CC, ACCEPT, REFUSE],
+        false,
+        "accepted 65000 Session 0 Order",
+    ),
+    (
+        &[CC, ACCEPT, DISCONNECT, RESPONSE],
+        false,
+        "accepted 65000 released response 1 none Ended",
+    ),
+    (
+        &[CC, ACCEPT, CONCLUDED],
+        false,
+        "accepted 65000 Mms 0 Order",
+    ),
     (&[CR], false, "Transport 0 Order"),
     (&[CC, RESPONSE], false, "Session 0 Order"),
     (&[CC, CONNECT], false, "Session 0 Order"),
     (&[CC, DISCONNECT], false, "Session 0 Order"),
     (&[CC, REFUSED_CONTEXT], false, "Presentation 41 Value"),
     (&[CC, OTHER_ACSE], false, "Presentation 61 Value"),
-    (&[CC, ACCEPT, CONCLUDED], true, "accepted 65000 concluded none Accepted"),
-    (&[CC, ACCEPT, RESPONSE, CONCLUDED], true, "accepted 65000 response 1 concluded none Accepted"),
-    (&[CC, ACCEPT, REPORT, CONCLUDED, DISCONNECT], true, "accepted 65000 report concluded released none Ended"),
-    (&[CC, ACCEPT, CONCLUDED, CONCLUDED], true, "accepted 65000 concluded Mms 0 Order"),
-    (&[CC, ACCEPT, CONCLUDED, RESPONSE], true, "accepted 65000 concluded Mms 0 Order"),
-    (&[CC, ACCEPT, CONCLUDED, REPORT], true, "accepted 65000 concluded Mms 0 Order"),
+    (
+        &[CC, ACCEPT, CONCLUDED],
+        true,
+        "accepted 65000 concluded none Accepted",
+    ),
+    (
+        &[CC, ACCEPT, RESPONSE, CONCLUDED],
+        true,
+        "accepted 65000 response 1 concluded none Accepted",
+    ),
+    (
+        &[CC, ACCEPT, REPORT, CONCLUDED, DISCONNECT],
+        true,
+        "accepted 65000 report concluded released none Ended",
+    ),
+    (
+        &[CC, ACCEPT, CONCLUDED, CONCLUDED],
+        true,
+        "accepted 65000 concluded Mms 0 Order",
+    ),
+    (
+        &[CC, ACCEPT, CONCLUDED, RESPONSE],
+        true,
+        "accepted 65000 concluded Mms 0 Order",
+    ),
+    (
+        &[CC, ACCEPT, CONCLUDED, REPORT],
+        true,
+        "accepted 65000 concluded Mms 0 Order",
+    ),
     (&[CC, CONCLUDED], true, "Session 0 Order"),
     (&[CC, OTHER_REFUSED], false, "Presentation 50 Value"),
     (&[CC, OTHER_MMS], false, "Acse 93 Value"),
-    (&[CC, ACCEPT, CONCLUDED, ACCEPT], true, "accepted 65000 concluded Session 0 Order"),
-    (&[CC, ACCEPT, CONCLUDED, ERROR], true, "accepted 65000 concluded Mms 0 Order"),
-    (&[CC, ACCEPT, CONCLUDED, REJECT], true, "accepted 65000 concluded Mms 0 Order"),
-    (&[CC, ACCEPT, BAD_REQUEST], false, "accepted 65000 Mms 19 Length"),
-    (&[CC, ACCEPT, CONCLUDED, BAD_REQUEST], true, "accepted 65000 concluded Mms 19 Length"),
+    (
+        &[CC, ACCEPT, CONCLUDED, ACCEPT],
+        true,
+        "accepted 65000 concluded Session 0 Order",
+    ),
+    (
+        &[CC, ACCEPT, CONCLUDED, ERROR],
+        true,
+        "accepted 65000 concluded Mms 0 Order",
+    ),
+    (
+        &[CC, ACCEPT, CONCLUDED, REJECT],
+        true,
+        "accepted 65000 concluded Mms 0 Order",
+    ),
+    (
+        &[CC, ACCEPT, BAD_REQUEST],
+        false,
+        "accepted 65000 Mms 19 Length",
+    ),
+    (
+        &[CC, ACCEPT, CONCLUDED, BAD_REQUEST],
+        true,
+        "accepted 65000 concluded Mms 19 Length",
+    ),
 ];

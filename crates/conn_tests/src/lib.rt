@@ -1,4 +1,5 @@
-//! Tests of connections that are left in ways that no command shows: what they want, send and end with.
+//! Tests of connections that are left in ways that no command shows: what is wanted, what is sent,
+//! and how they end.
 #![tactic(auto)]
 
 #[cfg(test)]

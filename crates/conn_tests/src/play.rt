@@ -116,9 +116,11 @@ fn play(alloc: Global, row: &Row) -> Result<Played, Fail> {
 fn is_left(alloc: Global, row: &Row) -> Result<bool, Fail> {
     let sent = joined(alloc, row.sent)?;
     let made = play(alloc, row)?;
-    Ok(made.wants.as_slice() == row.wants.as_bytes()
-        && made.out.as_slice() == sent.as_slice()
-        && made.end == Some(row.end))
+    Ok(
+        made.wants.as_slice() == row.wants.as_bytes()
+            && made.out.as_slice() == sent.as_slice()
+            && made.end == Some(row.end),
+    )
 }
 
 #[test]

@@ -1,4 +1,5 @@
-//! The steps of a connection with a node that answers opens, takes and closes, and refuses what it is to.
+//! The steps of a connection with a node that answers opens, takes and closes, unless it is to refuse
+//! them.
 ghost use Rattle.std.specs.Prelude.{◌≡◌, ◌≤◌, Ok, Err, None, true, IfOk, OnOk, length};
 ghost use Rattle.tase_conn.specs.Talking.{end_in, next_of};
 ghost use Rattle.tase_conn.specs.Places.{IsPlaced};
