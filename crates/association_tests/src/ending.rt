@@ -44,12 +44,17 @@ fn read_as(alloc: Global, tsdu: &[u8], side: Side) -> Result<Vec<u8>, AllocError
     Vec::from_slice(alloc, text.as_bytes())
 }
 
+/// The TSDU of a TPKT.
+fn tsdu_in(octets: &[u8]) -> &[u8] {
+    let seven: usize = 7;
+    octets.split_at(seven.min(octets.len())).1
+}
+
 #[test]
 fn only_aborts_come(rt: HostRuntime) -> Result<(), Fail> {
     for &(side, digits, wanted) in ROWS {
         let octets = octets_of(rt.alloc(), digits)?;
-        let (_, tsdu) = octets.as_slice().split_at(octets.len().min(7));
-        let read = read_as(rt.alloc(), tsdu, side)?;
+        let read = read_as(rt.alloc(), tsdu_in(octets.as_slice()), side)?;
         assert_eq!(rt; read.as_slice(), wanted.as_bytes(), "{side:?} {digits}");
     }
     Ok(())

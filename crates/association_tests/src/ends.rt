@@ -36,12 +36,25 @@ pub(crate) fn title(alloc: Global) -> Result<Option<Oid>, AllocError> {
     Ok(Some(Oid::new(Vec::from_slice(alloc, &[0x29, 0x87, 0x67, 1])?)))
 }
 
+fn called_stack(alloc: Global) -> Result<Stack, AllocError>
+    ensures { IfOk result (λ stack. IsReady stack) }
+{
+    Stack::called(alloc)
+}
+
+fn calling_stack(alloc: Global, title: Option<Oid>, out: &mut Vec<u8>) -> Result<Stack, AllocError>
+    ensures { IfOk result (λ stack. IsReady stack) }
+{
+    Stack::calling(alloc, title, out)
+}
+
 /// A called end at the start of a stream.
 pub(crate) fn called(alloc: Global) -> Result<Hearing, AllocError>
     ensures { IfOk result (λ hearing. IsReady hearing.stack) }
 {
+    let stack = called_stack(alloc)?;
     Ok(Hearing {
-        stack: Stack::called(alloc)?,
+        stack,
         inputs: Vec::new(alloc),
         out: Vec::new(alloc),
     })
@@ -52,7 +65,7 @@ pub(crate) fn calling(alloc: Global, title: Option<Oid>) -> Result<Hearing, Allo
     ensures { IfOk result (λ hearing. IsReady hearing.stack) }
 {
     let mut out = Vec::new(alloc);
-    let stack = Stack::calling(alloc, title, &mut out)?;
+    let stack = calling_stack(alloc, title, &mut out)?;
     Ok(Hearing {
         stack,
         inputs: Vec::new(alloc),
@@ -131,16 +144,24 @@ fn say_short(stack: &mut Stack, pdu: &MmsPdu, out: &mut Vec<u8>) -> Result<(), A
     say_now(stack, pdu, out)
 }
 
+fn say_standing(stack: &mut Stack, pdu: &MmsPdu, out: &mut Vec<u8>) -> Result<(), AllocError>
+    requires ready { IsReady stack.old }
+    requires writable { IsWritable pdu.now }
+    ensures { OnOk result (IsReady stack.new) }
+{
+    match stack.state() {
+        StackState::Accepted => say_short(stack, pdu, out),
+        _ => Ok(()),
+    }
+}
+
 /// Says a PDU, where the association stands.
 pub(crate) fn say(hearing: &mut Hearing, pdu: &MmsPdu) -> Result<(), AllocError>
     requires ready { IsReady hearing.old.stack }
     requires writable { IsWritable pdu.now }
     ensures { OnOk result (IsReady hearing.new.stack) }
 {
-    match hearing.stack.state() {
-        StackState::Accepted => say_short(&mut hearing.stack, pdu, &mut hearing.out),
-        _ => Ok(()),
-    }
+    say_standing(&mut hearing.stack, pdu, &mut hearing.out)
 }
 
 /// Says conclude, if it is to.
@@ -148,10 +169,10 @@ pub(crate) fn conclude(hearing: &mut Hearing, does: bool) -> Result<(), AllocErr
     requires { IsReady hearing.old.stack }
     ensures { OnOk result (IsReady hearing.new.stack) }
 {
-    if !does {
-        return Ok(());
+    match does {
+        true => say(hearing, &MmsPdu::Conclude),
+        false => Ok(()),
     }
-    say(hearing, &MmsPdu::Conclude)
 }
 
 fn release_now(stack: &mut Stack, out: &mut Vec<u8>) -> Result<(), AllocError>

@@ -7,16 +7,32 @@ use stack_assoc::Hearing;
 use std::alloc::{AllocError, Global};
 use std::test::*;
 
-/// What the calling end makes of a stream of these parts: it says conclude behind the first two, if
-/// it is to.
-fn made_of(alloc: Global, parts: &[&str], concludes: bool) -> Result<Vec<u8>, Fail> {
-    let pieces = pieces_of(alloc, parts)?;
-    let (before, behind) = pieces.as_slice().split_at(pieces.len().min(2));
+/// The first two pieces, and those behind them.
+fn two_and_others(pieces: &[Vec<u8>]) -> (&[Vec<u8>], &[Vec<u8>]) {
+    let two: usize = 2;
+    pieces.split_at(two.min(pieces.len()))
+}
+
+/// What the calling end hears and says of these pieces, and how it ends.
+fn heard(
+    alloc: Global,
+    before: &[Vec<u8>],
+    behind: &[Vec<u8>],
+    concludes: bool,
+) -> Result<Vec<u8>, Fail> {
     let mut hearing = calling(alloc, title(alloc)?)?;
     hear(&mut hearing, before, None)?;
     conclude(&mut hearing, concludes)?;
     let end = hear(&mut hearing, behind, None)?;
     Ok(text_of(alloc, &hearing, end)?)
+}
+
+/// What the calling end makes of a stream of these parts: it says conclude behind the first two, if
+/// it is to.
+fn made_of(alloc: Global, parts: &[&str], concludes: bool) -> Result<Vec<u8>, Fail> {
+    let pieces = pieces_of(alloc, parts)?;
+    let (before, behind) = two_and_others(pieces.as_slice());
+    heard(alloc, before, behind, concludes)
 }
 
 #[test]

@@ -97,18 +97,37 @@ fn leave(alloc: Global, conn: &mut Conn, leave: Leave, made: &mut Played) -> Res
     }
 }
 
-/// What a row's connection comes to.
-fn play(alloc: Global, row: &Row) -> Result<Played, Fail> {
-    let mut made = Played {
+fn end_of(end: Option<&ConnEnd>) -> Option<ConnEnd> {
+    match end {
+        Some(end) => Some(*end),
+        None => None,
+    }
+}
+
+/// Plays a row's connection.
+fn play_row(alloc: Global, conn: &mut Conn, row: &Row, made: &mut Played) -> Result<(), Fail>
+    requires { IsAtRest conn.old }
+    ensures { OnOk result (IsAtRest conn.new) }
+{
+    feed_all(alloc, conn, row.given, refused(row.leave), made)?;
+    leave(alloc, conn, row.leave, made)?;
+    send(conn, &mut made.out)
+}
+
+fn nothing(alloc: Global) -> Played {
+    Played {
         wants: Vec::new(alloc),
         out: Vec::new(alloc),
         end: None,
-    };
+    }
+}
+
+/// What a row's connection comes to.
+fn play(alloc: Global, row: &Row) -> Result<Played, Fail> {
+    let mut made = nothing(alloc);
     let mut conn = conn_of(alloc)?;
-    feed_all(alloc, &mut conn, row.given, refused(row.leave), &mut made)?;
-    leave(alloc, &mut conn, row.leave, &mut made)?;
-    send(&mut conn, &mut made.out)?;
-    made.end = conn.ended().copied();
+    play_row(alloc, &mut conn, row, &mut made)?;
+    made.end = end_of(conn.ended());
     Ok(made)
 }
 
