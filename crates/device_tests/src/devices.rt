@@ -143,8 +143,11 @@ fn operates(rt: HostRuntime) {
 }
 
 /// Who holds it without being the one who operates.
-const OTHERS: &[(Option<Key>, Option<Hold>)] =
-    &[(None, None), (Some(OTHER), BY_OTHER), (Some(NEXT), BY_NEXT)];
+const OTHERS: &[(Option<Key>, Option<Hold>)] = &[
+    (None, None),
+    (Some(OTHER), BY_OTHER),
+    (Some(NEXT), BY_NEXT),
+];
 
 const TAGS: &[u8] = &[0, 1, 2];
 
@@ -182,7 +185,10 @@ fn direct(tag: u8) -> Device {
 #[test]
 fn operates_of_a_direct_command(rt: HostRuntime) {
     for &(tag, value, answer) in DIRECT {
-        let by_both = (operated(direct(tag), HOLDER, value), operated(direct(tag), OTHER, value));
+        let by_both = (
+            operated(direct(tag), HOLDER, value),
+            operated(direct(tag), OTHER, value),
+        );
         let want = (answer, None, tag);
         assert_eq!(rt; by_both, (want, want), "{value}");
     }
@@ -235,14 +241,21 @@ fn ticked(by: Option<Key>, tag: u8, now: u64) -> Option<(Option<Hold>, Option<Ho
 fn ticks(rt: HostRuntime) {
     for &(by, now, ended, hold) in TICKS {
         for &tag in TAGS {
-            assert_eq!(rt; ticked(by, tag, now), Some((ended, hold, tag)), "{by:?} {now}");
+            assert_eq!(rt;
+                ticked(by, tag, now),
+                Some((ended, hold, tag)),
+                "{by:?} {now}"
+            );
         }
     }
 }
 
 /// Who has selected it, and who holds it.
-const HOLDS: &[(Option<Key>, Option<Hold>)] =
-    &[(None, None), (Some(HOLDER), KEPT), (Some(OTHER), BY_OTHER)];
+const HOLDS: &[(Option<Key>, Option<Hold>)] = &[
+    (None, None),
+    (Some(HOLDER), KEPT),
+    (Some(OTHER), BY_OTHER),
+];
 
 fn tagged_again(by: Option<Key>, tag: u8, new: u8) -> (Option<Hold>, u8) {
     let device = tagged(device_of(CommandKind::Command, by, tag), new);

@@ -146,14 +146,19 @@ fn changes_wait_for_the_buffer(rt: HostRuntime) -> Result<(), Fail> {
 
 /// Of a slot that is enabled again behind a change, and then disabled: whether it is enabled, whether
 /// its wish says so, what is due or its buffer.
-fn enabled_and_disabled(alloc: Global) -> Result<((bool, bool, u8), (bool, bool, u32)), AllocError> {
+fn enabled_and_disabled(
+    alloc: Global,
+) -> Result<((bool, bool, u8), (bool, bool, u32)), AllocError> {
     let mut slot = on_change(alloc)?;
     slot.note_change(20_000);
     let again = slot.wish().clone()?;
     slot.enable(again, 22_000);
     let enabled = (slot.enabled(), slot.wish().status, slot.due(22_000, 30_000));
     slot.disable();
-    Ok((enabled, (slot.enabled(), slot.wish().status, slot.wish().buffer)))
+    Ok((
+        enabled,
+        (slot.enabled(), slot.wish().status, slot.wish().buffer),
+    ))
 }
 
 #[test]

@@ -277,13 +277,20 @@ fn are_shown_again(alloc: Global, size: usize) -> Result<(bool, bool), Fail> {
     let long = long_text(alloc, size)?;
     let name = text_of_set(alloc, b"D", &long)?;
     let domain = text_of_set(alloc, &long, b"S")?;
-    Ok((is_shown_again(alloc, &name)?, is_shown_again(alloc, &domain)?))
+    Ok((
+        is_shown_again(alloc, &name)?,
+        is_shown_again(alloc, &domain)?,
+    ))
 }
 
 #[test]
 fn names_of_64_octets(rt: HostRuntime) -> Result<(), Fail> {
     for &(size, can_be) in LENGTHS {
-        assert_eq!(rt; are_shown_again(rt.alloc(), size)?, (can_be, can_be), "{size}");
+        assert_eq!(rt;
+            are_shown_again(rt.alloc(), size)?,
+            (can_be, can_be),
+            "{size}"
+        );
     }
     Ok(())
 }

@@ -31,7 +31,11 @@ fn read_of(
 fn reads_texts(rt: HostRuntime) -> Result<(), Fail> {
     for &(octets, fails, limit, want, count) in READINGS {
         let (read, faults) = read_of(rt.alloc(), octets, fails, limit)?;
-        assert_eq!(rt; (read.as_deref(), faults), (want, count), "at limit {limit}");
+        assert_eq!(rt;
+            (read.as_deref(), faults),
+            (want, count),
+            "at limit {limit}"
+        );
     }
     Ok(())
 }

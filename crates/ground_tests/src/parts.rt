@@ -52,11 +52,7 @@ const CONTENTS: &[(Kind, &[u8], Result<i64, Fault>)] = &[
     (Kind::Fixed, &[0x80, 0], Err((1, Why::Length))),
     (Kind::Fixed, &[0x80, 3, 9, 9, 3], Err((2, Why::Value))),
     (Kind::Fixed, &[0x80, 3, 1, 9, 9], Err((3, Why::Value))),
-    (
-        Kind::Fixed,
-        &[0x80, 0x81, 3, 1, 2, 4],
-        Err((5, Why::Value)),
-    ),
+    (Kind::Fixed, &[0x80, 0x81, 3, 1, 2, 4], Err((5, Why::Value))),
     (Kind::Integer, &[0x80, 1, 0xFE], Ok(-2)),
     (Kind::Integer, &[0x80, 1, 0xFD], Err((2, Why::Value))),
     (Kind::Integer, &[0x80, 2, 1, 0x2C], Ok(300)),
@@ -96,7 +92,11 @@ fn read_as(octets: &[u8], kind: Kind) -> Result<i64, BerFault> {
 #[test]
 fn contents(rt: HostRuntime) {
     for &(kind, octets, want) in CONTENTS {
-        assert_eq!(rt; read_as(octets, kind).map_err(told), want, "{kind:?} {octets:?}");
+        assert_eq!(rt;
+            read_as(octets, kind).map_err(told),
+            want,
+            "{kind:?} {octets:?}"
+        );
     }
 }
 
@@ -118,29 +118,21 @@ const PASSED_OVER: &[(&[u8], u8, u8, &[u8], Result<usize, Fault>)] = &[
         Ok(15),
     ),
     // heads that aren't sound
-    (
-        &[0x81, 0, 0x83, 1],
-        0x80,
-        0xBF,
-        &[],
-        Err((10, Why::Length)),
-    ),
+    (&[0x81, 0, 0x83, 1], 0x80, 0xBF, &[], Err((10, Why::Length))),
     (&[0x83], 0x80, 0xBF, &[], Err((8, Why::Short))),
     (&[0x83, 0x80], 0x80, 0xBF, &[], Err((8, Why::Length))),
     (&[0xBF], 0x80, 0xBF, &[], Err((8, Why::Short))),
-    (
-        &[0xBF, 0x80, 0x80, 0],
-        0x80,
-        0xBF,
-        &[],
-        Err((7, Why::Tag)),
-    ),
+    (&[0xBF, 0x80, 0x80, 0], 0x80, 0xBF, &[], Err((7, Why::Tag))),
 ];
 
 #[test]
 fn passed_over(rt: HostRuntime) {
     for &(octets, low, high, named, want) in PASSED_OVER {
-        assert_eq!(rt; skip_parts(octets, 7, low, high, named).map_err(told), want, "{octets:?}");
+        assert_eq!(rt;
+            skip_parts(octets, 7, low, high, named).map_err(told),
+            want,
+            "{octets:?}"
+        );
     }
     assert_eq!(rt; skip_part(&[0x30, 1, 9, 0], 7), Ok(10));
 }

@@ -205,7 +205,11 @@ fn identifiers_have_at_most_32_octets(rt: HostRuntime) -> Result<(), Fail> {
     for &(len, is_taken) in [(32, true), (33, false)].as_slice() {
         let octets = long_identifier(rt.alloc(), len)?;
         let out = again(rt.alloc(), octets.as_slice())?;
-        assert_eq!(rt; out.as_deref() == Some(octets.as_slice()), is_taken, "{len}");
+        assert_eq!(rt;
+            out.as_deref() == Some(octets.as_slice()),
+            is_taken,
+            "{len}"
+        );
     }
     Ok(())
 }

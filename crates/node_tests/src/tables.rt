@@ -32,7 +32,12 @@ const BAD_LINES: &[(&str, &str, u64, TableWhy)] = &[
     (ROWS, "point V real", 3, Again),
     (ROWS, "device V command sbo 1 0", 3, Again),
     (PEER, "point P state", 4, Place),
-    (PEER, "see P domain value,time,millis,flags,cov,worth", 4, Word),
+    (
+        PEER,
+        "see P domain value,time,millis,flags,cov,worth",
+        4,
+        Word,
+    ),
     (PEER, "see R domain value,value", 4, Unknown),
     (PEER, "control P", 4, Unknown),
     (PEER, "peer B 1.1.1 D T", 4, Again),
@@ -158,10 +163,18 @@ fn limits_of(centre: &Centre, peer: u32) -> Option<(u32, u32, u64)> {
 #[test]
 fn devices_and_limits_are_as_they_are_written(rt: HostRuntime) -> Result<(), Fail> {
     let centre = read_centre(rt.alloc(), TABLES.as_bytes())?.map_err(|_| "bad tables")?;
-    let devices = [facts_of(&centre, 0), facts_of(&centre, 1), facts_of(&centre, 2)];
+    let devices = [
+        facts_of(&centre, 0),
+        facts_of(&centre, 1),
+        facts_of(&centre, 2),
+    ];
     let limits = [limits_of(&centre, 0), limits_of(&centre, 1)];
     drop(centre);
-    let want = [Some((false, 77, 30000, None)), Some((true, 0, 0, Some((-5, 5)))), None];
+    let want = [
+        Some((false, 77, 30000, None)),
+        Some((true, 0, 0, Some((-5, 5)))),
+        None,
+    ];
     assert_eq!(rt; devices, want);
     assert_eq!(rt; limits, [Some((1, 64, 1048576)), Some((8, 3, 2048))]);
     Ok(())

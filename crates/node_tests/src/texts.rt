@@ -10,7 +10,10 @@ use tase_views::{Event, EventKind, Reply, ReplyKind, WriteResults};
 const CALLS: &[(&str, Result<&str, usize>)] = &[
     ("identify", Ok("identify")),
     ("read+ DOMA/BUS1 aa:X", Ok("read+ DOMA/BUS1 aa:X")),
-    ("read  DOMA/BUS1   vmd:A%20B", Ok("read DOMA/BUS1 vmd:A%20B")),
+    (
+        "read  DOMA/BUS1   vmd:A%20B",
+        Ok("read DOMA/BUS1 vmd:A%20B"),
+    ),
     (
         "write DOMA/A=i-5  vmd:B=vx%3dy aa:C={T,[F,u7]}",
         Ok("write DOMA/A=i-5 vmd:B=vx%3dy aa:C={T,[F,u7]}"),
@@ -28,7 +31,10 @@ const CALLS: &[(&str, Result<&str, usize>)] = &[
         Ok("define DOMA/S DOMA/BUS1 vmd:Transfer_Set_Name"),
     ),
     ("members DOMA/A%20B", Ok("members DOMA/A%20B")),
-    ("delete DOMA/S vmd:S  DOMA/S", Ok("delete DOMA/S vmd:S DOMA/S")),
+    (
+        "delete DOMA/S vmd:S  DOMA/S",
+        Ok("delete DOMA/S vmd:S DOMA/S"),
+    ),
     ("deletescope -2", Ok("deletescope -2")),
     ("odd 1 1", Ok("odd 1 1")),
     ("odd   5    1", Ok("odd 5 1")),
@@ -129,6 +135,9 @@ fn request_and_reply(alloc: Global) -> Result<Vec<u8>, Fail> {
 #[test]
 fn requests_and_replies_are_written(rt: HostRuntime) -> Result<(), Fail> {
     let out = request_and_reply(rt.alloc())?;
-    assert_eq!(rt; out.as_slice(), b"call read DOMA/BUS1\nwrite ok !3".as_slice());
+    assert_eq!(rt;
+        out.as_slice(),
+        b"call read DOMA/BUS1\nwrite ok !3".as_slice()
+    );
     Ok(())
 }

@@ -36,7 +36,8 @@ const RESPONSES: &[(&[u8], AssociateResponse)] = &[
 #[test]
 fn responses(rt: HostRuntime) -> Result<(), Fail> {
     let any = Expected {
-        id: None,
+        request_id: None,
+        response_id: None,
         accepted: false,
     };
     for &(octets, wanted) in RESPONSES {
@@ -44,7 +45,10 @@ fn responses(rt: HostRuntime) -> Result<(), Fail> {
         let Some(Apdu::Aare(response)) = read.ok() else {
             return Err("no response".into());
         };
-        assert_eq!(rt; (response.result, response.user), (wanted.result, wanted.user));
+        assert_eq!(rt;
+            (response.result, response.user),
+            (wanted.result, wanted.user)
+        );
     }
     Ok(())
 }
