@@ -77,6 +77,11 @@ const CONTENTS: &[(Kind, &[u8], Result<i64, Fault>)] = &[
     (Kind::Octet, &[0x80, 2, 1, 0x2C], Err((1, Why::Length))),
 ];
 
+/// A number without its millions.
+fn below_a_million(number: u64) -> i64 {
+    (number % 1_000_000) as i64
+}
+
 fn read_as(octets: &[u8], kind: Kind) -> Result<i64, BerFault> {
     let part = take_part(octets, 0, 0x80)?;
     match kind {
@@ -84,7 +89,7 @@ fn read_as(octets: &[u8], kind: Kind) -> Result<i64, BerFault> {
         Kind::Fixed => part.fixed(&[1, 2, 3]).map(|()| 0),
         Kind::Integer => part.integer_within(-2, 300),
         Kind::Unsigned => part.unsigned_within(301, 400).map(|number| number as i64),
-        Kind::Natural => part.natural().map(|number| number as i64),
+        Kind::Natural => Ok(below_a_million(part.natural()?)),
         Kind::Octet => part.octet().map(|number| number as i64),
     }
 }

@@ -90,7 +90,9 @@ const HEADS: &[(usize, &[u8])] = &[
 
 fn written_head(alloc: Global, len: usize) -> Result<Vec<u8>, Fail> {
     let mut out = Vec::new(alloc);
-    write_head(&mut out, 4, len)?;
+    if len <= 65_536 {
+        write_head(&mut out, 4, len)?;
+    }
     Ok(out)
 }
 
