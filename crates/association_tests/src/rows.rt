@@ -192,4 +192,6 @@ pub(crate) const ROWS: &[Row] = &[
         true,
         "accepted 65000 concluded Mms 19 Length",
     ),
+    (&[CC, REFUSE, REFUSE], false, "refused Session 0 Order"),
+    (&[CC, REQUEST], false, "Session 0 Order"),
 ];

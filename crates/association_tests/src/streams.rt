@@ -1,6 +1,7 @@
 //! Streams that the calling end hears, and what it says besides.
-use crate::ends::{calling, conclude, hear, octets_of, pieces_of, title};
-use crate::rows::{ACCEPT, CC, ROWS};
+use crate::ends::{called, calling, conclude, hear, octets_of, pieces_of, title};
+use crate::rows::{ACCEPT, CC, CONNECT, FINISH, ROWS};
+use crate::talk::GRANTED;
 use crate::telling::text_of;
 use ber_values::Oid;
 use stack_assoc::Hearing;
@@ -81,6 +82,18 @@ fn sent_aborting(alloc: Global) -> Result<Vec<u8>, Fail> {
     Ok(Vec::from_slice(alloc, hearing.out.as_slice())?)
 }
 
+/// A connect request of the transport.
+const CR: &str = "0300001611e00000000100c0010ac1020001c2020001";
+
+/// What a called end sends as it aborts, once it was asked for the release and before it answers.
+fn sent_aborting_called(alloc: Global) -> Result<Vec<u8>, Fail> {
+    let pieces = pieces_of(alloc, &[CR, CONNECT, FINISH])?;
+    let mut hearing = called(alloc)?;
+    hear(&mut hearing, pieces.as_slice(), Some(GRANTED))?;
+    abort(&mut hearing)?;
+    Ok(Vec::from_slice(alloc, hearing.out.as_slice())?)
+}
+
 #[test]
 fn what_is_sent(rt: HostRuntime) -> Result<(), Fail> {
     let bare = octets_of(rt.alloc(), BARE)?;
@@ -88,6 +101,8 @@ fn what_is_sent(rt: HostRuntime) -> Result<(), Fail> {
     assert_eq!(rt; sent.as_slice(), bare.as_slice());
     let aborting = octets_of(rt.alloc(), ABORTING)?;
     let sent = sent_aborting(rt.alloc())?;
+    assert_eq!(rt; sent.as_slice(), aborting.as_slice());
+    let sent = sent_aborting_called(rt.alloc())?;
     assert_eq!(rt; sent.as_slice(), aborting.as_slice());
     Ok(())
 }

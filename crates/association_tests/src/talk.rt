@@ -88,7 +88,7 @@ const RELEASING: (Doing, Doing) = (
 );
 
 /// What is granted of the offer, which names one service at once for each end.
-const GRANTED: Initiate = Initiate {
+pub(crate) const GRANTED: Initiate = Initiate {
     detail: Some(65_000),
     calling: 1,
     called: 1,
