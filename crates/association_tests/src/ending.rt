@@ -1,7 +1,8 @@
 //! What may come while an association ends: aborts alone.
 use crate::ends::octets_of;
 use crate::rows::{ABORT, ACCEPT, CONNECT, FINISH, REQUEST};
-use stack_messages::{Expecting, Heard, Phase, Side, read_message};
+use ber_values::Why;
+use stack_messages::{Expecting, Heard, Layer, Phase, Side, read_message};
 use std::alloc::{AllocError, Global};
 use std::test::*;
 
@@ -10,24 +11,46 @@ const ABORT_ACCEPT: &str = "0300000902f0801a00";
 /// A TPKT whose TSDU has no octets.
 const NOTHING: &str = "0300000702f080";
 
-/// The end that reads, a TPKT, and what its TSDU says, or the layer, the place and the rule that it
-/// breaks (ISO 8327-1).
-const ROWS: &[(Side, &str, &str)] = &[
-    (Side::Called, CONNECT, "Session 0 Order"),
-    (Side::Either, CONNECT, "Session 0 Order"),
-    (Side::Either, ACCEPT, "Session 0 Order"),
-    (Side::Called, FINISH, "Session 0 Order"),
-    (Side::Either, FINISH, "Session 0 Order"),
-    (Side::Called, REQUEST, "Session 0 Order"),
-    (Side::Either, REQUEST, "Session 0 Order"),
-    (Side::Called, NOTHING, "Session 0 Short"),
-    (Side::Called, ABORT, "abort"),
-    (Side::Either, ABORT, "abort"),
-    (Side::Either, ABORT_ACCEPT, "abort accept"),
+/// What a TSDU says, or the first rule of the session that it breaks (ISO 8327-1) at its front.
+#[derive(Clone, Copy, Debug, PartialEq, Eq)]
+enum Told {
+    Abort,
+    AbortAccept,
+    Another,
+    Broken(Layer, u64, Why),
+}
+
+const OUT_OF_ORDER: Told = Told::Broken(Layer::Session, 0, Why::Order);
+
+/// The end that reads, a TPKT, and what its TSDU says.
+const ROWS: &[(Side, &str, Told)] = &[
+    (Side::Called, CONNECT, OUT_OF_ORDER),
+    (Side::Either, CONNECT, OUT_OF_ORDER),
+    (Side::Either, ACCEPT, OUT_OF_ORDER),
+    (Side::Called, FINISH, OUT_OF_ORDER),
+    (Side::Either, FINISH, OUT_OF_ORDER),
+    (Side::Called, REQUEST, OUT_OF_ORDER),
+    (Side::Either, REQUEST, OUT_OF_ORDER),
+    (
+        Side::Called,
+        NOTHING,
+        Told::Broken(Layer::Session, 0, Why::Short),
+    ),
+    (Side::Called, ABORT, Told::Abort),
+    (Side::Either, ABORT, Told::Abort),
+    (Side::Either, ABORT_ACCEPT, Told::AbortAccept),
 ];
 
+fn told(heard: &Heard) -> Told {
+    match heard {
+        Heard::Abort => Told::Abort,
+        Heard::AbortAccept => Told::AbortAccept,
+        _ => Told::Another,
+    }
+}
+
 /// What a TSDU says to an end of an association that ends.
-fn read_as(alloc: Global, tsdu: &[u8], side: Side) -> Result<Vec<u8>, AllocError> {
+fn read_as(alloc: Global, tsdu: &[u8], side: Side) -> Result<Told, AllocError> {
     let expecting = Expecting {
         side,
         phase: Phase::Ending,
@@ -35,13 +58,10 @@ fn read_as(alloc: Global, tsdu: &[u8], side: Side) -> Result<Vec<u8>, AllocError
         mms: 3,
         awaited: false,
     };
-    let text = match read_message(alloc, tsdu, expecting)? {
-        Ok(Heard::Abort) => format!(in alloc; "abort")?,
-        Ok(Heard::AbortAccept) => format!(in alloc; "abort accept")?,
-        Ok(_) => format!(in alloc; "another")?,
-        Err(fault) => format!(in alloc; "{:?} {} {:?}", fault.layer, fault.place, fault.why)?,
-    };
-    Vec::from_slice(alloc, text.as_bytes())
+    match read_message(alloc, tsdu, expecting)? {
+        Ok(heard) => Ok(told(&heard)),
+        Err(fault) => Ok(Told::Broken(fault.layer, fault.place, fault.why)),
+    }
 }
 
 /// The TSDU of a TPKT.
@@ -55,7 +75,7 @@ fn only_aborts_come(rt: HostRuntime) -> Result<(), Fail> {
     for &(side, digits, wanted) in ROWS {
         let octets = octets_of(rt.alloc(), digits)?;
         let read = read_as(rt.alloc(), tsdu_in(octets.as_slice()), side)?;
-        assert_eq!(rt; read.as_slice(), wanted.as_bytes(), "{side:?} {digits}");
+        assert_eq!(rt; read, wanted, "{side:?} {digits}");
     }
     Ok(())
 }
