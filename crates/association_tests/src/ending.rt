@@ -41,7 +41,7 @@ const ROWS: &[(Side, &str, Told)] = &[
     (Side::Either, ABORT_ACCEPT, Told::AbortAccept),
 ];
 
-fn told(heard: &Heard) -> Told {
+fn what_is_told(heard: &Heard) -> Told {
     match heard {
         Heard::Abort => Told::Abort,
         Heard::AbortAccept => Told::AbortAccept,
@@ -59,7 +59,7 @@ fn read_as(alloc: Global, tsdu: &[u8], side: Side) -> Result<Told, AllocError> {
         awaited: false,
     };
     match read_message(alloc, tsdu, expecting)? {
-        Ok(heard) => Ok(told(&heard)),
+        Ok(heard) => Ok(what_is_told(&heard)),
         Err(fault) => Ok(Told::Broken(fault.layer, fault.place, fault.why)),
     }
 }
