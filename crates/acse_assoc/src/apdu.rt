@@ -18,6 +18,9 @@ use std::alloc::{AllocError, Global};
 /// The most octets of a body that are written.
 pub const MOST_BODY: usize = 65_400;
 
+// Definitions cite this limit, so that it stands here as a number too.
+const _: () = prove!(MOST_BODY == 65_400);
+
 /// An application protocol data unit. What RLRQ, RLRE and ABRT hold isn't looked at.
 #[derive(Debug, Drop, PartialEq, Eq)]
 pub enum Apdu {

@@ -31,6 +31,11 @@ pub const OID_LIMIT: usize = 32;
 /// The largest arc of an object identifier in text.
 pub const ARC_LIMIT: u64 = 2147483647;
 
+// Definitions cite these limits, so that each stands here as a number too.
+const _: () = prove!(OID_LIMIT == 32);
+
+const _: () = prove!(ARC_LIMIT == 2_147_483_647);
+
 /// The largest first arc.
 const FIRST_ARC_LIMIT: u32 = 2;
 

@@ -21,6 +21,9 @@ use std::marker::Model;
 /// The most octets that visible text has.
 pub const VISIBLE_LIMIT: usize = 64;
 
+// Definitions cite this limit, so that it stands here as a number too.
+const _: () = prove!(VISIBLE_LIMIT == 64);
+
 /// Text of at most [`VISIBLE_LIMIT`] octets, each a space or a printing character of ASCII.
 #[derive(Debug, Drop)]
 pub struct Visible {

@@ -40,6 +40,31 @@ pub const PENDING_LIMIT: u64 = 16777216;
 /// The pending octets of a connection where its table doesn't say.
 pub const PENDING_DEFAULT: u64 = 1048576;
 
+// Definitions cite these limits, so that each stands here as a number too.
+const _: () = prove!(POINT_LIMIT == 20_000);
+
+const _: () = prove!(DEVICE_LIMIT == 2_000);
+
+const _: () = prove!(PEER_LIMIT == 256);
+
+const _: () = prove!(SEE_LIMIT == 5_000);
+
+const _: () = prove!(SPAN_LIMIT == 86_400_000);
+
+const _: () = prove!(SLOT_LIMIT == 16);
+
+const _: () = prove!(SLOT_DEFAULT == 8);
+
+const _: () = prove!(SET_LIMIT == 64);
+
+const _: () = prove!(SET_DEFAULT == 64);
+
+const _: () = prove!(PENDING_LEAST == 1_024);
+
+const _: () = prove!(PENDING_LIMIT == 16_777_216);
+
+const _: () = prove!(PENDING_DEFAULT == 1_048_576);
+
 /// A point of the centre.
 #[derive(Debug, Drop)]
 pub struct PointRow {

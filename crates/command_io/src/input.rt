@@ -9,6 +9,9 @@ use std::alloc::{AllocError, Global};
 /// So many octets may a text have.
 pub const TEXT_LIMIT: u64 = 67_108_864;
 
+// Definitions cite this limit, so that it stands here as a number too.
+const _: () = prove!(TEXT_LIMIT == 67_108_864);
+
 /// Why an input is refused.
 #[derive(Clone, Copy, Debug, PartialEq, Eq)]
 pub enum Refusal {

@@ -13,6 +13,9 @@ use std::marker::Model;
 /// The most members of a data set.
 pub const MOST_MEMBERS: usize = 500;
 
+// Definitions cite this limit, so that it stands here as a number too.
+const _: () = prove!(MOST_MEMBERS == 500);
+
 /// The members of a data set: names of variables, in order.
 pub type Members = Names;
 

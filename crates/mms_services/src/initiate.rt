@@ -44,6 +44,15 @@ pub const MOST_SERVICES: i64 = 10;
 /// The most levels of data that are granted.
 pub const MOST_NESTING: i64 = 5;
 
+// Definitions cite these limits, so that each stands here as a number too.
+const _: () = prove!(LEAST_DETAIL == 1_000);
+
+const _: () = prove!(MOST_DETAIL == 65_000);
+
+const _: () = prove!(MOST_SERVICES == 10);
+
+const _: () = prove!(MOST_NESTING == 5);
+
 /// The tag of the most octets of a PDU.
 const DETAIL: u8 = 0x80;
 

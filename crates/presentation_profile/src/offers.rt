@@ -26,6 +26,11 @@ pub const MOST_OFFERS: usize = 16;
 /// The largest id of a context.
 pub const LARGEST_ID: u32 = 65_535;
 
+// Definitions cite these limits, so that each stands here as a number too.
+const _: () = prove!(MOST_OFFERS == 16);
+
+const _: () = prove!(LARGEST_ID == 65_535);
+
 /// An offer of a presentation context: its id, the name of its abstract syntax, and whether BER is
 /// among its transfer syntaxes.
 #[derive(Debug, Drop)]

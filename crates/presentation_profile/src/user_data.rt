@@ -16,6 +16,9 @@ use std::alloc::AllocError;
 /// The most octets of a body that are written.
 pub const MOST_BODY: usize = 65_400;
 
+// Definitions cite this limit, so that it stands here as a number too.
+const _: () = prove!(MOST_BODY == 65_400);
+
 /// The tag of user data.
 pub(crate) const USER_DATA: u8 = 0x61;
 

@@ -13,6 +13,11 @@ pub const MOMENT_LIMIT: u64 = 2147483648000;
 /// The longest span of a selection, in milliseconds: one day.
 pub const SPAN_LIMIT: u64 = 86400000;
 
+// Definitions cite these limits, so that each stands here as a number too.
+const _: () = prove!(MOMENT_LIMIT == 2_147_483_648_000);
+
+const _: () = prove!(SPAN_LIMIT == 86_400_000);
+
 /// The tag that inhibits every operate (IEC 60870-6-802, tag values).
 pub const OPEN_AND_CLOSE_INHIBITED: u8 = 1;
 

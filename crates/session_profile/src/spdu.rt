@@ -26,6 +26,9 @@ use tpkt_cotp::Selector;
 /// The most octets of a body that are written.
 pub const MOST_BODY: usize = 65_400;
 
+// Definitions cite this limit, so that it stands here as a number too.
+const _: () = prove!(MOST_BODY == 65_400);
+
 /// The most octets that are written around a body.
 const MOST_AROUND: usize = 64;
 

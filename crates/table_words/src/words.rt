@@ -15,6 +15,11 @@ pub const NAME_LIMIT: usize = 24;
 /// The most octets of an identifier.
 pub const IDENTIFIER_LIMIT: usize = 32;
 
+// Definitions cite these limits, so that each stands here as a number too.
+const _: () = prove!(NAME_LIMIT == 24);
+
+const _: () = prove!(IDENTIFIER_LIMIT == 32);
+
 /// Whether a name is one that the protocol uses itself.
 fn is_special(name: &[u8]) -> bool
     ensures { result ≡ own.is_special name.now }

@@ -24,6 +24,9 @@ use std::sync::Arc;
 /// The octets that may wait for a peer before its association is open.
 const FIRST_LIMIT: u64 = 1_048_576;
 
+// Definitions cite this limit, so that it stands here as a number too.
+const _: () = prove!(FIRST_LIMIT == 1_048_576);
+
 /// The octets of an abort, at most.
 const ABORT_ROOM: usize = 64;
 

@@ -7,6 +7,9 @@ use std::marker::Model;
 /// Counts of changes are shown modulo this number.
 pub const COV_MODULUS: u32 = 65536;
 
+// Definitions cite this limit, so that it stands here as a number too.
+const _: () = prove!(COV_MODULUS == 65_536);
+
 /// One part of what a peer is shown of a point.
 #[derive(Clone, Copy, Debug, PartialEq, Eq)]
 pub enum Component {

@@ -16,6 +16,15 @@ pub const SECONDS_LIMIT: u32 = 2147483647;
 /// The last millisecond of a second.
 pub const MILLIS_LIMIT: u16 = 999;
 
+// Definitions cite these limits, so that each stands here as a number too.
+const _: () = prove!(STATE_LIMIT == 3);
+
+const _: () = prove!(FLAGS_LIMIT == 63);
+
+const _: () = prove!(SECONDS_LIMIT == 2_147_483_647);
+
+const _: () = prove!(MILLIS_LIMIT == 999);
+
 /// The flags of a value that is not valid.
 const NOT_VALID: u8 = 48;
 

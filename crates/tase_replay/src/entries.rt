@@ -25,6 +25,9 @@ pub(crate) enum Asked {
 /// The highest number of a peer's seat.
 const SEAT_LIMIT: u64 = 4_294_967_295;
 
+// Definitions cite this limit, so that it stands here as a number too.
+const _: () = prove!(SEAT_LIMIT == 4_294_967_295);
+
 /// What a line asks for, where it is one of the forms.
 pub(crate) fn read_asked(
     alloc: Global,

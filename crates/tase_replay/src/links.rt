@@ -36,6 +36,9 @@ use tase_views::{Entry, StepFault};
 /// The octets that a line gives to a link, at most.
 const LINE_OCTETS: usize = 16_384;
 
+// Definitions cite this limit, so that it stands here as a number too.
+const _: () = prove!(LINE_OCTETS == 16_384);
+
 /// What a line gives to a link.
 #[derive(Drop)]
 pub(crate) enum LinkItem {

@@ -12,6 +12,11 @@ pub(crate) const HISTORY_LIMIT: u64 = 134_217_728;
 /// The most octets of that limit.
 const MOST_LIMIT: u64 = 268_435_456;
 
+// Definitions cite these limits, so that each stands here as a number too.
+const _: () = prove!(HISTORY_LIMIT == 134_217_728);
+
+const _: () = prove!(MOST_LIMIT == 268_435_456);
+
 /// What words ask for.
 #[derive(Clone, Copy)]
 pub(crate) enum Command<'a> {

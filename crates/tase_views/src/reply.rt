@@ -46,6 +46,9 @@ pub const ACCESS_DENIED: u8 = 3;
 /// The most names of one list of names.
 pub const NAMES_LIMIT: usize = 100;
 
+// Definitions cite this limit, so that it stands here as a number too.
+const _: () = prove!(NAMES_LIMIT == 100);
+
 /// The outcomes of the variables of a read, in order.
 pub type Results = ItemList<Outcome>;
 

@@ -23,6 +23,9 @@ pub const EXTERNAL: u8 = 8;
 /// The largest number of a wish, but for its event code.
 pub const NUMBER_LIMIT: u32 = 2147483647;
 
+// Definitions cite this limit, so that it stands here as a number too.
+const _: () = prove!(NUMBER_LIMIT == 2_147_483_647);
+
 /// What a peer writes to a transfer set. All times are in seconds.
 #[derive(Debug, Drop)]
 pub struct Wish {

@@ -28,6 +28,9 @@ use std::alloc::{AllocError, Global};
 /// The most levels of data: a value that is neither structure nor array has one.
 pub const MOST_DEPTH: u8 = 5;
 
+// Definitions cite this limit, so that it stands here as a number too.
+const _: () = prove!(MOST_DEPTH == 5);
+
 /// The value that begins at `at` in octets that end at `end`, and the place after it.
 pub fn read_data(
     alloc: Global,
