@@ -4,6 +4,7 @@ use Rattle.std.proofs.Common.{Some, None, MatchOption, Ok, Err, sym, ap, subst, 
 use Rattle.std.proofs.Common.{append_assoc}
 use Rattle.std.proofs.lemmas.List.{length-append, length-drop, length-take, take-append-le}
 use Rattle.tpkt_cotp.specs.declared.fault.CotpFault.{CotpFault}
+use Rattle.tpkt_cotp.specs.declared.limits.TheConstants.{TSDU_LIMIT}
 use Rattle.tpkt_cotp.specs.declared.message.TransportIn.{TransportIn}
 use Rattle.tpkt_cotp.specs.declared.turn.Role.{Role}
 use Rattle.tpkt_cotp.specs.declared.turn.Turn.{Turn}
@@ -11,7 +12,7 @@ use Rattle.tpkt_cotp.specs.declared.turn.Turn.TheVariants as turns
 use Rattle.tpkt_cotp.specs.Tpdus.{Tpdu, request, confirm, disconnect, part, Tpkt, SpellsTpkt}
 use Rattle.tpkt_cotp.specs.Readings.{tpkt_in}
 use Rattle.tpkt_cotp.specs.Streams.{Message, Section, held_of, octets_of, Opens, BreaksRule}
-use Rattle.tpkt_cotp.specs.Streams.{turn_after, Stops, part_after, IsPartial, message_of}
+use Rattle.tpkt_cotp.specs.Streams.{turn_after, Stops, part_after, IsPartial, message_of, Fits}
 use Rattle.tpkt_cotp.specs.Sound.{IsSoundTpdu, IsSound}
 use Rattle.tpkt_cotp.specs.Seen.{message_seen}
 use Rattle.tpkt_cotp.specs.Lines.{Line, Reads, Stands, IsSettled, Answers, fed}
@@ -208,19 +209,23 @@ message_shorter old new m s = unread_shorter old s.tpkt new.unread
     (tpkt_found old.turn (length old.held) old.unread s.tpkt s.read)
     (ap (λ (l : Line). l.unread) s.is)
 
--- what is handed out may be answered
+-- what is handed out may be answered, and a TSDU is within the limit
 sound_end : (at : ℕ) (held : List ℕ) (tpdu : Tpdu) (m : Message) → IsSoundTpdu tpdu
-    → message_of at held tpdu ≡ Some m → IsSound m
-sound_end at held (request r) m sound is = subst IsSoundAnswer is sound
-sound_end at held (confirm c) m sound is = subst IsSoundAnswer is sound
-sound_end at held disconnect m sound is = subst IsSoundAnswer is tt
-sound_end at held (part true more) m sound is = subst IsSoundAnswer is tt
-sound_end at held (part false more) m sound is = absurd cc
+    → Fits (length held) tpdu → message_of at held tpdu ≡ Some m → IsSound m
+sound_end at held (request r) m sound fits is = subst IsSoundAnswer is sound
+sound_end at held (confirm c) m sound fits is = subst IsSoundAnswer is sound
+sound_end at held disconnect m sound fits is = subst IsSoundAnswer is tt
+sound_end at held (part true more) m sound fits is =
+    let n = length-append held more in
+    let few : length (held ++ more) ≤ TSDU_LIMIT = omega (arith, n, fits.0) in
+    subst IsSoundAnswer is few
+sound_end at held (part false more) m sound fits is = absurd cc
 
 pub message_sound : (old new : Line) (m : Message) → StepsMessage old m new → IsSound m
 message_sound old new m s =
     let b = tpkt_found old.turn (length old.held) old.unread s.tpkt s.read in
-    sound_end old.start old.held s.tpkt.tpdu m (sound_of s.tpkt.tpdu b.spelling b.spelled) s.ends
+    sound_end old.start old.held s.tpkt.tpdu m (sound_of s.tpkt.tpdu b.spelling b.spelled)
+    b.comes.fits s.ends
 
 pub clear_part : (old new : Line) → old.fault ≡ None → StepsPart old new → new.fault ≡ None
 clear_part old new none s = ap (λ (l : Line). l.fault) s.is ∙ none

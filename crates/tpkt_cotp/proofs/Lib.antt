@@ -14,7 +14,6 @@ pub mod Kept
 pub mod Cutting
 pub mod OneStream
 pub mod Always
-pub mod Pieces
 pub mod FaultReading
 pub mod FaultFirst
 pub mod Going

@@ -15,6 +15,12 @@ unless_stopped (Some f) stream = ended (stopped f)
 abbrev pub stream_of : Line → Stream
 stream_of t = unless_stopped t.fault (stream_from t.turn t.start t.place t.held 0 t.unread)
 
+-- where no message is handed out, the next one begins where it began
+abbrev pub KeepsStart : Line → Result (Option TransportIn) CotpFault → Line → Type 0
+KeepsStart old (Ok (Some m)) new = Unit {0}
+KeepsStart old (Ok None) new = new.start ≡ old.start
+KeepsStart old (Err f) new = new.start ≡ old.start
+
 -- an answer is the first of what was to be handed out, whatever octets may follow; where none is
 -- left, more may be fed
 abbrev pub HandsOut : Line → Result (Option TransportIn) CotpFault → Line → Type 0

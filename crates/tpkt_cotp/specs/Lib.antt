@@ -11,5 +11,4 @@ pub mod Places
 pub mod Goings
 pub mod Steps
 pub mod Written
-pub mod Runs
 pub mod Faults

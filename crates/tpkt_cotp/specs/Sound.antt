@@ -1,5 +1,6 @@
 -- Selectors and sizes that are read are lawful.
-use Rattle.std.specs.Prelude.{ℕ, ◌≤◌, Option, IfSome}
+use Rattle.std.specs.Prelude.{ℕ, ◌≤◌, length, Option, IfSome}
+use Rattle.tpkt_cotp.specs.declared.limits.TheConstants.{TSDU_LIMIT}
 use Rattle.tpkt_cotp.specs.declared.tpdu.Parameters.{Parameters}
 use Rattle.tpkt_cotp.specs.Selectors.{IsSelector}
 use Rattle.tpkt_cotp.specs.Tpdus.{Tpdu, request, confirm, disconnect, part}
@@ -21,9 +22,9 @@ IsSoundTpdu (confirm c) = AreSound c.parameters
 IsSoundTpdu disconnect = Unit {0}
 IsSoundTpdu (part _ _) = Unit {0}
 
--- what is handed out may be answered
+-- what is handed out may be answered, and a TSDU is within the limit
 abbrev pub IsSound : Message → Type 0
 IsSound (asks r) = AreSound r.parameters
 IsSound (confirms c) = AreSound c.parameters
 IsSound gone = Unit {0}
-IsSound (tsdu _ _) = Unit {0}
+IsSound (tsdu _ octets) = length octets ≤ TSDU_LIMIT

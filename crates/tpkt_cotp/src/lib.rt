@@ -7,7 +7,6 @@ mod laws;
 mod limits;
 mod message;
 mod parameters;
-mod run;
 mod selector;
 mod tpdu;
 mod tpkt;
@@ -23,7 +22,6 @@ pub use laws::{
 };
 pub use limits::{PIECE_LIMIT, SELECTOR_LIMIT, TPKT_LIMIT, TSDU_LIMIT};
 pub use message::TransportIn;
-pub use run::{Heard, read_stream};
 pub use selector::Selector;
 pub use tpdu::{ConnectConfirm, ConnectRequest, Parameters};
 pub use transport::Transport;

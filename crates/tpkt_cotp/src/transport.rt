@@ -8,7 +8,7 @@ ghost use Rattle.tpkt_cotp.specs.Sound.{IsSound};
 ghost use Rattle.tpkt_cotp.specs.Lines.{Line, IsSettled, HoldsFew, Stands, Answers, fed};
 ghost use Rattle.tpkt_cotp.specs.Streams.{capped};
 ghost use Rattle.tpkt_cotp.specs.Places.{stream_in};
-ghost use Rattle.tpkt_cotp.specs.Goings.{stream_of, HandsOut};
+ghost use Rattle.tpkt_cotp.specs.Goings.{stream_of, HandsOut, KeepsStart};
 
 use crate::fault::CotpFault;
 use crate::limits::{PIECE_LIMIT, TPKT_LIMIT};
@@ -110,9 +110,15 @@ impl Transport {
             → IfOk result (λ answer. Answers role heard given answer self.new) }
         // It is the first of what was to be handed out, and stands where `start` says.
         ensures hands_out { IfOk result (λ answer. HandsOut self.old answer self.new) }
+        // Where none is handed out, a fault or not, `start` stays.
+        ensures start { IfOk result (λ answer. KeepsStart self.old answer self.new) }
+        // Behind a message nothing is held of another one.
+        ensures whole { IfOk result (λ answer. IfOk answer (λ message. OnSome message
+            (self.new.held ≡ []))) }
         ensures shorter { IfOk result (λ answer. IfOk answer (λ message. OnSome message
             (length self.new.unread < length self.old.unread))) }
-        // A connect request or confirm that is handed out may be answered.
+        // A connect request or confirm that is handed out may be answered, and a TSDU is within
+        // its limit.
         ensures sound { IfOk result (λ answer. IfOk answer (λ message. IfSome message
             (λ m. IsSound (message_seen m)))) }
         ensures err { OnErr result (self.new ≡ self.old) }

@@ -1,11 +1,11 @@
 //! One TPKT after another over octets that have come, up to the end of a message.
 ghost use Rattle.std.specs.Prelude.{◌≡◌, ℕ, ◌+◌, ◌<◌, List, length, take, drop, IfOk, OnOk, OnErr};
-ghost use Rattle.std.specs.Prelude.{OnSome, IfSome, None};
+ghost use Rattle.std.specs.Prelude.{OnSome, IfSome, None, []};
 ghost use Rattle.tpkt_cotp.specs.declared.turn.Role.{Role};
 ghost use Rattle.tpkt_cotp.specs.Streams.{Message, capped};
 ghost use Rattle.tpkt_cotp.specs.Lines.{Line, IsWithin, line_of, Stands, Answers};
 ghost use Rattle.tpkt_cotp.specs.Steps.{Steps};
-ghost use Rattle.tpkt_cotp.specs.Goings.{HandsOut};
+ghost use Rattle.tpkt_cotp.specs.Goings.{HandsOut, KeepsStart};
 ghost use Rattle.tpkt_cotp.specs.Seen.{message_seen};
 ghost use Rattle.tpkt_cotp.specs.Sound.{IsSound};
 
@@ -97,6 +97,11 @@ impl Walk {
         ensures hands_out { IfOk result (λ answer.
             HandsOut (line_of self.old part.old.items octets.now) answer
             (line_of self.new part.new.items octets.now)) }
+        ensures start { IfOk result (λ answer.
+            KeepsStart (line_of self.old part.old.items octets.now) answer
+            (line_of self.new part.new.items octets.now)) }
+        ensures whole { IfOk result (λ answer. IfOk answer (λ message. OnSome message
+            (part.new.items ≡ []))) }
         ensures shorter { IfOk result (λ answer. IfOk answer (λ message. OnSome message
             (self.old.passed < self.new.passed))) }
         ensures sound { IfOk result (λ answer. IfOk answer (λ message. IfSome message

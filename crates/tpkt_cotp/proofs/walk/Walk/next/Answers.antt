@@ -90,3 +90,17 @@ pub returns-in-Message-clause-sound : goal.returns-in-Message-clause-sound
 returns-in-Message-clause-sound c =
     let s = rw c.in-Message.is at c.in_ok-step.ensures.ok in
     message_sound _ _ (message_seen c.in-Message.message) s
+
+pub returns-in-Message-clause-whole : goal.returns-in-Message-clause-whole
+returns-in-Message-clause-whole c =
+    let s = rw c.in-Message.is at c.in_ok-step.ensures.ok in ap (λ (l : Line). l.held) s.is
+
+pub returns-in-Rest-clause-start : goal.returns-in-Rest-clause-start
+returns-in-Rest-clause-start c =
+    let s = rw c.in-Rest.is at c.in_ok-step.ensures.ok in
+    ap (λ (l : Line). l.start) s.is ∙ sym c.loop-message.invariant.0.start
+
+pub returns-in-Broken-clause-start : goal.returns-in-Broken-clause-start
+returns-in-Broken-clause-start c =
+    let s = rw c.in-Broken.is at c.in_ok-step.ensures.ok in
+    ap (λ (l : Line). l.start) s.is ∙ sym c.loop-message.invariant.0.start
