@@ -20,3 +20,4 @@ pub mod WrittenParts
 pub mod DottedOctets
 pub mod Pieces
 pub mod Holding
+pub mod Runs

@@ -23,3 +23,4 @@ pub mod Stops
 pub mod Readers
 pub mod PartOf
 pub mod Lengths
+pub mod Runs

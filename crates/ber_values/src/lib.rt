@@ -26,7 +26,7 @@ pub use external::{External, external_len, write_external};
 pub use fault::{BerFault, Span, Why};
 pub use head::{Head, read_head, write_head};
 pub use integer::{read_integer, read_unsigned, write_integer, write_natural};
-pub use laws::{one_reading, written_is_read, written_is_shortest};
+pub use laws::{one_reading, passing_takes_the_longest_run, written_is_read, written_is_shortest};
 pub use lengths::{MOST_LENGTH, add_len, integer_len, natural_len, part_len};
 pub use object_identifier::{ARC_LIMIT, OID_LIMIT, Oid, read_dotted, read_oid, write_oid};
 pub use part::{Part, has_tag, octets_from, take_end, take_part};
