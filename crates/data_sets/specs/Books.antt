@@ -1,7 +1,8 @@
 -- The data sets of a peer, in order of definition, and why one isn't defined.
-use Rattle.std.specs.Prelude.{ℕ, Bool, not, ◌||◌, nat_le, nat_lt, if◌then◌else◌, is_some, bytes_eq}
+use Rattle.std.specs.Prelude.{◌≢◌, ◌<◌, ◌≤◌, ℕ, Bool, not, ◌||◌, nat_le, nat_lt, if◌then◌else◌}
+use Rattle.std.specs.Prelude.{is_some, bytes_eq}
 use Rattle.std.specs.Prelude.{List, [], ◌∷◌, ◌++◌, length, Option, Some, None, Result, Ok, Err}
-use Rattle.std.specs.List.{filter, find}
+use Rattle.std.specs.List.{All, AllPairs, filter, find}
 use Rattle.std.specs.Option.{option_map}
 use Rattle.mms_data.specs.ObjectName.{ObjectName}
 use Rattle.data_sets.specs.declared.book.DataSet.{DataSet}
@@ -13,6 +14,13 @@ use Rattle.data_sets.specs.declared.book.TheConstants.{MOST_MEMBERS}
 pub record Book : Type 0 where
   pub limit : ℕ
   pub sets : List DataSet
+
+-- no more than there may be, no two of one name, each of some members and of no more than the most
+pub record IsSetBook (book : Book) : Type 0 where
+  pub few : length book.sets ≤ book.limit
+  pub once : AllPairs (λ a b. a.name ≢ b.name) book.sets
+  pub some : All (λ set. 0 < length set.members) book.sets
+  pub short : All (λ set. length set.members ≤ MOST_MEMBERS) book.sets
 
 abbrev pub is_named : List ℕ → DataSet → Bool
 is_named name set = bytes_eq set.name name

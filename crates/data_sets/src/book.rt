@@ -2,8 +2,8 @@
 ghost use Rattle.std.specs.Prelude.{◌≡◌, ◌<◌, [], length, is_some, slice_get};
 ghost use Rattle.std.specs.Prelude.{IfOk, OnOk, OnErr};
 ghost use Rattle.std.specs.Option.{option_copied, option_map};
-ghost use Rattle.data_sets.specs.Books.{members_in, fault_of, fault_by, answered, defined};
-ghost use Rattle.data_sets.specs.Books.{deleted};
+ghost use Rattle.data_sets.specs.Books.{IsSetBook, members_in, fault_of, fault_by, answered};
+ghost use Rattle.data_sets.specs.Books.{defined, deleted};
 
 use ber_values::Visible;
 use mms_data::Names;
@@ -44,11 +44,13 @@ pub struct SetBook {
 }
 
 impl Model for SetBook {
-    ghost use Rattle.data_sets.specs.Books.{Book};
+    ghost use Rattle.data_sets.specs.Books.{Book, IsSetBook};
 
     ghost Value = { Book };
 
     ghost view = { λ book. record { limit = book.limit; sets = book.sets.items } };
+
+    ghost invariant = { λ book. IsSetBook (record { limit = book.limit; sets = book.sets.items }) };
 }
 
 impl SetBook {
@@ -126,4 +128,11 @@ impl SetBook {
         let set = self.sets.get(index)?;
         Some(&set.name)
     }
+}
+
+/// In every book there are no more data sets than the peer may have, each with a name of its own.
+pub fn books_are_lawful(book: &SetBook)
+    ensures { IsSetBook book.now }
+{
+    let _sets = &book.sets;
 }

@@ -4,4 +4,4 @@
 
 mod book;
 
-pub use book::{MOST_MEMBERS, Members, SetBook, SetFault};
+pub use book::{MOST_MEMBERS, Members, SetBook, SetFault, books_are_lawful};
