@@ -1,3 +1,4 @@
 mod Kept
+mod Marks
 mod Serials
 mod Worked

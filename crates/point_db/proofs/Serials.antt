@@ -18,7 +18,7 @@ serial-rises kinds u before = elim (is_change_of kinds before u) as
     ≤ min ((if b then 1 else 0) + change_total kinds before) SERIAL_LIMIT)
     [ true ↦ omega arith | false ↦ omega arith ]
 
-last-within : (kinds : List Kind) (past : Updates) (p : ℕ)
+pub last-within : (kinds : List Kind) (past : Updates) (p : ℕ)
     → last_serial kinds past p ≤ serial_of kinds past
 last-within kinds [] p = omega arith
 last-within kinds (u ∷ before) p = elim ((u.point == p) && is_change_of kinds before u) as

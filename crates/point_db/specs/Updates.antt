@@ -67,3 +67,11 @@ pub record HasChanged (kinds : List Kind) (past : Updates) (point serial : ℕ) 
   pub is : past ≡ later ++ record { point = point; value = value } ∷ before
   pub change : IsTrue (is_change (last_value kinds before point) value)
   pub above : serial < serial_of kinds (record { point = point; value = value } ∷ before)
+
+-- among the updates that came since, behind those of the past, is a change of the point
+pub record ChangesSince (kinds : List Kind) (since past : Updates) (point : ℕ) : Type 0 where
+  pub newer : Updates
+  pub value : Sample
+  pub older : Updates
+  pub is : since ≡ newer ++ record { point = point; value = value } ∷ older
+  pub change : IsTrue (is_change (last_value kinds (older ++ past) point) value)
