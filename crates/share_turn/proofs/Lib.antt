@@ -4,3 +4,4 @@ pub mod Turning
 pub mod Seating
 pub mod Looking
 pub mod Called
+mod Others

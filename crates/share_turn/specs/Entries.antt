@@ -1,5 +1,6 @@
 -- Entries of a history, each with the number of the seat that made it.
 use Rattle.std.specs.Prelude.{◌≡◌, ℕ, ◌==◌, ◌⊎◌, List, [], ◌∷◌, ◌++◌, map, filter}
+use Rattle.std.specs.Prelude.{if◌then◌else◌, Option, Some, None}
 use mathlib.Core.List.{IsPrefix}
 
 -- P holds of each item
@@ -11,6 +12,10 @@ module _ {E : Type 0} where
   -- the events under the number, in order
   abbrev pub own : ℕ → List (ℕ × E) → List E
   own n log = map (λ e. e.1) (filter (λ e. e.0 == n) log)
+
+  -- the event of an entry, where it is under the number
+  abbrev pub event_under : ℕ → ℕ × E → Option E
+  event_under n e = if e.0 == n then Some e.1 else None
 
   -- the front begins the log, and no entry behind it is under the number
   abbrev pub Behind : List (ℕ × E) → (ℕ × List (ℕ × E)) → Type 0

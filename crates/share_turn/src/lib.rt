@@ -1,10 +1,13 @@
-//! One object that threads share through one turn, with one history in which each call stands once.
+//! One object that threads share through one turn, with one history in which each answered call
+//! stands once.
 #![tactic(auto)]
 
 mod known;
+mod laws;
 mod object;
 mod plays;
 mod shared;
 
+pub use laws::others_come_behind;
 pub use object::Object;
 pub use shared::{Seat, Shared};

@@ -72,8 +72,8 @@ impl<O: Object> Model for Seat<O> {
 }
 
 impl<O: Object> Seat<O> {
-    /// The seat's number. Its own calls, and those of each number that it ended, stand in what it
-    /// has seen.
+    /// The seat's number. Its own answered calls, and those of each number that it ended, stand in
+    /// what it has seen.
     pub fn number(&self) -> u64
         ensures number { result ≡ self.now.number }
         ensures ended { Each (Keeps self.now.front) self.now.ended }
