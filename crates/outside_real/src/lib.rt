@@ -14,3 +14,6 @@ pub use stream::{ReadAttempt, Stream, WriteAttempt};
 
 /// How often a call that a signal interrupts is tried.
 const TRIES: u32 = 1000;
+
+// With none, a call would fail without an attempt.
+const _: () = prove!(TRIES > 0);
