@@ -3,4 +3,9 @@ pub mod RisingLoop
 pub mod ApdusRead
 pub mod Sizes
 pub mod WrittenApdus
+pub mod Sequences
+pub mod SequencesRead
+pub mod SequencesBack
+pub mod SequencesOf
 mod Worked
+mod WorkedSequences

@@ -5,3 +5,4 @@ pub mod Responses
 pub mod Apdus
 pub mod Seen
 pub mod Writing
+pub mod Sequences

@@ -12,6 +12,6 @@ mod user;
 
 pub use apdu::{Apdu, MOST_BODY, read_apdu, write_apdu};
 pub use expected::Expected;
-pub use laws::{apdus_have_one_reading, written_apdus_are_read};
+pub use laws::{apdus_are_sequences, apdus_have_one_reading, written_apdus_are_read};
 pub use request::AssociateRequest;
 pub use response::AssociateResponse;
