@@ -1,4 +1,6 @@
 pub mod Readings
 pub mod DueNumbers
+mod DueLater
+mod Followed
 mod Worked
 mod WorkedMoves

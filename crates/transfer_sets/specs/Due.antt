@@ -33,6 +33,18 @@ pub record AreDue (s : SlotState) (from to conditions : ℕ) : Type 0 where
       × HasWaited s.noted (milliseconds s.wish.buffer) to)
   pub no_others : (conditions % CHANGE ≡ 0) × (conditions < 256)
 
+-- what the first conditions have, the second have too
+pub record HasConditions (conditions more : ℕ) : Type 0 where
+  pub interval : Has conditions INTERVAL → Has more INTERVAL
+  pub integrity : Has conditions INTEGRITY → Has more INTEGRITY
+  pub change : Has conditions CHANGE → Has more CHANGE
+
+-- the next moment after another at which something is due, and at none between
+pub record IsNextDue (s : SlotState) (from to : ℕ) : Type 0 where
+  pub after : from < to
+  pub due : AreDue s from to 0 → ⊥
+  pub first : (moment : ℕ) → from < moment → moment < to → AreDue s from moment 0
+
 -- how many whole multiples of a period after the base stand at a moment or before it
 abbrev pub multiples_to : ℕ → ℕ → ℕ → ℕ
 multiples_to base period moment = (moment - base) / period

@@ -1,11 +1,11 @@
 -- A transfer set by what befell it since it was handed out: its owner, its wish with the status
 -- that stands, the base of its times, and the changes that no report has told (IEC 60870-6-503, DS
--- transfer sets). No contract of a step cites these yet.
+-- transfer sets).
 use Rattle.std.specs.Prelude.{ℕ, Bool, List, [], ◌∷◌, Option, Some, None, bytes_eq}
 use Rattle.std.specs.List.{filter, list_any}
 use Rattle.transfer_sets.specs.declared.wish.Wish.{Wish}
 use Rattle.transfer_sets.specs.Wishes.{empty_wish, base_of}
-use Rattle.transfer_sets.specs.SlotState.{SlotState, noted_at}
+use Rattle.transfer_sets.specs.SlotState.{SlotState, IsSlotLike, noted_at}
 
 -- what befalls a transfer set, at a moment in milliseconds since 1970: it is handed out to an
 -- association; it is wished something, or the same with another status; a point changes, by its
@@ -22,10 +22,11 @@ owner_in [] = None
 owner_in (handed_out ordinal ∷ moves) = Some ordinal
 owner_in (_ ∷ moves) = owner_in moves
 
--- what it was wished last, and when; before that, nothing. The wish's status says whether it is
--- enabled.
+-- what it was wished last since it was handed out, and when; before that, nothing. The wish's
+-- status says whether it is enabled.
 abbrev pub last_wish : List SlotMove → Wish × ℕ
 last_wish [] = (empty_wish, 0)
+last_wish (handed_out ordinal ∷ moves) = (empty_wish, 0)
 last_wish (wishes wish now ∷ moves) = (wish, now)
 last_wish (_ ∷ moves) = last_wish moves
 
@@ -50,3 +51,8 @@ slot_in is_member moves =
     let last = last_wish moves in
     let changed = filter (λ change. is_member change.0) (untold moves) in
     record { wish = last.0; base = base_of last.0 last.1; noted = first_moment changed }
+
+-- these moves have brought a slot where it stands: it is wished what they say, and where it is
+-- enabled all is as they say
+abbrev pub FollowsMoves : (List ℕ → Bool) → List SlotMove → SlotState → Type 0
+FollowsMoves is_member moves s = IsSlotLike s (slot_in is_member moves)

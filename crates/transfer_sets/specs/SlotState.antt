@@ -1,5 +1,5 @@
 -- What a slot keeps.
-use Rattle.std.specs.Prelude.{ℕ, Bool, true, Option, Some, None}
+use Rattle.std.specs.Prelude.{◌≡◌, ℕ, Bool, true, Option, Some, None}
 use Rattle.transfer_sets.specs.declared.wish.Wish.{Wish}
 use Rattle.transfer_sets.specs.Wishes.{empty_wish, base_of}
 
@@ -26,3 +26,8 @@ enabled_by w now = record { wish = with_status true w; base = base_of w now; not
 abbrev pub noted_at : ℕ → Option ℕ → Option ℕ
 noted_at now None = Some now
 noted_at now (Some first) = Some first
+
+-- one slot is like another: their wishes are equal, and where these enable them all is
+pub record IsSlotLike (s other : SlotState) : Type 0 where
+  pub wish : s.wish ≡ other.wish
+  pub enabled : s.wish.status ≡ true → s ≡ other

@@ -1,12 +1,12 @@
 //! What holds of all wishes, and of all slots.
-ghost use Rattle.std.specs.Prelude.{◌≡◌, ℕ, Bool, true, false, List, ◌∷◌, Ok, None};
+ghost use Rattle.std.specs.Prelude.{◌≡◌, ◌↔◌, ◌≤◌, ℕ, Bool, true, false, List, ◌∷◌, Ok};
 ghost use Rattle.transfer_sets.specs.declared.wish.Wish.{Wish};
 ghost use Rattle.transfer_sets.specs.Wishes.{IsWish};
 ghost use Rattle.transfer_sets.specs.Components.{wish_in};
 ghost use Rattle.transfer_sets.specs.WishData.{shown_wish};
-ghost use Rattle.transfer_sets.specs.SlotState.{SlotState, enabled_by, noted_at};
-ghost use Rattle.transfer_sets.specs.SlotMoves.{SlotMove, wishes, changes, reports, slot_in};
-ghost use Rattle.transfer_sets.specs.Due.{AreDue, conditions_due};
+ghost use Rattle.transfer_sets.specs.SlotState.{SlotState, IsSlotLike};
+ghost use Rattle.transfer_sets.specs.SlotMoves.{SlotMove, changes, FollowsMoves};
+ghost use Rattle.transfer_sets.specs.Due.{AreDue, HasConditions, IsNextDue, conditions_due};
 
 /// A wish that is shown as data is read back as itself.
 pub fn shown_wishes_are_read()
@@ -21,26 +21,33 @@ pub fn due_is_one_number()
         → AreDue s from to (conditions_due s from to) }
 {}
 
-/// What befalls a transfer set makes of it what the calls of [`crate::Slot`] do: a wish with status
-/// true enables it anew, one with status false leaves nothing due, the first change of a member is
-/// noted, a report tells all changes.
+/// While nothing befalls a slot, what is due at a moment is due at each later one; and from a
+/// moment until which nothing is due, the same is due as from before it, so that the next moment at
+/// which something is due is the same from both.
+pub fn due_conditions_last()
+    ensures later { (s : SlotState) (from to later a b : ℕ) → to ≤ later
+        → AreDue s from to a → AreDue s from later b → HasConditions a b }
+    ensures passed { (s : SlotState) (from between to conditions : ℕ) → from ≤ between
+        → AreDue s from between 0
+        → AreDue s from to conditions ↔ AreDue s between to conditions }
+    ensures next { (s : SlotState) (from between to : ℕ) → from ≤ between
+        → AreDue s from between 0 → IsNextDue s from to ↔ IsNextDue s between to }
+{}
+
+/// Slots that the same moves have brought where they stand have equal wishes, and are equal where
+/// these enable them; and those that are so alike have the same conditions due. A slot still stands
+/// where the moves have brought it once a point has changed that is no member, or, while it isn't
+/// enabled, any point; and then also over other members.
 pub fn slots_follow_their_moves()
-    ensures enabled { (is_member : List ℕ → Bool) (moves : List SlotMove) (wish : Wish) (now : ℕ)
-        → wish.status ≡ true
-        → slot_in is_member (wishes wish now ∷ moves) ≡ enabled_by wish now }
-    ensures kept { (is_member : List ℕ → Bool) (moves : List SlotMove) (wish : Wish)
-        (now from to : ℕ) → wish.status ≡ false
-        → conditions_due (slot_in is_member (wishes wish now ∷ moves)) from to ≡ 0 }
-    ensures changed { (is_member : List ℕ → Bool) (moves : List SlotMove) (point : List ℕ) (now : ℕ)
-        → is_member point ≡ true
-        → slot_in is_member (changes point now ∷ moves)
-        ≡ record (slot_in is_member moves) {
-          noted = noted_at now (slot_in is_member moves).noted;
-        } }
-    ensures other { (is_member : List ℕ → Bool) (moves : List SlotMove) (point : List ℕ) (now : ℕ)
-        → is_member point ≡ false
-        → slot_in is_member (changes point now ∷ moves) ≡ slot_in is_member moves }
-    ensures reported { (is_member : List ℕ → Bool) (moves : List SlotMove)
-        → slot_in is_member (reports ∷ moves)
-        ≡ record (slot_in is_member moves) { noted = None } }
+    ensures alike { (is_member : List ℕ → Bool) (moves : List SlotMove) (s other : SlotState)
+        → FollowsMoves is_member moves s → FollowsMoves is_member moves other
+        → IsSlotLike s other }
+    ensures due { (s other : SlotState) (from to conditions : ℕ) → IsSlotLike s other
+        → AreDue s from to conditions → AreDue other from to conditions }
+    ensures others { (is_member : List ℕ → Bool) (moves : List SlotMove) (s : SlotState)
+        (point : List ℕ) (now : ℕ) → FollowsMoves is_member moves s
+        → (s.wish.status ≡ true → is_member point ≡ false)
+        → FollowsMoves is_member (changes point now ∷ moves) s }
+    ensures members { (is_member other : List ℕ → Bool) (moves : List SlotMove) (s : SlotState)
+        → s.wish.status ≡ false → FollowsMoves is_member moves s → FollowsMoves other moves s }
 {}

@@ -9,7 +9,9 @@ mod slot;
 mod wish;
 mod writing;
 
-pub use laws::{due_is_one_number, shown_wishes_are_read, slots_follow_their_moves};
+pub use laws::{
+    due_conditions_last, due_is_one_number, shown_wishes_are_read, slots_follow_their_moves,
+};
 pub use reading::read_wish;
 pub use slot::Slot;
 pub use wish::{

@@ -1,6 +1,9 @@
 //! One transfer set of a peer.
-ghost use Rattle.std.specs.Prelude.{◌≡◌, ◌↔◌, ◌%◌, ◌<◌, IsTrue, false, None};
+ghost use Rattle.std.specs.Prelude.{◌≡◌, ◌↔◌, ◌%◌, ◌<◌, ℕ, Bool, IsTrue, true, false, List, ◌∷◌};
+ghost use Rattle.std.specs.Prelude.{None};
 ghost use Rattle.transfer_sets.specs.SlotState.{new_slot, with_status, enabled_by, noted_at};
+ghost use Rattle.transfer_sets.specs.SlotMoves.{SlotMove, handed_out, wishes, changes, reports};
+ghost use Rattle.transfer_sets.specs.SlotMoves.{last_wish, slot_in, FollowsMoves};
 ghost use Rattle.transfer_sets.specs.Due.{PassesMultiple, HasWaited, AreDue};
 ghost use Rattle.transfer_sets.specs.Wishes.{Has};
 
@@ -28,9 +31,11 @@ impl Model for Slot {
 }
 
 impl Slot {
-    /// A slot that isn't enabled and of which nothing is wished.
+    /// A slot that isn't enabled and of which nothing is wished, as one is handed out.
     pub fn new(alloc: Global) -> Slot
-        ensures { result ≡ new_slot }
+        ensures state { result ≡ new_slot }
+        ensures moves { (is_member : List ℕ → Bool) (moves : List SlotMove) (ordinal : ℕ)
+            → FollowsMoves is_member (handed_out ordinal ∷ moves) result }
     {
         Slot {
             wish: Wish {
@@ -57,7 +62,9 @@ impl Slot {
     /// Enables the slot with a wish, at this moment: also one that is enabled, which begins anew.
     /// The wish's status is true from now on.
     pub fn enable(&mut self, wish: Wish, now: u64)
-        ensures { self.new ≡ enabled_by wish now }
+        ensures state { self.new ≡ enabled_by wish now }
+        ensures moves { (is_member : List ℕ → Bool) (moves : List SlotMove)
+            → FollowsMoves is_member (wishes (with_status true wish) now ∷ moves) self.new }
     {
         self.base = base_of(&wish, now);
         self.noted = None;
@@ -67,7 +74,9 @@ impl Slot {
 
     /// Keeps a wish without enabling the slot. The wish's status is false from now on.
     pub fn keep(&mut self, wish: Wish)
-        ensures { self.new ≡ record self.old { wish = with_status false wish } }
+        ensures state { self.new ≡ record self.old { wish = with_status false wish } }
+        ensures moves { (is_member : List ℕ → Bool) (moves : List SlotMove) (now : ℕ)
+            → FollowsMoves is_member (wishes (with_status false wish) now ∷ moves) self.new }
     {
         self.wish = wish;
         self.wish.status = false;
@@ -75,7 +84,12 @@ impl Slot {
 
     /// Ends the reports of the slot. The wish is kept, its status is false from now on.
     pub fn disable(&mut self)
-        ensures { self.new ≡ record self.old { wish = with_status false self.old.wish } }
+        ensures state { self.new
+            ≡ record self.old { wish = with_status false self.old.wish } }
+        ensures moves { (is_member : List ℕ → Bool) (moves : List SlotMove) (now : ℕ)
+            → FollowsMoves is_member moves self.old
+            → FollowsMoves is_member
+            (wishes (with_status false (last_wish moves).0) now ∷ moves) self.new }
     {
         self.wish.status = false;
     }
@@ -83,6 +97,16 @@ impl Slot {
     /// The conditions, as their sum, on which a report is due where the clock goes on from a moment
     /// to another: none of a slot that isn't enabled, however many multiples go by.
     pub fn due(&self, from: u64, to: u64) -> u8
+        ensures due { AreDue self.now from to result }
+        ensures moves { (is_member : List ℕ → Bool) (moves : List SlotMove)
+            → FollowsMoves is_member moves self.now
+            → AreDue (slot_in is_member moves) from to result }
+    {
+        self.conditions(from, to)
+    }
+
+    /// The conditions that are due, as their sum.
+    fn conditions(&self, from: u64, to: u64) -> u8
         ensures { AreDue self.now from to result }
     {
         if !self.wish.status {
@@ -100,7 +124,11 @@ impl Slot {
 
     /// Notes that a member of the data set has changed at this moment.
     pub fn note_change(&mut self, now: u64)
-        ensures { self.new ≡ record self.old { noted = noted_at now self.old.noted } }
+        ensures state { self.new ≡ record self.old { noted = noted_at now self.old.noted } }
+        ensures moves { (is_member : List ℕ → Bool) (moves : List SlotMove) (point : List ℕ)
+            → FollowsMoves is_member moves self.old
+            → (self.old.wish.status ≡ true → is_member point ≡ true)
+            → FollowsMoves is_member (changes point now ∷ moves) self.new }
     {
         if self.noted.is_none() {
             self.noted = Some(now);
@@ -109,7 +137,10 @@ impl Slot {
 
     /// Notes that a report has told all changes.
     pub fn reported(&mut self)
-        ensures { self.new ≡ record self.old { noted = None } }
+        ensures state { self.new ≡ record self.old { noted = None } }
+        ensures moves { (is_member : List ℕ → Bool) (moves : List SlotMove)
+            → FollowsMoves is_member moves self.old
+            → FollowsMoves is_member (reports ∷ moves) self.new }
     {
         self.noted = None;
     }

@@ -1,24 +1,15 @@
-use Rattle.std.proofs.Common.{Bool, None, refl, ap}
-use Rattle.transfer_sets.specs.Wishes.{base_of}
-use Rattle.transfer_sets.specs.SlotState.{SlotState, with_status}
+use Rattle.transfer_sets.specs.SlotMoves.{slot_in}
+use Rattle.transfer_sets.proofs.Followed.{likes, like_due, passed, over_others}
 use Rattle.transfer_sets.proofs.laws.slots_follow_their_moves.Goals as goal
 
-pub returns-clause-enabled : goal.returns-clause-enabled
-returns-clause-enabled c = λ is_member moves wish now e.
-    ap (λ (b : Bool). let s : SlotState = record {
-      wish = with_status b wish;
-      base = base_of wish now;
-      noted = None;
-    } in s) e
+pub returns-clause-alike : goal.returns-clause-alike
+returns-clause-alike c = λ is_member moves. likes (slot_in is_member moves)
 
-pub returns-clause-kept : goal.returns-clause-kept
-returns-clause-kept c = λ is_member moves wish now from to e. rw e refl
+pub returns-clause-due : goal.returns-clause-due
+returns-clause-due c = like_due
 
-pub returns-clause-changed : goal.returns-clause-changed
-returns-clause-changed c = λ is_member moves point now e. rw e refl
+pub returns-clause-others : goal.returns-clause-others
+returns-clause-others c = passed
 
-pub returns-clause-other : goal.returns-clause-other
-returns-clause-other c = λ is_member moves point now e. rw e refl
-
-pub returns-clause-reported : goal.returns-clause-reported
-returns-clause-reported c = λ is_member moves. refl
+pub returns-clause-members : goal.returns-clause-members
+returns-clause-members c = over_others

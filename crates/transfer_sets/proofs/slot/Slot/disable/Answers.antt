@@ -1,0 +1,10 @@
+use Rattle.std.proofs.Common.{rules}
+use Rattle.transfer_sets.proofs.Followed.{disabled}
+use Rattle.transfer_sets.proofs.slot.Slot.disable.Goals as goal
+
+pub returns-clause-state : goal.returns-clause-state
+returns-clause-state c = search rules
+
+pub returns-clause-moves : goal.returns-clause-moves
+returns-clause-moves c = λ is_member moves now. disabled is_member moves now c.args.self.now _
+    (returns-clause-state c)
