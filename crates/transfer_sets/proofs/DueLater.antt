@@ -1,6 +1,7 @@
 -- What is due at later moments, and from later ones on.
-use Rattle.std.proofs.Common.{◌≡◌, ◌↔◌, ℕ, ◌+◌, ◌*◌, ◌<◌, ◌≤◌, true, Option, arith, ⊎_elim}
-use Rattle.std.proofs.lemmas.Bool.{cases_lt}
+use Rattle.std.proofs.Common.{◌≡◌, ◌↔◌, ℕ, ◌+◌, ◌*◌, ◌<◌, ◌≤◌, true, false, Option, sym, ◌∙◌}
+use Rattle.std.proofs.Common.{arith, ⊎_elim}
+use Rattle.std.proofs.lemmas.Bool.{cases_lt, false≢true}
 use Rattle.transfer_sets.specs.Wishes.{Has}
 use Rattle.transfer_sets.specs.SlotState.{SlotState}
 use Rattle.transfer_sets.specs.Due.{PassesMultiple, HasWaited, AreDue, HasConditions, IsNextDue}
@@ -64,6 +65,18 @@ none_32 h = absurd (omega arith)
 
 neither : (H P G : Type 0) → (H → ⊥) → (P → G) → (G → H) → H ↔ P
 neither H P G never f g = (λ h. absurd (never h), λ p. absurd (never (g (f p))))
+
+-- nothing is due of a slot that isn't enabled
+pub none_off : (s : SlotState) (from to : ℕ) → s.wish.status ≡ false → AreDue s from to 0
+none_off s from to off = record {
+  interval = neither _ _ (s.wish.status ≡ true) none_128 (λ p. p.0) (λ on. absurd (never on));
+  integrity = neither _ _ (s.wish.status ≡ true) none_64 (λ p. p.0) (λ on. absurd (never on));
+  change = neither _ _ (s.wish.status ≡ true) none_32 (λ p. p.0) (λ on. absurd (never on));
+  no_others = (omega arith, omega arith);
+}
+  where
+    never : s.wish.status ≡ true → ⊥
+    never on = false≢true (sym off ∙ on)
 
 -- where nothing is due, nothing was due earlier
 none_earlier : (s : SlotState) (from to later : ℕ) → to ≤ later → AreDue s from later 0

@@ -8,6 +8,8 @@ use Rattle.transfer_sets.specs.SlotState.{noted_at}
 use Rattle.transfer_sets.specs.SlotMoves.{SlotMove, handed_out, changes, reports, wishes, last_wish}
 use Rattle.transfer_sets.specs.SlotMoves.{slot_in, FollowsMoves}
 use Rattle.transfer_sets.specs.Due.{AreDue}
+use Rattle.transfer_sets.proofs.DueNumbers.{one_number}
+use Rattle.transfer_sets.proofs.DueLater.{none_off}
 
 -- a slot that isn't enabled is like each with its wish
 resting : (s other : SlotState) → s.wish ≡ other.wish → s.wish.status ≡ false
@@ -30,26 +32,13 @@ pub like_due : (s other : SlotState) (from to conditions : ℕ) → IsSlotLike s
     → AreDue s from to conditions → AreDue other from to conditions
 like_due s other from to conditions like due = by s.wish.status refl
   where
-    off : s.wish.status ≡ false → other.wish.status ≡ true → ⊥
-    off e on = false≢true (sym e ∙ ap (λ (w : Wish). w.status) like.wish ∙ on)
-
     by : (b : Bool) → s.wish.status ≡ b → AreDue other from to conditions
     by true e = subst (λ (t : SlotState). AreDue t from to conditions) (like.enabled e) due
-    by false e = record {
-      interval = (
-        λ h. absurd (false≢true (sym e ∙ (due.interval.0 h).0)),
-        λ p. absurd (off e p.0),
-      );
-      integrity = (
-        λ h. absurd (false≢true (sym e ∙ (due.integrity.0 h).0)),
-        λ p. absurd (off e p.0),
-      );
-      change = (
-        λ h. absurd (false≢true (sym e ∙ (due.change.0 h).0)),
-        λ p. absurd (off e p.0),
-      );
-      no_others = due.no_others;
-    }
+    by false e =
+        let none : conditions ≡ 0 =
+        one_number s from to conditions 0 due (none_off s from to e) in
+        subst (AreDue other from to) (sym none) (none_off other from to
+        (ap (λ (w : Wish). w.status) (sym like.wish) ∙ e))
 
 pub handed : (is_member : List ℕ → Bool) (moves : List SlotMove) (ordinal : ℕ) (new : SlotState)
     → new ≡ new_slot → FollowsMoves is_member (handed_out ordinal ∷ moves) new

@@ -13,12 +13,14 @@ pub fn shown_wishes_are_read()
     ensures { (w : Wish) → IsWish w → wish_in (shown_wish w) ≡ Ok w }
 {}
 
-/// Whatever a slot is wished, the conditions that are due are one number, and this one.
+/// Whatever a slot is wished, the conditions that are due are one number, and this one; nothing is
+/// due of one that isn't enabled.
 pub fn due_is_one_number()
     ensures one { (s : SlotState) (from to a b : ℕ) → AreDue s from to a → AreDue s from to b
         → a ≡ b }
     ensures some { (s : SlotState) (from to : ℕ)
         → AreDue s from to (conditions_due s from to) }
+    ensures off { (s : SlotState) (from to : ℕ) → s.wish.status ≡ false → AreDue s from to 0 }
 {}
 
 /// While nothing befalls a slot, what is due at a moment is due at each later one; and from a
