@@ -5,6 +5,9 @@ use Rattle.point_db.specs.Stored.{Stored as PointsStored, Keeps as KeepsPoints}
 use Rattle.data_sets.specs.Books.{Book}
 use Rattle.bilateral.specs.Rows.{CentreRows, IsCentre}
 use Rattle.sbo_device.specs.declared.key.Key.{Key}
+use Rattle.tase_views.specs.declared.call.CallKind.{CallKind}
+use Rattle.tase_views.specs.declared.reply.ReplyKind.{ReplyKind}
+use Rattle.tase_views.specs.Answers.{reply_to}
 use Rattle.tase_views.specs.declared.event.EventKind.{EventKind}
 use Rattle.tase_views.specs.declared.event.EventKind.TheVariants.{Open, Request, Take, Close}
 use Rattle.tase_views.specs.declared.event.EventKind.TheVariants.{Update, Stop}
@@ -47,3 +50,13 @@ IsQuiet Stop = ⊥
 abbrev pub IsRequest : EventKind → Type 0
 IsRequest (Request call) = Unit {0}
 IsRequest event = ⊥
+
+-- the reply to a call of the association with this key, behind this past
+abbrev pub IsReplyTo : CentreRows → Past → Key → CallKind → ReplyKind → Type 0
+IsReplyTo rows past key call reply = reply
+    ≡ reply_to (own_table rows key.peer) (view_of rows key.peer past) key.ordinal call
+
+-- the reply to an event that is a request
+abbrev pub IsReplied : CentreRows → Past → Key → EventKind → ReplyKind → Type 0
+IsReplied rows past key (Request call) reply = IsReplyTo rows past key call reply
+IsReplied rows past key event reply = ⊥

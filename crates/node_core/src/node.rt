@@ -7,7 +7,7 @@ ghost use Rattle.tase_views.specs.History.{association_in};
 ghost use Rattle.tase_views.specs.Weights.{weight_of};
 ghost use Rattle.tase_views.specs.Outcomes.{is_ending, refusal_of, IsAnswer, IsRightOutcome};
 ghost use Rattle.node_core.specs.NodeState.{with_entry};
-ghost use Rattle.node_core.specs.Stored.{IsQuiet, IsRequest};
+ghost use Rattle.node_core.specs.Stored.{IsQuiet, IsRequest, IsReplied};
 
 mod replies;
 
@@ -19,7 +19,7 @@ use std::alloc::{AllocError, Global};
 use std::marker::Model;
 use std::sync::Arc;
 use tase_points::PointValue;
-use tase_views::{Answer, Entry, Event, EventKind, Reports, StepFault, weight};
+use tase_views::{Answer, Entry, Event, EventKind, ReplyKind, Reports, StepFault, weight};
 
 /// A TASE.2 node without input and output: its centre's tables and the history of its accepted
 /// events.
@@ -166,7 +166,7 @@ impl Node {
             EventKind::Request { call } => {
                 let key = self.store.association(who).unwrap();
                 let reply = self.reply_to(alloc, key, call)?;
-                self.request(who, key, event)?;
+                self.request(who, key, event, reply.kind())?;
                 Ok(Answer::Reply(reply))
             }
             EventKind::Take => {
@@ -227,17 +227,25 @@ impl Node {
         Ok(Answer::Noted)
     }
 
-    /// Adds a request to the history, and notes what it changes.
-    fn request(&mut self, who: u64, key: Key, event: Event) -> Result<(), AllocError>
+    /// Adds a request to the history, and notes what it changes, which has this reply.
+    fn request(
+        &mut self,
+        who: u64,
+        key: Key,
+        event: Event,
+        reply: &ReplyKind,
+    ) -> Result<(), AllocError>
         requires request { IsRequest event }
         requires seated { association_in (reverse self.old.history) who ≡ Some key }
+        requires replied { IsReplied self.old.setup.centre (reverse self.old.history) key event
+            reply.now }
         requires free { refusal_of self.old.setup (reverse self.old.history) who event ≡ None }
         ensures ok { OnOk result (self.new ≡ with_entry self.old who event) }
         ensures err { OnErr result (self.new ≡ self.old) }
     {
         let weight = weight(&event);
         self.history.reserve(self.store.open_count() + 2)?;
-        self.store.request(&self.centre, key, &event)?;
+        self.store.request(&self.centre, key, &event, reply)?;
         self.weight += weight;
         self.history.push_reserved(Entry { who, event });
         Ok(())

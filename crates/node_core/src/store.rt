@@ -4,16 +4,16 @@ ghost use Rattle.std.specs.Prelude.{is_some, true};
 ghost use Rattle.std.specs.HashMap.{get, hash_map_len};
 ghost use Rattle.tase_points.specs.declared.layout.TheConstants.{COV_MODULUS};
 ghost use Rattle.point_db.specs.Updates.{last_value, change_count};
-ghost use Rattle.bilateral.specs.Rows.{CentreRows, IsCentre, table_of};
+ghost use Rattle.bilateral.specs.Rows.{CentreRows, table_of};
 ghost use Rattle.tase_views.specs.declared.event.EventKind.TheVariants.{Open, Request, Close};
 ghost use Rattle.tase_views.specs.declared.event.EventKind.TheVariants.{Update};
 ghost use Rattle.tase_views.specs.declared.call.CallKind.TheVariants.{Define, Delete};
 ghost use Rattle.tase_views.specs.History.{Past, association_in};
 ghost use Rattle.node_core.specs.LastValues.{kinds_of, updates_in};
 ghost use Rattle.node_core.specs.LastValues as last_values;
-ghost use Rattle.node_core.specs.Stored.{Keeps, IsRequest};
+ghost use Rattle.node_core.specs.Stored.{Keeps, IsRequest, IsReplyTo, IsReplied};
 
-use crate::sets::{define_reply, delete_sets, is_defined};
+use crate::sets::{delete_sets, is_defined};
 use ber_values::Visible;
 use bilateral::Centre;
 use data_sets::SetBook;
@@ -23,7 +23,7 @@ use sbo_device::Key;
 use std::alloc::{AllocError, Global};
 use std::collections::HashMap;
 use tase_points::{Kind, PointValue};
-use tase_views::{Call, CallKind, Event, EventKind};
+use tase_views::{Call, CallKind, Event, EventKind, ReplyKind};
 
 /// What a node knows of its history without looking through it.
 #[derive(Drop)]
@@ -143,14 +143,20 @@ impl Store {
         self.points.update(point, value);
     }
 
-    /// Notes what a request of an association changes. After want of memory nothing has changed.
-    pub fn request(&mut self, centre: &Centre, key: Key, event: &Event) -> Result<(), AllocError>
+    /// Notes what a request of an association changes, which has this reply. After want of memory
+    /// nothing has changed.
+    pub fn request(
+        &mut self,
+        centre: &Centre,
+        key: Key,
+        event: &Event,
+        reply: &ReplyKind,
+    ) -> Result<(), AllocError>
         requires request { IsRequest event.now }
         requires known { key.peer < vec_len self.old.sets }
         requires there { key.peer < length centre.now.tables }
-        requires lawful { IsCentre centre.now }
         ensures ok { OnOk result ((past : Past) (who : ℕ) → Keeps centre.now past self.old
-            → association_in past who ≡ Some key
+            → association_in past who ≡ Some key → IsReplied centre.now past key event.now reply.now
             → Keeps centre.now (record { who = who; event = event.now } ∷ past) self.new) }
         ensures err { OnErr result ((past : Past) → Keeps centre.now past self.old
             → Keeps centre.now past self.new) }
@@ -160,16 +166,21 @@ impl Store {
         let EventKind::Request { call } = event.kind() else {
             return Ok(());
         };
-        self.call(centre, key, call)
+        self.call(centre, key, call, reply)
     }
 
     /// Notes what a call of an association changes: a definition that has no error, a deletion.
-    fn call(&mut self, centre: &Centre, key: Key, call: &Call) -> Result<(), AllocError>
+    fn call(
+        &mut self,
+        centre: &Centre,
+        key: Key,
+        call: &Call,
+        reply: &ReplyKind,
+    ) -> Result<(), AllocError>
         requires known { key.peer < vec_len self.old.sets }
         requires there { key.peer < length centre.now.tables }
-        requires lawful { IsCentre centre.now }
         ensures ok { OnOk result ((past : Past) (who : ℕ) → Keeps centre.now past self.old
-            → association_in past who ≡ Some key
+            → association_in past who ≡ Some key → IsReplyTo centre.now past key call.now reply.now
             → Keeps centre.now (record { who = who; event = Request call.now } ∷ past) self.new) }
         ensures err { OnErr result ((past : Past) → Keeps centre.now past self.old
             → Keeps centre.now past self.new) }
@@ -177,7 +188,7 @@ impl Store {
             ≡ hash_map_len self.old.associations }
     {
         match call.kind() {
-            CallKind::Define { set, members } => self.define(centre, key.peer, set, members),
+            CallKind::Define { set, members } => self.define(key, set, members, reply),
             CallKind::Delete { sets } => {
                 self.delete(&centre.table(key.peer).domain, key.peer, sets.as_slice());
                 Ok(())
@@ -186,34 +197,31 @@ impl Store {
         }
     }
 
-    /// Defines a data set, unless the definition has an error.
+    /// Defines a data set, where the reply is that it is defined.
     fn define(
         &mut self,
-        centre: &Centre,
-        peer: u32,
+        key: Key,
         set: &Name,
         members: &Names,
+        reply: &ReplyKind,
     ) -> Result<(), AllocError>
-        requires known { peer < vec_len self.old.sets }
-        requires there { peer < length centre.now.tables }
-        requires lawful { IsCentre centre.now }
+        requires known { key.peer < vec_len self.old.sets }
         requires some { 0 < length members.now }
-        ensures ok { OnOk result ((past : Past) (who : ℕ) (key : Key) → key.peer ≡ peer
-            → Keeps centre.now past self.old → association_in past who ≡ Some key
-            → Keeps centre.now
+        ensures ok { OnOk result ((rows : CentreRows) (past : Past) (who : ℕ)
+            → Keeps rows past self.old → association_in past who ≡ Some key
+            → IsReplyTo rows past key (Define set.now members.now) reply.now → Keeps rows
             (record { who = who; event = Request (Define set.now members.now) } ∷ past) self.new) }
-        ensures err { OnErr result ((past : Past) → Keeps centre.now past self.old
-            → Keeps centre.now past self.new) }
+        ensures err { OnErr result ((rows : CentreRows) (past : Past) → Keeps rows past self.old
+            → Keeps rows past self.new) }
         ensures same_count { hash_map_len self.new.associations
             ≡ hash_map_len self.old.associations }
     {
-        let reply = define_reply(centre, peer, self.book(peer), set, members);
-        if !is_defined(&reply) {
+        if !is_defined(reply) {
             return Ok(());
         }
         let name = set.item().clone()?;
         let members = members.clone()?;
-        let _defined = self.sets[peer as usize].define(name, members)?;
+        let _defined = self.sets[key.peer as usize].define(name, members)?;
         Ok(())
     }
 

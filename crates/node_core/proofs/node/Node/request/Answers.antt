@@ -2,11 +2,12 @@ use Rattle.std.proofs.Common.{◌≡◌, ◌<◌, ◌≤◌, ◌+◌, length, re
 use Rattle.std.proofs.Common.{arith}
 use Rattle.std.specs.Arc.{arc_value}
 use Rattle.std.proofs.lemmas.List.{length-reverse}
-use Rattle.bilateral.specs.Rows.{CentreRows, IsCentre}
+use Rattle.bilateral.specs.Rows.{CentreRows}
 use Rattle.tase_views.specs.Setup.{Setup}
 use Rattle.tase_views.specs.History.{association_in}
 use Rattle.tase_views.specs.Weights.{weight, weight_of}
 use Rattle.node_core.specs.NodeState.{NodeState}
+use Rattle.node_core.specs.Stored.{IsReplied}
 use Rattle.node_core.proofs.Causes.{free_in, light-fits, request-goes_on, request-is_no_stop}
 use Rattle.node_core.proofs.Outcomes.{reverse_push}
 use Rattle.node_core.proofs.Rooms.{HasRoom-more, HasRoom-noted}
@@ -31,11 +32,6 @@ request-requires-clause-there c =
     subst Q (sym c.deref.ensures) (c.self.invariant.0.known c.args.who c.args.key
     (c.self.invariant.0.seated c.args.who ∙ seated))
 
-pub request-requires-clause-lawful : goal.request-requires-clause-lawful
-request-requires-clause-lawful c =
-    let Q : CentreRows → Type 0 = λ rows. IsCentre rows in
-    subst Q (sym c.deref.ensures) c.self.invariant.0.lawful
-
 pub invariant_of-self-in_err-request : goal.invariant_of-self-in_err-request
 invariant_of-self-in_err-request c =
     let rows = arc_value c.self.inside.centre in
@@ -57,10 +53,15 @@ invariant_of-self-2 c =
     let P : NodeState → Type 0 = λ node.
     association_in (reverse node.history) c.args.who ≡ Some c.args.key in
     let seated = subst P (sym c.self.view_is) c.requires.seated in
+    let R : CentreRows → Type 0 = λ those.
+    IsReplied those past c.args.key event c.args.reply.now in
+    let S : NodeState → Type 0 = λ node. IsReplied node.setup.centre (reverse node.history)
+    c.args.key event c.args.reply.now in
+    let replied = subst R (sym c.deref.ensures) (subst S (sym c.self.view_is) c.requires.replied) in
     let stored = IsStored-of c.deref.result.now rows _ _ _ _ _ c.deref.ensures
     (c.in_ok-request.ensures.ok past c.args.who
     (IsStored-of rows c.deref.result.now past _ _ _ _ (sym c.deref.ensures) c.self.invariant.0)
-    seated) in
+    seated replied) in
     let fits : weight_of past + weight event ≤ c.self.inside.limit =
     light-fits setup past event (request-goes_on event c.requires.request) free.light in
     rw (

@@ -8,7 +8,7 @@ use Rattle.node_core.proofs.Steps.{IsStored-setless, IsStored-called}
 use Rattle.node_core.proofs.store.Store.call.Goals as goal
 
 pub returns-in-Delete-clause-ok : goal.returns-in-Delete-clause-ok
-returns-in-Delete-clause-ok c = λ past who s seated.
+returns-in-Delete-clause-ok c = λ past who s seated replied.
     let rows = c.args.centre.now in
     let domain = ap (λ (table : Table). table.domain)
     (sym (table_of-slice_get rows c.args.key.peer c.table.result.now c.table.ensures)) in
@@ -22,7 +22,7 @@ returns-in-Delete-clause-ok c = λ past who s seated.
 pub returns-in_default : goal.returns-in_default
 returns-in_default c =
     record {
-      ok = λ past who s seated.
+      ok = λ past who s seated replied.
           IsStored-setless c.args.centre.now past c.args.self.now.points c.args.self.now.sets.items
           c.args.self.now.opens.items _ who c.args.key c.args.call.now
           (setless-call c.args.call.now
