@@ -8,8 +8,6 @@ mod lists;
 #[cfg(test)]
 mod outside_in_memory;
 #[cfg(test)]
-mod parts;
-#[cfg(test)]
 mod texts;
 #[cfg(test)]
 mod values;

@@ -89,43 +89,6 @@ fn hands_out_a_source_once(rt: HostRuntime) -> Result<(), Fail> {
     Ok(())
 }
 
-// The text that was put, and how many faults there were.
-fn text_put(alloc: Global) -> Result<(Vec<u8>, u64), Fail> {
-    let mut outside = one_of_each(alloc)?;
-    let mut source = outside.open_in("in").ok_or("in")?;
-    let text = read_text(alloc, &mut source, 9)?.map_err(|_| "read")?;
-    outside.close_in(source);
-    Ok((text, outside.faults()))
-}
-
-#[test]
-fn reads_what_was_put(rt: HostRuntime) -> Result<(), Fail> {
-    let (text, faults) = text_put(rt.alloc())?;
-    assert_eq!(rt; (text.as_slice(), faults), (b"text".as_slice(), 0));
-    Ok(())
-}
-
-// Whether a sink stands there while it is out, what it took once it is back, how many faults there
-// were, and how many names were written.
-fn sink_put(alloc: Global) -> Result<(bool, Vec<u8>, u64, Option<usize>), Fail> {
-    let mut outside = one_of_each(alloc)?;
-    let mut sink = outside.open_out("out").ok_or("out")?;
-    write_all(&mut sink, b"text")?;
-    let stands = outside.sink("out").is_some();
-    outside.close_out(sink);
-    let taken = outside.sink("out").ok_or("sink")?.taken().to_vec(alloc)?;
-    let names = outside.written_names().map(|names| names.len());
-    Ok((stands, taken, outside.faults(), names))
-}
-
-#[test]
-fn hands_out_a_sink_once(rt: HostRuntime) -> Result<(), Fail> {
-    let (stands, taken, faults, names) = sink_put(rt.alloc())?;
-    assert_eq!(rt; (stands, faults, names), (false, 0, Some(1)));
-    assert_eq!(rt; taken.as_slice(), b"text".as_slice());
-    Ok(())
-}
-
 // The room of a sink, its calls that fail, whether all went out, and what it took.
 const GATHERINGS: &[(usize, &[u64], bool, &[u8])] = &[
     (9, &[], true, b"abcd"),
