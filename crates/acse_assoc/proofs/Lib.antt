@@ -7,5 +7,6 @@ pub mod Sequences
 pub mod SequencesRead
 pub mod SequencesBack
 pub mod SequencesOf
+pub mod SequencesWhole
 mod Worked
 mod WorkedSequences

@@ -248,7 +248,7 @@ number_most tag (first ∷ high ∷ low ∷ []) more s os =
     )
 number_most tag (a ∷ b ∷ c ∷ d ∷ more') more s os = elim s [ ]
 
-octets_behind : (xs ys : List ℕ) → IsOctets (xs ++ ys) → IsOctets ys
+pub octets_behind : (xs ys : List ℕ) → IsOctets (xs ++ ys) → IsOctets ys
 octets_behind xs ys os = subst IsOctets (drop_at xs ys (length xs) refl)
     (IsOctets-drop (length xs) (xs ++ ys) os)
 

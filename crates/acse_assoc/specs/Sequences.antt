@@ -63,3 +63,20 @@ pub record IsAare (e : Expected) (at : ℕ) (octets : List ℕ) (elements : List
   pub result : HasElement 162 (one_result e) at elements r.result
   pub user : MayHaveElement 190 (user_information e.response_id) at elements r.user
   pub accepted : HasUser r.result r.user
+
+-- octets, of which the first has the place at, are one element of this tag, whose contents hold
+pub record IsOneElement (tag at : ℕ) (octets : List ℕ) (Holds : ℕ → List ℕ → Type 0) : Type 0 where
+  pub element : AnyElement
+  pub sound : IsSound element
+  pub tagged : element.tagged ≡ tag ∷ []
+  pub parts : octets ≡ element_octets element
+  pub contents : Holds (at + length element.tagged + length element.sized) element.contents
+
+-- octets are an AARQ, or an AARE
+abbrev pub IsWholeAarq : Expected → ℕ → List ℕ → AssociateRequest → Type 0
+IsWholeAarq e at octets r = IsOneElement 96 at octets
+    (λ body contents. (elements : List AnyElement) × IsAarq e body contents elements r)
+
+abbrev pub IsWholeAare : Expected → ℕ → List ℕ → AssociateResponse → Type 0
+IsWholeAare e at octets r = IsOneElement 97 at octets
+    (λ body contents. (elements : List AnyElement) × IsAare e body contents elements r)

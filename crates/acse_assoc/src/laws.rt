@@ -2,17 +2,16 @@
 ghost use Rattle.std.specs.Prelude.{◌↔◌, ℕ, ◌+◌, ◌≤◌, List, [], length};
 ghost use Rattle.ber_values.specs.Octets.{IsOctets};
 ghost use Rattle.ber_values.specs.Reading.{Taken, HasOneReading};
-ghost use Rattle.ber_values.specs.Runs.{AnyElement};
+ghost use Rattle.ber_values.specs.Readers.{taken_whole};
 ghost use Rattle.acse_assoc.specs.declared.apdu.Apdu.{Apdu};
+ghost use Rattle.acse_assoc.specs.declared.apdu.Apdu.TheVariants.{Aarq, Aare};
 ghost use Rattle.acse_assoc.specs.declared.request.AssociateRequest.{AssociateRequest};
 ghost use Rattle.acse_assoc.specs.declared.response.AssociateResponse.{AssociateResponse};
 ghost use Rattle.acse_assoc.specs.declared.expected.Expected.{Expected};
 ghost use Rattle.acse_assoc.specs.declared.apdu.TheConstants.{MOST_BODY};
 ghost use Rattle.ber_values.specs.Grammars.{taken};
-ghost use Rattle.acse_assoc.specs.Requests.{request};
-ghost use Rattle.acse_assoc.specs.Responses.{response};
 ghost use Rattle.acse_assoc.specs.Apdus.{apdu};
-ghost use Rattle.acse_assoc.specs.Sequences.{IsAarq, IsAare};
+ghost use Rattle.acse_assoc.specs.Sequences.{IsWholeAarq, IsWholeAare};
 ghost use Rattle.acse_assoc.specs.Writing.{apdu_octets, as_written, IsWritable, IsHeld};
 ghost use Rattle.acse_assoc.specs.Writing.{IsAsExpected};
 
@@ -32,14 +31,14 @@ pub fn written_apdus_are_read()
         (taken (as_written at v body) (at + length (apdu_octets v body)) []) }
 {}
 
-/// Octets are the contents of an AARQ just where they are elements of the context class with rising
-/// numbers, among which those that an AARQ must have stand and spell its parts. The same holds of
-/// an AARE.
+/// Octets are an AARQ just where they are one element of its tag, whose contents are elements of
+/// the context class with rising numbers, among which those that an AARQ must have stand and spell
+/// its parts. The same holds of an AARE.
 pub fn apdus_are_sequences()
     ensures aarq { (e : Expected) (at : ℕ) (octets : List ℕ) (r : AssociateRequest)
-        → IsOctets octets → ((request e).spells at r octets
-        ↔ ((elements : List AnyElement) × IsAarq e at octets elements r)) }
+        → IsOctets octets → ((apdu e).begins at octets (taken_whole at octets (Aarq r))
+        ↔ IsWholeAarq e at octets r) }
     ensures aare { (e : Expected) (at : ℕ) (octets : List ℕ) (r : AssociateResponse)
-        → IsOctets octets → ((response e).spells at r octets
-        ↔ ((elements : List AnyElement) × IsAare e at octets elements r)) }
+        → IsOctets octets → ((apdu e).begins at octets (taken_whole at octets (Aare r))
+        ↔ IsWholeAare e at octets r) }
 {}
