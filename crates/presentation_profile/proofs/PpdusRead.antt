@@ -1,9 +1,14 @@
 -- Reading PPDUs is exact.
-use Rattle.std.proofs.Common.{ℕ, Bool, true, false, Option, List, [], ◌∷◌}
-use Rattle.ber_values.specs.Reading.{Taken}
+use Rattle.std.proofs.Common.{◌≡◌, ◌+◌, ◌↔◌, ℕ, Bool, true, false, Option, List, [], ◌∷◌, length}
+use Rattle.std.proofs.Common.{Result, Ok, Err, refl, sym, ap, subst, ◌∙◌, inl, inr}
+use Rattle.std.proofs.lemmas.Bool.{false≢true, eqb-true, cases_Bool}
+use Rattle.ber_values.specs.declared.fault.BerFault.{BerFault}
+use Rattle.ber_values.specs.Reading.{Taken, IsReading}
+use Rattle.ber_values.specs.Runs.{BeginsPassed, TakesRun, BreaksRun, elements_octets}
+use Rattle.ber_values.proofs.Runs.{pass-reads_run}
 use Rattle.ber_values.specs.Parts.{Contents, IsContentsGrammar}
-use Rattle.ber_values.specs.Grammars.{Grammar, IsGrammar, has_tag, is_other}
-use Rattle.ber_values.proofs.Reading.{IsReading-then}
+use Rattle.ber_values.specs.Grammars.{Grammar, IsGrammar, taken, branch_in, has_tag, is_other}
+use Rattle.ber_values.proofs.Reading.{IsReading-then, IsReading-as}
 use Rattle.ber_values.specs.Leaves.{selector, oid, octet}
 use Rattle.ber_values.proofs.Grammars.{gives_reads, then_reads, map_reads, branch_reads, pass_reads, whole_reads, part_reads, choose_reads, maybe_reads, all_reads, where_reads, as_reads}
 use Rattle.ber_values.proofs.Lists.{list_reads}
@@ -17,6 +22,7 @@ use Rattle.presentation_profile.specs.Expecting.{connect_id, accept_id, carry_id
 use Rattle.presentation_profile.specs.UserData.{user_data}
 use Rattle.presentation_profile.specs.Results.{result_contents, one_result, may_be, any_results, from_place, first_in, accepting_results, results}
 use Rattle.presentation_profile.specs.Ppdus.{connect_named, connect_of, connect_selectors, connect, accept_named, accept_of, accept, has_results, parameters, mode, set_up_contents, set_up, carry_of, ppdu}
+use Rattle.presentation_profile.specs.Ppdus.{is_between, HasResultsFirst, come_to_results, case_in}
 use Rattle.presentation_profile.proofs.OffersRead.{offers_read}
 
 others_read : (named : List ℕ) → IsGrammar (others named)
@@ -90,9 +96,56 @@ accept_reads e =
     map_reads (accept_of called found) _
     (after_read accept_named _ (before_read accept_named (user_data (accept_id e)) (user_data_reads (accept_id e))))))
 
+-- the test tells what it says of the octets, whichever way they are passed over
+test_from : (octets : List ℕ) (read : Result (Taken (Unit {0})) BerFault)
+    → IsReading (Taken (Unit {0})) (TakesRun is_between 0 octets) (BreaksRun is_between 0 octets)
+    read
+    → come_to_results read ≡ true → HasResultsFirst octets
+test_from octets (Err f) one e = absurd (false≢true e)
+test_from octets (Ok t) one e =
+    let run = one.found t refl in
+    let tagged = tag_first t.rest e in
+    (run.0, tagged.0, subst (BeginsPassed is_between octets run.0) tagged.1 run.1.0)
+  where
+    tag_first : (rest : List ℕ) → has_tag 165 rest ≡ true
+        → (after : List ℕ) × (rest ≡ 165 ∷ after)
+    tag_first [] e = absurd (false≢true e)
+    tag_first (first ∷ after) e = (after, ap (λ (x : ℕ). x ∷ after) (eqb-true first 165 e))
+
+-- the test tells whether there are results
+pub results-decided : (octets : List ℕ) → (has_results octets ≡ true) ↔ HasResultsFirst octets
+unfolding others
+results-decided octets = (
+  test_from octets ((others (164 ∷ 165 ∷ [])).reading 0 octets)
+      (pass-reads_run is_between 0 octets),
+  λ h. ap come_to_results ((pass-reads_run is_between 0 octets).only
+      (taken tt (0 + length (elements_octets h.0)) (165 ∷ h.1)) (h.0, (h.2, refl), refl)),
+)
+
+case_reads : {X : Type 0} (Holds : List ℕ → Type 0) (test : List ℕ → Bool) (one other : Grammar X)
+    → ((octets : List ℕ) → (test octets ≡ true) ↔ Holds octets) → IsGrammar one → IsGrammar other
+    → IsGrammar (case_in Holds test one other)
+unfolding branch_in
+case_reads {X} Holds test one other decides a b at octets =
+    let d = decides octets in
+    let fails : (Holds octets → ⊥) → test octets ≡ false =
+    λ n. elim (cases_Bool (test octets)) [ inl t ↦ absurd (n (d.0 t)) | inr f ↦ f ] in
+    let refutes : test octets ≡ false → Holds octets → ⊥ = λ f h. false≢true (sym f ∙ d.1 h) in
+    IsReading-as (Taken X) ((branch_in test one other).begins at octets)
+    ((case_in Holds test one other).begins at octets)
+    ((branch_in test one other).fault at octets) ((case_in Holds test one other).fault at octets)
+    ((case_in Holds test one other).reading at octets)
+    (λ t h. elim h [ inl x ↦ inl (d.0 x.0, x.1) | inr y ↦ inr (refutes y.0, y.1) ])
+    (λ t h. elim h [ inl x ↦ inl (d.1 x.0, x.1) | inr y ↦ inr (fails y.0, y.1) ])
+    (λ f h. elim h [ inl x ↦ inl (d.0 x.0, x.1) | inr y ↦ inr (refutes y.0, y.1) ])
+    (λ f h. elim h [ inl x ↦ inl (d.1 x.0, x.1) | inr y ↦ inr (fails y.0, y.1) ])
+    (branch_reads test one other a b at octets)
+
 parameters_read : (e : Expected) → IsGrammar (parameters e)
 unfolding parameters
-parameters_read e = part_reads 162 _ (all_reads _ (branch_reads has_results (accept e) (connect e) (accept_reads e) (connect_reads e)))
+parameters_read e = part_reads 162 _ (all_reads _
+    (case_reads HasResultsFirst has_results (accept e) (connect e) results-decided (accept_reads e)
+    (connect_reads e)))
 
 mode_reads : IsGrammar mode
 unfolding mode

@@ -2,7 +2,7 @@
 use Rattle.std.proofs.Common.{◌≡◌, ℕ, ◌+◌, ◌-◌, ◌≤◌, ◌<◌, ◌^◌, ◌%◌, ◌≢◌, true, false, Option, Some, None, List, [], ◌∷◌, ◌++◌, length, refl, sym, ap, subst, ◌∙◌, inl, inr, arith}
 use Rattle.std.specs.List.{All}
 use Rattle.std.proofs.lemmas.List.{length-append}
-use Rattle.std.proofs.lemmas.Bool.{eq-eqb}
+use Rattle.std.proofs.lemmas.Bool.{eq-eqb, false≢true}
 use Rattle.ber_values.specs.declared.fault.Span.{Span}
 use Rattle.ber_values.specs.Oid.{IsOid}
 use Rattle.ber_values.specs.Writing.{written, length_octets}
@@ -27,8 +27,9 @@ use Rattle.presentation_profile.specs.Offers.{offers}
 use Rattle.presentation_profile.specs.Others.{others, after_others, before_others, selector_in}
 use Rattle.presentation_profile.specs.UserData.{user_data}
 use Rattle.presentation_profile.specs.Results.{results}
-use Rattle.presentation_profile.specs.Ppdus.{connect_named, connect_selectors, connect, accept_named, accept, come_to_results, has_results, parameters, mode, set_up_contents, set_up, carry_of, ppdu}
+use Rattle.presentation_profile.specs.Ppdus.{connect_named, connect_selectors, connect, accept_named, accept, come_to_results, has_results, accept_or_connect, parameters, mode, set_up_contents, set_up, carry_of, ppdu}
 use Rattle.presentation_profile.specs.Written.{offers_octets, user_octets, results_octets, selector_octets, calling_octets, connect_octets, accept_octets, mode_octets, set_up_octets, ppdu_octets, AreOffers, IsWritable, HasSelector, IsHeld, IsAsExpected, AreAccepting, last_span, as_written}
+use Rattle.presentation_profile.proofs.PpdusRead.{results-decided}
 use Rattle.presentation_profile.proofs.OffersWritten.{offers-writes, offers-few}
 use Rattle.presentation_profile.proofs.Sizes.{calling-sized, mode-sized, connect-sized, accept-sized}
 use Rattle.presentation_profile.proofs.UserWritten.{user-writes, results-write, body_within, results-few, user-few}
@@ -226,7 +227,7 @@ parameters_after : (at : ℕ) (contents : List ℕ) → at ≤ parameters_place 
 unfolding parameters_place
 parameters_after at contents = omega arith
 
-set_up-writes : (e : Expected) (at : ℕ) (contents : List ℕ) (p : Ppdu) → length contents < 2 ^ 31 → Ends (branch_in has_results (accept e) (connect e)) (parameters_place at contents) p contents → Writes (set_up e) at p (set_up_octets contents)
+set_up-writes : (e : Expected) (at : ℕ) (contents : List ℕ) (p : Ppdu) → length contents < 2 ^ 31 → Ends (accept_or_connect e) (parameters_place at contents) p contents → Writes (set_up e) at p (set_up_octets contents)
 unfolding set_up set_up_octets set_up_contents parameters branch_in parameters_place mode_octets
 set_up-writes e at contents p few done =
     let last = written 162 contents in
@@ -237,20 +238,18 @@ set_up-writes e at contents p few done =
       refl,
       then-ends mode (λ u. parameters e) place tt mode_octets p last (mode-writes place)
           (ends_of (parameters e) (place + length mode_octets) p last
-          (part-writes 162 _ (place + length mode_octets) p contents (omega (arith, few)) (all-spelled (branch_in has_results (accept e) (connect e)) _ p contents done))),
+          (part-writes 162 _ (place + length mode_octets) p contents (omega (arith, few)) (all-spelled (accept_or_connect e) _ p contents done))),
     )))
 
 set_up-ends : (e : Expected) (at : ℕ) (contents : List ℕ) (p : Ppdu) → Writes (set_up e) at p (set_up_octets contents) → Ends (ppdu e) at p (set_up_octets contents)
 unfolding ppdu branch_in set_up_octets
 set_up-ends e at contents p w = whole-begins _ at p (set_up_octets contents) (inr (refl, ends_of (set_up e) at p (set_up_octets contents) w))
 
-is_connect : (e : Expected) (at : ℕ) (contents : List ℕ) (p : Ppdu) → has_results contents ≡ false → Ends (connect e) at p contents → Ends (branch_in has_results (accept e) (connect e)) at p contents
-unfolding branch_in
-is_connect e at contents p first done = inr (first, done)
+is_connect : (e : Expected) (at : ℕ) (contents : List ℕ) (p : Ppdu) → has_results contents ≡ false → Ends (connect e) at p contents → Ends (accept_or_connect e) at p contents
+is_connect e at contents p first done = inr (λ h. false≢true (sym first ∙ (results-decided contents).1 h), done)
 
-is_accept : (e : Expected) (at : ℕ) (contents : List ℕ) (p : Ppdu) → has_results contents ≡ true → Ends (accept e) at p contents → Ends (branch_in has_results (accept e) (connect e)) at p contents
-unfolding branch_in
-is_accept e at contents p first done = inl (first, done)
+is_accept : (e : Expected) (at : ℕ) (contents : List ℕ) (p : Ppdu) → has_results contents ≡ true → Ends (accept e) at p contents → Ends (accept_or_connect e) at p contents
+is_accept e at contents p first done = inl ((results-decided contents).0 first, done)
 
 selector-few : (tag : ℕ) (called : Option (List ℕ)) → HasSelector called → length (selector_octets tag called) ≤ 34
 selector-few tag None held = omega arith

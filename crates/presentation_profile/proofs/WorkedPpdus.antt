@@ -1,5 +1,5 @@
 -- PPDUs as two control centres send them, computed.
-use Rattle.std.proofs.Common.{◌≡◌, List, ℕ, [], ◌∷◌, true, false, Some, Ok, Err, refl}
+use Rattle.std.proofs.Common.{◌≡◌, List, ℕ, [], ◌∷◌, true, false, Some, Ok, Err, refl, inl}
 use Rattle.ber_values.specs.declared.fault.Why.TheVariants as whys
 use Rattle.ber_values.specs.Faults.{fault_at}
 use Rattle.ber_values.specs.Tags.{tag_in, length_in}
@@ -18,6 +18,13 @@ use Rattle.ber_values.specs.Externals.{external}
 use Rattle.presentation_profile.specs.UserData.{user_data}
 use Rattle.presentation_profile.specs.Results.{result_contents, one_result, first_in, accepting_results, results}
 use Rattle.presentation_profile.specs.Ppdus.{connect_selectors, connect, accept, parameters, mode, set_up_contents, set_up, ppdu}
+use Rattle.ber_values.specs.Tags.{tag_with}
+use Rattle.ber_values.specs.Runs.{AnyElement, IsSound, HasPassingTag}
+use Rattle.presentation_profile.specs.Ppdus.{is_between, HasResultsFirst}
+use Rattle.presentation_profile.proofs.PpdusRead.{results-decided}
+use Rattle.std.proofs.Common.{arith}
+use Rattle.std.proofs.lemmas.Bool.{false≢true}
+use Rattle.std.proofs.lemmas.List.Elements.{All-nil, All-cons}
 
 -- a connect, after the 24 octets of its session, whose body has 77 octets
 connect_octets : List ℕ
@@ -67,3 +74,34 @@ results_read = (refl, refl, refl, refl, refl, refl)
 carry_read : (ppdu (expects.Carry 3)).reading 4 (97 ∷ 10 ∷ 48 ∷ 8 ∷ 2 ∷ 1 ∷ 3 ∷ 160 ∷ 3 ∷ 1 ∷ 2 ∷ 3 ∷ []) ≡ Ok (taken (Carry 3 (record { from = 13; to = 16 })) 16 [])
 unfolding ppdu whole_in user_data external part_in parted_in sized_part_in length_in gives then_in map_in branch_in refused choose_in maybe_in all_in contents_where leaves.unsigned leaves.oid leaves.span unsigned_in oid_in
 carry_read = refl
+
+-- results behind a selector come first
+results_first : HasResultsFirst (131 ∷ 1 ∷ 5 ∷ 165 ∷ 0 ∷ [])
+results_first =
+    let selector : AnyElement =
+    record {
+      tag = tag_with 131 3 false;
+      tagged = 131 ∷ [];
+      sized = 1 ∷ [];
+      contents = 5 ∷ [];
+    } in
+    let sound : IsSound selector =
+    record { tag = (omega arith, refl); size = inl (omega arith, refl, refl) } in (
+      selector ∷ [],
+      0 ∷ [],
+      record {
+        sound = All-cons IsSound selector [] sound (All-nil IsSound);
+        parts = refl;
+        passed = All-cons (HasPassingTag is_between) selector [] refl
+            (All-nil (HasPassingTag is_between));
+      },
+    )
+
+-- but not behind offers, nor behind an element whose length is broken
+offers_first : (HasResultsFirst (129 ∷ 0 ∷ 164 ∷ 0 ∷ 165 ∷ 0 ∷ []) → ⊥)
+    × (HasResultsFirst (129 ∷ 9 ∷ 165 ∷ 0 ∷ []) → ⊥)
+unfolding others pass_in pass_within by_length branch_in then_in gives skip head_in tag_in length_in
+offers_first = (
+  λ h. false≢true ((results-decided _).1 h),
+  λ h. false≢true ((results-decided _).1 h),
+)

@@ -1,11 +1,13 @@
 -- PPDUs (ISO 8823-1, CP-type, CPA-type and User-data).
-use Rattle.std.specs.Prelude.{ℕ, Bool, false, List, [], ◌∷◌, Option, Result, Ok, Err}
+use Rattle.std.specs.Prelude.{ℕ, Bool, false, List, [], ◌∷◌, Option, ◌⊎◌, Result, Ok, Err}
+use Rattle.std.specs.Prelude.{if◌then◌else◌}
 use Rattle.ber_values.specs.declared.fault.BerFault.{BerFault}
 use Rattle.ber_values.specs.declared.fault.Span.{Span}
 use Rattle.ber_values.specs.Reading.{Taken}
-use Rattle.ber_values.specs.Grammars.{Grammar, then_in, map_in, branch_in, has_tag}
+use Rattle.ber_values.specs.Grammars.{Grammar, then_in, map_in, branch_in, has_tag, is_other}
 use Rattle.ber_values.specs.Parts.{Contents, part_in, whole_in, all_in}
 use Rattle.ber_values.specs.Leaves.{fixed}
+use Rattle.ber_values.specs.Runs.{AnyElement, BeginsPassed}
 use Rattle.presentation_profile.specs.declared.offers.Offered.{Offered}
 use Rattle.ber_values.specs.declared.external.External.{External}
 use Rattle.presentation_profile.specs.declared.ppdu.Ppdu.{Ppdu}
@@ -53,18 +55,44 @@ accept e =
     map_in (accept_of called found)
     (after_others accept_named (before_others accept_named (user_data (accept_id e))))))
 
+-- whether the first octet is of the context class, and tags neither offers nor results
+abbrev pub is_between : ℕ → Bool
+is_between first = is_other 128 191 (164 ∷ 165 ∷ []) first
+
+-- octets begin with elements of the context class, none of which are offers or results, and go on
+-- with the tag of results
+abbrev pub HasResultsFirst : List ℕ → Type 0
+HasResultsFirst octets = (before : List AnyElement) × (after : List ℕ)
+    × BeginsPassed is_between octets before (165 ∷ after)
+
 -- whether results stand where passing over elements came to
 abbrev pub come_to_results : Result (Taken (Unit {0})) BerFault → Bool
 come_to_results (Ok t) = has_tag 165 t.rest
 come_to_results (Err f) = false
 
--- whether the first of offers and results are results
+-- the test for that, read from the left
 abbrev pub has_results : List ℕ → Bool
 has_results octets = come_to_results ((others (164 ∷ 165 ∷ [])).reading 0 octets)
 
--- the parameters of the normal mode: an accept where results come first, else a connect
+-- one grammar where something holds of the octets, else another; a test tells which is read
+abbrev pub case_in : {X : Type 0} → (List ℕ → Type 0) → (List ℕ → Bool) → Grammar X → Grammar X
+    → Grammar X
+case_in {X} Holds test one other = record {
+  begins = λ at octets t. (Holds octets × one.begins at octets t)
+      ⊎ ((Holds octets → ⊥) × other.begins at octets t);
+  fault = λ at octets f. (Holds octets × one.fault at octets f)
+      ⊎ ((Holds octets → ⊥) × other.fault at octets f);
+  reading = λ at octets.
+      if test octets then one.reading at octets else other.reading at octets;
+}
+
+-- an accept where results come before any offers, else a connect
+abbrev pub accept_or_connect : Expected → Grammar Ppdu
+accept_or_connect e = case_in HasResultsFirst has_results (accept e) (connect e)
+
+-- the parameters of the normal mode
 unfoldable pub parameters : Expected → Grammar Ppdu
-parameters e = part_in 162 (all_in (branch_in has_results (accept e) (connect e)))
+parameters e = part_in 162 (all_in (accept_or_connect e))
 
 -- the normal mode
 unfoldable pub mode : Grammar (Unit {0})

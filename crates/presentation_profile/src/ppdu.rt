@@ -5,11 +5,10 @@ ghost use Rattle.std.specs.List.{slice_range};
 ghost use Rattle.plain_text.specs.Extends.{Extends};
 ghost use Rattle.ber_values.specs.Faults.{Gives};
 ghost use Rattle.ber_values.specs.Stops.{Answers};
-ghost use Rattle.ber_values.specs.Grammars.{branch_in};
 ghost use Rattle.ber_values.specs.Parts.{all_in};
 ghost use Rattle.ber_values.specs.Readers.{IsReadBy, taken_from, taken_whole};
-ghost use Rattle.presentation_profile.specs.Ppdus.{accept, connect, has_results, parameters, mode};
-ghost use Rattle.presentation_profile.specs.Ppdus.{set_up_contents, ppdu, body_of};
+ghost use Rattle.presentation_profile.specs.Ppdus.{accept_or_connect, has_results, parameters};
+ghost use Rattle.presentation_profile.specs.Ppdus.{mode, set_up_contents, ppdu, body_of};
 ghost use Rattle.ber_values.specs.Externals.{IsSpanWithin};
 ghost use Rattle.presentation_profile.specs.Written.{AreOffers, IsWritable, connect_octets};
 ghost use Rattle.presentation_profile.specs.Written.{accept_octets, mode_octets, front_octets};
@@ -178,12 +177,11 @@ fn take_parameters(
 }
 
 /// The connect or accept that the contents of an element are.
-#[tactic(auto, unfolding(ber_values::specs::Parts::all_in, ber_values::specs::Grammars::branch_in))]
+#[tactic(auto, unfolding(ber_values::specs::Parts::all_in))]
 fn parameters_from(alloc: Global, part: &Part<'_>, expected: Expected) -> Result<Ppdu, Stop>
     requires { part.now.head.body + length part.now.contents.now < 2 ^ 64 }
     ensures exact { Answers (λ p. p) result
-        ((all_in (branch_in has_results (accept expected) (connect expected))).reading
-        part.now.head part.now.contents.now) }
+        ((all_in (accept_or_connect expected)).reading part.now.head part.now.contents.now) }
     ensures body { IfOk result (λ p. IsSpanWithin part.now.head.body
         (part.now.head.body + length part.now.contents.now) (body_of p)) }
 {

@@ -23,7 +23,8 @@ use Rattle.presentation_profile.specs.Results.{results}
 use Rattle.presentation_profile.specs.UserData.{user_data}
 use Rattle.presentation_profile.specs.Expecting.{connect_id, accept_id, carry_id, are_judged}
 use Rattle.presentation_profile.specs.Ppdus.{connect, connect_of, accept, accept_of, parameters}
-use Rattle.presentation_profile.specs.Ppdus.{set_up, set_up_contents, carry_of, ppdu, has_results, mode}
+use Rattle.presentation_profile.specs.Ppdus.{set_up, set_up_contents, carry_of, ppdu, mode}
+use Rattle.presentation_profile.specs.Ppdus.{accept_or_connect}
 use Rattle.presentation_profile.specs.Ppdus.{connect_selectors, connect_named, accept_named}
 
 pub then-holds : {X Y : Type 0} (P : Y → Type 0) (g : Grammar X) (next : X → Grammar Y) (at : ℕ)
@@ -157,10 +158,10 @@ parameters_few : (e : Expected) (at : ℕ) (os : List ℕ) (t : Taken Ppdu)
     → (parameters e).begins at os t → IsFewPpdu t.value
 unfolding parameters
 parameters_few e at os t h = part-holds IsFewPpdu 162
-    (all_in (branch_in has_results (accept e) (connect e))) at os t
-    (λ place x inner s. all-holds IsFewPpdu (branch_in has_results (accept e) (connect e))
-    (λ at os t b. branch-holds IsFewPpdu has_results (accept e) (connect e) at os t
-    (accept_few e at os t) (connect_few e at os t) b) place x inner s) h
+    (all_in (accept_or_connect e)) at os t
+    (λ place x inner s. all-holds IsFewPpdu (accept_or_connect e)
+    (λ at os t b. elim b [ inl a ↦ accept_few e at os t a.1 | inr c ↦ connect_few e at os t c.1 ])
+    place x inner s) h
 
 set_up_few : (e : Expected) (at : ℕ) (os : List ℕ) (t : Taken Ppdu) → (set_up e).begins at os t
     → IsFewPpdu t.value
