@@ -1,0 +1,2 @@
+mod Paired
+pub mod Sent
