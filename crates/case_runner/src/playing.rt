@@ -67,7 +67,7 @@ fn put_inputs(
 
 // What stands outside of a case.
 fn outside_of(alloc: Global, case: &Case) -> Result<MemoryOutside, AllocError> {
-    let mut outside = MemoryOutside::new(alloc);
+    let mut outside = MemoryOutside::new(alloc)?;
     put_inputs(alloc, &mut outside, case, &case.given)?;
     put_inputs(alloc, &mut outside, case, &case.own)?;
     let fails = Vec::from_slice(alloc, &case.failed_writes)?;

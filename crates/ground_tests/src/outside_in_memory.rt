@@ -62,7 +62,7 @@ fn writes_as_far_as_the_room_goes(rt: HostRuntime) -> Result<(), Fail> {
 
 // An outside with a text under one name, and room under another.
 fn one_of_each(alloc: Global) -> Result<MemoryOutside, AllocError> {
-    let mut outside = MemoryOutside::new(alloc);
+    let mut outside = MemoryOutside::new(alloc)?;
     let source = TextSource::new(b"text".to_vec(alloc)?, Vec::new(alloc));
     outside.put_in(alloc, "in", source)?;
     outside.put_out(alloc, "out", ByteSink::new(alloc, 9, Vec::new(alloc))?)?;

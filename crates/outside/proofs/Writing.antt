@@ -1,10 +1,11 @@
 -- Octets that a sink took, some after others.
 use Rattle.std.proofs.Common.{◌≡◌, ℕ, ◌+◌, ◌≤◌, min, Bool, true, false, List, [], ◌++◌, length, take, drop, Option, Some, None, refl, sym, ◌∙◌, ap, subst, arith, append_assoc, length-append}
-use Rattle.std.specs.Prelude.{option_map}
+use Rattle.std.specs.Prelude.{option_map, Result, Ok, Err}
 use Rattle.std.proofs.lemmas.List.{append-nil, take_min, take-append-le, take_all}
 use Rattle.std.proofs.Math.Seq.{take-add, take-append-add}
 use Rattle.outside.specs.Octets.{Adds}
-use Rattle.outside.specs.Sink.{SinkTold, Appends, AppendsPart}
+use Rattle.outside.specs.declared.sink.SinkFailed.{SinkFailed}
+use Rattle.outside.specs.Sink.{SinkTold, Appends, AppendsPart, WritesAll}
 use Rattle.outside.proofs.Calling.{GoesOn-none, GoesOn-then}
 
 -- no octets
@@ -109,3 +110,12 @@ AppendsPart-front before after first next failed part = (
   Appends-as before after (take part.0 first) (take (min part.0 (length first)) (first ++ next))
       failed (sym (take-front part.0 first next)) part.1,
 )
+
+-- octets that went out, and then the writing of others
+pub WritesAll-then : (before mid after : SinkTold) (first next : List ℕ)
+    (result : Result (Unit {0}) SinkFailed) → Appends before mid first false
+    → WritesAll mid after next result → WritesAll before after (first ++ next) result
+WritesAll-then before mid after first next (Ok done) one two =
+    Appends-append before mid after first next false one two
+WritesAll-then before mid after first next (Err failed) one two =
+    AppendsPart-append before mid after first next true one two

@@ -1,6 +1,7 @@
 -- The places of an outside in memory: a name each, with the object that stands there.
 use Rattle.std.specs.Prelude.{◌≡◌, ℕ, List, [], ◌∷◌, Option, Some, None, bytes_eq, if◌then◌else◌}
 use Rattle.std.specs.Option.{IfSome}
+use Rattle.outside.specs.Names.{AskedState}
 use Rattle.outside.specs.Outside.{Standing, untold, missing, lent, there, OutsideTold}
 use Rattle.outside.specs.States.{TextState, ByteState, text_told, byte_told}
 
@@ -45,15 +46,15 @@ AllNamed name_of (place ∷ places) =
 pub record MemoryState : Type 0 where
   pub sources : List (List ℕ × Option TextState)
   pub sinks : List (List ℕ × Option ByteState)
-  pub read_names : Option (List (List ℕ))
-  pub written_names : Option (List (List ℕ))
+  pub read_names : AskedState
+  pub written_names : AskedState
   pub faults : ℕ
 
 abbrev pub memory_told : MemoryState → OutsideTold
 memory_told o = record {
   sources = λ name. told_there text_told (standing o.sources name);
   sinks = λ name. told_there byte_told (standing o.sinks name);
-  read_names = o.read_names;
-  written_names = o.written_names;
+  read_names = o.read_names.names;
+  written_names = o.written_names.names;
   faults = o.faults;
 }

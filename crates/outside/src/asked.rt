@@ -1,52 +1,98 @@
 //! The names that an outside in memory was asked for.
-ghost use Rattle.std.specs.Prelude.{◌≡◌, ℕ, List, [], ◌∷◌, ◌++◌, OnOk, Option, Some, None, map, option_map, string_bytes, if◌then◌else◌};
-ghost use Rattle.outside.specs.Outside.{Asks};
+ghost use Rattle.std.specs.Prelude.{◌≡◌, ℕ, ◌+◌, ◌≤◌, List, [], Option, Some, None, IfOk};
+ghost use Rattle.std.specs.Prelude.{option_map, length, take, vec_len, vec_capacity, if◌then◌else◌};
+ghost use Rattle.outside.specs.Names.{AskedState, asked};
+ghost use Rattle.outside.specs.declared.asked.TheConstants.{MOST_NAMES, NAME_ROOM};
 
 use std::alloc::{AllocError, Global};
 use std::marker::Model;
 
-/// Names in order. Once one of them found no memory, none are told.
+/// So many names are told at most.
+pub const MOST_NAMES: usize = 16;
+
+/// So many octets may a name have that is told.
+pub const NAME_ROOM: usize = 64;
+
+/// A name that was asked for.
+#[derive(Drop)]
+pub struct AskedName {
+    octets: [u8; NAME_ROOM],
+    count: usize,
+}
+
+impl Model for AskedName {
+    ghost Value = { List ℕ };
+
+    ghost view = { λ n. take n.count n.octets };
+
+    ghost invariant = { λ n. n.count ≤ NAME_ROOM };
+}
+
+impl AskedName {
+    fn new(name: &str) -> Self
+        requires { length name.now ≤ NAME_ROOM }
+        ensures { result ≡ name.now }
+    {
+        let mut octets = [0; NAME_ROOM];
+        octets[..name.len()].copy_from_slice(name.as_bytes());
+        AskedName {
+            octets,
+            count: name.len(),
+        }
+    }
+
+    /// Its octets.
+    pub fn as_bytes(&self) -> &[u8]
+        ensures { result.now ≡ self.now }
+    {
+        &self.octets[..self.count]
+    }
+}
+
+/// Names in order, for which the room was taken before. Once one had no room, none are told.
 #[derive(Drop)]
 pub(crate) struct AskedNames {
-    names: Vec<String>,
+    names: Vec<AskedName>,
+    room: usize,
     whole: bool,
 }
 
 impl Model for AskedNames {
-    ghost Value = { Option (List (List ℕ)) };
+    ghost Value = { AskedState };
 
-    ghost view = { λ a. if a.whole then Some (map string_bytes a.names.items) else None };
+    ghost view = { λ a. record {
+      names = if a.whole then Some a.names.items else None;
+      room = a.room;
+    } };
+
+    ghost invariant = { λ a. vec_len a.names + a.room ≤ vec_capacity a.names };
 }
 
 impl AskedNames {
-    pub(crate) fn new(alloc: Global) -> Self
-        ensures { result ≡ Some [] }
+    pub(crate) fn new(alloc: Global) -> Result<Self, AllocError>
+        ensures { IfOk result (λ names. names ≡ record { names = Some []; room = MOST_NAMES }) }
     {
-        AskedNames {
-            names: Vec::new(alloc),
+        Ok(AskedNames {
+            names: Vec::with_capacity(alloc, MOST_NAMES)?,
+            room: MOST_NAMES,
             whole: true,
-        }
+        })
     }
 
-    pub(crate) fn ask(&mut self, alloc: Global, name: &str)
-        ensures { Asks self.old self.new (name.now ∷ []) }
+    pub(crate) fn ask(&mut self, name: &str)
+        ensures { self.new ≡ asked self.old name.now }
     {
-        if push_name(alloc, &mut self.names, name).is_err() {
+        if self.room > 0 && name.len() <= NAME_ROOM {
+            self.names.push(AskedName::new(name)).unwrap();
+            self.room -= 1;
+        } else {
             self.whole = false;
         }
     }
 
-    pub(crate) fn names(&self) -> Option<&[String]>
-        ensures { option_map (λ names. map string_bytes names.now) result ≡ self.now }
+    pub(crate) fn names(&self) -> Option<&[AskedName]>
+        ensures { option_map (λ names. names.now) result ≡ self.now.names }
     {
         if self.whole { Some(&self.names) } else { None }
     }
-}
-
-fn push_name(alloc: Global, names: &mut Vec<String>, name: &str) -> Result<(), AllocError>
-    ensures { OnOk result (map string_bytes names.new.items
-        ≡ map string_bytes names.old.items ++ name.now ∷ []) }
-{
-    names.push(String::from_str(alloc, name)?)?;
-    Ok(())
 }

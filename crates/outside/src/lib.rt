@@ -15,6 +15,7 @@ mod source;
 mod text;
 mod text_source;
 
+pub use asked::{AskedName, MOST_NAMES, NAME_ROOM};
 pub use buffered::{BufferedSink, ROOM};
 pub use byte_sink::ByteSink;
 pub use faults::count_fault;

@@ -1,12 +1,14 @@
 //! An outside in memory.
 ghost use Rattle.std.specs.Prelude.{◌≡◌, ℕ, [], List, Option, OnOk, OnErr, Some, option_copied};
-ghost use Rattle.std.specs.Prelude.{option_map, map, string_bytes};
+ghost use Rattle.std.specs.Prelude.{option_map, IfOk};
+ghost use Rattle.outside.specs.Names.{asked};
 ghost use Rattle.outside.specs.Outside.{OutsideTold, OpensIn, ClosesIn, OpensOut, ClosesOut};
 ghost use Rattle.outside.specs.States.{text_told, byte_told};
 ghost use Rattle.outside.specs.Places.{MemoryState, memory_told, standing, object_there, PutsUnder};
 ghost use Rattle.outside.specs.Places.{AllNamed};
+ghost use Rattle.outside.specs.declared.asked.TheConstants.{MOST_NAMES};
 
-use crate::asked::AskedNames;
+use crate::asked::{AskedName, AskedNames};
 use crate::byte_sink::ByteSink;
 use crate::faults::count_fault;
 use crate::outside::Outside;
@@ -18,11 +20,10 @@ use std::alloc::{AllocError, Global};
 use std::marker::Model;
 
 /// An outside whose objects were put there. Opening what wasn't put, or what is handed out, is a
-/// fault. It keeps the names that it was asked to open; once one finds no memory, it tells none of
-/// that list.
+/// fault. It keeps the names that it was asked to open, 16 of up to 64 octets for reading and as
+/// many for writing; once one has no room, it tells none of that list.
 #[derive(Drop)]
 pub struct MemoryOutside {
-    alloc: Global,
     sources: Vec<Place<TextSource>>,
     sinks: Vec<Place<ByteSink>>,
     read_names: AskedNames,
@@ -47,24 +48,23 @@ impl Model for MemoryOutside {
 }
 
 impl MemoryOutside {
-    /// An outside with nothing in it. It takes no memory.
-    pub fn new(alloc: Global) -> Self
-        ensures { result ≡ record {
+    /// An outside with nothing in it. The room for names is taken here.
+    pub fn new(alloc: Global) -> Result<Self, AllocError>
+        ensures { IfOk result (λ outside. outside ≡ record {
           sources = [];
           sinks = [];
-          read_names = Some [];
-          written_names = Some [];
+          read_names = record { names = Some []; room = MOST_NAMES };
+          written_names = record { names = Some []; room = MOST_NAMES };
           faults = 0;
-        } }
+        }) }
     {
-        MemoryOutside {
-            alloc,
+        Ok(MemoryOutside {
             sources: Vec::new(alloc),
             sinks: Vec::new(alloc),
-            read_names: AskedNames::new(alloc),
-            written_names: AskedNames::new(alloc),
+            read_names: AskedNames::new(alloc)?,
+            written_names: AskedNames::new(alloc)?,
             faults: 0,
-        }
+        })
     }
 
     /// Puts a source under a name, in the place of what stands there.
@@ -103,16 +103,16 @@ impl MemoryOutside {
         look(&self.sinks, name)
     }
 
-    /// The names that it was asked to open for reading, in order; None once one found no memory.
-    pub fn read_names(&self) -> Option<&[String]>
-        ensures { option_map (λ names. map string_bytes names.now) result ≡ self.now.read_names }
+    /// The names that it was asked to open for reading, in order; None once one had no room.
+    pub fn read_names(&self) -> Option<&[AskedName]>
+        ensures { option_map (λ names. names.now) result ≡ self.now.read_names.names }
     {
         self.read_names.names()
     }
 
     /// The same for writing.
-    pub fn written_names(&self) -> Option<&[String]>
-        ensures { option_map (λ names. map string_bytes names.now) result ≡ self.now.written_names }
+    pub fn written_names(&self) -> Option<&[AskedName]>
+        ensures { option_map (λ names. names.now) result ≡ self.now.written_names.names }
     {
         self.written_names.names()
     }
@@ -125,8 +125,12 @@ impl Outside for MemoryOutside {
 
     ghost told = { memory_told };
 
-    fn open_in(&mut self, name: &str) -> Option<TextSource> {
-        self.read_names.ask(self.alloc, name);
+    fn open_in(&mut self, name: &str) -> Option<TextSource>
+        ensures opens { OpensIn (memory_told self.old) (memory_told self.new) name.now
+            (option_map text_told result) }
+        ensures asked { self.new.read_names ≡ asked self.old.read_names name.now }
+    {
+        self.read_names.ask(name);
         let source = open(&mut self.sources, name);
         self.faults = count_fault(self.faults, source.is_none());
         source
@@ -137,8 +141,12 @@ impl Outside for MemoryOutside {
         close(&mut self.sources, source);
     }
 
-    fn open_out(&mut self, name: &str) -> Option<ByteSink> {
-        self.written_names.ask(self.alloc, name);
+    fn open_out(&mut self, name: &str) -> Option<ByteSink>
+        ensures opens { OpensOut (memory_told self.old) (memory_told self.new) name.now
+            (option_map byte_told result) }
+        ensures asked { self.new.written_names ≡ asked self.old.written_names name.now }
+    {
+        self.written_names.ask(name);
         let sink = open(&mut self.sinks, name);
         self.faults = count_fault(self.faults, sink.is_none());
         sink
