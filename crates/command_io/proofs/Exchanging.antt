@@ -1,14 +1,15 @@
 -- An object that was opened, used and closed again.
-use Rattle.std.proofs.Common.{◌≡◌, ◌⊎◌, ℕ, Bool, true, false, ◌||◌, ◌<◌, cond, List, []}
+use Rattle.std.proofs.Common.{◌≡◌, ◌⊎◌, ℕ, zero, suc, Bool, true, false, ◌||◌, ◌<◌, cond, List, []}
 use Rattle.std.proofs.Common.{◌∷◌, Some, None}
 use Rattle.std.proofs.Common.{refl, sym, ◌∙◌, ap, subst, inl, inr}
 use Rattle.std.specs.Prelude.{bytes_eq}
 use Rattle.std.proofs.lemmas.Slice.Eq.{bytes_eq-Decides}
 use Rattle.outside.specs.Faults.{counted}
 use Rattle.outside.specs.Outside.{Standing, untold, missing, lent, there, HandsOut, Changes}
-use Rattle.outside.specs.Outside.{lent_from, put_back_at}
+use Rattle.outside.specs.Outside.{lent_from, put_back_at, Acts}
 use Rattle.command_io.specs.Leaves.{is_among, StandsAgain, Keeps, FailedAt, FaultyAt, CleanAt}
-use Rattle.command_io.proofs.Leaving.{StandsAgain-refl, Rises-positive}
+use Rattle.command_io.specs.Leaves.{AtMost, times}
+use Rattle.command_io.proofs.Leaving.{StandsAgain-refl, Acts-none, Rises-positive}
 
 pub same_name : (name : List ℕ) → bytes_eq name name ≡ true
 same_name name = (bytes_eq-Decides name name).1 refl
@@ -23,6 +24,18 @@ not_among name n h = here (bytes_eq n name) h
     here : (b : Bool) → (b || false) ≡ false → b ≡ false
     here true h = absurd cc
     here false h = refl
+
+-- nothing changed
+pub Keeps-alike : {X : Type 0} (faults : X → ℕ) (step : X → X → Type 0) (failed : Bool)
+    (names : List (List ℕ)) (before after : List ℕ → Standing X)
+    → ((name : List ℕ) → after name ≡ before name) → Keeps faults step failed names before after
+Keeps-alike faults step failed names before after same = record {
+  others = λ name absent. same name;
+  again = λ name. subst (λ s. StandsAgain faults failed (before name) s) (sym (same name))
+      (StandsAgain-refl faults failed (before name));
+  acts = λ name. subst (λ s. Acts (AtMost step (times names name)) (before name) s)
+      (sym (same name)) (Acts-none step (times names name) (before name));
+}
 
 module _ {X : Type 0} (name_of : X → List ℕ) (faults_of : X → ℕ) (name : List ℕ)
     (before mid after : List ℕ → Standing X) where
@@ -90,8 +103,9 @@ module _ {X : Type 0} (name_of : X → List ℕ) (faults_of : X → ℕ) (name :
 
   module _ (x y : X) (failed : Bool) (counts : faults_of y ≡ counted failed (faults_of x))
       (exchanged : IsExchanged x y) where
-    pub Keeps-exchanged : Keeps faults_of failed (name ∷ []) before after
-    Keeps-exchanged = here exchanged
+    pub Keeps-exchanged : (step : X → X → Type 0) → step x y
+        → Keeps faults_of step failed (name ∷ []) before after
+    Keeps-exchanged step steps = here exchanged
       where
         grows : (f : Bool) → faults_of y ≡ counted f (faults_of x)
             → StandsAgain faults_of f (there x) (there y)
@@ -112,15 +126,26 @@ module _ {X : Type 0} (name_of : X → List ℕ) (faults_of : X → ℕ) (name :
             (subst (λ s. StandsAgain faults_of failed (there x) s) (sym stands)
             (grows failed counts)))
 
-        here : IsExchanged x y → Keeps faults_of failed (name ∷ []) before after
-        here (inl nothing) = record {
-          others = λ n absent. nothing.2 n;
-          again = λ n. subst (λ s. StandsAgain faults_of failed (before n) s) (sym (nothing.2 n))
-              (StandsAgain-refl faults_of failed (before n));
-        }
+        acts : (n : List ℕ) (b : Bool) → bytes_eq n name ≡ b → before name ≡ there x
+            → after name ≡ there y
+            → ((m : List ℕ) → bytes_eq m name ≡ false → after m ≡ before m)
+            → Acts (AtMost step (cond b (suc zero) zero)) (before n) (after n)
+        acts n false at stood stands others =
+            subst (λ s. Acts (AtMost step zero) (before n) s) (sym (others n at))
+            (Acts-none step zero (before n))
+        acts n true at stood stands others =
+            let e : n ≡ name = name_is n name at in
+            subst (λ m. Acts (AtMost step (suc zero)) (before m) (after m)) (sym e)
+            (subst (λ s. Acts (AtMost step (suc zero)) s (after name)) (sym stood)
+            (y, stands, inr (y, steps, refl)))
+
+        here : IsExchanged x y → Keeps faults_of step failed (name ∷ []) before after
+        here (inl nothing) =
+            Keeps-alike faults_of step failed (name ∷ []) before after nothing.2
         here (inr stood) = record {
           others = λ n absent. stood.2 n (not_among name n absent);
           again = λ n. again n (bytes_eq n name) refl stood.0 stood.1 stood.2;
+          acts = λ n. acts n (bytes_eq n name) refl stood.0 stood.1 stood.2;
         }
 
     pub FailedAt-exchanged : failed ≡ true → FailedAt faults_of (before name) (after name)

@@ -1,5 +1,6 @@
 -- What a call leaves of an outside, one part of it after another.
-use Rattle.std.proofs.Common.{◌≡◌, ◌⊎◌, ℕ, zero, suc, zero-add, suc-add, Bool, true, false, ◌<◌}
+use Rattle.std.proofs.Common.{◌≡◌, ◌⊎◌, ℕ, zero, suc, zero-add, suc-add, Bool, true, false, cond}
+use Rattle.std.proofs.Common.{◌<◌}
 use Rattle.std.proofs.Common.{◌||◌, List, [], ◌∷◌, ◌++◌, take, length, ◌+◌}
 use Rattle.std.proofs.Common.{Option, Some, None, refl, sym, ◌∙◌, ap, subst, inl, inr, arith}
 use Rattle.std.proofs.Common.{append_assoc}
@@ -9,9 +10,9 @@ use Rattle.std.proofs.lemmas.List.{append-nil}
 use Rattle.std.proofs.Math.Seq.{take-append-add}
 use Rattle.outside.specs.Faults.{next_count}
 use Rattle.outside.specs.Sink.{SinkTold}
-use Rattle.outside.specs.Outside.{Standing, untold, missing, lent, there, OutsideTold, Asks}
+use Rattle.outside.specs.Outside.{Standing, untold, missing, lent, there, OutsideTold, Asks, Acts}
 use Rattle.command_io.specs.Leaves.{is_among, SomeOf, EachOf, StandsAgain, FailedAt, FaultyAt}
-use Rattle.command_io.specs.Leaves.{CleanAt, Keeps}
+use Rattle.command_io.specs.Leaves.{CleanAt, Keeps, times, AtMost, IsTextRead, IsWritten}
 use Rattle.command_io.specs.Leaves.{source_faults, sink_faults, AsksFront, raised, Grows, Rises}
 use Rattle.command_io.specs.Leaves.{HasReason, HasFaulty}
 use Rattle.command_io.specs.Leaves.{IsClean, IsCounted, Uses}
@@ -144,22 +145,85 @@ module _ {X : Type 0} (faults : X → ℕ) where
   CleanAt-after (there x) m first clean =
       subst (λ s. CleanAt faults s) (sym first.1) (first.3 refl ∙ clean)
 
+module _ {X : Type 0} (step : X → X → Type 0) where
+  AtMost-none : (n : ℕ) (x : X) → AtMost step n x x
+  AtMost-none zero x = refl
+  AtMost-none (suc n) x = inl refl
+
+  AtMost-up : (n : ℕ) (x y : X) → AtMost step n x y → AtMost step (suc n) x y
+  AtMost-up zero x y same = inl same
+  AtMost-up (suc n) x y (inl same) = inl same
+  AtMost-up (suc n) x y (inr some) = inr (some.0, some.1, AtMost-up n some.0 y some.2)
+
+  AtMost-later : (n k : ℕ) (x y : X) → AtMost step k x y → AtMost step (n + k) x y
+  AtMost-later zero k x y then = rw zero-add then
+  AtMost-later (suc n) k x y then = rw suc-add (AtMost-up (n + k) x y (AtMost-later n k x y then))
+
+  AtMost-then : (n k : ℕ) (x m y : X) → AtMost step n x m → AtMost step k m y
+      → AtMost step (n + k) x y
+  AtMost-then zero k x m y same then = rw zero-add (subst (λ z. AtMost step k z y) same then)
+  AtMost-then (suc n) k x m y (inl same) then =
+      AtMost-later (suc n) k x y (subst (λ z. AtMost step k z y) same then)
+  AtMost-then (suc n) k x m y (inr some) then =
+      rw suc-add (inr (some.0, some.1, AtMost-then n k some.0 m y some.2 then))
+
+  pub Acts-none : (n : ℕ) (s : Standing X) → Acts (AtMost step n) s s
+  Acts-none n untold = refl
+  Acts-none n missing = refl
+  Acts-none n lent = refl
+  Acts-none n (there x) = (x, refl, AtMost-none n x)
+
+  pub Acts-then : (n k : ℕ) (b m a : Standing X) → Acts (AtMost step n) b m
+      → Acts (AtMost step k) m a → Acts (AtMost step (n + k)) b a
+  Acts-then n k untold m a first second = subst (λ s. Acts (AtMost step k) s a) first second
+  Acts-then n k missing m a first second = subst (λ s. Acts (AtMost step k) s a) first second
+  Acts-then n k lent m a first second = subst (λ s. Acts (AtMost step k) s a) first second
+  Acts-then n k (there x) m a first second =
+      let then : Acts (AtMost step k) (there first.0) a = subst (λ s. Acts (AtMost step k) s a)
+      first.1 second in
+      (then.0, then.1, AtMost-then n k x first.0 then.0 first.2 then.2)
+
+times-append : (first second : List (List ℕ)) (name : List ℕ)
+    → times (first ++ second) name ≡ times first name + times second name
+times-append [] second name = sym (zero-add (times second name))
+times-append (n ∷ first) second name = here (bytes_eq name n) (times-append first second name)
+  where
+    here : (same : Bool) → times (first ++ second) name ≡ times first name + times second name
+        → cond same (suc (times (first ++ second) name)) (times (first ++ second) name)
+        ≡ cond same (suc (times first name)) (times first name) + times second name
+    here true rest = ap suc rest ∙ sym (suc-add (times first name) (times second name))
+    here false rest = rest
+
+-- names that are named more often
+pub Acts-wider : {X : Type 0} (step : X → X → Type 0) (first second : List (List ℕ))
+    (name : List ℕ) (b a : Standing X) → Acts (AtMost step (times first name)) b a
+    → Acts (AtMost step (times (first ++ second) name)) b a
+Acts-wider step first second name b a acts =
+    subst (λ n. Acts (AtMost step n) b a) (sym (times-append first second name))
+    (Acts-then step (times first name) (times second name) b a a acts
+    (Acts-none step (times second name) a))
+
 -- whether a name is among these or those
 pub is_among-append : (first second : List (List ℕ)) (name : List ℕ)
     → is_among (first ++ second) name ≡ (is_among first name || is_among second name)
 is_among-append first second name = list_any-append (bytes_eq name) first second
 
 module _ (f g : Bool) (first second : List (List ℕ)) where
-  pub Keeps-then : {X : Type 0} (faults : X → ℕ) (p q r : List ℕ → Standing X)
-      → Keeps faults f first p q → Keeps faults g second q r
-      → Keeps faults (f || g) (first ++ second) p r
-  Keeps-then faults p q r kept then = record {
+  pub Keeps-then : {X : Type 0} (faults : X → ℕ) (step : X → X → Type 0)
+      (p q r : List ℕ → Standing X)
+      → Keeps faults step f first p q → Keeps faults step g second q r
+      → Keeps faults step (f || g) (first ++ second) p r
+  Keeps-then faults step p q r kept then = record {
     others = λ name absent.
         let parts = or-false (is_among first name) (is_among second name)
         (sym (is_among-append first second name) ∙ absent) in
         then.others name parts.1 ∙ kept.others name parts.0;
     again = λ name. StandsAgain-then faults f g (p name) (q name) (r name) (kept.again name)
         (then.again name);
+    acts = λ name.
+        subst (λ n. Acts (AtMost step n) (p name) (r name)) (sym (times-append first second name))
+        (Acts-then step (times first name) (times second name) (p name) (q name) (r name)
+        (kept.acts name) (then.acts name));
   }
 
 pub SomeOf-left : (first second : List (List ℕ)) (P : List ℕ → Type 0) → SomeOf first P
@@ -212,9 +276,10 @@ Asks-none None = refl
 Asks-none (Some names) = inr (ap Some (sym (append-nil names)))
 
 module _ (f g : Bool) (first second outputs : List (List ℕ)) (b m a : OutsideTold) where
-  module _ (sources : Keeps source_faults f first b.sources m.sources)
-      (more : Keeps source_faults g second m.sources a.sources)
-      (sinks : m.sinks ≡ b.sinks) (more_sinks : Keeps sink_faults g outputs m.sinks a.sinks) where
+  module _ (sources : Keeps source_faults IsTextRead f first b.sources m.sources)
+      (more : Keeps source_faults IsTextRead g second m.sources a.sources)
+      (sinks : m.sinks ≡ b.sinks)
+      (more_sinks : Keeps sink_faults IsWritten g outputs m.sinks a.sinks) where
     reason_first : HasReason first [] b m → HasReason (first ++ second) outputs b a
     reason_first (inl some) = inl (SomeOf-left first second _ (SomeOf-map first _ _
         (λ name h. FailedAt-after source_faults g (b.sources name) (m.sources name)
@@ -301,12 +366,15 @@ module _ (f g : Bool) (first second outputs : List (List ℕ)) (b m a : OutsideT
   Uses-then used asked sinks written then = record {
     counted = IsCounted-then used.sources then.sources sinks then.sinks used.counted then.counted;
     sources =
-        Keeps-then f g first second source_faults b.sources m.sources a.sources used.sources
-        then.sources;
+        Keeps-then f g first second source_faults IsTextRead b.sources m.sources a.sources
+        used.sources then.sources;
     sinks = record {
       others = λ name absent. then.sinks.others name absent
           ∙ ap (λ (s : List ℕ → Standing SinkTold). s name) sinks;
       again = λ name. StandsAgain-more name;
+      acts = λ name. subst (λ (s : List ℕ → Standing SinkTold).
+          Acts (AtMost IsWritten (times outputs name)) (s name) (a.sinks name)) sinks
+          (then.sinks.acts name);
     };
     read = AsksFront-then b.read_names m.read_names a.read_names first second asked then.read;
     written = subst (λ w. AsksFront w a.written_names outputs) written then.written;

@@ -1,8 +1,9 @@
 -- Standard output, opened, told something, and closed again.
-use Rattle.std.proofs.Common.{◌≡◌, ◌⊎◌, ℕ, zero, suc, Bool, true, ◌<◌, List, [], ◌∷◌}
+use Rattle.std.proofs.Common.{◌≡◌, ◌⊎◌, ℕ, zero, suc, Bool, true, false, ◌<◌, List, [], ◌∷◌, ◌++◌}
+use Rattle.std.proofs.Common.{take}
 use Rattle.std.proofs.Common.{Some, None}
-use Rattle.std.proofs.Common.{refl, sym, ◌∙◌, ap, subst, inl, inr, arith}
-use Rattle.std.specs.Prelude.{IsTrue, nat_lt}
+use Rattle.std.proofs.Common.{refl, sym, ◌∙◌, ap, subst, inl, inr, arith, append_assoc}
+use Rattle.std.specs.Prelude.{IsTrue, nat_lt, codes, decimal}
 use Rattle.outside.specs.Faults.{counted, next_count}
 use Rattle.outside.specs.Sink.{SinkTold}
 use Rattle.outside.specs.Outside.{OutsideTold, Asks}
@@ -12,16 +13,36 @@ use Rattle.command_io.specs.declared.status.Status.TheVariants.{Done, Usage, Inp
 use Rattle.command_io.specs.declared.status.Status.TheVariants.{Memory}
 use Rattle.command_io.specs.Statuses.{is_outside, is_whole, is_of_command, OnWhole}
 use Rattle.command_io.specs.Leaves.{SomeOf, Rises, Uses, source_faults, sink_faults, FailedAt}
-use Rattle.command_io.specs.Leaves.{FaultyAt, StandsAgain}
-use Rattle.command_io.specs.Saying.{Said, duty_to_say}
+use Rattle.command_io.specs.Leaves.{FaultyAt, IsTextRead, IsWritten}
+use Rattle.command_io.specs.declared.input.Refusal.{Refusal}
+use Rattle.command_io.specs.declared.input.Refusal.TheVariants.{Long, BadLine}
+use Rattle.command_io.specs.Saying.{Said, duty_to_say, refusal_text, full_text}
 use Rattle.command_io.specs.Runs.{output_name, taken_of, Took, EachFile, IsSaid, MatchesWords}
 use Rattle.command_io.specs.Runs.{IsThere, IsRun, Tells}
-use Rattle.command_io.proofs.Leaving.{StandsAgain-refl, Asks-none}
-use Rattle.command_io.proofs.Exchanging.{IsExchanged, is_exchanged, Keeps-exchanged}
+use Rattle.command_io.proofs.Leaving.{Asks-none}
+use Rattle.command_io.proofs.Exchanging.{IsExchanged, is_exchanged, Keeps-alike, Keeps-exchanged}
 use Rattle.command_io.proofs.Exchanging.{FailedAt-exchanged, FaultyAt-exchanged}
 use Rattle.command_io.proofs.Exchanging.{faultless_exchanged, faulty_exchanged, nothing_opened}
 use Rattle.command_io.proofs.Reading.{lt-test, Keeps-same}
 use Rattle.command_io.proofs.Running.{OnWhole-all, cut_run, complete_of, Took-untold}
+
+-- the line that refuses an input, behind the input's name
+abbrev pub refusal_rest : Refusal → List ℕ
+refusal_rest Long = codes " long" ++ 10 ∷ []
+refusal_rest (BadLine line) = (codes " line " ++ decimal line) ++ 10 ∷ []
+
+-- the texts that a line is written of
+pub refusal_parts : (input : List ℕ) (refusal : Refusal)
+    → refusal_text input refusal ≡ (codes "input " ++ input) ++ refusal_rest refusal
+refusal_parts input Long = append_assoc (codes "input " ++ input) (codes " long") (10 ∷ [])
+refusal_parts input (BadLine line) =
+    append_assoc (codes "input " ++ input ++ codes " line ") (decimal line) (10 ∷ [])
+    ∙ append_assoc (codes "input " ++ input) (codes " line ") (decimal line ++ 10 ∷ [])
+
+pub full_parts : (weight limit : ℕ) → full_text weight limit
+    ≡ ((codes "full " ++ decimal weight) ++ codes " ") ++ (decimal limit ++ 10 ∷ [])
+full_parts weight limit =
+    append_assoc ((codes "full " ++ decimal weight) ++ codes " ") (decimal limit) (10 ∷ [])
 
 -- what telling leaves of the sink
 Tells-answered : (said : Said) (k l : SinkTold) (status : Status) → Tells said k l status
@@ -59,6 +80,15 @@ Tells-name said k l Input tells = tells.1.name
 Tells-name said k l Full tells = tells.1.name
 Tells-name said k l Outside tells = tells.1.name
 Tells-name said k l Memory tells = tells.1.name
+
+Tells-written : (said : Said) (k l : SinkTold) (status : Status) → Tells said k l status
+    → IsWritten k l
+Tells-written said k l Done tells = (said.text, false, tells.1)
+Tells-written said k l Usage tells = (said.text, false, tells.1)
+Tells-written said k l Input tells = (said.text, false, tells.1)
+Tells-written said k l Full tells = (said.text, false, tells.1)
+Tells-written said k l Outside tells = (take tells.0 said.text, true, tells.1)
+Tells-written said k l Memory tells = (take tells.0 said.text, false, tells.1)
 
 -- a whole status, or a fault outside in its place, answers the words that it is for
 pub answers_words : (answer status : Status) → IsTrue (is_whole answer)
@@ -179,11 +209,12 @@ module _ (b m a : OutsideTold) (is_command : Bool) (said_now : Said) (alone : sa
                 (Tells-faults said_now k l status tells) exchanged clean.1.0 none);
           };
           sources =
-              Keeps-same source_faults (is_outside status) [] b.sources a.sources
+              Keeps-same source_faults IsTextRead (is_outside status) [] b.sources a.sources
               (closes.sources ∙ opens.sources);
           sinks = Keeps-exchanged (λ sink. sink.name)
               sink_faults output_name b.sinks m.sinks a.sinks k l (is_outside status)
-              (Tells-faults said_now k l status tells) exchanged;
+              (Tells-faults said_now k l status tells) exchanged IsWritten
+              (Tells-written said_now k l status tells);
           read = (
             0,
             subst (λ names. Asks b.read_names names [])
@@ -204,12 +235,9 @@ module _ (b m a : OutsideTold) (is_command : Bool) (said_now : Said) (alone : sa
             kept = inr ((0, opens.faults), inr (inl nothing.2));
             exact = λ clean none. absurd cc;
           };
-          sources = Keeps-same source_faults true [] b.sources m.sources opens.sources;
-          sinks = record {
-            others = λ n absent. nothing.0 n;
-            again = λ n. subst (λ s. StandsAgain sink_faults true (b.sinks n) s) (sym (nothing.0 n))
-                (StandsAgain-refl sink_faults true (b.sinks n));
-          };
+          sources = Keeps-same source_faults IsTextRead true [] b.sources m.sources opens.sources;
+          sinks = Keeps-alike sink_faults IsWritten true (output_name ∷ []) b.sinks m.sinks
+              nothing.0;
           read = (
             0,
             subst (λ names. Asks b.read_names names []) (sym opens.read_names)

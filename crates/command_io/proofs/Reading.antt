@@ -11,15 +11,15 @@ use Rattle.outside.specs.Octets.{Takes}
 use Rattle.outside.specs.Source.{SourceTold}
 use Rattle.outside.specs.Text.{TextResult, IsTextOf, ReadsText, is_failed_text}
 use Rattle.outside.specs.Outside.{Standing, untold as untold_name, missing as missing_name, lent}
-use Rattle.outside.specs.Outside.{there, OutsideTold, Asks, OpensIn, ClosesIn, HandsOut}
+use Rattle.outside.specs.Outside.{there, OutsideTold, Asks, Acts, OpensIn, ClosesIn, HandsOut}
 use Rattle.command_io.specs.declared.input.TheConstants.{TEXT_LIMIT}
 use Rattle.command_io.specs.declared.input.InputEnd.TheVariants.{Outside}
 use Rattle.command_io.specs.Leaves.{SomeOf, Keeps, Rises, source_faults}
-use Rattle.command_io.specs.Leaves.{sink_faults, FailedAt, FaultyAt, StandsAgain}
+use Rattle.command_io.specs.Leaves.{sink_faults, FailedAt, FaultyAt, IsTextRead, IsWritten}
 use Rattle.command_io.specs.Saying.{told, told_by, text_of, emptied}
-use Rattle.command_io.specs.Inputs.{input_of, IsInput, is_lost, OpensInput, ReadsInput}
-use Rattle.command_io.proofs.Leaving.{Asks-none, StandsAgain-refl}
-use Rattle.command_io.proofs.Exchanging.{IsExchanged, is_exchanged, Keeps-exchanged}
+use Rattle.command_io.specs.Inputs.{input_of, IsInput, is_lost, IsReadTo, OpensInput, ReadsInput}
+use Rattle.command_io.proofs.Leaving.{Asks-none}
+use Rattle.command_io.proofs.Exchanging.{IsExchanged, is_exchanged, Keeps-alike, Keeps-exchanged}
 use Rattle.command_io.proofs.Exchanging.{FailedAt-exchanged, FaultyAt-exchanged}
 use Rattle.command_io.proofs.Exchanging.{faultless_exchanged, faulty_exchanged, nothing_opened}
 
@@ -73,16 +73,11 @@ pub lt-test : (n : ℕ) → 0 < n → nat_lt 0 n ≡ true
 lt-test n h = grind (arith, nat_tests)
 
 -- sinks that are as before
-pub Keeps-same : {X : Type 0} (faults : X → ℕ) (failed : Bool) (names : List (List ℕ))
-    (before after : List ℕ → Standing X)
-    → after ≡ before → Keeps faults failed names before after
-Keeps-same faults failed names before after same =
-    subst (λ s. Keeps faults failed names before s) (sym same)
-    (record {
-      others = λ name absent. refl;
-      again =
-          λ name. StandsAgain-refl faults failed (before name);
-    })
+pub Keeps-same : {X : Type 0} (faults : X → ℕ) (step : X → X → Type 0) (failed : Bool)
+    (names : List (List ℕ)) (before after : List ℕ → Standing X)
+    → after ≡ before → Keeps faults step failed names before after
+Keeps-same faults step failed names before after same =
+    Keeps-alike faults step failed names before after (λ name. ap (λ s. s name) same)
 
 module _ (b m a : OutsideTold) (name : List ℕ) where
   source_name : SourceTold → List ℕ
@@ -96,6 +91,7 @@ module _ (b m a : OutsideTold) (name : List ℕ) where
   ReadsInput-from s t result octets opens reads closes = record {
     text = text exchanged;
     spent = spent exchanged;
+    read = read exchanged;
     opens = subst (λ f. OpensInput b a name f) (sym (is_lost-input_of result)) opened;
   }
     where
@@ -124,6 +120,16 @@ module _ (b m a : OutsideTold) (name : List ℕ) where
       spent (inr stood) = OnOk-map (input_of result)
           (λ same. ap text_of stood.1 ∙ same ∙ ap (λ s. emptied (text_of s)) (sym stood.0))
           (rest_spent result s.left t.left octets reads.took reads.text)
+
+      read : IsExchanged (λ source. source.name)
+          source_faults name b.sources m.sources a.sources s t
+          → Acts (IsReadTo (input_of result)) (b.sources name) (a.sources name)
+      read (inl nothing) =
+          subst (λ s. Acts (IsReadTo (input_of result)) s (a.sources name)) (sym nothing.0)
+          (nothing.2 name ∙ nothing.0)
+      read (inr stood) =
+          subst (λ s. Acts (IsReadTo (input_of result)) s (a.sources name)) (sym stood.0)
+          (t, stood.1, (result, refl, (octets, reads)))
 
       opened_count : m.faults ≡ b.faults
       opened_count = opens.faults
@@ -176,8 +182,9 @@ module _ (b m a : OutsideTold) (name : List ℕ) where
           sources =
               Keeps-exchanged (λ source. source.name)
               source_faults name b.sources m.sources a.sources s t failed reads.faults
-              exchanged;
-          sinks = Keeps-same sink_faults failed [] b.sinks a.sinks (closes.sinks ∙ opens.sinks);
+              exchanged IsTextRead (result, octets, reads);
+          sinks = Keeps-same sink_faults IsWritten failed [] b.sinks a.sinks
+              (closes.sinks ∙ opens.sinks);
           read = (
             1,
             subst (λ names. Asks b.read_names names (name ∷ [])) (sym closes.read_names)
@@ -200,6 +207,7 @@ module _ (b m a : OutsideTold) (name : List ℕ) where
   ReadsInput-unopened opens = record {
     text = text (b.sources name) opens.source;
     spent = tt;
+    read = read (b.sources name) refl opens.source;
     opens = record {
       uses = record {
         counted = record {
@@ -208,12 +216,9 @@ module _ (b m a : OutsideTold) (name : List ℕ) where
           kept = inr ((0, opens.faults), inl (inl nothing.2));
           exact = λ clean none. absurd cc;
         };
-        sources = record {
-          others = λ n absent. nothing.0 n;
-          again = λ n. subst (λ s. StandsAgain source_faults true (b.sources n) s)
-              (sym (nothing.0 n)) (StandsAgain-refl source_faults true (b.sources n));
-        };
-        sinks = Keeps-same sink_faults true [] b.sinks m.sinks opens.sinks;
+        sources = Keeps-alike source_faults IsTextRead true (name ∷ []) b.sources m.sources
+            nothing.0;
+        sinks = Keeps-same sink_faults IsWritten true [] b.sinks m.sinks opens.sinks;
         read = (1, opens.read_names);
         written = (
           0,
@@ -233,6 +238,14 @@ module _ (b m a : OutsideTold) (name : List ℕ) where
       nothing =
           nothing_opened (λ source. source.name)
           source_faults name b.sources m.sources m.sources opens.source opens.sources
+
+      read : (s : Standing SourceTold) → b.sources name ≡ s
+          → HandsOut (λ source. source.name) source_faults b.sources name s None
+          → Acts (IsReadTo (Err Outside)) s (m.sources name)
+      read untold_name at hands = nothing.0 name ∙ at
+      read missing_name at hands = nothing.0 name ∙ at
+      read lent at hands = nothing.0 name ∙ at
+      read (there object) at hands = absurd cc
 
       text : (s : Standing SourceTold)
           → HandsOut (λ source. source.name) source_faults b.sources name s None

@@ -13,13 +13,14 @@ use Rattle.command_io.specs.declared.status.Status.TheVariants.{Done, Usage, Inp
 use Rattle.command_io.specs.declared.status.Status.TheVariants.{Memory}
 use Rattle.command_io.specs.Statuses.{is_outside, OnWhole}
 use Rattle.command_io.specs.Leaves.{is_among, SomeOf, Rises, Uses}
-use Rattle.command_io.specs.Leaves.{source_faults, sink_faults, FailedAt, FaultyAt}
+use Rattle.command_io.specs.Leaves.{source_faults, sink_faults, FailedAt, FaultyAt, IsTextRead}
+use Rattle.command_io.specs.Leaves.{IsWritten}
 use Rattle.command_io.specs.Saying.{Said, Duty}
 use Rattle.command_io.specs.Runs.{output_name, taken_of, Took, EachFile, IsSaid, MatchesWords}
 use Rattle.command_io.specs.Runs.{IsThere, IsComplete, IsRun}
 use Rattle.command_io.specs.Inputs.{OpensInput}
 use Rattle.command_io.proofs.Leaving.{or-false, is_among-append, SomeOf-left, EachOf-parts}
-use Rattle.command_io.proofs.Leaving.{Asks-none, Asks-append, Uses-then}
+use Rattle.command_io.proofs.Leaving.{Asks-none, Asks-append, Acts-wider, Uses-then}
 use Rattle.command_io.proofs.Reading.{Keeps-same}
 
 pub OnWhole-all : (status : Status) {P : Type 0} → P → OnWhole status P
@@ -149,8 +150,8 @@ Uses-idle inputs outputs b = record {
     kept = inl refl;
     exact = λ clean none. refl;
   };
-  sources = Keeps-same source_faults false inputs b.sources b.sources refl;
-  sinks = Keeps-same sink_faults false outputs b.sinks b.sinks refl;
+  sources = Keeps-same source_faults IsTextRead false inputs b.sources b.sources refl;
+  sinks = Keeps-same sink_faults IsWritten false outputs b.sinks b.sinks refl;
   read = (0, Asks-none b.read_names);
   written = (0, Asks-none b.written_names);
 }
@@ -229,6 +230,8 @@ Uses-wider inputs more outputs failed b a uses = record {
         (or-false (is_among inputs name) (is_among more name)
         (sym (is_among-append inputs more name) ∙ absent)).0;
     again = uses.sources.again;
+    acts = λ name. Acts-wider IsTextRead inputs more name (b.sources name) (a.sources name)
+        (uses.sources.acts name);
   };
   sinks = uses.sinks;
   read = (

@@ -3,8 +3,9 @@ use Rattle.std.specs.Prelude.{◌≡◌, ℕ, Bool, true, false, ◌<◌, ◌≤
 use Rattle.std.specs.Prelude.{Result, Ok, Err, Vec, OnOk}
 use Rattle.std.specs.declared.alloc.Global.{Global}
 use Rattle.outside.specs.declared.text.TextEnd.TheVariants as text_ends
-use Rattle.outside.specs.Text.{TextResult}
-use Rattle.outside.specs.Outside.{OutsideTold, Asks}
+use Rattle.outside.specs.Source.{SourceTold}
+use Rattle.outside.specs.Text.{TextResult, ReadsText}
+use Rattle.outside.specs.Outside.{OutsideTold, Asks, Acts}
 use Rattle.command_io.specs.declared.input.Refusal.TheVariants.{Long, BadLine}
 use Rattle.command_io.specs.declared.input.InputEnd.{InputEnd}
 use Rattle.command_io.specs.declared.input.InputEnd.TheVariants.{Refused, Outside, Memory}
@@ -36,6 +37,11 @@ is_lost (Err (Refused refusal)) = false
 is_lost (Err Outside) = true
 is_lost (Err Memory) = false
 
+-- a source was read as a text is, to this
+abbrev pub IsReadTo : Result (Vec ℕ Global) InputEnd → SourceTold → SourceTold → Type 0
+IsReadTo result before after = (read : TextResult) × (input_of read ≡ result)
+    × ((octets : List ℕ) × ReadsText before after TEXT_LIMIT read octets)
+
 -- no other input was opened, and no output
 pub record OpensInput (before after : OutsideTold) (name : List ℕ) (failed : Bool) : Type 0 where
   pub uses : Uses (name ∷ []) [] failed before after
@@ -49,4 +55,6 @@ pub record ReadsInput (before after : OutsideTold) (name : List ℕ)
   pub text : IsInput result (text_of (before.sources name))
   -- nothing is left of a text that was read
   pub spent : OnOk result (text_of (after.sources name) ≡ emptied (text_of (before.sources name)))
+  -- it was read once, and no call came after the last one of that reading
+  pub read : Acts (IsReadTo result) (before.sources name) (after.sources name)
   pub opens : OpensInput before after name (is_lost result)

@@ -1,11 +1,13 @@
 -- What a call leaves of an outside whose objects it opened, used and closed again.
 use Rattle.std.specs.Prelude.{◌≡◌, ◌⊎◌, ℕ, zero, suc, Bool, true, false, ◌<◌, List, [], ◌∷◌, take}
-use Rattle.std.specs.Prelude.{Option, bytes_eq}
+use Rattle.std.specs.Prelude.{Option, bytes_eq, if◌then◌else◌}
 use Rattle.std.specs.List.{list_any}
 use Rattle.outside.specs.Faults.{next_count}
 use Rattle.outside.specs.Source.{SourceTold}
-use Rattle.outside.specs.Sink.{SinkTold}
-use Rattle.outside.specs.Outside.{Standing, untold, missing, lent, there, OutsideTold, Asks}
+use Rattle.outside.specs.Sink.{SinkTold, Appends}
+use Rattle.outside.specs.Text.{TextResult, ReadsText}
+use Rattle.outside.specs.Outside.{Standing, untold, missing, lent, there, OutsideTold, Asks, Acts}
+use Rattle.command_io.specs.declared.input.TheConstants.{TEXT_LIMIT}
 
 -- a count of faults after so many more
 abbrev pub raised : ℕ → ℕ → ℕ
@@ -23,6 +25,26 @@ Rises before now = (more : ℕ) × (now ≡ raised (suc more) before)
 -- whether a name is one of these
 abbrev pub is_among : List (List ℕ) → List ℕ → Bool
 is_among names name = list_any (bytes_eq name) names
+
+-- how often a name is one of these
+abbrev pub times : List (List ℕ) → List ℕ → ℕ
+times [] name = zero
+times (n ∷ names) name = if bytes_eq name n then suc (times names name) else times names name
+
+-- so many steps at most, one after another
+abbrev pub AtMost : {X : Type 0} → (X → X → Type 0) → ℕ → X → X → Type 0
+AtMost {X} step zero before after = after ≡ before
+AtMost {X} step (suc n) before after =
+    (after ≡ before) ⊎ ((mid : X) × step before mid × AtMost step n mid after)
+
+-- all calls of a source: it was read as one text is, to its end, to a fault or past the limit
+abbrev pub IsTextRead : SourceTold → SourceTold → Type 0
+IsTextRead before after =
+    (result : TextResult) × (octets : List ℕ) × ReadsText before after TEXT_LIMIT result octets
+
+-- all calls of a sink: writes of which the last alone may have failed
+abbrev pub IsWritten : SinkTold → SinkTold → Type 0
+IsWritten before after = (octets : List ℕ) × (failed : Bool) × Appends before after octets failed
 
 -- a fact of some of these names
 abbrev pub SomeOf : List (List ℕ) → (List ℕ → Type 0) → Type 0
@@ -65,11 +87,14 @@ module _ {X : Type 0} (faults : X → ℕ) where
   CleanAt lent = Unit {0}
   CleanAt (there x) = faults x ≡ 0
 
+module _ {X : Type 0} (faults : X → ℕ) (step : X → X → Type 0) where
   -- what stands under other names is as before, and under these names something stands again
   pub record Keeps (failed : Bool) (names : List (List ℕ)) (before after : List ℕ → Standing X)
       : Type 0 where
     pub others : (name : List ℕ) → is_among names name ≡ false → after name ≡ before name
-    pub again : (name : List ℕ) → StandsAgain failed (before name) (after name)
+    pub again : (name : List ℕ) → StandsAgain faults failed (before name) (after name)
+    -- it went through one such step at most for each time that it is named
+    pub acts : (name : List ℕ) → Acts (AtMost step (times names name)) (before name) (after name)
 
 abbrev pub source_faults : SourceTold → ℕ
 source_faults source = source.faults
@@ -112,10 +137,11 @@ module _ (inputs outputs : List (List ℕ)) where
     -- where no object had a fault before, the count rises only where a failure is answered
     pub exact : IsClean before → failed ≡ false → after.faults ≡ before.faults
 
-  -- a call opens these names and no others, in order as far as it comes, and closes what it opened
+  -- a call opens these names and no others, in order as far as it comes, and closes what it
+  -- opened; it reads and writes each as often as that and no more
   pub record Uses (failed : Bool) (before after : OutsideTold) : Type 0 where
     pub counted : IsCounted failed before after
-    pub sources : Keeps source_faults failed inputs before.sources after.sources
-    pub sinks : Keeps sink_faults failed outputs before.sinks after.sinks
+    pub sources : Keeps source_faults IsTextRead failed inputs before.sources after.sources
+    pub sinks : Keeps sink_faults IsWritten failed outputs before.sinks after.sinks
     pub read : AsksFront before.read_names after.read_names inputs
     pub written : AsksFront before.written_names after.written_names outputs
