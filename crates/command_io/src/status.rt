@@ -10,7 +10,8 @@ pub enum Status {
     Done,
     /// 2: the words are no command.
     Usage,
-    /// 3: an input has a bad line or is too long; the last line printed says which.
+    /// 3: an input has a bad line or is too long, or its octets break a rule; the last line printed
+    /// says which.
     Input,
     /// 4: an object outside failed, or couldn't be opened.
     Outside,

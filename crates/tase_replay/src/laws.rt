@@ -13,10 +13,11 @@ pub fn calls_are_spelled()
         → (call_in words ≡ Some call) ↔ (SpellsCall words call × (is_odd call ≡ false)) }
 {}
 
-/// Isolation of peers. Whatever scenario is played: the lines that are taken are its first, and the
-/// replies and reports to a peer are those of the scenario of these lines alone but for those of
-/// other peers and the updates of points that the peer's table doesn't name. All of the lines that
-/// are left are taken: none is bad, and with none the history is full.
+/// Isolation of peers. Whatever scenario is played: the lines that are taken are its first, and all
+/// that is printed of a peer, the replies and reports to it and the octets that it is sent, is that
+/// of the scenario of these lines alone but for those of other peers and their links and the
+/// updates of points that the peer's table doesn't name. All of the lines that are left are taken:
+/// none is bad, and with none the history is full.
 pub fn peers_are_isolated()
     ensures isolated { (setup : Setup) (peer : ℕ) (scenario : List (List ℕ))
         → IsIsolated setup peer scenario }

@@ -1,5 +1,5 @@
-//! Scenarios: a text whose lines are the events of a node, played in order, with the replies
-//! printed.
+//! Scenarios: a text whose lines are the events of a node, played in order, with what the peers are
+//! answered and sent printed.
 //!
 //! Words are separated by spaces; empty lines and lines that begin with `#` are skipped. A line is
 //! one of
@@ -12,7 +12,18 @@
 //! - `update NAME BODY FLAGS SECONDS MILLIS`: the centre's own systems give a point a value. BODY
 //!   is `s` and a state, `d` and a discrete value or `r` and the eight hexadecimal digits of a real
 //!   one; FLAGS are two such digits;
-//! - `stop`: the node stops; afterwards only `close` lines are taken.
+//! - `stop`: the node stops; afterwards only `close` lines and lines of links are taken;
+//! - `in W HEX`: the link of seat W gives 1 to 16,384 octets, as pairs of hexadecimal digits in
+//!   either case;
+//! - `idle W`: it gives nothing for now;
+//! - `end W`: it gives no more.
+//!
+//! The last three are the lines of links: behind each `out W HEX` is printed where the link's peer
+//! is sent octets, and `ended W END` where its connection has ended. A seat is used by a link or by
+//! other lines, not by both.
+//!
+//! The play ends at the first bad line, and at the first event with which the history would weigh
+//! more octets than its node allows; the command's `--limit N` says how many these are.
 #![tactic(auto)]
 
 mod entries;
