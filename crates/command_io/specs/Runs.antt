@@ -1,15 +1,19 @@
 -- What a run leaves outside, by its status.
 use Rattle.std.specs.Prelude.{◌≡◌, ◌≢◌, ◌⊎◌, ℕ, Bool, true, false, List, [], ◌∷◌, take}
-use Rattle.std.specs.Prelude.{Option, None, IfSome, codes}
+use Rattle.std.specs.Prelude.{Option, None, IfSome, codes, Result, Ok, Err, Vec}
+use Rattle.std.specs.declared.alloc.Global.{Global}
 use Rattle.outside.specs.Octets.{Adds}
 use Rattle.outside.specs.Sink.{SinkTold, AppendsAll, AppendsPart}
 use Rattle.outside.specs.Outside.{Standing, untold, missing, lent, there, OutsideTold, Asks}
 use Rattle.command_io.specs.declared.status.Status.{Status}
 use Rattle.command_io.specs.declared.status.Status.TheVariants.{Done, Usage, Input, Outside, Full}
 use Rattle.command_io.specs.declared.status.Status.TheVariants.{Memory}
+use Rattle.command_io.specs.declared.input.InputEnd.{InputEnd}
+use Rattle.command_io.specs.declared.input.InputEnd.TheVariants.{Refused}
+use Rattle.command_io.specs.declared.input.InputEnd.TheVariants as ends
 use Rattle.command_io.specs.Statuses.{is_outside, OnWhole}
 use Rattle.command_io.specs.Leaves.{Uses, Rises}
-use Rattle.command_io.specs.Saying.{Said, Duty}
+use Rattle.command_io.specs.Saying.{Said, Duty, prints, refusal_text, duty_to_say}
 
 -- the name of standard output among the sinks
 abbrev pub output_name : List ℕ
@@ -90,3 +94,20 @@ Tells said before after Input = (said.status ≡ Input) × AppendsAll before aft
 Tells said before after Full = (said.status ≡ Full) × AppendsAll before after said.text
 Tells said before after Outside = AppendsPart before after said.text true
 Tells said before after Memory = AppendsPart before after said.text false
+
+-- what a command comes to that has no input: a refusal is printed, whether memory is left or not;
+-- each other end is answered as it is
+abbrev pub EndsUnread : List ℕ → InputEnd → OutsideTold → OutsideTold → Status → Type 0
+EndsUnread input (Refused refusal) before after status =
+    IsRun (duty_to_say true (prints Input (refusal_text input refusal))) before after status
+    × ((status ≡ Input) ⊎ (status ≡ Outside))
+EndsUnread input ends.Outside before after status = (status ≡ Outside) × (after ≡ before)
+EndsUnread input ends.Memory before after status = (status ≡ Memory) × (after ≡ before)
+
+-- what a command comes to whose input was read to this: it says so much of the text, or it ends
+-- without one
+abbrev pub EndsRead : List ℕ → (List ℕ → Said) → Result (Vec ℕ Global) InputEnd → OutsideTold
+    → OutsideTold → Status → Type 0
+EndsRead input say (Ok text) before after status =
+    IsRun (duty_to_say true (say text.items)) before after status
+EndsRead input say (Err end) before after status = EndsUnread input end before after status

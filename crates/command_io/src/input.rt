@@ -1,6 +1,5 @@
 //! The inputs of a command: their texts, each opened, read to its end and closed.
-ghost use Rattle.std.specs.Prelude.{◌≡◌, IfOk, string_bytes};
-ghost use Rattle.command_io.specs.Saying.{refusal_text};
+ghost use Rattle.std.specs.Prelude.{◌≡◌};
 ghost use Rattle.command_io.specs.Inputs.{input_of, ReadsInput};
 
 use outside::{Outside, TextEnd, read_text};
@@ -58,18 +57,4 @@ pub fn read_input<O: Outside>(
     let read = read_text(alloc, &mut source, TEXT_LIMIT);
     outside.close_in(source);
     input_from(read)
-}
-
-/// The line that refuses an input, which has this name among the command's inputs.
-pub(crate) fn refusal_line(
-    alloc: Global,
-    input: &str,
-    refusal: Refusal,
-) -> Result<String, AllocError>
-    ensures { IfOk result (λ text. string_bytes text ≡ refusal_text input.now refusal) }
-{
-    match refusal {
-        Refusal::Long => format!(in alloc; "input {input} long\n"),
-        Refusal::BadLine(line) => format!(in alloc; "input {input} line {line}\n"),
-    }
 }

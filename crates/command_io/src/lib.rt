@@ -1,6 +1,5 @@
 //! What the commands of the program share: how a command ends, its inputs, each opened, read to its
-//! end and closed, and
-//! what it prints.
+//! end and closed, and what it prints.
 #![tactic(auto)]
 
 mod input;
@@ -8,5 +7,5 @@ mod output;
 mod status;
 
 pub use input::{InputEnd, Refusal, TEXT_LIMIT, read_input};
-pub use output::{OUTPUT, print, refuse, tell_full, tell_refusal};
+pub use output::{OUTPUT, end_unread, print, refuse, tell_full, tell_refusal};
 pub use status::Status;

@@ -1,13 +1,14 @@
 //! What a command prints on standard output.
-ghost use Rattle.std.specs.Prelude.{◌≡◌, ◌⊎◌, IsTrue, true, IfOk, string_bytes};
+ghost use Rattle.std.specs.Prelude.{◌≡◌, ◌⊎◌, ◌++◌, IsTrue, true, decimal};
+ghost use Rattle.outside.specs.Sink.{WritesAll};
 ghost use Rattle.command_io.specs.Statuses.{is_whole, is_of_command};
 ghost use Rattle.command_io.specs.Saying.{prints, refusal_text, full_text, duty_to_say};
-ghost use Rattle.command_io.specs.Runs.{IsRun, Tells};
+ghost use Rattle.command_io.specs.Runs.{IsRun, Tells, EndsUnread};
 
-use crate::input::{Refusal, refusal_line};
+use crate::input::{InputEnd, Refusal};
 use crate::status::Status;
+use itoa::Buffer;
 use outside::{Outside, Sink, SinkFailed, write_all};
-use std::alloc::{AllocError, Global};
 
 /// The name of standard output among the outside's sinks.
 pub const OUTPUT: &str = "-";
@@ -24,33 +25,71 @@ pub fn tell<K: Sink>(sink: &mut K, status: Status, text: &[u8]) -> Status
     }
 }
 
-/// Writes the refusal of an input to an open sink. `input` names the input.
-pub fn tell_refusal<K: Sink>(alloc: Global, sink: &mut K, input: &str, refusal: Refusal) -> Status
-    ensures { Tells (prints Status.Input (refusal_text input.now refusal))
-        (K.told sink.old) (K.told sink.new) result }
+// Writes one text after another.
+fn write_both<K: Sink>(sink: &mut K, first: &[u8], next: &[u8]) -> Result<(), SinkFailed>
+    ensures { WritesAll (K.told sink.old) (K.told sink.new) (first.now ++ next.now) result }
 {
-    match refusal_line(alloc, input, refusal) {
-        Ok(line) => tell(sink, Status::Input, line.as_bytes()),
-        Err(AllocError) => Status::Memory,
+    write_all(sink, first)?;
+    write_all(sink, next)
+}
+
+// Writes a number between two texts.
+fn write_number<K: Sink>(
+    sink: &mut K,
+    before: &[u8],
+    number: u64,
+    after: &[u8],
+) -> Result<(), SinkFailed>
+    ensures { WritesAll (K.told sink.old) (K.told sink.new)
+        ((before.now ++ decimal number) ++ after.now) result }
+{
+    let mut digits = Buffer::new();
+    write_both(sink, before, digits.format(number).as_bytes())?;
+    write_all(sink, after)
+}
+
+// Writes the line that refuses an input, which has this name among the command's inputs.
+fn write_refusal<K: Sink>(sink: &mut K, input: &str, refusal: Refusal) -> Result<(), SinkFailed>
+    ensures { WritesAll (K.told sink.old) (K.told sink.new) (refusal_text input.now refusal)
+        result }
+{
+    write_both(sink, b"input ", input.as_bytes())?;
+    match refusal {
+        Refusal::Long => write_all(sink, b" long\n"),
+        Refusal::BadLine(line) => write_number(sink, b" line ", line, b"\n"),
     }
 }
 
-/// The line of a history that would weigh so many octets, and may weigh at most `limit`.
-fn full_line(alloc: Global, weight: u64, limit: u64) -> Result<String, AllocError>
-    ensures { IfOk result (λ text. string_bytes text ≡ full_text weight limit) }
+// Writes the line of a history that would weigh so many octets, and may weigh at most `limit`.
+fn write_full<K: Sink>(sink: &mut K, weight: u64, limit: u64) -> Result<(), SinkFailed>
+    ensures { WritesAll (K.told sink.old) (K.told sink.new) (full_text weight limit) result }
 {
-    format!(in alloc; "full {weight} {limit}\n")
+    write_number(sink, b"full ", weight, b" ")?;
+    write_number(sink, b"", limit, b"\n")
+}
+
+/// Writes the refusal of an input to an open sink. `input` names the input. It takes no memory.
+pub fn tell_refusal<K: Sink>(sink: &mut K, input: &str, refusal: Refusal) -> Status
+    ensures tells { Tells (prints Status.Input (refusal_text input.now refusal))
+        (K.told sink.old) (K.told sink.new) result }
+    ensures answers { (result ≡ Status.Input) ⊎ (result ≡ Status.Outside) }
+{
+    match write_refusal(sink, input, refusal) {
+        Ok(()) => Status::Input,
+        Err(SinkFailed) => Status::Outside,
+    }
 }
 
 /// Writes to an open sink that the history would weigh so many octets, and may weigh at most
-/// `limit`.
-pub fn tell_full<K: Sink>(alloc: Global, sink: &mut K, weight: u64, limit: u64) -> Status
-    ensures { Tells (prints Status.Full (full_text weight limit))
+/// `limit`. It takes no memory.
+pub fn tell_full<K: Sink>(sink: &mut K, weight: u64, limit: u64) -> Status
+    ensures tells { Tells (prints Status.Full (full_text weight limit))
         (K.told sink.old) (K.told sink.new) result }
+    ensures answers { (result ≡ Status.Full) ⊎ (result ≡ Status.Outside) }
 {
-    match full_line(alloc, weight, limit) {
-        Ok(line) => tell(sink, Status::Full, line.as_bytes()),
-        Err(AllocError) => Status::Memory,
+    match write_full(sink, weight, limit) {
+        Ok(()) => Status::Full,
+        Err(SinkFailed) => Status::Outside,
     }
 }
 
@@ -68,13 +107,29 @@ pub fn print<O: Outside>(outside: &mut O, status: Status, text: &[u8]) -> Status
     status
 }
 
-/// Ends a command whose input is refused: the refusal is printed. `input` names the input.
-pub fn refuse<O: Outside>(alloc: Global, outside: &mut O, input: &str, refusal: Refusal) -> Status
-    ensures { IsRun (duty_to_say true (prints Status.Input (refusal_text input.now refusal)))
+/// Ends a command whose input is refused: the refusal is printed. `input` names the input. It takes
+/// no memory.
+pub fn refuse<O: Outside>(outside: &mut O, input: &str, refusal: Refusal) -> Status
+    ensures runs { IsRun (duty_to_say true (prints Status.Input (refusal_text input.now refusal)))
         (O.told outside.old) (O.told outside.new) result }
+    ensures answers { (result ≡ Status.Input) ⊎ (result ≡ Status.Outside) }
 {
-    match refusal_line(alloc, input, refusal) {
-        Ok(line) => print(outside, Status::Input, line.as_bytes()),
-        Err(AllocError) => Status::Memory,
+    let Some(mut sink) = outside.open_out(OUTPUT) else {
+        return Status::Outside;
+    };
+    let status = tell_refusal(&mut sink, input, refusal);
+    outside.close_out(sink);
+    status
+}
+
+/// Ends a command whose input isn't there: where it is refused, the refusal is printed. `input`
+/// names the input.
+pub fn end_unread<O: Outside>(outside: &mut O, input: &str, end: InputEnd) -> Status
+    ensures { EndsUnread input.now end (O.told outside.old) (O.told outside.new) result }
+{
+    match end {
+        InputEnd::Refused(refusal) => refuse(outside, input, refusal),
+        InputEnd::Outside => Status::Outside,
+        InputEnd::Memory => Status::Memory,
     }
 }

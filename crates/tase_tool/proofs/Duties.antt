@@ -2,7 +2,8 @@
 use Rattle.std.proofs.Common.{◌≡◌, ℕ, Bool, true, false, ◌||◌, ◌<◌, ◌≤◌, cond, List, [], ◌∷◌}
 use Rattle.std.proofs.Common.{length, Some}
 use Rattle.std.proofs.Common.{refl, sym, ◌∙◌, ap, subst, arith}
-use Rattle.std.specs.Prelude.{Result, Ok, Err, Vec, bytes_eq, codes, nat_lt}
+use Rattle.std.specs.Prelude.{Result, Ok, Err, IfOk, IsErrAnd, Vec, bytes_eq, codes, nat_lt}
+use Rattle.std.specs.declared.alloc.AllocError.{AllocError}
 use Rattle.std.specs.declared.alloc.Global.{Global}
 use Rattle.std.proofs.lemmas.Bool.Decides.{nat_tests}
 use Rattle.std.proofs.lemmas.Slice.Eq.{bytes_eq-Decides}
@@ -15,9 +16,9 @@ use Rattle.command_io.specs.declared.input.InputEnd.{InputEnd}
 use Rattle.command_io.specs.declared.input.InputEnd.TheVariants.{Refused, Outside, Memory}
 use Rattle.command_io.specs.declared.input.TheConstants.{TEXT_LIMIT}
 use Rattle.command_io.specs.Saying.{Text, untold, missing, told, emptied, text_of, texts_of}
-use Rattle.command_io.specs.Saying.{Said, duty_to_say}
+use Rattle.command_io.specs.Saying.{Said, Duty, duty_to_say}
 use Rattle.command_io.specs.Inputs.{IsInput, ReadsInput}
-use Rattle.command_io.specs.Runs.{IsRun}
+use Rattle.command_io.specs.Runs.{IsRun, EndsRead}
 use Rattle.command_io.proofs.Running.{Follows, same_said, nothing_told, IsRun-then, IsRun-unread}
 use Rattle.bilateral.specs.Rows.{CentreRows}
 use Rattle.bilateral.specs.Reading.{centre_in}
@@ -26,8 +27,16 @@ use Rattle.tase_tool.specs.Words.{replays}
 use Rattle.tase_tool.specs.Saying.{refused, centre_or_refusal, tables_read, within_limit, said_of}
 use Rattle.tase_tool.specs.Saying.{text_duty, scenario_said, scenario_duty, duty_over, duty_after}
 use Rattle.tase_tool.specs.Saying.{opening, second_text, duty_of}
-use Rattle.tase_tool.specs.Tables.{IsCentreFrom, IsRead, IsTables, ReadsTables}
+use Rattle.tase_tool.specs.Tables.{centre_or_end, IsCentreFrom, IsRead, IsTables, ReadsTables}
+use Rattle.tase_tool.specs.Tables.{RunsOver}
 use Rattle.tase_tool.specs.Sent.{node_of, SendsAll, OnTold, SendsOver, SendsBy}
+use Rattle.tase_tool.proofs.Sending.{undone_unread}
+
+-- a run that ended where it stood
+same_run : (duty : Duty) (b m a : OutsideTold) (s status : Status) → (status ≡ s) × (a ≡ m)
+    → IsRun duty b m s → IsRun duty b a status
+same_run duty b m a s status same run =
+    subst (λ t. IsRun duty b a t) (sym same.0) (subst (λ o. IsRun duty b o s) (sym same.1) run)
 
 is_less : (m n : ℕ) → m < n → nat_lt m n ≡ true
 is_less m n h = grind (arith, nat_tests)
@@ -62,6 +71,15 @@ bad_centre : (read : Result CentreRows TableFault) (line : ℕ)
     → IsCentreFrom (Err (Refused (BadLine line))) read → centre_or_refusal read ≡ Err (BadLine line)
 bad_centre (Ok rows) line h = absurd h
 bad_centre (Err fault) line h = ap (λ n. Err (BadLine n)) h
+
+-- what reading a text of tables comes to
+pub centre_from_read : (meant : Result CentreRows TableFault)
+    (read : Result (Result CentreRows TableFault) AllocError)
+    → IfOk read (λ r. r ≡ meant) → IsCentreFrom (centre_or_end read) meant
+centre_from_read meant (Ok (Ok rows)) is = sym is
+centre_from_read meant (Ok (Err fault)) is =
+    subst (λ r. IsErrAnd r (λ f. f.line ≡ fault.line)) is refl
+centre_from_read meant (Err out_of_memory) is = tt
 
 -- tables of a text that was read
 centre_read : (result : Result CentreRows InputEnd) (octets : List ℕ) → length octets ≤ TEXT_LIMIT
@@ -181,7 +199,7 @@ module _ (b m a : OutsideTold) (tables scenario : List ℕ) (limit : ℕ) where
           ∙ ap text_of (sym (reads.opens.uses.sources.others scenario (ap (λ t. t || false) at)))
 
   -- all was sent of a scenario over tables that were read
-  pub SendsBy-tables : (rows : CentreRows) → ReadsTables b m tables (Ok rows)
+  SendsBy-tables : (rows : CentreRows) → ReadsTables b m tables (Ok rows)
       → OnTold (SendsAll (node_of rows limit)) (texts_of m scenario)
       → SendsBy (Some (replays tables scenario limit)) (texts_of b)
   SendsBy-tables rows reads sent = here (texts_of b tables) reads.tables
@@ -198,7 +216,7 @@ module _ (b m a : OutsideTold) (tables scenario : List ℕ) (limit : ℕ) where
           (sym (second_read rows reads)) sent)
 
   -- the run over tables that are there
-  pub IsRun-tables : (rows : CentreRows) (status : Status) → ReadsTables b m tables (Ok rows)
+  IsRun-tables : (rows : CentreRows) (status : Status) → ReadsTables b m tables (Ok rows)
       → IsRun (scenario_duty rows limit scenario (texts_of m scenario)) m a status
       → IsRun (duty_of (Some (replays tables scenario limit)) (texts_of b)) b a status
   IsRun-tables rows status reads run =
@@ -225,7 +243,7 @@ module _ (b m a : OutsideTold) (tables scenario : List ℕ) (limit : ℕ) where
           (second_read rows reads)) refl)
 
   -- with refused tables
-  pub IsRun-refused : (refusal : Refusal) (status : Status)
+  IsRun-refused : (refusal : Refusal) (status : Status)
       → ReadsTables b m tables (Err (Refused refusal))
       → IsRun (duty_to_say true (refused (codes "tables") refusal)) m a status
       → IsRun (duty_of (Some (replays tables scenario limit)) (texts_of b)) b a status
@@ -249,7 +267,7 @@ module _ (b m a : OutsideTold) (tables scenario : List ℕ) (limit : ℕ) where
           (sym told_tables) (same_said refl refl)
 
   -- and without tables
-  pub IsRun-outside : ReadsTables b m tables (Err Outside)
+  IsRun-outside : ReadsTables b m tables (Err Outside)
       → IsRun (duty_of (Some (replays tables scenario limit)) (texts_of b)) b m statuses.Outside
   IsRun-outside reads =
       IsRun-unread (duty_of (Some (replays tables scenario limit)) (texts_of b)) b m tables
@@ -260,7 +278,7 @@ module _ (b m a : OutsideTold) (tables scenario : List ℕ) (limit : ℕ) where
       (second_text (texts_of b) tables scenario))
       refl reads.opens
 
-  pub IsRun-memory : ReadsTables b m tables (Err Memory)
+  IsRun-memory : ReadsTables b m tables (Err Memory)
       → IsRun (duty_of (Some (replays tables scenario limit)) (texts_of b)) b m statuses.Memory
   IsRun-memory reads =
       IsRun-unread (duty_of (Some (replays tables scenario limit)) (texts_of b)) b m tables
@@ -271,9 +289,30 @@ module _ (b m a : OutsideTold) (tables scenario : List ℕ) (limit : ℕ) where
       (second_text (texts_of b) tables scenario))
       refl reads.opens
 
+  -- over tables that were read to this
+  pub IsRun-over : (read : Result CentreRows InputEnd) (status : Status)
+      → ReadsTables b m tables read → RunsOver read limit scenario m a status
+      → IsRun (duty_of (Some (replays tables scenario limit)) (texts_of b)) b a status
+  IsRun-over (Ok rows) status reads run = IsRun-tables rows status reads run
+  IsRun-over (Err (Refused refusal)) status reads run = IsRun-refused refusal status reads run.0
+  IsRun-over (Err Outside) status reads run =
+      same_run _ b m a statuses.Outside status run (IsRun-outside reads)
+  IsRun-over (Err Memory) status reads run =
+      same_run _ b m a statuses.Memory status run (IsRun-memory reads)
+
+  -- and all that was sent over them
+  pub SendsBy-over : (read : Result CentreRows InputEnd) (status : Status)
+      → ReadsTables b m tables read → RunsOver read limit scenario m a status
+      → status ≡ statuses.Done
+      → IfOk read (λ rows. OnTold (SendsAll (node_of rows limit)) (texts_of m scenario))
+      → SendsBy (Some (replays tables scenario limit)) (texts_of b)
+  SendsBy-over (Ok rows) status reads run done sent = SendsBy-tables rows reads sent
+  SendsBy-over (Err end) status reads run done sent =
+      absurd (undone_unread (codes "tables") end m a status run done)
+
 module _ (b m a : OutsideTold) (input : List ℕ) (say : List ℕ → Said) (name : List ℕ) where
   -- the run over a text that is there
-  pub IsRun-text : (text : Vec ℕ Global) (status : Status) → ReadsInput b m name (Ok text)
+  IsRun-text : (text : Vec ℕ Global) (status : Status) → ReadsInput b m name (Ok text)
       → IsRun (duty_to_say true (say text.items)) m a status
       → IsRun (text_duty input say name (texts_of b name)) b a status
   IsRun-text text status reads run =
@@ -289,7 +328,7 @@ module _ (b m a : OutsideTold) (input : List ℕ) (say : List ℕ → Said) (nam
           same_said (ap Some (said_within input say octets is.1 ∙ ap say is.0)) refl
 
   -- over a refused one
-  pub IsRun-refused_text : (refusal : Refusal) (status : Status)
+  IsRun-refused_text : (refusal : Refusal) (status : Status)
       → ReadsInput b m name (Err (Refused refusal))
       → IsRun (duty_to_say true (refused input refusal)) m a status
       → IsRun (text_duty input say name (texts_of b name)) b a status
@@ -306,14 +345,26 @@ module _ (b m a : OutsideTold) (input : List ℕ) (say : List ℕ → Said) (nam
       follows (BadLine line) (told octets) is = absurd is
 
   -- and over one that isn't there
-  pub IsRun-text_outside : ReadsInput b m name (Err Outside)
+  IsRun-text_outside : ReadsInput b m name (Err Outside)
       → IsRun (text_duty input say name (texts_of b name)) b m statuses.Outside
   IsRun-text_outside reads =
       IsRun-unread (text_duty input say name (texts_of b name))
       b m name [] statuses.Outside tt refl refl reads.opens
 
-  pub IsRun-text_memory : ReadsInput b m name (Err Memory)
+  IsRun-text_memory : ReadsInput b m name (Err Memory)
       → IsRun (text_duty input say name (texts_of b name)) b m statuses.Memory
   IsRun-text_memory reads =
       IsRun-unread (text_duty input say name (texts_of b name))
       b m name [] statuses.Memory tt refl refl reads.opens
+
+  -- over one that was read to this
+  pub IsRun-read : (read : Result (Vec ℕ Global) InputEnd) (status : Status)
+      → ReadsInput b m name read → EndsRead input say read m a status
+      → IsRun (text_duty input say name (texts_of b name)) b a status
+  IsRun-read (Ok text) status reads run = IsRun-text text status reads run
+  IsRun-read (Err (Refused refusal)) status reads run =
+      IsRun-refused_text refusal status reads run.0
+  IsRun-read (Err Outside) status reads run =
+      same_run _ b m a statuses.Outside status run (IsRun-text_outside reads)
+  IsRun-read (Err Memory) status reads run =
+      same_run _ b m a statuses.Memory status run (IsRun-text_memory reads)

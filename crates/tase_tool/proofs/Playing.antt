@@ -18,7 +18,12 @@ use Rattle.command_io.specs.Saying.{Said, prints, refusal_text, full_text}
 use Rattle.command_io.specs.Runs.{Tells}
 use Rattle.tase_replay.specs.Play.{Step, Played, End, done, bad_line, history_full, printed_in}
 use Rattle.tase_replay.specs.Play.{shown_of, steps_of}
+use Rattle.tase_replay.specs.Ends.{IsPlayed}
+use Rattle.tase_replay.specs.declared.playing.ReplayEnd.{ReplayEnd}
+use Rattle.tase_replay.specs.declared.playing.ReplayEnd.TheVariants as plays
+use Rattle.tase_views.specs.declared.event.Entry.{Entry}
 use Rattle.tase_tool.specs.Saying.{said_at, played_said}
+use Rattle.tase_tool.specs.Playing.{EndsPlay}
 
 -- nothing but standard output is written
 pub plays_alone : (shown : List ℕ) (end : End) → (said_at shown end).files ≡ []
@@ -49,7 +54,7 @@ plays_command shown (history_full weight limit) k l Full tells = λ same. absurd
 plays_command shown (history_full weight limit) k l Memory tells = λ same. absurd cc
 
 -- a refusal after what was shown
-pub Tells-after : (answer : Status) (k m l : SinkTold) (shown refusal : List ℕ) (status : Status)
+Tells-after : (answer : Status) (k m l : SinkTold) (shown refusal : List ℕ) (status : Status)
     → AppendsAll k m shown
     → Tells (prints answer refusal) m l status → Tells (prints answer (shown ++ refusal)) k l status
 Tells-after answer k m l shown refusal Done all tells =
@@ -81,7 +86,7 @@ steps_front steps count =
     ap printed_in (sym (take-append-drop count steps))
     ∙ flat_map-append (λ (step : Step). step.printed) (take count steps) (drop count steps)
 
-pub AppendsPart-played : (k l : SinkTold) (played : Played) (count : ℕ) (failed : Bool)
+AppendsPart-played : (k l : SinkTold) (played : Played) (count : ℕ) (failed : Bool)
     → AppendsPart k l (printed_in (take count (steps_of played))) failed
     → AppendsPart k l (played_said played).text failed
 AppendsPart-played k l played count failed part =
@@ -90,6 +95,30 @@ AppendsPart-played k l played count failed part =
     (sym (steps_front (steps_of played) count))
     (AppendsPart-front k l (printed_in (take count (steps_of played)))
     (printed_in (drop count (steps_of played))) failed part))
+
+-- how a play ended is told behind what its lines show
+pub Tells-played : (played : Played) (history now : List Entry) (k m l : SinkTold)
+    (end : ReplayEnd) (status : Status) → IsPlayed played history now k m end
+    → EndsPlay end m l status → Tells (played_said played) k l status
+Tells-played played history now k m l plays.Done status went ends =
+    subst (λ e. Tells (said_at (shown_of played) e) k l status) (sym went.0)
+    (subst (λ s. Tells (prints Done (shown_of played)) k l s) (sym ends.0)
+    (refl, subst (λ x. AppendsAll k x (shown_of played)) (sym ends.1) went.1.shown))
+Tells-played played history now k m l (plays.BadLine line) status went ends =
+    subst (λ e. Tells (said_at (shown_of played) e) k l status) (sym went.0)
+    (Tells-after Input k m l (shown_of played) (refusal_text (codes "scenario") (BadLine line))
+    status went.1.shown ends.0)
+Tells-played played history now k m l (plays.Full weight limit) status went ends =
+    subst (λ e. Tells (said_at (shown_of played) e) k l status) (sym went.0)
+    (Tells-after Full k m l (shown_of played) (full_text weight limit) status went.1.shown ends.0)
+Tells-played played history now k m l plays.SinkFault status went ends =
+    subst (λ s. Tells (played_said played) k l s) (sym ends.0)
+    (subst (λ x. AppendsPart k x (played_said played).text true) (sym ends.1)
+    (AppendsPart-played k m played went.count true went.shown))
+Tells-played played history now k m l plays.Memory status went ends =
+    subst (λ s. Tells (played_said played) k l s) (sym ends.0)
+    (subst (λ x. AppendsPart k x (played_said played).text false) (sym ends.1)
+    (AppendsPart-played k m played went.count false went.shown))
 
 module _ (k m l : SinkTold) (gathered : List ℕ) (held : k.held ≡ 0) where
   -- from the sink itself

@@ -1,7 +1,11 @@
 -- What is said of a capture, which holds one PDU.
-use Rattle.std.specs.Prelude.{ℕ, List, [], ◌∷◌, ◌++◌, length, Result, Ok, Err, codes, decimal}
+use Rattle.std.specs.Prelude.{ℕ, List, [], ◌∷◌, ◌++◌, length, Result, Ok, Err, Vec, codes, decimal}
+use Rattle.std.specs.declared.alloc.AllocError.{AllocError}
+use Rattle.std.specs.declared.alloc.Global.{Global}
 use Rattle.command_io.specs.declared.status.Status.TheVariants.{Done, Input}
 use Rattle.command_io.specs.declared.input.Refusal.TheVariants.{BadLine}
+use Rattle.command_io.specs.declared.input.InputEnd.{InputEnd}
+use Rattle.command_io.specs.declared.input.InputEnd.TheVariants.{Refused, Memory}
 use Rattle.command_io.specs.Saying.{Said, prints, refusal_text}
 use Rattle.ber_values.specs.declared.fault.BerFault.{BerFault}
 use Rattle.ber_values.specs.Reading.{Taken}
@@ -30,3 +34,11 @@ pdu_said octets = read_said (length octets) (pdu.reading 0 octets)
 abbrev pub capture_said : Result (List ℕ) ℕ → Said
 capture_said (Ok octets) = pdu_said octets
 capture_said (Err line) = prints Input (refusal_text (codes "in") (BadLine line))
+
+-- the octets of a capture that was read to this, or why there are none: its first bad line, or want
+-- of memory alone
+abbrev pub octets_or_end : Result (Result (Vec ℕ Global) ℕ) AllocError
+    → Result (Vec ℕ Global) InputEnd
+octets_or_end (Ok (Ok octets)) = Ok octets
+octets_or_end (Ok (Err line)) = Err (Refused (BadLine line))
+octets_or_end (Err out_of_memory) = Err Memory

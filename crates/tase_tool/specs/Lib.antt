@@ -3,3 +3,4 @@ pub mod Decoding
 pub mod Saying
 pub mod Tables
 pub mod Sent
+pub mod Playing

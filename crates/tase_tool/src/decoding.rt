@@ -1,7 +1,7 @@
 //! The command `decode --pdu`: which PDU a capture holds.
-ghost use Rattle.std.specs.Prelude.{◌≡◌, IfOk, string_bytes, true};
+ghost use Rattle.std.specs.Prelude.{◌≡◌, IfOk, string_bytes, true, codes};
 ghost use Rattle.command_io.specs.Saying.{texts_of, prints, duty_to_say};
-ghost use Rattle.command_io.specs.Runs.{IsRun};
+ghost use Rattle.command_io.specs.Runs.{IsRun, EndsRead};
 ghost use Rattle.capture_text.specs.Captures.{capture_in};
 ghost use Rattle.tase_tool.specs.Decoding.{capture_said, pdu_said};
 ghost use Rattle.tase_tool.specs.Decoding as own;
@@ -10,7 +10,7 @@ ghost use Rattle.stream_listing.specs.Names.{name_text, pdu_name, why_name};
 
 use ber_values::Why;
 use capture_text::read_capture;
-use command_io::{InputEnd, Refusal, Status, print, read_input, refuse};
+use command_io::{InputEnd, Refusal, Status, end_unread, print, read_input};
 use mms_services::{MmsPdu, read_pdu};
 use outside::Outside;
 use std::alloc::{AllocError, Global};
@@ -22,11 +22,22 @@ pub(crate) fn run_decode<O: Outside>(alloc: Global, outside: &mut O, capture: &s
         IsRun (decode_duty capture.now (texts_of told capture.now))
         told (O.told outside.new) result }
 {
-    match read_input(alloc, outside, capture) {
+    let read = read_input(alloc, outside, capture);
+    decode_read(alloc, outside, read)
+}
+
+// Tells the PDU of a capture that was read to this.
+fn decode_read<O: Outside>(
+    alloc: Global,
+    outside: &mut O,
+    read: Result<Vec<u8>, InputEnd>,
+) -> Status
+    ensures { EndsRead (codes "in") (λ octets. capture_said (capture_in octets)) read
+        (O.told outside.old) (O.told outside.new) result }
+{
+    match read {
         Ok(text) => decode_capture(alloc, outside, &text),
-        Err(InputEnd::Refused(refusal)) => refuse(alloc, outside, "in", refusal),
-        Err(InputEnd::Outside) => Status::Outside,
-        Err(InputEnd::Memory) => Status::Memory,
+        Err(end) => end_unread(outside, "in", end),
     }
 }
 
@@ -35,10 +46,33 @@ fn decode_capture<O: Outside>(alloc: Global, outside: &mut O, text: &[u8]) -> St
     ensures { IsRun (duty_to_say true (capture_said (capture_in text.now)))
         (O.told outside.old) (O.told outside.new) result }
 {
-    match read_capture(alloc, text) {
-        Ok(Ok(octets)) => decode_pdu(alloc, outside, &octets),
-        Ok(Err(line)) => refuse(alloc, outside, "in", Refusal::BadLine(line)),
-        Err(AllocError) => Status::Memory,
+    let octets = octets_or_end(read_capture(alloc, text));
+    decode_octets(alloc, outside, octets)
+}
+
+// The octets of a capture, or why there are none.
+fn octets_or_end(read: Result<Result<Vec<u8>, u64>, AllocError>) -> Result<Vec<u8>, InputEnd>
+    ensures { result ≡ own.octets_or_end read }
+{
+    match read {
+        Ok(Ok(octets)) => Ok(octets),
+        Ok(Err(line)) => Err(InputEnd::Refused(Refusal::BadLine(line))),
+        Err(AllocError) => Err(InputEnd::Memory),
+    }
+}
+
+// Tells the PDU that the octets of a capture are, which was read to this.
+fn decode_octets<O: Outside>(
+    alloc: Global,
+    outside: &mut O,
+    octets: Result<Vec<u8>, InputEnd>,
+) -> Status
+    ensures { EndsRead (codes "in") pdu_said octets
+        (O.told outside.old) (O.told outside.new) result }
+{
+    match octets {
+        Ok(octets) => decode_pdu(alloc, outside, &octets),
+        Err(end) => end_unread(outside, "in", end),
     }
 }
 

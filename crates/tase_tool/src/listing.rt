@@ -1,7 +1,7 @@
 //! The command `decode`: the messages of a captured stream.
-ghost use Rattle.std.specs.Prelude.{◌≡◌, true};
+ghost use Rattle.std.specs.Prelude.{◌≡◌, ◌⊎◌, true, codes, IsErr};
 ghost use Rattle.command_io.specs.Saying.{texts_of, duty_to_say};
-ghost use Rattle.command_io.specs.Runs.{IsRun, Tells};
+ghost use Rattle.command_io.specs.Runs.{IsRun, EndsRead, Tells};
 ghost use Rattle.capture_text.specs.Captures.{capture_in};
 ghost use Rattle.stream_listing.specs.Listings.{listing_of};
 ghost use Rattle.capture_listing.specs.Listing.{stream_said, listing_said};
@@ -9,7 +9,7 @@ ghost use Rattle.tase_tool.specs.Saying.{list_duty};
 
 use capture_listing::print_listing;
 use capture_text::{Pieces, read_pieces};
-use command_io::{InputEnd, OUTPUT, Refusal, Status, read_input, refuse};
+use command_io::{InputEnd, OUTPUT, Refusal, Status, end_unread, read_input, refuse};
 use outside::{BufferedSink, Outside, Sink, SinkFailed};
 use std::alloc::Global;
 
@@ -19,22 +19,31 @@ pub(crate) fn run_listing<O: Outside>(alloc: Global, outside: &mut O, capture: &
         IsRun (list_duty capture.now (texts_of told capture.now))
         told (O.told outside.new) result }
 {
-    match read_input(alloc, outside, capture) {
+    let read = read_input(alloc, outside, capture);
+    list_read(alloc, outside, read)
+}
+
+// Lists the stream of a capture that was read to this.
+fn list_read<O: Outside>(alloc: Global, outside: &mut O, read: Result<Vec<u8>, InputEnd>) -> Status
+    ensures { EndsRead (codes "in") (λ octets. stream_said (capture_in octets)) read
+        (O.told outside.old) (O.told outside.new) result }
+{
+    match read {
         Ok(text) => list_capture(alloc, outside, &text),
-        Err(InputEnd::Refused(refusal)) => refuse(alloc, outside, "in", refusal),
-        Err(InputEnd::Outside) => Status::Outside,
-        Err(InputEnd::Memory) => Status::Memory,
+        Err(end) => end_unread(outside, "in", end),
     }
 }
 
-// Lists the stream that a capture holds.
+// Lists the stream that a capture holds. A bad line is told, whether memory is left or not.
 fn list_capture<O: Outside>(alloc: Global, outside: &mut O, text: &[u8]) -> Status
-    ensures { IsRun (duty_to_say true (stream_said (capture_in text.now)))
+    ensures runs { IsRun (duty_to_say true (stream_said (capture_in text.now)))
         (O.told outside.old) (O.told outside.new) result }
+    ensures refused { IsErr (capture_in text.now)
+        → (result ≡ Status.Input) ⊎ (result ≡ Status.Outside) }
 {
     match read_pieces(text) {
         Ok(pieces) => list_on_output(alloc, outside, pieces),
-        Err(line) => refuse(alloc, outside, "in", Refusal::BadLine(line)),
+        Err(line) => refuse(outside, "in", Refusal::BadLine(line)),
     }
 }
 

@@ -1,9 +1,11 @@
 //! The commands.
-ghost use Rattle.std.specs.Prelude.{◌≡◌, ◌≤◌, ◌^◌, map, string_bytes, Some, IfOk, true};
+ghost use Rattle.std.specs.Prelude.{◌≡◌, ◌≤◌, ◌^◌, map, string_bytes, Some, IfOk, true, codes};
 ghost use Rattle.command_io.specs.Saying.{texts_of, duty_to_say};
-ghost use Rattle.command_io.specs.Runs.{IsRun, Tells};
+ghost use Rattle.command_io.specs.Runs.{IsRun, EndsRead, Tells};
 ghost use Rattle.tase_tool.specs.Words.{asked_in, replays};
 ghost use Rattle.tase_tool.specs.Saying.{scenario_said, scenario_duty, duty_of, played_said};
+ghost use Rattle.tase_tool.specs.Tables.{RunsOver};
+ghost use Rattle.tase_tool.specs.Playing.{EndsPlay};
 ghost use Rattle.tase_tool.specs.Sent.{node_of, played_on, SendsAll, OnTold, SendsBy};
 
 use crate::decoding::run_decode;
@@ -12,7 +14,7 @@ use crate::tables::read_tables;
 use crate::words::{Command, read_command};
 use bilateral::Centre;
 use command_io::{
-    InputEnd, OUTPUT, Refusal, Status, print, read_input, refuse, tell_full, tell_refusal,
+    InputEnd, OUTPUT, Refusal, Status, end_unread, print, read_input, tell_full, tell_refusal,
 };
 use node_core::Node;
 use outside::{BufferedSink, Outside, Sink, SinkFailed};
@@ -21,10 +23,11 @@ use std::sync::Arc;
 use tase_replay::{ReplayEnd, replay};
 
 /// Runs the command of these words: `replay TABLES SCENARIO` plays a scenario over tables and
-/// prints the replies, on a node whose history may weigh 134,217,728 octets, or as many as
-/// `--limit N` behind it says, from 1 to 268,435,456; `decode IN` lists the messages of a captured
-/// stream of either end of a connection, `decode --pdu IN` tells which PDU (ISO 9506-2) a capture
-/// holds. All is printed on standard output, which is `-` of the outside's sinks.
+/// prints what the peers are answered and sent, as lines `reply`, `report`, `out` and `ended`, on a
+/// node whose history may weigh 134,217,728 octets, or as many as `--limit N` behind it says, from
+/// 1 to 268,435,456; `decode IN` lists the messages of a captured stream of either end of a
+/// connection, `decode --pdu IN` tells which PDU (ISO 9506-2) a capture holds. All is printed on
+/// standard output, which is `-` of the outside's sinks.
 ///
 /// What it answers and prints is, where the outside tells its octets, what the definitions say of
 /// those octets alone: the tables that the first text spells, and over them what the scenario
@@ -71,11 +74,27 @@ fn run_replay<O: Outside>(
     ensures sent { result ≡ Status.Done → SendsBy
         (Some (replays tables.now scenario.now limit)) (texts_of (O.told outside.old)) }
 {
-    match read_tables(alloc, outside, tables) {
+    let read = read_tables(alloc, outside, tables);
+    run_over(alloc, outside, read, scenario, limit)
+}
+
+// Runs the scenario over tables that were read to this.
+fn run_over<O: Outside>(
+    alloc: Global,
+    outside: &mut O,
+    read: Result<Centre, InputEnd>,
+    scenario: &str,
+    limit: u64,
+) -> Status
+    requires { limit ≤ 2 ^ 31 }
+    ensures runs { RunsOver read limit scenario.now
+        (O.told outside.old) (O.told outside.new) result }
+    ensures sent { result ≡ Status.Done → IfOk read (λ rows. OnTold (SendsAll (node_of rows limit))
+        (texts_of (O.told outside.old) scenario.now)) }
+{
+    match read {
         Ok(centre) => run_scenario(alloc, outside, centre, scenario, limit),
-        Err(InputEnd::Refused(refusal)) => refuse(alloc, outside, "tables", refusal),
-        Err(InputEnd::Outside) => Status::Outside,
-        Err(InputEnd::Memory) => Status::Memory,
+        Err(end) => end_unread(outside, "tables", end),
     }
 }
 
@@ -94,11 +113,27 @@ fn run_scenario<O: Outside>(
     ensures sent { result ≡ Status.Done → OnTold (SendsAll (node_of centre limit))
         (texts_of (O.told outside.old) scenario.now) }
 {
-    match read_input(alloc, outside, scenario) {
+    let read = read_input(alloc, outside, scenario);
+    play_read(alloc, outside, centre, limit, read)
+}
+
+// Plays a scenario that was read to this.
+fn play_read<O: Outside>(
+    alloc: Global,
+    outside: &mut O,
+    centre: Centre,
+    limit: u64,
+    read: Result<Vec<u8>, InputEnd>,
+) -> Status
+    requires { limit ≤ 2 ^ 31 }
+    ensures runs { EndsRead (codes "scenario") (scenario_said centre limit) read
+        (O.told outside.old) (O.told outside.new) result }
+    ensures sent { result ≡ Status.Done
+        → IfOk read (λ text. SendsAll (node_of centre limit) text.items) }
+{
+    match read {
         Ok(text) => play_scenario(alloc, outside, centre, limit, &text),
-        Err(InputEnd::Refused(refusal)) => refuse(alloc, outside, "scenario", refusal),
-        Err(InputEnd::Outside) => Status::Outside,
-        Err(InputEnd::Memory) => Status::Memory,
+        Err(end) => end_unread(outside, "scenario", end),
     }
 }
 
@@ -171,12 +206,19 @@ fn play_on<K: Sink>(alloc: Global, node: Node, scenario: &[u8], sink: &mut K) ->
     ensures sent { result ≡ Status.Done → SendsAll node scenario.now }
 {
     let mut node = node;
-    match replay(alloc, &mut node, scenario, sink) {
+    let end = replay(alloc, &mut node, scenario, sink);
+    tell_end(sink, end)
+}
+
+// Prints how a play ended, behind what its lines show: the refusal of a bad line, or of an event
+// for which the history has no room. It takes no memory.
+fn tell_end<K: Sink>(sink: &mut K, end: ReplayEnd) -> Status
+    ensures { EndsPlay end (K.told sink.old) (K.told sink.new) result }
+{
+    match end {
         ReplayEnd::Done => Status::Done,
-        ReplayEnd::BadLine { line } => {
-            tell_refusal(alloc, sink, "scenario", Refusal::BadLine(line))
-        }
-        ReplayEnd::Full { weight, limit } => tell_full(alloc, sink, weight, limit),
+        ReplayEnd::BadLine { line } => tell_refusal(sink, "scenario", Refusal::BadLine(line)),
+        ReplayEnd::Full { weight, limit } => tell_full(sink, weight, limit),
         ReplayEnd::SinkFault => Status::Outside,
         ReplayEnd::Memory => Status::Memory,
     }

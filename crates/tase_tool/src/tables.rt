@@ -1,8 +1,10 @@
 //! The tables of a command.
+ghost use Rattle.std.specs.Prelude.{◌≡◌};
 ghost use Rattle.bilateral.specs.Reading.{centre_in};
 ghost use Rattle.tase_tool.specs.Tables.{IsCentreFrom, ReadsTables};
+ghost use Rattle.tase_tool.specs.Tables as own;
 
-use bilateral::{Centre, read_centre};
+use bilateral::{Centre, TableFault, read_centre};
 use command_io::{InputEnd, Refusal, read_input};
 use outside::Outside;
 use std::alloc::{AllocError, Global};
@@ -11,7 +13,14 @@ use std::alloc::{AllocError, Global};
 fn centre_from(alloc: Global, text: &[u8]) -> Result<Centre, InputEnd>
     ensures { IsCentreFrom result (centre_in text.now) }
 {
-    match read_centre(alloc, text) {
+    centre_or_end(read_centre(alloc, text))
+}
+
+// The centre of tables that were read to this, or why there is none.
+fn centre_or_end(read: Result<Result<Centre, TableFault>, AllocError>) -> Result<Centre, InputEnd>
+    ensures { result ≡ own.centre_or_end read }
+{
+    match read {
         Ok(Ok(centre)) => Ok(centre),
         Ok(Err(fault)) => Err(InputEnd::Refused(Refusal::BadLine(fault.line))),
         Err(AllocError) => Err(InputEnd::Memory),

@@ -1,0 +1,13 @@
+use Rattle.std.proofs.Common.{true, subst}
+use Rattle.command_io.specs.Runs.{IsRun}
+use Rattle.command_io.specs.Saying.{duty_to_say}
+use Rattle.capture_text.specs.Captures.{capture_in}
+use Rattle.tase_tool.specs.Decoding.{capture_said}
+use Rattle.tase_tool.proofs.decoding.decode_read.Goals as goal
+
+pub returns-in-Ok : goal.returns-in-Ok
+returns-in-Ok g c =
+    rw c.in-Ok.is (subst (λ octets. IsRun (duty_to_say true (capture_said (capture_in octets)))
+    (g.O.Outside.told c.args.outside.now) (g.O.Outside.told c.decode_capture.new.outside)
+    c.decode_capture.result)
+    c.deref.ensures.value c.decode_capture.ensures)

@@ -1,0 +1,19 @@
+use Rattle.std.proofs.Common.{true, subst}
+use Rattle.command_io.specs.Runs.{IsRun}
+use Rattle.command_io.specs.Saying.{duty_to_say}
+use Rattle.tase_tool.specs.Saying.{scenario_said}
+use Rattle.tase_tool.specs.Sent.{node_of, SendsAll}
+use Rattle.tase_tool.proofs.running.play_read.Goals as goal
+
+pub returns-in-Ok-clause-runs : goal.returns-in-Ok-clause-runs
+returns-in-Ok-clause-runs g c =
+    rw c.in-Ok.is
+    (subst (λ octets. IsRun (duty_to_say true (scenario_said c.args.centre c.args.limit octets))
+    (g.O.Outside.told c.args.outside.now) (g.O.Outside.told c.play_scenario.new.outside)
+    c.play_scenario.result)
+    c.deref.ensures.value c.play_scenario.ensures.runs)
+
+pub returns-in-Ok-clause-sent : goal.returns-in-Ok-clause-sent
+returns-in-Ok-clause-sent g c =
+    rw c.in-Ok.is (λ done. subst (λ octets. SendsAll (node_of c.args.centre c.args.limit) octets)
+    c.deref.ensures.value (c.play_scenario.ensures.sent done))
