@@ -1,5 +1,5 @@
 -- How the program starts: its words as the system gives them, and the run of these.
-use Rattle.std.specs.Prelude.{◌≡◌, ◌≢◌, [], drop, map, string_bytes, String}
+use Rattle.std.specs.Prelude.{◌≡◌, ◌≢◌, ℕ, [], drop, map, string_bytes, String}
 use Rattle.std.specs.Prelude.{Result, Ok, Err, Vec, IsErr, IsOkAnd, IfOk}
 use Rattle.std.specs.declared.alloc.AllocError.{AllocError}
 use Rattle.std.specs.declared.alloc.Global.{Global}
@@ -11,6 +11,7 @@ use Rattle.std.specs.Vec.Iter.{into_iter_items}
 use Rattle.outside.specs.Outside.{OutsideTold}
 use Rattle.command_io.specs.declared.status.Status.{Status}
 use Rattle.command_io.specs.declared.status.Status.TheVariants.{Memory}
+use Rattle.command_io.specs.Statuses.{code_of}
 use Rattle.command_io.specs.Saying.{texts_of}
 use Rattle.command_io.specs.Runs.{IsRun}
 use Rattle.tase_tool.specs.Words.{asked_in}
@@ -34,3 +35,9 @@ abbrev pub IsStart : Result Words AllocError → OutsideTold → OutsideTold →
 IsStart (Ok words) before after status =
     IsRun (duty_of (asked_in (map string_bytes words.items)) (texts_of before)) before after status
 IsStart (Err memory) before after status = (status ≡ Memory) × (after ≡ before)
+
+-- the words that the system gives are run once, and the exit status is that of how the run ended
+abbrev pub Starts : Result (IntoIter (String Global) Global) Error → OutsideTold → OutsideTold → ℕ
+    → Type 0
+Starts given before after code = (words : Result Words AllocError) × IsWordsFrom given words
+    × ((status : Status) × IsStart words before after status × (code ≡ code_of status))

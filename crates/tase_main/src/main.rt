@@ -7,12 +7,11 @@ mod starting;
 mod tests;
 
 use outside_real::RealOutside;
-use starting::{run_words, words_from};
+use starting::start;
 use std::env;
 use std::process::ExitCode;
 
 fn main(rt: HostRuntime) -> ExitCode {
-    let words = words_from(rt.alloc(), env::args(&rt));
     let mut outside = RealOutside::new(&rt);
-    run_words(rt.alloc(), words, &mut outside).into()
+    start(rt.alloc(), env::args(&rt), &mut outside)
 }
