@@ -1,6 +1,6 @@
 -- What is listed, message by message.
 use Rattle.std.proofs.Common.{◌≡◌, ℕ, ◌+◌, ◌-◌, length, cond, Bool, true, false, List, [], ◌∷◌, ◌++◌, Option, Some, None}
-use Rattle.std.proofs.Common.{Result, Ok, Err, refl, sym, ap, ◌∙◌, append_assoc}
+use Rattle.std.proofs.Common.{Result, Ok, Err, refl, sym, ap, subst, ◌∙◌, append_assoc}
 use Rattle.std.proofs.lemmas.List.{append-nil}
 use Rattle.tpkt_cotp.specs.declared.fault.CotpFault.{CotpFault}
 use Rattle.tpkt_cotp.specs.declared.message.TransportIn.{TransportIn}
@@ -177,6 +177,17 @@ lists_piece t u v context now piece before after broken is lists = record {
       ∙ ap (λ (l : Line). of_stream context (stream_of (fed l more))) (sym is)
       ∙ lists.goes more;
 }
+
+-- a piece of which nothing is listed yet
+pub unread_piece : (s : State) (piece x : List ℕ) → s.ended ≡ false
+    → (now : State) × ListsPiece s now piece x x
+unread_piece s piece x going =
+    let u : Line = fed s.line piece in
+    let now : State = state u s.context false in (
+      now,
+      subst (λ (e : Bool). ListsPiece (state s.line s.context e) now piece x x) (sym going)
+          (lists_piece s.line u u s.context s.context piece x x false refl (lists_none now x)),
+    )
 
 -- after a fault nothing is listed
 pub ended_piece : (s : State) (piece x : List ℕ) → s.ended ≡ true → ListsPiece s s piece x x

@@ -1,13 +1,13 @@
 //! The listing of a captured stream that comes in pieces.
-ghost use Rattle.std.specs.Prelude.{◌≡◌, ◌≤◌, false, ℕ, List, length, IfOk};
+ghost use Rattle.std.specs.Prelude.{◌≡◌, ◌≤◌, false, ℕ, List, length, IfOk, OnErr};
 ghost use Rattle.std.specs.Bool.{OnFalse};
 ghost use Rattle.tpkt_cotp.specs.declared.limits.TheConstants.{PIECE_LIMIT};
 ghost use Rattle.tpkt_cotp.specs.Seen.{message_seen};
 ghost use Rattle.stream_listing.specs.Hearing as spec;
 ghost use Rattle.stream_listing.specs.Hearing.{told_in};
 ghost use Rattle.stream_listing.specs.Listings as listings;
-ghost use Rattle.stream_listing.specs.Listings.{listing_of, state, yet_listed, Lists, ListsPiece};
-ghost use Rattle.stream_listing.specs.Listings.{Finishes, IsListed, IsAtRest};
+ghost use Rattle.stream_listing.specs.Listings.{State, listing_of, state, yet_listed, Lists};
+ghost use Rattle.stream_listing.specs.Listings.{ListsPiece, Finishes, IsListed, IsAtRest};
 
 use crate::hearing::tell;
 use crate::lines::{put_fault, put_message, put_rest};
@@ -57,11 +57,14 @@ impl Lister {
 
     /// Takes the next piece of the stream, at most 65,536 octets, and appends the lines of the
     /// messages that are whole with it: `at PLACE NAME LENGTH`, or `fault LAYER PLACE WHY`, after
-    /// which there are none.
+    /// which there are none. Where memory runs out, those of the first few messages may have been
+    /// appended, each of them whole.
     pub fn feed(self, piece: &[u8], out: &mut Vec<u8>) -> Result<Lister, AllocError>
         requires { length piece.now ≤ PIECE_LIMIT }
-        ensures { IfOk result (λ lister.
+        ensures lists { IfOk result (λ lister.
             ListsPiece self lister piece.now out.old.items out.new.items) }
+        ensures cut { OnErr result ((now : State)
+            × ListsPiece self now piece.now out.old.items out.new.items) }
     {
         let Lister {
             alloc,
@@ -88,9 +91,12 @@ impl Lister {
     }
 
     /// Says that the stream has ended: appends `rest COUNT`, where octets are left that are no
-    /// whole message. Answers whether a fault was told.
+    /// whole message. Answers whether a fault was told. What was appended where memory runs out is
+    /// as after a piece.
     pub fn finish(self, out: &mut Vec<u8>) -> Result<bool, AllocError>
-        ensures { IfOk result (λ broken. Finishes self out.old.items out.new.items broken) }
+        ensures finishes { IfOk result (λ broken.
+            Finishes self out.old.items out.new.items broken) }
+        ensures cut { OnErr result ((now : State) × Lists self now out.old.items out.new.items) }
     {
         let Lister {
             alloc,
@@ -119,6 +125,8 @@ fn list_all(
     ensures lists { IfOk result (λ broken. Lists (state transport.old context.old false)
         (state transport.new context.new broken) out.old.items out.new.items) }
     ensures settled { IfOk result (λ broken. OnFalse broken (IsAtRest transport.new)) }
+    ensures cut { OnErr result ((now : State) × Lists (state transport.old context.old false)
+        now out.old.items out.new.items) }
 {
     loop {
         let place = transport.start();
@@ -147,8 +155,10 @@ fn list_message(
     context: &mut Option<u32>,
     out: &mut Vec<u8>,
 ) -> Result<bool, AllocError>
-    ensures { IfOk result (λ broken. IsListed (told_in context.old (message_seen message.now))
+    ensures listed { IfOk result (λ broken.
+        IsListed (told_in context.old (message_seen message.now))
         place size context.old context.new out.old.items out.new.items broken) }
+    ensures err { OnErr result (out.new.items ≡ out.old.items) }
 {
     match tell(alloc, *context, message)? {
         Ok(told) => {

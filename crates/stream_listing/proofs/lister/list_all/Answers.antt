@@ -33,7 +33,7 @@ loop-message-preserved-else-branch-5 c =
     let listed : P t.start false =
     subst (λ (n : ℕ). P n false) c.start-place.ensures
     (subst (λ (b : Bool). P c.start-place.result b) c.if-branch.false
-    c.in_ok-list_message-in-Ok-Some.ensures) in
+    c.in_ok-list_message-in-Ok-Some.ensures.listed) in
     lists_then _ (state t context false) _ _ before after c.loop-message.invariant
     (lists_message t u m context now size before after false hands sized listed)
 
@@ -51,5 +51,5 @@ returns-in-Err-clause-lists c =
     c.in_ok-message.ensures.hands_out in
     lists_then _ (state t context false) _ _ before after c.loop-message.invariant
     (lists_fault t u f context before after hands
-    (c.in_ok-put_fault-in-Err.ensures
+    (c.in_ok-put_fault-in-Err.ensures.ok
     ∙ ap (λ (g : StackFault). before ++ fault_line g) c.transport_fault.ensures))

@@ -4,8 +4,8 @@ use Rattle.stream_listing.specs.Listings.{state, Lists, IsAtRest}
 use Rattle.stream_listing.proofs.Listing.{rest_finish}
 use Rattle.stream_listing.proofs.lister.Lister.finish.Goals as goal
 
-pub returns : goal.returns
-returns c =
+pub returns-clause-finishes : goal.returns-clause-finishes
+returns-clause-finishes c =
     let u = c.list_all.new.transport in
     let now = c.list_all.new.context in
     let mid = c.list_all.new.out.items in
@@ -13,4 +13,4 @@ returns c =
     let rest : IsAtRest u = search rules in
     rest_finish c.args.self u now c.left.result c.args.out.now.items mid c.put_rest.new.out.items
     lists rest c.left.ensures
-    c.in_ok-put_rest.ensures
+    c.in_ok-put_rest.ensures.ok
