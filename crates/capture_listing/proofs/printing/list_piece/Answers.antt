@@ -8,5 +8,5 @@ returns-in-Err g c =
     let before = g.K.Sink.told c.args.sink.now in
     let after = g.K.Sink.told c.write_all.new.sink in
     stopped_piece c.args.lister c.in-Ok.next c.args.piece.now c.clear.new.self.items
-    c.feed.new.out.items before after c.in-Ok.ensures c.clear.ensures.items
+    c.feed.new.out.items before after c.in-Ok.ensures.lists c.clear.ensures.items
     (subst (λ os. AppendsPart before after os true) c.as_slice.ensures.value c.in-Err.ensures)
