@@ -1,11 +1,14 @@
 -- A walk over the lines of a capture.
-use Rattle.std.proofs.Common.{◌≡◌, ℕ, suc, ◌+◌, ◌-◌, ◌^◌, ◌≤◌, min, Bool, true, false, ◌||◌, cond, List}
-use Rattle.std.proofs.Common.{[], ◌∷◌, ◌++◌, length, take, Option, Some, None, Ok}
+use Rattle.std.proofs.Common.{◌≡◌, ℕ, suc, ◌+◌, ◌-◌, ◌^◌, ◌≤◌, min, Bool, true, false, ◌||◌, cond}
+use Rattle.std.proofs.Common.{List}
+use Rattle.std.proofs.Common.{[], ◌∷◌, ◌++◌, length, take, drop, Option, Some, None, Ok}
 use Rattle.std.proofs.Common.{refl, sym, ap, ◌∙◌, arith}
 use Rattle.std.specs.Prelude.{option_map}
 use Rattle.std.specs.List.{list_any, position_from}
 use Rattle.std.specs.Str.Lines.{lines}
-use Rattle.std.proofs.lemmas.List.{take-append-le, length-take-le}
+use Rattle.std.proofs.lemmas.List.{take-append-le, length-take-le, take-append-drop}
+use Rattle.std.proofs.lemmas.List.{drop-append-le, drop-drop}
+use Rattle.std.proofs.Math.Seq.{drop-append-add}
 use Rattle.hex.specs.Hex.{decode_pairs}
 use Rattle.capture_text.specs.Captures.{is_bad, joined, unless_bad, capture_in}
 use Rattle.capture_text.specs.Pieces.{ArePairs, HasNoBadLine, bad_line_from}
@@ -86,3 +89,20 @@ filled_more filled n piece part behind within some =
     ap (λ (k : ℕ). take (k + n) (take filled piece ++ (part ++ behind))) (sym len)
     ∙ take_front (take filled piece) (part ++ behind) n
     ∙ ap (λ (os : List ℕ). take filled piece ++ os) (take-append-le n part behind some)
+
+-- what stands behind the octets that were filled stays, where more of a room behind them are
+pub kept_behind : (filled n room : ℕ) (piece part : List ℕ) → filled ≤ length piece
+    → n ≤ length part → length part ≡ length (take room (drop filled piece))
+    → drop n part ≡ drop n (take room (drop filled piece))
+    → drop (filled + n) (take filled piece ++ (part ++ drop room (drop filled piece)))
+    ≡ drop (filled + n) piece
+kept_behind filled n room piece part within some size same =
+    let rest = drop filled piece in
+    let len = length-take-le filled piece within in
+    ap (λ (k : ℕ). drop (k + n) (take filled piece ++ (part ++ drop room rest))) (sym len)
+    ∙ drop-append-add (take filled piece) (part ++ drop room rest) n
+    ∙ drop-append-le n part (drop room rest) some
+    ∙ ap (λ (os : List ℕ). os ++ drop room rest) same
+    ∙ sym (drop-append-le n (take room rest) (drop room rest) (omega (arith, some, size)))
+    ∙ ap (drop n) (take-append-drop room rest)
+    ∙ drop-drop n filled piece

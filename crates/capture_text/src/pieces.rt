@@ -59,13 +59,14 @@ pub fn read_pieces(text: &[u8]) -> Result<Pieces<'_>, u64>
 }
 
 impl Pieces<'_> {
-    /// Fills a piece from its front with the next octets, and answers how many these are: none
-    /// only where none are left.
+    /// Fills a piece from its front with the next octets, and answers how many these are: fewer
+    /// than fit only where none are left. What stands behind them in the piece stays.
     pub fn next(&mut self, piece: &mut [u8]) -> usize
         requires { 0 < length piece.old }
         ensures octets { self.old ≡ take result piece.new ++ self.new }
         ensures within { result ≤ length piece.new }
-        ensures end { result ≡ 0 → self.new ≡ [] }
+        ensures full { result < length piece.new → self.new ≡ [] }
+        ensures behind { drop result piece.new ≡ drop result piece.old }
     {
         let mut cursor = self.cursor;
         let filled = cursor.fill(piece);
@@ -82,7 +83,9 @@ impl Cursor<'_> {
         ensures octets { octets_left self.old.digits.now self.old.rest.now
             ≡ take result piece.new ++ octets_left self.new.digits.now self.new.rest.now }
         ensures within { result ≤ length piece.new }
-        ensures end { result ≡ 0 → octets_left self.new.digits.now self.new.rest.now ≡ [] }
+        ensures full { result < length piece.new
+            → octets_left self.new.digits.now self.new.rest.now ≡ [] }
+        ensures behind { drop result piece.new ≡ drop result piece.old }
         ensures pairs { ArePairs self.new.digits.now }
         ensures good { HasNoBadLine self.new.rest.now }
     {
@@ -129,6 +132,7 @@ impl Cursor<'_> {
             ≡ take result piece.new ++ pairs_octets self.new.digits.now }
         ensures within { result ≤ length piece.new }
         ensures some { 0 < result }
+        ensures behind { drop result piece.new ≡ drop result piece.old }
         ensures pairs { ArePairs self.new.digits.now }
         ensures rest { self.new.rest.now ≡ self.old.rest.now }
     {
@@ -146,6 +150,7 @@ fn decode_front(digits: &[u8], piece: &mut [u8]) -> usize
     ensures pairs { ArePairs (drop (2 * result) digits.now) }
     ensures within { result ≤ length piece.new }
     ensures digits { 2 * result ≤ length digits.now }
+    ensures behind { drop result piece.new ≡ drop result piece.old }
     ensures some { 0 < length piece.old → 0 < length digits.now → 0 < result }
 {
     let count = (digits.len() / 2).min(piece.len());

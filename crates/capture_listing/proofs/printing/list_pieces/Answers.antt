@@ -1,4 +1,5 @@
-use Rattle.std.proofs.Common.{◌≡◌, ◌++◌, ◌∙◌, ℕ, List, [], take, ap, subst, rules, arith}
+use Rattle.std.proofs.Common.{◌≡◌, ◌++◌, ◌∙◌, ℕ, List, [], length, take, ap, subst, rules, arith}
+use Rattle.tpkt_cotp.specs.declared.limits.TheConstants.{PIECE_LIMIT}
 use Rattle.capture_listing.proofs.Listed.{Stands, Stands-end, Stands-next, Stands-stop}
 use Rattle.capture_listing.proofs.printing.list_pieces.Goals as goal
 
@@ -8,10 +9,11 @@ returns-then-count-eq0 g c =
     let now = g.K.Sink.told c.loop-pieces.sink in
     let piece = c.next-count.new.piece in
     let zero : c.next-count.result ≡ 0 = omega arith in
+    let room : length piece ≡ PIECE_LIMIT = search rules in
     let left : c.loop-pieces.pieces ≡ [] =
     c.next-count.ensures.octets
     ∙ ap (λ (n : ℕ). take n piece ++ c.next-count.new.self) zero
-    ∙ c.next-count.ensures.end zero in
+    ∙ c.next-count.ensures.full (omega (arith, zero, room)) in
     Stands-end c.args.pieces c.loop-pieces.lister [] old now
     (g.K.Sink.told c.finish_list.new.sink) c.finish_list.result
     (subst (λ (os : List ℕ). Stands c.args.pieces c.loop-pieces.lister os old now) left

@@ -1,5 +1,7 @@
 use Rattle.std.proofs.Common.{◌≡◌, ◌*◌, ◌≤◌, ◌++◌, ℕ, List, length, take, drop, sym, ap, ◌∙◌, arith}
+use Rattle.std.proofs.Common.{rules}
 use Rattle.std.proofs.lemmas.List.{take_at, length-take-le}
+use Rattle.std.proofs.lemmas.Slice.{drop-append-drop}
 use Rattle.hex.specs.Hex.{decode_sized}
 use Rattle.hex.proofs.HexLemmas.{decode_sized-twice}
 use Rattle.capture_text.specs.Pieces.{pairs_octets}
@@ -22,6 +24,13 @@ returns-clause-octets c =
     f.is ∙ ap (λ (os : List ℕ). os ++ pairs_octets (drop (2 * n) c.args.digits.now))
     (sym out ∙ sym (take_at c.decode_to_slice.new.out (drop n c.args.piece.now) n
     (ap length out ∙ f.size)))
+
+pub returns-clause-behind : goal.returns-clause-behind
+returns-clause-behind c =
+    let n = c.min-count.result in
+    let room : n ≤ length c.args.piece.now = omega arith in
+    drop-append-drop n c.args.piece.now c.decode_to_slice.new.out n (omega arith)
+    (search rules)
 
 pub returns-clause-pairs : goal.returns-clause-pairs
 returns-clause-pairs c =

@@ -1,11 +1,12 @@
-use Rattle.std.proofs.Common.{◌≡◌, ◌-◌, ◌++◌, ℕ, List, length, take, sym, ap, ◌∙◌, arith}
+use Rattle.std.proofs.Common.{◌≡◌, ◌-◌, ◌++◌, ℕ, List, length, take, drop, sym, ap, ◌∙◌, arith}
 use Rattle.std.proofs.Common.{append_assoc, ◌≤◌, rules}
 use Rattle.std.specs.Str.Lines.{lines}
+use Rattle.std.proofs.lemmas.List.{drop-drop}
 use borrow.Rule.Slice.PartMut.{put_mid, post_of}
 use Rattle.std.specs.List.{list_any}
 use Rattle.capture_text.specs.Captures.{is_bad, joined}
 use Rattle.capture_text.specs.Pieces.{pairs_octets, octets_left}
-use Rattle.capture_text.proofs.Walking.{filled_more}
+use Rattle.capture_text.proofs.Walking.{filled_more, kept_behind}
 use Rattle.capture_text.proofs.pieces.Cursor.fill.Goals as goal
 
 pub loop-filled-preserved : goal.loop-filled-preserved
@@ -23,6 +24,10 @@ loop-filled-preserved c =
     search rules in
     record {
       within = omega (arith, whole, size, c.take-filled.ensures.within, c.loop-filled-test.true);
+      behind = kept_behind filled n (length piece - filled) piece part within
+          c.take-filled.ensures.within (search rules) c.take-filled.ensures.behind
+          ∙ sym (drop-drop n filled piece) ∙ ap (drop n) c.loop-filled.invariant.behind
+          ∙ drop-drop n filled c.args.piece.now;
       pairs = c.take-filled.ensures.pairs;
       good = ap (λ (os : List ℕ). list_any is_bad (lines os)) c.take-filled.ensures.rest
           ∙ c.if-not-find_digits.ensures.good;
