@@ -7,7 +7,8 @@ use Rattle.ber_values.specs.declared.tag.Tag.{Tag}
 use Rattle.ber_values.specs.Reading.{Taken, Begins, IsReading}
 use Rattle.ber_values.specs.Tags.{SpellsTag, TagFault, tag_in}
 use Rattle.ber_values.specs.Grammars.{Grammar, IsGrammar, gives, first_is}
-use Rattle.ber_values.specs.Grammars.{refused, skip}
+use Rattle.ber_values.specs.Grammars.{refused}
+use Rattle.ber_values.specs.Passing.{skip}
 use Rattle.ber_values.specs.Parts.{Contents, IsContentsGrammar, part_in, maybe_in}
 use Rattle.ber_values.proofs.Reading.{IsReading-as, IsReading-then, Ok_is, not_both}
 use Rattle.ber_values.proofs.Tags.{tag_reads}

@@ -1,5 +1,5 @@
 -- Whole APDUs: one element, whose contents are a sequence.
-use Rattle.std.proofs.Common.{◌≡◌, ◌≢◌, ℕ, ◌+◌, ◌%◌, eqb, List, [], ◌∷◌, ◌++◌, length}
+use Rattle.std.proofs.Common.{◌≡◌, ◌≢◌, ℕ, zero, suc, ◌+◌, ◌%◌, eqb, List, [], ◌∷◌, ◌++◌, length}
 use Rattle.std.proofs.Common.{refl, sym, ap, subst, ◌∙◌, inl, inr, append-nil, arith}
 use Rattle.ber_values.specs.Octets.{IsOctets}
 use Rattle.ber_values.specs.Reading.{Taken}
@@ -8,6 +8,7 @@ use Rattle.ber_values.specs.Parts.{Contents, part_in, choose_in, contents_as, wh
 use Rattle.ber_values.specs.Readers.{taken_whole}
 use Rattle.ber_values.specs.Leaves.{raw}
 use Rattle.ber_values.specs.Runs.{AnyElement, IsSound, element_octets}
+use Rattle.ber_values.proofs.Octets.{IsOctets-rest}
 use Rattle.ber_values.proofs.Runs.{part-element, element-part}
 use Rattle.acse_assoc.specs.declared.expected.Expected.{Expected}
 use Rattle.acse_assoc.specs.declared.apdu.Apdu.{Apdu}
@@ -21,10 +22,16 @@ use Rattle.acse_assoc.specs.Sequences.{IsAarq, IsAare, IsOneElement, IsWholeAarq
 use Rattle.acse_assoc.proofs.SequencesBack.{octets_behind, aarq-spelled, aare-spelled}
 use Rattle.acse_assoc.proofs.SequencesOf.{spelled-aarq, spelled-aare}
 
+octets_before : (xs ys : List ℕ) → IsOctets (xs ++ ys) → IsOctets xs
+octets_before [] ys os i = omega arith
+octets_before (x ∷ xs) ys os zero = os zero
+octets_before (x ∷ xs) ys os (suc i) = octets_before xs ys (IsOctets-rest x (xs ++ ys) os) i
+
 octets_in : (octets : List ℕ) (a : AnyElement) → octets ≡ element_octets a → IsOctets octets
     → IsOctets a.contents
-octets_in octets a parts os = octets_behind a.sized a.contents
-    (octets_behind a.tagged (a.sized ++ a.contents) (subst IsOctets parts os))
+octets_in octets a parts os = octets_before a.contents a.closing
+    (octets_behind a.sized (a.contents ++ a.closing)
+    (octets_behind a.tagged (a.sized ++ (a.contents ++ a.closing)) (subst IsOctets parts os)))
 
 -- an element whose contents are a function of a value
 alone_part : {X : Type 0} (tag : ℕ) (f : X → Apdu) (c : Contents X) (Holds : ℕ → List ℕ → Type 0)
@@ -131,7 +138,8 @@ alone_begins tag f c at a x s tagged spelled = subst
 
 tag_is : (tag other : ℕ) (a : AnyElement) → a.tagged ≡ other ∷ []
     → has_tag tag (element_octets a) ≡ eqb other tag
-tag_is tag other a tagged = ap (λ (os : List ℕ). has_tag tag (os ++ (a.sized ++ a.contents))) tagged
+tag_is tag other a tagged =
+    ap (λ (os : List ℕ). has_tag tag (os ++ (a.sized ++ (a.contents ++ a.closing)))) tagged
 
 pub aarq-whole : (e : Expected) (at : ℕ) (octets : List ℕ) (r : AssociateRequest) → IsOctets octets
     → IsWholeAarq e at octets r → (apdu e).begins at octets (taken_whole at octets (Aarq r))

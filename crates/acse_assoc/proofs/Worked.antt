@@ -4,7 +4,8 @@ use Rattle.ber_values.specs.Tags.{length_in, tag_in}
 use Rattle.ber_values.specs.Heads.{head_in}
 use Rattle.ber_values.specs.Numbers.{unsigned_in}
 use Rattle.ber_values.specs.TextContents.{oid_in}
-use Rattle.ber_values.specs.Grammars.{taken, gives, then_in, map_in, branch_in, refused, skip, by_length}
+use Rattle.ber_values.specs.Grammars.{taken, gives, then_in, map_in, branch_in, refused, by_length}
+use Rattle.ber_values.specs.Passing.{skip}
 use Rattle.ber_values.specs.Parts.{sized_part_in, parted_in, part_in, choose_in, maybe_in, contents_as}
 use Rattle.ber_values.specs.Parts.{contents_where, whole_in, all_in}
 use Rattle.ber_values.specs.Leaves.{unsigned, unsigned_within, oid, span, raw}
@@ -19,6 +20,8 @@ use Rattle.acse_assoc.specs.Requests.{one_oid, context_name, calling_title, user
 use Rattle.acse_assoc.specs.Responses.{context_passed, one_result, result_next, user_of_result}
 use Rattle.acse_assoc.specs.Responses.{some_user_last, response}
 use Rattle.acse_assoc.specs.Apdus.{one_apdu, apdu}
+use Rattle.ber_values.specs.Heads.{head_by, element_by, extent_of, extent_within}
+use Rattle.ber_values.specs.Extents.{definite}
 
 abbrev pub any : Expected
 any = record { request_id = None; response_id = None; accepted = false }
@@ -33,7 +36,11 @@ asked_read : (apdu any).reading 100 asked ≡ Ok (taken (Aarq (record {
   title = Some (41 ∷ 135 ∷ 103 ∷ 1 ∷ []);
   user = external_of 3 (record { from = 137; to = 141 });
 })) 141 [])
-unfolding asked apdu one_apdu whole_in request one_oid context_name calling_title user_last external user_information by_tag rising_within rising_in named_in perhaps_in attempt tag_in length_in head_in unsigned_in oid_in gives then_in map_in branch_in refused skip by_length sized_part_in parted_in part_in choose_in maybe_in contents_as contents_where all_in unsigned unsigned_within oid span raw
+unfolding asked apdu one_apdu whole_in request one_oid context_name calling_title user_last external
+    user_information by_tag rising_within rising_in named_in perhaps_in attempt tag_in length_in
+    head_in unsigned_in oid_in gives then_in map_in branch_in refused skip by_length sized_part_in
+    parted_in part_in choose_in maybe_in contents_as contents_where all_in unsigned unsigned_within
+    oid span raw extent_of extent_within definite head_by element_by
 asked_read = refl
 
 -- an AARE, accepted, without user information
@@ -41,5 +48,9 @@ bare : List ℕ
 bare = 97 ∷ 5 ∷ 162 ∷ 3 ∷ 2 ∷ 1 ∷ 0 ∷ []
 
 bare_read : (apdu any).reading 0 bare ≡ Err (fault_at 7 whys.Short)
-unfolding bare apdu one_apdu whole_in response one_oid context_passed one_result result_next user_of_result some_user_last external user_information by_tag rising_within rising_in named_in perhaps_in tag_in length_in head_in unsigned_in oid_in gives then_in map_in branch_in refused skip by_length sized_part_in parted_in part_in choose_in maybe_in contents_as contents_where all_in unsigned unsigned_within oid span raw
+unfolding bare apdu one_apdu whole_in response one_oid context_passed one_result result_next
+    user_of_result some_user_last external user_information by_tag rising_within rising_in named_in
+    perhaps_in tag_in length_in head_in unsigned_in oid_in gives then_in map_in branch_in refused
+    skip by_length sized_part_in parted_in part_in choose_in maybe_in contents_as contents_where
+    all_in unsigned unsigned_within oid span raw extent_of extent_within definite head_by element_by
 bare_read = refl

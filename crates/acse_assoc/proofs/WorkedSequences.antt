@@ -17,6 +17,8 @@ use Rattle.acse_assoc.specs.Sequences.{IsAarq}
 use Rattle.acse_assoc.proofs.ApdusRead.{one_oid_contents, user_contents}
 use Rattle.acse_assoc.proofs.Sequences.{rises-sequence}
 use Rattle.acse_assoc.proofs.Worked.{any}
+use Rattle.ber_values.specs.Heads.{extent_of, extent_within}
+use Rattle.ber_values.specs.Extents.{definite}
 
 -- an element with a tag and a length of one octet
 abbrev short : ℕ → List ℕ → AnyElement
@@ -25,11 +27,15 @@ short tag contents = record {
   tagged = tag ∷ [];
   sized = length contents ∷ [];
   contents = contents;
+  closing = [];
 }
 
 short_sound : (tag : ℕ) (contents : List ℕ) → tag % 32 ≢ 31 → length contents < 128
     → IsSound (short tag contents)
-short_sound tag contents single few = record { tag = (single, refl); size = inl (few, refl, refl) }
+short_sound tag contents single few = record {
+  tag = (single, refl);
+  behind = inl (inl (few, refl, refl), refl);
+}
 
 abbrev head_at : ℕ → Head
 head_at at = record {
@@ -56,7 +62,7 @@ asked_is : IsAarq any 102 (elements_octets asked) asked (record {
 })
 unfolding one_oid user_information external all_in part_in parted_in sized_part_in length_in
     unsigned_in oid_in gives then_in map_in branch_in refused choose_in maybe_in contents_where
-    unsigned oid span
+    unsigned oid span extent_of extent_within definite
 asked_is = record {
   sequence = rises-sequence (elements_octets asked) asked refl (
     short_sound 161 _ (omega arith) (omega arith),

@@ -9,7 +9,8 @@ use Rattle.ber_values.specs.Oid.{IsOid}
 use Rattle.ber_values.specs.Tags.{tag_with, tag_in}
 use Rattle.ber_values.specs.Writing.{written, integer_octets, length_octets}
 use Rattle.ber_values.specs.Externals.{external_of, is_wanted, external, external_octets}
-use Rattle.ber_values.specs.Grammars.{taken, gives, then_in, map_in, branch_in, by_length, skip}
+use Rattle.ber_values.specs.Grammars.{taken, gives, then_in, map_in, branch_in, by_length}
+use Rattle.ber_values.specs.Passing.{skip}
 use Rattle.ber_values.specs.Parts.{Contents, part_in, maybe_in, contents_as, contents_where, all_in}
 use Rattle.ber_values.specs.Parts.{whole_in}
 use Rattle.ber_values.specs.Leaves.{oid, raw, unsigned_within}

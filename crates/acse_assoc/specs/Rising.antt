@@ -7,7 +7,8 @@ use Rattle.ber_values.specs.Faults.{◌>>=◌}
 use Rattle.ber_values.specs.Reading.{Taken, Begins}
 use Rattle.ber_values.specs.Tags.{SpellsTag, TagFault, tag_in}
 use Rattle.ber_values.specs.Grammars.{Grammar, taken, gives, then_in, branch_in, first_is}
-use Rattle.ber_values.specs.Grammars.{refused, skip, by_length}
+use Rattle.ber_values.specs.Grammars.{refused, by_length}
+use Rattle.ber_values.specs.Passing.{skip}
 use Rattle.ber_values.specs.Parts.{Contents, part_in, maybe_in}
 
 -- a grammar that depends on the tag at the front, and takes this tag itself

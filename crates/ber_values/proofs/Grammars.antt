@@ -1,146 +1,79 @@
--- The pieces of grammars are exact where those that they are made of are.
-use Rattle.std.proofs.Common.{◌≡◌, ◌≢◌, ℕ, zero, suc, Bool, true, false, cond, eqb, ltb, List, [], ◌∷◌, length, Result, Ok, Err, refl, sym, ap, subst, ◌∙◌, inl, inr, ◌⊎◌, Some, None, ◌≤◌, ◌<◌, ◌-◌, ◌+◌, ◌++◌, ◌^◌, drop, take, append_assoc, arith}
-use Rattle.std.proofs.lemmas.Bool.{ltb-true, ltb-false, lt-ltb, le-ltb, eqb-true, eqb-false, eq-eqb, ne_eqb, false≢true}
-use Rattle.std.proofs.lemmas.List.{drop-drop, drop_at, take_at, length-append}
+-- Elements, their contents and what is passed over are read exactly.
+use Rattle.std.proofs.Common.{◌≡◌, ◌≢◌, ℕ, suc, Bool, true, false, cond, eqb, List, []}
+use Rattle.std.proofs.Common.{◌∷◌, length, Ok, Err, refl, sym, ap, subst, ◌∙◌, inl, inr}
+use Rattle.std.proofs.Common.{Some, None, ◌<◌, ◌-◌, ◌+◌, ◌++◌, ◌^◌, drop, arith}
+use Rattle.std.proofs.lemmas.Bool.{eqb-true, eqb-false, eq-eqb, ne_eqb}
+use Rattle.std.proofs.lemmas.List.{length-append}
 use Rattle.ber_values.specs.declared.fault.BerFault.{BerFault}
 use Rattle.ber_values.specs.declared.fault.Why.TheVariants as whys
-use Rattle.ber_values.specs.declared.head.Head.{Head}
 use Rattle.ber_values.specs.Faults.{fault_at, ◌>>=◌}
-use Rattle.ber_values.specs.Heads.{IsPastEnd, SpellsHead, HeadFault, head_in}
-use Rattle.ber_values.specs.Tags.{SpellsLength, LengthFault, length_in}
-use Rattle.ber_values.specs.Reading.{Taken, Begins, IsReading}
-use Rattle.ber_values.specs.Grammars.{Grammar, IsGrammar, taken, gives, then_in, map_in, branch_in, first_is, has_tag, is_ended, why_refused, refused, skip, by_length, pass_within, pass_in, times_in, fold_in}
-use Rattle.ber_values.specs.Parts.{Contents, IsContentsGrammar, Parted, parted, BeginsPart, PartFault, sized_part_in, parted_in, part_in, choose_in, maybe_in, contents_as, contents_where, end_in, whole_in, all_in}
-use Rattle.ber_values.proofs.Reading.{IsReading-from, IsReading-then, IsReading-as}
-use Rattle.ber_values.proofs.Tags.{length_reads}
-use Rattle.ber_values.proofs.Heads.{head_reads}
+use Rattle.ber_values.specs.Extents.{Extent}
+use Rattle.ber_values.specs.Heads.{extent_of}
+use Rattle.ber_values.specs.Reading.{Taken, IsReading}
+use Rattle.ber_values.specs.Grammars.{Grammar, IsGrammar, taken, gives, map_in, branch_in}
+use Rattle.ber_values.specs.Grammars.{has_tag}
+use Rattle.ber_values.specs.Passing.{skip, pass_in}
+use Rattle.ber_values.specs.Parts.{Contents, IsContentsGrammar, Parted, parted, is_constructed}
+use Rattle.ber_values.specs.Parts.{BeginsPart, PartFault, sized_part_in, parted_in, part_in}
+use Rattle.ber_values.specs.Parts.{choose_in, maybe_in, contents_as, contents_where, end_in}
+use Rattle.ber_values.specs.Parts.{whole_in, all_in}
+use Rattle.ber_values.proofs.Reading.{IsReading-then, IsReading-as}
+use Rattle.ber_values.proofs.Heads.{element_reads, extent_reads}
+use Rattle.ber_values.proofs.Following.{extent-after}
 use Rattle.ber_values.specs.Writing.{length_octets, written}
-use Rattle.ber_values.proofs.Written.{length_spelled}
-
--- ---- readings
-
--- a reading that answers this value
-pub IsReading-done : (X : Type 0) (x : X) → IsReading X (λ y. y ≡ x) (λ f. ⊥) (Ok x)
-IsReading-done X x = IsReading-from X (λ y. y ≡ x) (λ f. ⊥) (Ok x) refl (λ y e. ap (λ (z : X). Ok z) (sym e)) (λ f b. absurd b)
-
--- a reading that answers this fault
-pub IsReading-failed : (X : Type 0) (f : BerFault) → IsReading X (λ y. ⊥) (λ g. g ≡ f) (Err f)
-IsReading-failed X f = IsReading-from X (λ y. ⊥) (λ g. g ≡ f) (Err f) refl (λ y b. absurd b) (λ g e. ap (λ (h : BerFault). Err h) (sym e))
-
--- a function of what was read
-pub IsReading-map : (X Y : Type 0) (Spelled : X → Type 0) (First : BerFault → Type 0) (read : Result X BerFault) (f : X → Y) → IsReading X Spelled First read
-    → IsReading Y (λ y. (x : X) × Spelled x × (y ≡ f x)) First (read >>= λ x. Ok (f x))
-IsReading-map X Y Spelled First read f one =
-    IsReading-as Y _ (λ y. (x : X) × Spelled x × (y ≡ f x)) _ First (read >>= λ x. Ok (f x)) (λ y h. h) (λ y h. h) (λ d h. elim h [ inl first ↦ first | inr later ↦ absurd later.2 ]) (λ d h. inl h)
-    (IsReading-then X Y Spelled First read (λ x y. y ≡ f x) (λ x d. ⊥) (λ x. Ok (f x)) one (λ x s. IsReading-done Y (f x)))
-
--- one of two readings, by a test
-pub IsReading-test : (X : Type 0) (Spelled Other : X → Type 0) (First Fault : BerFault → Type 0) (test : Bool) (read again : Result X BerFault)
-    → (test ≡ true → IsReading X Spelled First read) → (test ≡ false → IsReading X Other Fault again)
-    → IsReading X (λ x. ((test ≡ true) × Spelled x) ⊎ ((test ≡ false) × Other x)) (λ f. ((test ≡ true) × First f) ⊎ ((test ≡ false) × Fault f)) (cond test read again)
-IsReading-test X Spelled Other First Fault true read again one other =
-    IsReading-as X Spelled (λ x. ((true ≡ true) × Spelled x) ⊎ ((true ≡ false) × Other x)) First (λ f. ((true ≡ true) × First f) ⊎ ((true ≡ false) × Fault f)) read
-    (λ x h. inl (refl, h)) (λ x h. elim h [ inl a ↦ a.1 | inr b ↦ absurd (false≢true (sym b.0)) ])
-    (λ f h. inl (refl, h)) (λ f h. elim h [ inl a ↦ a.1 | inr b ↦ absurd (false≢true (sym b.0)) ]) (one refl)
-IsReading-test X Spelled Other First Fault false read again one other =
-    IsReading-as X Other (λ x. ((false ≡ true) × Spelled x) ⊎ ((false ≡ false) × Other x)) Fault (λ f. ((false ≡ true) × First f) ⊎ ((false ≡ false) × Fault f)) again
-    (λ x h. inr (refl, h)) (λ x h. elim h [ inl a ↦ absurd (false≢true a.0) | inr b ↦ b.1 ])
-    (λ f h. inr (refl, h)) (λ f h. elim h [ inl a ↦ absurd (false≢true a.0) | inr b ↦ b.1 ]) (other refl)
-
--- ---- grammars
-
-pub gives_reads : {X : Type 0} (x : X) → IsGrammar (gives x)
-unfolding gives
-gives_reads {X} x at octets = IsReading-done (Taken X) (taken x at octets)
-
-pub then_reads : {X Y : Type 0} (g : Grammar X) (next : X → Grammar Y) → IsGrammar g → ((x : X) → IsGrammar (next x)) → IsGrammar (then_in g next)
-unfolding then_in
-then_reads {X} {Y} g next one two at octets =
-    IsReading-then (Taken X) (Taken Y) (g.begins at octets) (g.fault at octets) (g.reading at octets) (λ t u. (next t.value).begins t.next t.rest u) (λ t f. (next t.value).fault t.next t.rest f) (λ t. (next t.value).reading t.next t.rest)
-    (one at octets) (λ t s. two t.value t.next t.rest)
-
-pub map_reads : {X Y : Type 0} (f : X → Y) (g : Grammar X) → IsGrammar g → IsGrammar (map_in f g)
-unfolding map_in
-map_reads {X} {Y} f g one at octets = IsReading-map (Taken X) (Taken Y) (g.begins at octets) (g.fault at octets) (g.reading at octets) (λ t. taken (f t.value) t.next t.rest) (one at octets)
-
-pub branch_reads : {X : Type 0} (test : List ℕ → Bool) (one other : Grammar X) → IsGrammar one → IsGrammar other → IsGrammar (branch_in test one other)
-unfolding branch_in
-branch_reads {X} test one other a b at octets =
-    IsReading-test (Taken X) (one.begins at octets) (other.begins at octets) (one.fault at octets) (other.fault at octets) (test octets) (one.reading at octets) (other.reading at octets) (λ e. a at octets) (λ e. b at octets)
-
-pub refused_reads : {X : Type 0} → IsGrammar (refused {X = X})
-unfolding refused
-refused_reads {X} at octets = IsReading-failed (Taken X) (fault_at at (why_refused octets))
+use Rattle.ber_values.proofs.Written.{extent_written, extent-written}
+pub use Rattle.ber_values.proofs.Combining.{IsReading-done, IsReading-failed, IsReading-map}
+pub use Rattle.ber_values.proofs.Combining.{IsReading-test, gives_reads, then_reads, map_reads}
+pub use Rattle.ber_values.proofs.Combining.{branch_reads, refused_reads, by_length_reads}
+pub use Rattle.ber_values.proofs.Combining.{passed_within_reads, passed_reads, times_reads}
+pub use Rattle.ber_values.proofs.Combining.{fold_reads}
 
 pub skip_reads : IsGrammar skip
 unfolding skip
-skip_reads at octets = IsReading-map Head (Taken (Unit {0})) (SpellsHead at octets) (HeadFault at octets) (head_in at octets) (λ head. taken tt head.next (drop (head.next - at) octets)) (head_reads at octets)
-
-pub by_length_reads : {X : Type 0} (g : ℕ → Grammar X) → ((n : ℕ) → IsGrammar (g n)) → IsGrammar (by_length g)
-unfolding by_length
-by_length_reads g each at octets = each (length octets) at octets
-
-pub pass_within_reads : (skips : ℕ → Bool) (n : ℕ) → IsGrammar (pass_within skips n)
-unfolding pass_within
-pass_within_reads skips zero = gives_reads tt
-pass_within_reads skips (suc n) = branch_reads (first_is skips) (then_in skip (λ u. pass_within skips n)) (gives tt) (then_reads skip (λ u. pass_within skips n) skip_reads (λ u. pass_within_reads skips n)) (gives_reads tt)
+skip_reads = element_reads extent_of extent_reads
 
 pub pass_reads : (skips : ℕ → Bool) → IsGrammar (pass_in skips)
 unfolding pass_in
-pass_reads skips = by_length_reads (pass_within skips) (pass_within_reads skips)
-
-pub times_reads : {X : Type 0} (n : ℕ) (g : Grammar X) → IsGrammar g → IsGrammar (times_in n g)
-unfolding times_in
-times_reads zero g one = gives_reads []
-times_reads {X} (suc n) g one = then_reads g (λ x. map_in (λ xs. x ∷ xs) (times_in n g)) one (λ x. map_reads (λ xs. x ∷ xs) (times_in n g) (times_reads n g one))
-
-pub fold_reads : {S : Type 0} (n : ℕ) (step : S → Grammar S) (s : S) → ((s' : S) → IsGrammar (step s')) → IsGrammar (fold_in n step s)
-unfolding fold_in
-fold_reads zero step s each = gives_reads s
-fold_reads (suc n) step s each = branch_reads is_ended (gives s) (then_in (step s) (λ s'. fold_in n step s')) (gives_reads s) (then_reads (step s) (λ s'. fold_in n step s') (each s) (λ s'. fold_reads n step s' each))
+pass_reads skips = passed_reads skip skips skip_reads
 
 -- ---- elements
 
-fits_reads : (tag at : ℕ) (size : Taken ℕ) → IsReading Parted (λ part. (size.value ≤ length size.rest) × (part ≡ parted tag at size)) (λ f. (length size.rest < size.value) × (f ≡ fault_at (at + 1) whys.Length)) (cond (ltb (length size.rest) size.value) (Err (fault_at (at + 1) whys.Length)) (Ok (parted tag at size)))
-fits_reads tag at size =
-    IsReading-as Parted _ (λ part. (size.value ≤ length size.rest) × (part ≡ parted tag at size)) _ (λ f. (length size.rest < size.value) × (f ≡ fault_at (at + 1) whys.Length)) _
-    (λ part h. elim h [ inl a ↦ absurd a.1 | inr b ↦ (ltb-false (length size.rest) size.value b.0, b.1) ])
-    (λ part h. inr (le-ltb (length size.rest) size.value h.0, h.1))
-    (λ f h. elim h [ inl a ↦ (ltb-true (length size.rest) size.value a.0, a.1) | inr b ↦ absurd b.1 ])
-    (λ f h. inl (lt-ltb (length size.rest) size.value h.0, h.1))
-    (IsReading-test Parted (λ part. ⊥) (λ part. part ≡ parted tag at size) (λ f. f ≡ fault_at (at + 1) whys.Length) (λ f. ⊥) (ltb (length size.rest) size.value) (Err (fault_at (at + 1) whys.Length)) (Ok (parted tag at size)) (λ e. IsReading-failed Parted (fault_at (at + 1) whys.Length)) (λ e. IsReading-done Parted (parted tag at size)))
-
--- what stands after a tag that was taken
+-- what stands behind a tag that was taken
 abbrev SizedPart : ℕ → ℕ → List ℕ → Parted → Type 0
-SizedPart tag at octets part = (size : Taken ℕ) × Begins ℕ SpellsLength (at + 1) octets size × ((size.value ≤ length size.rest) × (part ≡ parted tag at size))
+SizedPart tag at octets part = (extent : Taken Extent)
+    × (extent_of (is_constructed tag)).begins (at + 1) octets extent × (part ≡ parted tag at extent)
 
-abbrev SizedFault : ℕ → List ℕ → BerFault → Type 0
-SizedFault at octets f = LengthFault (at + 1) octets f ⊎ IsPastEnd (at + 1) octets f
+abbrev SizedFault : ℕ → ℕ → List ℕ → BerFault → Type 0
+SizedFault tag at octets f = (extent_of (is_constructed tag)).fault (at + 1) octets f
 
-sized_part_reads : (tag at : ℕ) (octets : List ℕ) → IsReading Parted (SizedPart tag at octets) (SizedFault at octets) (sized_part_in tag at octets)
+sized_part_reads : (tag at : ℕ) (octets : List ℕ) → IsReading Parted (SizedPart tag at octets)
+    (SizedFault tag at octets) (sized_part_in tag at octets)
 unfolding sized_part_in
 sized_part_reads tag at octets =
-    IsReading-as Parted _ (SizedPart tag at octets) _ (SizedFault at octets) _
-    (λ part h. h) (λ part h. h)
-    (λ f h. elim h [ inl a ↦ inl a | inr b ↦ inr (record { size = b.0; size_spelled = b.1; past = b.2.0; is = b.2.1 }) ])
-    (λ f h. elim h [ inl a ↦ inl a | inr b ↦ inr (b.size, b.size_spelled, (b.past, b.is)) ])
-    (IsReading-then (Taken ℕ) Parted (Begins ℕ SpellsLength (at + 1) octets) (LengthFault (at + 1) octets) (length_in (at + 1) octets) (λ size part. (size.value ≤ length size.rest) × (part ≡ parted tag at size)) (λ size f. (length size.rest < size.value) × (f ≡ fault_at (at + 1) whys.Length))
-    (λ size. cond (ltb (length size.rest) size.value) (Err (fault_at (at + 1) whys.Length)) (Ok (parted tag at size)))
-    (length_reads (at + 1) octets) (λ size s. fits_reads tag at size))
+    let g = extent_of (is_constructed tag) in
+    IsReading-map (Taken Extent) Parted (g.begins (at + 1) octets) (g.fault (at + 1) octets)
+    (g.reading (at + 1) octets) (parted tag at) (extent_reads (is_constructed tag) (at + 1) octets)
 
 cons_heads : (x y : ℕ) (xs ys : List ℕ) → (x ∷ xs) ≡ (y ∷ ys) → (x ≡ y) × (xs ≡ ys)
 cons_heads x y xs ys e = (cc, cc)
 
-tagged_from : (tag at first : ℕ) (octets : List ℕ) (part : Parted) → first ≡ tag → SizedPart tag at octets part → BeginsPart tag at (first ∷ octets) part
-tagged_from tag at first octets part e h = record { after_tag = octets; size = h.0; tagged = ap (λ (x : ℕ). x ∷ octets) e; sized = h.1; within = h.2.0; is = h.2.1 }
+tagged_from : (tag at first : ℕ) (octets : List ℕ) (part : Parted) → first ≡ tag
+    → SizedPart tag at octets part → BeginsPart tag at (first ∷ octets) part
+tagged_from tag at first octets part e h = record {
+  after_tag = octets;
+  extent = h.0;
+  tagged = ap (λ (x : ℕ). x ∷ octets) e;
+  extent_spelled = h.1;
+  is = h.2;
+}
 
-tagged_to : (tag at first : ℕ) (octets : List ℕ) (part : Parted) → BeginsPart tag at (first ∷ octets) part → (first ≡ tag) × SizedPart tag at octets part
+tagged_to : (tag at first : ℕ) (octets : List ℕ) (part : Parted)
+    → BeginsPart tag at (first ∷ octets) part → (first ≡ tag) × SizedPart tag at octets part
 tagged_to tag at first octets part h =
     let p = cons_heads first tag octets h.after_tag h.tagged in
-    (p.0, (h.size, subst_begins (at + 1) h.after_tag octets h.size (sym p.1) h.sized, (h.within, h.is)))
-  where
-    subst_begins : (at : ℕ) (xs ys : List ℕ) (size : Taken ℕ) → xs ≡ ys → Begins ℕ SpellsLength at xs size → Begins ℕ SpellsLength at ys size
-    subst_begins at xs ys size e b = record { spelling = b.spelling; spelled = b.spelled; parts = sym e ∙ b.parts; place = b.place }
+    let P : List ℕ → Type 0 = λ os.
+    (extent_of (is_constructed tag)).begins (at + 1) os h.extent in
+    (p.0, (h.extent, subst P (sym p.1) h.extent_spelled, h.is))
 
 nothing_begun : (tag at : ℕ) (part : Parted) → BeginsPart tag at [] part → ⊥
 nothing_begun tag at part h = let e = h.tagged in cc
@@ -155,7 +88,7 @@ parted_reads tag at (first ∷ octets) =
     (λ part h. let p = tagged_to tag at first octets part h in inl (eq-eqb first tag p.0, p.1))
     (λ f h. elim h [ inl a ↦ inr (eqb-true first tag a.0, a.1) | inr b ↦ inl (eqb-false first tag b.0, b.1) ])
     (λ f h. elim h [ inl a ↦ inr (ne_eqb first tag a.0, a.1) | inr b ↦ inl (eq-eqb first tag b.0, b.1) ])
-    (IsReading-test Parted (SizedPart tag at octets) (λ part. ⊥) (SizedFault at octets) (λ f. f ≡ fault_at at whys.Tag) (eqb first tag) (sized_part_in tag at octets) (Err (fault_at at whys.Tag)) (λ e. sized_part_reads tag at octets) (λ e. IsReading-failed Parted (fault_at at whys.Tag)))
+    (IsReading-test Parted (SizedPart tag at octets) (λ part. ⊥) (SizedFault tag at octets) (λ f. f ≡ fault_at at whys.Tag) (eqb first tag) (sized_part_in tag at octets) (Err (fault_at at whys.Tag)) (λ e. sized_part_reads tag at octets) (λ e. IsReading-failed Parted (fault_at at whys.Tag)))
 
 pub part_reads : {X : Type 0} (tag : ℕ) (c : Contents X) → IsContentsGrammar c → IsGrammar (part_in tag c)
 unfolding part_in
@@ -206,21 +139,18 @@ whole_reads {X} g one at octets =
 
 -- ---- places of elements
 
-rest_of : (tag at next value : ℕ) (octets after_tag spelling rest : List ℕ) → octets ≡ tag ∷ after_tag → after_tag ≡ spelling ++ rest → next ≡ at + 1 + length spelling → drop value rest ≡ drop (next + value - at) octets
-rest_of tag at next value octets after_tag spelling rest tagged parts place =
-    let count : next + value - at ≡ suc (length spelling + value) = omega (arith, place) in
-    let whole : octets ≡ tag ∷ (spelling ++ rest) = tagged ∙ ap (λ (os : List ℕ). tag ∷ os) parts in
-    let inner : drop value (drop (length spelling) (spelling ++ rest)) ≡ drop (length spelling + value) (spelling ++ rest) = drop-drop value (length spelling) (spelling ++ rest) in
-    ap (drop value) (sym (drop_at spelling rest (length spelling) refl))
-    ∙ inner
-    ∙ ap (λ (k : ℕ). drop k (tag ∷ (spelling ++ rest))) (sym count)
-    ∙ ap (drop (next + value - at)) (sym whole)
-
 -- the octets after an element are those from its next place on
-pub part-rest : (tag at : ℕ) (octets : List ℕ) (part : Parted) → BeginsPart tag at octets part → part.rest ≡ drop (part.head.next - at) octets
+pub part-rest : (tag at : ℕ) (octets : List ℕ) (part : Parted) → BeginsPart tag at octets part
+    → part.rest ≡ drop (part.head.next - at) octets
 part-rest tag at octets part h =
+    let after = extent-after (is_constructed tag) (at + 1) h.after_tag h.extent h.extent_spelled in
+    let next = h.extent.next in
+    let count : next - at ≡ suc (next - (at + 1)) = omega (arith, after.0) in
+    let whole : drop (next - at) octets ≡ drop (next - (at + 1)) h.after_tag =
+    ap (λ (os : List ℕ). drop (next - at) os) h.tagged
+    ∙ ap (λ (k : ℕ). drop k (tag ∷ h.after_tag)) count in
     subst (λ (p : Parted). p.rest ≡ drop (p.head.next - at) octets) (sym h.is)
-    (rest_of tag at h.size.next h.size.value octets h.after_tag h.sized.spelling h.size.rest h.tagged h.sized.parts h.sized.place)
+    (after.1 ∙ sym whole)
 
 pub part_rest-read : (tag at : ℕ) (octets : List ℕ) (part : Parted) → parted_in tag at octets ≡ Ok part → part.rest ≡ drop (part.head.next - at) octets
 part_rest-read tag at octets part e = part-rest tag at octets part ((parted_reads tag at octets).found part e)
@@ -234,25 +164,19 @@ pub part-written : {X : Type 0} (tag : ℕ) (c : Contents X) (at : ℕ) (x : X) 
 unfolding part_in
 part-written {X} tag c at x contents rest few spelled =
     let n = length contents in
-    let size : Taken ℕ = taken n (at + 1 + length (length_octets n)) (contents ++ rest) in
-    let after : List ℕ = (length_octets n ++ contents) ++ rest in
-    let front : take n (contents ++ rest) ≡ contents = take_at contents rest n refl in
-    let back : drop n (contents ++ rest) ≡ rest = drop_at contents rest n refl in
-    let ends : at + length (written tag contents) ≡ (at + 1 + length (length_octets n)) + n = omega (arith, length-append (length_octets n) contents) in (
-      parted tag at size,
+    let from = at + 1 + length (length_octets n) in
+    let ends : at + length (written tag contents) ≡ from + n =
+    omega (arith, length-append (length_octets n) contents) in
+    let extent : Taken Extent = extent_written (at + 1) contents rest in (
+      parted tag at extent,
       record {
-        after_tag = after;
-        size = size;
+        after_tag = (length_octets n ++ contents) ++ rest;
+        extent = extent;
         tagged = refl;
-        sized = record { spelling = length_octets n; spelled = length_spelled n few; parts = append_assoc (length_octets n) contents rest; place = refl };
-        within = omega (arith, length-append contents rest);
+        extent_spelled = extent-written (is_constructed tag) (at + 1) contents rest few;
         is = refl;
       },
-      (
-        x,
-        subst (c.spells (at + 1 + length (length_octets n)) x) (sym front) spelled,
-        ap (λ (k : ℕ). taken x k rest) ends ∙ ap (λ (os : List ℕ). taken x ((at + 1 + length (length_octets n)) + n) os) (sym back),
-      ),
+      (x, spelled, ap (λ (k : ℕ). taken x k rest) ends),
     )
 
 -- the element of a tag is chosen

@@ -1,7 +1,11 @@
 pub mod Octets
 pub mod Reading
 pub mod Tags
+pub mod Combining
+pub mod Extents
 pub mod Heads
+pub mod Following
+mod Closing
 pub mod BitsLemmas
 pub mod Signed
 pub mod Written

@@ -4,21 +4,22 @@ use Rattle.std.proofs.lemmas.Bool.{false≢true}
 use Rattle.std.proofs.lemmas.List.{length-drop, drop-drop}
 use Rattle.ber_values.specs.declared.fault.BerFault.{BerFault}
 use Rattle.ber_values.specs.Reading.{Taken}
-use Rattle.ber_values.specs.Grammars.{taken, gives, then_in, branch_in, first_is, skip, by_length, pass_within, pass_in}
+use Rattle.ber_values.specs.Grammars.{Grammar, taken, gives, then_in, branch_in, first_is, by_length}
+use Rattle.ber_values.specs.Grammars.{passed_within, passed_in}
 
 -- what the loop keeps: where it stands in the octets, and that what is left is passed over as the whole is
-pub record PassedSoFar (skips : ℕ → Bool) (start : ℕ) (whole : List ℕ) (at : ℕ) (octets : List ℕ) : Type 0 where
+pub record PassedSoFar (g : Grammar (Unit {0})) (skips : ℕ → Bool) (start : ℕ) (whole : List ℕ) (at : ℕ) (octets : List ℕ) : Type 0 where
   pub placed : start + length whole < 2 ^ 64
   pub after : start ≤ at
   pub left : octets ≡ drop (at - start) whole
   pub ends : at + length octets ≡ start + length whole
   pub room : ℕ
   pub enough : length octets ≤ room
-  pub reads : (pass_within skips room).reading at octets ≡ (pass_in skips).reading start whole
+  pub reads : (passed_within g skips room).reading at octets ≡ (passed_in g skips).reading start whole
 
-pub passed-begin : (skips : ℕ → Bool) (start : ℕ) (whole : List ℕ) → start + length whole < 2 ^ 64 → PassedSoFar skips start whole start whole
-unfolding pass_in by_length
-passed-begin skips start whole placed = record {
+pub passed-begin : (g : Grammar (Unit {0})) (skips : ℕ → Bool) (start : ℕ) (whole : List ℕ) → start + length whole < 2 ^ 64 → PassedSoFar g skips start whole start whole
+unfolding passed_in by_length
+passed-begin g skips start whole placed = record {
   placed = placed;
   after = omega arith;
   left = ap (λ (n : ℕ). drop n whole) (let none : 0 ≡ start - start = omega arith in none);
@@ -32,23 +33,23 @@ some_first : (skips : ℕ → Bool) (octets : List ℕ) → first_is skips octet
 some_first skips [] e = absurd (false≢true e)
 some_first skips (first ∷ octets) e = omega arith
 
-one_passed : (skips : ℕ → Bool) (room at : ℕ) (octets : List ℕ) (t : Taken (Unit {0})) → first_is skips octets ≡ true → skip.reading at octets ≡ Ok t → (pass_within skips (suc room)).reading at octets ≡ (pass_within skips room).reading t.next t.rest
-unfolding pass_within branch_in then_in
-one_passed skips room at octets t first read = rw (first, read) refl
+one_passed : (g : Grammar (Unit {0})) (skips : ℕ → Bool) (room at : ℕ) (octets : List ℕ) (t : Taken (Unit {0})) → first_is skips octets ≡ true → g.reading at octets ≡ Ok t → (passed_within g skips (suc room)).reading at octets ≡ (passed_within g skips room).reading t.next t.rest
+unfolding passed_within branch_in then_in
+one_passed g skips room at octets t first read = rw (first, read) refl
 
-not_passed : (skips : ℕ → Bool) (room at : ℕ) (octets : List ℕ) (f : BerFault) → first_is skips octets ≡ true → skip.reading at octets ≡ Err f → (pass_within skips (suc room)).reading at octets ≡ Err f
-unfolding pass_within branch_in then_in
-not_passed skips room at octets f first read = rw (first, read) refl
+not_passed : (g : Grammar (Unit {0})) (skips : ℕ → Bool) (room at : ℕ) (octets : List ℕ) (f : BerFault) → first_is skips octets ≡ true → g.reading at octets ≡ Err f → (passed_within g skips (suc room)).reading at octets ≡ Err f
+unfolding passed_within branch_in then_in
+not_passed g skips room at octets f first read = rw (first, read) refl
 
-all_passed : (skips : ℕ → Bool) (room at : ℕ) (octets : List ℕ) → first_is skips octets ≡ false → (pass_within skips room).reading at octets ≡ Ok (taken tt at octets)
-unfolding pass_within branch_in gives
-all_passed skips zero at octets first = refl
-all_passed skips (suc room) at octets first = rw first refl
+all_passed : (g : Grammar (Unit {0})) (skips : ℕ → Bool) (room at : ℕ) (octets : List ℕ) → first_is skips octets ≡ false → (passed_within g skips room).reading at octets ≡ Ok (taken tt at octets)
+unfolding passed_within branch_in gives
+all_passed g skips zero at octets first = refl
+all_passed g skips (suc room) at octets first = rw first refl
 
 -- one more element was passed over
-pub passed-more : (skips : ℕ → Bool) (start : ℕ) (whole : List ℕ) (at : ℕ) (octets : List ℕ) (next : ℕ) → first_is skips octets ≡ true → skip.reading at octets ≡ Ok (taken tt next (drop (next - at) octets)) → at < next → next ≤ at + length octets
-    → PassedSoFar skips start whole at octets → PassedSoFar skips start whole next (drop (next - at) octets)
-passed-more skips start whole at octets next first read later within s =
+pub passed-more : (g : Grammar (Unit {0})) (skips : ℕ → Bool) (start : ℕ) (whole : List ℕ) (at : ℕ) (octets : List ℕ) (next : ℕ) → first_is skips octets ≡ true → g.reading at octets ≡ Ok (taken tt next (drop (next - at) octets)) → at < next → next ≤ at + length octets
+    → PassedSoFar g skips start whole at octets → PassedSoFar g skips start whole next (drop (next - at) octets)
+passed-more g skips start whole at octets next first read later within s =
     let some : 0 < length octets = some_first skips octets first in
     let len : length (drop (next - at) octets) ≡ length octets - (next - at) = length-drop (next - at) octets in
     let k : s.room ≡ suc (s.room - 1) = omega (arith, some, s.enough) in
@@ -60,19 +61,19 @@ passed-more skips start whole at octets next first read later within s =
       ends = omega (arith, len, later, within, s.ends);
       room = s.room - 1;
       enough = omega (arith, len, later, within, some, s.enough);
-      reads = sym (one_passed skips (s.room - 1) at octets (taken tt next (drop (next - at) octets)) first read) ∙ ap (λ (n : ℕ). (pass_within skips n).reading at octets) (sym k) ∙ s.reads;
+      reads = sym (one_passed g skips (s.room - 1) at octets (taken tt next (drop (next - at) octets)) first read) ∙ ap (λ (n : ℕ). (passed_within g skips n).reading at octets) (sym k) ∙ s.reads;
     }
 
 -- an element has a faulty head
-pub passed-fails : (skips : ℕ → Bool) (start : ℕ) (whole : List ℕ) (at : ℕ) (octets : List ℕ) (f : BerFault) → first_is skips octets ≡ true → skip.reading at octets ≡ Err f → PassedSoFar skips start whole at octets → (pass_in skips).reading start whole ≡ Err f
-passed-fails skips start whole at octets f first read s =
+pub passed-fails : (g : Grammar (Unit {0})) (skips : ℕ → Bool) (start : ℕ) (whole : List ℕ) (at : ℕ) (octets : List ℕ) (f : BerFault) → first_is skips octets ≡ true → g.reading at octets ≡ Err f → PassedSoFar g skips start whole at octets → (passed_in g skips).reading start whole ≡ Err f
+passed-fails g skips start whole at octets f first read s =
     let some : 0 < length octets = some_first skips octets first in
     let k : s.room ≡ suc (s.room - 1) = omega (arith, some, s.enough) in
-    sym s.reads ∙ ap (λ (n : ℕ). (pass_within skips n).reading at octets) k ∙ not_passed skips (s.room - 1) at octets f first read
+    sym s.reads ∙ ap (λ (n : ℕ). (passed_within g skips n).reading at octets) k ∙ not_passed g skips (s.room - 1) at octets f first read
 
 -- no more elements are passed over
-pub passed-ends : (skips : ℕ → Bool) (start : ℕ) (whole : List ℕ) (at : ℕ) (octets : List ℕ) → first_is skips octets ≡ false → PassedSoFar skips start whole at octets → (pass_in skips).reading start whole ≡ Ok (taken tt at (drop (at - start) whole))
-passed-ends skips start whole at octets first s = sym s.reads ∙ all_passed skips s.room at octets first ∙ ap (λ (os : List ℕ). Ok (taken tt at os)) s.left
+pub passed-ends : (g : Grammar (Unit {0})) (skips : ℕ → Bool) (start : ℕ) (whole : List ℕ) (at : ℕ) (octets : List ℕ) → first_is skips octets ≡ false → PassedSoFar g skips start whole at octets → (passed_in g skips).reading start whole ≡ Ok (taken tt at (drop (at - start) whole))
+passed-ends g skips start whole at octets first s = sym s.reads ∙ all_passed g skips s.room at octets first ∙ ap (λ (os : List ℕ). Ok (taken tt at os)) s.left
 
 -- octets that were dropped in two steps
 pub drop_on : (at next end : ℕ) (octets : List ℕ) → at ≤ next → next ≤ end → drop (end - next) (drop (next - at) octets) ≡ drop (end - at) octets

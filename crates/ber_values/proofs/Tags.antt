@@ -10,6 +10,7 @@ use Rattle.ber_values.specs.Faults.{fault_at}
 use Rattle.ber_values.specs.Octets.{number_of}
 use Rattle.ber_values.specs.Reading.{Taken, Begins, IsReading}
 use Rattle.ber_values.specs.Tags.{tag_with, SpellsTag, IsTagFront, IsTagTooLong, TagFault, SpellsLength, IsLengthFront, IsRefusedLength, LengthFault, third_tag_octet_in, second_tag_octet_in, tag_in, more_length_in, length_in}
+use Rattle.ber_values.specs.Grammars.{first_is}
 use Rattle.ber_values.proofs.Reading.{IsReading-from}
 
 abbrev TagRight : ℕ → List ℕ → Result (Taken Tag) BerFault → Type 0
@@ -138,3 +139,12 @@ length_reads at octets =
     IsReading-from (Taken ℕ) (Begins ℕ SpellsLength at octets) (LengthFault at octets) (length_in at octets) (length_right at octets)
     (only_from ℕ SpellsLength length_in length_again at octets)
     (λ f h. elim h [ inl s ↦ length_short_again at octets s.0 ∙ ap (λ (g : BerFault). Err g) (sym s.1) | inr l ↦ length_refused_again at octets l.0 ∙ ap (λ (g : BerFault). Err g) (sym l.1) ])
+
+-- a length doesn't begin with the octet that stands in place of one
+pub not_marked : (n : ℕ) (size more : List ℕ) → SpellsLength n size
+    → first_is (λ first. eqb first 128) (size ++ more) ≡ false
+not_marked n [] more s = elim s [ ]
+not_marked n (first ∷ size) more (inl (below, none, is)) =
+    ne_eqb first 128 (λ e. omega (arith, below, e))
+not_marked n (first ∷ size) more (inr (some, few, is, value)) =
+    ne_eqb first 128 (λ e. omega (arith, some, is, e))

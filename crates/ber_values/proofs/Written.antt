@@ -1,5 +1,5 @@
 -- What is written spells its value.
-use Rattle.std.proofs.Common.{◌≡◌, ◌≢◌, ℕ, zero, suc, ◌+◌, ◌-◌, ◌*◌, ◌/◌, ◌%◌, ◌^◌, ◌<◌, ◌≤◌, Bool, true, false, cond, ltb, List, [], ◌∷◌, ◌++◌, length, get_or, ℤ, pos, negsuc, refl, sym, ap, subst, ◌∙◌, inl, inr, set, take, drop, append_assoc, arith}
+use Rattle.std.proofs.Common.{◌≡◌, ◌≢◌, ℕ, zero, suc, ◌+◌, ◌-◌, ◌*◌, ◌/◌, ◌%◌, ◌^◌, ◌<◌, ◌≤◌, Bool, true, false, ◌&&◌, ◌==◌, cond, eqb, ltb, List, [], ◌∷◌, ◌++◌, length, get_or, ℤ, pos, negsuc, refl, sym, ap, subst, ◌∙◌, inl, inr, set, take, drop, append_assoc, arith}
 use Rattle.std.proofs.lemmas.Bool.{cond_both, ltb-true, lt-ltb, le-ltb, cases_lt}
 use Rattle.std.proofs.lemmas.List.{length-append, length_push, set-get_or, take_at, drop_at}
 use Rattle.std.proofs.lemmas.Int.{ints}
@@ -15,13 +15,16 @@ use Rattle.ber_values.specs.declared.head.Head.{Head}
 use Rattle.ber_values.specs.Bits.{Bits, IsBits}
 use Rattle.ber_values.specs.Reading.{Taken}
 use Rattle.ber_values.specs.Tags.{tag_with}
-use Rattle.ber_values.specs.Grammars.{taken, skip}
-use Rattle.ber_values.specs.Heads.{head_of, SpellsHead}
+use Rattle.ber_values.specs.Grammars.{taken, branch_in, first_is}
+use Rattle.ber_values.specs.Passing.{skip}
+use Rattle.ber_values.specs.Extents.{Extent, definite}
+use Rattle.ber_values.specs.Heads.{head_of, element_by, extent_within, extent_of, SpellsHead}
 use Rattle.ber_values.specs.Numbers.{twos_complement, SpellsInteger}
 use Rattle.ber_values.specs.Booleans.{SpellsBoolean}
 use Rattle.ber_values.specs.BitContents.{with_zeros, SpellsBits}
 use Rattle.ber_values.specs.Writing.{boolean_octets, bits_octets}
 use Rattle.ber_values.specs.Elements.{Kind, integer, unsigned, boolean, bits, oid, visible, Value, SpellsContents, contents_from, contents_octets, IsWritable, WrittenAt}
+use Rattle.ber_values.proofs.Tags.{not_marked}
 use Rattle.ber_values.proofs.Octets.{number_of-push, IsOctets-rest, FirstBounds, first_bounds, mul_le}
 use Rattle.ber_values.proofs.Signed.{pos_less}
 
@@ -219,37 +222,94 @@ contents_few bits value fits = omega (arith, fits.1)
 contents_few oid value fits = omega (arith, fits.1)
 contents_few visible value fits = omega (arith, fits.0)
 
+-- ---- extents
+
+-- the contents behind a tag that were written with their length
+abbrev pub extent_written : ℕ → List ℕ → List ℕ → Taken Extent
+extent_written at contents rest =
+    let from = at + length (length_octets (length contents)) in
+    record {
+      value = record { body = from; end = from + length contents; contents = contents };
+      next = from + length contents;
+      rest = rest;
+    }
+
+and_false : (b c : Bool) → c ≡ false → (b && c) ≡ false
+and_false true c e = e
+and_false false c e = refl
+
+definite-written : (at : ℕ) (contents rest : List ℕ) → length contents < 2 ^ 32
+    → definite.begins at ((length_octets (length contents) ++ contents) ++ rest)
+    (extent_written at contents rest)
+unfolding definite
+definite-written at contents rest few =
+    let n = length contents in
+    let from = at + length (length_octets n) in
+    record {
+      size = taken n from (contents ++ rest);
+      size_spelled = record {
+        spelling = length_octets n;
+        spelled = length_spelled n few;
+        parts = append_assoc (length_octets n) contents rest;
+        place = refl;
+      };
+      within = omega (arith, length-append contents rest);
+      is = ap (λ (os : List ℕ). record {
+        value = record { body = from; end = from + n; contents = os };
+        next = from + n;
+        rest = rest;
+      }) (sym (take_at contents rest n refl))
+          ∙ ap (λ (os : List ℕ). record {
+            value = record { body = from; end = from + n; contents = take n (contents ++ rest) };
+            next = from + n;
+            rest = os;
+          }) (sym (drop_at contents rest n refl));
+    }
+
+pub extent-written : (constructed : Bool) (at : ℕ) (contents rest : List ℕ)
+    → length contents < 2 ^ 32 → (extent_of constructed).begins at
+    ((length_octets (length contents) ++ contents) ++ rest) (extent_written at contents rest)
+unfolding extent_of extent_within branch_in
+extent-written constructed at contents rest few =
+    let octets = length_octets (length contents) in
+    let other : first_is (λ first. eqb first 128) ((octets ++ contents) ++ rest) ≡ false =
+    ap (first_is (λ first. eqb first 128)) (append_assoc octets contents rest)
+    ∙ not_marked (length contents) octets (contents ++ rest) (length_spelled (length contents) few) in
+    inr (and_false constructed _ other, definite-written at contents rest few)
+
 -- ---- heads
 
 tag_written : ℕ → ℕ → List ℕ → Taken Tag
 tag_written tag at more = record { value = tag_with tag (tag % 32) false; next = at + 1; rest = more }
 
-size_written : ℕ → ℕ → List ℕ → Taken ℕ
-size_written size at more = record { value = size; next = at + 1 + length (length_octets size); rest = more }
+pub head_written : ℕ → ℕ → List ℕ → Head
+unfolding tag_written
+head_written tag at contents = head_of (tag_written tag at []) (extent_written (at + 1) contents [])
 
-pub head_written : ℕ → ℕ → ℕ → Head
-unfolding tag_written size_written
-head_written tag at size = head_of (tag_written tag at []) (size_written size at [])
+pub head_written-next : (tag at : ℕ) (contents : List ℕ) → (head_written tag at contents).next
+    ≡ at + 1 + length (length_octets (length contents)) + length contents
+unfolding head_written tag_written
+head_written-next tag at contents = refl
 
-pub head_written-next : (tag at size : ℕ) → (head_written tag at size).next ≡ at + 1 + length (length_octets size) + size
-unfolding head_written tag_written size_written
-head_written-next tag at size = refl
-
-pub head_spelled : (tag at : ℕ) (contents rest : List ℕ) → length contents < 2 ^ 32 → tag % 32 ≢ 31 → SpellsHead at (written tag contents ++ rest) (head_written tag at (length contents))
-unfolding head_written tag_written size_written
+pub head_spelled : (tag at : ℕ) (contents rest : List ℕ) → length contents < 2 ^ 32
+    → tag % 32 ≢ 31 → SpellsHead at (written tag contents ++ rest) (head_written tag at contents)
+unfolding head_written tag_written
 head_spelled tag at contents rest few single =
-    let n = length contents in
     record {
-      tag = tag_written tag at ((length_octets n ++ contents) ++ rest);
-      size = size_written n at (contents ++ rest);
-      tag_spelled = record { spelling = tag ∷ []; spelled = (single, refl); parts = refl; place = refl };
-      size_spelled = record { spelling = length_octets n; spelled = length_spelled n few; parts = append_assoc (length_octets n) contents rest; place = refl };
-      within = omega (arith, length-append contents rest);
+      tag = tag_written tag at ((length_octets (length contents) ++ contents) ++ rest);
+      extent = extent_written (at + 1) contents rest;
+      tag_spelled = record {
+        spelling = tag ∷ [];
+        spelled = (single, refl);
+        parts = refl;
+        place = refl;
+      };
+      extent_spelled = extent-written (tag / 32 % 2 == 1) (at + 1) contents rest few;
       is = refl;
     }
 
-pub contents_written : (tag at : ℕ) (contents rest : List ℕ) → contents_from at (written tag contents ++ rest) (head_written tag at (length contents)) ≡ contents
-unfolding head_written tag_written size_written
+pub contents_written : (tag at : ℕ) (contents rest : List ℕ) → contents_from at (written tag contents ++ rest) (head_written tag at contents) ≡ contents
+unfolding head_written tag_written
 contents_written tag at contents rest =
     let n = length contents in
     let front = tag ∷ length_octets n in
@@ -266,11 +326,11 @@ contents_written tag at contents rest =
 
 -- what is written is read back, whatever follows
 pub element_written : (kind : Kind) (value : Value kind) (tag at : ℕ) (rest : List ℕ) → IsWritable kind value → tag % 32 ≢ 31 → WrittenAt kind value tag at (written tag (contents_octets kind value) ++ rest) (at + length (written tag (contents_octets kind value)))
-unfolding head_written tag_written size_written
+unfolding head_written tag_written
 element_written kind value tag at rest fits single =
     let contents = contents_octets kind value in
     record {
-      head = head_written tag at (length contents);
+      head = head_written tag at contents;
       spelled = (head_spelled tag at contents rest (contents_few kind value fits) single, subst (SpellsContents kind value) (sym (contents_written tag at contents rest)) (contents_spelled kind value fits));
       class = refl;
       constructed = refl;
@@ -281,9 +341,9 @@ element_written kind value tag at rest fits single =
 
 -- an element that was written is passed over whole
 pub skip-written : (tag at : ℕ) (contents rest : List ℕ) → length contents < 2 ^ 32 → tag % 32 ≢ 31 → skip.begins at (written tag contents ++ rest) (taken tt (at + length (written tag contents)) rest)
-unfolding skip head_written tag_written size_written
+unfolding skip element_by head_written tag_written
 skip-written tag at contents rest few single =
-    let head = head_written tag at (length contents) in
+    let head = head_written tag at contents in
     let place : head.next ≡ at + length (written tag contents) = omega (arith, length-append (length_octets (length contents)) contents) in
     let count : length (written tag contents) ≡ at + length (written tag contents) - at = omega arith in (
       head,

@@ -3,7 +3,9 @@ use Rattle.std.proofs.Common.{◌≡◌, ℕ, zero, suc, ◌+◌, ◌-◌, ◌^�
 use Rattle.std.proofs.lemmas.List.{length-append, take_more, drop_at}
 use Rattle.std.proofs.lemmas.List.Concat.{flat_map-append}
 use Rattle.ber_values.specs.Writing.{head_octets, length_octets, written}
-use Rattle.ber_values.specs.Grammars.{Grammar, taken, gives, then_in, map_in, branch_in, has_tag, first_is, skip, by_length, pass_within, pass_in}
+use Rattle.ber_values.specs.Grammars.{Grammar, taken, gives, then_in, map_in, branch_in, has_tag, first_is, by_length, passed_within, passed_in}
+use Rattle.ber_values.specs.Passing.{skip, pass_within, pass_in}
+use Rattle.ber_values.specs.Heads.{element_by}
 use Rattle.ber_values.specs.Parts.{Contents, part_in, maybe_in, all_in, whole_in}
 use Rattle.ber_values.specs.Lists.{BeginsList, count_in, list_in}
 use Rattle.ber_values.proofs.Written.{head_written, head_written-next, head_spelled}
@@ -78,21 +80,21 @@ whole-begins g at x octets e = (taken x (at + length octets) [], e, (refl, refl)
 
 -- nothing is passed over where the first octet doesn't pass the test
 none_within : (skips : ℕ → Bool) (n at : ℕ) (octets : List ℕ) → first_is skips octets ≡ false → (pass_within skips n).begins at octets (taken tt at octets)
-unfolding pass_within branch_in gives
+unfolding passed_within branch_in gives
 none_within skips zero at octets other = refl
 none_within skips (suc n) at octets other = inr (other, refl)
 
 pub none_passed : (skips : ℕ → Bool) (at : ℕ) (octets : List ℕ) → first_is skips octets ≡ false → (pass_in skips).begins at octets (taken tt at octets)
-unfolding pass_in by_length
+unfolding pass_in passed_in by_length
 none_passed skips at octets other = none_within skips (length octets) at octets other
 
 -- an element that was written is passed over
 pub skip-read : (tag at : ℕ) (contents rest : List ℕ) → length contents < 2 ^ 32 → tag % 32 ≢ 31 → skip.reading at (written tag contents ++ rest) ≡ Ok (taken tt (at + length (written tag contents)) rest)
-unfolding skip
+unfolding skip element_by
 skip-read tag at contents rest few single =
     let octets = written tag contents ++ rest in
-    let head = head_written tag at (length contents) in
-    let next : at + length (written tag contents) ≡ head.next = omega (arith, head_written-next tag at (length contents), length-append (length_octets (length contents)) contents) in
+    let head = head_written tag at contents in
+    let next : at + length (written tag contents) ≡ head.next = omega (arith, head_written-next tag at contents, length-append (length_octets (length contents)) contents) in
     let count : length (written tag contents) ≡ head.next - at = omega (arith, next) in
     let after : rest ≡ drop (head.next - at) octets = sym (drop_at (written tag contents) rest (head.next - at) count) in
     (skip_reads at octets).only (taken tt (at + length (written tag contents)) rest)
@@ -100,14 +102,14 @@ skip-read tag at contents rest few single =
 
 -- so a loop over such elements goes on after it
 pub passed-written : (skips : ℕ → Bool) (start : ℕ) (whole : List ℕ) (tag at : ℕ) (contents rest : List ℕ) → length contents < 2 ^ 32 → tag % 32 ≢ 31 → skips tag ≡ true
-    → PassedSoFar skips start whole at (written tag contents ++ rest) → PassedSoFar skips start whole (at + length (written tag contents)) rest
+    → PassedSoFar skip skips start whole at (written tag contents ++ rest) → PassedSoFar skip skips start whole (at + length (written tag contents)) rest
 passed-written skips start whole tag at contents rest few single passes s =
     let octets = written tag contents ++ rest in
     let size = length (written tag contents) in
     let back : drop (at + size - at) octets ≡ rest = drop_at (written tag contents) rest (at + size - at) (omega arith) in
     let read = skip-read tag at contents rest few single ∙ ap (λ (os : List ℕ). Ok (taken tt (at + size) os)) (sym back) in
-    subst (PassedSoFar skips start whole (at + size)) back
-    (passed-more skips start whole at octets (at + size) passes read (omega arith) (omega (arith, length-append (written tag contents) rest)) s)
+    subst (PassedSoFar skip skips start whole (at + size)) back
+    (passed-more skip skips start whole at octets (at + size) passes read (omega arith) (omega (arith, length-append (written tag contents) rest)) s)
 
 -- ---- lists that are read back
 

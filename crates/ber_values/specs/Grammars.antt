@@ -1,15 +1,11 @@
 -- Grammars of octets: which octets begin with which value, the first fault of those that begin
 -- with none, and the reading from the left that tells both. Productions are composed of these.
 use Rattle.std.specs.Prelude.{◌≡◌, ℕ, zero, suc, Bool, true, false, List, [], ◌∷◌, length}
-use Rattle.std.specs.Prelude.{drop, ◌-◌, ◌⊎◌, Result, Ok, Err, ◌==◌}
-use Rattle.std.specs.Prelude.{if◌then◌else◌, nat_le, ◌&&◌, not}
-use Rattle.std.specs.List.{list_any}
+use Rattle.std.specs.Prelude.{◌⊎◌, Result, Ok, Err, ◌==◌, if◌then◌else◌}
 use Rattle.ber_values.specs.declared.fault.BerFault.{BerFault}
 use Rattle.ber_values.specs.declared.fault.Why.{Why}
 use Rattle.ber_values.specs.declared.fault.Why.TheVariants as whys
-use Rattle.ber_values.specs.declared.head.Head.{Head}
 use Rattle.ber_values.specs.Faults.{fault_at, ◌>>=◌}
-use Rattle.ber_values.specs.Heads.{SpellsHead, HeadFault, head_in}
 use Rattle.ber_values.specs.Reading.{Taken, IsReading}
 
 -- what stands at the front of octets
@@ -94,16 +90,6 @@ refused = record {
   reading = λ at octets. Err (fault_at at (why_refused octets));
 }
 
--- one element of any tag, with a sound head and whatever contents
-unfoldable pub skip : Grammar (Unit {0})
-skip = record {
-  begins = λ at octets u. (head : Head) × SpellsHead at octets head
-      × (u ≡ taken tt head.next (drop (head.next - at) octets));
-  fault = HeadFault;
-  reading = λ at octets. head_in at octets
-      >>= λ head. Ok (taken tt head.next (drop (head.next - at) octets));
-}
-
 -- a grammar for each number of octets
 unfoldable pub by_length : {X : Type 0} → (ℕ → Grammar X) → Grammar X
 by_length g = record {
@@ -112,20 +98,15 @@ by_length g = record {
   reading = λ at octets. (g (length octets)).reading at octets;
 }
 
--- at most so many elements whose first octets pass a test
-unfoldable pub pass_within : (ℕ → Bool) → ℕ → Grammar (Unit {0})
-pass_within skips zero = gives tt
-pass_within skips (suc n) =
-    branch_in (first_is skips) (then_in skip (λ u. pass_within skips n)) (gives tt)
+-- at most so many that begin with octets which pass a test
+unfoldable pub passed_within : Grammar (Unit {0}) → (ℕ → Bool) → ℕ → Grammar (Unit {0})
+passed_within g skips zero = gives tt
+passed_within g skips (suc n) =
+    branch_in (first_is skips) (then_in g (λ u. passed_within g skips n)) (gives tt)
 
--- a tag from low to high, other than those that are named
-abbrev pub is_other : ℕ → ℕ → List ℕ → ℕ → Bool
-is_other low high named tag =
-    (nat_le low tag && nat_le tag high) && not (list_any (λ name. name == tag) named)
-
--- all elements, up to the first one whose first octet doesn't pass a test
-unfoldable pub pass_in : (ℕ → Bool) → Grammar (Unit {0})
-pass_in skips = by_length (pass_within skips)
+-- all that begin so, up to the first octet that doesn't pass the test
+unfoldable pub passed_in : Grammar (Unit {0}) → (ℕ → Bool) → Grammar (Unit {0})
+passed_in g skips = by_length (passed_within g skips)
 
 -- just so many
 unfoldable pub times_in : {X : Type 0} → ℕ → Grammar X → Grammar (List X)

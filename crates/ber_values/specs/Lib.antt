@@ -7,6 +7,9 @@ pub mod Octets
 pub mod Reading
 pub mod Tags
 pub mod Heads
+pub mod Extents
+pub mod ExtentOf
+pub mod Passing
 pub mod Contents
 pub mod Numbers
 pub mod Booleans

@@ -1,14 +1,14 @@
 -- Elements with a tag of one octet, and grammars of their contents.
-use Rattle.std.specs.Prelude.{◌≡◌, ◌≢◌, ℕ, ◌+◌, ◌%◌, ◌≤◌, Bool, true}
-use Rattle.std.specs.Prelude.{false, List, [], ◌∷◌, length, take, drop, Option, Some, None}
-use Rattle.std.specs.Prelude.{◌⊎◌, Result, Ok, Err, nat_lt, ◌==◌, if◌then◌else◌}
+use Rattle.std.specs.Prelude.{◌≡◌, ◌≢◌, ℕ, ◌+◌, ◌/◌, ◌%◌, ◌==◌, Bool, true, false, List, [], ◌∷◌}
+use Rattle.std.specs.Prelude.{Option, Some, None, ◌⊎◌, Result, Ok, Err, if◌then◌else◌}
 use Rattle.ber_values.specs.declared.fault.BerFault.{BerFault}
 use Rattle.ber_values.specs.declared.fault.Why.TheVariants as whys
 use Rattle.ber_values.specs.declared.head.Head.{Head}
 use Rattle.ber_values.specs.Faults.{fault_at, ◌>>=◌}
-use Rattle.ber_values.specs.Reading.{Taken, Begins, IsReading}
-use Rattle.ber_values.specs.Tags.{tag_with, SpellsLength, LengthFault, length_in}
-use Rattle.ber_values.specs.Heads.{head_of, IsPastEnd}
+use Rattle.ber_values.specs.Reading.{Taken, IsReading}
+use Rattle.ber_values.specs.Tags.{tag_with}
+use Rattle.ber_values.specs.Extents.{Extent}
+use Rattle.ber_values.specs.Heads.{head_of, extent_of}
 use Rattle.ber_values.specs.Grammars.{Grammar, taken, gives, map_in, branch_in, has_tag}
 
 -- all octets of an element's contents
@@ -31,35 +31,37 @@ pub record Parted : Type 0 where
   pub contents : List ℕ
   pub rest : List ℕ
 
--- the element of this tag and length, after whose length these octets stand
-abbrev pub parted : ℕ → ℕ → Taken ℕ → Parted
-parted tag at size = record {
-  head = head_of (taken (tag_with tag (tag % 32) false) (at + 1) []) size;
-  contents = take size.value size.rest;
-  rest = drop size.value size.rest;
+-- whether a tag of one octet is constructed
+abbrev pub is_constructed : ℕ → Bool
+is_constructed tag = tag / 32 % 2 == 1
+
+-- the element of this tag, behind which this extent stands
+abbrev pub parted : ℕ → ℕ → Taken Extent → Parted
+parted tag at extent = record {
+  head = head_of (taken (tag_with tag (tag % 32) false) (at + 1) []) extent;
+  contents = extent.value.contents;
+  rest = extent.rest;
 }
 
--- the tag, a length, and no fewer octets than it says
+-- the tag, and an extent
 pub record BeginsPart (tag at : ℕ) (octets : List ℕ) (part : Parted) : Type 0 where
   pub after_tag : List ℕ
-  pub size : Taken ℕ
+  pub extent : Taken Extent
   pub tagged : octets ≡ tag ∷ after_tag
-  pub sized : Begins ℕ SpellsLength (at + 1) after_tag size
-  pub within : size.value ≤ length size.rest
-  pub is : part ≡ parted tag at size
+  pub extent_spelled : (extent_of (is_constructed tag)).begins (at + 1) after_tag extent
+  pub is : part ≡ parted tag at extent
 
--- no octets, another tag, or a length that breaks a rule
+-- no octets, another tag, or an extent that breaks a rule
 abbrev pub PartFault : ℕ → ℕ → List ℕ → BerFault → Type 0
 PartFault tag at [] f = f ≡ fault_at at whys.Short
 PartFault tag at (first ∷ octets) f = ((first ≢ tag) × (f ≡ fault_at at whys.Tag))
-    ⊎ ((first ≡ tag) × (LengthFault (at + 1) octets f ⊎ IsPastEnd (at + 1) octets f))
+    ⊎ ((first ≡ tag) × (extent_of (is_constructed tag)).fault (at + 1) octets f)
 
 -- an element whose tag has been taken, from its length on
 unfoldable pub sized_part_in : ℕ → ℕ → List ℕ → Result Parted BerFault
 sized_part_in tag at octets = do
-  size ← length_in (at + 1) octets
-  if nat_lt (length size.rest) size.value then Err (fault_at (at + 1) whys.Length)
-      else Ok (parted tag at size)
+  extent ← (extent_of (is_constructed tag)).reading (at + 1) octets
+  Ok (parted tag at extent)
 
 -- an element of this tag
 unfoldable pub parted_in : ℕ → ℕ → List ℕ → Result Parted BerFault

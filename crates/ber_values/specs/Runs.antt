@@ -1,26 +1,26 @@
 -- Elements one behind another, whatever their tags and contents, and runs of them.
-use Rattle.std.specs.Prelude.{◌≡◌, ℕ, ◌+◌, Bool, true, false, List, ◌++◌, length, All, flat_map}
+use Rattle.std.specs.Prelude.{◌≡◌, ℕ, zero, suc, ◌+◌, Bool, true, false, List, [], ◌∷◌, ◌++◌, length}
+use Rattle.std.specs.Prelude.{All, flat_map, ◌⊎◌}
+use Rattle.ber_values.specs.declared.extent.TheConstants.{MOST_CHAINED}
 use Rattle.ber_values.specs.declared.tag.Tag.{Tag}
 use Rattle.ber_values.specs.declared.fault.BerFault.{BerFault}
 use Rattle.ber_values.specs.Reading.{Taken}
 use Rattle.ber_values.specs.Tags.{SpellsTag, SpellsLength}
+use Rattle.ber_values.specs.Extents.{is_element}
 use Rattle.ber_values.specs.Heads.{HeadFault}
 use Rattle.ber_values.specs.Grammars.{first_is}
 
--- an element: its tag, the octets of its tag and of its length, and its contents
+-- an element: its tag, the octets of the tag, those that stand for its length, its contents, and
+-- the octets that end these, where no length says how many they are
 pub record AnyElement : Type 0 where
   pub tag : Tag
   pub tagged : List ℕ
   pub sized : List ℕ
   pub contents : List ℕ
-
--- the first octets spell the tag, the next ones how many octets the contents are
-pub record IsSound (e : AnyElement) : Type 0 where
-  pub tag : SpellsTag e.tag e.tagged
-  pub size : SpellsLength (length e.contents) e.sized
+  pub closing : List ℕ
 
 abbrev pub element_octets : AnyElement → List ℕ
-element_octets e = e.tagged ++ (e.sized ++ e.contents)
+element_octets e = e.tagged ++ (e.sized ++ (e.contents ++ e.closing))
 
 -- the octets of elements, one behind another
 abbrev pub elements_octets : List AnyElement → List ℕ
@@ -29,6 +29,29 @@ elements_octets es = flat_map element_octets es
 -- the first octet of its tag passes a test
 abbrev pub HasPassingTag : (ℕ → Bool) → AnyElement → Type 0
 HasPassingTag skips e = first_is skips e.tagged ≡ true
+
+-- the first octets spell the tag; behind one that is constructed or not such octets may stand for a
+-- length, as contents and as their end
+pub record IsElementBy (Behind : Bool → List ℕ → List ℕ → List ℕ → Type 0) (e : AnyElement)
+    : Type 0 where
+  pub tag : SpellsTag e.tag e.tagged
+  pub behind : Behind e.tag.constructed e.sized e.contents e.closing
+
+-- what may stand behind a tag: how many octets the contents are, and the contents; or, behind one
+-- that is constructed, 80, elements of which none begins with 00, and 00 00, at most so many of
+-- these in a chain
+abbrev pub StandsBehind : ℕ → Bool → List ℕ → List ℕ → List ℕ → Type 0
+StandsBehind zero constructed sized contents closing =
+    SpellsLength (length contents) sized × (closing ≡ [])
+StandsBehind (suc room) constructed sized contents closing =
+    (SpellsLength (length contents) sized × (closing ≡ []))
+    ⊎ ((constructed ≡ true) × (run : List AnyElement)
+    × All (IsElementBy (StandsBehind room)) run × All (HasPassingTag is_element) run
+    × (sized ≡ 128 ∷ []) × (contents ≡ elements_octets run) × (closing ≡ 0 ∷ 0 ∷ []))
+
+-- an element whose octets are as the standard has them, with at most sixteen in a chain
+abbrev pub IsSound : AnyElement → Type 0
+IsSound e = IsElementBy (StandsBehind MOST_CHAINED) e
 
 -- octets begin with these elements, each of which passes a test
 pub record BeginsPassed (skips : ℕ → Bool) (octets : List ℕ) (run : List AnyElement)

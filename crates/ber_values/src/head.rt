@@ -7,8 +7,8 @@ ghost use Rattle.ber_values.specs.declared.head.Head.{Head};
 ghost use Rattle.ber_values.specs.Heads.{SpellsHead, HeadFault, IsHeadWithin, head_in};
 ghost use Rattle.ber_values.specs.Writing.{head_octets};
 
-use crate::fault::{BerFault, Why};
-use crate::tag::{read_length, read_tag};
+use crate::extent::{MOST_CHAINED, head_within};
+use crate::fault::BerFault;
 use crate::writing::{or_undo, put_head};
 use std::alloc::AllocError;
 
@@ -27,35 +27,19 @@ pub struct Head {
     pub body: usize,
     /// The place after the last contents octet.
     pub end: usize,
-    /// The place after the element. It is `end` in every length that says how many octets follow.
+    /// The place after the element. It is `end` where a length says how many octets follow, and two
+    /// octets behind it where contents are ended by octets of their own.
     pub next: usize,
 }
 
 /// The head at the front of octets, of which the first has the place `at`.
-#[tactic(auto, unfolding(crate::specs::Heads::head_in))]
+#[tactic(auto, unfolding(crate::specs::Heads::head_in, crate::specs::Heads::extent_of))]
 pub(crate) fn head_at(octets: &[u8], at: usize) -> Result<Head, BerFault>
     requires { at + length octets.now < 2 ^ 64 }
     ensures exact { result ≡ head_in at octets.now }
     ensures within { IfOk result (λ head. IsHeadWithin at (at + length octets.now) head) }
 {
-    let (tag, length_at, rest) = read_tag(octets, at)?;
-    let (length, body, rest) = read_length(rest, length_at)?;
-    if rest.len() < length {
-        return Err(BerFault {
-            place: length_at,
-            why: Why::Length,
-        });
-    }
-    Ok(Head {
-        class: tag.class,
-        constructed: tag.constructed,
-        number: tag.number,
-        long_form: tag.long_form,
-        length_at,
-        body,
-        end: body + length,
-        next: body + length,
-    })
+    head_within(octets, at, MOST_CHAINED)
 }
 
 /// The head of the element that begins at `at` in a container that ends at `end`.

@@ -8,7 +8,7 @@ ghost use Rattle.ber_values.specs.Numbers.{SpellsInteger};
 ghost use Rattle.ber_values.specs.Writing.{written, length_octets, integer_octets};
 ghost use Rattle.ber_values.specs.Elements.{Kind, Value, Element, SpellsElement, ElementFault};
 ghost use Rattle.ber_values.specs.Elements.{contents_octets, IsWritable, WrittenAt};
-ghost use Rattle.ber_values.specs.Grammars.{pass_in};
+ghost use Rattle.ber_values.specs.Passing.{pass_in};
 ghost use Rattle.ber_values.specs.Runs.{AnyElement, BeginsPassed, BeginsRun, TakesRun, BreaksRun};
 
 /// Octets have one reading for each kind of element: exactly one holds, they begin with exactly

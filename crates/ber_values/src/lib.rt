@@ -4,6 +4,7 @@
 mod bit_string;
 mod boolean;
 mod contents;
+mod extent;
 mod external;
 mod fault;
 mod head;
@@ -22,6 +23,7 @@ mod writing;
 
 pub use bit_string::{BitString, read_bits, write_bits};
 pub use boolean::{read_boolean, write_boolean};
+pub use extent::MOST_CHAINED;
 pub use external::{External, external_len, write_external};
 pub use fault::{BerFault, Span, Why};
 pub use head::{Head, read_head, write_head};

@@ -4,11 +4,12 @@ ghost use Rattle.std.specs.Prelude.{length, drop, IfOk};
 ghost use Rattle.ber_values.specs.Faults.{Gives};
 ghost use Rattle.ber_values.specs.Grammars.{has_tag};
 ghost use Rattle.ber_values.specs.Parts.{parted_in, sized_part_in, end_in};
-ghost use Rattle.ber_values.specs.PartOf.{parted_of, IsPartWithin};
+ghost use Rattle.ber_values.specs.PartOf.{parted_of, IsPartWithin, IsPartBehind};
 
+use crate::extent::{MOST_CHAINED, read_extent};
 use crate::fault::{BerFault, Why};
 use crate::head::Head;
-use crate::tag::{make_tag, read_length, short};
+use crate::tag::{make_tag, short};
 
 /// An element that stood at the front of octets: its head, its contents, and the octets after it.
 #[derive(Clone, Copy, Debug)]
@@ -24,7 +25,7 @@ pub fn take_part(octets: &[u8], at: usize, tag: u8) -> Result<Part<'_>, BerFault
     requires single { tag % 32 ≢ 31 }
     requires placed { at + length octets.now < 2 ^ 64 }
     ensures exact { Gives parted_of result (parted_in tag at octets.now) }
-    ensures within { IfOk result (λ part. IsPartWithin at octets.now (parted_of part)) }
+    ensures within { IfOk result (λ part. IsPartWithin tag at octets.now (parted_of part)) }
     ensures after { IfOk result (λ part. part.rest.now ≡ drop (part.head.next - at) octets.now) }
 {
     take_tagged(octets, at, tag)
@@ -34,7 +35,7 @@ pub fn take_part(octets: &[u8], at: usize, tag: u8) -> Result<Part<'_>, BerFault
 fn take_tagged(octets: &[u8], at: usize, tag: u8) -> Result<Part<'_>, BerFault>
     requires { at + length octets.now < 2 ^ 64 }
     ensures exact { Gives parted_of result (parted_in tag at octets.now) }
-    ensures within { IfOk result (λ part. IsPartWithin at octets.now (parted_of part)) }
+    ensures within { IfOk result (λ part. IsPartWithin tag at octets.now (parted_of part)) }
 {
     match octets {
         [] => Err(short(at)),
@@ -47,56 +48,30 @@ fn take_tagged(octets: &[u8], at: usize, tag: u8) -> Result<Part<'_>, BerFault>
 }
 
 /// The element of a tag that was taken, from its length on.
-#[tactic(auto, unfolding(crate::specs::Parts::sized_part_in))]
+#[tactic(auto, unfolding(crate::specs::Parts::sized_part_in, crate::specs::Heads::extent_of))]
 fn take_sized(octets: &[u8], at: usize, tag: u8) -> Result<Part<'_>, BerFault>
     requires { at + 1 + length octets.now < 2 ^ 64 }
     ensures exact { Gives parted_of result (sized_part_in tag at octets.now) }
-    ensures within { IfOk result (λ part. (at + 2 ≤ part.head.body)
-        × (part.head.end ≡ part.head.body + length part.contents.now)
-        × (part.head.next ≡ part.head.end)
-        × (part.head.next + length part.rest.now ≡ at + 1 + length octets.now)
-        × (length part.contents.now < 2 ^ 32)) }
+    ensures within { IfOk result (λ part. IsPartBehind tag at octets.now (parted_of part)) }
 {
-    let (length, body, rest) = read_length(octets, at + 1)?;
-    if rest.len() < length {
-        return Err(BerFault {
-            place: at + 1,
-            why: Why::Length,
-        });
-    }
-    let (contents, rest) = rest.split_at(length);
-    Ok(Part {
-        head: part_head(tag, at + 1, body, length),
-        contents,
-        rest,
-    })
-}
-
-/// The head of an element of this tag, whose length begins at `length_at`.
-fn part_head(tag: u8, length_at: usize, body: usize, length: usize) -> Head
-    requires { body + length < 2 ^ 64 }
-    ensures { result ≡ record {
-      class = tag / 64;
-      constructed = tag / 32 % 2 == 1;
-      number = tag % 32;
-      long_form = false;
-      length_at = length_at;
-      body = body;
-      end = body + length;
-      next = body + length;
-    } }
-{
+    let constructed = tag / 32 % 2 == 1;
+    let extent = read_extent(octets, at + 1, constructed, MOST_CHAINED)?;
     let tag = make_tag(tag, u32::from(tag % 32), false);
-    Head {
+    let head = Head {
         class: tag.class,
         constructed: tag.constructed,
         number: tag.number,
         long_form: tag.long_form,
-        length_at,
-        body,
-        end: body + length,
-        next: body + length,
-    }
+        length_at: at + 1,
+        body: extent.body,
+        end: extent.end,
+        next: extent.next,
+    };
+    Ok(Part {
+        head,
+        contents: extent.contents,
+        rest: extent.rest,
+    })
 }
 
 /// Whether the first octet is this tag.

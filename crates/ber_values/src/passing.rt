@@ -1,7 +1,8 @@
 //! Elements that are passed over.
 ghost use Rattle.std.specs.Prelude.{◌≡◌, ◌+◌, ◌-◌, ◌^◌, ◌<◌, ◌≤◌, length, drop, IfOk};
 ghost use Rattle.ber_values.specs.Faults.{Gives};
-ghost use Rattle.ber_values.specs.Grammars.{taken, first_is, is_other, skip, pass_in};
+ghost use Rattle.ber_values.specs.Grammars.{taken, first_is};
+ghost use Rattle.ber_values.specs.Passing.{is_other, skip, pass_in};
 
 use crate::fault::BerFault;
 use crate::head::head_at;
@@ -9,7 +10,7 @@ use crate::part::octets_from;
 
 /// The place after the element at the front of octets, whose first octet has the place `at`. Its
 /// tag and its contents may be any.
-#[tactic(auto, unfolding(crate::specs::Grammars::skip))]
+#[tactic(auto, unfolding(crate::specs::Passing::skip, crate::specs::Heads::element_by, crate::specs::Heads::head_in))]
 pub fn skip_part(octets: &[u8], at: usize) -> Result<usize, BerFault>
     requires { at + length octets.now < 2 ^ 64 }
     ensures exact { Gives (λ next. taken tt next (drop (next - at) octets.now)) result

@@ -2,7 +2,6 @@
 use Rattle.std.proofs.Common.{◌≡◌, List, ℕ, [], ◌∷◌, pos, true, false, Some, None, Ok, Err, refl}
 use Rattle.ber_values.specs.declared.head.Head.{Head}
 use Rattle.ber_values.specs.Tags.{length_in}
-use Rattle.ber_values.specs.Heads.{head_of}
 use Rattle.ber_values.specs.Numbers.{integer_in}
 use Rattle.ber_values.specs.Booleans.{boolean_in}
 use Rattle.ber_values.specs.Grammars.{taken, gives, then_in, map_in, branch_in}
@@ -20,10 +19,21 @@ use Rattle.mms_names.specs.NameLists.{after_name, listed, more_names, name_list_
 use Rattle.mms_names.specs.NameLists.{class_octets, in_scope_octets, name_list_request_octets}
 use Rattle.mms_names.specs.NameLists.{listed_octets, names_octets, list_octets, more_octets}
 use Rattle.mms_names.specs.NameLists.{name_list_response_octets}
+use Rattle.ber_values.specs.Heads.{extent_of, extent_within}
+use Rattle.ber_values.specs.Extents.{definite}
 
 -- the head of contents that stand at a place, after a tag and a length of one octet
 at_place : ℕ → Head
-at_place at = head_of (taken (record { class = 2; constructed = true; number = 8; long_form = false }) 1 []) (taken 0 at [])
+at_place at = record {
+  class = 2;
+  constructed = true;
+  number = 8;
+  long_form = false;
+  length_at = 1;
+  body = at;
+  end = at;
+  next = at;
+}
 
 -- variables of the domain D after A
 names_asked : List ℕ
@@ -34,7 +44,10 @@ names_asked_read : name_list_request.reading (at_place 7) names_asked ≡ Ok (re
   scope = Domain (68 ∷ []);
   after = Some (65 ∷ []);
 })
-unfolding at_place names_asked name_list_request after_name object_class object_scope one_scope identifier then_in map_in branch_in gives maybe_in choose_in part_in parted_in sized_part_in length_in all_in contents_as integer integer_in visible_within text_in fixed
+unfolding at_place names_asked name_list_request after_name object_class object_scope one_scope
+    identifier then_in map_in branch_in gives maybe_in choose_in part_in parted_in sized_part_in
+    length_in all_in contents_as integer integer_in visible_within text_in fixed extent_of
+    extent_within definite
 names_asked_read = refl
 
 -- A and B, and nothing said of more
@@ -43,22 +56,30 @@ names_given = 160 ∷ 6 ∷ 26 ∷ 1 ∷ 65 ∷ 26 ∷ 1 ∷ 66 ∷ []
 
 names_given_read : name_list_response.reading (at_place 7) names_given
     ≡ Ok (record { names = (65 ∷ []) ∷ (66 ∷ []) ∷ []; more = true })
-unfolding at_place names_given name_list_response more_names listed identifier then_in map_in branch_in gives maybe_in part_in parted_in sized_part_in length_in all_in list_in more_in visible_within text_in
+unfolding at_place names_given name_list_response more_names listed identifier then_in map_in
+    branch_in gives maybe_in part_in parted_in sized_part_in length_in all_in list_in more_in
+    visible_within text_in extent_of extent_within definite
 names_given_read = refl
 
 no_names_read : name_list_response.reading (at_place 7) (160 ∷ 0 ∷ 129 ∷ 1 ∷ 0 ∷ [])
     ≡ Ok (record { names = []; more = false })
-unfolding at_place name_list_response more_names then_in map_in branch_in maybe_in part_in parted_in sized_part_in length_in all_in list_in more_in boolean boolean_in
+unfolding at_place name_list_response more_names then_in map_in branch_in maybe_in part_in parted_in
+    sized_part_in length_in all_in list_in more_in boolean boolean_in extent_of extent_within
+    definite
 no_names_read = refl
 
 -- a scope of the whole device has no contents
 scope_too_long : name_list_request.reading (at_place 2) (160 ∷ 3 ∷ 128 ∷ 1 ∷ 0 ∷ 161 ∷ 3 ∷ 128 ∷ 1 ∷ 0 ∷ []) ≡ Err (fault_at 10 whys.Length)
-unfolding at_place name_list_request object_class object_scope one_scope then_in branch_in choose_in part_in parted_in sized_part_in length_in all_in contents_as integer integer_in fixed
+unfolding at_place name_list_request object_class object_scope one_scope then_in branch_in choose_in
+    part_in parted_in sized_part_in length_in all_in contents_as integer integer_in fixed extent_of
+    extent_within definite
 scope_too_long = refl
 
 -- a name has an octet at least
 empty_name : name_list_response.reading (at_place 2) (160 ∷ 2 ∷ 26 ∷ 0 ∷ []) ≡ Err (fault_at 5 whys.Length)
-unfolding at_place name_list_response listed identifier then_in part_in parted_in sized_part_in length_in all_in list_in more_in visible_within text_in
+unfolding at_place name_list_response listed identifier then_in part_in parted_in sized_part_in
+    length_in all_in list_in more_in visible_within text_in extent_of extent_within branch_in
+    definite
 empty_name = refl
 
 -- variables of the domain D after A, and domains of the device

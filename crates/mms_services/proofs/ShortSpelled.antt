@@ -4,7 +4,8 @@ use Rattle.std.specs.Int.{w64}
 use Rattle.std.specs.Int.RustNames.{FitsSigned}
 use Rattle.std.proofs.lemmas.Bool.{ne_eqb, le-leb}
 use Rattle.ber_values.specs.Writing.{written, integer_octets, length_octets}
-use Rattle.ber_values.specs.Grammars.{Grammar, taken, then_in, map_in, branch_in, has_tag, pass_in, is_other}
+use Rattle.ber_values.specs.Grammars.{Grammar, taken, then_in, map_in, branch_in, has_tag}
+use Rattle.ber_values.specs.Passing.{pass_in, is_other}
 use Rattle.ber_values.specs.Parts.{part_in, maybe_in, contents_as}
 use Rattle.ber_values.specs.Leaves.{integer, unsigned, octet, raw, visible, fixed}
 use Rattle.ber_values.proofs.Externals.{integer-few, unsigned_spelled}

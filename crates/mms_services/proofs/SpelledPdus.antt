@@ -3,7 +3,8 @@ use Rattle.std.proofs.Common.{ℕ, List, Result, Ok, Err, IfOk, subst, sym, inl,
 use Rattle.ber_values.specs.Readers.{IsReadBy, taken_whole}
 use Rattle.mms_services.specs.declared.fault.MmsFault.{MmsFault}
 use Rattle.ber_values.specs.Reading.{Taken}
-use Rattle.ber_values.specs.Grammars.{skip, branch_in, refused}
+use Rattle.ber_values.specs.Grammars.{branch_in, refused}
+use Rattle.ber_values.specs.Passing.{skip}
 use Rattle.ber_values.specs.Parts.{whole_in}
 use Rattle.mms_services.specs.declared.request.Request.{Request}
 use Rattle.mms_services.specs.declared.request.Request.TheVariants as requests

@@ -2,11 +2,13 @@
 use Rattle.std.proofs.Common.{◌≡◌, List, ℕ, [], ◌∷◌, pos, true, false, Some, None, Ok, Err, refl}
 use Rattle.ber_values.specs.declared.head.Head.{Head}
 use Rattle.ber_values.specs.Tags.{length_in, tag_in}
-use Rattle.ber_values.specs.Heads.{head_in, head_of}
+use Rattle.ber_values.specs.Heads.{head_in}
 use Rattle.ber_values.specs.Numbers.{integer_in, unsigned_in}
 use Rattle.ber_values.specs.TextContents.{visible_in}
-use Rattle.ber_values.specs.Grammars.{taken, gives, then_in, map_in, branch_in, refused, skip}
-use Rattle.ber_values.specs.Grammars.{by_length, pass_within, pass_in}
+use Rattle.ber_values.specs.Grammars.{taken, gives, then_in, map_in, branch_in, refused}
+use Rattle.ber_values.specs.Passing.{skip}
+use Rattle.ber_values.specs.Grammars.{by_length}
+use Rattle.ber_values.specs.Passing.{pass_in}
 use Rattle.ber_values.specs.Parts.{sized_part_in, parted_in, part_in, maybe_in, all_in}
 use Rattle.ber_values.specs.Parts.{contents_as}
 use Rattle.ber_values.specs.Leaves.{integer, unsigned, octet_in, octet, raw, visible, fixed}
@@ -18,10 +20,22 @@ use Rattle.mms_services.specs.Identities.{identify_request, some_syntaxes, ident
 use Rattle.mms_services.specs.Initiates.{initiate_detail, initiate}
 use Rattle.mms_services.specs.Negotiations.{granted}
 use Rattle.mms_services.specs.Rejects.{reject_pdu}
+use Rattle.ber_values.specs.Heads.{head_by, element_by, extent_of, extent_within}
+use Rattle.ber_values.specs.Extents.{definite}
+use Rattle.ber_values.specs.Grammars.{passed_within, passed_in}
 
 -- the head of contents that stand at a place, after a tag and a length of one octet
 at_place : ℕ → Head
-at_place at = head_of (taken (record { class = 2; constructed = true; number = 8; long_form = false }) 1 []) (taken 0 at [])
+at_place at = record {
+  class = 2;
+  constructed = true;
+  number = 8;
+  long_form = false;
+  length_at = 1;
+  body = at;
+  end = at;
+  next = at;
+}
 
 -- the initiate that a control centre sends
 offered : List ℕ
@@ -35,7 +49,9 @@ offered_read : initiate.reading (at_place 2) offered ≡ Ok (record {
   nesting = Some (pos 5);
   version = pos 1;
 })
-unfolding at_place offered initiate initiate_detail then_in map_in branch_in gives maybe_in part_in parted_in sized_part_in length_in all_in integer integer_in raw pass_in pass_within by_length
+unfolding at_place offered initiate initiate_detail then_in map_in branch_in gives maybe_in part_in
+    parted_in sized_part_in length_in all_in integer integer_in raw pass_in by_length extent_of
+    extent_within definite passed_within passed_in
 offered_read = refl
 
 -- without the two that may be absent, and with a null after the bits
@@ -49,7 +65,9 @@ bare_read : initiate.reading (at_place 2) bare ≡ Ok (record {
   nesting = None;
   version = pos 1;
 })
-unfolding at_place bare initiate initiate_detail then_in map_in branch_in gives maybe_in part_in parted_in sized_part_in length_in all_in integer integer_in raw pass_in pass_within by_length skip head_in tag_in
+unfolding at_place bare initiate initiate_detail then_in map_in branch_in gives maybe_in part_in
+    parted_in sized_part_in length_in all_in integer integer_in raw pass_in by_length skip head_in
+    tag_in extent_of extent_within definite head_by element_by passed_within passed_in
 bare_read = refl
 
 -- object-non-existent of the class access, with a text that is passed over
@@ -58,29 +76,39 @@ failed = 128 ∷ 1 ∷ 7 ∷ 162 ∷ 8 ∷ 160 ∷ 3 ∷ 135 ∷ 1 ∷ 2 ∷ 129
 
 failed_read : error_pdu.reading (at_place 2) failed
     ≡ Ok (record { invoke = 7; class = 7; code = 2 })
-unfolding at_place failed error_pdu service_error error_class coded_in by_first then_in map_in branch_in gives part_in parted_in sized_part_in length_in all_in unsigned unsigned_in contents_as octet octet_in pass_in pass_within by_length skip head_in tag_in
+unfolding at_place failed error_pdu service_error error_class coded_in by_first then_in map_in
+    branch_in gives part_in parted_in sized_part_in length_in all_in unsigned unsigned_in
+    contents_as octet octet_in pass_in by_length skip head_in tag_in extent_of extent_within
+    definite head_by element_by passed_within passed_in
 failed_read = refl
 
 -- a class of 16
 unknown_class : error_pdu.reading (at_place 2) (128 ∷ 1 ∷ 7 ∷ 162 ∷ 5 ∷ 160 ∷ 3 ∷ 144 ∷ 1 ∷ 2 ∷ []) ≡ Err (fault_at 9 whys.Tag)
-unfolding at_place error_pdu service_error error_class coded_in by_first then_in map_in branch_in refused part_in parted_in sized_part_in length_in all_in unsigned unsigned_in
+unfolding at_place error_pdu service_error error_class coded_in by_first then_in map_in branch_in
+    refused part_in parted_in sized_part_in length_in all_in unsigned unsigned_in extent_of
+    extent_within definite
 unknown_class = refl
 
 -- invalid-pdu of the kind pdu-error, of no request
 rejected_read : reject_pdu.reading (at_place 2) (133 ∷ 1 ∷ 1 ∷ [])
     ≡ Ok (record { invoke = None; kind = 5; code = 1 })
-unfolding at_place reject_pdu coded_in by_first then_in map_in branch_in gives maybe_in part_in parted_in sized_part_in length_in all_in contents_as octet octet_in
+unfolding at_place reject_pdu coded_in by_first then_in map_in branch_in gives maybe_in part_in
+    parted_in sized_part_in length_in all_in contents_as octet octet_in extent_of extent_within
+    definite
 rejected_read = refl
 
 -- unrecognized-service of the kind confirmed-request, of request 4
 request_rejected : reject_pdu.reading (at_place 2) (128 ∷ 1 ∷ 4 ∷ 129 ∷ 1 ∷ 1 ∷ [])
     ≡ Ok (record { invoke = Some 4; kind = 1; code = 1 })
-unfolding at_place reject_pdu coded_in by_first then_in map_in branch_in gives maybe_in part_in parted_in sized_part_in length_in all_in contents_as octet octet_in unsigned unsigned_in
+unfolding at_place reject_pdu coded_in by_first then_in map_in branch_in gives maybe_in part_in
+    parted_in sized_part_in length_in all_in contents_as octet octet_in unsigned unsigned_in
+    extent_of extent_within definite
 request_rejected = refl
 
 -- a request's number alone
 nothing_rejected : reject_pdu.reading (at_place 2) (128 ∷ 1 ∷ 4 ∷ []) ≡ Err (fault_at 5 whys.Short)
-unfolding at_place reject_pdu coded_in then_in map_in branch_in refused maybe_in part_in parted_in sized_part_in length_in all_in unsigned unsigned_in
+unfolding at_place reject_pdu coded_in then_in map_in branch_in refused maybe_in part_in parted_in
+    sized_part_in length_in all_in unsigned unsigned_in extent_of extent_within definite
 nothing_rejected = refl
 
 -- CENTRE, TASE2, 1
@@ -88,7 +116,9 @@ answered : List ℕ
 answered = 128 ∷ 6 ∷ 67 ∷ 69 ∷ 78 ∷ 84 ∷ 82 ∷ 69 ∷ 129 ∷ 5 ∷ 84 ∷ 65 ∷ 83 ∷ 69 ∷ 50 ∷ 130 ∷ 1 ∷ 49 ∷ []
 
 answered_read : identify_response.reading (at_place 7) answered ≡ Ok tt
-unfolding at_place answered identify_response some_syntaxes then_in map_in branch_in gives maybe_in part_in parted_in sized_part_in length_in all_in visible visible_in
+unfolding at_place answered identify_response some_syntaxes then_in map_in branch_in gives maybe_in
+    part_in parted_in sized_part_in length_in all_in visible visible_in extent_of extent_within
+    definite
 answered_read = refl
 
 asked_read : identify_request.reading (at_place 7) [] ≡ Ok tt
@@ -129,14 +159,17 @@ most_granted = refl
 
 -- the most levels of data where the called end's services must stand
 called_missing : initiate.reading (at_place 2) (129 ∷ 1 ∷ 1 ∷ 131 ∷ 1 ∷ 5 ∷ []) ≡ Err (fault_at 5 whys.Tag)
-unfolding at_place initiate then_in branch_in gives maybe_in part_in parted_in sized_part_in length_in all_in integer integer_in
+unfolding at_place initiate then_in branch_in gives maybe_in part_in parted_in sized_part_in
+    length_in all_in integer integer_in extent_of extent_within definite
 called_missing = refl
 
 -- identify is answered with three texts, and nothing else after the abstract syntaxes
 two_texts : identify_response.reading (at_place 2) (128 ∷ 0 ∷ 129 ∷ 0 ∷ []) ≡ Err (fault_at 6 whys.Short)
-unfolding at_place identify_response then_in part_in parted_in sized_part_in length_in all_in visible visible_in
+unfolding at_place identify_response then_in part_in parted_in sized_part_in length_in all_in
+    visible visible_in extent_of extent_within branch_in definite
 two_texts = refl
 
 after_syntaxes : identify_response.reading (at_place 2) (128 ∷ 0 ∷ 129 ∷ 0 ∷ 130 ∷ 0 ∷ 163 ∷ 0 ∷ 163 ∷ 0 ∷ []) ≡ Err (fault_at 10 whys.Tag)
-unfolding at_place identify_response some_syntaxes then_in map_in branch_in maybe_in part_in parted_in sized_part_in length_in all_in visible visible_in raw
+unfolding at_place identify_response some_syntaxes then_in map_in branch_in maybe_in part_in
+    parted_in sized_part_in length_in all_in visible visible_in raw extent_of extent_within definite
 after_syntaxes = refl

@@ -7,8 +7,10 @@ use Rattle.ber_values.specs.Heads.{head_in}
 use Rattle.ber_values.specs.Numbers.{integer_in, unsigned_in}
 use Rattle.ber_values.specs.TextContents.{visible_in}
 use Rattle.ber_values.specs.BitContents.{bits_in}
-use Rattle.ber_values.specs.Grammars.{taken, gives, then_in, map_in, branch_in, refused, skip}
-use Rattle.ber_values.specs.Grammars.{by_length, pass_within, pass_in}
+use Rattle.ber_values.specs.Grammars.{taken, gives, then_in, map_in, branch_in, refused}
+use Rattle.ber_values.specs.Passing.{skip}
+use Rattle.ber_values.specs.Grammars.{by_length}
+use Rattle.ber_values.specs.Passing.{pass_in}
 use Rattle.ber_values.specs.Parts.{sized_part_in, parted_in, part_in, choose_in, maybe_in}
 use Rattle.ber_values.specs.Parts.{contents_as, contents_where, all_in, whole_in}
 use Rattle.ber_values.specs.Lists.{more_in, list_in, count_in}
@@ -36,6 +38,9 @@ use Rattle.mms_services.specs.Requests.{unknown_request, set_request, one_reques
 use Rattle.mms_services.specs.Responses.{set_response, one_response}
 use Rattle.mms_services.specs.Pdus.{invoke_in, confirmed_request, confirmed_response, frame_pdu}
 use Rattle.mms_services.specs.Pdus.{one_pdu, pdu}
+use Rattle.ber_values.specs.Heads.{head_by, element_by, extent_of, extent_within}
+use Rattle.ber_values.specs.Extents.{definite}
+use Rattle.ber_values.specs.Grammars.{passed_within, passed_in}
 
 -- what octets are read as
 worked :
@@ -124,5 +129,15 @@ worked :
     (pdu.reading 0
     (139 ∷ 1 ∷ 0 ∷ [])
     ≡ Err (fault_at 1 whys.Length))
-unfolding pdu one_pdu confirmed_request confirmed_response frame_pdu invoke_in one_request set_request unknown_request one_response set_response read_request read_response echo_in specification sole_spec sole_variable sole_name variable variables one_name domain_name identifier identify_request identify_response some_syntaxes report report_pdu results_of one_outcome one_datum datum_within plain_datum initiate initiate_detail error_pdu service_error error_class coded_in by_first reject_pdu length_in tag_in head_in integer_in unsigned_in gives then_in map_in branch_in refused skip by_length pass_within pass_in sized_part_in parted_in part_in choose_in maybe_in contents_as contents_where all_in whole_in more_in list_in count_in leaves.visible leaves.visible_within leaves.text_in leaves.integer leaves.unsigned leaves.bits leaves.octet leaves.octet_in leaves.boolean leaves.raw leaves.fixed visible_in bits_in
+unfolding pdu one_pdu confirmed_request confirmed_response frame_pdu invoke_in one_request
+    set_request unknown_request one_response set_response read_request read_response echo_in
+    specification sole_spec sole_variable sole_name variable variables one_name domain_name
+    identifier identify_request identify_response some_syntaxes report report_pdu results_of
+    one_outcome one_datum datum_within plain_datum initiate initiate_detail error_pdu service_error
+    error_class coded_in by_first reject_pdu length_in tag_in head_in integer_in unsigned_in gives
+    then_in map_in branch_in refused skip by_length pass_in sized_part_in parted_in part_in
+    choose_in maybe_in contents_as contents_where all_in whole_in more_in list_in count_in
+    leaves.visible leaves.visible_within leaves.text_in leaves.integer leaves.unsigned leaves.bits
+    leaves.octet leaves.octet_in leaves.boolean leaves.raw leaves.fixed visible_in bits_in extent_of
+    extent_within definite head_by element_by passed_within passed_in
 worked = (refl, refl, refl, refl, refl, refl, refl, refl, refl, refl, refl, refl, refl, refl, refl, refl, refl, refl)

@@ -1,6 +1,7 @@
 -- Answers that a service failed (ISO 9506-2, Confirmed-ErrorPDU).
 use Rattle.std.specs.Prelude.{ℕ, ◌+◌, pos, List, [], ◌∷◌, ◌++◌}
-use Rattle.ber_values.specs.Grammars.{then_in, map_in, pass_in, is_other}
+use Rattle.ber_values.specs.Grammars.{then_in, map_in}
+use Rattle.ber_values.specs.Passing.{pass_in, is_other}
 use Rattle.ber_values.specs.Parts.{Contents, part_in, all_in}
 use Rattle.ber_values.specs.Leaves.{unsigned}
 use Rattle.ber_values.specs.Writing.{written, integer_octets}

@@ -3,7 +3,8 @@ use Rattle.std.specs.Prelude.{◌≡◌, ℕ, ℤ, pos, Option, Some, None, IsSo
 use Rattle.std.specs.Prelude.{◌++◌}
 use Rattle.std.specs.Int.{w64}
 use Rattle.std.specs.Int.RustNames.{FitsSigned}
-use Rattle.ber_values.specs.Grammars.{then_in, map_in, pass_in, is_other}
+use Rattle.ber_values.specs.Grammars.{then_in, map_in}
+use Rattle.ber_values.specs.Passing.{pass_in, is_other}
 use Rattle.ber_values.specs.Parts.{Contents, part_in, maybe_in, all_in}
 use Rattle.ber_values.specs.Leaves.{integer, raw}
 use Rattle.ber_values.specs.Writing.{written, integer_octets}

@@ -1,6 +1,7 @@
 -- Requests of services (ISO 9506-2, ConfirmedServiceRequest).
 use Rattle.std.specs.Prelude.{ℕ, ◌/◌, Bool, ◌==◌}
-use Rattle.ber_values.specs.Grammars.{Grammar, map_in, branch_in, first_is, refused, skip}
+use Rattle.ber_values.specs.Grammars.{Grammar, map_in, branch_in, first_is, refused}
+use Rattle.ber_values.specs.Passing.{skip}
 use Rattle.ber_values.specs.Parts.{choose_in, contents_as}
 use Rattle.mms_services.specs.declared.request.Request.{Request}
 use Rattle.mms_services.specs.declared.request.Request.TheVariants as services

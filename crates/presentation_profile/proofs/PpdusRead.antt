@@ -7,7 +7,8 @@ use Rattle.ber_values.specs.Reading.{Taken, IsReading}
 use Rattle.ber_values.specs.Runs.{BeginsPassed, TakesRun, BreaksRun, elements_octets}
 use Rattle.ber_values.proofs.Runs.{pass-reads_run}
 use Rattle.ber_values.specs.Parts.{Contents, IsContentsGrammar}
-use Rattle.ber_values.specs.Grammars.{Grammar, IsGrammar, taken, branch_in, has_tag, is_other}
+use Rattle.ber_values.specs.Grammars.{Grammar, IsGrammar, taken, branch_in, has_tag}
+use Rattle.ber_values.specs.Passing.{is_other}
 use Rattle.ber_values.proofs.Reading.{IsReading-then, IsReading-as}
 use Rattle.ber_values.specs.Leaves.{selector, oid, octet}
 use Rattle.ber_values.proofs.Grammars.{gives_reads, then_reads, map_reads, branch_reads, pass_reads, whole_reads, part_reads, choose_reads, maybe_reads, all_reads, where_reads, as_reads}

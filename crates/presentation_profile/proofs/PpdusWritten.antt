@@ -6,7 +6,8 @@ use Rattle.std.proofs.lemmas.Bool.{eq-eqb, false≢true}
 use Rattle.ber_values.specs.declared.fault.Span.{Span}
 use Rattle.ber_values.specs.Oid.{IsOid}
 use Rattle.ber_values.specs.Writing.{written, length_octets}
-use Rattle.ber_values.specs.Grammars.{taken, gives, then_in, map_in, branch_in, has_tag, is_other}
+use Rattle.ber_values.specs.Grammars.{taken, gives, then_in, map_in, branch_in, has_tag}
+use Rattle.ber_values.specs.Passing.{skip, pass_in, is_other}
 use Rattle.ber_values.specs.Parts.{part_in, choose_in}
 use Rattle.ber_values.specs.Leaves.{selector, fixed}
 use Rattle.ber_values.specs.Readers.{taken_whole}
@@ -168,14 +169,14 @@ accept-ends e called found at id body held most few size right ok =
 
 -- ---- which of the two
 
-ahead : (whole : List ℕ) (at first : ℕ) (after : List ℕ) → is_other 128 191 (164 ∷ 165 ∷ []) first ≡ false → PassedSoFar (is_other 128 191 (164 ∷ 165 ∷ [])) 0 whole at (first ∷ after) → has_results whole ≡ has_tag 165 (first ∷ after)
-unfolding others
+ahead : (whole : List ℕ) (at first : ℕ) (after : List ℕ) → is_other 128 191 (164 ∷ 165 ∷ []) first ≡ false → PassedSoFar skip (is_other 128 191 (164 ∷ 165 ∷ [])) 0 whole at (first ∷ after) → has_results whole ≡ has_tag 165 (first ∷ after)
+unfolding others pass_in
 ahead whole at first after other s =
-    ap come_to_results (passed-ends (is_other 128 191 (164 ∷ 165 ∷ [])) 0 whole at (first ∷ after) other s)
+    ap come_to_results (passed-ends skip (is_other 128 191 (164 ∷ 165 ∷ [])) 0 whole at (first ∷ after) other s)
     ∙ ap (λ (os : List ℕ). has_tag 165 os) (sym s.left)
 
 -- a selector is passed over
-passed-selector : (whole : List ℕ) (tag at : ℕ) (called : Option (List ℕ)) (after : List ℕ) → HasSelector called → tag % 32 ≢ 31 → is_other 128 191 (164 ∷ 165 ∷ []) tag ≡ true → PassedSoFar (is_other 128 191 (164 ∷ 165 ∷ [])) 0 whole at (selector_octets tag called ++ after) → (next : ℕ) × PassedSoFar (is_other 128 191 (164 ∷ 165 ∷ [])) 0 whole next after
+passed-selector : (whole : List ℕ) (tag at : ℕ) (called : Option (List ℕ)) (after : List ℕ) → HasSelector called → tag % 32 ≢ 31 → is_other 128 191 (164 ∷ 165 ∷ []) tag ≡ true → PassedSoFar skip (is_other 128 191 (164 ∷ 165 ∷ [])) 0 whole at (selector_octets tag called ++ after) → (next : ℕ) × PassedSoFar skip (is_other 128 191 (164 ∷ 165 ∷ [])) 0 whole next after
 passed-selector whole tag at None after held single other s = (at, s)
 passed-selector whole tag at (Some octets) after held single other s = (at + length (written tag octets), passed-written (is_other 128 191 (164 ∷ 165 ∷ [])) 0 whole tag at octets after (omega (arith, held.1)) single other s)
 
@@ -185,7 +186,7 @@ connect-first called contexts id body held few =
     let whole = connect_octets called contexts id body in
     let rest = offers_octets contexts ++ user_octets id body in
     let test = is_other 128 191 (164 ∷ 165 ∷ []) in
-    let one = passed-written test 0 whole 129 0 (0 ∷ 0 ∷ 0 ∷ 1 ∷ []) (selector_octets 130 called ++ rest) (omega arith) (omega arith) refl (passed-begin test 0 whole (omega (arith, few))) in
+    let one = passed-written test 0 whole 129 0 (0 ∷ 0 ∷ 0 ∷ 1 ∷ []) (selector_octets 130 called ++ rest) (omega arith) (omega arith) refl (passed-begin skip test 0 whole (omega (arith, few))) in
     let two = passed-selector whole 130 _ called rest held (omega arith) refl one in
     ahead whole two.0 164 _ refl two.1
 
@@ -194,7 +195,7 @@ unfolding accept_octets results_octets
 accept-first called found id body held few =
     let whole = accept_octets called found id body in
     let rest = results_octets found ++ user_octets id body in
-    let two = passed-selector whole 131 0 called rest held (omega arith) refl (passed-begin (is_other 128 191 (164 ∷ 165 ∷ [])) 0 whole (omega (arith, few))) in
+    let two = passed-selector whole 131 0 called rest held (omega arith) refl (passed-begin skip (is_other 128 191 (164 ∷ 165 ∷ [])) 0 whole (omega (arith, few))) in
     ahead whole two.0 165 _ refl two.1
 
 -- ---- the whole

@@ -4,7 +4,8 @@ use Rattle.std.proofs.lemmas.List.{length-append}
 use Rattle.std.proofs.lemmas.Bool.{eqb-true, cond_both}
 use Rattle.ber_values.specs.declared.fault.Span.{Span}
 use Rattle.ber_values.specs.Writing.{written, integer_octets, length_octets}
-use Rattle.ber_values.specs.Grammars.{taken, gives, then_in, map_in, branch_in, is_other}
+use Rattle.ber_values.specs.Grammars.{taken, gives, then_in, map_in, branch_in}
+use Rattle.ber_values.specs.Passing.{is_other}
 use Rattle.ber_values.specs.Parts.{part_in, maybe_in, all_in, contents_where, contents_as}
 use Rattle.ber_values.specs.Leaves.{oid, span_at, octet}
 use Rattle.ber_values.proofs.Capped.{short-sized, length-written, part_size-most}

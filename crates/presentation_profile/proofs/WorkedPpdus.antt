@@ -6,7 +6,8 @@ use Rattle.ber_values.specs.Tags.{tag_in, length_in}
 use Rattle.ber_values.specs.Numbers.{unsigned_in}
 use Rattle.ber_values.specs.TextContents.{oid_in}
 use Rattle.ber_values.specs.Heads.{head_in}
-use Rattle.ber_values.specs.Grammars.{taken, gives, then_in, map_in, branch_in, refused, skip, by_length, pass_within, pass_in}
+use Rattle.ber_values.specs.Grammars.{taken, gives, then_in, map_in, branch_in, refused, by_length}
+use Rattle.ber_values.specs.Passing.{skip, pass_in}
 use Rattle.ber_values.specs.Parts.{whole_in, sized_part_in, parted_in, part_in, choose_in, maybe_in, contents_as, contents_where, all_in}
 use Rattle.ber_values.specs.Lists.{more_in, list_in, count_in}
 use Rattle.ber_values.specs.Leaves as leaves
@@ -18,6 +19,9 @@ use Rattle.ber_values.specs.Externals.{external}
 use Rattle.presentation_profile.specs.UserData.{user_data}
 use Rattle.presentation_profile.specs.Results.{result_contents, one_result, first_in, accepting_results, results}
 use Rattle.presentation_profile.specs.Ppdus.{connect_selectors, connect, accept, parameters, mode, set_up_contents, set_up, ppdu}
+use Rattle.ber_values.specs.Heads.{head_by, element_by, extent_of, extent_within}
+use Rattle.ber_values.specs.Extents.{definite}
+use Rattle.ber_values.specs.Grammars.{passed_within, passed_in}
 use Rattle.ber_values.specs.Tags.{tag_with}
 use Rattle.ber_values.specs.Runs.{AnyElement, IsSound, HasPassingTag}
 use Rattle.presentation_profile.specs.Ppdus.{is_between, HasResultsFirst}
@@ -41,7 +45,13 @@ connect_octets =
 connect_read : (ppdu expects.Connect).reading 24 connect_octets ≡ Ok (taken
     (Connect (Some (0 ∷ 0 ∷ 0 ∷ 1 ∷ [])) (offered 1 (82 ∷ 1 ∷ 0 ∷ 1 ∷ []) true ∷ offered 3 (40 ∷ 202 ∷ 34 ∷ 2 ∷ 1 ∷ []) true ∷ []) 1 (record { from = 93; to = 170 }))
     170 [])
-unfolding connect_octets ppdu whole_in set_up set_up_contents mode parameters connect connect_selectors after_others before_others others selector_in user_data external offers offer offer_contents transfers part_in parted_in sized_part_in length_in tag_in head_in gives then_in map_in branch_in refused skip by_length pass_within pass_in choose_in maybe_in contents_as contents_where all_in more_in list_in count_in leaves.unsigned_within leaves.unsigned leaves.oid leaves.span leaves.selector leaves.selector_in leaves.fixed unsigned_in oid_in
+unfolding connect_octets ppdu whole_in set_up set_up_contents mode parameters connect
+    connect_selectors after_others before_others others selector_in user_data external offers offer
+    offer_contents transfers part_in parted_in sized_part_in length_in tag_in head_in gives then_in
+    map_in branch_in refused skip by_length pass_in choose_in maybe_in contents_as contents_where
+    all_in more_in list_in count_in leaves.unsigned_within leaves.unsigned leaves.oid leaves.span
+    leaves.selector leaves.selector_in leaves.fixed unsigned_in oid_in extent_of extent_within
+    definite head_by element_by passed_within passed_in
 connect_read = refl
 
 -- the accept that answers it, whose body has 72 octets
@@ -57,7 +67,13 @@ accept_octets =
 
 accept_read : (ppdu (expects.Accept (Some 1))).reading 24 accept_octets ≡ Ok (taken
     (Accept (Some (0 ∷ 0 ∷ 0 ∷ 1 ∷ [])) (0 ∷ 0 ∷ []) 1 (record { from = 68; to = 140 })) 140 [])
-unfolding accept_octets ppdu whole_in set_up set_up_contents mode parameters accept results accepting_results first_in one_result result_contents after_others before_others others selector_in user_data external part_in parted_in sized_part_in length_in tag_in head_in gives then_in map_in branch_in refused skip by_length pass_within pass_in choose_in maybe_in contents_as contents_where all_in more_in list_in count_in leaves.unsigned leaves.oid leaves.octet leaves.octet_in leaves.span leaves.selector leaves.selector_in leaves.fixed unsigned_in oid_in
+unfolding accept_octets ppdu whole_in set_up set_up_contents mode parameters accept results
+    accepting_results first_in one_result result_contents after_others before_others others
+    selector_in user_data external part_in parted_in sized_part_in length_in tag_in head_in gives
+    then_in map_in branch_in refused skip by_length pass_in choose_in maybe_in contents_as
+    contents_where all_in more_in list_in count_in leaves.unsigned leaves.oid leaves.octet
+    leaves.octet_in leaves.span leaves.selector leaves.selector_in leaves.fixed unsigned_in oid_in
+    extent_of extent_within definite head_by element_by passed_within passed_in
 accept_read = refl
 
 -- the results of an accept, where they are judged: 0 0, then 0 1, 0 alone, none, and 0 0 1
@@ -67,12 +83,18 @@ results_read : ((results true).reading 9 (165 ∷ 10 ∷ 48 ∷ 3 ∷ 128 ∷ 1 
     × ((results true).reading 9 (165 ∷ 0 ∷ []) ≡ Err (fault_at 11 whys.Short))
     × ((results true).reading 9 (165 ∷ 15 ∷ 48 ∷ 3 ∷ 128 ∷ 1 ∷ 0 ∷ 48 ∷ 3 ∷ 128 ∷ 1 ∷ 0 ∷ 48 ∷ 3 ∷ 128 ∷ 1 ∷ 1 ∷ []) ≡ Ok (taken (0 ∷ 0 ∷ 1 ∷ []) 26 []))
     × ((results false).reading 9 (165 ∷ 10 ∷ 48 ∷ 3 ∷ 128 ∷ 1 ∷ 0 ∷ 48 ∷ 3 ∷ 128 ∷ 1 ∷ 1 ∷ []) ≡ Ok (taken (0 ∷ 1 ∷ []) 21 []))
-unfolding results accepting_results first_in one_result result_contents part_in parted_in sized_part_in length_in tag_in head_in gives then_in map_in branch_in refused skip by_length pass_within pass_in choose_in maybe_in contents_as contents_where all_in more_in list_in count_in leaves.oid leaves.octet leaves.octet_in oid_in
+unfolding results accepting_results first_in one_result result_contents part_in parted_in
+    sized_part_in length_in tag_in head_in gives then_in map_in branch_in refused skip by_length
+    pass_in choose_in maybe_in contents_as contents_where all_in more_in list_in count_in leaves.oid
+    leaves.octet leaves.octet_in oid_in extent_of extent_within definite head_by element_by
+    passed_within passed_in
 results_read = (refl, refl, refl, refl, refl, refl)
 
 -- data of context 3, with a body of three octets
 carry_read : (ppdu (expects.Carry 3)).reading 4 (97 ∷ 10 ∷ 48 ∷ 8 ∷ 2 ∷ 1 ∷ 3 ∷ 160 ∷ 3 ∷ 1 ∷ 2 ∷ 3 ∷ []) ≡ Ok (taken (Carry 3 (record { from = 13; to = 16 })) 16 [])
-unfolding ppdu whole_in user_data external part_in parted_in sized_part_in length_in gives then_in map_in branch_in refused choose_in maybe_in all_in contents_where leaves.unsigned leaves.oid leaves.span unsigned_in oid_in
+unfolding ppdu whole_in user_data external part_in parted_in sized_part_in length_in gives then_in
+    map_in branch_in refused choose_in maybe_in all_in contents_where leaves.unsigned leaves.oid
+    leaves.span unsigned_in oid_in extent_of extent_within definite
 carry_read = refl
 
 -- results behind a selector come first
@@ -84,9 +106,10 @@ results_first =
       tagged = 131 ∷ [];
       sized = 1 ∷ [];
       contents = 5 ∷ [];
+      closing = [];
     } in
     let sound : IsSound selector =
-    record { tag = (omega arith, refl); size = inl (omega arith, refl, refl) } in (
+    record { tag = (omega arith, refl); behind = inl (inl (omega arith, refl, refl), refl) } in (
       selector ∷ [],
       0 ∷ [],
       record {
@@ -100,7 +123,8 @@ results_first =
 -- but not behind offers, nor behind an element whose length is broken
 offers_first : (HasResultsFirst (129 ∷ 0 ∷ 164 ∷ 0 ∷ 165 ∷ 0 ∷ []) → ⊥)
     × (HasResultsFirst (129 ∷ 9 ∷ 165 ∷ 0 ∷ []) → ⊥)
-unfolding others pass_in pass_within by_length branch_in then_in gives skip head_in tag_in length_in
+unfolding others pass_in by_length branch_in then_in gives skip head_in tag_in length_in extent_of
+    extent_within definite head_by element_by passed_within passed_in
 offers_first = (
   λ h. false≢true ((results-decided _).1 h),
   λ h. false≢true ((results-decided _).1 h),

@@ -1,6 +1,7 @@
 -- Elements that may stand between those that a message names, and selectors.
 use Rattle.std.specs.Prelude.{ℕ, List, Option, None}
-use Rattle.ber_values.specs.Grammars.{Grammar, gives, then_in, map_in, pass_in, is_other}
+use Rattle.ber_values.specs.Grammars.{Grammar, gives, then_in, map_in}
+use Rattle.ber_values.specs.Passing.{pass_in, is_other}
 use Rattle.ber_values.specs.Parts.{choose_in}
 use Rattle.ber_values.specs.Leaves.{selector}
 

@@ -4,7 +4,8 @@ use Rattle.std.specs.Prelude.{if◌then◌else◌}
 use Rattle.ber_values.specs.declared.fault.BerFault.{BerFault}
 use Rattle.ber_values.specs.declared.fault.Span.{Span}
 use Rattle.ber_values.specs.Reading.{Taken}
-use Rattle.ber_values.specs.Grammars.{Grammar, then_in, map_in, branch_in, has_tag, is_other}
+use Rattle.ber_values.specs.Grammars.{Grammar, then_in, map_in, branch_in, has_tag}
+use Rattle.ber_values.specs.Passing.{is_other}
 use Rattle.ber_values.specs.Parts.{Contents, part_in, whole_in, all_in}
 use Rattle.ber_values.specs.Leaves.{fixed}
 use Rattle.ber_values.specs.Runs.{AnyElement, BeginsPassed}

@@ -3,7 +3,8 @@ use Rattle.std.specs.Prelude.{ℕ, Bool, true, false, not, ◌||◌, ◌==◌, L
 use Rattle.ber_values.specs.declared.head.Head.{Head}
 use Rattle.ber_values.specs.Faults.{◌>>=◌}
 use Rattle.ber_values.specs.Reading.{Taken}
-use Rattle.ber_values.specs.Grammars.{Grammar, then_in, map_in, branch_in, pass_in, is_other}
+use Rattle.ber_values.specs.Grammars.{Grammar, then_in, map_in, branch_in}
+use Rattle.ber_values.specs.Passing.{pass_in, is_other}
 use Rattle.ber_values.specs.Parts.{Contents, part_in, maybe_in, all_in, contents_as}
 use Rattle.ber_values.specs.Parts.{contents_where}
 use Rattle.ber_values.specs.Lists.{list_in}

@@ -11,7 +11,8 @@ use Rattle.ber_values.specs.Numbers.{integer_in, unsigned_in}
 use Rattle.ber_values.specs.TextContents.{oid_in, visible_in}
 use Rattle.ber_values.specs.BitContents.{bits_in}
 use Rattle.ber_values.specs.Externals.{external_of, external}
-use Rattle.ber_values.specs.Grammars.{Grammar, IsGrammar, taken, gives, then_in, map_in, branch_in, refused, skip, by_length, pass_within, pass_in}
+use Rattle.ber_values.specs.Grammars.{Grammar, IsGrammar, taken, gives, then_in, map_in, branch_in, refused, by_length}
+use Rattle.ber_values.specs.Passing.{skip, pass_in}
 use Rattle.ber_values.specs.Parts.{whole_in, sized_part_in, parted_in, part_in, choose_in, maybe_in, contents_as, contents_where, all_in}
 use Rattle.ber_values.specs.Lists.{more_in, list_in, count_in}
 use Rattle.ber_values.specs.Leaves as leaves
@@ -59,6 +60,9 @@ use Rattle.stack_messages.specs.Meanings.{says_just, inside}
 use Rattle.stack_messages.specs.Layers.{fault_of, octets_at, in_layer, spdu_of, ppdu_at, apdu_at, pdu_at}
 use Rattle.stack_messages.specs.Setting.{asked, answered, connect_at, accept_at}
 use Rattle.stack_messages.specs.Messages.{data_at, carry_at, message}
+use Rattle.ber_values.specs.Heads.{head_by, element_by, extent_of, extent_within}
+use Rattle.ber_values.specs.Extents.{definite}
+use Rattle.ber_values.specs.Grammars.{passed_within, passed_in}
 
 abbrev span : ℕ → ℕ → Span
 span from to = record { from = from; to = to }
@@ -96,15 +100,39 @@ unfolding connecting_octets session.spdu_in session.whole_in session.coded_in ru
 connect_spdu = refl
 
 connect_ppdu : (ppdu expects.Connect).reading 24 (octets_at connecting_octets (span 24 170)) ≡ Ok (taken (ppdus.Connect (Some (0 ∷ 0 ∷ 0 ∷ 1 ∷ [])) on_offer 1 (span 93 170)) 170 [])
-unfolding connecting_octets ppdu set_up set_up_contents mode parameters connect connect_selectors accept outcomes.results outcomes.accepting_results outcomes.first_in outcomes.one_result outcomes.result_contents after_others before_others others selector_in user_data external offers offer offer_contents transfers length_in tag_in head_in integer_in unsigned_in oid_in gives then_in map_in branch_in refused skip by_length pass_within pass_in sized_part_in parted_in part_in choose_in maybe_in contents_as contents_where all_in whole_in more_in list_in count_in leaves.unsigned leaves.unsigned_within leaves.oid leaves.octet leaves.octet_in leaves.span leaves.selector leaves.selector_in leaves.fixed leaves.raw leaves.integer leaves.bits bits_in
+unfolding connecting_octets ppdu set_up set_up_contents mode parameters connect connect_selectors
+    accept outcomes.results outcomes.accepting_results outcomes.first_in outcomes.one_result
+    outcomes.result_contents after_others before_others others selector_in user_data external offers
+    offer offer_contents transfers length_in tag_in head_in integer_in unsigned_in oid_in gives
+    then_in map_in branch_in refused skip by_length pass_in sized_part_in parted_in part_in
+    choose_in maybe_in contents_as contents_where all_in whole_in more_in list_in count_in
+    leaves.unsigned leaves.unsigned_within leaves.oid leaves.octet leaves.octet_in leaves.span
+    leaves.selector leaves.selector_in leaves.fixed leaves.raw leaves.integer leaves.bits bits_in
+    extent_of extent_within definite head_by element_by passed_within passed_in
 connect_ppdu = refl
 
 connect_apdu : (apdu (asked on_offer)).reading 93 (octets_at connecting_octets (span 93 170)) ≡ Ok (taken (apdus.Aarq (record { context = 40 ∷ 202 ∷ 34 ∷ 2 ∷ 3 ∷ []; title = Some (41 ∷ 135 ∷ 103 ∷ 1 ∷ []); user = external_of 3 (span 130 170) })) 170 [])
-unfolding connecting_octets apdu one_apdu request one_oid context_name calling_title user_last responses.response responses.context_passed responses.one_result responses.result_next responses.user_of_result responses.some_user_last external user_information by_tag rising_within rising_in named_in perhaps_in attempt length_in tag_in head_in integer_in unsigned_in oid_in gives then_in map_in branch_in refused skip by_length pass_within pass_in sized_part_in parted_in part_in choose_in maybe_in contents_as contents_where all_in whole_in more_in list_in count_in leaves.unsigned leaves.unsigned_within leaves.oid leaves.octet leaves.octet_in leaves.span leaves.selector leaves.selector_in leaves.fixed leaves.raw leaves.integer leaves.bits bits_in
+unfolding connecting_octets apdu one_apdu request one_oid context_name calling_title user_last
+    responses.response responses.context_passed responses.one_result responses.result_next
+    responses.user_of_result responses.some_user_last external user_information by_tag rising_within
+    rising_in named_in perhaps_in attempt length_in tag_in head_in integer_in unsigned_in oid_in
+    gives then_in map_in branch_in refused skip by_length pass_in sized_part_in parted_in part_in
+    choose_in maybe_in contents_as contents_where all_in whole_in more_in list_in count_in
+    leaves.unsigned leaves.unsigned_within leaves.oid leaves.octet leaves.octet_in leaves.span
+    leaves.selector leaves.selector_in leaves.fixed leaves.raw leaves.integer leaves.bits bits_in
+    extent_of extent_within definite head_by element_by passed_within passed_in
 connect_apdu = refl
 
 connect_pdu : pdu.reading 0 (octets_at connecting_octets (span 130 170)) ≡ Ok (taken (pdus.Initiate own) 40 [])
-unfolding connecting_octets own pdu one_pdu confirmed_request confirmed_response frame_pdu invoke_in one_request set_request unknown_request one_response set_response identify_request identify_response some_syntaxes initiate initiate_detail coded_in by_first leaves.visible_within leaves.text_in leaves.visible visible_in length_in tag_in head_in integer_in unsigned_in oid_in gives then_in map_in branch_in refused skip by_length pass_within pass_in sized_part_in parted_in part_in choose_in maybe_in contents_as contents_where all_in whole_in more_in list_in count_in leaves.unsigned leaves.unsigned_within leaves.oid leaves.octet leaves.octet_in leaves.span leaves.selector leaves.selector_in leaves.fixed leaves.raw leaves.integer leaves.bits bits_in
+unfolding connecting_octets own pdu one_pdu confirmed_request confirmed_response frame_pdu invoke_in
+    one_request set_request unknown_request one_response set_response identify_request
+    identify_response some_syntaxes initiate initiate_detail coded_in by_first leaves.visible_within
+    leaves.text_in leaves.visible visible_in length_in tag_in head_in integer_in unsigned_in oid_in
+    gives then_in map_in branch_in refused skip by_length pass_in sized_part_in parted_in part_in
+    choose_in maybe_in contents_as contents_where all_in whole_in more_in list_in count_in
+    leaves.unsigned leaves.unsigned_within leaves.oid leaves.octet leaves.octet_in leaves.span
+    leaves.selector leaves.selector_in leaves.fixed leaves.raw leaves.integer leaves.bits bits_in
+    extent_of extent_within definite head_by element_by passed_within passed_in
 connect_pdu = refl
 
 called : Expecting
@@ -146,15 +174,39 @@ unfolding accepting_octets session.spdu_in session.whole_in session.coded_in rul
 accept_spdu = refl
 
 accept_ppdu : (ppdu (expects.Accept (Some 1))).reading 20 (octets_at accepting_octets (span 20 136)) ≡ Ok (taken (ppdus.Accept (Some (0 ∷ 0 ∷ 0 ∷ 1 ∷ [])) (0 ∷ 0 ∷ []) 1 (span 64 136)) 136 [])
-unfolding accepting_octets ppdu set_up set_up_contents mode parameters connect connect_selectors accept outcomes.results outcomes.accepting_results outcomes.first_in outcomes.one_result outcomes.result_contents after_others before_others others selector_in user_data external offers offer offer_contents transfers length_in tag_in head_in integer_in unsigned_in oid_in gives then_in map_in branch_in refused skip by_length pass_within pass_in sized_part_in parted_in part_in choose_in maybe_in contents_as contents_where all_in whole_in more_in list_in count_in leaves.unsigned leaves.unsigned_within leaves.oid leaves.octet leaves.octet_in leaves.span leaves.selector leaves.selector_in leaves.fixed leaves.raw leaves.integer leaves.bits bits_in
+unfolding accepting_octets ppdu set_up set_up_contents mode parameters connect connect_selectors
+    accept outcomes.results outcomes.accepting_results outcomes.first_in outcomes.one_result
+    outcomes.result_contents after_others before_others others selector_in user_data external offers
+    offer offer_contents transfers length_in tag_in head_in integer_in unsigned_in oid_in gives
+    then_in map_in branch_in refused skip by_length pass_in sized_part_in parted_in part_in
+    choose_in maybe_in contents_as contents_where all_in whole_in more_in list_in count_in
+    leaves.unsigned leaves.unsigned_within leaves.oid leaves.octet leaves.octet_in leaves.span
+    leaves.selector leaves.selector_in leaves.fixed leaves.raw leaves.integer leaves.bits bits_in
+    extent_of extent_within definite head_by element_by passed_within passed_in
 accept_ppdu = refl
 
 accept_apdu : (apdu (answered calling)).reading 64 (octets_at accepting_octets (span 64 136)) ≡ Ok (taken (apdus.Aare (record { result = 0; user = Some (external_of 3 (span 96 136)) })) 136 [])
-unfolding accepting_octets calling apdu one_apdu request one_oid context_name calling_title user_last responses.response responses.context_passed responses.one_result responses.result_next responses.user_of_result responses.some_user_last external user_information by_tag rising_within rising_in named_in perhaps_in attempt length_in tag_in head_in integer_in unsigned_in oid_in gives then_in map_in branch_in refused skip by_length pass_within pass_in sized_part_in parted_in part_in choose_in maybe_in contents_as contents_where all_in whole_in more_in list_in count_in leaves.unsigned leaves.unsigned_within leaves.oid leaves.octet leaves.octet_in leaves.span leaves.selector leaves.selector_in leaves.fixed leaves.raw leaves.integer leaves.bits bits_in
+unfolding accepting_octets calling apdu one_apdu request one_oid context_name calling_title
+    user_last responses.response responses.context_passed responses.one_result responses.result_next
+    responses.user_of_result responses.some_user_last external user_information by_tag rising_within
+    rising_in named_in perhaps_in attempt length_in tag_in head_in integer_in unsigned_in oid_in
+    gives then_in map_in branch_in refused skip by_length pass_in sized_part_in parted_in part_in
+    choose_in maybe_in contents_as contents_where all_in whole_in more_in list_in count_in
+    leaves.unsigned leaves.unsigned_within leaves.oid leaves.octet leaves.octet_in leaves.span
+    leaves.selector leaves.selector_in leaves.fixed leaves.raw leaves.integer leaves.bits bits_in
+    extent_of extent_within definite head_by element_by passed_within passed_in
 accept_apdu = refl
 
 accept_pdu : pdu.reading 0 (octets_at accepting_octets (span 96 136)) ≡ Ok (taken (pdus.Initiated own) 40 [])
-unfolding accepting_octets own pdu one_pdu confirmed_request confirmed_response frame_pdu invoke_in one_request set_request unknown_request one_response set_response identify_request identify_response some_syntaxes initiate initiate_detail coded_in by_first leaves.visible_within leaves.text_in leaves.visible visible_in length_in tag_in head_in integer_in unsigned_in oid_in gives then_in map_in branch_in refused skip by_length pass_within pass_in sized_part_in parted_in part_in choose_in maybe_in contents_as contents_where all_in whole_in more_in list_in count_in leaves.unsigned leaves.unsigned_within leaves.oid leaves.octet leaves.octet_in leaves.span leaves.selector leaves.selector_in leaves.fixed leaves.raw leaves.integer leaves.bits bits_in
+unfolding accepting_octets own pdu one_pdu confirmed_request confirmed_response frame_pdu invoke_in
+    one_request set_request unknown_request one_response set_response identify_request
+    identify_response some_syntaxes initiate initiate_detail coded_in by_first leaves.visible_within
+    leaves.text_in leaves.visible visible_in length_in tag_in head_in integer_in unsigned_in oid_in
+    gives then_in map_in branch_in refused skip by_length pass_in sized_part_in parted_in part_in
+    choose_in maybe_in contents_as contents_where all_in whole_in more_in list_in count_in
+    leaves.unsigned leaves.unsigned_within leaves.oid leaves.octet leaves.octet_in leaves.span
+    leaves.selector leaves.selector_in leaves.fixed leaves.raw leaves.integer leaves.bits bits_in
+    extent_of extent_within definite head_by element_by passed_within passed_in
 accept_pdu = refl
 
 -- it is heard at the calling end
@@ -190,11 +242,27 @@ unfolding identify_octets session.spdu_in
 identify_spdu = refl
 
 identify_ppdu : (ppdu (expects.Carry 3)).reading 4 (octets_at identify_octets (span 4 20)) ≡ Ok (taken (ppdus.Carry 3 (span 13 20)) 20 [])
-unfolding identify_octets ppdu set_up set_up_contents mode parameters connect connect_selectors accept outcomes.results outcomes.accepting_results outcomes.first_in outcomes.one_result outcomes.result_contents after_others before_others others selector_in user_data external offers offer offer_contents transfers length_in tag_in head_in integer_in unsigned_in oid_in gives then_in map_in branch_in refused skip by_length pass_within pass_in sized_part_in parted_in part_in choose_in maybe_in contents_as contents_where all_in whole_in more_in list_in count_in leaves.unsigned leaves.unsigned_within leaves.oid leaves.octet leaves.octet_in leaves.span leaves.selector leaves.selector_in leaves.fixed leaves.raw leaves.integer leaves.bits bits_in
+unfolding identify_octets ppdu set_up set_up_contents mode parameters connect connect_selectors
+    accept outcomes.results outcomes.accepting_results outcomes.first_in outcomes.one_result
+    outcomes.result_contents after_others before_others others selector_in user_data external offers
+    offer offer_contents transfers length_in tag_in head_in integer_in unsigned_in oid_in gives
+    then_in map_in branch_in refused skip by_length pass_in sized_part_in parted_in part_in
+    choose_in maybe_in contents_as contents_where all_in whole_in more_in list_in count_in
+    leaves.unsigned leaves.unsigned_within leaves.oid leaves.octet leaves.octet_in leaves.span
+    leaves.selector leaves.selector_in leaves.fixed leaves.raw leaves.integer leaves.bits bits_in
+    extent_of extent_within definite head_by element_by passed_within passed_in
 identify_ppdu = refl
 
 identify_pdu : pdu.reading 0 (octets_at identify_octets (span 13 20)) ≡ Ok (taken (pdus.Request 1 asked_for.Identify) 7 [])
-unfolding identify_octets pdu one_pdu confirmed_request confirmed_response frame_pdu invoke_in one_request set_request unknown_request one_response set_response identify_request identify_response some_syntaxes initiate initiate_detail coded_in by_first leaves.visible_within leaves.text_in leaves.visible visible_in length_in tag_in head_in integer_in unsigned_in oid_in gives then_in map_in branch_in refused skip by_length pass_within pass_in sized_part_in parted_in part_in choose_in maybe_in contents_as contents_where all_in whole_in more_in list_in count_in leaves.unsigned leaves.unsigned_within leaves.oid leaves.octet leaves.octet_in leaves.span leaves.selector leaves.selector_in leaves.fixed leaves.raw leaves.integer leaves.bits bits_in
+unfolding identify_octets pdu one_pdu confirmed_request confirmed_response frame_pdu invoke_in
+    one_request set_request unknown_request one_response set_response identify_request
+    identify_response some_syntaxes initiate initiate_detail coded_in by_first leaves.visible_within
+    leaves.text_in leaves.visible visible_in length_in tag_in head_in integer_in unsigned_in oid_in
+    gives then_in map_in branch_in refused skip by_length pass_in sized_part_in parted_in part_in
+    choose_in maybe_in contents_as contents_where all_in whole_in more_in list_in count_in
+    leaves.unsigned leaves.unsigned_within leaves.oid leaves.octet leaves.octet_in leaves.span
+    leaves.selector leaves.selector_in leaves.fixed leaves.raw leaves.integer leaves.bits bits_in
+    extent_of extent_within definite head_by element_by passed_within passed_in
 identify_pdu = refl
 
 identify_heard : (message answering identify_octets).says (heard.Pdu (pdus.Request 1 asked_for.Identify))
@@ -220,11 +288,27 @@ unfolding identified_octets session.spdu_in
 identified_spdu = refl
 
 identified_ppdu : (ppdu (expects.Carry 3)).reading 4 (octets_at identified_octets (span 4 38)) ≡ Ok (taken (ppdus.Carry 3 (span 13 38)) 38 [])
-unfolding identified_octets ppdu set_up set_up_contents mode parameters connect connect_selectors accept outcomes.results outcomes.accepting_results outcomes.first_in outcomes.one_result outcomes.result_contents after_others before_others others selector_in user_data external offers offer offer_contents transfers length_in tag_in head_in integer_in unsigned_in oid_in gives then_in map_in branch_in refused skip by_length pass_within pass_in sized_part_in parted_in part_in choose_in maybe_in contents_as contents_where all_in whole_in more_in list_in count_in leaves.unsigned leaves.unsigned_within leaves.oid leaves.octet leaves.octet_in leaves.span leaves.selector leaves.selector_in leaves.fixed leaves.raw leaves.integer leaves.bits bits_in
+unfolding identified_octets ppdu set_up set_up_contents mode parameters connect connect_selectors
+    accept outcomes.results outcomes.accepting_results outcomes.first_in outcomes.one_result
+    outcomes.result_contents after_others before_others others selector_in user_data external offers
+    offer offer_contents transfers length_in tag_in head_in integer_in unsigned_in oid_in gives
+    then_in map_in branch_in refused skip by_length pass_in sized_part_in parted_in part_in
+    choose_in maybe_in contents_as contents_where all_in whole_in more_in list_in count_in
+    leaves.unsigned leaves.unsigned_within leaves.oid leaves.octet leaves.octet_in leaves.span
+    leaves.selector leaves.selector_in leaves.fixed leaves.raw leaves.integer leaves.bits bits_in
+    extent_of extent_within definite head_by element_by passed_within passed_in
 identified_ppdu = refl
 
 identified_pdu : pdu.reading 0 (octets_at identified_octets (span 13 38)) ≡ Ok (taken (pdus.Response 1 answers.Identify) 25 [])
-unfolding identified_octets pdu one_pdu confirmed_request confirmed_response frame_pdu invoke_in one_request set_request unknown_request one_response set_response identify_request identify_response some_syntaxes initiate initiate_detail coded_in by_first leaves.visible_within leaves.text_in leaves.visible visible_in length_in tag_in head_in integer_in unsigned_in oid_in gives then_in map_in branch_in refused skip by_length pass_within pass_in sized_part_in parted_in part_in choose_in maybe_in contents_as contents_where all_in whole_in more_in list_in count_in leaves.unsigned leaves.unsigned_within leaves.oid leaves.octet leaves.octet_in leaves.span leaves.selector leaves.selector_in leaves.fixed leaves.raw leaves.integer leaves.bits bits_in
+unfolding identified_octets pdu one_pdu confirmed_request confirmed_response frame_pdu invoke_in
+    one_request set_request unknown_request one_response set_response identify_request
+    identify_response some_syntaxes initiate initiate_detail coded_in by_first leaves.visible_within
+    leaves.text_in leaves.visible visible_in length_in tag_in head_in integer_in unsigned_in oid_in
+    gives then_in map_in branch_in refused skip by_length pass_in sized_part_in parted_in part_in
+    choose_in maybe_in contents_as contents_where all_in whole_in more_in list_in count_in
+    leaves.unsigned leaves.unsigned_within leaves.oid leaves.octet leaves.octet_in leaves.span
+    leaves.selector leaves.selector_in leaves.fixed leaves.raw leaves.integer leaves.bits bits_in
+    extent_of extent_within definite head_by element_by passed_within passed_in
 identified_pdu = refl
 
 identified_heard : (message asking identified_octets).says (heard.Pdu (pdus.Response 1 answers.Identify))
@@ -249,7 +333,15 @@ unfolding short_octets session.spdu_in
 short_spdu = refl
 
 short_ppdu : (ppdu (expects.Carry 3)).reading 4 (octets_at short_octets (span 4 19)) ≡ Err (fault_at 5 whys.Length)
-unfolding short_octets ppdu set_up set_up_contents mode parameters connect connect_selectors accept outcomes.results outcomes.accepting_results outcomes.first_in outcomes.one_result outcomes.result_contents after_others before_others others selector_in user_data external offers offer offer_contents transfers length_in tag_in head_in integer_in unsigned_in oid_in gives then_in map_in branch_in refused skip by_length pass_within pass_in sized_part_in parted_in part_in choose_in maybe_in contents_as contents_where all_in whole_in more_in list_in count_in leaves.unsigned leaves.unsigned_within leaves.oid leaves.octet leaves.octet_in leaves.span leaves.selector leaves.selector_in leaves.fixed leaves.raw leaves.integer leaves.bits bits_in
+unfolding short_octets ppdu set_up set_up_contents mode parameters connect connect_selectors accept
+    outcomes.results outcomes.accepting_results outcomes.first_in outcomes.one_result
+    outcomes.result_contents after_others before_others others selector_in user_data external offers
+    offer offer_contents transfers length_in tag_in head_in integer_in unsigned_in oid_in gives
+    then_in map_in branch_in refused skip by_length pass_in sized_part_in parted_in part_in
+    choose_in maybe_in contents_as contents_where all_in whole_in more_in list_in count_in
+    leaves.unsigned leaves.unsigned_within leaves.oid leaves.octet leaves.octet_in leaves.span
+    leaves.selector leaves.selector_in leaves.fixed leaves.raw leaves.integer leaves.bits bits_in
+    extent_of extent_within definite head_by element_by passed_within passed_in
 short_ppdu = refl
 
 short_broken : (message answering short_octets).breaks (fault_of layers.Presentation 5 whys.Length)

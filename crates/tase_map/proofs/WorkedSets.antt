@@ -10,8 +10,10 @@ use Rattle.ber_values.specs.Heads.{head_in}
 use Rattle.ber_values.specs.Numbers.{integer_in, unsigned_in}
 use Rattle.ber_values.specs.TextContents.{visible_in}
 use Rattle.ber_values.specs.Booleans.{boolean_in}
-use Rattle.ber_values.specs.Grammars.{gives, then_in, map_in, branch_in, refused, skip}
-use Rattle.ber_values.specs.Grammars.{by_length, pass_within, pass_in}
+use Rattle.ber_values.specs.Grammars.{gives, then_in, map_in, branch_in, refused}
+use Rattle.ber_values.specs.Passing.{skip}
+use Rattle.ber_values.specs.Grammars.{by_length}
+use Rattle.ber_values.specs.Passing.{pass_in}
 use Rattle.ber_values.specs.Parts.{sized_part_in, parted_in, part_in, choose_in, maybe_in}
 use Rattle.ber_values.specs.Parts.{contents_as, contents_where, all_in, whole_in}
 use Rattle.ber_values.specs.Lists.{more_in, list_in, count_in}
@@ -53,6 +55,9 @@ use Rattle.tase_views.proofs.NodeSample.{rows}
 use Rattle.tase_map.specs.Turns.{Turn, asks, turns_told}
 use Rattle.tase_map.specs.Out.{Talk, talk_of, octets_in}
 use Rattle.tase_map.proofs.Worked.{first_two}
+use Rattle.ber_values.specs.Heads.{head_by, element_by, extent_of, extent_within}
+use Rattle.ber_values.specs.Extents.{definite}
+use Rattle.ber_values.specs.Grammars.{passed_within, passed_in}
 
 -- ---- what requests ask
 
@@ -206,5 +211,19 @@ sets_are_served :
     ∷ read_again ∷ [])
     ≡ defined_octets ++ results_octets ++ named_results_octets ++ members_octets
     ++ write_denied_octets ++ scope_denied_octets ++ names_sent ++ deleted_octets ++ gone_octets
-unfolding pdu one_pdu confirmed_request confirmed_response frame_pdu invoke_in one_request set_request unknown_request name_list_request object_class one_scope object_scope after_name read_request echo_in specification sole_spec sole_variable sole_name variable variables one_name domain_name identifier write_request values_of one_datum datum_within plain_datum define_request members_request delete_request deletion_scope free set_names coded_in length_in tag_in head_in integer_in unsigned_in gives then_in map_in branch_in refused skip by_length pass_within pass_in sized_part_in parted_in part_in choose_in maybe_in contents_as contents_where all_in whole_in more_in list_in count_in leaves.visible leaves.visible_within leaves.text_in leaves.integer leaves.unsigned leaves.octet leaves.octet_in leaves.boolean leaves.raw leaves.fixed visible_in boolean_in wire session.length_octets ber.length_octets ber.integer_octets presentation.user_octets data_tsdu pdu_octets response_octets invoke_octets echoed_octets outcomes_octets read_response_octets spec_octets variable_octets variables_octets deletable_octets members_response_octets delete_response_octets listed_octets names_octets more_octets list_octets name_list_response_octets error_pdu_octets service_error_octets
+unfolding pdu one_pdu confirmed_request confirmed_response frame_pdu invoke_in one_request
+    set_request unknown_request name_list_request object_class one_scope object_scope after_name
+    read_request echo_in specification sole_spec sole_variable sole_name variable variables one_name
+    domain_name identifier write_request values_of one_datum datum_within plain_datum define_request
+    members_request delete_request deletion_scope free set_names coded_in length_in tag_in head_in
+    integer_in unsigned_in gives then_in map_in branch_in refused skip by_length pass_in
+    sized_part_in parted_in part_in choose_in maybe_in contents_as contents_where all_in whole_in
+    more_in list_in count_in leaves.visible leaves.visible_within leaves.text_in leaves.integer
+    leaves.unsigned leaves.octet leaves.octet_in leaves.boolean leaves.raw leaves.fixed visible_in
+    boolean_in wire session.length_octets ber.length_octets ber.integer_octets
+    presentation.user_octets data_tsdu pdu_octets response_octets invoke_octets echoed_octets
+    outcomes_octets read_response_octets spec_octets variable_octets variables_octets
+    deletable_octets members_response_octets delete_response_octets listed_octets names_octets
+    more_octets list_octets name_list_response_octets error_pdu_octets service_error_octets
+    extent_of extent_within definite head_by element_by passed_within passed_in
 sets_are_served = refl

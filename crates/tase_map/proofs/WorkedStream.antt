@@ -10,7 +10,8 @@ use Rattle.ber_values.specs.Numbers.{integer_in, unsigned_in}
 use Rattle.ber_values.specs.TextContents.{oid_in, visible_in}
 use Rattle.ber_values.specs.BitContents.{bits_in}
 use Rattle.ber_values.specs.Externals.{external_of, external}
-use Rattle.ber_values.specs.Grammars.{Grammar, IsGrammar, taken, gives, then_in, map_in, branch_in, refused, skip, by_length, pass_within, pass_in}
+use Rattle.ber_values.specs.Grammars.{Grammar, IsGrammar, taken, gives, then_in, map_in, branch_in, refused, by_length}
+use Rattle.ber_values.specs.Passing.{skip, pass_in}
 use Rattle.ber_values.specs.Parts.{whole_in, sized_part_in, parted_in, part_in, choose_in, maybe_in, contents_as, contents_where, all_in}
 use Rattle.ber_values.specs.Lists.{more_in, list_in, count_in}
 use Rattle.ber_values.specs.Leaves as leaves
@@ -95,6 +96,9 @@ use Rattle.tase_map.specs.Out.{talk_of, octets_in, octets_out}
 use Rattle.tase_map.proofs.Worked.{confirm_octets, accept_octets, identified_octets}
 use Rattle.tase_map.proofs.Worked.{aborted_octets, still_open}
 use Rattle.tase_map.proofs.TurnOrder.{nothing_said}
+use Rattle.ber_values.specs.Heads.{head_by, element_by, extent_of, extent_within}
+use Rattle.ber_values.specs.Extents.{definite}
+use Rattle.ber_values.specs.Grammars.{passed_within, passed_in}
 
 abbrev pub span : ℕ → ℕ → Span
 span from to = record { from = from; to = to }
@@ -128,15 +132,39 @@ unfolding connecting_octets session.spdu_in session.whole_in session.coded_in ru
 connect_spdu = refl
 
 connect_ppdu : (ppdu expects.Connect).reading 24 (octets_at connecting_octets (span 24 170)) ≡ Ok (taken (ppdus.Connect (Some (0 ∷ 0 ∷ 0 ∷ 1 ∷ [])) on_offer 1 (span 93 170)) 170 [])
-unfolding connecting_octets ppdu set_up set_up_contents mode parameters connect connect_selectors accept outcomes.results outcomes.accepting_results outcomes.first_in outcomes.one_result outcomes.result_contents after_others before_others others selector_in user_data external offers offer offer_contents transfers length_in tag_in head_in integer_in unsigned_in oid_in gives then_in map_in branch_in refused skip by_length pass_within pass_in sized_part_in parted_in part_in choose_in maybe_in contents_as contents_where all_in whole_in more_in list_in count_in leaves.unsigned leaves.unsigned_within leaves.oid leaves.octet leaves.octet_in leaves.span leaves.selector leaves.selector_in leaves.fixed leaves.raw leaves.integer leaves.bits bits_in
+unfolding connecting_octets ppdu set_up set_up_contents mode parameters connect connect_selectors
+    accept outcomes.results outcomes.accepting_results outcomes.first_in outcomes.one_result
+    outcomes.result_contents after_others before_others others selector_in user_data external offers
+    offer offer_contents transfers length_in tag_in head_in integer_in unsigned_in oid_in gives
+    then_in map_in branch_in refused skip by_length pass_in sized_part_in parted_in part_in
+    choose_in maybe_in contents_as contents_where all_in whole_in more_in list_in count_in
+    leaves.unsigned leaves.unsigned_within leaves.oid leaves.octet leaves.octet_in leaves.span
+    leaves.selector leaves.selector_in leaves.fixed leaves.raw leaves.integer leaves.bits bits_in
+    extent_of extent_within definite head_by element_by passed_within passed_in
 connect_ppdu = refl
 
 connect_apdu : (apdu (asked on_offer)).reading 93 (octets_at connecting_octets (span 93 170)) ≡ Ok (taken (apdus.Aarq (record { context = 40 ∷ 202 ∷ 34 ∷ 2 ∷ 3 ∷ []; title = Some (41 ∷ 135 ∷ 103 ∷ 1 ∷ []); user = external_of 3 (span 130 170) })) 170 [])
-unfolding connecting_octets apdu one_apdu request one_oid context_name calling_title user_last responses.response responses.context_passed responses.one_result responses.result_next responses.user_of_result responses.some_user_last external user_information by_tag rising_within rising_in named_in perhaps_in attempt length_in tag_in head_in integer_in unsigned_in oid_in gives then_in map_in branch_in refused skip by_length pass_within pass_in sized_part_in parted_in part_in choose_in maybe_in contents_as contents_where all_in whole_in more_in list_in count_in leaves.unsigned leaves.unsigned_within leaves.oid leaves.octet leaves.octet_in leaves.span leaves.selector leaves.selector_in leaves.fixed leaves.raw leaves.integer leaves.bits bits_in
+unfolding connecting_octets apdu one_apdu request one_oid context_name calling_title user_last
+    responses.response responses.context_passed responses.one_result responses.result_next
+    responses.user_of_result responses.some_user_last external user_information by_tag rising_within
+    rising_in named_in perhaps_in attempt length_in tag_in head_in integer_in unsigned_in oid_in
+    gives then_in map_in branch_in refused skip by_length pass_in sized_part_in parted_in part_in
+    choose_in maybe_in contents_as contents_where all_in whole_in more_in list_in count_in
+    leaves.unsigned leaves.unsigned_within leaves.oid leaves.octet leaves.octet_in leaves.span
+    leaves.selector leaves.selector_in leaves.fixed leaves.raw leaves.integer leaves.bits bits_in
+    extent_of extent_within definite head_by element_by passed_within passed_in
 connect_apdu = refl
 
 connect_pdu : pdu.reading 0 (octets_at connecting_octets (span 130 170)) ≡ Ok (taken (pdus.Initiate wanted) 40 [])
-unfolding connecting_octets wanted pdu one_pdu confirmed_request confirmed_response frame_pdu invoke_in one_request set_request unknown_request one_response set_response identify_request identify_response some_syntaxes initiate initiate_detail coded_in by_first leaves.visible_within leaves.text_in leaves.visible visible_in length_in tag_in head_in integer_in unsigned_in oid_in gives then_in map_in branch_in refused skip by_length pass_within pass_in sized_part_in parted_in part_in choose_in maybe_in contents_as contents_where all_in whole_in more_in list_in count_in leaves.unsigned leaves.unsigned_within leaves.oid leaves.octet leaves.octet_in leaves.span leaves.selector leaves.selector_in leaves.fixed leaves.raw leaves.integer leaves.bits bits_in
+unfolding connecting_octets wanted pdu one_pdu confirmed_request confirmed_response frame_pdu
+    invoke_in one_request set_request unknown_request one_response set_response identify_request
+    identify_response some_syntaxes initiate initiate_detail coded_in by_first leaves.visible_within
+    leaves.text_in leaves.visible visible_in length_in tag_in head_in integer_in unsigned_in oid_in
+    gives then_in map_in branch_in refused skip by_length pass_in sized_part_in parted_in part_in
+    choose_in maybe_in contents_as contents_where all_in whole_in more_in list_in count_in
+    leaves.unsigned leaves.unsigned_within leaves.oid leaves.octet leaves.octet_in leaves.span
+    leaves.selector leaves.selector_in leaves.fixed leaves.raw leaves.integer leaves.bits bits_in
+    extent_of extent_within definite head_by element_by passed_within passed_in
 connect_pdu = refl
 
 abbrev opening : Expecting
@@ -172,11 +200,27 @@ unfolding identify_octets session.spdu_in
 identify_spdu = refl
 
 identify_ppdu : (ppdu (expects.Carry 3)).reading 4 (octets_at identify_octets (span 4 20)) ≡ Ok (taken (ppdus.Carry 3 (span 13 20)) 20 [])
-unfolding identify_octets ppdu set_up set_up_contents mode parameters connect connect_selectors accept outcomes.results outcomes.accepting_results outcomes.first_in outcomes.one_result outcomes.result_contents after_others before_others others selector_in user_data external offers offer offer_contents transfers length_in tag_in head_in integer_in unsigned_in oid_in gives then_in map_in branch_in refused skip by_length pass_within pass_in sized_part_in parted_in part_in choose_in maybe_in contents_as contents_where all_in whole_in more_in list_in count_in leaves.unsigned leaves.unsigned_within leaves.oid leaves.octet leaves.octet_in leaves.span leaves.selector leaves.selector_in leaves.fixed leaves.raw leaves.integer leaves.bits bits_in
+unfolding identify_octets ppdu set_up set_up_contents mode parameters connect connect_selectors
+    accept outcomes.results outcomes.accepting_results outcomes.first_in outcomes.one_result
+    outcomes.result_contents after_others before_others others selector_in user_data external offers
+    offer offer_contents transfers length_in tag_in head_in integer_in unsigned_in oid_in gives
+    then_in map_in branch_in refused skip by_length pass_in sized_part_in parted_in part_in
+    choose_in maybe_in contents_as contents_where all_in whole_in more_in list_in count_in
+    leaves.unsigned leaves.unsigned_within leaves.oid leaves.octet leaves.octet_in leaves.span
+    leaves.selector leaves.selector_in leaves.fixed leaves.raw leaves.integer leaves.bits bits_in
+    extent_of extent_within definite head_by element_by passed_within passed_in
 identify_ppdu = refl
 
 identify_pdu : pdu.reading 0 (octets_at identify_octets (span 13 20)) ≡ Ok (taken (pdus.Request 1 asked_for.Identify) 7 [])
-unfolding identify_octets pdu one_pdu confirmed_request confirmed_response frame_pdu invoke_in one_request set_request unknown_request one_response set_response identify_request identify_response some_syntaxes initiate initiate_detail coded_in by_first leaves.visible_within leaves.text_in leaves.visible visible_in length_in tag_in head_in integer_in unsigned_in oid_in gives then_in map_in branch_in refused skip by_length pass_within pass_in sized_part_in parted_in part_in choose_in maybe_in contents_as contents_where all_in whole_in more_in list_in count_in leaves.unsigned leaves.unsigned_within leaves.oid leaves.octet leaves.octet_in leaves.span leaves.selector leaves.selector_in leaves.fixed leaves.raw leaves.integer leaves.bits bits_in
+unfolding identify_octets pdu one_pdu confirmed_request confirmed_response frame_pdu invoke_in
+    one_request set_request unknown_request one_response set_response identify_request
+    identify_response some_syntaxes initiate initiate_detail coded_in by_first leaves.visible_within
+    leaves.text_in leaves.visible visible_in length_in tag_in head_in integer_in unsigned_in oid_in
+    gives then_in map_in branch_in refused skip by_length pass_in sized_part_in parted_in part_in
+    choose_in maybe_in contents_as contents_where all_in whole_in more_in list_in count_in
+    leaves.unsigned leaves.unsigned_within leaves.oid leaves.octet leaves.octet_in leaves.span
+    leaves.selector leaves.selector_in leaves.fixed leaves.raw leaves.integer leaves.bits bits_in
+    extent_of extent_within definite head_by element_by passed_within passed_in
 identify_pdu = refl
 
 identify_heard : (message answering identify_octets).says (heard.Pdu (pdus.Request 1 asked_for.Identify))

@@ -36,6 +36,8 @@ use Rattle.tase_map.proofs.ReadingLaws.{reading_only}
 use Rattle.tase_map.proofs.WorkedStream.{span, connecting_octets, identify_octets, opener, answering}
 use Rattle.tase_map.proofs.WorkedStream.{first, second, third, reads, one, two, three}
 use Rattle.tase_map.proofs.WorkedStream.{connect_heard, read_first, read_second, read_third}
+use Rattle.ber_values.specs.Heads.{head_by, extent_of, extent_within}
+use Rattle.ber_values.specs.Extents.{definite}
 
 -- ---- the octets
 
@@ -143,7 +145,8 @@ cut_spdu = refl
 cut_ppdu : (ppdu (expects.Carry 3)).reading 4 (octets_at cut_octets (span 4 19))
     ≡ Err (record { place = 5; why = whys.Length })
 unfolding cut_octets ppdu user_data length_in tag_in head_in then_in map_in branch_in refused
-    sized_part_in parted_in part_in choose_in contents_as all_in whole_in
+    sized_part_in parted_in part_in choose_in contents_as all_in whole_in extent_of extent_within
+    definite head_by
 cut_ppdu = refl
 
 -- a fault of a grammar in a layer is the octets' own
