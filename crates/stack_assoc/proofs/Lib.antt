@@ -14,5 +14,4 @@ pub mod Feeding
 pub mod FewOffers
 pub mod Modest
 pub mod Standings
-pub mod Replies
-pub mod PiecesHeard
+pub mod Holdings

@@ -1,6 +1,6 @@
 -- A stream tells or stops, in one way; what was told stays told.
 use Rattle.std.proofs.Common.{◌≡◌, ℕ, ◌+◌, List, [], ◌∷◌, ◌++◌, length, ◌⊎◌, inl, inr, refl, sym, ap}
-use Rattle.std.proofs.Common.{subst, ◌∙◌, append_assoc, get_or, drop}
+use Rattle.std.proofs.Common.{subst, ◌∙◌, append_assoc, get_or, drop, Option, Some, None, MatchOption}
 use Rattle.tpkt_cotp.specs.declared.turn.Role as transport
 use Rattle.tpkt_cotp.specs.declared.turn.Turn.{Turn}
 use Rattle.tpkt_cotp.specs.declared.turn.Turn.TheVariants as turns
@@ -13,6 +13,7 @@ use Rattle.stack_assoc.specs.Fronts.{StartsWith}
 use Rattle.stack_assoc.specs.Told.{Told, Role, end_of}
 use Rattle.stack_assoc.specs.Tellings.{TellsNext, BreaksNext, Tell, Tells, StopsBelow, StopsAbove}
 use Rattle.stack_assoc.specs.Tellings.{Stops, transport_fault}
+use Rattle.stack_assoc.specs.Courses.{Course, Reads}
 use Rattle.stack_assoc.proofs.FrontsKept.{front_said, front_stopped, front_more, said_front}
 use Rattle.stack_assoc.proofs.FrontsKept.{stopped_front}
 use Rattle.stack_assoc.proofs.TurnLaws.{spelled_once, spelled_parts, BrokenTurn}
@@ -290,3 +291,21 @@ fault_stays role octets more told f (inr s) = inr (record {
   tell = s.tell;
   breaks = s.breaks;
 })
+
+-- ends that have told all of the same octets have told the same
+pub told_alike : (one : OneMeaning) (role : Role) (octets : List ℕ) (told others : List Told)
+    (f g : Option StackFault) (v w : Course)
+    → MatchOption f (Reads role octets told v) (λ f. Stops role octets told f)
+    → MatchOption g (Reads role octets others w) (λ g. Stops role octets others g)
+    → MatchOption f ((rest : List ℕ) × Tells role octets told rest) (λ f. Unit {0})
+    → MatchOption g ((rest : List ℕ) × Tells role octets others rest) (λ g. Unit {0})
+    → (told ≡ others) × (f ≡ g)
+told_alike one role octets told others None None v w a b s t =
+    ((tells_once one role octets told others s.0 t.0 s.1 t.1).0, refl)
+told_alike one role octets told others None (Some g) v w a b s t =
+    absurd (never_both one role octets told others s.0 g s.1 b)
+told_alike one role octets told others (Some f) None v w a b s t =
+    absurd (never_both one role octets others told t.0 f t.1 a)
+told_alike one role octets told others (Some f) (Some g) v w a b s t =
+    let same = stops_once one role octets told others f g a b in
+    (same.0, ap (λ (x : StackFault). Some x) same.1)

@@ -1,8 +1,9 @@
 -- An end of an association as contracts see it, and where it stands in its stream.
-use Rattle.std.specs.Prelude.{◌≡◌, ℕ, ◌≤◌, Bool, true, false, List, [], ◌∷◌, ◌++◌, length}
+use Rattle.std.specs.Prelude.{◌≡◌, ℕ, ◌+◌, ◌≤◌, Bool, true, false, List, [], ◌∷◌, ◌++◌, length}
 use Rattle.std.specs.Prelude.{Option, Some, None, MatchOption, Result, Ok, Err}
 use Rattle.std.specs.Prelude.{MatchBool, ◌⊎◌}
-use Rattle.tpkt_cotp.specs.Streams.{Message}
+use Rattle.tpkt_cotp.specs.Streams.{Message, tsdu}
+use Rattle.tpkt_cotp.specs.Sound.{IsSound}
 use Rattle.tpkt_cotp.specs.Lines.{Line}
 use Rattle.tpkt_cotp.specs.Lines as transport
 use Rattle.stack_messages.specs.declared.fault.StackFault.{StackFault}
@@ -75,6 +76,27 @@ pub record Stands (role : Role) (octets : List ℕ) (told : List Told) (v : Cour
   pub since : IsSince role told
   pub setup : v.setup ≡ setup_after (told ++ opened v.owed)
   pub reads : MatchOption v.fault (Reads role octets told v) (λ f. Stops role octets told f)
+
+-- all that the octets tell was told: they leave a rest, or break a rule behind it
+pub record HasToldAll (role : Role) (octets : List ℕ) (told : List Told) (v : Course) : Type 0 where
+  pub stands : Stands role octets told v
+  pub all : MatchOption v.fault ((rest : List ℕ) × Tells role octets told rest) (λ f. Unit {0})
+
+-- ---- what it holds
+
+-- the octets of a message
+abbrev pub octets_in : Option Message → List ℕ
+octets_in (Some (tsdu place octets)) = octets
+octets_in _ = []
+
+-- so many octets of the stream are held
+abbrev pub count_held : Course → ℕ
+count_held v = length (octets_in v.held) + (length v.line.held + length v.line.unread)
+
+-- a message that is held is within the limit, and beside it nothing is held of another one
+abbrev pub IsAlone : Option Message → Line → Type 0
+IsAlone None line = Unit {0}
+IsAlone (Some m) line = IsSound m × (line.held ≡ [])
 
 -- ---- the offer and the association
 

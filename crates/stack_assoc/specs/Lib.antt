@@ -9,4 +9,3 @@ pub mod Taking
 pub mod Courses
 pub mod Steps
 pub mod Saying
-pub mod Pieces

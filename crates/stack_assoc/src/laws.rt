@@ -6,13 +6,8 @@ ghost use Rattle.stack_assoc.specs.Tellings.{Tells, Stops};
 ghost use Rattle.mms_services.specs.declared.pdu.MmsPdu.{MmsPdu};
 ghost use Rattle.stack_assoc.specs.declared.input.StackState.TheVariants as states;
 ghost use Rattle.stack_assoc.specs.declared.standing.Standing.{Standing};
-ghost use Rattle.stack_assoc.specs.Courses.{Course, Stands, state_of};
+ghost use Rattle.stack_assoc.specs.Courses.{Course, Stands, HasToldAll, state_of};
 ghost use Rattle.stack_assoc.specs.Saying.{with_standing, with_said, role_said};
-ghost use Rattle.std.specs.Prelude.{Option, Vec};
-ghost use Rattle.std.specs.declared.alloc.Global.{Global};
-ghost use Rattle.mms_services.specs.declared.initiate.Initiate.{Initiate};
-ghost use Rattle.stack_assoc.specs.declared.hearing.Hearing.{Hearing};
-ghost use Rattle.stack_assoc.specs.Pieces.{octets_in, IsAlike, Hears};
 
 use stack_messages::messages_have_one_reading;
 
@@ -58,16 +53,12 @@ pub fn saying_takes_nothing()
         → Stands (role_said role told pdu) octets told (with_said pdu v) }
 {}
 
-/// It doesn't matter where a stream is cut: ends that stand alike, and hear the same octets in
-/// whatever pieces, hand out and say the same, and end alike.
+/// It doesn't matter where a stream is cut: ends that were fed the same octets, in whatever pieces,
+/// and have told all of them, have told the same messages, and met the same fault or none.
 pub fn cuts_change_nothing()
-    ensures { (role : Role) (octets : List ℕ) (told : List Told) (granted : Option Initiate)
-        (pieces others : List (Vec ℕ Global)) (old same one other : Hearing)
-        (end stop : Option StackFault) → IsAlike old same
-        → octets_in pieces ≡ octets_in others
-        → Hears role (octets ++ octets_in pieces) told granted old end one
-        → Hears role (octets ++ octets_in others) told granted same stop other
-        → (end ≡ stop) × IsAlike one other × (state_of one.stack ≡ state_of other.stack) }
+    ensures { (role : Role) (octets : List ℕ) (told others : List Told) (one other : Course)
+        → HasToldAll role octets told one → HasToldAll role octets others other
+        → (told ≡ others) × (one.fault ≡ other.fault) }
 {
     messages_have_one_reading();
 }

@@ -1,7 +1,6 @@
 //! Both ends of an association: octets of a stream to messages, and messages to octets.
 #![tactic(auto)]
 
-mod hearing;
 mod input;
 mod known;
 mod laws;
@@ -13,7 +12,6 @@ mod taken;
 mod taking;
 mod telling;
 
-pub use hearing::Hearing;
 pub use input::{StackIn, StackState};
 pub use laws::{cuts_change_nothing, one_reading, saying_takes_nothing, what_was_told_stays};
 pub use stack::Stack;

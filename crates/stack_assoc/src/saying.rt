@@ -8,9 +8,6 @@ ghost use Rattle.stack_assoc.specs.declared.input.StackState.TheVariants as stat
 ghost use Rattle.stack_assoc.specs.declared.standing.Standing.TheVariants as standings;
 ghost use Rattle.stack_assoc.specs.Courses.{is_offered, is_accepted, state_of};
 ghost use Rattle.stack_assoc.specs.Saying.{with_standing, with_said, may_release};
-ghost use Rattle.stack_assoc.specs.Pieces.{standing_answered, standing_answer, standing_granted};
-ghost use Rattle.stack_assoc.specs.Pieces.{accept_or_refuse};
-ghost use Rattle.std.specs.Prelude.{IfSome};
 ghost use Rattle.stack_assoc.specs.Saying.{released, release_octets};
 
 use crate::stack::Stack;
@@ -52,50 +49,6 @@ impl Stack {
         write_refusal(self.alloc, out, self.setup.size, self.setup.acse)?;
         self.standing = Standing::Closed;
         Ok(())
-    }
-
-    /// Answers the offer that stands unanswered, if one does: it accepts with what is granted, or
-    /// refuses where nothing is, or the offer may not be accepted. After want of memory the stack
-    /// and `out` are as before.
-    pub fn answer_offer(
-        &mut self,
-        granted: Option<Initiate>,
-        out: &mut Vec<u8>,
-    ) -> Result<(), AllocError>
-        requires { IfSome granted IsFullInitiate }
-        ensures ok { OnOk result (self.new
-            ≡ with_standing (standing_answered self.old.standing granted) self.old) }
-        ensures out { OnOk result (out.new.items ≡ out.old.items
-            ++ standing_answer self.old.standing granted self.old.setup) }
-        ensures err { OnErr result (self.new ≡ self.old) }
-        ensures same { OnErr result (out.new.items ≡ out.old.items) }
-        ensures offered { OnErr result (is_offered self.old.standing ≡ true) }
-    {
-        match self.standing {
-            Standing::Offered => self.accept_or_refuse(granted, out),
-            Standing::BadlyOffered => self.refuse(out),
-            _ => Ok(()),
-        }
-    }
-
-    /// Answers an offer that may be accepted.
-    fn accept_or_refuse(
-        &mut self,
-        granted: Option<Initiate>,
-        out: &mut Vec<u8>,
-    ) -> Result<(), AllocError>
-        requires offered { self.old.standing ≡ standings.Offered }
-        requires full { IfSome granted IsFullInitiate }
-        ensures ok { OnOk result (self.new ≡ with_standing (standing_granted granted) self.old) }
-        ensures out { OnOk result (out.new.items ≡ out.old.items
-            ++ accept_or_refuse granted self.old.setup) }
-        ensures err { OnErr result (self.new ≡ self.old) }
-        ensures same { OnErr result (out.new.items ≡ out.old.items) }
-    {
-        match granted {
-            Some(granted) => self.accept(&granted, out),
-            None => self.refuse(out),
-        }
     }
 
     /// Says a PDU over the association. After conclude of the calling end its response is awaited.

@@ -1,14 +1,16 @@
 //! An end of an association over a stream that comes in any pieces: octets in, messages out.
-ghost use Rattle.std.specs.Prelude.{◌≡◌, ℕ, ◌+◌, ◌≤◌, ◌<◌, List, [], ◌++◌, length, None, Some, false};
-ghost use Rattle.std.specs.Prelude.{IfOk, OnOk, OnErr, OnSome, Ok, Err};
+ghost use Rattle.std.specs.Prelude.{◌≡◌, ℕ, ◌+◌, ◌-◌, ◌≤◌, ◌<◌, List, [], ◌++◌, length, None, Some};
+ghost use Rattle.std.specs.Prelude.{IfOk, OnOk, OnErr, OnSome, Ok, Err, false, option_map};
 ghost use Rattle.stack_messages.specs.declared.fault.StackFault.{StackFault};
 ghost use Rattle.tpkt_cotp.specs.declared.limits.TheConstants.{PIECE_LIMIT};
+ghost use Rattle.tpkt_cotp.specs.declared.limits.TheConstants.{TPKT_LIMIT, TSDU_LIMIT};
 ghost use Rattle.tpkt_cotp.specs.Written.{request_octets};
 ghost use Rattle.stack_assoc.specs.declared.input.StackState.TheVariants as states;
 ghost use Rattle.stack_assoc.specs.Told.{Told, Role, called, calling};
 ghost use Rattle.stack_assoc.specs.Expectations.{setup_by};
 ghost use Rattle.stack_assoc.specs.Courses.{Stands, IsSettled, is_offered, Answers, state_of};
-ghost use Rattle.stack_assoc.specs.Courses.{FollowsAnswer, fault_in};
+ghost use Rattle.stack_assoc.specs.Courses.{FollowsAnswer, fault_in, octets_in, count_held};
+ghost use Rattle.stack_assoc.specs.Taking.{following_seen};
 ghost use Rattle.stack_assoc.specs.Steps.{IsNew, left_of};
 
 use crate::input::{StackIn, StackState};
@@ -23,7 +25,7 @@ use std::alloc::{AllocError, Global};
 use std::marker::Model;
 use tpkt_cotp::{Transport, write_cr};
 
-/// An end of an association. It holds at most one TSDU more than its transport.
+/// An end of an association. Of its stream it holds at most one TSDU, one TPKT and one piece.
 #[derive(Drop)]
 pub struct Stack {
     pub(crate) alloc: Global,
@@ -42,7 +44,7 @@ impl Model for Stack {
     ghost use Rattle.std.specs.Prelude.{◌≤◌, option_map};
     ghost use Rattle.stack_wire.specs.Setups.{IsSetup};
     ghost use Rattle.stack_assoc.specs.Taking.{following_seen};
-    ghost use Rattle.stack_assoc.specs.Courses.{Course};
+    ghost use Rattle.stack_assoc.specs.Courses.{Course, IsAlone};
 
     ghost Value = { Course };
 
@@ -57,7 +59,8 @@ impl Model for Stack {
       fault = s.fault;
     } };
 
-    ghost invariant = { λ s. IsSetup s.setup × (s.setup.acse ≤ 65535) };
+    ghost invariant = { λ s. IsSetup s.setup × (s.setup.acse ≤ 65535)
+        × IsAlone (option_map following_seen s.held) s.transport };
 }
 
 /// What nothing has fixed yet.
@@ -137,6 +140,9 @@ impl Stack {
         ensures ok { (role : Role) (octets : List ℕ) (told : List Told)
             → Stands role octets told self.old
             → OnOk result (Stands role (octets ++ piece.now) told self.new) }
+        // Behind a fault the octets are dropped.
+        ensures dropped { (fault : StackFault) → self.old.fault ≡ Some fault
+            → OnOk result (self.new ≡ self.old) }
         ensures state { OnOk result (state_of self.new ≡ state_of self.old) }
         ensures standing { OnOk result (self.new.standing ≡ self.old.standing) }
         ensures err { OnErr result (self.new ≡ self.old) }
@@ -184,5 +190,25 @@ impl Stack {
         let said = self.read()?;
         let done = self.answer(out);
         self.tell_once(done, came, said)
+    }
+
+    /// The octets of the stream that it holds: those of a whole TSDU that isn't told yet, and what
+    /// its transport holds, which has no part of another TSDU beside a whole one. What connects
+    /// carry isn't counted: at most four selectors of 32 octets each, and sixteen results.
+    pub fn held(&self) -> usize
+        ensures count { result ≡ count_held self.now }
+        ensures few { result ≤ TSDU_LIMIT + (TPKT_LIMIT - 1) + PIECE_LIMIT }
+    {
+        held_octets(&self.held) + self.transport.held()
+    }
+}
+
+/// The octets of a TSDU, where one is held.
+fn held_octets(held: &Option<Following>) -> usize
+    ensures { result ≡ length (octets_in (option_map following_seen held.now)) }
+{
+    match held {
+        None | Some(Following::Gone) => 0,
+        Some(Following::Tsdu { octets, .. }) => octets.as_slice().len(),
     }
 }
