@@ -1,112 +1,152 @@
 -- How an end stands behind what it has heard and said.
-use Rattle.std.proofs.Common.{◌≡◌, ℕ, Bool, true, false, List, ◌++◌, Option, Some, None}
-use Rattle.std.proofs.Common.{Result, Ok, Err, IfOk, OnOk, refl, sym, subst, leb, length, Vec}
-use Rattle.std.specs.List.{list_all, slice_index_or}
-use Rattle.std.specs.declared.alloc.Global.{Global}
-use Rattle.std.proofs.lemmas.List.Sums.{AllPass-from_list_all}
-use Rattle.std.proofs.lemmas.Bool.{leb-true}
+use Rattle.std.proofs.Common.{◌≡◌, ℕ, Bool, true, false, List, [], ◌++◌, Option, Some, None, Result}
+use Rattle.std.proofs.Common.{Ok, Err, IfOk, OnOk, MatchBool, MatchOption, refl, sym, ap, subst, ◌∙◌}
+use Rattle.tpkt_cotp.specs.Lines as lines
 use Rattle.mms_services.specs.declared.pdu.MmsPdu.{MmsPdu}
-use Rattle.mms_services.specs.declared.initiate.Initiate.{Initiate}
 use Rattle.stack_messages.specs.declared.fault.StackFault.{StackFault}
 use Rattle.stack_messages.specs.declared.expecting.Side.{Side}
 use Rattle.stack_messages.specs.declared.expecting.Side.TheVariants as sides
-use Rattle.stack_assoc.specs.declared.hearing.Hearing.{Hearing}
+use Rattle.stack_assoc.specs.declared.input.StackIn.{StackIn}
 use Rattle.stack_assoc.specs.declared.input.StackState.TheVariants as states
 use Rattle.stack_assoc.specs.declared.standing.Standing.{Standing}
 use Rattle.stack_assoc.specs.declared.standing.Standing.TheVariants as standings
 use Rattle.stack_assoc.specs.Told.{Told, Role}
-use Rattle.stack_assoc.specs.Courses.{Course, Stands, is_offered, state_of, state_with}
-use Rattle.stack_assoc.specs.Pieces.{IsSomewhere, Hears, AreSmall}
+use Rattle.stack_assoc.specs.Tellings.{Tells}
+use Rattle.stack_assoc.specs.Courses.{Course, Stands, IsSettled, is_offered, state_of, state_with}
+use Rattle.stack_assoc.specs.Courses.{Answers, FollowsAnswer, fault_in}
 use Rattle.stack_assoc.specs.Saying.{with_standing, with_said, role_said, released, may_leave}
 use Rattle.stack_assoc.specs.Saying.{may_release, left_by}
-use Rattle.stack_assoc.proofs.PiecesHeard.{hears_somewhere}
-use Rattle.association_tests.specs.Playing.{IsReady}
-
--- ---- pieces
-
-pub small : (pieces : List (Vec ℕ Global))
-    → list_all (λ piece. leb (length piece.items) 65536) pieces ≡ true → AreSmall pieces
-small pieces e k d lt = leb-true (length (slice_index_or pieces k d).items) 65536
-    (AllPass-from_list_all (λ piece. leb (length piece.items) 65536) pieces e k d lt)
+use Rattle.association_tests.specs.Playing.{IsSomewhere, IsGoing, IsReady, IsBehind, is_free}
 
 -- ---- what it has heard
 
-pub heard_ready : {E : Type 0} (r : Result (Option StackFault) E) (granted : Option Initiate)
-    (piece : List ℕ) (old new : Hearing) → IsSomewhere old.stack
-    → ((role : Role) (octets : List ℕ) (told : List Told) → Stands role octets told old.stack
-    → IfOk r (λ end. Hears role (octets ++ piece) told granted old end new))
-    → OnOk r (is_offered new.stack.standing ≡ false) → IfOk r (λ end. IsReady new.stack)
-heard_ready (Ok end) granted piece old new s h e = record {
-  somewhere = hears_somewhere s.role (s.octets ++ piece) s.told granted old end new
-      (h s.role s.octets s.told s.stands);
-  free = e;
-}
-heard_ready (Err x) granted piece old new s h e = tt
+-- a piece more
+pub fed_going : {A E : Type 0} (r : Result A E) (old new : Course) (piece : List ℕ) → IsReady old
+    → ((role : Role) (octets : List ℕ) (told : List Told) → Stands role octets told old
+    → OnOk r (Stands role (octets ++ piece) told new))
+    → OnOk r (new.standing ≡ old.standing) → OnOk r (IsGoing new)
+fed_going (Ok x) old new piece p s e =
+    let here = p.going.somewhere in
+    record {
+      somewhere = record {
+        role = here.role;
+        octets = here.octets ++ piece;
+        told = here.told;
+        stands = s here.role here.octets here.told here.stands;
+      };
+      free = ap is_offered e ∙ p.going.free;
+    }
+fed_going (Err x) old new piece p s e = tt
+
+settled_by : (v : Course) (f : StackFault) → v.fault ≡ Some f → IsSettled v
+settled_by v f e = subst (λ (o : Option StackFault). MatchOption o (lines.IsSettled v.line)
+    (λ g. Unit {0})) (sym e) tt
+
+behind : (answer : Result (Option StackIn) StackFault) (old new : Course) (out written : List ℕ)
+    → IsGoing old → ((role : Role) (octets : List ℕ) (told : List Told)
+    → Stands role octets told old → Answers role octets told old out answer new written)
+    → FollowsAnswer answer old.standing new.standing → new.fault ≡ fault_in answer
+    → IsBehind answer new
+behind (Ok (Some input)) old new out written g a f e =
+    let here = g.somewhere in
+    let b = a here.role here.octets here.told here.stands in (
+      record
+          { role = here.role; octets = here.octets; told = here.told ++ b.0; stands = b.1.stands },
+      e,
+    )
+behind (Ok None) old new out written g a f e =
+    let here = g.somewhere in
+    let b = a here.role here.octets here.told here.stands in
+    let P : Bool → Type 0 = λ offered. MatchBool offered (b.0 ≡ [])
+    (((rest : List ℕ) × Tells here.role here.octets (here.told ++ b.0) rest) × IsSettled new) in
+    record {
+      going = record {
+        somewhere = record
+            { role = here.role; octets = here.octets; told = here.told ++ b.0; stands = b.1.stands };
+        free = ap is_offered f ∙ g.free;
+      };
+      settled = (subst P g.free b.3).1;
+    }
+behind (Err x) old new out written g a f e =
+    let here = g.somewhere in
+    let b = a here.role here.octets here.told here.stands in
+    record {
+      going = record {
+        somewhere = record
+            { role = here.role; octets = here.octets; told = here.told ++ b.0; stands = b.1.stands };
+        free = ap is_offered f ∙ g.free;
+      };
+      settled = settled_by new x e;
+    }
+
+pub answered_behind : {E : Type 0} (r : Result (Result (Option StackIn) StackFault) E)
+    (old new : Course) (out written : List ℕ) → IsGoing old
+    → ((role : Role) (octets : List ℕ) (told : List Told) → Stands role octets told old
+    → IfOk r (λ answer. Answers role octets told old out answer new written))
+    → IfOk r (λ answer. FollowsAnswer answer old.standing new.standing)
+    → IfOk r (λ answer. new.fault ≡ fault_in answer) → IfOk r (λ answer. IsBehind answer new)
+answered_behind (Ok answer) old new out written g a f e = behind answer old new out written g a f e
+answered_behind (Err x) old new out written g a f e = tt
+
+-- no offer stands unanswered
+pub free_of : (f : Option StackFault) (s : Standing) → f ≡ None → is_free (state_with f s) ≡ true
+    → is_offered s ≡ false
+free_of None standings.Waiting none e = refl
+free_of None standings.Offered none e = absurd cc
+free_of None standings.BadlyOffered none e = absurd cc
+free_of None standings.Accepted none e = refl
+free_of None standings.Finishing none e = refl
+free_of None standings.Closed none e = refl
+free_of (Some f) s none e = absurd cc
 
 -- ---- what it says
-
-pub said_free : (f : Option StackFault) (s : Standing) → state_with f s ≡ states.Accepted
-    → is_offered s ≡ false
-said_free None standings.Waiting e = refl
-said_free None standings.Offered e = absurd cc
-said_free None standings.BadlyOffered e = absurd cc
-said_free None standings.Accepted e = refl
-said_free None standings.Finishing e = refl
-said_free None standings.Closed e = refl
-said_free (Some f) s e = absurd cc
-
-said : ((role : Role) (octets : List ℕ) (told : List Told) (v : Course) (pdu : MmsPdu)
-    → state_of v ≡ states.Accepted → Stands role octets told v
-    → Stands (role_said role told pdu) octets told (with_said pdu v))
-    → (old : Course) (pdu : MmsPdu) → IsSomewhere old → state_of old ≡ states.Accepted
-    → IsReady (with_said pdu old)
-said law old pdu s e = record {
-  somewhere = record {
-    role = role_said s.role s.told pdu;
-    octets = s.octets;
-    told = s.told;
-    stands = law s.role s.octets s.told old pdu e s.stands;
-  };
-  free = said_free old.fault old.standing e;
-}
 
 pub said_ready : {A E : Type 0} (r : Result A E) (old new : Course) (pdu : MmsPdu)
     → ((role : Role) (octets : List ℕ) (told : List Told) (v : Course) (pdu : MmsPdu)
     → state_of v ≡ states.Accepted → Stands role octets told v
     → Stands (role_said role told pdu) octets told (with_said pdu v))
-    → IsSomewhere old → state_of old ≡ states.Accepted → OnOk r (new ≡ with_said pdu old)
+    → IsReady old → state_of old ≡ states.Accepted → OnOk r (new ≡ with_said pdu old)
     → OnOk r (IsReady new)
-said_ready (Ok x) old new pdu law s accepted e =
-    subst IsReady (sym e) (said law old pdu s accepted)
-said_ready (Err x) old new pdu law s accepted e = tt
+said_ready (Ok x) old new pdu law p accepted e =
+    let here = p.going.somewhere in
+    let said : IsReady (with_said pdu old) = record {
+      going = record {
+        somewhere = record {
+          role = role_said here.role here.told pdu;
+          octets = here.octets;
+          told = here.told;
+          stands = law here.role here.octets here.told old pdu accepted here.stands;
+        };
+        free = p.going.free;
+      };
+      settled = p.settled;
+    } in subst IsReady (sym e) said
+said_ready (Err x) old new pdu law p accepted e = tt
 
 -- ---- the release
 
-left_free : (side : Side) (s : Standing) (f : Option StackFault) → may_leave side s f ≡ true
-    → is_offered s ≡ false → is_offered (left_by side s) ≡ false
-left_free sides.Called s f e free = refl
-left_free sides.Calling s f e free = free
-left_free sides.Either s f e free = free
-
-left : ((role : Role) (octets : List ℕ) (told : List Told) (v : Course) (standing : Standing)
-    → Stands role octets told v → Stands role octets told (with_standing standing v))
-    → (old : Course) → IsReady old → may_release old ≡ true → IsReady (released old)
-left law old p e =
-    let s = p.somewhere in
-    let standing : Standing = left_by old.known.side old.standing in record {
-      somewhere = record {
-        role = s.role;
-        octets = s.octets;
-        told = s.told;
-        stands = law s.role s.octets s.told old standing s.stands;
-      };
-      free = left_free old.known.side old.standing old.fault e p.free;
-    }
+left_free : (side : Side) (s : Standing) → is_offered s ≡ false → is_offered (left_by side s) ≡ false
+left_free sides.Called s free = refl
+left_free sides.Calling s free = free
+left_free sides.Either s free = free
 
 pub left_ready : {A E : Type 0} (r : Result A E) (old new : Course)
     → ((role : Role) (octets : List ℕ) (told : List Told) (v : Course) (s : Standing)
     → Stands role octets told v → Stands role octets told (with_standing s v))
-    → IsReady old → may_release old ≡ true → OnOk r (new ≡ released old)
-    → OnOk r (IsReady new)
-left_ready (Ok x) old new law p e is = subst IsReady (sym is) (left law old p e)
-left_ready (Err x) old new law p e is = tt
+    → IsReady old → OnOk r (new ≡ released old) → OnOk r (IsReady new)
+left_ready (Ok x) old new law p e =
+    let here = p.going.somewhere in
+    let standing : Standing = left_by old.known.side old.standing in
+    let left : IsReady (released old) = record {
+      going = record {
+        somewhere = record {
+          role = here.role;
+          octets = here.octets;
+          told = here.told;
+          stands = law here.role here.octets here.told old standing here.stands;
+        };
+        free = left_free old.known.side old.standing p.going.free;
+      };
+      settled = p.settled;
+    } in subst IsReady (sym e) left
+left_ready (Err x) old new law p e = tt

@@ -1,5 +1,5 @@
-//! Tests of the calling end of an association, which no command plays yet, and of both ends that
-//! talk to each other.
+//! Tests of the calling end of an association, which no command plays yet, and of what may come
+//! while an association ends.
 #![tactic(auto)]
 
 #[cfg(test)]

@@ -1,8 +1,8 @@
 //! What an end hands out, as the words of the rows.
+use crate::ends::End;
 use mms_services::{Initiate, MmsPdu};
 use plain_text::push_decimal;
-use stack_assoc::{Hearing, StackIn};
-use stack_messages::StackFault;
+use stack_assoc::StackIn;
 use std::alloc::{AllocError, Global};
 
 /// Appends a word and a number.
@@ -43,22 +43,18 @@ fn push_input(out: &mut Vec<u8>, input: &StackIn) -> Result<(), AllocError> {
     Ok(())
 }
 
-/// What an end has made of a stream that has ended so: all that was handed out, and how far the
-/// association is, or the rule that is broken.
-pub(crate) fn text_of(
-    alloc: Global,
-    hearing: &Hearing,
-    end: Option<StackFault>,
-) -> Result<Vec<u8>, AllocError> {
+/// What an end has made of its stream: all that was handed out, and how far the association is, or
+/// the rule that is broken.
+pub(crate) fn text_of(alloc: Global, end: &End) -> Result<Vec<u8>, AllocError> {
     let mut text = Vec::new(alloc);
-    for input in hearing.inputs.as_slice() {
+    for input in end.inputs.as_slice() {
         push_input(&mut text, input)?;
     }
-    let state = hearing.stack.state();
-    let end = match end {
+    let state = end.stack.state();
+    let last = match end.fault {
         None => format!(in alloc; "none {state:?}")?,
         Some(fault) => format!(in alloc; "{:?} {} {:?}", fault.layer, fault.place, fault.why)?,
     };
-    text.extend_from_slice(end.as_bytes())?;
+    text.extend_from_slice(last.as_bytes())?;
     Ok(text)
 }

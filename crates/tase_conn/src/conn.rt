@@ -1,9 +1,12 @@
 //! A connection to a peer, without input and output.
-ghost use Rattle.std.specs.Prelude.{◌≡◌, ◌≤◌, List, [], ◌∷◌, ◌++◌, length, drop, vec_len};
+ghost use Rattle.std.specs.Prelude.{◌≡◌, ◌+◌, ◌-◌, ◌≤◌, List, [], ◌∷◌, ◌++◌, length, drop, vec_len};
 ghost use Rattle.std.specs.Prelude.{IfOk, OnOk, OnErr, option_copied};
 ghost use Rattle.std.specs.Arc.{arc_value};
 ghost use Rattle.tpkt_cotp.specs.declared.limits.TheConstants.{PIECE_LIMIT};
+ghost use Rattle.tpkt_cotp.specs.declared.limits.TheConstants.{TPKT_LIMIT, TSDU_LIMIT};
+ghost use Rattle.tpkt_cotp.specs.Streams.{capped};
 ghost use Rattle.bilateral.specs.Rows.{CentreRows};
+ghost use Rattle.stack_assoc.specs.Courses.{count_held};
 ghost use Rattle.stack_assoc.specs.Told.{Told};
 ghost use Rattle.tase_map.specs.Inputs.{Item, piece as a_piece, idle, ended};
 ghost use Rattle.tase_map.specs.Turns.{Turn};
@@ -196,6 +199,20 @@ impl Conn {
         }
     }
 
+    /// The octets that it holds, at most 2^64 - 1: those that its link gave and it hasn't read, and
+    /// those that are still to be sent. How many of the latter may wait is `limit`, which whoever
+    /// sends them keeps to. A message that was read, and is to be acted on next, isn't counted.
+    pub fn held(&self) -> u64
+        ensures count { result
+            ≡ capped (count_held self.now.course + length (pending_of self.now)) }
+        // Beside those that are to be sent, a TSDU, less than a TPKT, and a piece.
+        ensures few { result
+            ≤ TSDU_LIMIT + (TPKT_LIMIT - 1) + PIECE_LIMIT + length (pending_of self.now) }
+    {
+        let pending = len_of(&self.out).saturating_add(len_of(&self.farewell));
+        (self.stack.held() as u64).saturating_add(pending)
+    }
+
     /// How the connection ended, if it has.
     pub fn ended(&self) -> Option<&ConnEnd>
         ensures { option_copied result ≡ end_in self.now.progress }
@@ -215,4 +232,10 @@ fn cut(octets: &mut Vec<u8>, n: usize)
     let left = octets.len() - n;
     octets.copy_within(n.., 0);
     octets.truncate(left);
+}
+
+fn len_of(octets: &Vec<u8>) -> u64
+    ensures { result ≡ length octets.now.items }
+{
+    octets.as_slice().len() as u64
 }
