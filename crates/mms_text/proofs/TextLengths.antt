@@ -6,8 +6,7 @@ use Rattle.std.specs.Fmt.{signed_decimal}
 use Rattle.std.proofs.lemmas.Bool.{ne_eqb}
 use Rattle.std.proofs.lemmas.List.{length-append}
 use Rattle.plain_text.specs.Octets.{hex_text}
-use Rattle.plain_lengths.specs.Lengths.{capped}
-use Rattle.plain_lengths.proofs.TextLengths.{capped-sum, length-hex_text}
+use Rattle.plain_text.specs.Lengths.{capped_len}
 use Rattle.mms_data.specs.Datum.{Datum, data_of, structure, array}
 use Rattle.mms_text.specs.Texts.{data_text, members_text}
 use Rattle.mms_text.proofs.Spelled.{members_text-take_one, members_text-take_more}
@@ -29,15 +28,15 @@ members_text-length ds (suc i) d within =
     ∙ omega arith)
 
 pub capped-member : (ds : List Datum) (i : ℕ) (d : Datum) → i < length ds
-    → capped (capped (length (members_text (data_of (take i ds))))
-    + capped ((if i == 0 then 0 else 1) + capped (length (data_text (get_or ds i d)))))
-    ≡ capped (length (members_text (data_of (take (i + 1) ds))))
+    → capped_len (capped_len (length (members_text (data_of (take i ds))))
+    + capped_len ((if i == 0 then 0 else 1) + capped_len (length (data_text (get_or ds i d)))))
+    ≡ capped_len (length (members_text (data_of (take (i + 1) ds))))
 capped-member ds i d within = omega (arith, members_text-length ds i d within)
 
 pub ruleset member_lengths = (capped-member)
 
 -- members in brackets
-pub bracketed-length : (a b : ℕ) (os : List ℕ) (n : ℕ) → n ≡ capped (length os)
-    → capped (2 + n) ≡ capped (length ((a ∷ []) ++ os ++ (b ∷ [])))
+pub bracketed-length : (a b : ℕ) (os : List ℕ) (n : ℕ) → n ≡ capped_len (length os)
+    → capped_len (2 + n) ≡ capped_len (length ((a ∷ []) ++ os ++ (b ∷ [])))
 bracketed-length a b os n e =
     omega (arith, e, length-append ((a ∷ []) ++ os) (b ∷ []), length-append (a ∷ []) os)

@@ -1,12 +1,12 @@
 //! Lengths of the texts of names and of data, which take no memory.
 ghost use Rattle.std.specs.Prelude.{◌≡◌, ◌*◌, ◌==◌, ◌≤◌, if◌then◌else◌, length};
-ghost use Rattle.plain_lengths.specs.Lengths.{capped};
+ghost use Rattle.plain_text.specs.Lengths.{capped_len};
 ghost use Rattle.mms_data.specs.Datum.{Datum, data_of};
 ghost use Rattle.mms_text.specs.Texts.{data_text, members_text, scope_text, name_text};
 
 use ber_values::BitString;
 use mms_data::{DataKind, DataList, MmsData, Name, Scope};
-use plain_lengths::{MOST_LEN, add_len, decimal_len, escaped_len, signed_decimal_len};
+use plain_text::{MOST_LEN, add_len, decimal_len, escaped_len, signed_decimal_len};
 
 /// How many octets the text of a scope has.
 pub fn scope_text_len(scope: &Scope) -> u64
@@ -30,14 +30,14 @@ pub fn name_text_len(name: &Name) -> u64
 
 /// How many octets the text of a value has, or 2^62 where it has as many or more.
 pub fn data_text_len(value: &MmsData) -> u64
-    ensures { result ≡ capped (length (data_text value.now)) }
+    ensures { result ≡ capped_len (length (data_text value.now)) }
 {
     text_len(value)
 }
 
 #[cycle(lengths)]
 fn text_len(value: &MmsData) -> u64
-    ensures { result ≡ capped (length (data_text value.now)) }
+    ensures { result ≡ capped_len (length (data_text value.now)) }
 {
     match value.kind() {
         DataKind::Boolean(boolean) => boolean_len(*boolean),
@@ -55,7 +55,7 @@ fn text_len(value: &MmsData) -> u64
 #[cycle(lengths)]
 #[tactic(auto, using(crate::proofs::TextLengths::member_lengths))]
 fn members_len(members: &DataList) -> u64
-    ensures { result ≡ capped (length (members_text (data_of members.now))) }
+    ensures { result ≡ capped_len (length (members_text (data_of members.now))) }
 {
     let mut len = 0;
     for (index, member) in members.as_slice().iter().enumerate() {
@@ -72,25 +72,25 @@ fn comma_len(index: usize) -> u64
 }
 
 fn boolean_len(boolean: bool) -> u64
-    ensures { result ≡ capped (length (data_text (Datum.boolean boolean))) }
+    ensures { result ≡ capped_len (length (data_text (Datum.boolean boolean))) }
 {
     1
 }
 
 fn integer_len(integer: i64) -> u64
-    ensures { result ≡ capped (length (data_text (Datum.integer integer))) }
+    ensures { result ≡ capped_len (length (data_text (Datum.integer integer))) }
 {
     1 + signed_decimal_len(integer)
 }
 
 fn unsigned_len(unsigned: u64) -> u64
-    ensures { result ≡ capped (length (data_text (Datum.unsigned unsigned))) }
+    ensures { result ≡ capped_len (length (data_text (Datum.unsigned unsigned))) }
 {
     1 + decimal_len(unsigned)
 }
 
 fn bits_len(bits: &BitString) -> u64
-    ensures { result ≡ capped (length (data_text (Datum.bits bits.now))) }
+    ensures { result ≡ capped_len (length (data_text (Datum.bits bits.now))) }
 {
     add_len(
         1 + decimal_len(bits.count() as u64),
@@ -99,27 +99,27 @@ fn bits_len(bits: &BitString) -> u64
 }
 
 fn real_len(real: &[u8; 4]) -> u64
-    ensures { result ≡ capped (length (data_text (Datum.real real.now))) }
+    ensures { result ≡ capped_len (length (data_text (Datum.real real.now))) }
 {
     add_len(1, hex_len(real))
 }
 
 fn octets_len(octets: &[u8]) -> u64
-    ensures { result ≡ capped (length (data_text (Datum.octets octets.now))) }
+    ensures { result ≡ capped_len (length (data_text (Datum.octets octets.now))) }
 {
     add_len(1, hex_len(octets))
 }
 
 fn visible_len(text: &[u8]) -> u64
     requires { length text.now ≤ 64 }
-    ensures { result ≡ capped (length (data_text (Datum.text text.now))) }
+    ensures { result ≡ capped_len (length (data_text (Datum.text text.now))) }
 {
     1 + escaped_len(text)
 }
 
 /// How many octets the digits of octets are, or the most.
 fn hex_len(octets: &[u8]) -> u64
-    ensures { result ≡ capped (2 * length octets.now) }
+    ensures { result ≡ capped_len (2 * length octets.now) }
 {
     MOST_LEN.min(2 * octets.len() as u64)
 }

@@ -1,7 +1,7 @@
 -- What a node keeps of the weight of its history and of the room in it stays right.
 use Rattle.std.proofs.Common.{◌≡◌, ℕ, ◌+◌, ◌^◌, ◌<◌, ◌≤◌, false, [], ◌∷◌, length, Option, Some}
 use Rattle.std.proofs.Common.{None, refl, ap, ◌∙◌, arith}
-use Rattle.plain_lengths.proofs.TextLengths.{length-decimal-some}
+use Rattle.plain_text.proofs.TextLengths.{length-decimal-some}
 use Rattle.tase_views.specs.declared.event.EventKind.{EventKind}
 use Rattle.tase_views.specs.declared.event.EventKind.TheVariants.{Open, Close, Stop}
 use Rattle.tase_views.specs.History.{Past, stop_in, is_stop}

@@ -4,3 +4,4 @@ pub mod Hex
 pub mod Unescape
 pub mod EscapedText
 pub mod Extended
+pub mod TextLengths

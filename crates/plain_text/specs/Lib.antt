@@ -4,3 +4,4 @@ pub mod Escaped
 pub mod Extends
 pub mod Lines
 pub mod Words
+pub mod Lengths

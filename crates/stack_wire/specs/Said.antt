@@ -2,7 +2,7 @@
 use Rattle.std.specs.Prelude.{ℕ, ◌≤◌, List, length}
 use Rattle.tpkt_cotp.specs.declared.limits.TheConstants.{TSDU_LIMIT}
 use Rattle.tpkt_cotp.specs.declared.turn.Turn.TheVariants.{Transfer}
-use Rattle.tpkt_cotp.specs.Streams.{tsdu, capped, SpellsMessage}
+use Rattle.tpkt_cotp.specs.Streams.{tsdu, stream_place, SpellsMessage}
 use Rattle.tpkt_cotp.specs.Written.{wire}
 
 -- as many octets as a TSDU may have
@@ -13,4 +13,4 @@ IsTsdu octets = (1 ≤ length octets) × (length octets ≤ TSDU_LIMIT)
 pub record IsSaid (octets : List ℕ) : Type 0 where
   pub fits : IsTsdu octets
   pub said : (size at : ℕ) → 128 ≤ size
-      → SpellsMessage Transfer at (tsdu (capped at) octets) (wire size octets)
+      → SpellsMessage Transfer at (tsdu (stream_place at) octets) (wire size octets)

@@ -4,7 +4,7 @@ use Rattle.std.proofs.Common.{Result, Ok, Err, refl, sym, ap, subst, ◌∙◌, 
 use Rattle.std.proofs.lemmas.List.{append-nil}
 use Rattle.tpkt_cotp.specs.declared.fault.CotpFault.{CotpFault}
 use Rattle.tpkt_cotp.specs.declared.message.TransportIn.{TransportIn}
-use Rattle.tpkt_cotp.specs.Streams.{Message, capped}
+use Rattle.tpkt_cotp.specs.Streams.{Message, stream_place}
 use Rattle.tpkt_cotp.specs.Seen.{message_seen}
 use Rattle.tpkt_cotp.specs.Lines.{Line, fed_to, fed}
 use Rattle.tpkt_cotp.specs.Places.{Placed, End, Stream, stopped, left}
@@ -220,7 +220,7 @@ broken_finish s u now before after lists = record {
 
 pub rest_finish : (s : State) (u : Line) (now : Option ℕ) (count : ℕ)
     (before mid after : List ℕ) → Lists s (state u now false) before mid → IsAtRest u
-    → count ≡ capped (u.place + length u.unread) - u.start → after ≡ mid ++ rest_line count
+    → count ≡ stream_place (u.place + length u.unread) - u.start → after ≡ mid ++ rest_line count
     → Finishes s before after false
 rest_finish s u now count before mid after lists rest counted is = record {
   added = lists.added ++ rest_line count;

@@ -3,7 +3,7 @@ use Rattle.std.specs.Prelude.{◌≡◌, ℕ, ◌+◌, ◌-◌, length, Bool, tr
 use Rattle.std.specs.Prelude.{Option, Some, None, Result, Ok, Err}
 use Rattle.tpkt_cotp.specs.declared.turn.Role.TheVariants.{Either}
 use Rattle.tpkt_cotp.specs.declared.fault.CotpFault.{CotpFault}
-use Rattle.tpkt_cotp.specs.Streams.{Message, capped}
+use Rattle.tpkt_cotp.specs.Streams.{Message, stream_place}
 use Rattle.tpkt_cotp.specs.Lines.{Line, IsSettled, fed}
 use Rattle.tpkt_cotp.specs.Places.{Placed, End, left, stopped, ended, stream_in}
 use Rattle.tpkt_cotp.specs.Goings.{stream_of}
@@ -96,7 +96,7 @@ state line context ended = record { line = line; context = context; ended = ende
 -- no message is left in a transport, and it may be fed
 pub record IsAtRest (t : Line) : Type 0 where
   pub settled : IsSettled t
-  pub rest : stream_of t ≡ ended (left (capped (t.place + length t.unread) - t.start))
+  pub rest : stream_of t ≡ ended (left (stream_place (t.place + length t.unread) - t.start))
 
 -- what was added for a message, of which this is told, and the id that counts after it
 abbrev pub IsListed : Result Told StackFault → ℕ → ℕ → Option ℕ → Option ℕ → List ℕ → List ℕ

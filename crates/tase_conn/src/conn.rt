@@ -4,7 +4,7 @@ ghost use Rattle.std.specs.Prelude.{IfOk, OnOk, OnErr, option_copied};
 ghost use Rattle.std.specs.Arc.{arc_value};
 ghost use Rattle.tpkt_cotp.specs.declared.limits.TheConstants.{PIECE_LIMIT};
 ghost use Rattle.tpkt_cotp.specs.declared.limits.TheConstants.{TPKT_LIMIT, TSDU_LIMIT};
-ghost use Rattle.tpkt_cotp.specs.Streams.{capped};
+ghost use Rattle.tpkt_cotp.specs.Streams.{stream_place};
 ghost use Rattle.bilateral.specs.Rows.{CentreRows};
 ghost use Rattle.stack_assoc.specs.Courses.{count_held};
 ghost use Rattle.stack_assoc.specs.Told.{Told};
@@ -204,7 +204,7 @@ impl Conn {
     /// sends them keeps to. A message that was read, and is to be acted on next, isn't counted.
     pub fn held(&self) -> u64
         ensures count { result
-            ≡ capped (count_held self.now.course + length (pending_of self.now)) }
+            ≡ stream_place (count_held self.now.course + length (pending_of self.now)) }
         // Beside those that are to be sent, a TSDU, less than a TPKT, and a piece.
         ensures few { result
             ≤ TSDU_LIMIT + (TPKT_LIMIT - 1) + PIECE_LIMIT + length (pending_of self.now) }

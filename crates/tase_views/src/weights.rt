@@ -1,7 +1,7 @@
 //! What events weigh in a history.
 ghost use Rattle.std.specs.Prelude.{◌≡◌, ◌≤◌, length, flat_map};
-ghost use Rattle.plain_lengths.specs.Lengths.{capped};
-ghost use Rattle.plain_lengths.specs.declared.lengths.TheConstants.{MOST_LEN};
+ghost use Rattle.plain_text.specs.Lengths.{capped_len};
+ghost use Rattle.plain_text.specs.declared.lengths.TheConstants.{MOST_LEN};
 ghost use Rattle.tase_points.specs.declared.body.Body.{Body as AnyBody};
 ghost use Rattle.tase_views.specs.declared.event.EventKind.TheVariants.{Update};
 ghost use Rattle.tase_views.specs.declared.call.CallKind.{CallKind as AnyCall};
@@ -15,7 +15,7 @@ use crate::event::{Event, EventKind};
 use ber_values::Visible;
 use mms_data::{MmsData, Name, Scope};
 use mms_text::{data_text_len, name_text_len, scope_text_len};
-use plain_lengths::{add_len, decimal_len, escaped_len, signed_decimal_len};
+use plain_text::{add_len, decimal_len, escaped_len, signed_decimal_len};
 use tase_points::{Body, PointValue};
 
 /// What an event weighs: the number of octets of its text, or 2^62 where that is longer.
@@ -72,7 +72,7 @@ fn real_len(real: &[u8; 4]) -> u64
 
 /// How many octets the text of a call has, or 2^62 where it has as many or more.
 fn call_len(call: &Call) -> u64
-    ensures { result ≡ capped (length (call_text call.now)) }
+    ensures { result ≡ capped_len (length (call_text call.now)) }
 {
     match call.kind() {
         CallKind::Identify => 8,
@@ -115,7 +115,7 @@ fn set_verb_len(echo: bool) -> u64
 
 /// Values, each after a space.
 fn values_len(values: &[MmsData]) -> u64
-    ensures { result ≡ capped (length (flat_map next_value values.now)) }
+    ensures { result ≡ capped_len (length (flat_map next_value values.now)) }
 {
     let mut len = 0;
     for value in values {
@@ -126,7 +126,7 @@ fn values_len(values: &[MmsData]) -> u64
 
 /// Names, each after a space.
 fn names_len(names: &[Name]) -> u64
-    ensures { result ≡ capped (length (flat_map next_name names.now)) }
+    ensures { result ≡ capped_len (length (flat_map next_name names.now)) }
 {
     let mut len = 0;
     for name in names {
@@ -138,7 +138,7 @@ fn names_len(names: &[Name]) -> u64
 /// Names with their values, each after a space.
 fn assigned_len(names: &[Name], values: &[MmsData]) -> u64
     requires { length values.now ≡ length names.now }
-    ensures { result ≡ capped (length (assigned_text names.now values.now)) }
+    ensures { result ≡ capped_len (length (assigned_text names.now values.now)) }
 {
     let mut len = 0;
     for (place, name) in names.iter().enumerate() {
@@ -149,7 +149,8 @@ fn assigned_len(names: &[Name], values: &[MmsData]) -> u64
 }
 
 fn list_len(class: i64, scope: &Scope, after: &Option<Visible>) -> u64
-    ensures { result ≡ capped (length (call_text (AnyCall.NameList class scope.now after.now))) }
+    ensures { result ≡ capped_len (length (call_text
+        (AnyCall.NameList class scope.now after.now))) }
 {
     7 + signed_decimal_len(class) + scope_text_len(scope) + after_len(after)
 }
@@ -165,7 +166,7 @@ fn after_len(after: &Option<Visible>) -> u64
 }
 
 fn odd_len(kind: u8, code: u8) -> u64
-    ensures { result ≡ capped (length (call_text (AnyCall.Odd kind code))) }
+    ensures { result ≡ capped_len (length (call_text (AnyCall.Odd kind code))) }
 {
     5 + decimal_len(u64::from(kind)) + decimal_len(u64::from(code))
 }

@@ -10,7 +10,7 @@ use Rattle.tpkt_cotp.specs.declared.turn.Turn.{Turn}
 use Rattle.tpkt_cotp.specs.declared.turn.Turn.TheVariants as turns
 use Rattle.tpkt_cotp.specs.Tpdus.{Tpdu, part, Tpkt, SpellsTpkt, request, confirm, disconnect}
 use Rattle.tpkt_cotp.specs.Readings.{Read, tpkt_in}
-use Rattle.tpkt_cotp.specs.Streams.{Message, tsdu, Section, IsSection, capped, held_of, octets_of}
+use Rattle.tpkt_cotp.specs.Streams.{Message, tsdu, Section, IsSection, stream_place, held_of, octets_of}
 use Rattle.tpkt_cotp.specs.Streams.{Opens, Comes, message_of, SpellsMessage, SpellsMessages}
 use Rattle.tpkt_cotp.specs.Streams.{BreaksRule, IsRest, turn_after, Says, Stops}
 use Rattle.tpkt_cotp.specs.Written.{part_octets, parts_octets, joined, IsCut}
@@ -244,7 +244,7 @@ octets_map [] = refl
 octets_map (p ∷ ps) = ap (λ (os : List ℕ). part_octets false p ++ os) (octets_map ps)
 
 pub written_said : (size at : ℕ) (octets written : List ℕ) → IsCut size octets written
-    → length octets ≤ 65531 → SpellsMessage turns.Transfer at (tsdu (capped at) octets) written
+    → length octets ≤ 65531 → SpellsMessage turns.Transfer at (tsdu (stream_place at) octets) written
 written_said size at octets written c few =
     let held = held_map c.parts in
     let h = ap length held in
@@ -269,7 +269,7 @@ written_said size at octets written c few =
           λ e. let s = c.some in omega arith,
         );
       };
-      ends = ap (λ (os : List ℕ). Some (tsdu (capped at) os))
+      ends = ap (λ (os : List ℕ). Some (tsdu (stream_place at) os))
           (ap (λ (os : List ℕ). os ++ c.last) held ∙ sym c.are);
     }
 

@@ -9,7 +9,7 @@ use Rattle.tpkt_cotp.specs.declared.turn.Turn.{Turn}
 use Rattle.tpkt_cotp.specs.declared.turn.Turn.TheVariants as turns
 use Rattle.tpkt_cotp.specs.Tpdus.{Tpkt}
 use Rattle.tpkt_cotp.specs.Readings.{Read, tpkt_in}
-use Rattle.tpkt_cotp.specs.Streams.{Message, capped, message_of, part_after}
+use Rattle.tpkt_cotp.specs.Streams.{Message, stream_place, message_of, part_after}
 use Rattle.tpkt_cotp.specs.Seen.{message_seen}
 use Rattle.tpkt_cotp.specs.Lines.{Line, fed_to, fed}
 use Rattle.tpkt_cotp.specs.Steps.{behind_part, behind_message, StepsPart, StepsMessage}
@@ -78,7 +78,7 @@ stream_from-read turn start place held (o ∷ octets) =
         (λ p start next held. stream_from turns.Transfer start next held (p.size - 1) octets) r
         ≡ by_tpkt start place held (o ∷ octets) (goes_behind (o ∷ octets)) r
     here (Ok (Some p)) read =
-        behind_same start (capped (place + p.size)) (part_after held p.tpdu)
+        behind_same start (stream_place (place + p.size)) (part_after held p.tpdu)
         (λ start next held. stream_from turns.Transfer start next held (p.size - 1) octets)
         (goes_behind (o ∷ octets) p)
         (λ s n l. stream_from-passed turns.Transfer s n l (p.size - 1) octets
@@ -127,7 +127,7 @@ stream_of-stopped t f is =
 -- by a TPKT that is whole, whatever follows
 by_whole : (old : Line) (more : List ℕ) (p : Tpkt) → old.fault ≡ None
     → tpkt_in old.turn (length old.held) old.unread ≡ Ok (Some p)
-    → stream_of (fed old more) ≡ behind_tpkt old.start (capped (old.place + p.size))
+    → stream_of (fed old more) ≡ behind_tpkt old.start (stream_place (old.place + p.size))
     (part_after old.held p.tpdu)
     (λ start next held. stream_from turns.Transfer start next held 0 (drop p.size old.unread ++ more))
     (message_of old.start old.held p.tpdu)
@@ -137,7 +137,7 @@ by_whole old more p clear read =
     ∙ ap (by_tpkt old.start old.place old.held (old.unread ++ more)
     (goes_behind (old.unread ++ more)))
     (tpkt_more old.turn (length old.held) old.unread more p read)
-    ∙ behind_same old.start (capped (old.place + p.size)) (part_after old.held p.tpdu)
+    ∙ behind_same old.start (stream_place (old.place + p.size)) (part_after old.held p.tpdu)
     (goes_behind (old.unread ++ more) p)
     (λ start next held. stream_from turns.Transfer start next held 0 (drop p.size old.unread ++ more))
     (λ s n l. ap (λ (os : List ℕ). stream_from turns.Transfer s n l 0 os)
@@ -151,7 +151,7 @@ steps_part old new clear s more =
     let p = s.tpkt in
     subst (λ (t : Line). stream_of (fed old more) ≡ stream_of (fed t more)) (sym s.is)
     (by_whole old more p clear s.read
-    ∙ ap (behind_tpkt old.start (capped (old.place + p.size)) (part_after old.held p.tpdu)
+    ∙ ap (behind_tpkt old.start (stream_place (old.place + p.size)) (part_after old.held p.tpdu)
     (λ start next held. stream_from turns.Transfer start next held 0 (drop p.size old.unread ++ more)))
     s.ends
     ∙ sym (stream_of-clear (behind_part old p) more clear))
@@ -164,11 +164,11 @@ steps_message old new m clear s =
     ≡ with_message (record { message = message_seen m; place = old.start; next = t.start })
     (stream_of (fed t more))) (sym s.is)
     (by_whole old more p clear s.read
-    ∙ ap (behind_tpkt old.start (capped (old.place + p.size)) (part_after old.held p.tpdu)
+    ∙ ap (behind_tpkt old.start (stream_place (old.place + p.size)) (part_after old.held p.tpdu)
     (λ start next held. stream_from turns.Transfer start next held 0 (drop p.size old.unread ++ more)))
     s.ends
     ∙ ap (with_message (record
-    { message = message_seen m; place = old.start; next = capped (old.place + p.size) }))
+    { message = message_seen m; place = old.start; next = stream_place (old.place + p.size) }))
     (sym (stream_of-clear (behind_message old p) more clear)))
 
 -- where no whole TPKT is left

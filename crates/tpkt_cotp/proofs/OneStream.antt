@@ -8,7 +8,7 @@ use Rattle.tpkt_cotp.specs.declared.turn.Turn.{Turn}
 use Rattle.tpkt_cotp.specs.declared.turn.Turn.TheVariants as turns
 use Rattle.tpkt_cotp.specs.Tpdus.{Tpdu, Tpkt, disconnect}
 use Rattle.tpkt_cotp.specs.Readings.{Read, tpkt_of}
-use Rattle.tpkt_cotp.specs.Streams.{Message, capped, held_of, octets_of, message_of, SpellsMessage}
+use Rattle.tpkt_cotp.specs.Streams.{Message, stream_place, held_of, octets_of, message_of, SpellsMessage}
 use Rattle.tpkt_cotp.specs.Streams.{SpellsMessages, BreaksRule, turn_after, Says, Stops}
 use Rattle.tpkt_cotp.proofs.Standing.{later}
 use Rattle.tpkt_cotp.proofs.OneReading.{one_end, message_ends, fault_ends, size_of}
@@ -56,7 +56,7 @@ fault_no_message turn at octets f b m first more is s =
     let e = same.1 in absurd cc
 
 abbrev faulted : ℕ → CotpFault → CotpFault
-faulted place h = record { place = capped (place + h.place); why = h.why }
+faulted place h = record { place = stream_place (place + h.place); why = h.why }
 
 abbrev failed : CotpFault → Read Tpkt
 failed f = Err f

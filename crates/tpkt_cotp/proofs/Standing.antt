@@ -13,7 +13,7 @@ use Rattle.tpkt_cotp.specs.declared.turn.Kind.TheVariants as kinds
 use Rattle.tpkt_cotp.specs.Turns.{may_come}
 use Rattle.tpkt_cotp.specs.Tpdus.{Tpdu, request, confirm, disconnect, part, SpellsTpkt}
 use Rattle.tpkt_cotp.specs.Readings.{tpkt_in}
-use Rattle.tpkt_cotp.specs.Streams.{Message, tsdu, capped, Section, IsSection, held_of, octets_of}
+use Rattle.tpkt_cotp.specs.Streams.{Message, tsdu, stream_place, Section, IsSection, held_of, octets_of}
 use Rattle.tpkt_cotp.specs.Streams.{Comes, message_of, part_after, SpellsMessage, SpellsMessages}
 use Rattle.tpkt_cotp.specs.Streams.{turn_after, Stops}
 use Rattle.tpkt_cotp.specs.Lines.{Line, Reads}
@@ -22,20 +22,20 @@ use Rattle.tpkt_cotp.proofs.Exact.{Begins}
 use Rattle.tpkt_cotp.proofs.ExactTpkt.{tpkt_found}
 use Rattle.tpkt_cotp.proofs.FaultReading.{fault_found}
 
-pub capped-add : (a b : ℕ) → capped (capped a + b) ≡ capped (a + b)
-capped-add a b = omega arith
+pub stream_place-add : (a b : ℕ) → stream_place (stream_place a + b) ≡ stream_place (a + b)
+stream_place-add a b = omega arith
 
-capped_twice : (a : ℕ) → capped (capped a) ≡ capped a
-capped_twice a = omega arith
+placed_twice : (a : ℕ) → stream_place (stream_place a) ≡ stream_place a
+placed_twice a = omega arith
 
-pub message_of-capped : (at : ℕ) (held : List ℕ) (tpdu : Tpdu)
-    → message_of (capped at) held tpdu ≡ message_of at held tpdu
-message_of-capped at held (request r) = refl
-message_of-capped at held (confirm c) = refl
-message_of-capped at held disconnect = refl
-message_of-capped at held (part true more) = ap (λ (place : ℕ). Some (tsdu place (held ++ more)))
-    (capped_twice at)
-message_of-capped at held (part false more) = refl
+pub message_of-placed : (at : ℕ) (held : List ℕ) (tpdu : Tpdu)
+    → message_of (stream_place at) held tpdu ≡ message_of at held tpdu
+message_of-placed at held (request r) = refl
+message_of-placed at held (confirm c) = refl
+message_of-placed at held disconnect = refl
+message_of-placed at held (part true more) = ap (λ (place : ℕ). Some (tsdu place (held ++ more)))
+    (placed_twice at)
+message_of-placed at held (part false more) = refl
 
 -- a TPDU that ends no message is a part
 pub no_end : (at : ℕ) (held : List ℕ) (tpdu : Tpdu) → message_of at held tpdu ≡ None
@@ -152,14 +152,14 @@ stands_part role heard given old new r s =
           ∙ sym held;
       start_is = ap (λ (l : Line). l.start) s.is ∙ r.start_is;
       place_is =
-          let at : capped (old.place + s.tpkt.size) ≡ capped
+          let at : stream_place (old.place + s.tpkt.size) ≡ stream_place
           (length r.whole + length (octets_of r.sections) + s.tpkt.size) = ap
-          (λ (n : ℕ). capped (n + s.tpkt.size)) r.place_is
-          ∙ capped-add (length r.whole + length (octets_of r.sections)) s.tpkt.size in
+          (λ (n : ℕ). stream_place (n + s.tpkt.size)) r.place_is
+          ∙ stream_place-add (length r.whole + length (octets_of r.sections)) s.tpkt.size in
           let e : length r.whole + length (octets_of r.sections) + s.tpkt.size ≡ length r.whole +
           length (octets_of (r.sections ++ section ∷ [])) = let l = ap length octets in let m =
           length-append (octets_of r.sections) b.spelling in omega (arith, l, m, b.size) in
-          ap (λ (l : Line). l.place) s.is ∙ at ∙ ap capped e;
+          ap (λ (l : Line). l.place) s.is ∙ at ∙ ap stream_place e;
     }
 
 pub stands_message : (role : Role) (heard : List ℕ) (given : List Message) (old new : Line)
@@ -176,7 +176,7 @@ stands_message role heard given old new m r s =
     (λ (h : List ℕ). Comes turn (length h) s.tpkt.tpdu) r.held_is
     (subst (λ (t : Turn). Comes t (length old.held) s.tpkt.tpdu) r.turn_is b.comes) in
     let ends : message_of (length r.whole) (held_of r.sections) s.tpkt.tpdu ≡ Some m =
-    sym (message_of-capped (length r.whole) (held_of r.sections) s.tpkt.tpdu)
+    sym (message_of-placed (length r.whole) (held_of r.sections) s.tpkt.tpdu)
     ∙ ap (λ (n : ℕ). message_of n (held_of r.sections) s.tpkt.tpdu) (sym r.start_is)
     ∙ ap (λ (h : List ℕ). message_of old.start h s.tpkt.tpdu) (sym r.held_is)
     ∙ s.ends in
@@ -200,10 +200,10 @@ stands_message role heard given old new m r s =
     let size : length (r.whole ++ first) ≡ length r.whole + length (octets_of r.sections) +
     s.tpkt.size = let l = length-append r.whole first in let n = length-append
     (octets_of r.sections) b.spelling in omega (arith, l, n, b.size) in
-    let at : capped (old.place + s.tpkt.size) ≡ capped (length (r.whole ++ first)) = ap
-    (λ (n : ℕ). capped (n + s.tpkt.size)) r.place_is
-    ∙ capped-add (length r.whole + length (octets_of r.sections)) s.tpkt.size
-    ∙ ap capped (sym size) in
+    let at : stream_place (old.place + s.tpkt.size) ≡ stream_place (length (r.whole ++ first)) = ap
+    (λ (n : ℕ). stream_place (n + s.tpkt.size)) r.place_is
+    ∙ stream_place-add (length r.whole + length (octets_of r.sections)) s.tpkt.size
+    ∙ ap stream_place (sym size) in
     record {
       whole = r.whole ++ first;
       pending = b.rest;
@@ -223,7 +223,7 @@ stands_message role heard given old new m r s =
       held_is = ap (λ (l : Line). l.held) s.is;
       start_is = ap (λ (l : Line). l.start) s.is ∙ at;
       place_is = let e : length (r.whole ++ first) + 0 ≡ length (r.whole ++ first) = omega arith in
-          ap (λ (l : Line). l.place) s.is ∙ at ∙ ap capped (sym e);
+          ap (λ (l : Line). l.place) s.is ∙ at ∙ ap stream_place (sym e);
     }
 
 abbrev faulted : ℕ → CotpFault → CotpFault
@@ -247,7 +247,7 @@ stands_broken role heard given old new f r s =
             (ap (λ (t : Turn). tpkt_in t (length (held_of r.sections)) old.unread) (sym r.turn_is)
             ∙ ap (λ (h : List ℕ). tpkt_in old.turn (length h) old.unread) (sym r.held_is) ∙ s.read);
         is = s.fault ∙ ap (λ (n : ℕ). faulted n s.broken)
-            (ap (λ (n : ℕ). capped (n + s.broken.place)) r.place_is
-            ∙ capped-add (length r.whole + length (octets_of r.sections)) s.broken.place);
+            (ap (λ (n : ℕ). stream_place (n + s.broken.place)) r.place_is
+            ∙ stream_place-add (length r.whole + length (octets_of r.sections)) s.broken.place);
       };
     }

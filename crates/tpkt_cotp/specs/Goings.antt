@@ -2,7 +2,7 @@
 use Rattle.std.specs.Prelude.{◌≡◌, ℕ, ◌+◌, ◌-◌, List, length, Option, Some, None, Result, Ok, Err}
 use Rattle.tpkt_cotp.specs.declared.fault.CotpFault.{CotpFault}
 use Rattle.tpkt_cotp.specs.declared.message.TransportIn.{TransportIn}
-use Rattle.tpkt_cotp.specs.Streams.{capped}
+use Rattle.tpkt_cotp.specs.Streams.{stream_place}
 use Rattle.tpkt_cotp.specs.Seen.{message_seen}
 use Rattle.tpkt_cotp.specs.Lines.{Line, IsSettled, fed}
 use Rattle.tpkt_cotp.specs.Places.{Stream, left, stopped, ended, with_message, stream_from}
@@ -28,7 +28,7 @@ HandsOut old (Ok (Some m)) new = (more : List ℕ) → stream_of (fed old more)
     ≡ with_message (record { message = message_seen m; place = old.start; next = new.start })
     (stream_of (fed new more))
 HandsOut old (Ok None) new = ((more : List ℕ) → stream_of (fed old more) ≡ stream_of (fed new more))
-    × (stream_of new ≡ ended (left (capped (new.place + length new.unread) - new.start)))
+    × (stream_of new ≡ ended (left (stream_place (new.place + length new.unread) - new.start)))
     × IsSettled new
 HandsOut old (Err f) new = (more : List ℕ) → (stream_of (fed old more) ≡ ended (stopped f))
     × (stream_of (fed new more) ≡ ended (stopped f))

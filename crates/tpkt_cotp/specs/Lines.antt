@@ -9,7 +9,7 @@ use Rattle.tpkt_cotp.specs.declared.turn.Role.{Role}
 use Rattle.tpkt_cotp.specs.declared.turn.Turn.{Turn}
 use Rattle.tpkt_cotp.specs.declared.turn.Turn.TheVariants as turns
 use Rattle.tpkt_cotp.specs.declared.walk.Walk.{Walk}
-use Rattle.tpkt_cotp.specs.Streams.{Message, capped, Section, held_of, octets_of, Opens}
+use Rattle.tpkt_cotp.specs.Streams.{Message, stream_place, Section, held_of, octets_of, Opens}
 use Rattle.tpkt_cotp.specs.Streams.{IsPartial, SpellsMessages, turn_after, Says, Stops}
 use Rattle.tpkt_cotp.specs.Seen.{message_seen}
 
@@ -60,8 +60,8 @@ pub record Reads (role : Role) (heard : List ℕ) (given : List Message) (t : Li
   pub opens : Opens (turn_after (turns.Opening role) given) sections pending t.unread
   pub turn_is : t.turn ≡ turn_after (turns.Opening role) given
   pub held_is : t.held ≡ held_of sections
-  pub start_is : t.start ≡ capped (length whole)
-  pub place_is : t.place ≡ capped (length whole + length (octets_of sections))
+  pub start_is : t.start ≡ stream_place (length whole)
+  pub place_is : t.place ≡ stream_place (length whole + length (octets_of sections))
 
 -- fed these octets, and with these messages handed out
 abbrev pub Stands : Role → List ℕ → List Message → Line → Type 0

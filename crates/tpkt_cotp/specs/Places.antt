@@ -7,7 +7,7 @@ use Rattle.tpkt_cotp.specs.declared.turn.Turn.{Turn}
 use Rattle.tpkt_cotp.specs.declared.turn.Turn.TheVariants as turns
 use Rattle.tpkt_cotp.specs.Tpdus.{Tpkt}
 use Rattle.tpkt_cotp.specs.Readings.{Read, tpkt_in}
-use Rattle.tpkt_cotp.specs.Streams.{Message, capped, message_of, part_after, SpellsMessage}
+use Rattle.tpkt_cotp.specs.Streams.{Message, stream_place, message_of, part_after, SpellsMessage}
 use Rattle.tpkt_cotp.specs.Streams.{BreaksRule, IsRest, turn_after}
 
 -- a message, the place of its first octet, and of the octet behind its last
@@ -34,13 +34,13 @@ abbrev pub SpellsPlaced : Turn → ℕ → List Placed → List ℕ → Type 0
 SpellsPlaced turn at [] octets = octets ≡ []
 SpellsPlaced turn at (p ∷ ps) octets = (first : List ℕ) × (more : List ℕ)
     × (octets ≡ first ++ more) × SpellsMessage turn at p.message first
-    × (p.place ≡ capped at) × (p.next ≡ capped (at + length first))
+    × (p.place ≡ stream_place at) × (p.next ≡ stream_place (at + length first))
     × SpellsPlaced turns.Transfer (at + length first) ps more
 
 -- what stands behind the messages, from a place on
 abbrev pub EndsWith : Turn → ℕ → List ℕ → End → Type 0
 EndsWith turn at rest (left count) = IsRest turn at rest
-    × (count ≡ capped (at + length rest) - capped at)
+    × (count ≡ stream_place (at + length rest) - stream_place at)
 EndsWith turn at rest (stopped f) = BreaksRule turn at rest f
 
 -- all octets of a stream are this: messages where they stand, and the end behind them
@@ -74,18 +74,18 @@ behind_tpkt start next held goes (Some m) =
 -- by what stands at a place: a TPKT, none that is whole, or a fault
 abbrev pub by_tpkt : ℕ → ℕ → List ℕ → List ℕ → (Tpkt → Goes) → Read Tpkt → Stream
 by_tpkt start place held octets goes (Ok (Some p)) =
-    behind_tpkt start (capped (place + p.size)) (part_after held p.tpdu) (goes p)
+    behind_tpkt start (stream_place (place + p.size)) (part_after held p.tpdu) (goes p)
     (message_of start held p.tpdu)
 by_tpkt start place held octets goes (Ok None) =
-    ended (left (capped (place + length octets) - start))
+    ended (left (stream_place (place + length octets) - start))
 by_tpkt start place held octets goes (Err f) =
-    ended (stopped (record { place = capped (place + f.place); why = f.why }))
+    ended (stopped (record { place = stream_place (place + f.place); why = f.why }))
 
 -- how a stream goes on: what has come before, where its message begins, the place of the octets,
 -- what is held of a TSDU; so many of the octets are passed over
 unfoldable pub stream_from : Turn → ℕ → ℕ → List ℕ → ℕ → List ℕ → Stream
 stream_from turn start place held passed [] =
-    ended (left (capped (place + 0) - start))
+    ended (left (stream_place (place + 0) - start))
 stream_from turn start place held (suc passed) (_ ∷ octets) =
     stream_from turn start place held passed octets
 stream_from turn start place held zero (o ∷ octets) =

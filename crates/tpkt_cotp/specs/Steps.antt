@@ -7,7 +7,7 @@ use Rattle.tpkt_cotp.specs.declared.walk.Step.TheVariants as steps
 use Rattle.tpkt_cotp.specs.declared.turn.Turn.TheVariants as turns
 use Rattle.tpkt_cotp.specs.Tpdus.{Tpkt}
 use Rattle.tpkt_cotp.specs.Readings.{tpkt_in}
-use Rattle.tpkt_cotp.specs.Streams.{Message, capped, message_of, part_after}
+use Rattle.tpkt_cotp.specs.Streams.{Message, stream_place, message_of, part_after}
 use Rattle.tpkt_cotp.specs.Seen.{message_seen}
 use Rattle.tpkt_cotp.specs.Lines.{Line}
 
@@ -15,7 +15,7 @@ use Rattle.tpkt_cotp.specs.Lines.{Line}
 abbrev pub behind_part : Line → Tpkt → Line
 behind_part t p = record t {
   turn = turns.Transfer;
-  place = capped (t.place + p.size);
+  place = stream_place (t.place + p.size);
   held = part_after t.held p.tpdu;
   unread = drop p.size t.unread;
 }
@@ -23,8 +23,8 @@ behind_part t p = record t {
 abbrev pub behind_message : Line → Tpkt → Line
 behind_message t p = record t {
   turn = turns.Transfer;
-  place = capped (t.place + p.size);
-  start = capped (t.place + p.size);
+  place = stream_place (t.place + p.size);
+  start = stream_place (t.place + p.size);
   held = [];
   unread = drop p.size t.unread;
 }
@@ -49,7 +49,7 @@ pub record StepsNowhere (old new : Line) : Type 0 where
 pub record StepsBroken (old : Line) (f : CotpFault) (new : Line) : Type 0 where
   pub broken : CotpFault
   pub read : tpkt_in old.turn (length old.held) old.unread ≡ Err broken
-  pub fault : f ≡ record { place = capped (old.place + broken.place); why = broken.why }
+  pub fault : f ≡ record { place = stream_place (old.place + broken.place); why = broken.why }
   pub is : new ≡ record old { unread = []; fault = Some f }
 
 abbrev pub Steps : Line → Step → Line → Type 0

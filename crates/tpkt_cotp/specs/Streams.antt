@@ -21,8 +21,8 @@ pub data Message : Type 0 where
   tsdu : ℕ → List ℕ → Message
 
 -- places count the octets of the stream, as far as 64 bits can
-abbrev pub capped : ℕ → ℕ
-capped place = min place (2 ^ 64 - 1)
+abbrev pub stream_place : ℕ → ℕ
+stream_place place = min place (2 ^ 64 - 1)
 
 -- a TPKT with a part of a TSDU that isn't its last
 pub record Section : Type 0 where
@@ -62,7 +62,7 @@ abbrev pub message_of : ℕ → List ℕ → Tpdu → Option Message
 message_of at held (request r) = Some (asks r)
 message_of at held (confirm c) = Some (confirms c)
 message_of at held disconnect = Some gone
-message_of at held (part true more) = Some (tsdu (capped at) (held ++ more))
+message_of at held (part true more) = Some (tsdu (stream_place at) (held ++ more))
 message_of at held (part false more) = None
 
 -- what is held of a TSDU behind a TPDU
@@ -88,7 +88,7 @@ pub record BreaksRule (turn : Turn) (at : ℕ) (octets : List ℕ) (f : CotpFaul
   pub broken : CotpFault
   pub breaks : TpktFault turn (length (held_of sections)) rest broken
   pub is : f ≡ record {
-    place = capped (at + length (octets_of sections) + broken.place);
+    place = stream_place (at + length (octets_of sections) + broken.place);
     why = broken.why;
   }
 

@@ -6,7 +6,7 @@ ghost use Rattle.tpkt_cotp.specs.declared.turn.Role.{Role};
 ghost use Rattle.tpkt_cotp.specs.declared.turn.Turn.{Turn};
 ghost use Rattle.tpkt_cotp.specs.declared.turn.Turn.TheVariants.{Transfer};
 ghost use Rattle.tpkt_cotp.specs.declared.tpdu.ConnectRequest.{ConnectRequest};
-ghost use Rattle.tpkt_cotp.specs.Streams.{Message, tsdu, capped, SpellsMessage, Says, Stops};
+ghost use Rattle.tpkt_cotp.specs.Streams.{Message, tsdu, stream_place, SpellsMessage, Says, Stops};
 ghost use Rattle.tpkt_cotp.specs.Places.{Stream, left, stopped, messages_of, IsStream, stream_in};
 ghost use Rattle.tpkt_cotp.specs.Written.{IsCut, IsOffer, request_octets, written_request, wire};
 ghost use Rattle.tpkt_cotp.specs.Written.{confirm_octets, answered};
@@ -87,7 +87,7 @@ pub fn one_cut()
 pub fn written_is_said()
     ensures { (size at : ℕ) (octets : List ℕ) → 4 ≤ size → 0 < length octets
         → length octets ≤ TSDU_LIMIT
-        → SpellsMessage Transfer at (tsdu (capped at) octets) (wire size octets) }
+        → SpellsMessage Transfer at (tsdu (stream_place at) octets) (wire size octets) }
 {}
 
 /// What is written for a request and for the answer to an offer is spelled so.

@@ -6,7 +6,7 @@ ghost use Rattle.tpkt_cotp.specs.Streams.{Message};
 ghost use Rattle.tpkt_cotp.specs.Seen.{message_seen};
 ghost use Rattle.tpkt_cotp.specs.Sound.{IsSound};
 ghost use Rattle.tpkt_cotp.specs.Lines.{Line, IsSettled, HoldsFew, Stands, Answers, fed};
-ghost use Rattle.tpkt_cotp.specs.Streams.{capped};
+ghost use Rattle.tpkt_cotp.specs.Streams.{stream_place};
 ghost use Rattle.tpkt_cotp.specs.Places.{stream_in};
 ghost use Rattle.tpkt_cotp.specs.Goings.{stream_of, HandsOut, KeepsStart};
 
@@ -160,7 +160,7 @@ impl Transport {
 
     /// The octets of the stream from there on, as far as they were fed.
     pub fn left(&self) -> u64
-        ensures { result ≡ capped (self.now.place + length self.now.unread) - self.now.start }
+        ensures { result ≡ stream_place (self.now.place + length self.now.unread) - self.now.start }
     {
         let end = self.place.saturating_add(self.unread.len() as u64);
         end.saturating_sub(self.start)

@@ -2,7 +2,7 @@
 ghost use Rattle.std.specs.Prelude.{◌≡◌, ℕ, ◌+◌, ◌<◌, List, length, take, drop, IfOk, OnOk, OnErr};
 ghost use Rattle.std.specs.Prelude.{OnSome, IfSome, None, []};
 ghost use Rattle.tpkt_cotp.specs.declared.turn.Role.{Role};
-ghost use Rattle.tpkt_cotp.specs.Streams.{Message, capped};
+ghost use Rattle.tpkt_cotp.specs.Streams.{Message, stream_place};
 ghost use Rattle.tpkt_cotp.specs.Lines.{Line, IsWithin, line_of, Stands, Answers};
 ghost use Rattle.tpkt_cotp.specs.Steps.{Steps};
 ghost use Rattle.tpkt_cotp.specs.Goings.{HandsOut, KeepsStart};
@@ -40,7 +40,7 @@ pub(crate) enum Step {
 }
 
 fn shifted(place: u64, by: u64) -> u64
-    ensures { result ≡ capped (place + by) }
+    ensures { result ≡ stream_place (place + by) }
 {
     place.saturating_add(by)
 }

@@ -1,6 +1,6 @@
 -- A container's length, by that of its members; a value is deeper than its members.
 use Rattle.std.proofs.Common.{◌≡◌, ◌<◌, length, sym, ap, ◌∙◌, arith}
-use Rattle.plain_lengths.specs.Lengths.{capped}
+use Rattle.plain_text.specs.Lengths.{capped_len}
 use Rattle.mms_data.specs.Datum.{data_of, depth, deepest, structure, array}
 use Rattle.mms_data.specs.DatumOf.{datum_of}
 use Rattle.mms_text.specs.Texts.{data_text, members_text}
@@ -30,7 +30,7 @@ text_len-returns-in-Structure t c =
     ∙ sym c.kind.ensures in
     c.add_len.ensures
     ∙ bracketed-length 123 125 (members_text ds) c.members_len.result c.members_len.ensures
-    ∙ ap (λ d. capped (length (data_text d))) e
+    ∙ ap (λ d. capped_len (length (data_text d))) e
 
 pub text_len-returns-in-Array : goal.text_len-returns-in-Array
 text_len-returns-in-Array t c =
@@ -39,4 +39,4 @@ text_len-returns-in-Array t c =
     c.add_len-in-Array.ensures
     ∙ bracketed-length 91 93 (members_text ds) c.members_len-in-Array.result
     c.members_len-in-Array.ensures
-    ∙ ap (λ d. capped (length (data_text d))) e
+    ∙ ap (λ d. capped_len (length (data_text d))) e

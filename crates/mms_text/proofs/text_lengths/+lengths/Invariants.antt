@@ -1,6 +1,6 @@
 -- The length of the members so far; a value is deeper than its members.
 use Rattle.std.proofs.Common.{◌≡◌, ◌+◌, ◌*◌, length, take}
-use Rattle.plain_lengths.specs.Lengths.{capped}
+use Rattle.plain_text.specs.Lengths.{capped_len}
 use Rattle.mms_data.specs.Datum.{data_of, depth, deepest}
 use Rattle.mms_text.specs.Texts.{members_text}
 use Rattle.mms_text.proofs.text_lengths.+lengths.Given as goal
@@ -13,4 +13,4 @@ decreases-members_len l = 2 * deepest (data_of l.members.now) + 1
 
 abbrev pub invariant-members_len-loop-index : goal.invariant-members_len-loop-index
 invariant-members_len-loop-index l =
-    l.len ≡ capped (length (members_text (data_of (take l.index l.members))))
+    l.len ≡ capped_len (length (members_text (data_of (take l.index l.members))))

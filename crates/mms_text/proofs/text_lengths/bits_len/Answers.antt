@@ -2,7 +2,7 @@ use Rattle.std.proofs.Common.{◌∷◌, ◌++◌, [], ap, arith}
 use Rattle.std.specs.Prelude.{decimal, length}
 use Rattle.std.proofs.lemmas.List.{length-append}
 use Rattle.plain_text.specs.Octets.{hex_text}
-use Rattle.plain_lengths.proofs.TextLengths.{length-hex_text}
+use Rattle.plain_text.proofs.TextLengths.{length-hex_text}
 use Rattle.mms_text.proofs.text_lengths.bits_len.Goals as goal
 
 pub returns : goal.returns

@@ -1,5 +1,5 @@
 use Rattle.std.proofs.Common.{arith}
-use Rattle.plain_lengths.proofs.TextLengths.{length-hex_text}
+use Rattle.plain_text.proofs.TextLengths.{length-hex_text}
 use Rattle.mms_text.proofs.text_lengths.octets_len.Goals as goal
 
 pub returns : goal.returns

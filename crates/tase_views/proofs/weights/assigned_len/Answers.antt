@@ -1,5 +1,5 @@
 use Rattle.std.proofs.Common.{length, take, take_all, ap, ◌∙◌, arith}
-use Rattle.plain_lengths.specs.Lengths.{capped}
+use Rattle.plain_text.specs.Lengths.{capped_len}
 use Rattle.mms_text.specs.Texts.{name_text, data_text}
 use Rattle.tase_views.specs.EventTexts.{assigned_text}
 use Rattle.tase_views.proofs.TextLengths.{length-assigned}
@@ -23,7 +23,7 @@ loop-place-preserved c =
 pub returns : goal.returns
 returns c =
     c.loop-place.invariant
-    ∙ ap (λ ns. capped (length (assigned_text ns (take c.loop-place.place c.args.values.now))))
+    ∙ ap (λ ns. capped_len (length (assigned_text ns (take c.loop-place.place c.args.values.now))))
     (take_all c.loop-place.place c.args.names.now (omega arith))
-    ∙ ap (λ vs. capped (length (assigned_text c.args.names.now vs)))
+    ∙ ap (λ vs. capped_len (length (assigned_text c.args.names.now vs)))
     (take_all c.loop-place.place c.args.values.now (omega arith))

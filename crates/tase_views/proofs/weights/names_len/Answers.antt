@@ -1,6 +1,6 @@
 use Rattle.std.proofs.Common.{length, take_all, ap, ◌∙◌, arith}
 use Rattle.std.specs.List.{flat_map}
-use Rattle.plain_lengths.specs.Lengths.{capped}
+use Rattle.plain_text.specs.Lengths.{capped_len}
 use Rattle.mms_text.specs.Texts.{name_text}
 use Rattle.tase_views.specs.EventTexts.{next_name}
 use Rattle.tase_views.proofs.TextLengths.{length-names}
@@ -20,5 +20,5 @@ loop-name-preserved c =
 pub returns : goal.returns
 returns c =
     c.loop-name.invariant
-    ∙ ap (λ ns. capped (length (flat_map next_name ns)))
+    ∙ ap (λ ns. capped_len (length (flat_map next_name ns)))
     (take_all c.loop-name.name-index c.args.names.now (omega arith))

@@ -1,6 +1,6 @@
 use Rattle.std.proofs.Common.{length, take_all, ap, ◌∙◌, arith}
 use Rattle.std.specs.List.{flat_map}
-use Rattle.plain_lengths.specs.Lengths.{capped}
+use Rattle.plain_text.specs.Lengths.{capped_len}
 use Rattle.mms_text.specs.Texts.{data_text}
 use Rattle.tase_views.specs.EventTexts.{next_value}
 use Rattle.tase_views.proofs.TextLengths.{length-values}
@@ -21,5 +21,5 @@ loop-value-preserved c =
 pub returns : goal.returns
 returns c =
     c.loop-value.invariant
-    ∙ ap (λ vs. capped (length (flat_map next_value vs)))
+    ∙ ap (λ vs. capped_len (length (flat_map next_value vs)))
     (take_all c.loop-value.value-index c.args.values.now (omega arith))

@@ -1,6 +1,6 @@
 use Rattle.std.proofs.Common.{◌≡◌, ◌+◌, ◌≤◌, length, subst, arith}
 use Rattle.std.proofs.lemmas.List.{length-append}
-use Rattle.tpkt_cotp.specs.Streams.{capped}
+use Rattle.tpkt_cotp.specs.Streams.{stream_place}
 use Rattle.stack_assoc.specs.Courses.{count_held}
 use Rattle.tase_conn.specs.Talking.{Talking, pending_of}
 use Rattle.tase_conn.proofs.conn.Conn.held.Goals as goal
@@ -8,7 +8,7 @@ use Rattle.tase_conn.proofs.conn.Conn.held.Goals as goal
 pub returns-clause-count : goal.returns-clause-count
 returns-clause-count c =
     let P : Talking → Type 0 = λ v.
-    c.saturating_add.result ≡ capped (count_held v.course + length (pending_of v)) in
+    c.saturating_add.result ≡ stream_place (count_held v.course + length (pending_of v)) in
     subst P c.self.view_is (omega (
       arith,
       c.saturating_add.ensures,

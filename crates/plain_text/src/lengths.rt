@@ -2,9 +2,9 @@
 ghost use Rattle.std.specs.Prelude.{◌≡◌, ◌+◌, ◌*◌, ◌≤◌, ◌^◌, length, decimal};
 ghost use Rattle.std.specs.Fmt.{signed_decimal};
 ghost use Rattle.plain_text.specs.Escaped.{escaped_text, escaped_octet};
-ghost use Rattle.plain_lengths.specs.Lengths.{capped};
+ghost use Rattle.plain_text.specs.Lengths.{capped_len};
 
-use plain_text::is_plain;
+use crate::escaped::is_plain;
 
 /// The most that a length is said to be, 2^62: what is that long or longer has this length.
 pub const MOST_LEN: u64 = 4611686018427387904;
@@ -13,7 +13,7 @@ pub const MOST_LEN: u64 = 4611686018427387904;
 pub fn add_len(first: u64, second: u64) -> u64
     requires first { first ≤ MOST_LEN }
     requires second { second ≤ MOST_LEN }
-    ensures { result ≡ capped (first + second) }
+    ensures { result ≡ capped_len (first + second) }
 {
     MOST_LEN.min(first + second)
 }

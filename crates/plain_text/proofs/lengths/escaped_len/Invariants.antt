@@ -1,6 +1,6 @@
 use Rattle.std.proofs.Common.{◌≡◌, ◌*◌, ◌≤◌, length, take}
 use Rattle.plain_text.specs.Escaped.{escaped_text}
-use Rattle.plain_lengths.proofs.lengths.escaped_len.Given as goal
+use Rattle.plain_text.proofs.lengths.escaped_len.Given as goal
 
 abbrev pub invariant-loop-octet : goal.invariant-loop-octet
 invariant-loop-octet l =

@@ -1,7 +1,7 @@
-use Rattle.std.proofs.Common.{◌<◌, ◌^◌, sym, ◌∙◌, arith}
-use Rattle.plain_lengths.proofs.TextLengths.{length-decimal-step, length-decimal-digit}
-use Rattle.plain_lengths.proofs.TextLengths.{length-decimal-few, length-decimal-some}
-use Rattle.plain_lengths.proofs.lengths.decimal_len.Goals as goal
+use Rattle.std.proofs.Common.{arith}
+use Rattle.plain_text.proofs.TextLengths.{length-decimal-step, length-decimal-digit}
+use Rattle.plain_text.proofs.TextLengths.{length-decimal-few, length-decimal-some}
+use Rattle.plain_text.proofs.lengths.decimal_len.Goals as goal
 
 pub overflow_add-len : goal.overflow_add-len
 overflow_add-len c =
