@@ -14,7 +14,8 @@ use Rattle.ber_values.proofs.Reading.{IsReading-as, IsReading-then, Ok_is, not_b
 use Rattle.ber_values.proofs.Tags.{tag_reads}
 use Rattle.ber_values.proofs.Grammars.{IsReading-done, gives_reads, then_reads, branch_reads, refused_reads, skip_reads}
 use Rattle.ber_values.proofs.Grammars.{by_length_reads, part_reads, maybe_reads}
-use Rattle.acse_assoc.specs.Rising.{by_tag, either_in, is_context, may_pass, rising_within, rising_in}
+use Rattle.acse_assoc.specs.Rising.{by_tag, either_in, may_pass, rising_within, rising_in}
+use Rattle.ber_values.specs.Grammars.{is_context}
 use Rattle.acse_assoc.specs.Rising.{named_in, perhaps_in, read_of, attempt}
 
 pub by_tag_reads : {X : Type 0} (g : Tag → Grammar X) → ((tag : Tag) → IsGrammar (g tag))

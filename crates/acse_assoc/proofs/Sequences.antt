@@ -14,7 +14,8 @@ use Rattle.ber_values.specs.Tags.{SpellsTag}
 use Rattle.ber_values.specs.Grammars.{first_is}
 use Rattle.ber_values.specs.Parts.{Contents}
 use Rattle.ber_values.specs.Runs.{AnyElement, IsSound, element_octets, elements_octets}
-use Rattle.acse_assoc.specs.Rising.{is_context, is_named, may_pass}
+use Rattle.acse_assoc.specs.Rising.{is_named, may_pass}
+use Rattle.ber_values.specs.Grammars.{is_context}
 use Rattle.acse_assoc.specs.Sequences.{IsRising, IsSequence, HasElement, LacksElement}
 
 -- ---- tests of a tag

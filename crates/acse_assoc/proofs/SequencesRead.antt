@@ -14,7 +14,8 @@ use Rattle.ber_values.specs.Grammars.{by_length}
 use Rattle.ber_values.specs.Runs.{AnyElement, IsSound, element_octets, elements_octets}
 use Rattle.ber_values.proofs.Runs.{after_tag, element-parts, element-tagged, element-skipped}
 use Rattle.ber_values.proofs.Runs.{element-first, element-some, skipped-element, tag-one}
-use Rattle.acse_assoc.specs.Rising.{is_context, is_named, may_pass, by_tag, rising_within}
+use Rattle.acse_assoc.specs.Rising.{is_named, may_pass, by_tag, rising_within}
+use Rattle.ber_values.specs.Grammars.{is_context}
 use Rattle.acse_assoc.specs.Rising.{rising_in}
 use Rattle.acse_assoc.specs.Sequences.{LacksElement}
 use Rattle.acse_assoc.proofs.Sequences.{context-first, first-context, named-tagged}

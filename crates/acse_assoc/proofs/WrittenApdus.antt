@@ -7,7 +7,7 @@ use Rattle.std.proofs.lemmas.List.{length-append}
 use Rattle.ber_values.specs.declared.external.External.{External}
 use Rattle.ber_values.specs.Oid.{IsOid}
 use Rattle.ber_values.specs.Tags.{tag_with, tag_in}
-use Rattle.ber_values.specs.Writing.{written, integer_octets, length_octets}
+use Rattle.ber_values.specs.Writing.{written, integer_octets, length_octets, last_span}
 use Rattle.ber_values.specs.Externals.{external_of, is_wanted, external, external_octets}
 use Rattle.ber_values.specs.Grammars.{taken, gives, then_in, map_in, branch_in, by_length}
 use Rattle.ber_values.specs.Passing.{skip}
@@ -26,7 +26,7 @@ use Rattle.acse_assoc.specs.declared.expected.Expected.{Expected}
 use Rattle.acse_assoc.specs.declared.request.AssociateRequest.{AssociateRequest}
 use Rattle.acse_assoc.specs.declared.apdu.Apdu.{Apdu}
 use Rattle.acse_assoc.specs.declared.apdu.Apdu.TheVariants.{Aarq, Aare, Rlrq, Rlre, Abrt}
-use Rattle.acse_assoc.specs.declared.apdu.TheConstants.{MOST_BODY}
+use Rattle.ber_values.specs.declared.lengths.TheConstants.{MOST_BODY}
 use Rattle.acse_assoc.specs.declared.response.AssociateResponse.{AssociateResponse}
 use Rattle.acse_assoc.specs.Rising.{least_after}
 use Rattle.acse_assoc.specs.Rising.{by_tag, rising_within, rising_in, named_in, perhaps_in, attempt}
@@ -39,8 +39,8 @@ use Rattle.acse_assoc.specs.Responses.{context_passed, largest_result, one_resul
 use Rattle.acse_assoc.specs.Responses.{user_of_result, some_user_last, response_of, response}
 use Rattle.acse_assoc.specs.Writing.{mms_context, result_octets, diagnosed, diagnostic}
 use Rattle.acse_assoc.specs.Writing.{some_user_octets, response_contents, HasUser, IsSmall, IsOfId}
-use Rattle.acse_assoc.specs.Writing.{last_span, some_moved, IsTitle, apdu_octets, short_octets}
-use Rattle.acse_assoc.specs.Writing.{as_written, IsWritable, IsHeld, IsAsExpected}
+use Rattle.acse_assoc.specs.Writing.{some_moved, IsTitle, apdu_octets, short_octets}
+use Rattle.acse_assoc.specs.Writing.{apdu_as_written, IsWritable, IsHeld, IsAsExpected}
 use Rattle.acse_assoc.specs.Writing.{response_octets}
 use Rattle.acse_assoc.proofs.RisingReads.{rising_reads, rising_within_reads}
 use Rattle.acse_assoc.proofs.Sizes.{context_len}
@@ -645,7 +645,7 @@ whole_begins e at v octets end begins = (
 request_begins : (e : Expected) (r : AssociateRequest) (body : List ℕ) (at : ℕ) → IsHeld (Aarq r)
     → is_wanted e.request_id r.user.id ≡ true → length body ≤ MOST_BODY
     → (one_apdu e).begins at (request_octets r body ++ [])
-    (taken (as_written at (Aarq r) body) (at + length (request_octets r body)) [])
+    (taken (apdu_as_written at (Aarq r) body) (at + length (request_octets r body)) [])
 unfolding one_apdu contents_as
 request_begins e r body at held wanted few =
     let contents = request_contents r body in
@@ -672,7 +672,7 @@ response_begins : (e : Expected) (r : AssociateResponse) (body : List ℕ) (at :
     → HasUser r.result r.user → IsHeld (Aare r) → r.result ≤ largest_result e
     → IsOfId e.response_id r.user → length body ≤ MOST_BODY
     → (one_apdu e).begins at (response_octets r body ++ [])
-    (taken (as_written at (Aare r) body) (at + length (response_octets r body)) [])
+    (taken (apdu_as_written at (Aare r) body) (at + length (response_octets r body)) [])
 unfolding one_apdu contents_as
 response_begins e r body at has held most wanted few =
     let contents = response_contents r body in
@@ -717,7 +717,7 @@ abort_begins e at =
 pub apdu_begins : (e : Expected) (v : Apdu) (body : List ℕ) → IsWritable v → IsHeld v
     → IsAsExpected e v → length body ≤ MOST_BODY → (at : ℕ)
     → (apdu e).begins at (apdu_octets v body)
-    (taken (as_written at v body) (at + length (apdu_octets v body)) [])
+    (taken (apdu_as_written at v body) (at + length (apdu_octets v body)) [])
 apdu_begins e (Aarq r) body writable held expected few at =
     whole_begins e at _ _ _ (request_begins e r body at held expected few)
 apdu_begins e (Aare r) body writable held expected few at = whole_begins e at _ _ _

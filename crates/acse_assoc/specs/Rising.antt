@@ -1,5 +1,5 @@
 -- Elements of the context class whose numbers rise, as those of a sequence do.
-use Rattle.std.specs.Prelude.{◌≡◌, ℕ, zero, suc, ◌+◌, ◌-◌, ◌/◌, Bool, not, ◌&&◌, List, drop}
+use Rattle.std.specs.Prelude.{◌≡◌, ℕ, zero, suc, ◌+◌, ◌-◌, Bool, not, ◌&&◌, List, drop}
 use Rattle.std.specs.Prelude.{Option, Some, None, ◌⊎◌, Result, Ok, Err, nat_le, ◌==◌}
 use Rattle.ber_values.specs.declared.fault.BerFault.{BerFault}
 use Rattle.ber_values.specs.declared.tag.Tag.{Tag}
@@ -7,7 +7,7 @@ use Rattle.ber_values.specs.Faults.{◌>>=◌}
 use Rattle.ber_values.specs.Reading.{Taken, Begins}
 use Rattle.ber_values.specs.Tags.{SpellsTag, TagFault, tag_in}
 use Rattle.ber_values.specs.Grammars.{Grammar, taken, gives, then_in, branch_in, first_is}
-use Rattle.ber_values.specs.Grammars.{refused, by_length}
+use Rattle.ber_values.specs.Grammars.{refused, by_length, is_context}
 use Rattle.ber_values.specs.Passing.{skip}
 use Rattle.ber_values.specs.Parts.{Contents, part_in, maybe_in}
 
@@ -25,10 +25,6 @@ by_tag {X} g = record {
 -- one of two grammars
 abbrev pub either_in : {X : Type 0} → Bool → Grammar X → Grammar X → Grammar X
 either_in test one other = branch_in (λ octets. test) one other
-
--- whether an element with this first octet is of the context class
-abbrev pub is_context : ℕ → Bool
-is_context first = first / 64 == 2
 
 -- whether this is the constructed tag of the context class with this number, in one octet
 abbrev pub is_named : ℕ → Tag → Bool

@@ -1,11 +1,11 @@
 -- The written form of an APDU: the shortest lengths and integers, and no element that may be absent
 -- but the title, where there is one.
-use Rattle.std.specs.Prelude.{◌≡◌, ◌≢◌, ℕ, ◌+◌, ◌-◌, ◌<◌, ◌≤◌, ◌^◌, true, List, [], ◌∷◌, ◌++◌}
+use Rattle.std.specs.Prelude.{◌≡◌, ◌≢◌, ℕ, ◌+◌, ◌<◌, ◌≤◌, ◌^◌, true, List, [], ◌∷◌, ◌++◌}
 use Rattle.std.specs.Prelude.{length, pos}
 use Rattle.std.specs.Prelude.{Option, Some, None, ◌==◌, if◌then◌else◌}
 use Rattle.ber_values.specs.declared.fault.Span.{Span}
 use Rattle.ber_values.specs.Oid.{IsOid}
-use Rattle.ber_values.specs.Writing.{written, integer_octets}
+use Rattle.ber_values.specs.Writing.{written, integer_octets, last_span}
 use Rattle.ber_values.specs.Externals.{external_octets, is_wanted}
 use Rattle.ber_values.specs.declared.external.External.{External}
 use Rattle.acse_assoc.specs.declared.request.AssociateRequest.{AssociateRequest}
@@ -68,10 +68,6 @@ apdu_octets Rlrq body = short_octets 98
 apdu_octets Rlre body = short_octets 99
 apdu_octets Abrt body = short_octets 100
 
--- the last octets before a place
-abbrev pub last_span : ℕ → List ℕ → Span
-last_span end body = record { from = end - length body; to = end }
-
 -- the same user information, with its body in another place
 abbrev pub moved : Span → External → External
 moved body user = external_of user.id body
@@ -81,15 +77,16 @@ some_moved body None = None
 some_moved body (Some user) = Some (moved body user)
 
 -- the same APDU, with its body in another place
-abbrev pub with_body : Span → Apdu → Apdu
-with_body body (Aarq r) =
+abbrev pub apdu_with_body : Span → Apdu → Apdu
+apdu_with_body body (Aarq r) =
     Aarq (record { context = r.context; title = r.title; user = moved body r.user })
-with_body body (Aare r) = Aare (record { result = r.result; user = some_moved body r.user })
-with_body body apdu = apdu
+apdu_with_body body (Aare r) = Aare (record { result = r.result; user = some_moved body r.user })
+apdu_with_body body apdu = apdu
 
 -- the value that the written form spells, at a place
-abbrev pub as_written : ℕ → Apdu → List ℕ → Apdu
-as_written at apdu body = with_body (last_span (at + length (apdu_octets apdu body)) body) apdu
+abbrev pub apdu_as_written : ℕ → Apdu → List ℕ → Apdu
+apdu_as_written at apdu body =
+    apdu_with_body (last_span (at + length (apdu_octets apdu body)) body) apdu
 
 -- an accepted association has user information
 abbrev pub HasUser : ℕ → Option External → Type 0

@@ -2,6 +2,7 @@
 ghost use Rattle.std.specs.Prelude.{◌≡◌, ◌+◌, ◌^◌, ◌<◌, ◌≤◌, ◌++◌, length, IfOk, OnOk, OnErr};
 ghost use Rattle.plain_text.specs.Extends.{Extends};
 ghost use Rattle.std.specs.List.{slice_range};
+ghost use Rattle.ber_values.specs.declared.lengths.TheConstants.{MOST_BODY};
 ghost use Rattle.ber_values.specs.Readers.{IsReadBy, taken_from, taken_whole};
 ghost use Rattle.ber_values.specs.Stops.{Answers};
 ghost use Rattle.acse_assoc.specs.Apdus.{one_apdu, apdu};
@@ -12,14 +13,8 @@ use crate::expected::Expected;
 use crate::numbers::{AARE, AARQ, ABRT, RLRE, RLRQ};
 use crate::request::{AssociateRequest, put_request, request_from};
 use crate::response::{AssociateResponse, put_response, response_from};
-use ber_values::{BerFault, Stop, has_tag, octets_from, settle, take_end, take_part};
+use ber_values::{BerFault, Stop, has_tag, octets_from, or_undo, settle, take_end, take_part};
 use std::alloc::{AllocError, Global};
-
-/// The most octets of a body that are written.
-pub const MOST_BODY: usize = 65_400;
-
-// Definitions cite this limit, so that it stands here as a number too.
-const _: () = prove!(MOST_BODY == 65_400);
 
 /// An application protocol data unit. What RLRQ, RLRE and ABRT hold isn't looked at.
 #[derive(Debug, Drop, PartialEq, Eq)]
@@ -111,12 +106,9 @@ pub fn write_apdu(out: &mut Vec<u8>, apdu: &Apdu, body: &[u8]) -> Result<(), All
     ensures ok { OnOk result (out.new.items ≡ out.old.items ++ apdu_octets apdu.now body.now) }
     ensures err { OnErr result (out.new.items ≡ out.old.items) }
 {
-    let before = out.len();
-    let written = put_apdu(out, apdu, body);
-    if written.is_err() {
-        out.truncate(before);
-    }
-    written
+    let mark = out.len();
+    let done = put_apdu(out, apdu, body);
+    or_undo(out, mark, done)
 }
 
 fn put_apdu(out: &mut Vec<u8>, apdu: &Apdu, body: &[u8]) -> Result<(), AllocError>

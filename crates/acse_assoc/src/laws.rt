@@ -8,11 +8,11 @@ ghost use Rattle.acse_assoc.specs.declared.apdu.Apdu.TheVariants.{Aarq, Aare};
 ghost use Rattle.acse_assoc.specs.declared.request.AssociateRequest.{AssociateRequest};
 ghost use Rattle.acse_assoc.specs.declared.response.AssociateResponse.{AssociateResponse};
 ghost use Rattle.acse_assoc.specs.declared.expected.Expected.{Expected};
-ghost use Rattle.acse_assoc.specs.declared.apdu.TheConstants.{MOST_BODY};
+ghost use Rattle.ber_values.specs.declared.lengths.TheConstants.{MOST_BODY};
 ghost use Rattle.ber_values.specs.Grammars.{taken};
 ghost use Rattle.acse_assoc.specs.Apdus.{apdu};
 ghost use Rattle.acse_assoc.specs.Sequences.{IsWholeAarq, IsWholeAare};
-ghost use Rattle.acse_assoc.specs.Writing.{apdu_octets, as_written, IsWritable, IsHeld};
+ghost use Rattle.acse_assoc.specs.Writing.{apdu_octets, apdu_as_written, IsWritable, IsHeld};
 ghost use Rattle.acse_assoc.specs.Writing.{IsAsExpected};
 
 /// Octets have one reading, whatever is expected: exactly one holds, they spell exactly one APDU,
@@ -28,7 +28,7 @@ pub fn written_apdus_are_read()
     ensures { (e : Expected) (v : Apdu) (body : List ℕ) → IsWritable v → IsHeld v
         → IsAsExpected e v → length body ≤ MOST_BODY → (at : ℕ)
         → (apdu e).begins at (apdu_octets v body)
-        (taken (as_written at v body) (at + length (apdu_octets v body)) []) }
+        (taken (apdu_as_written at v body) (at + length (apdu_octets v body)) []) }
 {}
 
 /// Octets are an AARQ just where they are one element of its tag, whose contents are elements of

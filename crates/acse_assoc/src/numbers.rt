@@ -11,9 +11,6 @@ pub(crate) const RLRE: u8 = 0x63;
 
 pub(crate) const ABRT: u8 = 0x64;
 
-/// Tags of this class are particular to their container.
-pub(crate) const CONTEXT_CLASS: u8 = 2;
-
 /// `application-context-name`
 pub(crate) const CONTEXT_NAME: u32 = 1;
 

@@ -8,7 +8,7 @@ ghost use Rattle.ber_values.specs.Stops.{Answers};
 ghost use Rattle.ber_values.specs.Grammars.{taken};
 ghost use Rattle.ber_values.specs.Externals.{IsSpanWithin};
 ghost use Rattle.ber_values.specs.Writing.{written};
-ghost use Rattle.acse_assoc.specs.declared.apdu.TheConstants.{MOST_BODY};
+ghost use Rattle.ber_values.specs.declared.lengths.TheConstants.{MOST_BODY};
 ghost use Rattle.acse_assoc.specs.Rising.{read_of};
 ghost use Rattle.acse_assoc.specs.Requests.{one_oid, context_name, calling_title, user_last};
 ghost use Rattle.acse_assoc.specs.Requests.{request};
@@ -20,10 +20,11 @@ use crate::numbers::{
     AARQ, CALLING_TITLE, CALLING_TITLE_TAG, CONTEXT_NAME, CONTEXT_NAME_TAG, LARGEST_NUMBER,
     OBJECT_IDENTIFIER, USER_INFORMATION,
 };
-use crate::rising::{Left, pass_rising, refused};
+use crate::rising::{Left, pass_rising};
 use crate::user::{named_user, put_user, user_len};
 use ber_values::{
-    BerFault, External, Oid, Part, Stop, has_tag, take_end, take_part, write_head, write_oid,
+    BerFault, External, Oid, Part, Stop, has_tag, refused, take_end, take_part, write_head,
+    write_oid,
 };
 use std::alloc::{AllocError, Global};
 
@@ -133,7 +134,7 @@ fn take_context(octets: &[u8], at: usize) -> Result<(&[u8], usize, &[u8]), BerFa
 {
     let left = pass_rising(octets, at, CONTEXT_NAME, 0)?;
     if CONTEXT_NAME < left.least {
-        return Err(refused(&left));
+        return Err(refused(left.octets, left.at));
     }
     let part = take_part(left.octets, left.at, CONTEXT_NAME_TAG)?;
     let name = one_oid(&part)?;

@@ -5,7 +5,7 @@ ghost use Rattle.plain_text.specs.Extends.{Extends};
 ghost use Rattle.ber_values.specs.Faults.{Gives};
 ghost use Rattle.ber_values.specs.Grammars.{taken};
 ghost use Rattle.acse_assoc.specs.declared.numbers.TheConstants.{USER_INFORMATION};
-ghost use Rattle.acse_assoc.specs.declared.apdu.TheConstants.{MOST_BODY};
+ghost use Rattle.ber_values.specs.declared.lengths.TheConstants.{MOST_BODY};
 ghost use Rattle.ber_values.specs.Writing.{written, integer_octets};
 ghost use Rattle.acse_assoc.specs.Writing.{mms_context, result_octets, diagnostic};
 ghost use Rattle.acse_assoc.specs.Writing.{some_user_octets};
@@ -22,10 +22,11 @@ use crate::numbers::{
     RESULT_TAG, USER_INFORMATION, USER_INFORMATION_TAG,
 };
 use crate::request::one_oid;
-use crate::rising::{Left, pass_rising, refused};
+use crate::rising::{Left, pass_rising};
 use crate::user::{named_user, put_user, user_from, user_len};
 use ber_values::{
-    BerFault, External, Part, has_tag, natural_len, take_end, take_part, write_head, write_natural,
+    BerFault, External, Part, has_tag, natural_len, refused, take_end, take_part, write_head,
+    write_natural,
 };
 use std::alloc::AllocError;
 
@@ -113,7 +114,7 @@ fn take_result<'a>(from: &Left<'a>, expected: Expected) -> Result<(u8, usize, &'
 {
     let left = pass_rising(from.octets, from.at, RESULT, from.least)?;
     if RESULT < left.least {
-        return Err(refused(&left));
+        return Err(refused(left.octets, left.at));
     }
     let part = take_part(left.octets, left.at, RESULT_TAG)?;
     let result = result_from(&part, expected)?;

@@ -1,12 +1,11 @@
 //! Elements of the context class whose numbers rise, as those of a sequence do.
 ghost use Rattle.std.specs.Prelude.{◌≡◌, ◌+◌, ◌-◌, ◌^◌, ◌<◌, ◌≤◌, length, drop, IfOk, IfSome};
 ghost use Rattle.std.specs.Prelude.{OnErr};
-ghost use Rattle.ber_values.specs.Faults.{Gives, fault_at};
-ghost use Rattle.ber_values.specs.Grammars.{taken, first_is, why_refused};
-ghost use Rattle.acse_assoc.specs.Rising.{is_context, is_named, may_pass, rising_in, PassesNext};
+ghost use Rattle.ber_values.specs.Faults.{Gives};
+ghost use Rattle.ber_values.specs.Grammars.{taken};
+ghost use Rattle.acse_assoc.specs.Rising.{is_named, may_pass, rising_in, PassesNext};
 
-use crate::numbers::CONTEXT_CLASS;
-use ber_values::{BerFault, Tag, Why, octets_from, read_tag, skip_part};
+use ber_values::{BerFault, Tag, is_context, octets_from, read_tag, skip_part};
 
 /// Where elements go on: the least number that may follow, and the octets that are left, of which
 /// the first has the place `at`.
@@ -15,13 +14,6 @@ pub(crate) struct Left<'a> {
     pub(crate) least: u32,
     pub(crate) at: usize,
     pub(crate) octets: &'a [u8],
-}
-
-/// Whether the first octet is of a tag of the context class.
-fn is_context(octets: &[u8]) -> bool
-    ensures { result ≡ first_is is_context octets.now }
-{
-    matches!(octets, [first, ..] if *first / 64 == CONTEXT_CLASS)
 }
 
 /// Whether this is the tag of the element of a number.
@@ -95,19 +87,5 @@ pub(crate) fn pass_rising(
                 };
             }
         }
-    }
-}
-
-/// Nothing may stand here: an octet that does is refused.
-pub(crate) fn refused(left: &Left<'_>) -> BerFault
-    ensures { result ≡ fault_at left.now.at (why_refused left.now.octets.now) }
-{
-    let why = match left.octets {
-        [] => Why::Short,
-        _ => Why::Tag,
-    };
-    BerFault {
-        place: left.at,
-        why,
     }
 }

@@ -7,15 +7,15 @@ ghost use Rattle.ber_values.specs.Grammars.{taken};
 ghost use Rattle.acse_assoc.specs.declared.numbers.TheConstants.{USER_INFORMATION};
 ghost use Rattle.acse_assoc.specs.Rising.{named_in};
 ghost use Rattle.acse_assoc.specs.Users.{user_information};
-ghost use Rattle.acse_assoc.specs.declared.apdu.TheConstants.{MOST_BODY};
+ghost use Rattle.ber_values.specs.declared.lengths.TheConstants.{MOST_BODY};
 ghost use Rattle.ber_values.specs.Writing.{written};
 ghost use Rattle.ber_values.specs.Externals.{external_octets, IsSpanWithin};
 ghost use Rattle.acse_assoc.specs.Writing.{user_octets};
 
 use crate::numbers::{EXTERNAL, USER_INFORMATION, USER_INFORMATION_TAG};
-use crate::rising::{Left, refused};
+use crate::rising::Left;
 use ber_values::{
-    BerFault, External, Part, external_len, part_len, take_end, take_part, write_external,
+    BerFault, External, Part, external_len, part_len, refused, take_end, take_part, write_external,
     write_head,
 };
 use std::alloc::AllocError;
@@ -37,7 +37,7 @@ pub(crate) fn named_user<'a>(
         (left.now.at + length left.now.octets.now) x.0.body) }
 {
     if USER_INFORMATION < left.least {
-        return Err(refused(left));
+        return Err(refused(left.octets, left.at));
     }
     let part = take_part(left.octets, left.at, USER_INFORMATION_TAG)?;
     let user = user_from(&part, id)?;

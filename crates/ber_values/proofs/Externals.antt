@@ -1,10 +1,9 @@
 -- Values of presentation contexts are read exactly, and what is written is read back.
 use Rattle.std.proofs.Common.{◌≡◌, ℕ, ◌+◌, ◌-◌, ◌≤◌, ◌<◌, ◌^◌, true, List, [], ◌++◌, length, pos, Option, None, refl, sym, ap, ◌∙◌, inr, arith}
 use Rattle.std.proofs.lemmas.List.{length-append}
-use Rattle.ber_values.specs.declared.fault.Span.{Span}
 use Rattle.ber_values.specs.Elements as kinds
 use Rattle.ber_values.specs.Grammars.{taken, gives, then_in, map_in, branch_in}
-use Rattle.ber_values.specs.Writing.{written, integer_octets, length_octets}
+use Rattle.ber_values.specs.Writing.{written, integer_octets, length_octets, last_span}
 use Rattle.ber_values.specs.Lengths.{capped, part_size}
 use Rattle.ber_values.specs.Parts.{IsContentsGrammar, part_in, maybe_in, contents_where, all_in}
 use Rattle.ber_values.specs.Leaves.{unsigned, oid, span_at, span}
@@ -32,10 +31,6 @@ external_len-value id body few octets r len small is le e =
     omega (arith, first, element-sized 160 body r octets (sym len) e (omega (arith, small)), length-append (written 2 (integer_octets (pos id))) (written 160 octets))
 
 -- ---- what is written is read back
-
--- the last octets before a place
-abbrev pub last_span : ℕ → List ℕ → Span
-last_span end body = record { from = end - length body; to = end }
 
 -- an integer below 2^32 has few octets
 pub integer-few : (id : ℕ) → id < 2 ^ 63 → length (integer_octets (pos id)) ≤ 8

@@ -293,9 +293,10 @@ pub members-begin : {X : Type 0} (g : Grammar X) (least : ℕ) (head : Head) (oc
 unfolding list_in
 members-begin g least head octets placed = record { placed = placed; fewer = omega arith; reads = so_far-begins g least (length octets) head.body octets }
 
-pub members-more : {X : Type 0} (g : Grammar X) (least most : ℕ) (xs : List X) (at : ℕ) (octets : List ℕ) (total : Result (List X) BerFault) (x : X) (next : ℕ) → 0 < length octets → g.reading at octets ≡ Ok (taken x next (drop (next - at) octets)) → at < next → next ≤ at + length octets
-    → MembersSoFar g least most xs at octets total → MembersSoFar g least most (xs ++ x ∷ []) next (drop (next - at) octets) total
-members-more g least most xs at octets total x next some read first last s =
+-- one element more was read
+pub members-more : {X : Type 0} {g : Grammar X} {least most : ℕ} {xs : List X} {at : ℕ} {octets : List ℕ} {total : Result (List X) BerFault} → MembersSoFar g least most xs at octets total → 0 < length octets → (x : X) (next : ℕ) → g.reading at octets ≡ Ok (taken x next (drop (next - at) octets)) → at < next → next ≤ at + length octets
+    → MembersSoFar g least most (xs ++ x ∷ []) next (drop (next - at) octets) total
+members-more {g = g} {least = least} {most = most} {xs = xs} {at = at} {octets = octets} {total = total} s some x next read first last =
     let len : length (drop (next - at) octets) ≡ length octets - (next - at) = length-drop (next - at) octets in
     let more : length (xs ++ x ∷ []) ≡ length xs + 1 = length_push xs x in
     record {
@@ -304,11 +305,17 @@ members-more g least most xs at octets total x next some read first last s =
       reads = so_far-more g least most xs at octets total x next (drop (next - at) octets) (omega (arith, some, s.fewer)) some read s.reads;
     }
 
-pub members-stop : {X : Type 0} (g : Grammar X) (least most : ℕ) (xs : List X) (at : ℕ) (octets : List ℕ) (total : Result (List X) BerFault) (stop : Stop) → 0 < length octets → Stops stop (g.reading at octets) → MembersSoFar g least most xs at octets total → Stops stop total
-members-stop g least most xs at octets total stop some read s = so_far-stops g least most xs at octets total stop (omega (arith, some, s.fewer)) some read s.reads
+-- reading an element stopped
+pub members-stop : {X : Type 0} {g : Grammar X} {least most : ℕ} {xs : List X} {at : ℕ} {octets : List ℕ} {total : Result (List X) BerFault} → MembersSoFar g least most xs at octets total → 0 < length octets → (stop : Stop) → Stops stop (g.reading at octets) → Stops stop total
+members-stop {g = g} {least = least} {most = most} {xs = xs} {at = at} {octets = octets} {total = total} s some stop read = so_far-stops g least most xs at octets total stop (omega (arith, some, s.fewer)) some read s.reads
 
-pub members-end : {X : Type 0} (g : Grammar X) (least most : ℕ) (xs : List X) (at : ℕ) (octets : List ℕ) (total : Result (List X) BerFault) → length octets ≡ 0 → least ≤ length xs → MembersSoFar g least most xs at octets total → total ≡ Ok xs
-members-end g least most xs at octets total none enough s = so_far-ends g least most xs at octets total none enough s.reads
+-- no octets are left, and more elements are wanted
+pub members-short : {X : Type 0} {g : Grammar X} {least most : ℕ} {xs : List X} {at : ℕ} {octets : List ℕ} {total : Result (List X) BerFault} → MembersSoFar g least most xs at octets total → length octets ≡ 0 → length xs < least → total ≡ Err (fault_at at whys.Short)
+members-short {g = g} {least = least} {most = most} {xs = xs} {at = at} {octets = octets} {total = total} s none few = so_far-misses g least most xs at octets total none few s.reads
+
+-- no octets are left, and there are elements enough
+pub members-end : {X : Type 0} {g : Grammar X} {least most : ℕ} {xs : List X} {at : ℕ} {octets : List ℕ} {total : Result (List X) BerFault} → MembersSoFar g least most xs at octets total → length octets ≡ 0 → least ≤ length xs → total ≡ Ok xs
+members-end {g = g} {least = least} {most = most} {xs = xs} {at = at} {octets = octets} {total = total} s none enough = so_far-ends g least most xs at octets total none enough s.reads
 
 -- what `is_empty` tells of the octets that are left
 pub some_left : (octets : List ℕ) (empty : Bool) → empty ≡ eqb (length octets) 0 → empty ≡ false → 0 < length octets

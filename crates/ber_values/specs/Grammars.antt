@@ -1,7 +1,7 @@
 -- Grammars of octets: which octets begin with which value, the first fault of those that begin
 -- with none, and the reading from the left that tells both. Productions are composed of these.
 use Rattle.std.specs.Prelude.{◌≡◌, ℕ, zero, suc, Bool, true, false, List, [], ◌∷◌, length}
-use Rattle.std.specs.Prelude.{◌⊎◌, Result, Ok, Err, ◌==◌, if◌then◌else◌}
+use Rattle.std.specs.Prelude.{◌⊎◌, Result, Ok, Err, ◌/◌, ◌==◌, if◌then◌else◌}
 use Rattle.ber_values.specs.declared.fault.BerFault.{BerFault}
 use Rattle.ber_values.specs.declared.fault.Why.{Why}
 use Rattle.ber_values.specs.declared.fault.Why.TheVariants as whys
@@ -71,6 +71,10 @@ first_is test (first ∷ octets) = test first
 -- whether the first octet is this tag
 abbrev pub has_tag : ℕ → List ℕ → Bool
 has_tag tag octets = first_is (λ first. first == tag) octets
+
+-- whether an element with this first octet is of the context class
+abbrev pub is_context : ℕ → Bool
+is_context first = first / 64 == 2
 
 -- whether no octets are left
 abbrev pub is_ended : List ℕ → Bool

@@ -3,6 +3,7 @@
 use Rattle.std.specs.Prelude.{ℕ, zero, suc, ◌+◌, ◌-◌, ◌*◌, ◌/◌, ◌%◌, ◌^◌, Bool, List, [], ◌∷◌, ◌++◌}
 use Rattle.std.specs.Prelude.{length, ℤ, pos, negsuc, nat_lt, if◌then◌else◌}
 use Rattle.std.specs.Int.{w64, cast_unsigned}
+use Rattle.ber_values.specs.declared.fault.Span.{Span}
 use Rattle.ber_values.specs.Bits.{Bits}
 
 -- the last octets of a number, the highest first
@@ -55,3 +56,7 @@ boolean_octets value = (if value then 255 else 0) ∷ []
 -- the number of unused bits, and the octets
 abbrev pub bits_octets : Bits → List ℕ
 bits_octets bits = (8 * length bits.octets - bits.count) ∷ bits.octets
+
+-- where a body stands at the end of octets that end at a place
+abbrev pub last_span : ℕ → List ℕ → Span
+last_span end body = record { from = end - length body; to = end }

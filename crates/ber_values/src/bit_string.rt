@@ -12,8 +12,8 @@ ghost use Rattle.ber_values.specs.BitContents.{with_zeros, bits_with, SpellsBits
 ghost use Rattle.ber_values.specs.BitContents.{bits_in};
 ghost use Rattle.ber_values.specs.Writing.{bits_octets, written};
 
-use crate::contents::{length_fault, value_fault};
 use crate::fault::BerFault;
+use crate::faults::{length_fault, value_fault};
 use crate::head::Head;
 use crate::writing::{or_undo, put_head};
 use std::alloc::{AllocError, Global};

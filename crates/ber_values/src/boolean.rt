@@ -7,8 +7,8 @@ ghost use Rattle.ber_values.specs.Contents.{contents_of, IsContents};
 ghost use Rattle.ber_values.specs.Booleans.{SpellsBoolean, BooleanFault, boolean_in};
 ghost use Rattle.ber_values.specs.Writing.{boolean_octets, written};
 
-use crate::contents::length_fault;
 use crate::fault::BerFault;
+use crate::faults::length_fault;
 use crate::head::Head;
 use crate::writing::{or_undo, put_head};
 use std::alloc::AllocError;

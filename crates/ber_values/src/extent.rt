@@ -8,9 +8,10 @@ ghost use Rattle.ber_values.specs.Heads.{extent_within, element_by, head_by, IsH
 ghost use Rattle.ber_values.specs.ExtentOf.{extent_seen, IsExtentWithin};
 
 use crate::fault::{BerFault, Why};
+use crate::faults::{fault_at, short, surplus};
 use crate::head::Head;
 use crate::part::octets_from;
-use crate::tag::{read_length, read_tag, short};
+use crate::tag::{read_length, read_tag};
 
 /// How many values that end themselves may stand in a chain, each a direct element of the one
 /// before.
@@ -71,10 +72,7 @@ fn read_definite(octets: &[u8], at: usize) -> Result<Extent<'_>, BerFault>
 {
     let (length, body, rest) = read_length(octets, at)?;
     if rest.len() < length {
-        return Err(BerFault {
-            place: at,
-            why: Why::Length,
-        });
+        return Err(fault_at(at, Why::Length));
     }
     let (contents, rest) = rest.split_at(length);
     Ok(Extent {
@@ -113,21 +111,16 @@ fn read_closed(octets: &[u8], at: usize, room: usize) -> Result<Extent<'_>, BerF
 #[tactic(auto, unfolding(crate::specs::Extents::closing, crate::specs::Extents::octet_in, crate::specs::Grammars::then_in))]
 fn take_closing(octets: &[u8], at: usize) -> Result<&[u8], BerFault>
     requires { at + length octets.now < 2 ^ 64 }
-    ensures exact { Gives (λ rest. taken tt (at + 2) rest.now) result (closing.reading at octets.now) }
+    ensures exact { Gives (λ rest. taken tt (at + 2) rest.now) result
+        (closing.reading at octets.now) }
     ensures within { IfOk result (λ rest. length rest.now + 2 ≡ length octets.now) }
 {
     match octets {
         [] => Err(short(at)),
         [0] => Err(short(at + 1)),
         [0, 0, rest @ ..] => Ok(rest),
-        [0, ..] => Err(BerFault {
-            place: at + 1,
-            why: Why::Length,
-        }),
-        _ => Err(BerFault {
-            place: at,
-            why: Why::Tag,
-        }),
+        [0, ..] => Err(fault_at(at + 1, Why::Length)),
+        _ => Err(surplus(at)),
     }
 }
 

@@ -8,8 +8,8 @@ ghost use Rattle.ber_values.specs.Parts.{maybe_in, contents_where};
 ghost use Rattle.ber_values.specs.Leaves.{unsigned, oid};
 ghost use Rattle.ber_values.specs.Externals.{is_wanted, external, external_octets, IsSpanWithin};
 
-use crate::contents::value_fault;
 use crate::fault::{BerFault, Span};
+use crate::faults::value_fault;
 use crate::integer::write_natural;
 use crate::lengths::{natural_len, part_len};
 use crate::part::{Part, has_tag, take_end, take_part};

@@ -8,8 +8,8 @@ ghost use Rattle.ber_values.specs.Numbers.{integer_in, SpellsUnsigned, UnsignedF
 ghost use Rattle.ber_values.specs.Contents.{contents_of, IsContents};
 ghost use Rattle.ber_values.specs.Writing.{number_size, integer_size, integer_octets, written};
 
-use crate::contents::{length_fault, value_fault};
 use crate::fault::BerFault;
+use crate::faults::{length_fault, value_fault};
 use crate::head::Head;
 use crate::number::unsigned_number;
 use crate::writing::{or_undo, put_head, put_number};

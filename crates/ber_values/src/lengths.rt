@@ -9,6 +9,13 @@ use crate::writing::size_of_length;
 /// The most that a length is said to be: what is that long or longer has this length.
 pub const MOST_LENGTH: usize = 0xFFFF_FFFF;
 
+/// The most octets of a body that the layers of an association write: with all that they put
+/// around it, it fits a TSDU.
+pub const MOST_BODY: usize = 65_400;
+
+// Definitions cite this limit, so that it stands here as a number too.
+const _: () = prove!(MOST_BODY == 65_400);
+
 /// The sum of two lengths.
 pub fn add_len(first: usize, second: usize) -> usize
     requires first { first ≤ MOST_LENGTH }

@@ -17,8 +17,8 @@ ghost use Rattle.ber_values.specs.Contents.{contents_of, IsContents};
 ghost use Rattle.ber_values.specs.TextContents.{SpellsOid, OidFault, oid_in};
 ghost use Rattle.ber_values.specs.Writing.{written};
 
-use crate::contents::length_fault;
 use crate::fault::BerFault;
+use crate::faults::length_fault;
 use crate::head::Head;
 use crate::writing::{or_undo, put_element};
 use plain_text::{next_part, read_number};

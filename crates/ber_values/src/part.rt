@@ -2,14 +2,18 @@
 ghost use Rattle.std.specs.Prelude.{◌≡◌, ◌≢◌, ◌+◌, ◌-◌, ◌/◌, ◌%◌, ◌==◌, false, ◌^◌, ◌<◌, ◌≤◌};
 ghost use Rattle.std.specs.Prelude.{length, drop, IfOk};
 ghost use Rattle.ber_values.specs.Faults.{Gives};
-ghost use Rattle.ber_values.specs.Grammars.{has_tag};
+ghost use Rattle.ber_values.specs.Grammars.{first_is, has_tag, is_context};
 ghost use Rattle.ber_values.specs.Parts.{parted_in, sized_part_in, end_in};
 ghost use Rattle.ber_values.specs.PartOf.{parted_of, IsPartWithin, IsPartBehind};
 
 use crate::extent::{MOST_CHAINED, read_extent};
-use crate::fault::{BerFault, Why};
+use crate::fault::BerFault;
+use crate::faults::{short, surplus};
 use crate::head::Head;
-use crate::tag::{make_tag, short};
+use crate::tag::make_tag;
+
+/// Tags of this class are particular to their container.
+const CONTEXT_CLASS: u8 = 2;
 
 /// An element that stood at the front of octets: its head, its contents, and the octets after it.
 #[derive(Clone, Copy, Debug)]
@@ -40,10 +44,7 @@ fn take_tagged(octets: &[u8], at: usize, tag: u8) -> Result<Part<'_>, BerFault>
     match octets {
         [] => Err(short(at)),
         [first, rest @ ..] if *first == tag => take_sized(rest, at, tag),
-        _ => Err(BerFault {
-            place: at,
-            why: Why::Tag,
-        }),
+        _ => Err(surplus(at)),
     }
 }
 
@@ -81,16 +82,20 @@ pub fn has_tag(octets: &[u8], tag: u8) -> bool
     matches!(octets, [first, ..] if *first == tag)
 }
 
+/// Whether the first octet is of a tag of the context class.
+pub fn is_context(octets: &[u8]) -> bool
+    ensures { result ≡ first_is is_context octets.now }
+{
+    matches!(octets, [first, ..] if *first / 64 == CONTEXT_CLASS)
+}
+
 /// The octets have come to their end.
 pub fn take_end(octets: &[u8], at: usize) -> Result<(), BerFault>
     ensures { Gives (λ u. tt) result (end_in at octets.now) }
 {
     match octets {
         [] => Ok(()),
-        _ => Err(BerFault {
-            place: at,
-            why: Why::Tag,
-        }),
+        _ => Err(surplus(at)),
     }
 }
 

@@ -10,8 +10,8 @@ ghost use Rattle.ber_values.specs.Stops.{Answers};
 
 use crate::bit_string::{BitString, bits_from};
 use crate::boolean::boolean_from;
-use crate::contents::{length_fault, value_fault};
 use crate::fault::{BerFault, Span, Why};
+use crate::faults::{fault_at, length_fault, value_fault};
 use crate::integer::{integer_from, unsigned_from};
 use crate::object_identifier::{OID_LIMIT, Oid, oid_from};
 use crate::part::Part;
@@ -31,10 +31,7 @@ fn same_from(octets: &[u8], at: usize, wanted: &[u8]) -> Result<(), BerFault>
         return Ok(());
     };
     if *octet != *first {
-        return Err(BerFault {
-            place: at,
-            why: Why::Value,
-        });
+        return Err(fault_at(at, Why::Value));
     }
     same_from(octets, at + 1, wanted)
 }

@@ -1,11 +1,12 @@
 //! The tags and lengths of BER (ISO 8825-1, 8.1.2 and 8.1.3).
 ghost use Rattle.std.specs.Prelude.{◌≡◌, ◌+◌, ◌<◌, ◌≤◌, ◌^◌, length, IfOk};
-ghost use Rattle.ber_values.specs.Faults.{fault_at, Gives};
+ghost use Rattle.ber_values.specs.Faults.{Gives};
 ghost use Rattle.ber_values.specs.Reading.{IsAfter};
 ghost use Rattle.ber_values.specs.Tags.{tag_with, tag_in, second_tag_octet_in, third_tag_octet_in};
 ghost use Rattle.ber_values.specs.Tags.{length_in, more_length_in};
 
 use crate::fault::{BerFault, Why};
+use crate::faults::{fault_at, short, surplus};
 use crate::number::unsigned_number;
 
 /// A tag, and whether it has further octets.
@@ -27,15 +28,6 @@ pub(crate) fn make_tag(first: u8, number: u32, long_form: bool) -> Tag
         constructed: first / 32 % 2 == 1,
         number,
         long_form,
-    }
-}
-
-pub(crate) fn short(place: usize) -> BerFault
-    ensures { result ≡ fault_at place Why.Short }
-{
-    BerFault {
-        place,
-        why: Why::Short,
     }
 }
 
@@ -94,10 +86,7 @@ fn read_third(
             let number = (u32::from(high) - 128) * 128 + u32::from(*low);
             Ok((make_tag(first, number, true), at + 3, rest))
         }
-        _ => Err(BerFault {
-            place: at,
-            why: Why::Tag,
-        }),
+        _ => Err(surplus(at)),
     }
 }
 
@@ -116,10 +105,7 @@ pub(crate) fn read_length(octets: &[u8], at: usize) -> Result<(usize, usize, &[u
         [first, rest @ ..] if *first != 128 && *first <= 132 => {
             read_more(usize::from(*first) - 128, rest, at)
         }
-        _ => Err(BerFault {
-            place: at,
-            why: Why::Length,
-        }),
+        _ => Err(fault_at(at, Why::Length)),
     }
 }
 

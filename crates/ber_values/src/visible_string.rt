@@ -11,8 +11,8 @@ ghost use Rattle.ber_values.specs.TextContents.{SpellsVisible, VisibleFault, vis
 ghost use Rattle.ber_values.specs.Visible.{IsVisible, is_visible_octet};
 ghost use Rattle.ber_values.specs.Writing.{written};
 
-use crate::contents::{length_fault, value_fault};
 use crate::fault::BerFault;
+use crate::faults::{length_fault, value_fault};
 use crate::head::Head;
 use crate::writing::{or_undo, put_element};
 use std::alloc::{AllocError, Global};

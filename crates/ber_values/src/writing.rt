@@ -8,7 +8,7 @@ ghost use Rattle.ber_values.specs.Writing.{written};
 use std::alloc::AllocError;
 
 /// Takes back what was appended since `out` had `mark` octets, where a step failed.
-pub(crate) fn or_undo(
+pub fn or_undo(
     out: &mut Vec<u8>,
     mark: usize,
     done: Result<(), AllocError>,

@@ -2,13 +2,11 @@
 //! variable access services).
 #![tactic(auto)]
 
-mod missing;
 mod read;
 mod report;
 mod spec;
 mod write;
 
-pub use missing::{short, surplus};
 pub use read::{
     Outcomes, ReadRequest, ReadResponse, put_read_request, put_read_response, read_request_from,
     read_request_len, read_response_from, read_response_len,

@@ -18,11 +18,10 @@ ghost use Rattle.mms_access.specs.Reads.{echo_in, read_request, read_response};
 ghost use Rattle.mms_access.specs.Reads.{echo_octets, echoed_octets, outcomes_octets};
 ghost use Rattle.mms_access.specs.Reads.{read_request_octets, read_response_octets};
 
-use crate::missing::{short, surplus};
 use crate::spec::{Spec, put_spec, spec_from, spec_len};
 use ber_values::{
-    BerFault, MOST_LENGTH, Part, Stop, add_len, has_tag, octets_from, part_len, take_end,
-    take_part, write_boolean, write_head,
+    BerFault, MOST_LENGTH, Part, Stop, add_len, has_tag, octets_from, part_len, short, surplus,
+    take_end, take_part, write_boolean, write_head,
 };
 use item_list::ItemList;
 use mms_data::{Outcome, outcome_len, take_outcome, write_outcome};

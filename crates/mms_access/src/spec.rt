@@ -10,9 +10,8 @@ ghost use Rattle.mms_access.specs.Specifications.{variable_octets, variables_oct
 ghost use Rattle.mms_access.specs.declared.spec.Spec.TheVariants as kinds;
 ghost use Rattle.ber_values.specs.declared.lengths.TheConstants.{MOST_LENGTH};
 
-use crate::missing::short;
 use ber_values::{
-    MOST_LENGTH, Part, Stop, add_len, has_tag, octets_from, part_len, take_end, take_part,
+    MOST_LENGTH, Part, Stop, add_len, has_tag, octets_from, part_len, short, take_end, take_part,
     write_head,
 };
 use mms_data::{Name, Names, name_len, take_name, write_name};

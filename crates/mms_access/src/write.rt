@@ -16,11 +16,10 @@ ghost use Rattle.mms_access.specs.Writes.{values_of, write_request, one_written,
 ghost use Rattle.mms_access.specs.Writes.{values_octets, write_request_octets};
 ghost use Rattle.mms_access.specs.Writes.{one_written_octets, write_response_octets};
 
-use crate::missing::{short, surplus};
 use crate::spec::{Spec, put_spec, spec_len, take_spec};
 use ber_values::{
-    BerFault, MOST_LENGTH, Part, Stop, add_len, has_tag, octets_from, part_len, take_end,
-    take_part, write_head, write_octets,
+    BerFault, MOST_LENGTH, Part, Stop, add_len, has_tag, octets_from, part_len, short, surplus,
+    take_end, take_part, write_head, write_octets,
 };
 use item_list::ItemList;
 use mms_data::{DataList, MmsData, data_len, take_data, write_data};

@@ -13,9 +13,8 @@ ghost use Rattle.mms_names.specs.Deletes.{delete_request_octets, delete_response
 
 use ber_values::{
     BerFault, MOST_LENGTH, Part, Stop, add_len, has_tag, integer_len, natural_len, octets_from,
-    part_len, take_end, take_part, write_head, write_integer, write_natural,
+    part_len, short, take_end, take_part, write_head, write_integer, write_natural,
 };
-use mms_access::short;
 use mms_data::{Name, Names, name_len, take_name, write_name};
 use std::alloc::{AllocError, Global};
 

@@ -1,6 +1,5 @@
 -- Requests of services (ISO 9506-2, ConfirmedServiceRequest).
-use Rattle.std.specs.Prelude.{ℕ, ◌/◌, Bool, ◌==◌}
-use Rattle.ber_values.specs.Grammars.{Grammar, map_in, branch_in, first_is, refused}
+use Rattle.ber_values.specs.Grammars.{Grammar, map_in, branch_in, first_is, is_context, refused}
 use Rattle.ber_values.specs.Passing.{skip}
 use Rattle.ber_values.specs.Parts.{choose_in, contents_as}
 use Rattle.mms_services.specs.declared.request.Request.{Request}
@@ -12,10 +11,6 @@ use Rattle.mms_access.specs.Writes.{write_request}
 use Rattle.mms_names.specs.Defines.{define_request}
 use Rattle.mms_names.specs.MemberLists.{members_request}
 use Rattle.mms_names.specs.Deletes.{delete_request}
-
--- whether an element with this first octet is of the context class
-abbrev pub is_context : ℕ → Bool
-is_context first = first / 64 == 2
 
 -- any other service: an element of the context class with a sound head
 unfoldable pub unknown_request : Grammar Request

@@ -4,8 +4,7 @@ ghost use Rattle.ber_values.specs.Faults.{Gives};
 ghost use Rattle.ber_values.specs.Grammars.{taken};
 ghost use Rattle.mms_services.specs.Coded.{coded_in};
 
-use ber_values::{BerFault, take_part};
-use mms_access::{short, surplus};
+use ber_values::{BerFault, short, surplus, take_part};
 
 /// The tag with the number 0 of those that are particular to their container.
 pub(crate) const FIRST_TAG: u8 = 0x80;

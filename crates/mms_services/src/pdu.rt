@@ -21,7 +21,7 @@ use crate::reject::{RejectPdu, put_reject_pdu, reject_pdu_from, reject_pdu_len};
 use crate::request::{Request, put_request, request_len, take_request};
 use crate::response::{Response, put_response, response_len, take_response};
 use ber_values::{
-    MOST_LENGTH, Part, Stop, add_len, has_tag, natural_len, octets_from, part_len, settle,
+    MOST_LENGTH, Part, Stop, add_len, has_tag, natural_len, octets_from, or_undo, part_len, settle,
     take_end, take_part, write_head, write_natural,
 };
 use mms_access::{ReportPdu, put_report_pdu, report_pdu_from, report_pdu_len};
@@ -277,12 +277,9 @@ pub fn write_pdu(out: &mut Vec<u8>, pdu: &MmsPdu) -> Result<(), AllocError>
     ensures ok { OnOk result (out.new.items ≡ out.old.items ++ pdu_octets pdu.now) }
     ensures err { OnErr result (out.new.items ≡ out.old.items) }
 {
-    let before = out.len();
-    let written = put_pdu(out, pdu);
-    if written.is_err() {
-        out.truncate(before);
-    }
-    written
+    let mark = out.len();
+    let done = put_pdu(out, pdu);
+    or_undo(out, mark, done)
 }
 
 #[tactic(auto, using(ber_values::proofs::Pieces::extended))]

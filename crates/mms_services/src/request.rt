@@ -6,21 +6,22 @@ ghost use Rattle.ber_values.specs.Lengths.{capped};
 ghost use Rattle.ber_values.specs.declared.lengths.TheConstants.{MOST_LENGTH};
 ghost use Rattle.mms_services.specs.Lawful.{IsLawfulRequest};
 ghost use Rattle.mms_services.specs.PduOctets.{request_tag, request_contents, request_octets};
-ghost use Rattle.ber_values.specs.Faults.{Gives, fault_at};
+ghost use Rattle.ber_values.specs.Faults.{Gives};
 ghost use Rattle.ber_values.specs.Stops.{Answers};
-ghost use Rattle.ber_values.specs.Grammars.{taken, first_is, why_refused};
+ghost use Rattle.ber_values.specs.Grammars.{taken};
 ghost use Rattle.ber_values.specs.Readers.{taken_from};
 ghost use Rattle.mms_services.specs.declared.request.Request.TheVariants as services;
-ghost use Rattle.mms_services.specs.Requests.{is_context, unknown_request, set_request};
+ghost use Rattle.mms_services.specs.Requests.{unknown_request, set_request};
 ghost use Rattle.mms_services.specs.Requests.{one_request};
 
 use crate::identify::identify_request_from;
 use ber_values::{
-    BerFault, MOST_LENGTH, Stop, has_tag, part_len, skip_part, take_part, write_head,
+    BerFault, MOST_LENGTH, Stop, has_tag, is_context, part_len, refused, skip_part, take_part,
+    write_head,
 };
 use mms_access::{
     ReadRequest, WriteRequest, put_read_request, put_write_request, read_request_from,
-    read_request_len, short, surplus, write_request_from, write_request_len,
+    read_request_len, write_request_from, write_request_len,
 };
 use mms_names::{
     DefineRequest, DeleteRequest, MembersRequest, NameListRequest, define_request_from,
@@ -142,24 +143,6 @@ fn pass_unknown(octets: &[u8], at: usize) -> Result<usize, BerFault>
         return Err(refused(octets, at));
     }
     skip_part(octets, at)
-}
-
-/// Whether the element at the front of octets is of the context class.
-fn is_context(octets: &[u8]) -> bool
-    ensures { result ≡ first_is is_context octets.now }
-{
-    matches!(octets, [first, ..] if *first / 64 == 2)
-}
-
-/// Why what is at the front of octets may not stand there.
-fn refused(octets: &[u8], at: usize) -> BerFault
-    ensures { result ≡ fault_at at (why_refused octets.now) }
-{
-    if octets.is_empty() {
-        short(at)
-    } else {
-        surplus(at)
-    }
 }
 
 /// The tag of a request. A service that isn't known has none of its own.

@@ -3,9 +3,8 @@ use Rattle.std.proofs.Common.{◌≡◌, ℕ, ◌+◌, ◌-◌, ◌≤◌, ◌<�
 use Rattle.std.specs.List.{All}
 use Rattle.std.proofs.lemmas.List.{length-append}
 use Rattle.std.proofs.lemmas.Bool.{eq-eqb, false≢true}
-use Rattle.ber_values.specs.declared.fault.Span.{Span}
 use Rattle.ber_values.specs.Oid.{IsOid}
-use Rattle.ber_values.specs.Writing.{written, length_octets}
+use Rattle.ber_values.specs.Writing.{written, length_octets, last_span}
 use Rattle.ber_values.specs.Grammars.{taken, gives, then_in, map_in, branch_in, has_tag}
 use Rattle.ber_values.specs.Passing.{skip, pass_in, is_other}
 use Rattle.ber_values.specs.Parts.{part_in, choose_in}
@@ -14,8 +13,8 @@ use Rattle.ber_values.specs.Readers.{taken_whole}
 use Rattle.ber_values.proofs.Capped.{short-sized, length-written, part_size-most}
 use Rattle.ber_values.proofs.Passed.{PassedSoFar, passed-begin, passed-ends}
 use Rattle.ber_values.proofs.WrittenParts.{Writes, Ends, ends_of, then-ends, map-ends, part-writes, all-spelled, whole-begins, none_passed, passed-written}
-use Rattle.tpkt_cotp.specs.Selectors.{IsSelector}
-use Rattle.presentation_profile.specs.declared.user_data.TheConstants.{MOST_BODY}
+use Rattle.tpkt_cotp.specs.Selectors.{IsSelector, HasSelector}
+use Rattle.ber_values.specs.declared.lengths.TheConstants.{MOST_BODY}
 use Rattle.ber_values.specs.declared.external.External.{External}
 use Rattle.ber_values.specs.Externals.{external_of, is_wanted}
 use Rattle.presentation_profile.specs.declared.expected.Expected.{Expected}
@@ -29,11 +28,11 @@ use Rattle.presentation_profile.specs.Others.{others, after_others, before_other
 use Rattle.presentation_profile.specs.UserData.{user_data}
 use Rattle.presentation_profile.specs.Results.{results}
 use Rattle.presentation_profile.specs.Ppdus.{connect_named, connect_selectors, connect, accept_named, accept, come_to_results, has_results, accept_or_connect, parameters, mode, set_up_contents, set_up, carry_of, ppdu}
-use Rattle.presentation_profile.specs.Written.{offers_octets, user_octets, results_octets, selector_octets, calling_octets, connect_octets, accept_octets, mode_octets, set_up_octets, ppdu_octets, AreOffers, IsWritable, HasSelector, IsHeld, IsAsExpected, AreAccepting, last_span, as_written}
+use Rattle.presentation_profile.specs.Written.{offers_octets, user_octets, results_octets, selector_octets, calling_octets, connect_octets, accept_octets, mode_octets, set_up_octets, ppdu_octets, AreOffers, IsWritable, IsHeld, IsAsExpected, AreAccepting, ppdu_as_written}
 use Rattle.presentation_profile.proofs.PpdusRead.{results-decided}
 use Rattle.presentation_profile.proofs.OffersWritten.{offers-writes, offers-few}
 use Rattle.presentation_profile.proofs.Sizes.{calling-sized, mode-sized, connect-sized, accept-sized}
-use Rattle.presentation_profile.proofs.UserWritten.{user-writes, results-write, body_within, results-few, user-few}
+use Rattle.presentation_profile.proofs.UserWritten.{user-writes, results-write, results-few, user-few}
 
 -- ---- selectors
 
@@ -84,10 +83,10 @@ selectors-begin called at after held =
     )
 
 -- user data with a tag of its own end
-last-begins : (wanted : Option ℕ) (named : List ℕ) (at id : ℕ) (body : List ℕ) → is_other 128 191 named 97 ≡ false → id < 2 ^ 32 → length body ≤ MOST_BODY → is_wanted wanted id ≡ true → Ends (after_others named (before_others named (user_data wanted))) at (external_of id (last_span at (user_octets id body) body)) (user_octets id body)
+last-begins : (wanted : Option ℕ) (named : List ℕ) (at id : ℕ) (body : List ℕ) → is_other 128 191 named 97 ≡ false → id < 2 ^ 32 → length body ≤ MOST_BODY → is_wanted wanted id ≡ true → Ends (after_others named (before_others named (user_data wanted))) at (external_of id (last_span (at + length (user_octets id body)) body)) (user_octets id body)
 unfolding after_others before_others then_in map_in user_octets
 last-begins wanted named at id body other few size right =
-    let user = external_of id (last_span at (user_octets id body) body) in
+    let user = external_of id (last_span (at + length (user_octets id body)) body) in
     let end = at + length (user_octets id body) in (
       taken tt at (user_octets id body),
       none_other named at 97 _ other,
@@ -98,20 +97,14 @@ last-begins wanted named at id body other few size right =
       ),
     )
 
-span-moved : (from at : ℕ) (last whole body : List ℕ) → from + length last ≡ at + length whole → length body ≤ length last → at ≤ from → last_span from last body ≡ last_span at whole body
-span-moved from at last whole body ends within after =
-    let start : from + (length last - length body) ≡ at + (length whole - length body) = omega (arith, ends, within, after) in
-    ap (λ (k : ℕ). record { from = k; to = from + length last }) start
-    ∙ ap (λ (k : ℕ). record { from = at + (length whole - length body); to = k }) ends
-
 connect-begins : (e : Expected) (called : Option (List ℕ)) (contexts : List Offered) (at id : ℕ) (body : List ℕ) → HasSelector called → AreOffers contexts → All (λ o. IsOid o.abstract_name) contexts → id < 2 ^ 32 → length body ≤ MOST_BODY → is_wanted (connect_id e contexts) id ≡ true
     → (place : ℕ) → place ≡ at + length calling_octets + length (selector_octets 130 called) + length (offers_octets contexts)
-    → (connect e).begins at (connect_octets called contexts id body) (taken (Connect called contexts id (last_span place (user_octets id body) body)) (place + length (user_octets id body)) [])
+    → (connect e).begins at (connect_octets called contexts id body) (taken (Connect called contexts id (last_span (place + length (user_octets id body)) body)) (place + length (user_octets id body)) [])
 unfolding connect connect_octets then_in map_in after_others offers_octets
 connect-begins e called contexts at id body held are named few size right place is =
     let user = user_octets id body in
     let second = at + length calling_octets + length (selector_octets 130 called) in
-    let value : External = external_of id (last_span place user body) in (
+    let value : External = external_of id (last_span (place + length user) body) in (
       taken called second (offers_octets contexts ++ user),
       selectors-begin called at _ held,
       (
@@ -122,15 +115,14 @@ connect-begins e called contexts at id body held are named few size right place 
     )
 
 connect-ends : (e : Expected) (called : Option (List ℕ)) (contexts : List Offered) (at id : ℕ) (body : List ℕ) → HasSelector called → AreOffers contexts → All (λ o. IsOid o.abstract_name) contexts → id < 2 ^ 32 → length body ≤ MOST_BODY → is_wanted (connect_id e contexts) id ≡ true
-    → Ends (connect e) at (Connect called contexts id (last_span at (connect_octets called contexts id body) body)) (connect_octets called contexts id body)
+    → Ends (connect e) at (Connect called contexts id (last_span (at + length (connect_octets called contexts id body)) body)) (connect_octets called contexts id body)
 connect-ends e called contexts at id body held are named few size right =
     let user = user_octets id body in
     let whole = connect_octets called contexts id body in
     let place = at + length calling_octets + length (selector_octets 130 called) + length (offers_octets contexts) in
     let ends : place + length user ≡ at + length whole = omega (arith, connect-sized called contexts id (length (selector_octets 130 called)) (length (offers_octets contexts)) (length user) body refl refl refl, calling-sized) in
-    subst (λ (k : ℕ). (connect e).begins at whole (taken (Connect called contexts id (last_span at whole body)) k [])) ends
-    (subst (λ (s : Span). (connect e).begins at whole (taken (Connect called contexts id s) (place + length user) [])) (span-moved place at user whole body ends (body_within id body) (omega arith))
-    (connect-begins e called contexts at id body held are named few size right place refl))
+    subst (λ (k : ℕ). (connect e).begins at whole (taken (Connect called contexts id (last_span k body)) k [])) ends
+    (connect-begins e called contexts at id body held are named few size right place refl)
 
 -- ---- an accept
 
@@ -141,12 +133,12 @@ responding-begins (Some octets) at after held = (taken tt at (written 131 octets
 
 accept-begins : (e : Expected) (called : Option (List ℕ)) (found : List ℕ) (at id : ℕ) (body : List ℕ) → HasSelector called → length found ≤ MOST_OFFERS → id < 2 ^ 32 → length body ≤ MOST_BODY → is_wanted (accept_id e) id ≡ true → (are_judged e ≡ true → AreAccepting found)
     → (place : ℕ) → place ≡ at + length (selector_octets 131 called) + length (results_octets found)
-    → (accept e).begins at (accept_octets called found id body) (taken (Accept called found id (last_span place (user_octets id body) body)) (place + length (user_octets id body)) [])
+    → (accept e).begins at (accept_octets called found id body) (taken (Accept called found id (last_span (place + length (user_octets id body)) body)) (place + length (user_octets id body)) [])
 unfolding accept accept_octets then_in map_in after_others results_octets
 accept-begins e called found at id body held most few size right ok place is =
     let user = user_octets id body in
     let second = at + length (selector_octets 131 called) in
-    let value : External = external_of id (last_span place user body) in (
+    let value : External = external_of id (last_span (place + length user) body) in (
       taken called second (results_octets found ++ user),
       responding-begins called at _ held,
       (
@@ -157,15 +149,14 @@ accept-begins e called found at id body held most few size right ok place is =
     )
 
 accept-ends : (e : Expected) (called : Option (List ℕ)) (found : List ℕ) (at id : ℕ) (body : List ℕ) → HasSelector called → length found ≤ MOST_OFFERS → id < 2 ^ 32 → length body ≤ MOST_BODY → is_wanted (accept_id e) id ≡ true → (are_judged e ≡ true → AreAccepting found)
-    → Ends (accept e) at (Accept called found id (last_span at (accept_octets called found id body) body)) (accept_octets called found id body)
+    → Ends (accept e) at (Accept called found id (last_span (at + length (accept_octets called found id body)) body)) (accept_octets called found id body)
 accept-ends e called found at id body held most few size right ok =
     let user = user_octets id body in
     let whole = accept_octets called found id body in
     let place = at + length (selector_octets 131 called) + length (results_octets found) in
     let ends : place + length user ≡ at + length whole = omega (arith, accept-sized called found id (length (selector_octets 131 called)) (length (results_octets found)) (length user) body refl refl refl) in
-    subst (λ (k : ℕ). (accept e).begins at whole (taken (Accept called found id (last_span at whole body)) k [])) ends
-    (subst (λ (s : Span). (accept e).begins at whole (taken (Accept called found id s) (place + length user) [])) (span-moved place at user whole body ends (body_within id body) (omega arith))
-    (accept-begins e called found at id body held most few size right ok place refl))
+    subst (λ (k : ℕ). (accept e).begins at whole (taken (Accept called found id (last_span k body)) k [])) ends
+    (accept-begins e called found at id body held most few size right ok place refl)
 
 -- ---- which of the two
 
@@ -224,10 +215,6 @@ parameters_last at contents =
     let last = written 162 contents in
     omega (arith, length-append (length_octets (length (mode_octets ++ last))) (mode_octets ++ last), length-append mode_octets last, length-append (length_octets (length contents)) contents)
 
-parameters_after : (at : ℕ) (contents : List ℕ) → at ≤ parameters_place at contents
-unfolding parameters_place
-parameters_after at contents = omega arith
-
 set_up-writes : (e : Expected) (at : ℕ) (contents : List ℕ) (p : Ppdu) → length contents < 2 ^ 31 → Ends (accept_or_connect e) (parameters_place at contents) p contents → Writes (set_up e) at p (set_up_octets contents)
 unfolding set_up set_up_octets set_up_contents parameters branch_in parameters_place mode_octets
 set_up-writes e at contents p few done =
@@ -257,42 +244,40 @@ selector-few tag None held = omega arith
 selector-few tag (Some octets) held = omega (arith, held.1, short-sized tag octets (omega (arith, held.1)))
 
 connect-whole : (e : Expected) (called : Option (List ℕ)) (contexts : List Offered) (at id : ℕ) (body : List ℕ) → HasSelector called → AreOffers contexts → All (λ o. IsOid o.abstract_name) contexts → id < 2 ^ 32 → length body ≤ MOST_BODY → is_wanted (connect_id e contexts) id ≡ true
-    → Ends (ppdu e) at (Connect called contexts id (last_span at (set_up_octets (connect_octets called contexts id body)) body)) (set_up_octets (connect_octets called contexts id body))
+    → Ends (ppdu e) at (Connect called contexts id (last_span (at + length (set_up_octets (connect_octets called contexts id body))) body)) (set_up_octets (connect_octets called contexts id body))
 connect-whole e called contexts at id body held are named few size right =
     let contents = connect_octets called contexts id body in
     let place = parameters_place at contents in
     let sized = connect-sized called contexts id (length (selector_octets 130 called)) (length (offers_octets contexts)) (length (user_octets id body)) body refl refl refl in
     let small : length contents < 2 ^ 31 = omega (arith, sized, selector-few 130 called held, offers-few contexts are named, user-few id body few size, size) in
-    let within : length body ≤ length contents = omega (arith, sized, body_within id body) in
     let first = connect-first called contexts id body held (omega (arith, small)) in
-    set_up-ends e at contents (Connect called contexts id (last_span at (set_up_octets contents) body))
-    (subst (λ (s : Span). Writes (set_up e) at (Connect called contexts id s) (set_up_octets contents)) (span-moved place at contents (set_up_octets contents) body (parameters_last at contents) within (parameters_after at contents))
-    (set_up-writes e at contents (Connect called contexts id (last_span place contents body)) small
-    (is_connect e place contents (Connect called contexts id (last_span place contents body)) first (connect-ends e called contexts place id body held are named few size right))))
+    set_up-ends e at contents (Connect called contexts id (last_span (at + length (set_up_octets contents)) body))
+    (subst (λ (k : ℕ). Writes (set_up e) at (Connect called contexts id (last_span k body)) (set_up_octets contents)) (parameters_last at contents)
+    (set_up-writes e at contents (Connect called contexts id (last_span (place + length contents) body)) small
+    (is_connect e place contents (Connect called contexts id (last_span (place + length contents) body)) first (connect-ends e called contexts place id body held are named few size right))))
 
 accept-whole : (e : Expected) (called : Option (List ℕ)) (found : List ℕ) (at id : ℕ) (body : List ℕ) → HasSelector called → length found ≤ MOST_OFFERS → id < 2 ^ 32 → length body ≤ MOST_BODY → is_wanted (accept_id e) id ≡ true → (are_judged e ≡ true → AreAccepting found)
-    → Ends (ppdu e) at (Accept called found id (last_span at (set_up_octets (accept_octets called found id body)) body)) (set_up_octets (accept_octets called found id body))
+    → Ends (ppdu e) at (Accept called found id (last_span (at + length (set_up_octets (accept_octets called found id body))) body)) (set_up_octets (accept_octets called found id body))
 accept-whole e called found at id body held most few size right ok =
     let contents = accept_octets called found id body in
     let place = parameters_place at contents in
     let sized = accept-sized called found id (length (selector_octets 131 called)) (length (results_octets found)) (length (user_octets id body)) body refl refl refl in
     let small : length contents < 2 ^ 31 = omega (arith, sized, selector-few 131 called held, results-few found most, user-few id body few size, size) in
-    let within : length body ≤ length contents = omega (arith, sized, body_within id body) in
     let first = accept-first called found id body held (omega (arith, small)) in
-    set_up-ends e at contents (Accept called found id (last_span at (set_up_octets contents) body))
-    (subst (λ (s : Span). Writes (set_up e) at (Accept called found id s) (set_up_octets contents)) (span-moved place at contents (set_up_octets contents) body (parameters_last at contents) within (parameters_after at contents))
-    (set_up-writes e at contents (Accept called found id (last_span place contents body)) small
-    (is_accept e place contents (Accept called found id (last_span place contents body)) first (accept-ends e called found place id body held most few size right ok))))
+    set_up-ends e at contents (Accept called found id (last_span (at + length (set_up_octets contents)) body))
+    (subst (λ (k : ℕ). Writes (set_up e) at (Accept called found id (last_span k body)) (set_up_octets contents)) (parameters_last at contents)
+    (set_up-writes e at contents (Accept called found id (last_span (place + length contents) body)) small
+    (is_accept e place contents (Accept called found id (last_span (place + length contents) body)) first (accept-ends e called found place id body held most few size right ok))))
 
-carry-whole : (e : Expected) (at id : ℕ) (body : List ℕ) → id < 2 ^ 32 → length body ≤ MOST_BODY → is_wanted (carry_id e) id ≡ true → Ends (ppdu e) at (Carry id (last_span at (user_octets id body) body)) (user_octets id body)
+carry-whole : (e : Expected) (at id : ℕ) (body : List ℕ) → id < 2 ^ 32 → length body ≤ MOST_BODY → is_wanted (carry_id e) id ≡ true → Ends (ppdu e) at (Carry id (last_span (at + length (user_octets id body)) body)) (user_octets id body)
 unfolding ppdu branch_in user_octets
 carry-whole e at id body few size right =
-    let user = external_of id (last_span at (user_octets id body) body) in
-    whole-begins _ at (Carry id (last_span at (user_octets id body) body)) (user_octets id body)
+    let user = external_of id (last_span (at + length (user_octets id body)) body) in
+    whole-begins _ at (Carry id (last_span (at + length (user_octets id body)) body)) (user_octets id body)
     (inl (refl, map-ends carry_of (user_data (carry_id e)) at user (user_octets id body) (ends_of (user_data (carry_id e)) at user (user_octets id body) (user-writes (carry_id e) at id body few size right))))
 
 -- what is written for a PPDU is one, with the body at its end
-pub ppdu-begins : (e : Expected) (p : Ppdu) (body : List ℕ) (at : ℕ) → IsWritable p → IsHeld p → IsAsExpected e p → length body ≤ MOST_BODY → (ppdu e).begins at (ppdu_octets p body) (taken_whole at (ppdu_octets p body) (as_written at p body))
+pub ppdu-begins : (e : Expected) (p : Ppdu) (body : List ℕ) (at : ℕ) → IsWritable p → IsHeld p → IsAsExpected e p → length body ≤ MOST_BODY → (ppdu e).begins at (ppdu_octets p body) (taken_whole at (ppdu_octets p body) (ppdu_as_written at p body))
 ppdu-begins e (Connect called contexts id old) body at are held right size = connect-whole e called contexts at id body held.0 are held.1.0 held.1.1 size right
 ppdu-begins e (Accept called found id old) body at most held right size = accept-whole e called found at id body held.0 most held.1 size right.0 right.1
 ppdu-begins e (Carry id old) body at any held right size = carry-whole e at id body held size right

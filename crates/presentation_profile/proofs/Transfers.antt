@@ -36,7 +36,7 @@ pub names-more : (head : Head) (contents : List ℕ) (ber : Bool) (at : ℕ) (re
 names-more head contents ber at rest name next some read first last s = record {
   names = s.names ++ name ∷ [];
   any = ap (λ b. b || names_ber name) s.any ∙ sym (any_ber-push s.names name);
-  read = members-more (part_in 6 oid) 0 (length contents) s.names at rest ((list_in 0 (part_in 6 oid)).reading head contents) name next some read first last s.read;
+  read = members-more s.read some name next read first last;
 }
 
 pub names-fail : (head : Head) (contents : List ℕ) (ber : Bool) (at : ℕ) (rest : List ℕ) (f : BerFault) → 0 < length rest → (part_in 6 oid).reading at rest ≡ Err f → NamesSoFar head contents ber at rest → transfers.reading head contents ≡ Err f
@@ -48,5 +48,5 @@ names-fail head contents ber at rest f some read s =
 pub names-end : (head : Head) (contents : List ℕ) (ber : Bool) (at : ℕ) (rest : List ℕ) → length rest ≡ 0 → NamesSoFar head contents ber at rest → transfers.reading head contents ≡ Ok ber
 unfolding transfers contents_as
 names-end head contents ber at rest none s =
-    let e : (list_in 0 (part_in 6 oid)).reading head contents ≡ Ok s.names = members-end (part_in 6 oid) 0 (length contents) s.names at rest ((list_in 0 (part_in 6 oid)).reading head contents) none (omega arith) s.read in
+    let e : (list_in 0 (part_in 6 oid)).reading head contents ≡ Ok s.names = members-end s.read none (omega arith) in
     ap (λ (r : Result (List (List ℕ)) BerFault). r >>= λ names. Ok (any_ber names)) e ∙ ap (λ (b : Bool). Ok b) (sym s.any)

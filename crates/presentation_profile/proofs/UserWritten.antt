@@ -2,22 +2,20 @@
 use Rattle.std.proofs.Common.{◌≡◌, ℕ, ◌+◌, ◌-◌, ◌*◌, ◌≤◌, ◌<◌, ◌^◌, eqb, Bool, true, false, Option, Some, None, List, [], ◌∷◌, ◌++◌, length, flat_map, pos, refl, sym, ap, subst, ◌∙◌, inl, inr, arith}
 use Rattle.std.proofs.lemmas.List.{length-append}
 use Rattle.std.proofs.lemmas.Bool.{eqb-true, cond_both}
-use Rattle.ber_values.specs.declared.fault.Span.{Span}
-use Rattle.ber_values.specs.Writing.{written, integer_octets, length_octets}
+use Rattle.ber_values.specs.Writing.{written, integer_octets, length_octets, last_span}
 use Rattle.ber_values.specs.Grammars.{taken, gives, then_in, map_in, branch_in}
 use Rattle.ber_values.specs.Passing.{is_other}
 use Rattle.ber_values.specs.Parts.{part_in, maybe_in, all_in, contents_where, contents_as}
-use Rattle.ber_values.specs.Leaves.{oid, span_at, octet}
+use Rattle.ber_values.specs.Leaves.{oid, octet}
 use Rattle.ber_values.proofs.Capped.{short-sized, length-written, part_size-most}
 use Rattle.ber_values.proofs.WrittenParts.{Writes, ends_of, part-writes, all-spelled, none_passed, WritesEach, WriteAll, list-spelled}
-use Rattle.presentation_profile.specs.declared.user_data.TheConstants.{MOST_BODY}
+use Rattle.ber_values.specs.declared.lengths.TheConstants.{MOST_BODY}
 use Rattle.presentation_profile.specs.declared.offers.TheConstants.{MOST_OFFERS}
 use Rattle.ber_values.specs.Externals.{external_of, is_wanted, external, external_octets}
 use Rattle.ber_values.proofs.Externals.{external-spelled}
-use Rattle.ber_values.proofs.Externals as externals
 use Rattle.presentation_profile.specs.UserData.{user_data}
 use Rattle.presentation_profile.specs.Results.{may_be, result_contents, one_result, any_results, first_in, accepting_results, results}
-use Rattle.presentation_profile.specs.Written.{AreAccepting, user_octets, accepted_octets, refused_octets, result_octets, results_octets, last_span}
+use Rattle.presentation_profile.specs.Written.{AreAccepting, user_octets, accepted_octets, refused_octets, result_octets, results_octets}
 use Rattle.presentation_profile.proofs.OffersWritten.{id-few, oid-spelled, ber_is}
 
 -- ---- user data
@@ -25,34 +23,21 @@ use Rattle.presentation_profile.proofs.OffersWritten.{id-few, oid-spelled, ber_i
 values-few : (id : ℕ) (body : List ℕ) → id < 2 ^ 32 → length body ≤ MOST_BODY → length (external_octets id body) ≤ length body + 16
 values-few id body few size = omega (arith, length-append (written 2 (integer_octets (pos id))) (written 160 body), length-written 160 body, part_size-most (length body), short-sized 2 (integer_octets (pos id)) (omega (arith, id-few id few)), id-few id few)
 
-pub span-last : (from at : ℕ) (octets body : List ℕ) → from + length body ≡ at + length octets → length body ≤ length octets → span_at from body ≡ last_span at octets body
-span-last from at octets body ends within =
-    let start : from ≡ at + (length octets - length body) = omega (arith, ends, within) in
-    let stop : from + length body ≡ at + length octets = ends in
-    ap (λ (k : ℕ). record { from = k; to = from + length body }) start ∙ ap (λ (k : ℕ). record { from = at + (length octets - length body); to = k }) stop
-
 -- the list of one value, which ends where its body does
-list-spelled_at : (wanted : Option ℕ) (at id : ℕ) (body : List ℕ) → id < 2 ^ 32 → length body ≤ MOST_BODY → is_wanted wanted id ≡ true → (all_in (part_in 48 (external wanted))).spells at (external_of id (externals.last_span (at + length (written 48 (external_octets id body))) body)) (written 48 (external_octets id body))
+list-spelled_at : (wanted : Option ℕ) (at id : ℕ) (body : List ℕ) → id < 2 ^ 32 → length body ≤ MOST_BODY → is_wanted wanted id ≡ true → (all_in (part_in 48 (external wanted))).spells at (external_of id (last_span (at + length (written 48 (external_octets id body))) body)) (written 48 (external_octets id body))
 list-spelled_at wanted at id body few size is =
     let value = external_octets id body in
     let from = at + 1 + length (length_octets (length value)) in
     let list = written 48 value in
     let ends : from + length value ≡ at + length list = omega (arith, length-append (length_octets (length value)) value) in
-    subst (λ (end : ℕ). (all_in (part_in 48 (external wanted))).spells at (external_of id (externals.last_span end body)) list) ends
-    (all-spelled (part_in 48 (external wanted)) at (external_of id (externals.last_span (from + length value) body)) list
-    (ends_of (part_in 48 (external wanted)) at (external_of id (externals.last_span (from + length value) body)) list
-    (part-writes 48 (external wanted) at (external_of id (externals.last_span (from + length value) body)) value (omega (arith, values-few id body few size, size))
+    subst (λ (end : ℕ). (all_in (part_in 48 (external wanted))).spells at (external_of id (last_span end body)) list) ends
+    (all-spelled (part_in 48 (external wanted)) at (external_of id (last_span (from + length value) body)) list
+    (ends_of (part_in 48 (external wanted)) at (external_of id (last_span (from + length value) body)) list
+    (part-writes 48 (external wanted) at (external_of id (last_span (from + length value) body)) value (omega (arith, values-few id body few size, size))
     (external-spelled wanted id body from few (omega (arith, size)) is))))
 
-pub body_within : (id : ℕ) (body : List ℕ) → length body ≤ length (user_octets id body)
-unfolding user_octets
-body_within id body =
-    let value = external_octets id body in
-    let list = written 48 value in
-    omega (arith, length-append (length_octets (length list)) list, length-append (length_octets (length value)) value, length-append (written 2 (integer_octets (pos id))) (written 160 body), length-append (length_octets (length body)) body)
-
 -- what is written for user data begins what follows it, with its body at the end
-pub user-writes : (wanted : Option ℕ) (at id : ℕ) (body : List ℕ) → id < 2 ^ 32 → length body ≤ MOST_BODY → is_wanted wanted id ≡ true → Writes (user_data wanted) at (external_of id (last_span at (user_octets id body) body)) (user_octets id body)
+pub user-writes : (wanted : Option ℕ) (at id : ℕ) (body : List ℕ) → id < 2 ^ 32 → length body ≤ MOST_BODY → is_wanted wanted id ≡ true → Writes (user_data wanted) at (external_of id (last_span (at + length (user_octets id body)) body)) (user_octets id body)
 unfolding user_data user_octets
 user-writes wanted at id body few size is =
     let value = external_octets id body in
@@ -60,11 +45,9 @@ user-writes wanted at id body few size is =
     let from = at + 1 + length (length_octets (length list)) in
     let whole = written 97 list in
     let ends : from + length list ≡ at + length whole = omega (arith, length-append (length_octets (length list)) list) in
-    let starts : (from + length list) - length body ≡ at + (length whole - length body) = omega (arith, ends, body_within id body) in
     let values_few = values-few id body few size in
-    subst (λ (s : Span). Writes (part_in 97 (all_in (part_in 48 (external wanted)))) at (external_of id s) whole)
-    (ap (λ (k : ℕ). record { from = k; to = from + length list }) starts ∙ ap (λ (k : ℕ). record { from = at + (length whole - length body); to = k }) ends)
-    (part-writes 97 (all_in (part_in 48 (external wanted))) at (external_of id (externals.last_span (from + length list) body)) list (omega (arith, values_few, length-written 48 value, part_size-most (length value), size))
+    subst (λ (end : ℕ). Writes (part_in 97 (all_in (part_in 48 (external wanted)))) at (external_of id (last_span end body)) whole) ends
+    (part-writes 97 (all_in (part_in 48 (external wanted))) at (external_of id (last_span (from + length list) body)) list (omega (arith, values_few, length-written 48 value, part_size-most (length value), size))
     (list-spelled_at wanted from id body few size is))
 
 -- ---- results

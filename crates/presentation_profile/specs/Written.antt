@@ -1,13 +1,13 @@
 -- The written form of PPDUs: the shortest lengths, and the elements in the standard's order.
-use Rattle.std.specs.Prelude.{◌≡◌, ℕ, ◌+◌, ◌-◌, ◌^◌, ◌<◌, ◌≤◌, true, List, [], ◌∷◌, ◌++◌, length}
+use Rattle.std.specs.Prelude.{◌≡◌, ℕ, ◌+◌, ◌^◌, ◌<◌, ◌≤◌, true, List, [], ◌∷◌, ◌++◌, length}
 use Rattle.std.specs.Prelude.{flat_map, Option, Some, None, pos, ◌==◌, if◌then◌else◌}
 use Rattle.std.specs.List.{All}
 use Rattle.ber_values.specs.declared.fault.Span.{Span}
 use Rattle.ber_values.specs.Oid.{IsOid}
 use Rattle.ber_values.specs.Externals.{external_octets, is_wanted}
 use Rattle.ber_values.specs.Lengths.{part_size}
-use Rattle.ber_values.specs.Writing.{head_octets, written, integer_octets}
-use Rattle.tpkt_cotp.specs.Selectors.{IsSelector}
+use Rattle.ber_values.specs.Writing.{head_octets, written, integer_octets, last_span}
+use Rattle.tpkt_cotp.specs.Selectors.{HasSelector}
 use Rattle.presentation_profile.specs.declared.expected.Expected.{Expected}
 use Rattle.presentation_profile.specs.Expecting.{connect_id, accept_id, carry_id, are_judged}
 use Rattle.presentation_profile.specs.declared.offers.Offered.{Offered}
@@ -102,25 +102,16 @@ IsWritable (Connect called contexts id _) = AreOffers contexts
 IsWritable (Accept called found id _) = length found ≤ MOST_OFFERS
 IsWritable (Carry id _) = Unit {0}
 
--- where a body stands at the end of octets, of which the first has the place at
-abbrev pub last_span : ℕ → List ℕ → List ℕ → Span
-last_span at octets body =
-    record { from = at + (length octets - length body); to = at + length octets }
-
 -- the same PPDU, with its body in another place
-abbrev pub with_body : Span → Ppdu → Ppdu
-with_body span (Connect called contexts id _) = Connect called contexts id span
-with_body span (Accept called found id _) = Accept called found id span
-with_body span (Carry id _) = Carry id span
+abbrev pub ppdu_with_body : Span → Ppdu → Ppdu
+ppdu_with_body span (Connect called contexts id _) = Connect called contexts id span
+ppdu_with_body span (Accept called found id _) = Accept called found id span
+ppdu_with_body span (Carry id _) = Carry id span
 
 -- the value that the written form spells at a place
-abbrev pub as_written : ℕ → Ppdu → List ℕ → Ppdu
-as_written at p body = with_body (last_span at (ppdu_octets p body) body) p
-
--- a selector, if there is one, is one
-abbrev pub HasSelector : Option (List ℕ) → Type 0
-HasSelector None = Unit {0}
-HasSelector (Some selector) = IsSelector selector
+abbrev pub ppdu_as_written : ℕ → Ppdu → List ℕ → Ppdu
+ppdu_as_written at p body =
+    ppdu_with_body (last_span (at + length (ppdu_octets p body)) body) p
 
 -- what the types of a PPDU's parts hold
 abbrev pub IsHeld : Ppdu → Type 0

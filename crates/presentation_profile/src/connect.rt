@@ -2,6 +2,7 @@
 ghost use Rattle.std.specs.Prelude.{◌≡◌, ◌+◌, ◌<◌, ◌≤◌, ◌^◌, ◌++◌, length, IfOk};
 ghost use Rattle.std.specs.Prelude.{OnOk, OnErr};
 ghost use Rattle.plain_text.specs.Extends.{Extends};
+ghost use Rattle.ber_values.specs.declared.lengths.TheConstants.{MOST_BODY};
 ghost use Rattle.ber_values.specs.Stops.{Answers};
 ghost use Rattle.ber_values.specs.Parts.{all_in};
 ghost use Rattle.ber_values.specs.Readers.{taken_from};
@@ -14,7 +15,7 @@ use crate::expected::{Expected, connect_id};
 use crate::offers::{OFFERS, Offers, offers_len, put_offers, take_offers};
 use crate::others::{put_selector, selector_len, skip_others, take_last_data, take_selector};
 use crate::ppdu::Ppdu;
-use crate::user_data::{MOST_BODY, put_user_data, user_len};
+use crate::user_data::{put_user_data, user_len};
 use ber_values::{Part, Stop, octets_from, take_end};
 use std::alloc::{AllocError, Global};
 use tpkt_cotp::Selector;

@@ -9,9 +9,9 @@ ghost use Rattle.presentation_profile.specs.declared.offers.Offered.{Offered};
 ghost use Rattle.presentation_profile.specs.declared.ppdu.Ppdu.{Ppdu};
 ghost use Rattle.presentation_profile.specs.declared.expected.Expected.{Expected};
 ghost use Rattle.presentation_profile.specs.Offers.{offers};
-ghost use Rattle.presentation_profile.specs.declared.user_data.TheConstants.{MOST_BODY};
+ghost use Rattle.ber_values.specs.declared.lengths.TheConstants.{MOST_BODY};
 ghost use Rattle.presentation_profile.specs.Ppdus.{ppdu};
-ghost use Rattle.presentation_profile.specs.Written.{offers_octets, ppdu_octets, as_written};
+ghost use Rattle.presentation_profile.specs.Written.{offers_octets, ppdu_octets, ppdu_as_written};
 ghost use Rattle.presentation_profile.specs.Written.{AreOffers, IsWritable, IsHeld, IsAsExpected};
 
 /// Octets have one reading as offers: exactly one holds, they begin with exactly one list of them,
@@ -42,5 +42,5 @@ pub fn written_ppdus_are_read()
     ensures { (e : Expected) (p : Ppdu) (body : List ℕ) (at : ℕ)
         → IsWritable p → IsHeld p → IsAsExpected e p → length body ≤ MOST_BODY
         → (ppdu e).begins at (ppdu_octets p body)
-        (taken_whole at (ppdu_octets p body) (as_written at p body)) }
+        (taken_whole at (ppdu_octets p body) (ppdu_as_written at p body)) }
 {}

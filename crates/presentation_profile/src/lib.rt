@@ -13,6 +13,7 @@ mod results;
 mod user_data;
 
 pub use agreement::{ACSE, Agreed, ContextFault, MMS, acse_id, agree, mms_id, results_of};
+pub use ber_values::MOST_BODY;
 pub use expected::Expected;
 pub use laws::{
     offers_have_one_reading, ppdus_have_one_reading, written_offers_are_read,
@@ -24,4 +25,3 @@ pub use offers::{
 };
 pub use ppdu::{Ppdu, read_ppdu, write_ppdu};
 pub use results::Results;
-pub use user_data::MOST_BODY;

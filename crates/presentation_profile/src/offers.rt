@@ -4,7 +4,6 @@ ghost use Rattle.std.specs.Prelude.{OnOk, OnErr, IsTrue, ◌↔◌};
 ghost use Rattle.std.specs.List.{All};
 ghost use Rattle.std.specs.List.{slice_range};
 ghost use Rattle.plain_text.specs.Extends.{Extends};
-ghost use Rattle.ber_values.specs.Faults.{fault_at};
 ghost use Rattle.ber_values.specs.Stops.{Answers};
 ghost use Rattle.ber_values.specs.Lists.{count_in};
 ghost use Rattle.ber_values.specs.Readers.{IsReadBy, taken_from};
@@ -14,8 +13,8 @@ ghost use Rattle.presentation_profile.specs.Written.{offered_octets, offer_octet
 ghost use Rattle.presentation_profile.specs.Written.{ber_octets, IsOffered, AreOffers};
 
 use ber_values::{
-    BerFault, Oid, Part, Stop, Why, natural_len, octets_from, part_len, settle, take_end,
-    take_part, write_head, write_natural, write_oid,
+    BerFault, Oid, Part, Stop, natural_len, octets_from, or_undo, part_len, settle, short, surplus,
+    take_end, take_part, write_head, write_natural, write_oid,
 };
 use item_list::ItemList;
 use std::alloc::{AllocError, Global};
@@ -108,7 +107,7 @@ fn offers_in(alloc: Global, part: &Part<'_>) -> Result<Offers, Stop>
     let mut rest = part.contents;
     while !rest.is_empty() {
         if offered.len() == MOST_OFFERS {
-            return Err(Stop::Fault(fault(at, Why::Tag)));
+            return Err(Stop::Fault(surplus(at)));
         }
         let (one, next) = take_offer(alloc, rest, at)?;
         offered.push(one)?;
@@ -116,7 +115,7 @@ fn offers_in(alloc: Global, part: &Part<'_>) -> Result<Offers, Stop>
         at = next;
     }
     if offered.len() == 0 {
-        return Err(Stop::Fault(fault(at, Why::Short)));
+        return Err(Stop::Fault(short(at)));
     }
     Ok(offered)
 }
@@ -131,13 +130,6 @@ fn take_offer(alloc: Global, octets: &[u8], at: usize) -> Result<(Offered, usize
     let part = take_part(octets, at, SEQUENCE)?;
     let offered = offer_from(alloc, &part)?;
     Ok((offered, part.head.next))
-}
-
-/// This fault at this place.
-fn fault(place: usize, why: Why) -> BerFault
-    ensures { result ≡ fault_at place why }
-{
-    BerFault { place, why }
 }
 
 /// Whether this names BER.
@@ -263,12 +255,9 @@ pub fn write_offers(out: &mut Vec<u8>, offers: &Offers) -> Result<(), AllocError
     ensures ok { OnOk result (out.new.items ≡ out.old.items ++ offers_octets offers.now) }
     ensures err { OnErr result (out.new.items ≡ out.old.items) }
 {
-    let before = out.len();
-    let written = put_offers(out, offers);
-    if written.is_err() {
-        out.truncate(before);
-    }
-    written
+    let mark = out.len();
+    let done = put_offers(out, offers);
+    or_undo(out, mark, done)
 }
 
 pub(crate) fn put_offers(out: &mut Vec<u8>, offers: &Offers) -> Result<(), AllocError>

@@ -3,6 +3,7 @@ ghost use Rattle.std.specs.Prelude.{◌≡◌, ◌+◌, ◌<◌, ◌≤◌, ◌^
 ghost use Rattle.std.specs.Prelude.{OnOk, OnErr};
 ghost use Rattle.std.specs.List.{slice_range};
 ghost use Rattle.plain_text.specs.Extends.{Extends};
+ghost use Rattle.ber_values.specs.declared.lengths.TheConstants.{MOST_BODY};
 ghost use Rattle.ber_values.specs.Faults.{Gives};
 ghost use Rattle.ber_values.specs.Stops.{Answers};
 ghost use Rattle.ber_values.specs.Parts.{all_in};
@@ -20,10 +21,10 @@ use crate::expected::{Expected, carry_id};
 use crate::offers::{MOST_OFFERS, OFFERS, Offers};
 use crate::others::skip_others;
 use crate::results::{RESULTS, Results};
-use crate::user_data::{MOST_BODY, USER_DATA, put_user_data, take_user_data};
+use crate::user_data::{USER_DATA, put_user_data, take_user_data};
 use ber_values::{
-    BerFault, Part, Span, Stop, has_tag, octets_from, part_len, settle, take_end, take_part,
-    write_head,
+    BerFault, Part, Span, Stop, has_tag, octets_from, or_undo, part_len, settle, take_end,
+    take_part, write_head,
 };
 use std::alloc::{AllocError, Global};
 use tpkt_cotp::Selector;
@@ -213,12 +214,9 @@ pub fn write_ppdu(out: &mut Vec<u8>, ppdu: &Ppdu, body: &[u8]) -> Result<(), All
     ensures ok { OnOk result (out.new.items ≡ out.old.items ++ ppdu_octets ppdu.now body.now) }
     ensures err { OnErr result (out.new.items ≡ out.old.items) }
 {
-    let before = out.len();
-    let written = put_ppdu(out, ppdu, body);
-    if written.is_err() {
-        out.truncate(before);
-    }
-    written
+    let mark = out.len();
+    let done = put_ppdu(out, ppdu, body);
+    or_undo(out, mark, done)
 }
 
 fn put_ppdu(out: &mut Vec<u8>, ppdu: &Ppdu, body: &[u8]) -> Result<(), AllocError>

@@ -19,8 +19,8 @@ ghost use Rattle.presentation_profile.specs.Written.{result_octets, results_octe
 
 use crate::offers::{BER, MOST_OFFERS};
 use ber_values::{
-    BerFault, Part, Stop, Why, has_tag, octets_from, part_len, skip_parts, take_end, take_part,
-    write_head,
+    BerFault, Part, Stop, has_tag, octets_from, part_len, skip_parts, take_end, take_part,
+    value_fault, write_head,
 };
 use item_list::ItemList;
 use std::alloc::{AllocError, Global};
@@ -142,10 +142,7 @@ fn judged_octet(part: &Part<'_>, judged: bool) -> Result<u8, BerFault>
 {
     let value = part.octet()?;
     if judged && value != 0 {
-        return Err(BerFault {
-            place: part.head.body,
-            why: Why::Value,
-        });
+        return Err(value_fault(&part.head));
     }
     Ok(value)
 }

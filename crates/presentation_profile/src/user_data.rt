@@ -1,6 +1,7 @@
 //! The data of the presentation's user (ISO 8823-1, User-data).
 ghost use Rattle.std.specs.Prelude.{◌≡◌, ◌+◌, ◌<◌, ◌≤◌, ◌^◌, ◌++◌, length, IfOk, OnOk, OnErr};
 ghost use Rattle.plain_text.specs.Extends.{Extends};
+ghost use Rattle.ber_values.specs.declared.lengths.TheConstants.{MOST_BODY};
 ghost use Rattle.ber_values.specs.Writing.{written};
 ghost use Rattle.ber_values.specs.Faults.{Gives};
 ghost use Rattle.ber_values.specs.Externals.{external_octets, IsSpanWithin};
@@ -12,12 +13,6 @@ use ber_values::{
     BerFault, External, external_len, part_len, take_end, take_part, write_external, write_head,
 };
 use std::alloc::AllocError;
-
-/// The most octets of a body that are written.
-pub const MOST_BODY: usize = 65_400;
-
-// Definitions cite this limit, so that it stands here as a number too.
-const _: () = prove!(MOST_BODY == 65_400);
 
 /// The tag of user data.
 pub(crate) const USER_DATA: u8 = 0x61;

@@ -4,7 +4,7 @@ use Rattle.std.proofs.lemmas.Bool.{cond_both, ltb-true, le-leb}
 use Rattle.std.proofs.lemmas.List.{length-append}
 use Rattle.ber_values.specs.declared.fault.BerFault.{BerFault}
 use Rattle.ber_values.specs.Faults.{◌>>=◌}
-use Rattle.session_profile.specs.declared.spdu.TheConstants.{MOST_BODY}
+use Rattle.ber_values.specs.declared.lengths.TheConstants.{MOST_BODY}
 use Rattle.ber_values.specs.declared.fault.Span.{Span}
 use Rattle.ber_values.specs.Grammars.{taken}
 use Rattle.ber_values.specs.Leaves.{selector_of}
@@ -16,7 +16,9 @@ use Rattle.session_profile.specs.Parameters.{Parameter, BeginsParameter, paramet
 use Rattle.session_profile.specs.Rules.{SpellsAll, next_in, rest_in, all_in}
 use Rattle.session_profile.specs.Connections.{Connection, Seen, called_of, may_follow, judged, with_one, item, connection}
 use Rattle.session_profile.specs.Spdus.{IsWhole, IsCoded, SpellsSpdu}
-use Rattle.session_profile.specs.Writing.{length_octets, element, front, calling, called_octets, user_data, written_form, last_span, as_written, HasSelector, IsWritable}
+use Rattle.session_profile.specs.Writing.{length_octets, element, front, calling, called_octets, user_data, written_form, spdu_as_written, IsWritable}
+use Rattle.ber_values.specs.Writing.{last_span}
+use Rattle.tpkt_cotp.specs.Selectors.{HasSelector}
 use Rattle.session_profile.proofs.Parameters.{parameter_reads}
 use Rattle.session_profile.proofs.Rules.{all_reads, rest_step}
 use Rattle.session_profile.proofs.Connections.{connection_rules}
@@ -170,7 +172,7 @@ ends_at : (code : ℕ) (contents : List ℕ) → 0 + 1 + length (length_octets (
 ends_at code contents = omega (arith, element_size code contents)
 
 connection_coded : (code : ℕ) (called : Option (List ℕ)) (contents body : List ℕ) → ((at : ℕ) → all_in connection at contents ≡ Ok (made called (at + length contents) body))
-    → SpellsAll connection (0 + 1 + length (length_octets (length contents))) (record { called = called; body = last_span (element code contents) body }) contents
+    → SpellsAll connection (0 + 1 + length (length_octets (length contents))) (record { called = called; body = last_span (length (element code contents)) body }) contents
 connection_coded code called contents body read =
     let at : ℕ = 0 + 1 + length (length_octets (length contents)) in
     (all_reads connection connection_rules at contents).found (made called (length (element code contents)) body) (moved called (at + length contents) (length (element code contents)) body _ (ends_at code contents) (read at))
@@ -178,15 +180,15 @@ connection_coded code called contents body read =
 same_span : (a b c d : ℕ) → a ≡ c → b ≡ d → ◌≡◌ {A = Span} (record { from = a; to = b }) (record { from = c; to = d })
 same_span a b c d e f = rw (e, f) refl
 
-pub written_spelled : (spdu : Spdu) (body : List ℕ) → IsWritable spdu → length body ≤ MOST_BODY → SpellsSpdu (as_written spdu body) (written_form spdu body)
+pub written_spelled : (spdu : Spdu) (body : List ℕ) → IsWritable spdu → length body ≤ MOST_BODY → SpellsSpdu (spdu_as_written spdu body) (written_form spdu body)
 written_spelled (Connect called _) body is le =
     let contents : List ℕ = front ++ (calling ++ (called_octets called ++ user_data body)) in
     let lt : length body < 2 ^ 16 = omega (arith, le) in
-    whole_written (Connect called (last_span (element 13 contents) body)) 13 contents (omega (arith, connect_size called body is, le)) (refl, connection_coded 13 called contents body (λ at. connect_read at called body is lt))
+    whole_written (Connect called (last_span (length (element 13 contents)) body)) 13 contents (omega (arith, connect_size called body is, le)) (refl, connection_coded 13 called contents body (λ at. connect_read at called body is lt))
 written_spelled (Accept called _) body is le =
     let contents : List ℕ = front ++ (called_octets called ++ user_data body) in
     let lt : length body < 2 ^ 16 = omega (arith, le) in
-    whole_written (Accept called (last_span (element 14 contents) body)) 14 contents (omega (arith, accept_size called body is, le)) (refl, connection_coded 14 called contents body (λ at. accept_read at called body is lt))
+    whole_written (Accept called (last_span (length (element 14 contents)) body)) 14 contents (omega (arith, accept_size called body is, le)) (refl, connection_coded 14 called contents body (λ at. accept_read at called body is lt))
 written_spelled Refuse body is le = whole_written Refuse 12 (element 50 (2 ∷ body)) (omega (arith, element_size 50 (2 ∷ body), length_size (length (2 ∷ body)), le)) refl
 written_spelled (Carry _) body is le =
     (body, refl, same_span (length (1 ∷ 0 ∷ 1 ∷ 0 ∷ body) - length body) (length (1 ∷ 0 ∷ 1 ∷ 0 ∷ body)) 4 (4 + length body) (omega arith) (omega arith))

@@ -1,9 +1,10 @@
 -- The written form of an SPDU: the shortest lengths, and the parameters in the order of the
 -- standard's tables.
-use Rattle.std.specs.Prelude.{ℕ, ◌+◌, ◌-◌, ◌/◌, ◌%◌, List, [], ◌∷◌, ◌++◌, length, Option, Some}
+use Rattle.std.specs.Prelude.{ℕ, ◌+◌, ◌/◌, ◌%◌, List, [], ◌∷◌, ◌++◌, length, Option, Some}
 use Rattle.std.specs.Prelude.{None, nat_lt, if◌then◌else◌}
 use Rattle.ber_values.specs.declared.fault.Span.{Span}
-use Rattle.tpkt_cotp.specs.Selectors.{IsSelector}
+use Rattle.ber_values.specs.Writing.{last_span}
+use Rattle.tpkt_cotp.specs.Selectors.{HasSelector}
 use Rattle.session_profile.specs.declared.spdu.Spdu.{Spdu}
 use Rattle.session_profile.specs.declared.spdu.Spdu.TheVariants.{Connect, Accept, Refuse, Carry}
 use Rattle.session_profile.specs.declared.spdu.Spdu.TheVariants.{Finish, Disconnect, Abort}
@@ -73,25 +74,16 @@ written_form Disconnect body = release_octets 10 body
 written_form Abort body = abort_octets body
 written_form AbortAccept body = []
 
--- where the body stands at the end of octets
-abbrev pub last_span : List ℕ → List ℕ → Span
-last_span octets body = record { from = length octets - length body; to = length octets }
-
 -- the same SPDU, with its body in another place
-abbrev pub with_body : Span → Spdu → Spdu
-with_body span (Connect called _) = Connect called span
-with_body span (Accept called _) = Accept called span
-with_body span (Carry _) = Carry span
-with_body span spdu = spdu
+abbrev pub spdu_with_body : Span → Spdu → Spdu
+spdu_with_body span (Connect called _) = Connect called span
+spdu_with_body span (Accept called _) = Accept called span
+spdu_with_body span (Carry _) = Carry span
+spdu_with_body span spdu = spdu
 
 -- the value that the written form spells
-abbrev pub as_written : Spdu → List ℕ → Spdu
-as_written spdu body = with_body (last_span (written_form spdu body) body) spdu
-
--- the selector that is called, if one is, is one
-abbrev pub HasSelector : Option (List ℕ) → Type 0
-HasSelector None = Unit {0}
-HasSelector (Some selector) = IsSelector selector
+abbrev pub spdu_as_written : Spdu → List ℕ → Spdu
+spdu_as_written spdu body = spdu_with_body (last_span (length (written_form spdu body)) body) spdu
 
 -- an abort accept isn't written
 abbrev pub IsWritable : Spdu → Type 0

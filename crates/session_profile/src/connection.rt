@@ -6,17 +6,16 @@ ghost use Rattle.session_profile.specs.Parameters.{judged_by};
 ghost use Rattle.session_profile.specs.Rules.{all_in, sound_in, next_in, whole_or_short};
 ghost use Rattle.session_profile.specs.Connections.{has_second_bit, version_in, requirements_in};
 ghost use Rattle.session_profile.specs.Connections.{item, judged, may_follow, with_one, connection};
-ghost use Rattle.session_profile.specs.declared.spdu.TheConstants.{MOST_BODY};
+ghost use Rattle.ber_values.specs.declared.lengths.TheConstants.{MOST_BODY};
 ghost use Rattle.session_profile.specs.Writing.{calling, called_octets, called_and_data};
 ghost use Rattle.session_profile.specs.Writing.{front_octets, connect_octets, accept_octets};
-ghost use Rattle.session_profile.specs.Writing.{HasSelector};
+ghost use Rattle.tpkt_cotp.specs.Selectors.{HasSelector};
 ghost use Rattle.session_profile.specs.Seen.{parameter_of, taken_of, seen_of, connection_seen};
 ghost use Rattle.ber_values.specs.Externals.{IsSpanWithin};
 ghost use Rattle.session_profile.specs.Seen.{IsWithin, IsSomeWithin};
 
-use crate::length::fault;
 use crate::parameter::{Parameter, element_len, put_element, put_head, read_parameter};
-use ber_values::{BerFault, Span, Why};
+use ber_values::{BerFault, Span, short, surplus};
 use std::alloc::AllocError;
 use tpkt_cotp::Selector;
 
@@ -102,11 +101,7 @@ fn read_in_item(octets: &[u8], at: usize) -> Result<Parameter<'_>, BerFault>
 fn finish_item(versioned: bool, at: usize) -> Result<(), BerFault>
     ensures { result ≡ whole_or_short (item.value versioned) at }
 {
-    if versioned {
-        Ok(())
-    } else {
-        Err(fault(at, Why::Short))
-    }
+    if versioned { Ok(()) } else { Err(short(at)) }
 }
 
 /// Judges the connect/accept item.
@@ -195,10 +190,10 @@ fn read_next<'a>(seen: &Seen<'_>, octets: &'a [u8], at: usize) -> Result<Paramet
     ensures called { IfOk result (λ p. p.identifier ≡ 52 → length p.contents.now ≤ 32) }
 {
     let [identifier, ..] = octets else {
-        return Err(fault(at, Why::Short));
+        return Err(short(at));
     };
     if !may_follow(seen, *identifier) {
-        return Err(fault(at, Why::Tag));
+        return Err(surplus(at));
     }
     let parameter = read_parameter(octets, at)?;
     judge(&parameter)?;
@@ -220,7 +215,7 @@ fn finish<'a>(seen: Seen<'a>, at: usize) -> Result<Connection<'a>, BerFault>
             called: seen.called,
             body,
         }),
-        _ => Err(fault(at, Why::Short)),
+        _ => Err(short(at)),
     }
 }
 

@@ -2,13 +2,13 @@
 ghost use Rattle.std.specs.Prelude.{ℕ, List, [], ◌≤◌, length};
 ghost use Rattle.ber_values.specs.Reading.{HasOneReading};
 ghost use Rattle.session_profile.specs.declared.spdu.Spdu.{Spdu};
-ghost use Rattle.session_profile.specs.declared.spdu.TheConstants.{MOST_BODY};
+ghost use Rattle.ber_values.specs.declared.lengths.TheConstants.{MOST_BODY};
 ghost use Rattle.session_profile.specs.Connections.{Connection, connection};
 ghost use Rattle.session_profile.specs.Counts.{AreOnce, AreSound};
 ghost use Rattle.session_profile.specs.Parameters.{Parameter, BeginsParameters};
 ghost use Rattle.session_profile.specs.Rules.{SpellsAll};
 ghost use Rattle.session_profile.specs.Spdus.{SpellsSpdu, SpduFault};
-ghost use Rattle.session_profile.specs.Writing.{written_form, as_written, IsWritable};
+ghost use Rattle.session_profile.specs.Writing.{written_form, spdu_as_written, IsWritable};
 
 /// Octets have one reading: exactly one holds, they spell exactly one SPDU, or they have exactly
 /// one first fault.
@@ -31,5 +31,5 @@ pub fn parameters_once()
 /// What is written is read back as the same SPDU, whose body is the octets that were given.
 pub fn written_is_read()
     ensures { (spdu : Spdu) (body : List ℕ) → IsWritable spdu → length body ≤ MOST_BODY
-        → SpellsSpdu (as_written spdu body) (written_form spdu body) }
+        → SpellsSpdu (spdu_as_written spdu body) (written_form spdu body) }
 {}

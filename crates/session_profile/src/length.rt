@@ -1,22 +1,16 @@
 //! Lengths (ISO 8327-1, length indicator).
 ghost use Rattle.std.specs.Prelude.{◌≡◌, ◌+◌, ◌^◌, ◌<◌, ◌≤◌, ◌++◌, length, take, IfOk, OnOk, OnErr};
-ghost use Rattle.ber_values.specs.Faults.{fault_at, Gives};
+ghost use Rattle.ber_values.specs.Faults.{Gives};
 ghost use Rattle.ber_values.specs.Grammars.{taken};
 ghost use Rattle.ber_values.specs.Reading.{IsAfter};
 ghost use Rattle.session_profile.specs.Lengths.{length_in, long_length_in};
 ghost use Rattle.session_profile.specs.Writing.{length_octets};
 
-use ber_values::{BerFault, Why};
+use ber_values::{BerFault, short};
 use std::alloc::AllocError;
 
 /// The first octet of a length of three octets.
 const LONG: u8 = 255;
-
-pub(crate) fn fault(place: usize, why: Why) -> BerFault
-    ensures { result ≡ fault_at place why }
-{
-    BerFault { place, why }
-}
 
 /// The length at the front, the place after it and the octets from there on.
 #[tactic(auto, unfolding(crate::specs::Lengths::length_in))]
@@ -27,7 +21,7 @@ pub(crate) fn read_length(octets: &[u8], at: usize) -> Result<(usize, usize, &[u
     ensures places { IfOk result (λ x. IsAfter at octets.now x.1 x.2.now) }
 {
     match octets {
-        [] => Err(fault(at, Why::Short)),
+        [] => Err(short(at)),
         [first, rest @ ..] if *first == LONG => read_long(rest, at + 1),
         [first, rest @ ..] => Ok((usize::from(*first), at + 1, rest)),
     }
@@ -45,7 +39,7 @@ fn read_long(octets: &[u8], at: usize) -> Result<(usize, usize, &[u8]), BerFault
             let length = usize::from(*high) * 256 + usize::from(*low);
             Ok((length, at + 2, rest))
         }
-        _ => Err(fault(at + octets.len(), Why::Short)),
+        _ => Err(short(at + octets.len())),
     }
 }
 

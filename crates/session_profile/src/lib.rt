@@ -8,6 +8,7 @@ mod length;
 mod parameter;
 mod spdu;
 
+pub use ber_values::MOST_BODY;
 pub use fault::SessionFault;
 pub use laws::{one_reading, parameters_once, written_is_read};
-pub use spdu::{MOST_BODY, Spdu, read_spdu, write_spdu};
+pub use spdu::{Spdu, read_spdu, write_spdu};

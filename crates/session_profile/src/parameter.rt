@@ -8,8 +8,8 @@ ghost use Rattle.session_profile.specs.Parameters.{parameter_in, sized_in, judge
 ghost use Rattle.session_profile.specs.Seen.{parameter_of, taken_of, IsWithin};
 ghost use Rattle.session_profile.specs.Writing.{length_octets, element};
 
-use crate::length::{fault, put_length, read_length};
-use ber_values::{BerFault, Span, Why};
+use crate::length::{put_length, read_length};
+use ber_values::{BerFault, Span, Why, fault_at, short, surplus};
 use std::alloc::AllocError;
 
 /// A parameter or an SPDU that stood at the front of octets, and what follows it.
@@ -36,11 +36,11 @@ pub(crate) fn read_parameter(octets: &[u8], at: usize) -> Result<Parameter<'_>, 
     ensures within { IfOk result (λ p. IsWithin at octets.now p) }
 {
     let [identifier, rest @ ..] = octets else {
-        return Err(fault(at, Why::Short));
+        return Err(short(at));
     };
     let (length, body, rest) = read_length(rest, at + 1)?;
     if rest.len() < length {
-        return Err(fault(at + 1, Why::Length));
+        return Err(fault_at(at + 1, Why::Length));
     }
     let (contents, rest) = rest.split_at(length);
     Ok(Parameter {
@@ -71,10 +71,10 @@ impl Parameter<'_> {
         ensures { result ≡ judged_by allowed kept (parameter_of self.now) }
     {
         if !allowed {
-            return Err(fault(self.place + 1, Why::Length));
+            return Err(fault_at(self.place + 1, Why::Length));
         }
         if !kept {
-            return Err(fault(self.body, Why::Value));
+            return Err(fault_at(self.body, Why::Value));
         }
         Ok(())
     }
@@ -86,7 +86,7 @@ pub(crate) fn read_end(octets: &[u8], at: usize) -> Result<(), BerFault>
 {
     match octets {
         [] => Ok(()),
-        _ => Err(fault(at, Why::Tag)),
+        _ => Err(surplus(at)),
     }
 }
 

@@ -1,6 +1,7 @@
 //! SPDUs (ISO 8327-1, 8.3).
 ghost use Rattle.std.specs.Prelude.{◌≡◌, ◌≢◌, ◌+◌, ◌^◌, ◌<◌, ◌≤◌, ◌↔◌, ◌-◌, ◌++◌, ◌∷◌, [], Ok, Err};
 ghost use Rattle.std.specs.Prelude.{ℕ, length, take, option_copied, IfOk, OnOk, OnErr, IfSome};
+ghost use Rattle.ber_values.specs.declared.lengths.TheConstants.{MOST_BODY};
 ghost use Rattle.ber_values.specs.Faults.{fault_at, Gives};
 ghost use Rattle.ber_values.specs.Leaves.{span_at};
 ghost use Rattle.ber_values.specs.Stops.{Answers};
@@ -11,23 +12,16 @@ ghost use Rattle.session_profile.specs.Seen.{parameter_of, fault_of, session_fau
 ghost use Rattle.session_profile.specs.Seen.{IsBodyWithin};
 ghost use Rattle.session_profile.specs.Writing.{released, refuse_octets, release_octets};
 ghost use Rattle.session_profile.specs.Writing.{abort_octets, carry_octets, written_form};
-ghost use Rattle.session_profile.specs.Writing.{as_written, IsWritable};
+ghost use Rattle.session_profile.specs.Writing.{spdu_as_written, IsWritable};
 ghost use Rattle.session_profile.specs.Spdus.{SpellsSpdu, SpduFault, is_code, octet_in, front_in};
 ghost use Rattle.session_profile.specs.Spdus.{carried, plain_in, coded_in, whole_in, spdu_in};
 
 use crate::connection::{ACCEPT, CONNECT, USER_DATA, put_accept, put_connect, read_connection};
 use crate::fault::SessionFault;
-use crate::length::fault;
 use crate::parameter::{Parameter, element_len, put_element, put_head, read_end, read_parameter};
-use ber_values::{BerFault, Span, Stop, Why, settle};
+use ber_values::{BerFault, Span, Stop, Why, fault_at, or_undo, settle, short, surplus};
 use std::alloc::{AllocError, Global};
 use tpkt_cotp::Selector;
-
-/// The most octets of a body that are written.
-pub const MOST_BODY: usize = 65_400;
-
-// Definitions cite this limit, so that it stands here as a number too.
-const _: () = prove!(MOST_BODY == 65_400);
 
 /// The most octets that are written around a body.
 const MOST_AROUND: usize = 64;
@@ -79,9 +73,9 @@ fn read_octet(octets: &[u8], at: usize, want: u8) -> Result<&[u8], BerFault>
     ensures rest { IfOk result (λ rest. length rest.now < length octets.now) }
 {
     match octets {
-        [] => Err(fault(at, Why::Short)),
+        [] => Err(short(at)),
         [first, rest @ ..] if *first == want => Ok(rest),
-        _ => Err(fault(at, Why::Value)),
+        _ => Err(fault_at(at, Why::Value)),
     }
 }
 
@@ -126,7 +120,7 @@ fn read_plain(code: u8) -> Result<Spdu, BerFault>
         DISCONNECT => Ok(Spdu::Disconnect),
         ABORT => Ok(Spdu::Abort),
         ABORT_ACCEPT => Ok(Spdu::AbortAccept),
-        _ => Err(fault(0, Why::Tag)),
+        _ => Err(surplus(0)),
     }
 }
 
@@ -185,10 +179,10 @@ fn read_any(alloc: Global, tsdu: &[u8]) -> Result<Spdu, Stop>
     ensures body { IfOk result (λ spdu. IsBodyWithin (length tsdu.now) spdu) }
 {
     match tsdu {
-        [] => Err(Stop::Fault(fault(0, Why::Short))),
+        [] => Err(Stop::Fault(short(0))),
         [code, octets @ ..] if *code == CARRY[0] => Ok(read_carry(octets)?),
         [code, ..] if is_code(*code) => read_whole(alloc, tsdu),
-        _ => Err(Stop::Fault(fault(0, Why::Tag))),
+        _ => Err(Stop::Fault(surplus(0))),
     }
 }
 
@@ -312,13 +306,10 @@ pub fn write_spdu(out: &mut Vec<u8>, spdu: &Spdu, body: &[u8]) -> Result<(), All
     ensures err { OnErr result (out.new.items ≡ out.old.items) }
     // It is read back as the same value, whose body is these octets.
     ensures spelled { OnOk result
-        (SpellsSpdu (as_written spdu.now body.now) (written_form spdu.now body.now)) }
+        (SpellsSpdu (spdu_as_written spdu.now body.now) (written_form spdu.now body.now)) }
 {
     let mark = out.len();
     out.reserve(body.len() + MOST_AROUND)?;
     let done = put_spdu(out, spdu, body);
-    if done.is_err() {
-        out.truncate(mark);
-    }
-    done
+    or_undo(out, mark, done)
 }

@@ -6,7 +6,8 @@ use Rattle.tpkt_cotp.specs.Written.{wire}
 use Rattle.tpkt_cotp.proofs.Always.{written_said}
 use Rattle.tpkt_cotp.proofs.Wires.{wire_cut}
 use Rattle.presentation_profile.specs.declared.ppdu.Ppdu.TheVariants as ppdus
-use Rattle.presentation_profile.specs.Written.{ppdu_octets, HasSelector}
+use Rattle.presentation_profile.specs.Written.{ppdu_octets}
+use Rattle.tpkt_cotp.specs.Selectors.{HasSelector}
 use Rattle.acse_assoc.specs.declared.apdu.Apdu.{Apdu}
 use Rattle.acse_assoc.specs.declared.apdu.Apdu.TheVariants as apdus
 use Rattle.acse_assoc.specs.Writing.{apdu_octets, IsTitle}

@@ -14,6 +14,7 @@ use Rattle.acse_assoc.proofs.Sizes.{context_len}
 use Rattle.mms_services.specs.declared.initiate.Initiate.{Initiate}
 use Rattle.mms_services.specs.Initiates.{initiate_octets, later_octets, last_octets}
 use Rattle.mms_services.specs.Initiates.{initiate_detail_octets, some_integer_octets}
+use Rattle.tpkt_cotp.specs.Selectors.{HasSelector}
 use Rattle.presentation_profile.specs.Written as presentation
 use Rattle.presentation_profile.proofs.Sizes.{calling-sized, mode-sized}
 use Rattle.session_profile.specs.Writing as session
@@ -162,7 +163,7 @@ set_up-most contents = omega (
   mode-sized,
 )
 
-selector-most : (tag : ℕ) (selector : Option (List ℕ)) → presentation.HasSelector selector
+selector-most : (tag : ℕ) (selector : Option (List ℕ)) → HasSelector selector
     → length (presentation.selector_octets tag selector) ≤ 38
 selector-most tag None has = omega arith
 selector-most tag (Some selector) has = omega (arith, written-most tag selector, has.1)
@@ -197,7 +198,7 @@ each-most (result ∷ found) = omega (
 
 -- a connect with the calling end's offers
 pub connect-most : (called : Option (List ℕ)) (id : ℕ) (body : List ℕ)
-    → presentation.HasSelector called
+    → HasSelector called
     → length (presentation.set_up_octets (presentation.connect_octets called own_offers id body))
     ≤ length body + 130
 unfolding presentation.connect_octets
@@ -217,7 +218,7 @@ connect-most called id body has = omega (
 
 -- an accept with at most 16 results
 pub accept-most : (called : Option (List ℕ)) (found : List ℕ) (id : ℕ) (body : List ℕ)
-    → presentation.HasSelector called → length found ≤ 16
+    → HasSelector called → length found ≤ 16
     → length (presentation.set_up_octets (presentation.accept_octets called found id body))
     ≤ length body + 237
 unfolding presentation.accept_octets presentation.results_octets
@@ -241,12 +242,12 @@ element-most : (identifier : ℕ) (contents : List ℕ)
 element-most identifier contents =
     omega (arith, spoken.element_size identifier contents, spoken.length_size (length contents))
 
-called-most : (called : Option (List ℕ)) → session.HasSelector called
+called-most : (called : Option (List ℕ)) → HasSelector called
     → length (session.called_octets called) ≤ 36
 called-most None has = omega arith
 called-most (Some selector) has = omega (arith, element-most 52 selector, has.1)
 
-pub session_connect-most : (called : Option (List ℕ)) (body : List ℕ) → session.HasSelector called
+pub session_connect-most : (called : Option (List ℕ)) (body : List ℕ) → HasSelector called
     → length (session.connect_octets called body) ≤ length body + 60
 session_connect-most called body has = omega (
   arith,
@@ -256,7 +257,7 @@ session_connect-most called body has = omega (
   element-most 193 body,
 )
 
-pub session_accept-most : (called : Option (List ℕ)) (body : List ℕ) → session.HasSelector called
+pub session_accept-most : (called : Option (List ℕ)) (body : List ℕ) → HasSelector called
     → length (session.accept_octets called body) ≤ length body + 56
 session_accept-most called body has = omega (
   arith,

@@ -1,6 +1,6 @@
 //! What an end answers and says over an association.
 ghost use Rattle.std.specs.Prelude.{◌≡◌, ◌≤◌, ◌++◌, IfOk, OnOk, OnErr};
-ghost use Rattle.presentation_profile.specs.Written.{HasSelector};
+ghost use Rattle.tpkt_cotp.specs.Selectors.{HasSelector};
 ghost use Rattle.presentation_profile.specs.declared.ppdu.Ppdu.{Ppdu};
 ghost use Rattle.session_profile.specs.declared.spdu.Spdu.{Spdu};
 ghost use Rattle.tpkt_cotp.specs.Written.{wire};

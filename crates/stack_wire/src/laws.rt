@@ -5,7 +5,7 @@ ghost use Rattle.acse_assoc.specs.Writing.{IsTitle};
 ghost use Rattle.mms_services.specs.declared.initiate.Initiate.{Initiate};
 ghost use Rattle.mms_services.specs.declared.pdu.MmsPdu.{MmsPdu};
 ghost use Rattle.mms_services.specs.PduOctets.{pdu_len};
-ghost use Rattle.presentation_profile.specs.Written.{HasSelector};
+ghost use Rattle.tpkt_cotp.specs.Selectors.{HasSelector};
 ghost use Rattle.stack_wire.specs.declared.setup.Setup.{Setup};
 ghost use Rattle.stack_wire.specs.Layouts.{AreLaidOut};
 ghost use Rattle.stack_wire.specs.Setups.{IsSetup};

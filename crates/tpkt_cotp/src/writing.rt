@@ -9,19 +9,8 @@ ghost use Rattle.tpkt_cotp.specs.Written.{IsCut, wire};
 
 use crate::selector::Selector;
 use crate::tpdu::{ConnectRequest, Parameters};
+use ber_values::or_undo;
 use std::alloc::AllocError;
-
-/// Takes back what was appended since `out` had `mark` octets, where a step failed.
-fn or_undo(out: &mut Vec<u8>, mark: usize, done: Result<(), AllocError>) -> Result<(), AllocError>
-    ensures same { result ≡ done }
-    ensures ok { OnOk result (out.new.items ≡ out.old.items) }
-    ensures err { OnErr result (out.new.items ≡ take mark out.old.items) }
-{
-    if done.is_err() {
-        out.truncate(mark);
-    }
-    done
-}
 
 /// Appends the connect request with this calling selector: TPDUs of 1,024 octets, and the called
 /// selector 00 01.

@@ -3,9 +3,7 @@ ghost use Rattle.std.specs.Prelude.{◌≡◌, ◌+◌, ◌<◌, ◌≤◌, ◌^
 ghost use Rattle.std.specs.List.{slice_range};
 ghost use Rattle.plain_text.specs.Extends.{Extends};
 ghost use Rattle.ber_values.specs.Lengths.{capped, part_size};
-ghost use Rattle.ber_values.specs.Faults.{fault_at};
 ghost use Rattle.ber_values.specs.Stops.{Answers};
-ghost use Rattle.ber_values.specs.Grammars.{why_refused};
 ghost use Rattle.ber_values.specs.Readers.{IsReadBy, taken_from};
 ghost use Rattle.ber_values.specs.Parts.{part_in, contents_as};
 ghost use Rattle.ber_values.specs.Lists.{list_in};
@@ -19,9 +17,10 @@ ghost use Rattle.mms_data.specs.DataOctets.{one_datum};
 
 use super::{DataKind, DataList, MmsData, OctetList};
 use ber_values::{
-    BerFault, BitString, MOST_LENGTH, Part, Stop, Visible, Why, add_len, has_tag, integer_len,
-    natural_len, octets_from, part_len, settle, take_part, write_bits, write_boolean, write_head,
-    write_integer, write_natural, write_octets, write_visible,
+    BerFault, BitString, MOST_LENGTH, Part, Stop, Visible, add_len, has_tag, integer_len,
+    length_fault, natural_len, octets_from, or_undo, part_len, refused, settle, take_part,
+    value_fault, write_bits, write_boolean, write_head, write_integer, write_natural, write_octets,
+    write_visible,
 };
 use std::alloc::{AllocError, Global};
 
@@ -212,28 +211,8 @@ fn real_of(part: &Part<'_>) -> Result<[u8; 4], BerFault>
 {
     match part.contents {
         [8, a, b, c, d] => Ok([*a, *b, *c, *d]),
-        [_, _, _, _, _] => Err(BerFault {
-            place: part.head.body,
-            why: Why::Value,
-        }),
-        _ => Err(BerFault {
-            place: part.head.length_at,
-            why: Why::Length,
-        }),
-    }
-}
-
-/// Why nothing may stand at the front of octets.
-fn refused(octets: &[u8], at: usize) -> BerFault
-    ensures { result ≡ fault_at at (why_refused octets.now) }
-{
-    BerFault {
-        place: at,
-        why: if octets.is_empty() {
-            Why::Short
-        } else {
-            Why::Tag
-        },
+        [_, _, _, _, _] => Err(value_fault(&part.head)),
+        _ => Err(length_fault(&part.head)),
     }
 }
 
@@ -331,12 +310,9 @@ pub fn write_data(out: &mut Vec<u8>, value: &MmsData) -> Result<(), AllocError>
     ensures ok { OnOk result (out.new.items ≡ out.old.items ++ datum_octets value.now) }
     ensures err { OnErr result (out.new.items ≡ out.old.items) }
 {
-    let before = out.len();
-    let written = put_data(out, value);
-    if written.is_err() {
-        out.truncate(before);
-    }
-    written
+    let mark = out.len();
+    let done = put_data(out, value);
+    or_undo(out, mark, done)
 }
 
 #[cycle(writing)]

@@ -11,8 +11,8 @@ ghost use Rattle.mms_data.specs.NameOctets.{name_octets, name_len};
 
 use super::{Name, Scope};
 use ber_values::{
-    BerFault, Part, Stop, VISIBLE_LIMIT, Visible, has_tag, part_len, settle, take_end, take_part,
-    write_head, write_visible,
+    BerFault, Part, Stop, VISIBLE_LIMIT, Visible, has_tag, or_undo, part_len, settle, take_end,
+    take_part, write_head, write_visible,
 };
 use std::alloc::{AllocError, Global};
 
@@ -119,12 +119,9 @@ pub fn write_name(out: &mut Vec<u8>, name: &Name) -> Result<(), AllocError>
     ensures ok { OnOk result (out.new.items ≡ out.old.items ++ name_octets name.now) }
     ensures err { OnErr result (out.new.items ≡ out.old.items) }
 {
-    let before = out.len();
-    let written = put_name(out, name);
-    if written.is_err() {
-        out.truncate(before);
-    }
-    written
+    let mark = out.len();
+    let done = put_name(out, name);
+    or_undo(out, mark, done)
 }
 
 fn put_name(out: &mut Vec<u8>, name: &Name) -> Result<(), AllocError>

@@ -1,6 +1,5 @@
 use Rattle.std.proofs.Common.{◌<◌, length, arith}
 use Rattle.std.proofs.lemmas.Result.{err_from_is_err_and}
-use Rattle.ber_values.specs.Lists.{list_in}
 use Rattle.ber_values.proofs.Lists.{some_left, none_left, members-begin, members-more}
 use Rattle.ber_values.proofs.Lists.{members-stop, members-end}
 use Rattle.mms_names.specs.NameLists.{listed}
@@ -8,35 +7,25 @@ use Rattle.mms_names.proofs.name_list.names_from.Goals as goal
 
 pub loop-rest-init : goal.loop-rest-init
 loop-rest-init c = rw c.new-names.ensures
-    (members-begin listed 0 c.args.part.now.head c.args.part.now.contents.now c.requires)
+    (members-begin listed 0 c.args.part.now.head
+    c.args.part.now.contents.now c.requires)
 
 pub returns-in_err-one : goal.returns-in_err-one
 returns-in_err-one c =
     let p = err_from_is_err_and c.from_residual.result c.from_residual.ensures.1 in
-    let rest = c.loop-rest.rest.now in
-    let some : 0 < length rest =
-    some_left rest c.is_empty.result c.is_empty.ensures c.loop-rest-test.true in
-    rw (p.1, p.2) (members-stop listed 0 (length c.args.part.now.contents.now) c.loop-rest.names
-    c.loop-rest.at rest
-    ((list_in 0 listed).reading c.args.part.now.head c.args.part.now.contents.now)
-    c.in_err-one.field-0.0 some c.in_err-one.ensures.exact c.loop-rest.invariant)
+    rw (p.1, p.2) (members-stop c.loop-rest.invariant (some_left c.loop-rest.rest.now c.is_empty.result
+    c.is_empty.ensures c.loop-rest-test.true) c.in_err-one.field-0.0
+    c.in_err-one.ensures.exact)
 
 pub loop-rest-preserved : goal.loop-rest-preserved
 loop-rest-preserved c =
-    let rest = c.loop-rest.rest.now in
-    let some : 0 < length rest =
-    some_left rest c.is_empty.result c.is_empty.ensures c.loop-rest-test.true in
     let within = c.in_ok-one.ensures.within in
-    rw (c.octets_from-rest.ensures, c.in_ok-push.ensures.ok) (members-more listed 0
-    (length c.args.part.now.contents.now) c.loop-rest.names c.loop-rest.at rest
-    ((list_in 0 listed).reading c.args.part.now.head c.args.part.now.contents.now)
-    c.in_ok-one.one c.in_ok-one.next some c.in_ok-one.ensures.exact within.0 within.1
-    c.loop-rest.invariant)
+    rw (c.octets_from-rest.ensures, c.in_ok-push.ensures.ok) (members-more c.loop-rest.invariant
+    (some_left c.loop-rest.rest.now c.is_empty.result
+    c.is_empty.ensures c.loop-rest-test.true) c.in_ok-one.one c.in_ok-one.next
+    c.in_ok-one.ensures.exact within.0 within.1)
 
 pub returns : goal.returns
 returns c =
-    let rest = c.loop-rest.rest.now in
-    members-end listed 0 (length c.args.part.now.contents.now) c.loop-rest.names c.loop-rest.at
-    rest ((list_in 0 listed).reading c.args.part.now.head c.args.part.now.contents.now)
-    (none_left rest c.is_empty.result c.is_empty.ensures c.loop-rest-test.false) (omega arith)
-    c.loop-rest.invariant
+    members-end c.loop-rest.invariant (none_left c.loop-rest.rest.now c.is_empty.result
+    c.is_empty.ensures c.loop-rest-test.false) (omega arith)

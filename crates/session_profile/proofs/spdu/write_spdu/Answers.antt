@@ -7,8 +7,7 @@ anyway : {T E : Type 0} (r : Result T E) (P : Type 0) → P → OnOk r P
 anyway (Ok x) P holds = holds
 anyway (Err e) P holds = tt
 
-pub returns-then-is_err-clause-spelled : goal.returns-then-is_err-clause-spelled
-returns-then-is_err-clause-spelled c = anyway c.put_spdu-done.result _ (written_spelled c.args.spdu.now c.args.body.now c.put_spdu-done.ensures.writable c.requires.fits)
-
-pub returns-else-is_err-clause-spelled : goal.returns-else-is_err-clause-spelled
-returns-else-is_err-clause-spelled c = anyway c.put_spdu-done.result _ (written_spelled c.args.spdu.now c.args.body.now c.put_spdu-done.ensures.writable c.requires.fits)
+pub returns-clause-spelled : goal.returns-clause-spelled
+returns-clause-spelled c =
+    anyway c.or_undo.result _
+    (written_spelled c.args.spdu.now c.args.body.now c.put_spdu-done.ensures.writable c.requires.fits)
