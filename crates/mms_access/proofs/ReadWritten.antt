@@ -22,7 +22,8 @@ use Rattle.mms_access.specs.declared.read.ReadRequest.{ReadRequest}
 use Rattle.mms_access.specs.declared.read.ReadResponse.{ReadResponse}
 use Rattle.mms_access.specs.Specifications.{sole_spec, spec_octets, IsNamedSpec}
 use Rattle.mms_access.specs.Reads.{read_asked, read_answered, echo_in, read_request, read_response, echo_octets, read_request_octets, echoed_octets, outcomes_octets, read_response_octets, IsSpecIfAny, IsNamedIfAny, IsReadRequest, IsReadResponse, IsHeldReadResponse}
-use Rattle.mms_access.proofs.SpecsWritten.{sole_spec-spelled, contents-few}
+use Rattle.ber_values.proofs.Pieces.{contents-few}
+use Rattle.mms_access.proofs.SpecsWritten.{sole_spec-spelled}
 
 -- ---- outcomes
 

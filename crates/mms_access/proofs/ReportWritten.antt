@@ -14,7 +14,8 @@ use Rattle.mms_access.specs.declared.report.ReportPdu.{ReportPdu}
 use Rattle.mms_access.specs.Specifications.{specification, spec_octets}
 use Rattle.mms_access.specs.Reads.{outcomes_octets}
 use Rattle.mms_access.specs.Reports.{reported, results_of, report, report_pdu, report_octets, report_pdu_octets, HasResults, IsReport, IsHeldReport}
-use Rattle.mms_access.proofs.SpecsWritten.{spec-writes, contents-few}
+use Rattle.ber_values.proofs.Pieces.{contents-few}
+use Rattle.mms_access.proofs.SpecsWritten.{spec-writes}
 use Rattle.mms_access.proofs.ReadWritten.{outcomes-spelled, outcomes-counted}
 
 -- as many outcomes as are wanted

@@ -5,11 +5,11 @@ use Rattle.ber_values.specs.Writing.{written}
 use Rattle.ber_values.specs.Parts.{part_in, contents_as}
 use Rattle.ber_values.proofs.Capped.{length-written, part_size-most}
 use Rattle.ber_values.proofs.Grammars.{choose-written, choose-other}
+use Rattle.ber_values.proofs.Pieces.{contents-few}
 use Rattle.ber_values.proofs.WrittenParts.{Writes, ends_of, part-writes, all-spelled, WritesEach, WriteAll, list-spelled}
 use Rattle.mms_data.specs.ObjectName.{ObjectName, IsName}
 use Rattle.mms_data.specs.NameOctets.{one_name, name_octets}
 use Rattle.mms_data.proofs.NameWritten.{one_name_begins}
-use Rattle.mms_data.proofs.DataLengths.{few_contents}
 use Rattle.mms_access.specs.declared.spec.Spec.{Spec}
 use Rattle.mms_access.specs.declared.spec.Spec.TheVariants as kinds
 use Rattle.mms_access.specs.Specifications.{sole_name, sole_variable, variable, variables, specification, sole_spec, variable_octets, variables_octets, spec_octets, IsSpec, IsNamedSpec}
@@ -46,10 +46,6 @@ variables-write (n ∷ ns) named = (
 pub variables-spelled : (at : ℕ) (ns : List ObjectName) → 1 ≤ length ns → All IsName ns → variables.spells at ns (variables_octets ns)
 unfolding variables variables_octets
 variables-spelled at ns some named = list-spelled variable variable_octets 1 at ns some (variables-write ns named)
-
--- contents are shorter than their element
-pub contents-few : (tag : ℕ) (contents : List ℕ) → length (written tag contents) < 2 ^ 32 → length contents < 2 ^ 32
-contents-few tag contents few = omega (arith, few, few_contents tag contents)
 
 -- what is written for a specification begins what follows it
 pub spec-writes : (at : ℕ) (s : Spec) → IsSpec s → IsNamedSpec s → length (spec_octets s) < 2 ^ 32 → Writes specification at s (spec_octets s)

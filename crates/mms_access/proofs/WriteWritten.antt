@@ -19,7 +19,8 @@ use Rattle.mms_access.specs.declared.write.WriteRequest.{WriteRequest}
 use Rattle.mms_access.specs.declared.write.WriteResponse.{WriteResponse}
 use Rattle.mms_access.specs.Specifications.{specification, spec_octets}
 use Rattle.mms_access.specs.Writes.{write_asked, values_of, write_request, one_written, write_response, values_octets, write_request_octets, one_written_octets, write_response_octets, HasValues, IsWriteRequest, IsHeldWriteRequest}
-use Rattle.mms_access.proofs.SpecsWritten.{spec-writes, contents-few}
+use Rattle.ber_values.proofs.Pieces.{contents-few}
+use Rattle.mms_access.proofs.SpecsWritten.{spec-writes}
 use Rattle.mms_access.proofs.ReadWritten.{datum-some}
 
 -- ---- requests

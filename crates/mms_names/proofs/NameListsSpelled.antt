@@ -22,7 +22,7 @@ use Rattle.mms_names.specs.declared.name_list.NameListRequest.{NameListRequest}
 use Rattle.mms_names.specs.declared.name_list.NameListResponse.{NameListResponse}
 use Rattle.mms_names.specs.NameLists.{object_class, one_scope, object_scope, after_name, request_of, name_list_request, listed, or_true, more_names, response_of, name_list_response, class_octets, scope_octets, in_scope_octets, after_octets, name_list_request_octets, IsNamedRequest, listed_octets, names_octets, more_octets, list_octets, name_list_response_octets, IsNamedResponse}
 use Rattle.ber_values.proofs.WrittenParts.{maybe-none, maybe-some}
-use Rattle.mms_access.proofs.SpecsWritten.{contents-few}
+use Rattle.ber_values.proofs.Pieces.{contents-few}
 
 identifier-spelled : (at : ℕ) (text : List ℕ) → IsIdentifier text → identifier.spells at text text
 unfolding identifier visible_within

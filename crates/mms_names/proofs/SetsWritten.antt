@@ -29,7 +29,8 @@ use Rattle.mms_names.specs.Defines.{define_of, define_request, define_request_oc
 use Rattle.mms_names.specs.MemberLists.{members_request, members_listed, members_response, members_request_octets, deletable_octets, members_response_octets, IsMembers, IsNamedSet, IsNamedMembers}
 use Rattle.mms_names.specs.declared.delete.DeleteResponse.{DeleteResponse}
 use Rattle.mms_names.specs.Deletes.{is_specific, deletion_scope, free, set_names, delete_of, delete_request, deleted_of, delete_response, set_names_octets, delete_request_octets, delete_response_octets, IsDelete, IsNamedDelete, IsCounted}
-use Rattle.mms_access.proofs.SpecsWritten.{sole_name-spelled, variables-spelled, contents-few}
+use Rattle.ber_values.proofs.Pieces.{contents-few}
+use Rattle.mms_access.proofs.SpecsWritten.{sole_name-spelled, variables-spelled}
 
 -- variables in an element are at the end of what they follow
 members-end : (tag at : ℕ) (ns : List ObjectName) → 1 ≤ length ns → All IsName ns

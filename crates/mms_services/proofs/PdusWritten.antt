@@ -29,7 +29,7 @@ use Rattle.mms_services.specs.Pdus.{requested, responded, invoke_in, confirmed_r
 use Rattle.mms_services.specs.Lawful.{IsLawfulResponse}
 use Rattle.mms_services.specs.PduOctets.{request_octets, response_octets, invoke_octets, pdu_octets, IsWritableRequest, IsWritable}
 use Rattle.mms_services.specs.Held.{IsHeldRequest, IsHeldResponse, IsHeldPdu}
-use Rattle.mms_access.proofs.SpecsWritten.{contents-few}
+use Rattle.ber_values.proofs.Pieces.{contents-few}
 use Rattle.mms_services.proofs.ShortSpelled.{initiate-spelled, error_pdu-spelled, reject_pdu-spelled, identify_request-spelled, identify_response-spelled}
 use Rattle.mms_names.proofs.NameListsSpelled.{name_list_request-spelled, name_list_response-spelled}
 use Rattle.mms_access.proofs.ReadWritten.{read_request-spelled, read_response-spelled}
