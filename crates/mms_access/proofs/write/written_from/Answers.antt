@@ -1,5 +1,5 @@
 -- The loop over what came of each variable reads what their grammar reads.
-use Rattle.std.proofs.Common.{◌<◌, length, arith}
+use Rattle.std.proofs.Common.{arith}
 use Rattle.std.proofs.lemmas.Result.{err_from_is_err_and}
 use Rattle.ber_values.specs.declared.stop.Stop.TheVariants as stops
 use Rattle.ber_values.proofs.Lists.{some_left, none_left, members-begin, members-more}

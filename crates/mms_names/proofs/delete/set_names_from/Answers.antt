@@ -1,4 +1,4 @@
-use Rattle.std.proofs.Common.{◌<◌, length, arith}
+use Rattle.std.proofs.Common.{arith}
 use Rattle.std.proofs.lemmas.Result.{err_from_is_err_and}
 use Rattle.ber_values.proofs.Lists.{some_left, none_left, members-begin, members-more}
 use Rattle.ber_values.proofs.Lists.{members-stop, members-short, members-end}

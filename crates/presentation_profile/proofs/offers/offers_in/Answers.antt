@@ -1,5 +1,5 @@
 -- The loop reads what the grammar of a counted list reads.
-use Rattle.std.proofs.Common.{◌<◌, length, arith}
+use Rattle.std.proofs.Common.{arith}
 use Rattle.std.proofs.lemmas.Result.{err_from_is_err_and}
 use Rattle.ber_values.proofs.Counted.{counted-begin, counted-more, counted-stop, counted-full}
 use Rattle.ber_values.proofs.Counted.{counted-short, counted-end}
