@@ -28,13 +28,13 @@ use Rattle.tase_tool.specs.Sent.{is_told, SendsWithin, OnTold}
 -- a play whose end is told is played out
 pub told_play : (end : ReplayEnd) (k l : SinkTold) (status : Status) → EndsPlay end k l status
     → is_told status ≡ true → is_played_out end ≡ true
-told_play plays.Done k l status is told = refl
-told_play (plays.BadLine line) k l status is told = refl
-told_play (plays.Full weight limit) k l status is told = refl
-told_play plays.SinkFault k l status is told =
-    let e : is_told Outside ≡ true = ap is_told (sym is.0) ∙ told in absurd cc
-told_play plays.Memory k l status is told =
-    let e : is_told Memory ≡ true = ap is_told (sym is.0) ∙ told in absurd cc
+told_play plays.Done k l status is said = refl
+told_play (plays.BadLine line) k l status is said = refl
+told_play (plays.Full weight limit) k l status is said = refl
+told_play plays.SinkFault k l status is said =
+    let e : is_told Outside ≡ true = ap is_told (sym is.0) ∙ said in absurd cc
+told_play plays.Memory k l status is said =
+    let e : is_told Memory ≡ true = ap is_told (sym is.0) ∙ said in absurd cc
 
 -- all its lines were taken
 pub sent_all : (setup : Setup) (history : List Entry) (played : Played) (whole : Bool)
