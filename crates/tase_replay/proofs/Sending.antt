@@ -29,8 +29,8 @@ use Rattle.tase_replay.specs.Play.{accepted, is_linked, is_unfit, received, behi
 use Rattle.tase_replay.specs.Play.{scene_by, steps_by, means, scene_behind, steps_behind, has_ended}
 use Rattle.tase_replay.specs.Play.{ended_by}
 use Rattle.tase_replay.specs.AllSent.{Printed, octet, over, printed_end, printed_all, printed_to}
-use Rattle.tase_replay.specs.AllSent.{is_over, SentBy, IsSentAll, AreSentIn, StaySent}
-use Rattle.tase_replay.specs.Standing.{GoesOn}
+use Rattle.tase_replay.specs.AllSent.{SentBy, IsSentAll}
+use Rattle.tase_replay.specs.Standing.{GoesOn, is_over, AreSentIn, StaySent}
 use Rattle.tase_replay.proofs.Acted.{acted_still, said_whole}
 use Rattle.tase_replay.proofs.Entering.{line_in-read, line_in-skipped}
 use Rattle.tase_replay.proofs.Linking.{items_behind, between_so}

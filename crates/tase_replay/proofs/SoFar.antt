@@ -27,7 +27,8 @@ use Rattle.tase_replay.specs.Play.{Served, step_of, with_taken, meaning_of, is_l
 use Rattle.tase_replay.specs.Play.{is_unfit, served_item, linked_by, means, line_in}
 use Rattle.tase_replay.specs.Play.{play_line, ends_there, scene_by, steps_by, first_scene}
 use Rattle.tase_replay.specs.AllSent.{given_asked, given_by_line, given_by_lines, AreSentTo}
-use Rattle.tase_replay.specs.AllSent.{AreSentOver, AreSentSoFar, AreSentIn, StaySent, is_played_out}
+use Rattle.tase_replay.specs.AllSent.{AreSentOver, AreSentSoFar, is_played_out}
+use Rattle.tase_replay.specs.Standing.{AreSentIn, StaySent}
 use Rattle.tase_replay.specs.Ends.{IsPlayed}
 use Rattle.tase_replay.proofs.Reached.{Reached, Reached-taken}
 

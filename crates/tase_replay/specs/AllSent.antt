@@ -2,7 +2,7 @@
 -- sent all that it is owed for that.
 use Rattle.std.specs.Prelude.{◌≡◌, ℕ, ◌==◌, if◌then◌else◌, Bool, true, false, List, [], ◌∷◌, ◌++◌}
 use Rattle.std.specs.Prelude.{map, reverse, flat_map, Option, Some, None}
-use Rattle.std.specs.List.{filter_map, list_any}
+use Rattle.std.specs.List.{filter_map}
 use Rattle.plain_text.specs.Lines.{is_skipped}
 use Rattle.bilateral.specs.Rows.{CentreRows}
 use Rattle.tase_views.specs.declared.event.Entry.{Entry}
@@ -15,7 +15,7 @@ use Rattle.conn_service.specs.Sends.{Sends}
 use Rattle.tase_replay.specs.declared.playing.ReplayEnd.{ReplayEnd}
 use Rattle.tase_replay.specs.declared.playing.ReplayEnd.TheVariants as replay_ends
 use Rattle.tase_replay.specs.Links.{Given, Asking, an_event, an_item, asking_in, items_of}
-use Rattle.tase_replay.specs.Play.{Step, Scene, Taken, Played, entries_in, steps_in, has_ended}
+use Rattle.tase_replay.specs.Play.{Step, Taken, Played, entries_in, steps_in}
 
 -- ---- what lines give to links
 
@@ -51,10 +51,6 @@ printed_all octets end = map octet octets ++ printed_end end
 abbrev pub printed_to : ℕ → List Step → List Printed
 printed_to who steps =
     flat_map (λ step. if step.who == who then printed_all step.octets step.end else []) steps
-
-abbrev pub is_over : Printed → Bool
-is_over (octet o) = false
-is_over (over end) = true
 
 -- ---- that this is what they are owed
 
@@ -100,15 +96,3 @@ pub record AreSentSoFar (setup : Setup) (history : List Entry) (played : Played)
   pub lines : played.taken ≡ taken ++ others
   pub all : whole ≡ true → others ≡ []
   pub sent : AreSentOver setup history taken
-
--- ---- from line to line
-
--- so in a scene, whose ended connections are those whose ends are printed
-pub record AreSentIn (setup : Setup) (scene : Scene) (steps : List Step) : Type 0 where
-  pub sent : AreSentTo setup scene.given scene.past steps
-  pub ended : (who : ℕ) → has_ended who scene ≡ list_any is_over (printed_to who steps)
-
--- where it is so in one scene, it is so in another, with these steps behind those before
-abbrev pub StaySent : Setup → Scene → Scene → List Step → Type 0
-StaySent setup before after more = (steps : List Step)
-    → AreSentIn setup before steps → AreSentIn setup after (steps ++ more)

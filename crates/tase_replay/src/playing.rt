@@ -5,9 +5,9 @@ ghost use Rattle.tase_replay.specs.Play.{play, play_alone, play_line, accepted, 
 ghost use Rattle.tase_replay.specs.Play.{ends_there, first_scene, scene_by, scene_behind};
 ghost use Rattle.tase_replay.specs.Play.{received, is_linked, is_unfit, steps_by};
 ghost use Rattle.tase_replay.specs.Play.{steps_behind};
-ghost use Rattle.tase_replay.specs.AllSent.{AreSentSoFar, StaySent, is_played_out};
+ghost use Rattle.tase_replay.specs.AllSent.{AreSentSoFar, is_played_out};
 ghost use Rattle.tase_replay.specs.Links.{given_seen, IsFit};
-ghost use Rattle.tase_replay.specs.Standing.{IsScene, GoesOn, IsBehind};
+ghost use Rattle.tase_replay.specs.Standing.{IsScene, GoesOn, IsBehind, StaySent};
 ghost use Rattle.tase_replay.specs.Ends.{IsPlayed, IsShown, end_of_refusal};
 
 use crate::entries::{Asked, read_asked};
