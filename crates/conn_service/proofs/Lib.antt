@@ -1,4 +1,5 @@
 pub mod Opened
+pub mod Worlds
 pub mod PeerEnds
 pub mod Told
 pub mod AllRead

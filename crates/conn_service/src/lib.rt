@@ -2,5 +2,7 @@
 #![tactic(auto)]
 
 mod attending;
+mod laws;
 
 pub use attending::attend;
+pub use laws::two_worlds_are_sent_alike;

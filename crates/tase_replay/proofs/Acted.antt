@@ -1,138 +1,120 @@
 -- Which events a seat has had once its link's connection was attended to.
-use Rattle.std.proofs.Common.{◌≡◌, ℕ, Bool, true, false, List, [], ◌∷◌, ◌++◌, reverse}
-use Rattle.std.proofs.Common.{Option, Some, None, is_some, refl, sym, subst, ◌∙◌, inl, inr}
-use Rattle.std.specs.Prelude.{if◌then◌else◌, ◌⊎◌, option_map}
+use Rattle.std.proofs.Common.{◌≡◌, ℕ, List, [], ◌∷◌, ◌++◌, reverse}
+use Rattle.std.proofs.Common.{Option, Some, None, is_some, refl, sym, ap, ◌∙◌, inl, inr, append_assoc}
+use Rattle.std.specs.Prelude.{if◌then◌else◌}
 use Rattle.std.proofs.lemmas.List.{append-nil}
-use Rattle.bilateral.specs.Rows.{CentreRows}
 use Rattle.sbo_device.specs.declared.key.Key.{Key}
 use Rattle.tase_views.specs.Setup.{Setup}
-use Rattle.tase_views.specs.History.{Past, association_in, stop_in}
-use Rattle.tase_views.specs.Outcomes.{refusal_of, first_refusal, seat_refusal}
-use Rattle.tase_views.specs.Outcomes.{name_refusal, weight_refusal, is_close}
+use Rattle.tase_views.specs.History.{Past, association_in}
 use Rattle.tase_views.specs.declared.event.EventKind.{EventKind}
 use Rattle.tase_views.specs.declared.event.EventKind.TheVariants as events
-use Rattle.tase_views.specs.declared.fault.StepFault.{StepFault}
 use Rattle.tase_views.specs.declared.fault.StepFault.TheVariants as faults
 use Rattle.tase_map.specs.Inputs.{Item}
 use Rattle.tase_map.specs.Sent.{events_by}
-use Rattle.conn_laws.specs.Serving.{with_event}
+use Rattle.tase_conn.specs.declared.stage.ConnEnd.{ConnEnd}
+use Rattle.tase_conn.specs.declared.stage.ConnEnd.TheVariants as conn_ends
+use Rattle.conn_laws.specs.Serving.{AreOthers, with_event}
+use Rattle.conn_laws.proofs.Seats.{at_seat, event_here, others_none, others_seat}
 use Rattle.conn_service.specs.Attending.{HasTaken, IsRefused, with_closed}
+use Rattle.conn_service.specs.Linked.{peer_end}
+use Rattle.conn_service.specs.Sends.{HasEvents, close_of, IsSaid, IsFrontOf}
 use Rattle.conn_service.proofs.Attended.{events_taken}
-use Rattle.tase_replay.specs.AllSent.{HasActed}
-use Rattle.tase_replay.proofs.Linking.{event_behind}
-use Rattle.tase_replay.proofs.Still.{stop_stays}
 
 -- all that its link asks
 pub acted_through : (setup : Setup) (past : Past) (who : ℕ) (items : List Item) (after : Past)
-    → HasTaken setup past who items [] after → HasActed setup.centre after who items
-acted_through setup past who items after h =
-    inl (events_taken setup who past h.taken after h.takes
-    ∙ sym (append-nil (reverse (events_by who past) ++ h.taken)) ∙ sym h.asks_are)
-
--- ---- where the node was stopped
-
-abbrev IsNoStop : Option StepFault → Type 0
-IsNoStop None = Unit {0}
-IsNoStop (Some (faults.Stopped place)) = ⊥
-IsNoStop (Some (faults.HistoryFull weight limit)) = Unit {0}
-IsNoStop (Some faults.Memory) = Unit {0}
-IsNoStop (Some faults.NoAssociation) = Unit {0}
-IsNoStop (Some faults.Already) = Unit {0}
-IsNoStop (Some faults.UnknownName) = Unit {0}
-
-chosen : (b : Bool) (one two : Option StepFault) → IsNoStop one → IsNoStop two
-    → IsNoStop (if b then one else two)
-chosen true one two x y = x
-chosen false one two x y = y
-
-seat_alone : (found : Option Key) (event : EventKind) → IsNoStop (seat_refusal found event)
-seat_alone found (events.Open peer) = chosen (is_some found) (Some faults.Already) None tt tt
-seat_alone found (events.Request call) =
-    chosen (is_some found) None (Some faults.NoAssociation) tt tt
-seat_alone found events.Take = chosen (is_some found) None (Some faults.NoAssociation) tt tt
-seat_alone found events.Close = chosen (is_some found) None (Some faults.NoAssociation) tt tt
-seat_alone found (events.Update point value) = tt
-seat_alone found events.Stop = tt
-
-name_alone : (rows : CentreRows) (event : EventKind) → IsNoStop (name_refusal rows event)
-name_alone rows (events.Open peer) = chosen _ None (Some faults.UnknownName) tt tt
-name_alone rows (events.Request call) = tt
-name_alone rows events.Take = tt
-name_alone rows events.Close = tt
-name_alone rows (events.Update point value) = chosen _ None (Some faults.UnknownName) tt tt
-name_alone rows events.Stop = tt
-
-weight_alone : (setup : Setup) (past : Past) (event : EventKind)
-    → IsNoStop (weight_refusal setup past event)
-weight_alone setup past event = chosen _ (Some (faults.HistoryFull _ setup.limit)) None tt tt
-
-then_none : (first : Option StepFault) (others : List (Option StepFault)) → IsNoStop first
-    → IsNoStop (first_refusal others) → IsNoStop (first_refusal (first ∷ others))
-then_none None others x y = y
-then_none (Some fault) others x y = x
-
-none_stops : (found : Option StepFault) (place : ℕ) → found ≡ Some (faults.Stopped place)
-    → IsNoStop found → ⊥
-none_stops None place e n = absurd cc
-none_stops (Some (faults.Stopped at)) place e n = n
-none_stops (Some (faults.HistoryFull weight limit)) place e n = absurd cc
-none_stops (Some faults.Memory) place e n = absurd cc
-none_stops (Some faults.NoAssociation) place e n = absurd cc
-none_stops (Some faults.Already) place e n = absurd cc
-none_stops (Some faults.UnknownName) place e n = absurd cc
-
-stop_found : (closing : Bool) (found : Option ℕ) (others : List (Option StepFault)) (place : ℕ)
-    → IsNoStop (first_refusal others)
-    → first_refusal ((if closing then None else option_map (λ place. faults.Stopped place) found)
-    ∷ others) ≡ Some (faults.Stopped place) → is_some found ≡ true
-stop_found true found others place n e = absurd (none_stops (first_refusal others) place e n)
-stop_found false None others place n e = absurd (none_stops (first_refusal others) place e n)
-stop_found false (Some at) others place n e = refl
-
--- an event that is refused so stands behind a stop
-pub stop_behind : (setup : Setup) (past : Past) (who : ℕ) (event : EventKind) (place : ℕ)
-    → refusal_of setup past who event ≡ Some (faults.Stopped place)
-    → is_some (stop_in past) ≡ true
-stop_behind setup past who event place e =
-    let seat = seat_refusal (association_in past who) event in
-    let name = name_refusal setup.centre event in
-    let weight = weight_refusal setup past event in
-    stop_found (is_close event) (stop_in past) (seat ∷ name ∷ weight ∷ []) place
-    (then_none seat (name ∷ weight ∷ []) (seat_alone (association_in past who) event)
-    (then_none name (weight ∷ []) (name_alone setup.centre event)
-    (then_none weight [] (weight_alone setup past event) tt))) e
+    → HasTaken setup past who items [] after
+    → HasEvents setup after who items (peer_end setup.centre items)
+acted_through setup past who items after h = inl (record {
+  events = events_taken setup who past h.taken after h.takes
+      ∙ sym (append-nil (reverse (events_by who past) ++ h.taken)) ∙ sym h.asks_are;
+  by_peer = refl;
+})
 
 -- the association of the seat is closed, if it has one
 record Shut (past after : Past) (who : ℕ) : Type 0 where
   later : Past
   is : after ≡ later ++ past
-  events_are : (reverse (events_by who after) ≡ reverse (events_by who past))
-      ⊎ (reverse (events_by who after) ≡ reverse (events_by who past) ++ events.Close ∷ [])
+  closed : events_by who later ≡ close_of (association_in past who)
+  none_open : association_in after who ≡ None
 
-shut_by : (b : Bool) (past : Past) (who : ℕ)
-    → Shut past (if b then with_event who events.Close past else past) who
-shut_by true past who = record {
+shut_by : (past : Past) (who : ℕ) (found : Option Key) → association_in past who ≡ found
+    → Shut past (if is_some found then with_event who events.Close past else past) who
+shut_by past who None e = record {
+  later = [];
+  is = refl;
+  closed = ap close_of (sym e);
+  none_open = e;
+}
+shut_by past who (Some key) e = record {
   later = with_event who events.Close [];
   is = refl;
-  events_are = inr (event_behind who past events.Close);
+  closed = event_here events.Close [] who ∙ ap close_of (sym e);
+  none_open = at_seat events.Close past who;
 }
-shut_by false past who = record { later = []; is = refl; events_are = inl refl }
 
+-- those up to one that a stopped node refuses
 pub acted_stopped : (setup : Setup) (past : Past) (who : ℕ) (items : List Item) (place : ℕ)
     (between after : Past) → IsRefused setup past who items (faults.Stopped place) between
-    → after ≡ with_closed who between → HasActed setup.centre after who items
-acted_stopped setup past who items place between after r is =
-    let had = events_taken setup who past r.has.taken between r.has.takes in
-    let shut : Shut between after who = subst (λ (p : Past). Shut between p who) (sym is)
-    (shut_by (is_some (association_in between who)) between who) in
-    let asked = reverse (events_by who past) ++ r.has.taken in
-    inr (record {
-      asked = asked;
-      others = r.event ∷ r.later;
-      asks_are = r.has.asks_are;
-      events_are = subst (λ (es : List EventKind). (reverse (events_by who after) ≡ es)
-          ⊎ (reverse (events_by who after) ≡ es ++ events.Close ∷ [])) had shut.events_are;
-      stopped = subst (λ (p : Past). is_some (stop_in p) ≡ true) (sym shut.is)
-          (stop_stays shut.later between
-          (stop_behind setup between who r.event place r.refused));
+    → after ≡ with_closed who between
+    → HasEvents setup after who items (Some conn_ends.Stopped)
+acted_stopped setup past who items place between after r closed =
+    let s = shut_by between who (association_in between who) refl in
+    inr (conn_ends.Stopped, refl, record {
+      next = r.event;
+      others = r.later;
+      later = s.later;
+      before = between;
+      past_is = closed ∙ s.is;
+      asks_are = r.has.asks_are
+          ∙ ap (λ (es : List EventKind). es ++ r.event ∷ r.later)
+          (sym (events_taken setup who past r.has.taken between r.has.takes));
+      cause = (place, r.refused);
+      closed = s.closed;
+      none_open = ap (λ (p : Past). association_in p who) closed ∙ s.none_open;
     })
+
+-- entries of other seats change none of that
+pub acted_still : (setup : Setup) (who : ℕ) (others past : Past) (items : List Item)
+    (end : Option ConnEnd) → AreOthers who others → HasEvents setup past who items end
+    → HasEvents setup (others ++ past) who items end
+acted_still setup who others past items end a (inl all) = inl (record {
+  events = ap (λ (es : List EventKind). reverse es) (others_none who others past a) ∙ all.events;
+  by_peer = all.by_peer;
+})
+acted_still setup who others past items end a (inr cut) =
+    let c = cut.2 in
+    inr (cut.0, cut.1, record {
+      next = c.next;
+      others = c.others;
+      later = others ++ c.later;
+      before = c.before;
+      past_is = ap (λ (p : Past). others ++ p) c.past_is
+          ∙ sym (append_assoc others c.later c.before);
+      asks_are = c.asks_are;
+      cause = c.cause;
+      closed = others_none who others c.later a ∙ c.closed;
+      none_open = others_seat who others past a ∙ c.none_open;
+    })
+
+-- what is said whole is as much as is owed, however the connection has ended
+pub said_whole : (setup : Setup) (items : List Item) (end : Option ConnEnd) (octets : List ℕ)
+    → IsSaid setup items end octets octets
+said_whole setup items None octets = refl
+said_whole setup items (Some conn_ends.Finished) octets = refl
+said_whole setup items (Some conn_ends.PeerEnd) octets = refl
+said_whole setup items (Some conn_ends.Declined) octets = refl
+said_whole setup items (Some (conn_ends.Refused fault)) octets = refl
+said_whole setup items (Some (conn_ends.TooLong len detail)) octets = refl
+said_whole setup items (Some (conn_ends.Overflow pending limit)) octets =
+    record { others = []; are = sym (append-nil octets) }
+said_whole setup items (Some conn_ends.LinkFault) octets =
+    record { others = []; are = sym (append-nil octets) }
+said_whole setup items (Some conn_ends.Stopped) octets = refl
+said_whole setup items (Some (conn_ends.Full weight limit)) octets = refl
+said_whole setup items (Some conn_ends.Memory) octets = record {
+  first = octets;
+  parting = [];
+  are = sym (append-nil octets);
+  front = record { others = []; are = sym (append-nil octets) };
+  aborts = record { others = _; are = refl };
+}

@@ -16,17 +16,7 @@ pub mod SoFar
 pub mod Pending
 pub mod Own
 pub mod TakenLines
-pub mod Keeping
 pub mod Reports
-pub mod LinkEnds
-pub mod LinkKeys
-pub mod LinkLines
-pub mod LinkSeats
-pub mod LinkFits
-pub mod Following
-pub mod PeerSteps
-pub mod Alongside
-pub mod Isolation
 mod Worked
 mod WorkedReadings
 mod WorkedLinks

@@ -40,17 +40,17 @@ use Rattle.tase_replay.specs.Lines.{entry_by}
 use Rattle.tase_replay.specs.Links.{Given, items_of, item_by, asks_more}
 use Rattle.tase_replay.specs.Links.{line_of_out, line_of_end}
 use Rattle.tase_replay.specs.Play.{Step, Scene, Meaning, bad, too_heavy, Served, Halt, through}
-use Rattle.tase_replay.specs.Play.{stopped, full, refused, halts, quiet_step, closes}
+use Rattle.tase_replay.specs.Play.{stopped, full, refused, halts, entry_step, closes}
 use Rattle.tase_replay.specs.Play.{serves, serves_by, served_item, received, is_unfit, linked}
 use Rattle.tase_replay.specs.Play.{linked_by, link_step, octets_between, behind_link, play_line}
 use Rattle.tase_replay.specs.Play.{ends_there}
 use Rattle.tase_replay.specs.Play.{steps_of, entries_in, printed_in}
-use Rattle.tase_replay.specs.AllSent.{octets_to}
+use Rattle.tase_replay.specs.AllSent.{Printed, printed_to}
 use Rattle.tase_replay.specs.Standing.{AreOf}
 use Rattle.tase_replay.specs.Ends.{IsPlayed, IsShown, TakesPart}
-use Rattle.tase_replay.proofs.Taking.{entries_in-append, printed_in-append, octets_to-append}
-use Rattle.tase_replay.proofs.Taking.{octets_to-silent, TakesPart-front}
-use Rattle.tase_replay.proofs.Served.{quiet_steps, behind_steps, serves_taken, serves_refused}
+use Rattle.tase_replay.proofs.Taking.{entries_in-append, printed_in-append, printed_to-append}
+use Rattle.tase_replay.proofs.Taking.{printed_to-silent, TakesPart-front}
+use Rattle.tase_replay.proofs.Served.{entry_steps, behind_steps, serves_taken, serves_refused}
 use Rattle.tase_replay.proofs.Entering.{IsPlayed-shown}
 
 -- ---- events of one seat, of which nothing is printed
@@ -61,7 +61,7 @@ pub record Quietly (who : ℕ) (past after : Past) (steps : List Step) : Type 0 
   pub after_is : after ≡ entries ++ past
   pub steps_are : entries_in steps ≡ reverse entries
   pub silent : printed_in steps ≡ []
-  pub unsaid : (other : ℕ) → octets_to other steps ≡ []
+  pub unsaid : (other : ℕ) → printed_to other steps ≡ []
 
 pub AreOf-append : (who : ℕ) (first next : Past) → AreOf who first → AreOf who next
     → AreOf who (first ++ next)
@@ -79,14 +79,14 @@ Quietly-none who past = record {
 }
 
 pub Quietly-one : (who : ℕ) (past : Past) (event : EventKind)
-    → Quietly who past (with_event who event past) (quiet_step past (entry_by event who) ∷ [])
+    → Quietly who past (with_event who event past) (entry_step (entry_by event who) ∷ [])
 Quietly-one who past event = record {
   entries = entry_by event who ∷ [];
   own = (refl, tt);
   after_is = refl;
   steps_are = refl;
   silent = refl;
-  unsaid = λ other. octets_to-silent other (quiet_step past (entry_by event who)) refl;
+  unsaid = λ other. printed_to-silent other (entry_step (entry_by event who)) refl refl;
 }
 
 pub Quietly-append : (who : ℕ) (past between after : Past) (first next : List Step)
@@ -103,19 +103,19 @@ Quietly-append who past between after first next one two = record {
       ∙ sym (reverse-append two.entries one.entries);
   silent = printed_in-append first next
       ∙ ap (λ (os : List ℕ). os ++ printed_in next) one.silent ∙ two.silent;
-  unsaid = λ other. octets_to-append other first next
-      ∙ ap (λ (os : List ℕ). os ++ octets_to other next) (one.unsaid other) ∙ two.unsaid other;
+  unsaid = λ other. printed_to-append other first next
+      ∙ ap (λ (os : List Printed). os ++ printed_to other next) (one.unsaid other) ∙ two.unsaid other;
 }
 
 -- those that a node took
 pub takes_quietly : (setup : Setup) (who : ℕ) (past : Past) (taken : List EventKind)
     (after : Past) → Takes setup who past taken after
-    → Quietly who past after (quiet_steps who past taken)
+    → Quietly who past after (entry_steps who taken)
 takes_quietly setup who past [] after t =
     subst (λ (p : Past). Quietly who past p []) (sym t) (Quietly-none who past)
 takes_quietly setup who past (event ∷ taken) after t =
     Quietly-append who past (with_event who event past) after
-    (quiet_step past (entry_by event who) ∷ []) (quiet_steps who (with_event who event past) taken)
+    (entry_step (entry_by event who) ∷ []) (entry_steps who taken)
     (Quietly-one who past event)
     (takes_quietly setup who (with_event who event past) taken after t.1)
 
@@ -151,7 +151,7 @@ pub served_so : (setup : Setup) (scene : Scene) (given : Given) (between : Past)
     → (h : HasTaken setup scene.past given.who (items_of given.who scene.given ++ given.item ∷ [])
     rest between)
     → served_item setup scene given
-    ≡ behind_steps (quiet_steps given.who scene.past h.taken) (serves setup given.who between rest)
+    ≡ behind_steps (entry_steps given.who h.taken) (serves setup given.who between rest)
 served_so setup scene given between rest e h =
     ap (λ (es : List EventKind). serves setup given.who scene.past es)
     (asks_more_so setup.centre (items_of given.who scene.given) given.item
@@ -176,10 +176,10 @@ pub through_so : (setup : Setup) (scene : Scene) (given : Given) (after : Past)
     → (h : HasTaken setup scene.past given.who (items_of given.who scene.given ++ given.item ∷ [])
     [] after)
     → received setup scene given ≡ linked setup.centre scene given
-    (quiet_steps given.who scene.past h.taken) after
+    (entry_steps given.who h.taken) after
     (peer_end setup.centre (items_of given.who scene.given ++ given.item ∷ []))
 through_so setup scene given after fit e h =
-    let steps = quiet_steps given.who scene.past h.taken in
+    let steps = entry_steps given.who h.taken in
     received_so setup scene given (behind_steps steps (halts after through)) fit
     (served_so setup scene given after [] e h)
     ∙ ap (λ (these : List Step). linked setup.centre scene given these after
@@ -195,9 +195,9 @@ pub full_so : (setup : Setup) (scene : Scene) (given : Given) (after : Past) (ev
     (event ∷ later) after)
     → refusal_of setup after given.who event ≡ Some (faults.HistoryFull weight limit)
     → received setup scene given
-    ≡ too_heavy (quiet_steps given.who scene.past h.taken) weight limit
+    ≡ too_heavy (entry_steps given.who h.taken) weight limit
 full_so setup scene given after event later weight limit fit e h is =
-    let steps = quiet_steps given.who scene.past h.taken in
+    let steps = entry_steps given.who h.taken in
     received_so setup scene given (behind_steps steps (halts after (full weight limit))) fit
     (served_so setup scene given after (event ∷ later) e h
     ∙ ap (λ (s : Served). behind_steps steps s)
@@ -205,9 +205,9 @@ full_so setup scene given after event later weight limit fit e h is =
     ∙ ap (λ (these : List Step). too_heavy these weight limit) (append-nil steps)
 
 -- one was refused, since the node was stopped
-abbrev pub close_steps : Past → ℕ → Option Key → List Step
-close_steps past who None = []
-close_steps past who (Some key) = quiet_step past (entry_by events.Close who) ∷ []
+abbrev pub close_steps : ℕ → Option Key → List Step
+close_steps who None = []
+close_steps who (Some key) = entry_step (entry_by events.Close who) ∷ []
 
 abbrev pub closed_by : Past → ℕ → Option Key → Past
 closed_by past who None = past
@@ -215,7 +215,7 @@ closed_by past who (Some key) = with_event who events.Close past
 
 closes_so : (past : Past) (who : ℕ) (found : Option Key)
     → closes past who found ≡ record {
-      steps = close_steps past who found;
+      steps = close_steps who found;
       past = closed_by past who found;
       halt = stopped;
     }
@@ -229,13 +229,13 @@ closed_so past who None = refl
 closed_so past who (Some key) = refl
 
 pub closes_quietly : (past : Past) (who : ℕ) (found : Option Key)
-    → Quietly who past (closed_by past who found) (close_steps past who found)
+    → Quietly who past (closed_by past who found) (close_steps who found)
 closes_quietly past who None = Quietly-none who past
 closes_quietly past who (Some key) = Quietly-one who past events.Close
 
-abbrev pub stopped_steps : Past → ℕ → List EventKind → Past → List Step
-stopped_steps past who taken between =
-    quiet_steps who past taken ++ close_steps between who (association_in between who)
+abbrev pub stopped_steps : ℕ → List EventKind → Past → List Step
+stopped_steps who taken between =
+    entry_steps who taken ++ close_steps who (association_in between who)
 
 pub stopped_so : (setup : Setup) (scene : Scene) (given : Given) (between after : Past)
     (event : EventKind) (later : List EventKind) (place : ℕ) → is_unfit given.who scene ≡ false
@@ -246,13 +246,13 @@ pub stopped_so : (setup : Setup) (scene : Scene) (given : Given) (between after 
     → refusal_of setup between given.who event ≡ Some (faults.Stopped place)
     → after ≡ with_closed given.who between
     → received setup scene given ≡ linked setup.centre scene given
-    (stopped_steps scene.past given.who h.taken between) after (Some conn_ends.Stopped)
+    (stopped_steps given.who h.taken between) after (Some conn_ends.Stopped)
 stopped_so setup scene given between after event later place fit e h is closed =
     let who = given.who in
-    let steps = quiet_steps who scene.past h.taken in
+    let steps = entry_steps who h.taken in
     let found = association_in between who in
     let served : Served = record {
-      steps = close_steps between who found;
+      steps = close_steps who found;
       past = closed_by between who found;
       halt = stopped;
     } in
@@ -261,18 +261,18 @@ stopped_so setup scene given between after event later place fit e h is closed =
     ∙ ap (λ (s : Served). behind_steps steps s)
     (serves_refused setup who between event later (faults.Stopped place) is
     ∙ closes_so between who found))
-    ∙ ap (λ (p : Past). linked setup.centre scene given (stopped_steps scene.past who h.taken
+    ∙ ap (λ (p : Past). linked setup.centre scene given (stopped_steps who h.taken
     between) p (Some conn_ends.Stopped)) (sym (closed ∙ closed_so between who found))
 
 pub stopped_quietly : (setup : Setup) (who : ℕ) (past between after : Past)
     (taken : List EventKind) → Takes setup who past taken between
     → after ≡ with_closed who between
-    → Quietly who past after (stopped_steps past who taken between)
+    → Quietly who past after (stopped_steps who taken between)
 stopped_quietly setup who past between after taken takes closed =
     let found = association_in between who in
-    Quietly-append who past between after (quiet_steps who past taken)
-    (close_steps between who found) (takes_quietly setup who past taken between takes)
-    (subst (λ (p : Past). Quietly who between p (close_steps between who found))
+    Quietly-append who past between after (entry_steps who taken)
+    (close_steps who found) (takes_quietly setup who past taken between takes)
+    (subst (λ (p : Past). Quietly who between p (close_steps who found))
     (sym (closed ∙ closed_so between who found)) (closes_quietly between who found))
 
 -- ---- no event of a connection is refused for another cause
@@ -429,7 +429,7 @@ pub IsPlayed-begun : (setup : Setup) (line : List ℕ) (number : ℕ) (scene : S
 IsPlayed-begun setup line number scene given history now sink between rest e f fit asked turn h =
     let who = given.who in
     let items = items_of who scene.given ++ given.item ∷ [] in
-    let steps = quiet_steps who scene.past h.taken in
+    let steps = entry_steps who h.taken in
     let served : Served = serves setup who between rest in
     let q = takes_quietly setup who scene.past h.taken between h.takes in
     let goes : IsNotRefused served.halt = serves_usual setup who between rest
@@ -469,7 +469,7 @@ pub IsPlayed-full : (setup : Setup) (line : List ℕ) (number : ℕ) (scene : Sc
 IsPlayed-full setup line number scene given history now sink between event later weight limit e f
     fit asked h is =
     let who = given.who in
-    let steps = quiet_steps who scene.past h.taken in
+    let steps = entry_steps who h.taken in
     let q = takes_quietly setup who scene.past h.taken between h.takes in
     subst (λ (m : Meaning). IsPlayed (play_line line number m ends_there) history now sink sink
     (Full weight limit))

@@ -10,14 +10,11 @@ use Rattle.tase_replay.specs.declared.playing.ReplayEnd.{ReplayEnd}
 use Rattle.tase_replay.specs.declared.playing.ReplayEnd.TheVariants.{Done, BadLine, Full}
 use Rattle.tase_replay.specs.declared.playing.ReplayEnd.TheVariants.{SinkFault, Memory}
 use Rattle.tase_replay.specs.Play.{Step, Scene, Meaning, bad, too_heavy, gives, Taken, End, done}
-use Rattle.tase_replay.specs.Play.{bad_line, history_full, Played, scene_by}
-use Rattle.tase_replay.specs.Play.{play_line, ends_there, steps_of}
+use Rattle.tase_replay.specs.Play.{bad_line, history_full, Played}
+use Rattle.tase_replay.specs.Play.{play_line, ends_there, steps_in, steps_of}
 use Rattle.tase_replay.specs.Ends.{TakesAll, TakesPart, IsPlayed}
 use Rattle.tase_replay.proofs.Taking.{TakesAll-none, TakesAll-append, TakesPart-append}
 use Rattle.tase_replay.proofs.Taking.{TakesPart-front}
-
-abbrev pub steps_in : List Taken → List Step
-steps_in lines = flat_map (λ taken. taken.steps) lines
 
 -- lines that were taken, and then a play
 abbrev pub continued : List Taken → Played → Played
@@ -30,7 +27,7 @@ pub record Reached (all rest : Played) (history now : List Entry)
   pub whole : all ≡ continued lines rest
   pub takes : TakesAll (steps_in lines) history now before after
 
-pub Reached-none : (all : Played) (history : List Entry) (sink : SinkTold)
+abbrev pub Reached-none : (all : Played) (history : List Entry) (sink : SinkTold)
     → Reached all all history history sink sink
 Reached-none all history sink = record {
   lines = [];
@@ -65,24 +62,14 @@ alone_steps : (steps : List Step) → (steps ++ []) ++ [] ≡ steps
 alone_steps steps = append-nil (steps ++ []) ∙ append-nil steps
 
 -- after a line that was taken the rest comes
-pub Reached-more : (line : List ℕ) (number : ℕ) (scene : Scene) (meaning : Meaning)
+abbrev pub Reached-taken : (line : List ℕ) (number : ℕ) (steps : List Step) (behind : Scene)
     (rest : Scene → Played) (all : Played) (history now later : List Entry)
     (before after next : SinkTold)
-    → Reached all (play_line line number meaning rest) history now before after
-    → IsPlayed (play_line line number meaning ends_there) now later after next Done
-    → Reached all (rest (scene_by scene meaning)) history later before next
-Reached-more line number scene bad rest all history now later before after next reached played =
-    absurd (done_or_bad played.0)
-  where
-    done_or_bad : bad_line number ≡ done → ⊥
-    done_or_bad e = absurd cc
-Reached-more line number scene (too_heavy steps weight limit) rest all history now later before
-    after next reached played = absurd (done_or_full played.0)
-  where
-    done_or_full : history_full weight limit ≡ done → ⊥
-    done_or_full e = absurd cc
-Reached-more line number scene (gives steps behind) rest all history now later before after next
-    reached played =
+    → Reached all (play_line line number (gives steps behind) rest) history now before after
+    → IsPlayed (play_line line number (gives steps behind) ends_there) now later after next Done
+    → Reached all (rest behind) history later before next
+Reached-taken line number steps behind rest all history now later before after next reached
+    played =
     let taken : Taken = record { line = line; steps = steps } in
     record {
       lines = reached.lines ++ taken ∷ [];

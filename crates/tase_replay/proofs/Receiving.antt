@@ -46,13 +46,13 @@ use Rattle.tase_replay.specs.declared.playing.ReplayEnd.TheVariants.{Memory}
 use Rattle.tase_replay.specs.Links.{Given, items_of, line_of_out, line_of_end}
 use Rattle.tase_replay.specs.Play.{Step, Scene, Meaning, received, is_unfit, has_ended, linked}
 use Rattle.tase_replay.specs.Play.{behind_link, link_step, play_line, ends_there, scene_by}
-use Rattle.tase_replay.specs.AllSent.{HasActed}
+use Rattle.conn_service.specs.Sends.{HasEvents}
 use Rattle.tase_replay.specs.Standing.{GoesOn, StandsOn, IsAwaiting, IsBehind}
 use Rattle.tase_replay.specs.Ends.{IsPlayed, IsShown, end_of_refusal}
 use Rattle.tase_replay.proofs.Linking.{Quietly, takes_quietly, stopped_quietly, through_so}
 use Rattle.tase_replay.proofs.Linking.{stopped_so, stopped_steps, IsPlayed-begun, IsPlayed-full}
 use Rattle.tase_replay.proofs.Linking.{IsPlayed-linked, link_text, items_behind}
-use Rattle.tase_replay.proofs.Served.{quiet_steps}
+use Rattle.tase_replay.proofs.Served.{entry_steps}
 use Rattle.tase_replay.proofs.Acted.{acted_through, acted_stopped}
 
 -- ---- an item more
@@ -192,8 +192,8 @@ pub record Came (setup : Setup) (scene : Scene) (given : Given) (after : Past)
       ++ added
       ≡ link_octets setup.centre after given.who
       (items_of given.who scene.given ++ given.item ∷ [])
-  pub acted : HasActed setup.centre after given.who
-      (items_of given.who scene.given ++ given.item ∷ [])
+  pub acted : HasEvents setup after given.who
+      (items_of given.who scene.given ++ given.item ∷ []) end
   pub end_is : end_in conn.progress ≡ end
   pub goes : end ≡ None → Serves setup.centre after given.who
       (items_of given.who scene.given ++ given.item ∷ [])
@@ -221,7 +221,7 @@ came setup scene given old conn after g fit a =
     let items = items_of who scene.given ++ given.item ∷ [] in
     let asked = asked_so setup.centre scene who old g in
     ⊎_elim (λ t. record {
-      steps = quiet_steps who scene.past t.has.taken;
+      steps = entry_steps who t.has.taken;
       end = peer_end setup.centre items;
       received_is = through_so setup scene given after fit asked t.has;
       quiet = takes_quietly setup who scene.past t.has.taken after t.has.takes;
@@ -230,7 +230,7 @@ came setup scene given old conn after g fit a =
       end_is = t.end;
       goes = λ e. (t.serves, t.resting);
     }) (λ s. record {
-      steps = stopped_steps scene.past who s.refused.has.taken s.between;
+      steps = stopped_steps who s.refused.has.taken s.between;
       end = Some conn_ends.Stopped;
       received_is = stopped_so setup scene given s.between after s.refused.event s.refused.later
           s.place fit asked s.refused.has s.refused.refused s.after_is;

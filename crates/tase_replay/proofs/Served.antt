@@ -9,13 +9,12 @@ use Rattle.tase_views.specs.declared.fault.StepFault.{StepFault}
 use Rattle.conn_laws.specs.Serving.{with_event}
 use Rattle.conn_service.specs.Attending.{Takes}
 use Rattle.tase_replay.specs.Lines.{entry_by}
-use Rattle.tase_replay.specs.Play.{Step, Served, quiet_step, behind_step, serves, serves_by}
+use Rattle.tase_replay.specs.Play.{Step, Served, entry_step, behind_step, serves, serves_by}
 
 -- the steps of these events
-abbrev pub quiet_steps : ℕ → Past → List EventKind → List Step
-quiet_steps who past [] = []
-quiet_steps who past (event ∷ events) = quiet_step past (entry_by event who)
-    ∷ quiet_steps who (with_event who event past) events
+abbrev pub entry_steps : ℕ → List EventKind → List Step
+entry_steps who [] = []
+entry_steps who (event ∷ events) = entry_step (entry_by event who) ∷ entry_steps who events
 
 abbrev pub behind_steps : List Step → Served → Served
 behind_steps steps served = record served { steps = steps ++ served.steps }
@@ -24,13 +23,13 @@ behind_steps steps served = record served { steps = steps ++ served.steps }
 pub serves_taken : (setup : Setup) (who : ℕ) (past : Past) (taken more : List EventKind)
     (between : Past) → Takes setup who past taken between
     → serves setup who past (taken ++ more)
-    ≡ behind_steps (quiet_steps who past taken) (serves setup who between more)
+    ≡ behind_steps (entry_steps who taken) (serves setup who between more)
 serves_taken setup who past [] more between t =
     ap (λ (p : Past). serves setup who p more) (sym t)
 serves_taken setup who past (event ∷ taken) more between t =
     ap (λ (r : Option StepFault). serves_by past (entry_by event who) r
     (λ after. serves setup who after (taken ++ more))) t.0
-    ∙ ap (λ (served : Served). behind_step (quiet_step past (entry_by event who)) served)
+    ∙ ap (λ (served : Served). behind_step (entry_step (entry_by event who)) served)
     (serves_taken setup who (with_event who event past) taken more between t.1)
 
 -- one that is refused is the last

@@ -1,27 +1,36 @@
 -- Behind each line that is taken, each peer has been sent all octets of its link so far.
-use Rattle.std.proofs.Common.{◌≡◌, ℕ, Bool, true, false, List, [], ◌∷◌, ◌++◌, Option, Some, None}
-use Rattle.std.proofs.Common.{refl, sym, ap, subst, ◌∙◌, append_assoc}
+use Rattle.std.proofs.Common.{◌≡◌, ℕ, Bool, true, false, List, [], ◌∷◌, ◌++◌, map, reverse, Option}
+use Rattle.std.proofs.Common.{Some, None, refl, sym, ap, subst, ◌∙◌, append_assoc}
 use Rattle.std.specs.Prelude.{if◌then◌else◌}
 use Rattle.std.specs.List.{cons_option}
-use Rattle.std.proofs.lemmas.List.{append-nil}
+use Rattle.std.proofs.lemmas.List.{append-nil, map-append}
+use Rattle.std.proofs.lemmas.List.Elements.{filter_map-append}
+use Rattle.std.proofs.lemmas.Grind.{flat_map-append}
+use Rattle.outside.specs.Sink.{SinkTold}
 use Rattle.plain_text.specs.Lines.{is_skipped}
 use Rattle.bilateral.specs.Rows.{CentreRows}
 use Rattle.tase_views.specs.Setup.{Setup}
 use Rattle.tase_views.specs.History.{Past}
 use Rattle.tase_views.specs.Outcomes.{refusal_of}
+use Rattle.tase_views.specs.declared.event.Entry.{Entry}
 use Rattle.tase_views.specs.declared.fault.StepFault.{StepFault}
 use Rattle.tase_views.specs.declared.fault.StepFault.TheVariants as faults
 use Rattle.tase_map.specs.Inputs.{Item}
+use Rattle.tase_replay.specs.declared.playing.ReplayEnd.{ReplayEnd}
+use Rattle.tase_replay.specs.declared.playing.ReplayEnd.TheVariants.{Done, BadLine, Full}
+use Rattle.tase_replay.specs.declared.playing.ReplayEnd.TheVariants.{SinkFault, Memory}
 use Rattle.tase_replay.specs.Links.{Given, Asking, an_event, an_item, asking_in, items_of}
 use Rattle.tase_replay.specs.Play.{Step, Scene, Meaning, bad, gives, too_heavy, Played, done}
+use Rattle.tase_replay.specs.Play.{bad_line, history_full, Taken, steps_in, entries_in}
 use Rattle.tase_replay.specs.Play.{Halt, through, stopped, full, refused}
 use Rattle.tase_replay.specs.Play.{Served, step_of, with_taken, meaning_of, is_linked}
 use Rattle.tase_replay.specs.Play.{is_unfit, served_item, linked_by, means, line_in}
-use Rattle.tase_replay.specs.Play.{play_line, ends_there, scene_by, steps_by, steps_of, first_scene}
-use Rattle.tase_replay.specs.Play.{play_alone, scene_behind, steps_behind}
-use Rattle.tase_replay.specs.AllSent.{given_asked, given_by_lines, AreSentTo}
-use Rattle.tase_replay.specs.AllSent.{AreSentAll, StaySent}
-use Rattle.tase_replay.proofs.Reached.{steps_in}
+use Rattle.tase_replay.specs.Play.{play_line, ends_there, scene_by, steps_by, first_scene}
+use Rattle.tase_replay.specs.AllSent.{given_asked, given_by_line, given_by_lines, AreSentTo}
+use Rattle.tase_replay.specs.AllSent.{AreSentOver, AreSentSoFar, is_played_out}
+use Rattle.tase_replay.specs.Standing.{AreSentIn, StaySent}
+use Rattle.tase_replay.specs.Ends.{IsPlayed}
+use Rattle.tase_replay.proofs.Reached.{Reached, Reached-taken}
 
 -- ---- what a line that is taken gives to links
 
@@ -105,65 +114,117 @@ line_given setup scene true found tail line number e = refl
 line_given setup scene false found tail line number e =
     means_given setup scene found tail line number e
 
--- ---- its steps
-
-line_steps : (line : List ℕ) (number : ℕ) (scene : Scene) (meaning : Meaning)
-    (rest : Scene → Played) → (play_line line number meaning ends_there).end ≡ done
-    → steps_of (play_line line number meaning rest)
-    ≡ steps_by meaning ++ steps_of (rest (scene_by scene meaning))
-line_steps line number scene bad rest e = absurd (never_bad line number e)
-line_steps line number scene (too_heavy steps weight limit) rest e =
-    absurd (never_heavy steps weight limit line number e)
-line_steps line number scene (gives steps after) rest e =
-    append_assoc steps (steps_in (rest after).taken) (rest after).last
-
 -- ---- the lines so far
 
--- of all lines these are left, behind this scene
-pub record SentSoFar (rows : CentreRows) (lines more : List (List ℕ)) (all rest : Played)
-    (scene : Scene) : Type 0 where
-  pub steps : List Step
-  pub whole : steps_of all ≡ steps ++ steps_of rest
-  pub given : given_by_lines rows lines ≡ scene.given ++ given_by_lines rows more
-  pub sent : AreSentTo rows scene.given scene.past steps
+-- of these lines, behind which this scene is
+pub record SentSoFar (setup : Setup) (lines : List Taken) (scene : Scene) : Type 0 where
+  pub given : given_by_lines setup.centre (map (λ line. line.line) lines) ≡ scene.given
+  pub sent : AreSentIn setup scene (steps_in lines)
 
-pub SentSoFar-none : (rows : CentreRows) (lines : List (List ℕ)) (all : Played) (past : Past)
-    → SentSoFar rows lines lines all all (first_scene past)
-SentSoFar-none rows lines all past = record {
-  steps = [];
-  whole = refl;
+pub SentSoFar-none : (setup : Setup) (past : Past) → SentSoFar setup [] (first_scene past)
+SentSoFar-none setup past = record {
   given = refl;
-  sent = λ who. refl;
+  sent = record { sent = λ who. refl; ended = λ who. refl };
 }
 
-pub SentSoFar-more : (setup : Setup) (line : List ℕ) (number : ℕ) (lines more : List (List ℕ))
-    (all : Played) (rest : Scene → Played) (scene : Scene)
-    → SentSoFar setup.centre lines (line ∷ more) all
-    (play_line line number (line_in setup scene line) rest) scene
-    → (play_alone setup line scene number).end ≡ done
-    → StaySent setup.centre scene (scene_behind setup line scene) (steps_behind setup line scene)
-    → SentSoFar setup.centre lines more all (rest (scene_behind setup line scene))
-    (scene_behind setup line scene)
-SentSoFar-more setup line number lines more all rest scene s e stays =
-    let meaning = line_in setup scene line in
+-- with a line more
+pub record Further (setup : Setup) (all rest : Played) (history now : List Entry)
+    (before after : SinkTold) (scene : Scene) : Type 0 where
+  pub reached : Reached all rest history now before after
+  pub sent : SentSoFar setup reached.lines scene
+
+more_given : (rows : CentreRows) (lines : List Taken) (line : List ℕ) (steps : List Step)
+    (before after : List Given)
+    → given_by_lines rows (map (λ taken. taken.line) lines) ≡ before
+    → before ++ cons_option (given_by_line rows line) [] ≡ after ++ []
+    → given_by_lines rows (map (λ taken. taken.line)
+    (lines ++ record { line = line; steps = steps } ∷ [])) ≡ after
+more_given rows lines line steps before after e f =
+    let taken : Taken = record { line = line; steps = steps } in
+    ap (λ (texts : List (List ℕ)). given_by_lines rows texts)
+    (map-append (λ (t : Taken). t.line) lines (taken ∷ []))
+    ∙ filter_map-append (given_by_line rows) (map (λ (t : Taken). t.line) lines) (line ∷ [])
+    ∙ ap (λ (gs : List Given). gs ++ cons_option (given_by_line rows line) []) e
+    ∙ f ∙ append-nil after
+
+pub SentSoFar-more : (setup : Setup) (line : List ℕ) (number : ℕ) (scene : Scene)
+    (meaning : Meaning) (rest : Scene → Played) (all : Played) (history now later : List Entry)
+    (before after next : SinkTold) → line_in setup scene line ≡ meaning
+    → (r : Reached all (play_line line number meaning rest) history now before after)
+    → SentSoFar setup r.lines scene
+    → IsPlayed (play_line line number meaning ends_there) now later after next Done
+    → StaySent setup scene (scene_by scene meaning) (steps_by meaning)
+    → Further setup all (rest (scene_by scene meaning)) history later before next
+    (scene_by scene meaning)
+SentSoFar-more setup line number scene bad rest all history now later before after next is r s
+    played stays = absurd (never_bad line number played.0)
+SentSoFar-more setup line number scene (too_heavy steps weight limit) rest all history now later
+    before after next is r s played stays =
+    absurd (never_heavy steps weight limit line number played.0)
+SentSoFar-more setup line number scene (gives steps behind) rest all history now later before
+    after next is r s played stays =
+    let taken : Taken = record { line = line; steps = steps } in
+    let ends : (play_line line number (line_in setup scene line) ends_there).end ≡ done =
+    ap (λ (m : Meaning). (play_line line number m ends_there).end) is in
     record {
-      steps = s.steps ++ steps_by meaning;
-      whole = s.whole
-          ∙ ap (λ (these : List Step). s.steps ++ these)
-          (line_steps line number scene meaning rest e)
-          ∙ sym (append_assoc s.steps (steps_by meaning)
-          (steps_of (rest (scene_by scene meaning))));
-      given = s.given ∙ line_given setup scene (is_skipped line) (asking_in setup.centre line)
-          (given_by_lines setup.centre more) line number e;
-      sent = stays s.steps s.sent;
+      reached = Reached-taken line number steps behind rest all history now later before after
+          next r played;
+      sent = record {
+        given = more_given setup.centre r.lines line steps scene.given behind.given s.given
+            (line_given setup scene (is_skipped line) (asking_in setup.centre line) [] line number
+            ends ∙ ap (λ (m : Meaning). (scene_by scene m).given ++ []) is);
+        sent = subst (λ (these : List Step). AreSentIn setup behind these)
+            (sym (flat_map-append (λ (t : Taken). t.steps) r.lines (taken ∷ [])
+            ∙ ap (λ (these : List Step). steps_in r.lines ++ these) (append-nil steps)))
+            (stays (steps_in r.lines) s.sent);
+      };
     }
 
-pub SentSoFar-end : (rows : CentreRows) (lines : List (List ℕ)) (all : Played) (scene : Scene)
-    (past : Past) → SentSoFar rows lines [] all (ends_there scene) scene → scene.past ≡ past
-    → AreSentAll rows lines past (steps_of all)
-SentSoFar-end rows lines all scene past s e =
-    let steps : steps_of all ≡ s.steps = s.whole ∙ append-nil s.steps in
-    let given : given_by_lines rows lines ≡ scene.given = s.given ∙ append-nil scene.given in
-    subst (λ (these : List Step). AreSentAll rows lines past these) (sym steps)
-    (subst (λ (p : Past). AreSentAll rows lines p s.steps) e
-    (subst (λ (gs : List Given). AreSentTo rows gs scene.past s.steps) (sym given) s.sent))
+-- ---- at the end
+
+-- a line with which a play ends isn't taken
+pub untaken : (line : List ℕ) (number : ℕ) (meaning : Meaning) (rest : Scene → Played)
+    (history now : List Entry) (before after : SinkTold) (end : ReplayEnd) → (end ≡ Done → ⊥)
+    → IsPlayed (play_line line number meaning ends_there) history now before after end
+    → is_played_out end ≡ true → (play_line line number meaning rest).taken ≡ []
+untaken line number bad rest history now before after end other played out = refl
+untaken line number (too_heavy steps weight limit) rest history now before after end other played
+    out = refl
+untaken line number (gives steps behind) rest history now before after Done other played out =
+    absurd (other refl)
+untaken line number (gives steps behind) rest history now before after (BadLine at) other played
+    out = absurd (let e : done ≡ bad_line at = played.0 in absurd cc)
+untaken line number (gives steps behind) rest history now before after (Full weight limit) other
+    played out = absurd (let e : done ≡ history_full weight limit = played.0 in absurd cc)
+untaken line number (gives steps behind) rest history now before after SinkFault other played out =
+    absurd cc
+untaken line number (gives steps behind) rest history now before after Memory other played out =
+    absurd cc
+
+pub SentSoFar-end : (setup : Setup) (all rest : Played) (history now : List Entry)
+    (before after : SinkTold) (scene : Scene) (whole : Bool)
+    → (r : Reached all rest history now before after) → SentSoFar setup r.lines scene
+    → scene.past ≡ reverse now → (whole ≡ true → rest.taken ≡ [])
+    → AreSentSoFar setup history all whole
+SentSoFar-end setup all rest history now before after scene whole r s e none = record {
+  taken = r.lines;
+  others = rest.taken;
+  lines = ap (λ (played : Played). played.taken) r.whole;
+  all = none;
+  sent = subst (λ (p : Past). AreSentTo setup (given_by_lines setup.centre
+      (map (λ (line : Taken). line.line) r.lines)) p (steps_in r.lines))
+      (e ∙ ap (λ (entries : List Entry). reverse entries) r.takes.entries)
+      (subst (λ (gs : List Given). AreSentTo setup gs scene.past (steps_in r.lines))
+      (sym s.given) s.sent.sent);
+}
+
+-- no line was taken
+pub AreSentSoFar-none : (setup : Setup) (history : List Entry) (all : Played)
+    → AreSentSoFar setup history all false
+AreSentSoFar-none setup history all = record {
+  taken = [];
+  others = all.taken;
+  lines = refl;
+  all = λ whole. absurd cc;
+  sent = λ who. refl;
+}

@@ -1,4 +1,4 @@
--- Entries of other seats change neither the octets that a seat's link is sent nor its events.
+-- Entries of other seats don't change the octets that a seat's link is sent.
 use Rattle.std.proofs.Common.{◌≡◌, ◌==◌, ℕ, Bool, true, false, List, [], ◌∷◌, ◌++◌, reverse, length}
 use Rattle.std.proofs.Common.{Option, Some, None, is_some, refl, sym, ap, subst, ◌∙◌, inl, inr}
 use Rattle.std.specs.Prelude.{if◌then◌else◌, ◌⊎◌}
@@ -10,7 +10,7 @@ use Rattle.sbo_device.specs.declared.key.Key.{Key}
 use Rattle.tase_views.specs.declared.event.Entry.{Entry}
 use Rattle.tase_views.specs.declared.event.EventKind.{EventKind}
 use Rattle.tase_views.specs.declared.event.EventKind.TheVariants as events
-use Rattle.tase_views.specs.History.{Past, association_in, association_after, is_stop, stop_in}
+use Rattle.tase_views.specs.History.{Past, association_in, association_after}
 use Rattle.tase_map.specs.Closed.{is_closed}
 use Rattle.tase_map.specs.Inputs.{Item, text_of, has_ended}
 use Rattle.tase_map.specs.Readings.{Reading, reading_of}
@@ -19,10 +19,9 @@ use Rattle.tase_map.specs.Sent.{events_by}
 use Rattle.tase_map.proofs.ReadingLaws.{reading, reading_only}
 use Rattle.tase_map.proofs.TurnOrder.{nothing_said}
 use Rattle.conn_laws.specs.Serving.{AreOthers, with_event}
-use Rattle.conn_laws.proofs.Seats.{at_seat, close_closes, closed_still, others_none, others_sent}
+use Rattle.conn_laws.proofs.Seats.{at_seat, close_closes, closed_still, others_sent}
 use Rattle.conn_service.specs.Linked.{opened_in, opened_by, octets_by, link_octets}
 use Rattle.conn_service.proofs.Opened.{none_opened}
-use Rattle.tase_replay.specs.AllSent.{HasActed}
 
 -- ---- the association that a seat has opened last
 
@@ -114,35 +113,6 @@ octets_still rows who others past items a =
     ap (λ (o : Option Key). octets_by rows (others ++ past) items o)
     (opened_beside who others past a)
     ∙ octets_beside rows who others past items (opened_in past who) a (settles rows past who)
-
--- a stop stays
-pub stop_stays : (later past : Past) → is_some (stop_in past) ≡ true
-    → is_some (stop_in (later ++ past)) ≡ true
-stop_stays [] past s = s
-stop_stays (entry ∷ later) past s =
-    by (is_stop entry.event) (length (later ++ past)) (stop_in (later ++ past))
-    (stop_stays later past s)
-  where
-    by : (b : Bool) (place : ℕ) (found : Option ℕ) → is_some found ≡ true
-        → is_some (if b then Some place else found) ≡ true
-    by true place found f = refl
-    by false place found f = f
-
-pub acted_still : (rows : CentreRows) (who : ℕ) (others past : Past) (items : List Item)
-    → AreOthers who others → HasActed rows past who items
-    → HasActed rows (others ++ past) who items
-acted_still rows who others past items a (inl all) =
-    inl (ap (λ (es : List EventKind). reverse es) (others_none who others past a) ∙ all)
-acted_still rows who others past items a (inr s) =
-    let same = ap (λ (es : List EventKind). reverse es) (others_none who others past a) in
-    inr (record {
-      asked = s.asked;
-      others = s.others;
-      asks_are = s.asks_are;
-      events_are = subst (λ (es : List EventKind). (es ≡ s.asked)
-          ⊎ (es ≡ s.asked ++ events.Close ∷ [])) (sym same) s.events_are;
-      stopped = stop_stays others past s.stopped;
-    })
 
 -- ---- a link that gave nothing
 

@@ -1,8 +1,9 @@
 -- Steps that were taken, and then further ones.
 use Rattle.std.proofs.Common.{◌≡◌, ◌==◌, Bool, true, false, ℕ, ◌+◌, List, [], ◌∷◌, ◌++◌, length}
-use Rattle.std.proofs.Common.{take, refl, sym, ap, ◌∙◌, subst, append_assoc, arith}
+use Rattle.std.proofs.Common.{take, refl, sym, ap, ◌∙◌, subst, append_assoc, arith, map}
+use Rattle.std.proofs.Common.{Option, None}
 use Rattle.std.specs.Prelude.{if◌then◌else◌}
-use Rattle.std.proofs.lemmas.List.{append-nil, length-append, take-append-le}
+use Rattle.std.proofs.lemmas.List.{append-nil, length-append, take-append-le, map-append}
 use Rattle.std.proofs.lemmas.Grind.{flat_map-append}
 use Rattle.std.proofs.Math.Seq.{take-append-add}
 use Rattle.outside.specs.Sink.{SinkTold, AppendsAll, AppendsPart}
@@ -10,7 +11,8 @@ use Rattle.outside.proofs.Writing.{Appends-none, Appends-append, AppendsPart-non
 use Rattle.outside.proofs.Writing.{AppendsPart-append}
 use Rattle.tase_views.specs.declared.event.Entry.{Entry}
 use Rattle.tase_replay.specs.Play.{Step, entries_in, printed_in}
-use Rattle.tase_replay.specs.AllSent.{octets_to}
+use Rattle.tase_conn.specs.declared.stage.ConnEnd.{ConnEnd}
+use Rattle.tase_replay.specs.AllSent.{Printed, octet, printed_end, printed_all, printed_to}
 use Rattle.tase_replay.specs.Ends.{TakesAll, TakesPart}
 
 pub entries_in-append : (first next : List Step) → entries_in (first ++ next) ≡ entries_in first
@@ -21,30 +23,41 @@ pub printed_in-append : (first next : List Step) → printed_in (first ++ next) 
     ++ printed_in next
 printed_in-append first next = flat_map-append (λ (step : Step). step.printed) first next
 
-pub octets_to-append : (who : ℕ) (first next : List Step)
-    → octets_to who (first ++ next) ≡ octets_to who first ++ octets_to who next
-octets_to-append who first next =
-    flat_map-append (λ (step : Step). if step.who == who then step.octets else []) first next
+pub printed_to-append : (who : ℕ) (first next : List Step)
+    → printed_to who (first ++ next) ≡ printed_to who first ++ printed_to who next
+printed_to-append who first next =
+    flat_map-append (λ (step : Step). if step.who == who then printed_all step.octets step.end
+    else []) first next
 
--- what one step adds to them: nothing, where it has no octets, or is of another seat
-pub octets_to-silent : (who : ℕ) (step : Step) → step.octets ≡ []
-    → octets_to who (step ∷ []) ≡ []
-octets_to-silent who step none =
-    append-nil (if step.who == who then step.octets else []) ∙ either (step.who == who)
+-- what one step prints for a peer: nothing, where it has no octets and no end, or is of another seat
+pub printed_to-silent : (who : ℕ) (step : Step) → step.octets ≡ [] → step.end ≡ None
+    → printed_to who (step ∷ []) ≡ []
+printed_to-silent who step none unended =
+    append-nil (if step.who == who then printed_all step.octets step.end else [])
+    ∙ either (step.who == who)
   where
-    either : (b : Bool) → (if b then step.octets else []) ≡ []
-    either true = none
+    either : (b : Bool) → (if b then printed_all step.octets step.end else []) ≡ []
+    either true = rw (none, unended) refl
     either false = refl
 
-pub octets_to-other : (who : ℕ) (step : Step) → (step.who == who) ≡ false
-    → octets_to who (step ∷ []) ≡ []
-octets_to-other who step other =
-    ap (λ (b : Bool). (if b then step.octets else []) ++ []) other
+pub printed_to-other : (who : ℕ) (step : Step) → (step.who == who) ≡ false
+    → printed_to who (step ∷ []) ≡ []
+printed_to-other who step other =
+    ap (λ (b : Bool). (if b then printed_all step.octets step.end else []) ++ []) other
 
-pub octets_to-own : (who : ℕ) (step : Step) → (step.who == who) ≡ true
-    → octets_to who (step ∷ []) ≡ step.octets
-octets_to-own who step own =
-    ap (λ (b : Bool). (if b then step.octets else []) ++ []) own ∙ append-nil step.octets
+pub printed_to-own : (who : ℕ) (step : Step) → (step.who == who) ≡ true
+    → printed_to who (step ∷ []) ≡ printed_all step.octets step.end
+printed_to-own who step own =
+    ap (λ (b : Bool). (if b then printed_all step.octets step.end else []) ++ []) own
+    ∙ append-nil (printed_all step.octets step.end)
+
+-- octets, and behind them others with the end
+pub printed_all-append : (first next : List ℕ) (end : Option ConnEnd)
+    → printed_all first None ++ printed_all next end ≡ printed_all (first ++ next) end
+printed_all-append first next end =
+    ap (λ (ps : List Printed). ps ++ printed_all next end) (append-nil (map octet first))
+    ∙ sym (append_assoc (map octet first) (map octet next) (printed_end end))
+    ∙ ap (λ (ps : List Printed). ps ++ printed_end end) (sym (map-append octet first next))
 
 -- nothing was taken
 pub TakesAll-none : (history : List Entry) (sink : SinkTold) → TakesAll [] history history sink sink

@@ -18,7 +18,6 @@ use Rattle.tase_replay.specs.CallIn.{datum_in}
 use Rattle.tase_replay.specs.Links.{Asking, an_event, asking_in}
 use Rattle.tase_replay.specs.Play.{Played, done, bad_line, history_full, shown_of, scenario_of}
 use Rattle.tase_replay.specs.Play.{Scene, first_scene, means, line_in, play_line, ends_there}
-use Rattle.tase_replay.specs.Isolation.{lines_of, replies_to}
 use Rattle.tase_replay.proofs.CallParts.{datum_in-text}
 
 -- lines, each with its end
@@ -196,16 +195,6 @@ written-shown =
     (line_in setup (first_scene []) (codes "open 1 A"))
     (λ (after : Scene). play_line write_line 2 (means setup after found) ends_there)))
     write_line-asking
-
--- the lines that concern the first peer, and the replies to it
-two_peers-lines : lines_of setup.centre 0 (played two_peers) ≡ codes "open 1 A"
-    ∷ codes "update BUS1 s2 00 1700000000 0" ∷ codes "say 1 read DOMA/BUS1" ∷ []
-unfolding digits
-two_peers-lines = refl
-
-two_peers-replies : replies_to 0 (played two_peers) ≡ text_of (codes "reply 1 read b8.80" ∷ [])
-unfolding digits
-two_peers-replies = refl
 
 -- data sets, and the names of the protocol itself
 abbrev sets : List (List ℕ)

@@ -16,16 +16,17 @@ use Rattle.mms_services.specs.PduOctets.{pdu_octets, response_octets, invoke_oct
 use Rattle.stack_wire.specs.Tsdus.{accept_tsdu, refusal_tsdu, abort_tsdu, data_tsdu}
 use Rattle.bilateral.specs.Rows.{CentreRows}
 use Rattle.bilateral.specs.Reading.{centre_in}
-use Rattle.sbo_device.specs.declared.key.Key.{Key}
 use Rattle.tase_views.specs.declared.call.CallKind.TheVariants.{Identify}
 use Rattle.tase_views.specs.declared.event.EventKind.TheVariants.{Open, Request, Take, Close, Stop}
 use Rattle.tase_views.specs.History.{Past}
 use Rattle.tase_views.specs.Setup.{Setup}
 use Rattle.tase_map.specs.Inputs.{piece}
+use Rattle.tase_conn.specs.declared.stage.ConnEnd.{ConnEnd}
+use Rattle.tase_conn.specs.declared.stage.ConnEnd.TheVariants as conn_ends
 use Rattle.tase_map.proofs.WorkedStream.{wanted, read_none}
 use Rattle.tase_replay.specs.Lines.{entry_by}
 use Rattle.tase_replay.specs.Links.{Asking, an_item, asking_in, Given, given_by}
-use Rattle.tase_replay.specs.Play.{Scene, Step, quiet_step, Meaning, gives, too_heavy, means}
+use Rattle.tase_replay.specs.Play.{Scene, Step, entry_step, Meaning, gives, too_heavy, means}
 use Rattle.tase_replay.specs.Play.{line_in}
 use Rattle.tase_replay.specs.Play.{Played, End, done, bad_line, history_full, ends_by, play_line}
 use Rattle.tase_replay.specs.Play.{play, first_scene, shown_of, scenario_of}
@@ -33,7 +34,7 @@ use Rattle.tase_replay.proofs.Worked.{text_of, rows_of, setup, played}
 use Rattle.tase_replay.proofs.WorkedReadings.{octets_of, call_digits, connect_digits}
 use Rattle.tase_replay.proofs.WorkedReadings.{identify_digits, cut_digits, call, connect, identify}
 use Rattle.tase_replay.proofs.WorkedReadings.{cut, front_read, call_read}
-use Rattle.tase_replay.proofs.WorkedReadings.{offered_read, asked_read, broken_read}
+use Rattle.tase_replay.proofs.WorkedReadings.{offered_read, asked_read, broken_read, broken_length}
 
 -- what is written
 writes : Unit {0}
@@ -117,13 +118,13 @@ filled setup line more scene number heavy =
 
 -- ---- what lines give
 
--- octets that are sent, and what is printed behind them
-abbrev sends : Option Key → List ℕ → List ℕ → Step
-sends key sent more = record {
+-- octets that are sent, the end that they are the last before, and what is printed of it
+abbrev sends : Option ConnEnd → List ℕ → List ℕ → Step
+sends end sent more = record {
   who = 1;
   entries = [];
-  key = key;
   octets = octets_of sent;
+  end = end;
   printed = out_line sent ++ 10 ∷ more;
 }
 
@@ -165,9 +166,6 @@ call_line setup =
     ∙ simp (read_none, call_read)
 
 -- a peer's offer is accepted
-abbrev key : Key
-key = record { peer = 0; ordinal = 0 }
-
 abbrev opened : Past
 opened = entry_by (Open 0) 1 ∷ []
 
@@ -179,8 +177,8 @@ accepted = scene associated (call ∷ connect ∷ []) []
 
 abbrev open_steps : List Step
 open_steps =
-    quiet_step [] (entry_by (Open 0) 1) ∷ quiet_step opened (entry_by Take 1)
-    ∷ sends (Some key) accept_digits [] ∷ []
+    entry_step (entry_by (Open 0) 1) ∷ entry_step (entry_by Take 1)
+    ∷ sends None accept_digits [] ∷ []
 
 connect_line : line_in setup called (in_line connect_digits) ≡ gives open_steps accepted
 unfolding writes
@@ -194,8 +192,8 @@ requested = entry_by (Request Identify) 1 ∷ associated
 
 abbrev answer_steps : List Step
 answer_steps =
-    quiet_step associated (entry_by (Request Identify) 1)
-    ∷ quiet_step requested (entry_by Take 1) ∷ sends (Some key) identified_digits [] ∷ []
+    entry_step (entry_by (Request Identify) 1)
+    ∷ entry_step (entry_by Take 1) ∷ sends None identified_digits [] ∷ []
 
 identify_line : line_in setup accepted (in_line identify_digits) ≡ gives answer_steps
     (scene (entry_by Take 1 ∷ requested) (call ∷ connect ∷ identify ∷ []) [])
@@ -207,8 +205,9 @@ identify_line =
 -- a peer that breaks a rule is sent an abort
 abbrev cut_steps : List Step
 cut_steps =
-    quiet_step associated (entry_by Close 1)
-    ∷ sends (Some key) abort_digits (codes "ended 1 refused presentation 5 length" ++ 10 ∷ []) ∷ []
+    entry_step (entry_by Close 1)
+    ∷ sends (Some (conn_ends.Refused broken_length)) abort_digits
+    (codes "ended 1 refused presentation 5 length" ++ 10 ∷ []) ∷ []
 
 cut_line : line_in setup accepted (in_line cut_digits) ≡ gives cut_steps
     (scene (entry_by Close 1 ∷ associated) (call ∷ connect ∷ cut ∷ []) (1 ∷ []))
@@ -223,7 +222,7 @@ stopped = entry_by Stop 0 ∷ associated
 
 abbrev stop_steps : List Step
 stop_steps =
-    record { who = 0; entries = entry_by Stop 0 ∷ []; key = None; octets = []; printed = [] } ∷ []
+    record { who = 0; entries = entry_by Stop 0 ∷ []; octets = []; end = None; printed = [] } ∷ []
 
 stop_line : line_in setup accepted (codes "stop")
     ≡ gives stop_steps (scene stopped (call ∷ connect ∷ []) [])
@@ -231,8 +230,8 @@ stop_line = refl
 
 abbrev refused_steps : List Step
 refused_steps =
-    quiet_step stopped (entry_by Close 1)
-    ∷ sends (Some key) abort_digits (codes "ended 1 stopped" ++ 10 ∷ []) ∷ []
+    entry_step (entry_by Close 1)
+    ∷ sends (Some conn_ends.Stopped) abort_digits (codes "ended 1 stopped" ++ 10 ∷ []) ∷ []
 
 refused_line : line_in setup (scene stopped (call ∷ connect ∷ []) []) (in_line identify_digits)
     ≡ gives refused_steps
@@ -250,7 +249,7 @@ strange = record {
 }
 
 declined_line : line_in strange called (in_line connect_digits)
-    ≡ gives (sends None refusal_digits (codes "ended 1 declined" ++ 10 ∷ []) ∷ [])
+    ≡ gives (sends (Some conn_ends.Declined) refusal_digits (codes "ended 1 declined" ++ 10 ∷ []) ∷ [])
     (scene [] (call ∷ connect ∷ []) (1 ∷ []))
 unfolding writes
 declined_line =
@@ -262,7 +261,7 @@ abbrev light : Setup
 light = record { centre = setup.centre; limit = 8 }
 
 full_line : line_in light called (in_line connect_digits)
-    ≡ too_heavy (quiet_step [] (entry_by (Open 0) 1) ∷ []) 10 8
+    ≡ too_heavy (entry_step (entry_by (Open 0) 1) ∷ []) 10 8
 unfolding writes
 full_line =
     ap (λ (asking : Option Asking). means light called asking) (connect_asking light.centre)

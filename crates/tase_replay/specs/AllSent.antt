@@ -1,19 +1,23 @@
--- What the link of each seat gave in a whole scenario, which events it was asked, and all octets
--- that were printed for its peer.
-use Rattle.std.specs.Prelude.{◌≡◌, ◌⊎◌, ℕ, ◌==◌, if◌then◌else◌, true, List, [], ◌∷◌, ◌++◌, reverse}
-use Rattle.std.specs.Prelude.{flat_map, Option, Some, None, is_some}
+-- What the link of each seat gave in the lines of a scenario that were taken, and that its peer was
+-- sent all that it is owed for that.
+use Rattle.std.specs.Prelude.{◌≡◌, ℕ, ◌==◌, if◌then◌else◌, Bool, true, false, List, [], ◌∷◌, ◌++◌}
+use Rattle.std.specs.Prelude.{map, reverse, flat_map, Option, Some, None}
 use Rattle.std.specs.List.{filter_map}
 use Rattle.plain_text.specs.Lines.{is_skipped}
 use Rattle.bilateral.specs.Rows.{CentreRows}
-use Rattle.tase_views.specs.declared.event.EventKind.{EventKind}
-use Rattle.tase_views.specs.declared.event.EventKind.TheVariants as events
-use Rattle.tase_views.specs.History.{Past, stop_in}
+use Rattle.tase_views.specs.declared.event.Entry.{Entry}
+use Rattle.tase_views.specs.Setup.{Setup}
+use Rattle.tase_views.specs.History.{Past}
 use Rattle.tase_map.specs.Inputs.{Item}
-use Rattle.tase_map.specs.Asks.{asks_of}
-use Rattle.tase_map.specs.Sent.{events_by}
+use Rattle.tase_conn.specs.declared.stage.ConnEnd.{ConnEnd}
 use Rattle.conn_service.specs.Linked.{link_octets}
+use Rattle.conn_service.specs.Sends.{Sends}
+use Rattle.tase_replay.specs.declared.playing.ReplayEnd.{ReplayEnd}
+use Rattle.tase_replay.specs.declared.playing.ReplayEnd.TheVariants as replay_ends
 use Rattle.tase_replay.specs.Links.{Given, Asking, an_event, an_item, asking_in, items_of}
-use Rattle.tase_replay.specs.Play.{Step, Scene}
+use Rattle.tase_replay.specs.Play.{Step, Taken, Played, entries_in, steps_in}
+
+-- ---- what lines give to links
 
 -- what a line gives to a link, if it is a link's
 abbrev pub given_asked : Option Asking → Option Given
@@ -28,47 +32,67 @@ given_by_line rows line = if is_skipped line then None else given_asked (asking_
 abbrev pub given_by_lines : CentreRows → List (List ℕ) → List Given
 given_by_lines rows lines = filter_map (given_by_line rows) lines
 
--- all octets that were printed for the peer of a seat's link
-abbrev pub octets_to : ℕ → List Step → List ℕ
-octets_to who steps = flat_map (λ step. if step.who == who then step.octets else []) steps
+-- ---- what is printed for their peers
 
--- where the node was stopped: the seat has had the first of the events that its link asks, and the
--- close of its association, where that was open
-pub record WasStopped (rows : CentreRows) (past : Past) (who : ℕ) (items : List Item) : Type 0 where
-  pub asked : List EventKind
-  pub others : List EventKind
-  pub asks_are : asks_of rows items ≡ asked ++ others
-  pub events_are : (reverse (events_by who past) ≡ asked)
-      ⊎ (reverse (events_by who past) ≡ asked ++ events.Close ∷ [])
-  pub stopped : is_some (stop_in past) ≡ true
+-- an octet that is printed for the peer of a link, or the end of its connection
+pub data Printed : Type 0 where
+  octet : ℕ → Printed
+  over : ConnEnd → Printed
 
--- the seat has had all events that its link asks, or the node was stopped
-abbrev pub HasActed : CentreRows → Past → ℕ → List Item → Type 0
-HasActed rows past who items =
-    (reverse (events_by who past) ≡ asks_of rows items) ⊎ WasStopped rows past who items
+abbrev pub printed_end : Option ConnEnd → List Printed
+printed_end None = []
+printed_end (Some end) = over end ∷ []
 
--- a seat whose link gave these items: its events are those that the link asks, and the octets that
--- were printed for its peer are, joined, all that the peer is sent
-pub record IsSentAll (rows : CentreRows) (past : Past) (steps : List Step) (who : ℕ)
+-- these octets, and behind them the end, if it has come
+abbrev pub printed_all : List ℕ → Option ConnEnd → List Printed
+printed_all octets end = map octet octets ++ printed_end end
+
+-- all that these steps print for the peer of a seat's link, in order
+abbrev pub printed_to : ℕ → List Step → List Printed
+printed_to who steps =
+    flat_map (λ step. if step.who == who then printed_all step.octets step.end else []) steps
+
+-- ---- that this is what they are owed
+
+-- a seat whose link gave these items: all that is printed for its peer is what the peer is sent over
+-- this past, and behind it once the end of the connection, if it has ended
+pub record IsSentAll (setup : Setup) (past : Past) (steps : List Step) (who : ℕ)
     (items : List Item) : Type 0 where
-  pub octets : octets_to who steps ≡ link_octets rows past who items
-  pub events : HasActed rows past who items
+  pub end : Option ConnEnd
+  pub printed : printed_to who steps
+      ≡ printed_all (link_octets setup.centre past who items) end
+  pub sends : Sends setup past who items end (link_octets setup.centre past who items)
 
--- nothing was printed for a seat without a link
-abbrev pub SentBy : CentreRows → Past → List Step → ℕ → List Item → Type 0
-SentBy rows past steps who [] = octets_to who steps ≡ []
-SentBy rows past steps who (item ∷ items) = IsSentAll rows past steps who (item ∷ items)
+-- nothing is printed for a seat without a link
+abbrev pub SentBy : Setup → Past → List Step → ℕ → List Item → Type 0
+SentBy setup past steps who [] = printed_to who steps ≡ []
+SentBy setup past steps who (item ∷ items) = IsSentAll setup past steps who (item ∷ items)
 
 -- so for each seat, over a history and what was given to links
-abbrev pub AreSentTo : CentreRows → List Given → Past → List Step → Type 0
-AreSentTo rows given past steps = (who : ℕ) → SentBy rows past steps who (items_of who given)
+abbrev pub AreSentTo : Setup → List Given → Past → List Step → Type 0
+AreSentTo setup given past steps = (who : ℕ) → SentBy setup past steps who (items_of who given)
 
--- over the whole history and all that the lines gave to links
-abbrev pub AreSentAll : CentreRows → List (List ℕ) → Past → List Step → Type 0
-AreSentAll rows lines past steps = AreSentTo rows (given_by_lines rows lines) past steps
+-- over the lines that were taken behind a history
+abbrev pub AreSentOver : Setup → List Entry → List Taken → Type 0
+AreSentOver setup history taken =
+    AreSentTo setup (given_by_lines setup.centre (map (λ line. line.line) taken))
+    (reverse (history ++ entries_in (steps_in taken))) (steps_in taken)
 
--- where it is so in one scene, it is so in another, with these steps behind those before
-abbrev pub StaySent : CentreRows → Scene → Scene → List Step → Type 0
-StaySent rows before after more = (steps : List Step)
-    → AreSentTo rows before.given before.past steps
-    → AreSentTo rows after.given after.past (steps ++ more)
+-- whether a replay has come to the end of its play, and wasn't cut short by a fault of the sink or
+-- for want of memory
+abbrev pub is_played_out : ReplayEnd → Bool
+is_played_out replay_ends.Done = true
+is_played_out (replay_ends.BadLine line) = true
+is_played_out (replay_ends.Full weight limit) = true
+is_played_out replay_ends.SinkFault = false
+is_played_out replay_ends.Memory = false
+
+-- the lines of a play that a replay has taken whole, all of them where it has come to its end: for
+-- each seat its peer was sent what it is owed for these
+pub record AreSentSoFar (setup : Setup) (history : List Entry) (played : Played)
+    (whole : Bool) : Type 0 where
+  pub taken : List Taken
+  pub others : List Taken
+  pub lines : played.taken ≡ taken ++ others
+  pub all : whole ≡ true → others ≡ []
+  pub sent : AreSentOver setup history taken

@@ -3,6 +3,5 @@ pub mod Lines
 pub mod Links
 pub mod Play
 pub mod Standing
-pub mod Isolation
 pub mod Ends
 pub mod AllSent

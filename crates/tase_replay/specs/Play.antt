@@ -18,7 +18,7 @@ use Rattle.tase_views.specs.declared.fault.StepFault.TheVariants.{Memory, Stoppe
 use Rattle.tase_views.specs.declared.fault.StepFault.TheVariants.{NoAssociation, Already}
 use Rattle.tase_views.specs.declared.fault.StepFault.TheVariants.{UnknownName}
 use Rattle.tase_views.specs.Setup.{Setup}
-use Rattle.tase_views.specs.History.{Past, association_in, key_at}
+use Rattle.tase_views.specs.History.{Past, association_in}
 use Rattle.tase_views.specs.declared.event.EventKind.{EventKind}
 use Rattle.tase_views.specs.declared.event.EventKind.TheVariants.{Close}
 use Rattle.bilateral.specs.Rows.{CentreRows}
@@ -28,7 +28,7 @@ use Rattle.tase_conn.specs.declared.stage.ConnEnd.TheVariants as conn_ends
 use Rattle.tase_views.specs.Outcomes.{refusal_of, answer_of}
 use Rattle.event_text.specs.ReplyTexts.{reply_text}
 use Rattle.tase_replay.specs.Lines.{entry_by}
-use Rattle.conn_service.specs.Linked.{peer_end, opened_in, link_octets}
+use Rattle.conn_service.specs.Linked.{peer_end, link_octets}
 use Rattle.tase_replay.specs.Links.{Given, Asking, an_event, an_item, asking_in}
 use Rattle.tase_replay.specs.Links.{items_of, asks_more}
 use Rattle.tase_replay.specs.Links.{line_of_out, line_of_end}
@@ -53,13 +53,13 @@ printed_of who (Reports reports) = flat_map (line_of_report who) reports
 printed_of who Closed = []
 printed_of who Noted = []
 
--- a step of a seat: the entry that was taken, if one was, the association that it is of, the octets
--- that the peer of its link is sent, and what is printed at it
+-- a step of a seat: the entry that was taken, if one was, the octets that the peer of its link is
+-- sent, how its connection ended, if it did, and what is printed at it
 pub record Step : Type 0 where
   pub who : ℕ
   pub entries : List Entry
-  pub key : Option Key
   pub octets : List ℕ
+  pub end : Option ConnEnd
   pub printed : List ℕ
 
 abbrev pub step_of : Setup → Past → Entry → Step
@@ -67,8 +67,8 @@ step_of setup past entry =
     record {
       who = entry.who;
       entries = entry ∷ [];
-      key = key_at entry.event past entry.who;
       octets = [];
+      end = None;
       printed = printed_of entry.who (answer_of setup past entry.who entry.event);
     }
 
@@ -124,12 +124,12 @@ accepted setup scene entry = if is_linked entry.who scene then bad
 -- ---- a line of a link
 
 -- an event of a connection, of which nothing is printed
-abbrev pub quiet_step : Past → Entry → Step
-quiet_step past entry = record {
+abbrev pub entry_step : Entry → Step
+entry_step entry = record {
   who = entry.who;
   entries = entry ∷ [];
-  key = key_at entry.event past entry.who;
   octets = [];
+  end = None;
   printed = [];
 }
 
@@ -157,10 +157,10 @@ behind_step step served = record served { steps = step ∷ served.steps }
 abbrev pub closes : Past → ℕ → Option Key → Served
 closes past who None = halts past stopped
 closes past who (Some key) =
-    behind_step (quiet_step past (entry_by Close who)) (halts (entry_by Close who ∷ past) stopped)
+    behind_step (entry_step (entry_by Close who)) (halts (entry_by Close who ∷ past) stopped)
 
 abbrev pub serves_by : Past → Entry → Option StepFault → (Past → Served) → Served
-serves_by past entry None rest = behind_step (quiet_step past entry) (rest (entry ∷ past))
+serves_by past entry None rest = behind_step (entry_step entry) (rest (entry ∷ past))
 serves_by past entry (Some (Stopped place)) rest =
     closes past entry.who (association_in past entry.who)
 serves_by past entry (Some (HistoryFull weight limit)) rest = halts past (full weight limit)
@@ -187,8 +187,8 @@ abbrev pub link_step : CentreRows → Scene → Scene → Given → Option ConnE
 link_step rows before after given end = record {
   who = given.who;
   entries = [];
-  key = opened_in after.past given.who;
   octets = octets_between rows given.who before after;
+  end = end;
   printed = line_of_out given.who (octets_between rows given.who before after)
       ++ line_of_end given.who end;
 }
@@ -308,9 +308,13 @@ steps_by (gives steps after) = steps
 abbrev pub steps_behind : Setup → List ℕ → Scene → List Step
 steps_behind setup line scene = steps_by (line_in setup scene line)
 
+-- the steps of lines that were taken
+abbrev pub steps_in : List Taken → List Step
+steps_in taken = flat_map (λ line. line.steps) taken
+
 -- all that was taken, in order
 abbrev pub steps_of : Played → List Step
-steps_of played = flat_map (λ taken. taken.steps) played.taken ++ played.last
+steps_of played = steps_in played.taken ++ played.last
 
 abbrev pub entries_in : List Step → List Entry
 entries_in steps = flat_map (λ step. step.entries) steps

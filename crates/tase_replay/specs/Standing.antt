@@ -17,9 +17,11 @@ use Rattle.tase_replay.specs.declared.links.Use.{Use}
 use Rattle.tase_replay.specs.declared.links.Use.TheVariants as uses
 use Rattle.conn_service.specs.Linked.{link_octets}
 use Rattle.tase_replay.specs.Links.{Given, items_of}
-use Rattle.tase_replay.specs.Play.{Scene, is_linked, is_seated, has_ended, is_unfit}
+use Rattle.tase_replay.specs.Play.{Scene, is_linked, is_seated, has_ended, is_unfit, Step}
 use Rattle.tase_replay.specs.Play.{behind_link}
 use Rattle.tase_conn.specs.declared.stage.ConnEnd.{ConnEnd}
+use Rattle.tase_views.specs.Setup.{Setup}
+use Rattle.tase_replay.specs.AllSent.{Printed, octet, over, printed_to, AreSentTo}
 
 -- a connection that goes on: a seat of the node serves it, all that its link gave was acted on, and
 -- all that its peer is sent was printed
@@ -148,3 +150,19 @@ pub record IsBehind (rows : CentreRows) (scene : Scene) (given : Given) (after :
   pub after_is : after ≡ behind_link scene (entries ++ scene.past) given end
   pub past_is : after.past ≡ reverse history
   pub stands : StandsOn rows after given.who conn
+
+-- ---- what was printed, from line to line
+
+abbrev pub is_over : Printed → Bool
+is_over (octet o) = false
+is_over (over end) = true
+
+-- so in a scene, whose ended connections are those whose ends are printed
+pub record AreSentIn (setup : Setup) (scene : Scene) (steps : List Step) : Type 0 where
+  pub sent : AreSentTo setup scene.given scene.past steps
+  pub ended : (who : ℕ) → has_ended who scene ≡ list_any is_over (printed_to who steps)
+
+-- where it is so in one scene, it is so in another, with these steps behind those before
+abbrev pub StaySent : Setup → Scene → Scene → List Step → Type 0
+StaySent setup before after more = (steps : List Step)
+    → AreSentIn setup before steps → AreSentIn setup after (steps ++ more)

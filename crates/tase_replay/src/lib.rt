@@ -32,5 +32,5 @@ mod links;
 mod playing;
 mod printing;
 
-pub use laws::{calls_are_spelled, peers_are_isolated};
+pub use laws::{calls_are_spelled, lines_are_taken_in_order};
 pub use playing::{ReplayEnd, replay};

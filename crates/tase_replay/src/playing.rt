@@ -3,11 +3,11 @@ ghost use Rattle.tase_replay.specs.declared.playing.ReplayEnd.TheVariants.{Done}
 ghost use Rattle.std.specs.Str.Lines.{lines};
 ghost use Rattle.tase_replay.specs.Play.{play, play_alone, play_line, accepted, printed_of, Scene};
 ghost use Rattle.tase_replay.specs.Play.{ends_there, first_scene, scene_by, scene_behind};
-ghost use Rattle.tase_replay.specs.Play.{received, is_linked, is_unfit, steps_of, steps_by};
+ghost use Rattle.tase_replay.specs.Play.{received, is_linked, is_unfit, steps_by};
 ghost use Rattle.tase_replay.specs.Play.{steps_behind};
-ghost use Rattle.tase_replay.specs.AllSent.{AreSentAll, StaySent};
+ghost use Rattle.tase_replay.specs.AllSent.{AreSentSoFar, is_played_out};
 ghost use Rattle.tase_replay.specs.Links.{given_seen, IsFit};
-ghost use Rattle.tase_replay.specs.Standing.{IsScene, GoesOn, IsBehind};
+ghost use Rattle.tase_replay.specs.Standing.{IsScene, GoesOn, IsBehind, StaySent};
 ghost use Rattle.tase_replay.specs.Ends.{IsPlayed, IsShown, end_of_refusal};
 
 use crate::entries::{Asked, read_asked};
@@ -46,9 +46,9 @@ pub fn replay<K: Sink>(alloc: Global, node: &mut Node, scenario: &[u8], sink: &m
     ensures played { IsPlayed (play node.old.setup (lines scenario.now)
         (first_scene (reverse node.old.history)) 1)
         node.old.history node.new.history (K.told sink.old) (K.told sink.new) result }
-    ensures sent { result ≡ Done → AreSentAll node.old.setup.centre (lines scenario.now)
-        (reverse node.new.history) (steps_of (play node.old.setup (lines scenario.now)
-        (first_scene (reverse node.old.history)) 1)) }
+    ensures sent { AreSentSoFar node.old.setup node.old.history
+        (play node.old.setup (lines scenario.now) (first_scene (reverse node.old.history)) 1)
+        (is_played_out result) }
     ensures setup { node.new.setup ≡ node.old.setup }
 {
     match Seats::of(alloc, node) {
@@ -70,9 +70,9 @@ fn play_lines<K: Sink>(
     ensures played { IsPlayed (play node.old.setup (lines scenario.now)
         (first_scene (reverse node.old.history)) 1)
         node.old.history node.new.history (K.told sink.old) (K.told sink.new) result }
-    ensures sent { result ≡ Done → AreSentAll node.old.setup.centre (lines scenario.now)
-        (reverse node.new.history) (steps_of (play node.old.setup (lines scenario.now)
-        (first_scene (reverse node.old.history)) 1)) }
+    ensures sent { AreSentSoFar node.old.setup node.old.history
+        (play node.old.setup (lines scenario.now) (first_scene (reverse node.old.history)) 1)
+        (is_played_out result) }
     ensures setup { node.new.setup ≡ node.old.setup }
 {
     let mut text = Vec::new(alloc);
@@ -110,7 +110,7 @@ fn play_line<K: Sink>(
         (scene_behind node.old.setup line.now scene) seats.new }
     ensures sent { (scene : Scene)
         → IsScene node.old.setup.centre node.old.history scene seats.old → result ≡ Done
-        → StaySent node.old.setup.centre scene (scene_behind node.old.setup line.now scene)
+        → StaySent node.old.setup scene (scene_behind node.old.setup line.now scene)
         (steps_behind node.old.setup line.now scene) }
     ensures setup { node.new.setup ≡ node.old.setup }
 {
@@ -176,7 +176,7 @@ fn play_given<K: Sink>(
         (scene_by scene (received node.old.setup scene (given_seen given))) seats.new }
     ensures sent { (scene : Scene)
         → IsScene node.old.setup.centre node.old.history scene seats.old → result ≡ Done
-        → StaySent node.old.setup.centre scene
+        → StaySent node.old.setup scene
         (scene_by scene (received node.old.setup scene (given_seen given)))
         (steps_by (received node.old.setup scene (given_seen given))) }
     ensures setup { node.new.setup ≡ node.old.setup }
@@ -218,7 +218,7 @@ fn serve<K: Sink>(
     ensures sent { (scene : Scene) → scene.past ≡ reverse node.old.history
         → GoesOn node.old.setup.centre scene given.now.who conn.old
         → is_unfit given.now.who scene ≡ false → result ≡ Done
-        → StaySent node.old.setup.centre scene
+        → StaySent node.old.setup scene
         (scene_by scene (received node.old.setup scene (given_seen given.now)))
         (steps_by (received node.old.setup scene (given_seen given.now))) }
     ensures setup { node.new.setup ≡ node.old.setup }

@@ -29,8 +29,7 @@ use Rattle.tase_tool.specs.Saying.{text_duty, scenario_said, scenario_duty, duty
 use Rattle.tase_tool.specs.Saying.{opening, second_text, duty_of}
 use Rattle.tase_tool.specs.Tables.{centre_or_end, IsCentreFrom, IsRead, IsTables, ReadsTables}
 use Rattle.tase_tool.specs.Tables.{RunsOver}
-use Rattle.tase_tool.specs.Sent.{node_of, SendsAll, OnTold, SendsOver, SendsBy}
-use Rattle.tase_tool.proofs.Sending.{undone_unread}
+use Rattle.tase_tool.specs.Sent.{node_of, SendsWithin, OnTold, SendsOver, SendsBy, is_told}
 
 -- a run that ended where it stood
 same_run : (duty : Duty) (b m a : OutsideTold) (s status : Status) → (status ≡ s) × (a ≡ m)
@@ -200,7 +199,7 @@ module _ (b m a : OutsideTold) (tables scenario : List ℕ) (limit : ℕ) where
 
   -- all was sent of a scenario over tables that were read
   SendsBy-tables : (rows : CentreRows) → ReadsTables b m tables (Ok rows)
-      → OnTold (SendsAll (node_of rows limit)) (texts_of m scenario)
+      → OnTold (SendsWithin (node_of rows limit)) (texts_of m scenario)
       → SendsBy (Some (replays tables scenario limit)) (texts_of b)
   SendsBy-tables rows reads sent = here (texts_of b tables) reads.tables
     where
@@ -212,8 +211,22 @@ module _ (b m a : OutsideTold) (tables scenario : List ℕ) (limit : ℕ) where
       here (told octets) told_tables =
           subst (λ read. SendsOver read limit (second_text (texts_of b) tables scenario))
           (sym told_tables)
-          (subst (λ text. OnTold (SendsAll (node_of rows limit)) text)
+          (subst (λ text. OnTold (SendsWithin (node_of rows limit)) text)
           (sym (second_read rows reads)) sent)
+
+  -- with refused ones nothing is owed
+  SendsBy-refused : (refusal : Refusal) → ReadsTables b m tables (Err (Refused refusal))
+      → SendsBy (Some (replays tables scenario limit)) (texts_of b)
+  SendsBy-refused refusal reads = here (texts_of b tables) reads.tables
+    where
+      here : (t : Text) → IsTables (Err (Refused refusal)) t
+          → OnTold (λ octets. SendsOver (tables_read octets) limit
+          (second_text (texts_of b) tables scenario)) t
+      here untold told_tables = tt
+      here missing told_tables = absurd cc
+      here (told octets) told_tables =
+          subst (λ read. SendsOver read limit (second_text (texts_of b) tables scenario))
+          (sym told_tables) tt
 
   -- the run over tables that are there
   IsRun-tables : (rows : CentreRows) (status : Status) → ReadsTables b m tables (Ok rows)
@@ -303,12 +316,16 @@ module _ (b m a : OutsideTold) (tables scenario : List ℕ) (limit : ℕ) where
   -- and all that was sent over them
   pub SendsBy-over : (read : Result CentreRows InputEnd) (status : Status)
       → ReadsTables b m tables read → RunsOver read limit scenario m a status
-      → status ≡ statuses.Done
-      → IfOk read (λ rows. OnTold (SendsAll (node_of rows limit)) (texts_of m scenario))
+      → is_told status ≡ true
+      → IfOk read (λ rows. OnTold (SendsWithin (node_of rows limit)) (texts_of m scenario))
       → SendsBy (Some (replays tables scenario limit)) (texts_of b)
-  SendsBy-over (Ok rows) status reads run done sent = SendsBy-tables rows reads sent
-  SendsBy-over (Err end) status reads run done sent =
-      absurd (undone_unread (codes "tables") end m a status run done)
+  SendsBy-over (Ok rows) status reads run told_so sent = SendsBy-tables rows reads sent
+  SendsBy-over (Err (Refused refusal)) status reads run told_so sent =
+      SendsBy-refused refusal reads
+  SendsBy-over (Err Outside) status reads run told_so sent =
+      let e : is_told statuses.Outside ≡ true = ap is_told (sym run.0) ∙ told_so in absurd cc
+  SendsBy-over (Err Memory) status reads run told_so sent =
+      let e : is_told statuses.Memory ≡ true = ap is_told (sym run.0) ∙ told_so in absurd cc
 
 module _ (b m a : OutsideTold) (input : List ℕ) (say : List ℕ → Said) (name : List ℕ) where
   -- the run over a text that is there

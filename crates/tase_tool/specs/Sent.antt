@@ -1,12 +1,16 @@
--- That what a replay prints for each seat is all that the peer of its link is sent.
-use Rattle.std.specs.Prelude.{ℕ, ◌++◌, List, [], reverse, Option, Some, None, Result, Ok, Err}
+-- That what a replay prints for each seat is all that the peer of its link is owed.
+use Rattle.std.specs.Prelude.{ℕ, ◌≤◌, Bool, true, false, List, [], length, reverse}
+use Rattle.std.specs.Prelude.{Option, Some, None, Result, Ok, Err}
 use Rattle.std.specs.Str.Lines.{lines}
 use Rattle.command_io.specs.declared.input.Refusal.{Refusal}
+use Rattle.command_io.specs.declared.input.TheConstants.{TEXT_LIMIT}
+use Rattle.command_io.specs.declared.status.Status.{Status}
+use Rattle.command_io.specs.declared.status.Status.TheVariants as statuses
 use Rattle.command_io.specs.Saying.{Text, untold, missing, told}
 use Rattle.bilateral.specs.Rows.{CentreRows}
 use Rattle.node_core.specs.NodeState.{NodeState}
-use Rattle.tase_replay.specs.Play.{Step, Played, play, first_scene, steps_of, entries_in}
-use Rattle.tase_replay.specs.AllSent.{AreSentAll}
+use Rattle.tase_replay.specs.Play.{Played, play, first_scene}
+use Rattle.tase_replay.specs.AllSent.{AreSentOver}
 use Rattle.tase_tool.specs.Words.{Asked, replays, lists_stream, decodes_pdu}
 use Rattle.tase_tool.specs.Saying.{setup_of, tables_read, second_text}
 
@@ -18,11 +22,21 @@ node_of rows limit = record { setup = setup_of rows limit; history = [] }
 abbrev pub played_on : NodeState → List ℕ → Played
 played_on node text = play node.setup (lines text) (first_scene (reverse node.history)) 1
 
--- what is printed for each seat is all that its peer is sent, over the history that the lines leave
+-- whether a status tells that a scenario was played, to its end, its first bad line, or the event for
+-- which the history has no room
+abbrev pub is_told : Status → Bool
+is_told statuses.Done = true
+is_told statuses.Input = true
+is_told statuses.Full = true
+is_told status = false
+
+-- what is printed for each seat is all that its peer is owed, over the lines that are taken
 abbrev pub SendsAll : NodeState → List ℕ → Type 0
-SendsAll node text =
-    let steps : List Step = steps_of (played_on node text) in
-    AreSentAll node.setup.centre (lines text) (reverse (node.history ++ entries_in steps)) steps
+SendsAll node text = AreSentOver node.setup node.history (played_on node text).taken
+
+-- of a text that isn't too long
+abbrev pub SendsWithin : NodeState → List ℕ → Type 0
+SendsWithin node text = length text ≤ TEXT_LIMIT → SendsAll node text
 
 -- a fact of the octets of a text, where they are told
 abbrev pub OnTold : (List ℕ → Type 0) → Text → Type 0
@@ -32,7 +46,7 @@ OnTold fact (told octets) = fact octets
 
 -- so of a scenario over tables that are read
 abbrev pub SendsOver : Result CentreRows Refusal → ℕ → Text → Type 0
-SendsOver (Ok rows) limit text = OnTold (SendsAll (node_of rows limit)) text
+SendsOver (Ok rows) limit text = OnTold (SendsWithin (node_of rows limit)) text
 SendsOver (Err refusal) limit text = Unit {0}
 
 -- and of the replay that words ask for, by what is told under each name

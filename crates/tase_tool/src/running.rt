@@ -6,7 +6,8 @@ ghost use Rattle.tase_tool.specs.Words.{asked_in, replays};
 ghost use Rattle.tase_tool.specs.Saying.{scenario_said, scenario_duty, duty_of, played_said};
 ghost use Rattle.tase_tool.specs.Tables.{RunsOver};
 ghost use Rattle.tase_tool.specs.Playing.{EndsPlay};
-ghost use Rattle.tase_tool.specs.Sent.{node_of, played_on, SendsAll, OnTold, SendsBy};
+ghost use Rattle.tase_tool.specs.Sent.{node_of, played_on, SendsAll, SendsWithin, OnTold};
+ghost use Rattle.tase_tool.specs.Sent.{SendsBy, is_told};
 
 use crate::decoding::run_decode;
 use crate::listing::run_listing;
@@ -36,13 +37,14 @@ use tase_replay::{ReplayEnd, replay};
 /// told so; or the messages that the octets of a capture are, each with its place, and the first
 /// rule that they break; or the PDU that they are, or that rule.
 ///
-/// Where a whole scenario was played, the octets that were printed for each link are all that its
-/// peer is sent: over the tables, the history that the lines leave and all octets that they gave.
+/// Where it answers 0, 3 or 5, all that was printed for the peer of each link is what that peer is
+/// owed for the lines that were taken: over the tables, the history that these lines leave and all
+/// that they gave to the link, its octets in order, and behind them once how its connection ended.
 pub fn run<O: Outside>(alloc: Global, words: &[String], outside: &mut O) -> Status
     ensures runs { let told = O.told outside.old in
         IsRun (duty_of (asked_in (map string_bytes words.now)) (texts_of told))
         told (O.told outside.new) result }
-    ensures sent { result ≡ Status.Done
+    ensures sent { is_told result ≡ true
         → SendsBy (asked_in (map string_bytes words.now)) (texts_of (O.told outside.old)) }
 {
     match read_command(words) {
@@ -71,7 +73,7 @@ fn run_replay<O: Outside>(
     ensures runs { let told = O.told outside.old in
         IsRun (duty_of (Some (replays tables.now scenario.now limit)) (texts_of told))
         told (O.told outside.new) result }
-    ensures sent { result ≡ Status.Done → SendsBy
+    ensures sent { is_told result ≡ true → SendsBy
         (Some (replays tables.now scenario.now limit)) (texts_of (O.told outside.old)) }
 {
     let read = read_tables(alloc, outside, tables);
@@ -89,7 +91,8 @@ fn run_over<O: Outside>(
     requires { limit ≤ 2 ^ 31 }
     ensures runs { RunsOver read limit scenario.now
         (O.told outside.old) (O.told outside.new) result }
-    ensures sent { result ≡ Status.Done → IfOk read (λ rows. OnTold (SendsAll (node_of rows limit))
+    ensures sent { is_told result ≡ true
+        → IfOk read (λ rows. OnTold (SendsWithin (node_of rows limit))
         (texts_of (O.told outside.old) scenario.now)) }
 {
     match read {
@@ -110,7 +113,7 @@ fn run_scenario<O: Outside>(
     ensures runs { let told = O.told outside.old in
         IsRun (scenario_duty centre limit scenario.now (texts_of told scenario.now))
         told (O.told outside.new) result }
-    ensures sent { result ≡ Status.Done → OnTold (SendsAll (node_of centre limit))
+    ensures sent { is_told result ≡ true → OnTold (SendsWithin (node_of centre limit))
         (texts_of (O.told outside.old) scenario.now) }
 {
     let read = read_input(alloc, outside, scenario);
@@ -128,8 +131,8 @@ fn play_read<O: Outside>(
     requires { limit ≤ 2 ^ 31 }
     ensures runs { EndsRead (codes "scenario") (scenario_said centre limit) read
         (O.told outside.old) (O.told outside.new) result }
-    ensures sent { result ≡ Status.Done
-        → IfOk read (λ text. SendsAll (node_of centre limit) text.items) }
+    ensures sent { is_told result ≡ true
+        → IfOk read (λ text. SendsWithin (node_of centre limit) text.items) }
 {
     match read {
         Ok(text) => play_scenario(alloc, outside, centre, limit, &text),
@@ -156,7 +159,7 @@ fn play_scenario<O: Outside>(
     requires { limit ≤ 2 ^ 31 }
     ensures runs { IsRun (duty_to_say true (scenario_said centre limit scenario.now))
         (O.told outside.old) (O.told outside.new) result }
-    ensures sent { result ≡ Status.Done → SendsAll (node_of centre limit) scenario.now }
+    ensures sent { is_told result ≡ true → SendsAll (node_of centre limit) scenario.now }
 {
     match new_node(alloc, centre, limit) {
         Ok(node) => play_on_output(alloc, outside, node, scenario),
@@ -168,7 +171,7 @@ fn play_scenario<O: Outside>(
 fn play_on_output<O: Outside>(alloc: Global, outside: &mut O, node: Node, scenario: &[u8]) -> Status
     ensures runs { IsRun (duty_to_say true (played_said (played_on node scenario.now)))
         (O.told outside.old) (O.told outside.new) result }
-    ensures sent { result ≡ Status.Done → SendsAll node scenario.now }
+    ensures sent { is_told result ≡ true → SendsAll node scenario.now }
 {
     let Some(sink) = outside.open_out(OUTPUT) else {
         return Status::Outside;
@@ -183,7 +186,7 @@ fn play_gathered<K: Sink + Drop>(alloc: Global, node: Node, scenario: &[u8], sin
     requires { (K.told sink).held ≡ 0 }
     ensures tells { Tells (played_said (played_on node scenario.now))
         (K.told sink) (K.told result.0) result.1 }
-    ensures sent { result.1 ≡ Status.Done → SendsAll node scenario.now }
+    ensures sent { is_told result.1 ≡ true → SendsAll node scenario.now }
 {
     let mut gathering = match BufferedSink::new(alloc, sink) {
         Ok(gathering) => gathering,
@@ -203,7 +206,7 @@ fn play_gathered<K: Sink + Drop>(alloc: Global, node: Node, scenario: &[u8], sin
 fn play_on<K: Sink>(alloc: Global, node: Node, scenario: &[u8], sink: &mut K) -> Status
     ensures tells { Tells (played_said (played_on node scenario.now))
         (K.told sink.old) (K.told sink.new) result }
-    ensures sent { result ≡ Status.Done → SendsAll node scenario.now }
+    ensures sent { is_told result ≡ true → SendsAll node scenario.now }
 {
     let mut node = node;
     let end = replay(alloc, &mut node, scenario, sink);

@@ -1,4 +1,5 @@
 pub mod Seen
+pub mod OwnRefusals
 pub mod Alike
 pub mod Reseated
 pub mod Worked

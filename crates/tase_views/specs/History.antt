@@ -1,6 +1,6 @@
 -- The history of a node, and the associations of its seats.
 use Rattle.std.specs.Prelude.{ℕ, ◌+◌, ◌==◌, ◌&&◌, if◌then◌else◌, Bool, true, false, List, [], ◌∷◌}
-use Rattle.std.specs.Prelude.{length, Option, Some, None}
+use Rattle.std.specs.Prelude.{length, filter, Option, Some, None}
 use Rattle.sbo_device.specs.declared.key.Key.{Key}
 use Rattle.tase_views.specs.declared.event.EventKind.{EventKind}
 use Rattle.tase_views.specs.declared.event.EventKind.TheVariants.{Open, Request, Take, Close}
@@ -54,6 +54,10 @@ key_at Take past who = association_in past who
 key_at Close past who = association_in past who
 key_at (Update point value) past who = association_in past who
 key_at Stop past who = association_in past who
+
+-- the entries of a seat
+abbrev pub entries_by : ℕ → Past → Past
+entries_by who past = filter (λ entry. entry.who == who) past
 
 -- whether an association is this one
 abbrev pub is_key : Key → Option Key → Bool

@@ -66,17 +66,22 @@ name_refusal rows (Update point value) =
     if is_known rows point value then None else Some UnknownName
 name_refusal rows Stop = None
 
--- with the event the history may not weigh more than the limit
-abbrev pub weight_refusal : Setup → Past → EventKind → Option StepFault
-weight_refusal setup past event =
-    if not (is_ending event) && nat_lt setup.limit (weight_of past + weight event)
-    then Some (HistoryFull (weight_of past + weight event) setup.limit) else None
-
 -- the first refusal, if there is one
 abbrev pub first_refusal : List (Option StepFault) → Option StepFault
 first_refusal [] = None
 first_refusal (Some fault ∷ refusals) = Some fault
 first_refusal (None ∷ refusals) = first_refusal refusals
+
+-- why an event is refused for what its seat has done and what it names, if it is
+abbrev pub own_refusal : CentreRows → Past → ℕ → EventKind → Option StepFault
+own_refusal rows past who event = first_refusal
+    (seat_refusal (association_in past who) event ∷ name_refusal rows event ∷ [])
+
+-- with the event the history may not weigh more than the limit
+abbrev pub weight_refusal : Setup → Past → EventKind → Option StepFault
+weight_refusal setup past event =
+    if not (is_ending event) && nat_lt setup.limit (weight_of past + weight event)
+    then Some (HistoryFull (weight_of past + weight event) setup.limit) else None
 
 -- why an event of a seat is refused after this past, if it is
 abbrev pub refusal_of : Setup → Past → ℕ → EventKind → Option StepFault

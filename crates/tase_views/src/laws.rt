@@ -1,5 +1,5 @@
 //! Laws of what a peer sees, and of the replies that it is given: isolation of peers.
-ghost use Rattle.std.specs.Prelude.{◌≡◌, ◌≢◌, ◌↔◌, ℕ, true, List, ◌∷◌, Some, None, is_some};
+ghost use Rattle.std.specs.Prelude.{◌≡◌, ◌≢◌, ◌↔◌, ℕ, true, List, [], ◌∷◌, Some, None, is_some};
 ghost use Rattle.std.specs.Prelude.{option_map};
 ghost use Rattle.tase_points.specs.Sample.{Sample};
 ghost use Rattle.bilateral.specs.Rows.{CentreRows, IsCentre, table_of, place_of_see};
@@ -11,11 +11,15 @@ ghost use Rattle.sbo_device.specs.SameMoves.{renumbered_hold};
 ghost use Rattle.tase_views.specs.declared.call.CallKind.{CallKind as AnyCall};
 ghost use Rattle.tase_views.specs.declared.event.EventKind.TheVariants.{Open, Request, Take};
 ghost use Rattle.tase_views.specs.declared.event.EventKind.TheVariants.{Close, Update};
-ghost use Rattle.tase_views.specs.History.{Past, association_in};
+ghost use Rattle.tase_views.specs.declared.event.EventKind.{EventKind as AnyEvent};
+ghost use Rattle.tase_views.specs.Setup.{Setup};
+ghost use Rattle.tase_views.specs.History.{Past, association_in, entries_by};
+ghost use Rattle.tase_views.specs.Outcomes.{first_refusal, own_refusal, refusal_of};
+ghost use Rattle.tase_views.specs.Outcomes.{stop_refusal, weight_refusal};
 ghost use Rattle.tase_views.specs.OwnTable.{own_table};
 ghost use Rattle.tase_views.specs.View.{View, view_of};
 ghost use Rattle.tase_views.specs.Concerns.{entries_for, reseated, IsInjective};
-ghost use Rattle.tase_views.specs.Answers.{reply_to};
+ghost use Rattle.tase_views.specs.Answers.{reply_to, reports_for};
 ghost use Rattle.tase_views.specs.NodeMoves.{NodeMove};
 ghost use Rattle.tase_views.specs.PeerTables.{PeerTable, peer_table};
 ghost use Rattle.tase_views.specs.NodeViews.{seen_by, view_by, is_selectable};
@@ -60,15 +64,32 @@ pub fn views_are_of_entries()
         → view_of rows peer (entries_for rows peer past) ≡ view_of rows peer past }
 {}
 
-/// Two centres with two histories in which a peer has the same own table and the same view give
-/// that peer the same reply to each call, whatever else they hold.
+/// Two worlds. Two centres with two histories in which a peer has the same own table and the same
+/// view give that peer the same reply to each call and the same reports at each take, whatever else
+/// they hold.
 pub fn two_worlds()
-    ensures { (here there : CentreRows) (past other_past : Past) (peer other : ℕ) (ordinal : ℕ)
-        (call : AnyCall)
+    ensures reply { (here there : CentreRows) (past other_past : Past) (peer other : ℕ)
+        (ordinal : ℕ) (call : AnyCall)
         → own_table here peer ≡ own_table there other
         → view_of here peer past ≡ view_of there other other_past
         → reply_to (own_table here peer) (view_of here peer past) ordinal call
         ≡ reply_to (own_table there other) (view_of there other other_past) ordinal call }
+    ensures reports { (here there : CentreRows) (past other_past : Past) (peer other : ℕ)
+        (ordinal : ℕ)
+        → own_table here peer ≡ own_table there other
+        → view_of here peer past ≡ view_of there other other_past
+        → reports_for (own_table here peer) (view_of here peer past) ordinal
+        ≡ reports_for (own_table there other) (view_of there other other_past) ordinal }
+{}
+
+/// But for a stop of the node and a full history, an event is refused for what its own seat has
+/// done and for what it names, and for nothing that other seats do.
+pub fn refusals_are_of_the_seat()
+    ensures own { (rows : CentreRows) (past : Past) (who : ℕ) (event : AnyEvent)
+        → own_refusal rows past who event ≡ own_refusal rows (entries_by who past) who event }
+    ensures all { (setup : Setup) (past : Past) (who : ℕ) (event : AnyEvent)
+        → refusal_of setup past who event ≡ first_refusal (stop_refusal past event
+        ∷ own_refusal setup.centre past who event ∷ weight_refusal setup past event ∷ []) }
 {}
 
 /// A peer's view shows who holds a device of the peer's table that isn't direct, and until when, as

@@ -1,27 +1,29 @@
-use Rattle.std.proofs.Common.{◌+◌, reverse, arith, ◌∙◌, refl}
+use Rattle.std.proofs.Common.{◌+◌, reverse, arith, ◌∙◌, refl, subst}
 use Rattle.std.specs.Str.Lines.{lines}
-use Rattle.tase_replay.specs.Play.{Scene, play, line_in, first_scene, scene_behind}
-use Rattle.tase_replay.proofs.Reached.{Reached-none, Reached-more, Reached-last}
-use Rattle.tase_replay.proofs.SoFar.{SentSoFar-none, SentSoFar-more}
+use Rattle.tase_views.specs.Setup.{Setup}
+use Rattle.tase_replay.specs.AllSent.{AreSentSoFar, is_played_out}
+use Rattle.tase_replay.specs.Play.{Scene, play, play_line, line_in, first_scene, scene_behind}
+use Rattle.tase_replay.proofs.Reached.{Reached-none, Reached-last}
+use Rattle.tase_replay.proofs.SoFar.{SentSoFar-none, SentSoFar-more, SentSoFar-end, untaken}
 use Rattle.tase_replay.proofs.playing.play_lines.Goals as goal
 
 pub loop-line-init : goal.loop-line-init
 loop-line-init g c =
     let node = c.args.node.now in (
       first_scene (reverse node.history),
-      Reached-none
-          (play node.setup (lines c.args.scenario.now) (first_scene (reverse node.history)) 1)
-          node.history (g.K.Sink.told c.args.sink.now),
-      SentSoFar-none node.setup.centre (lines c.args.scenario.now)
-          (play node.setup (lines c.args.scenario.now) (first_scene (reverse node.history)) 1)
-          (reverse node.history),
+      record {
+        reached = Reached-none
+            (play node.setup (lines c.args.scenario.now) (first_scene (reverse node.history)) 1)
+            node.history (g.K.Sink.told c.args.sink.now);
+        sent = SentSoFar-none node.setup (reverse node.history);
+      },
       c.requires,
       refl,
       omega arith,
     )
 
 pub play_line-requires : goal.play_line-requires
-play_line-requires g c = (c.loop-line.invariant.0, c.loop-line.invariant.3)
+play_line-requires g c = (c.loop-line.invariant.0, c.loop-line.invariant.2)
 
 pub returns-in_default-play_line : goal.returns-in_default-play_line
 returns-in_default-play_line g c =
@@ -30,18 +32,29 @@ returns-in_default-play_line g c =
     let scene = c.loop-line.invariant.0 in
     let rest = λ (s : Scene). play node.setup (lines c.in-Some.more.now) s
     (c.loop-line.number + 1) in
-    let reached = rw c.in-Some.ensures.some at c.loop-line.invariant.1 in
+    let all = play first.setup (lines c.args.scenario.now) (first_scene (reverse first.history)) 1
+    in
+    let meaning = line_in node.setup scene c.in-Some.line.now in
+    let so_far = rw c.in-Some.ensures.some at c.loop-line.invariant.1 in
+    let played = c.play_line.ensures.played scene c.loop-line.invariant.2 in
     record {
-      played = Reached-last c.in-Some.line.now c.loop-line.number
-          (line_in node.setup scene c.in-Some.line.now) rest
-          (play first.setup (lines c.args.scenario.now) (first_scene (reverse first.history)) 1)
+      played = Reached-last c.in-Some.line.now c.loop-line.number meaning rest all
           first.history node.history c.play_line.new.node.history
           (g.K.Sink.told c.args.sink.now) (g.K.Sink.told c.loop-line.sink)
           (g.K.Sink.told c.play_line.new.sink) c.play_line.result
-          c.in_default-play_line.not-Done reached
-          (c.play_line.ensures.played scene c.loop-line.invariant.3);
-      sent = λ done. absurd (c.in_default-play_line.not-Done done);
-      setup = c.play_line.ensures.setup ∙ c.loop-line.invariant.4;
+          c.in_default-play_line.not-Done so_far.reached played;
+      sent = subst (λ (setup : Setup). AreSentSoFar setup first.history all
+          (is_played_out c.play_line.result)) c.loop-line.invariant.3
+          (SentSoFar-end node.setup all
+          (play_line c.in-Some.line.now c.loop-line.number meaning rest) first.history node.history
+          (g.K.Sink.told c.args.sink.now) (g.K.Sink.told c.loop-line.sink) scene
+          (is_played_out c.play_line.result) so_far.reached so_far.sent
+          c.loop-line.invariant.2.past_is
+          (untaken c.in-Some.line.now c.loop-line.number meaning rest node.history
+          c.play_line.new.node.history (g.K.Sink.told c.loop-line.sink)
+          (g.K.Sink.told c.play_line.new.sink) c.play_line.result
+          c.in_default-play_line.not-Done played));
+      setup = c.play_line.ensures.setup ∙ c.loop-line.invariant.3;
     }
 
 pub loop-line-preserved : goal.loop-line-preserved
@@ -51,24 +64,18 @@ loop-line-preserved g c =
     let scene = c.loop-line.invariant.0 in
     let rest = λ (s : Scene). play node.setup (lines c.in-Some.more.now) s
     (c.loop-line.number + 1) in
-    let reached = rw c.in-Some.ensures.some at c.loop-line.invariant.1 in
-    let further = Reached-more c.in-Some.line.now c.loop-line.number scene
+    let so_far = rw c.in-Some.ensures.some at c.loop-line.invariant.1 in
+    let further = SentSoFar-more node.setup c.in-Some.line.now c.loop-line.number scene
     (line_in node.setup scene c.in-Some.line.now) rest
     (play first.setup (lines c.args.scenario.now) (first_scene (reverse first.history)) 1)
     first.history node.history c.play_line.new.node.history
     (g.K.Sink.told c.args.sink.now) (g.K.Sink.told c.loop-line.sink)
-    (g.K.Sink.told c.play_line.new.sink)
-    reached (c.in-Done.ensures.played scene c.loop-line.invariant.3) in
-    let sofar = rw c.in-Some.ensures.some at c.loop-line.invariant.2 in
-    let sent = SentSoFar-more node.setup c.in-Some.line.now c.loop-line.number
-    (lines c.args.scenario.now) (lines c.in-Some.more.now)
-    (play first.setup (lines c.args.scenario.now) (first_scene (reverse first.history)) 1) rest
-    scene sofar (c.in-Done.ensures.played scene c.loop-line.invariant.3).0
-    (c.in-Done.ensures.sent scene c.loop-line.invariant.3 refl) in (
+    (g.K.Sink.told c.play_line.new.sink) refl so_far.reached so_far.sent
+    (c.in-Done.ensures.played scene c.loop-line.invariant.2)
+    (c.in-Done.ensures.sent scene c.loop-line.invariant.2 refl) in (
       scene_behind node.setup c.in-Some.line.now scene,
       rw c.in-Done.ensures.setup further,
-      rw c.in-Done.ensures.setup sent,
-      rw c.in-Done.ensures.setup (c.in-Done.ensures.stands scene c.loop-line.invariant.3 refl),
-      c.in-Done.ensures.setup ∙ c.loop-line.invariant.4,
+      rw c.in-Done.ensures.setup (c.in-Done.ensures.stands scene c.loop-line.invariant.2 refl),
+      c.in-Done.ensures.setup ∙ c.loop-line.invariant.3,
       omega (arith, c.in-Some.ensures.shorter),
     )

@@ -4,5 +4,5 @@ use Rattle.tase_tool.proofs.running.play_scenario.Goals as goal
 
 pub returns-in-Ok-clause-sent : goal.returns-in-Ok-clause-sent
 returns-in-Ok-clause-sent g c =
-    λ done. subst (λ node. SendsAll node c.args.scenario.now) c.in-Ok.ensures
-    (c.play_on_output.ensures.sent done)
+    λ told_so. subst (λ node. SendsAll node c.args.scenario.now) c.in-Ok.ensures
+    (c.play_on_output.ensures.sent told_so)

@@ -1,7 +1,7 @@
 use Rattle.std.proofs.Common.{codes}
 use Rattle.command_io.specs.Saying.{texts_of}
 use Rattle.tase_tool.specs.Saying.{scenario_said}
-use Rattle.tase_tool.specs.Sent.{node_of, SendsAll}
+use Rattle.tase_tool.specs.Sent.{node_of}
 use Rattle.tase_tool.proofs.Duties.{IsRun-read}
 use Rattle.tase_tool.proofs.Sending.{OnTold-ended}
 use Rattle.tase_tool.proofs.running.run_scenario.Goals as goal
@@ -15,9 +15,9 @@ returns-clause-runs g c =
 
 pub returns-clause-sent : goal.returns-clause-sent
 returns-clause-sent g c =
-    λ done. OnTold-ended (SendsAll (node_of c.args.centre c.args.limit)) c.read_input-read.result
+    λ told_so. OnTold-ended (node_of c.args.centre c.args.limit) c.read_input-read.result
     (texts_of (g.O.Outside.told c.args.outside.now) c.args.scenario.now)
     (codes "scenario") (scenario_said c.args.centre c.args.limit)
     (g.O.Outside.told c.read_input-read.new.outside) (g.O.Outside.told c.play_read.new.outside)
-    c.play_read.result c.read_input-read.ensures.text c.play_read.ensures.runs done
-    (c.play_read.ensures.sent done)
+    c.play_read.result c.read_input-read.ensures.text c.play_read.ensures.runs told_so
+    (c.play_read.ensures.sent told_so)
