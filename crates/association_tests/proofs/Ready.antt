@@ -8,9 +8,9 @@ use Rattle.stack_messages.specs.declared.expecting.Side.{Side}
 use Rattle.stack_messages.specs.declared.expecting.Side.TheVariants as sides
 use Rattle.stack_assoc.specs.declared.input.StackIn.{StackIn}
 use Rattle.stack_assoc.specs.declared.input.StackState.TheVariants as states
-use Rattle.stack_assoc.specs.declared.standing.Standing.{Standing}
-use Rattle.stack_assoc.specs.declared.standing.Standing.TheVariants as standings
-use Rattle.stack_assoc.specs.Told.{Told, Role}
+use Rattle.stack_assoc.specs.declared.end_state.EndState.{EndState}
+use Rattle.stack_assoc.specs.declared.end_state.EndState.TheVariants as standings
+use Rattle.stack_assoc.specs.Arrivals.{Arrival, Role}
 use Rattle.stack_assoc.specs.Tellings.{Tells}
 use Rattle.stack_assoc.specs.Courses.{Course, Stands, IsSettled, is_offered, state_of, state_with}
 use Rattle.stack_assoc.specs.Courses.{Answers, FollowsAnswer, fault_in}
@@ -22,7 +22,7 @@ use Rattle.association_tests.specs.Playing.{IsSomewhere, IsGoing, IsReady, IsBeh
 
 -- a piece more
 pub fed_going : {A E : Type 0} (r : Result A E) (old new : Course) (piece : List ℕ) → IsReady old
-    → ((role : Role) (octets : List ℕ) (told : List Told) → Stands role octets told old
+    → ((role : Role) (octets : List ℕ) (told : List Arrival) → Stands role octets told old
     → OnOk r (Stands role (octets ++ piece) told new))
     → OnOk r (new.standing ≡ old.standing) → OnOk r (IsGoing new)
 fed_going (Ok x) old new piece p s e =
@@ -43,7 +43,7 @@ settled_by v f e = subst (λ (o : Option StackFault). MatchOption o (lines.IsSet
     (λ g. Unit {0})) (sym e) tt
 
 behind : (answer : Result (Option StackIn) StackFault) (old new : Course) (out written : List ℕ)
-    → IsGoing old → ((role : Role) (octets : List ℕ) (told : List Told)
+    → IsGoing old → ((role : Role) (octets : List ℕ) (told : List Arrival)
     → Stands role octets told old → Answers role octets told old out answer new written)
     → FollowsAnswer answer old.standing new.standing → new.fault ≡ fault_in answer
     → IsBehind answer new
@@ -81,7 +81,7 @@ behind (Err x) old new out written g a f e =
 
 pub answered_behind : {E : Type 0} (r : Result (Result (Option StackIn) StackFault) E)
     (old new : Course) (out written : List ℕ) → IsGoing old
-    → ((role : Role) (octets : List ℕ) (told : List Told) → Stands role octets told old
+    → ((role : Role) (octets : List ℕ) (told : List Arrival) → Stands role octets told old
     → IfOk r (λ answer. Answers role octets told old out answer new written))
     → IfOk r (λ answer. FollowsAnswer answer old.standing new.standing)
     → IfOk r (λ answer. new.fault ≡ fault_in answer) → IfOk r (λ answer. IsBehind answer new)
@@ -89,7 +89,7 @@ answered_behind (Ok answer) old new out written g a f e = behind answer old new 
 answered_behind (Err x) old new out written g a f e = tt
 
 -- no offer stands unanswered
-pub free_of : (f : Option StackFault) (s : Standing) → f ≡ None → is_free (state_with f s) ≡ true
+pub free_of : (f : Option StackFault) (s : EndState) → f ≡ None → is_free (state_with f s) ≡ true
     → is_offered s ≡ false
 free_of None standings.Waiting none e = refl
 free_of None standings.Offered none e = absurd cc
@@ -102,7 +102,7 @@ free_of (Some f) s none e = absurd cc
 -- ---- what it says
 
 pub said_ready : {A E : Type 0} (r : Result A E) (old new : Course) (pdu : MmsPdu)
-    → ((role : Role) (octets : List ℕ) (told : List Told) (v : Course) (pdu : MmsPdu)
+    → ((role : Role) (octets : List ℕ) (told : List Arrival) (v : Course) (pdu : MmsPdu)
     → state_of v ≡ states.Accepted → Stands role octets told v
     → Stands (role_said role told pdu) octets told (with_said pdu v))
     → IsReady old → state_of old ≡ states.Accepted → OnOk r (new ≡ with_said pdu old)
@@ -125,18 +125,18 @@ said_ready (Err x) old new pdu law p accepted e = tt
 
 -- ---- the release
 
-left_free : (side : Side) (s : Standing) → is_offered s ≡ false → is_offered (left_by side s) ≡ false
+left_free : (side : Side) (s : EndState) → is_offered s ≡ false → is_offered (left_by side s) ≡ false
 left_free sides.Called s free = refl
 left_free sides.Calling s free = free
 left_free sides.Either s free = free
 
 pub left_ready : {A E : Type 0} (r : Result A E) (old new : Course)
-    → ((role : Role) (octets : List ℕ) (told : List Told) (v : Course) (s : Standing)
+    → ((role : Role) (octets : List ℕ) (told : List Arrival) (v : Course) (s : EndState)
     → Stands role octets told v → Stands role octets told (with_standing s v))
     → IsReady old → OnOk r (new ≡ released old) → OnOk r (IsReady new)
 left_ready (Ok x) old new law p e =
     let here = p.going.somewhere in
-    let standing : Standing = left_by old.known.side old.standing in
+    let standing : EndState = left_by old.known.side old.standing in
     let left : IsReady (released old) = record {
       going = record {
         somewhere = record {

@@ -4,13 +4,13 @@ use Rattle.stack_messages.specs.declared.fault.StackFault.{StackFault}
 use Rattle.stack_assoc.specs.declared.input.StackIn.{StackIn}
 use Rattle.stack_assoc.specs.declared.input.StackState.{StackState}
 use Rattle.stack_assoc.specs.declared.input.StackState.TheVariants as states
-use Rattle.stack_assoc.specs.Told.{Told, Role}
+use Rattle.stack_assoc.specs.Arrivals.{Arrival, Role}
 use Rattle.stack_assoc.specs.Courses.{Course, Stands, IsSettled, is_offered}
 
 pub record IsSomewhere (v : Course) : Type 0 where
   pub role : Role
   pub octets : List ℕ
-  pub told : List Told
+  pub told : List Arrival
   pub stands : Stands role octets told v
 
 -- it stands somewhere in a stream, and no offer stands unanswered

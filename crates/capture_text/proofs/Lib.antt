@@ -1,4 +1,3 @@
-pub mod Joined
 pub mod Digits
 pub mod Walking
 mod Worked

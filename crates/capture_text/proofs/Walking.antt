@@ -13,7 +13,28 @@ use Rattle.hex.specs.Hex.{decode_pairs}
 use Rattle.capture_text.specs.Captures.{is_bad, joined, unless_bad, capture_in}
 use Rattle.capture_text.specs.Pieces.{ArePairs, HasNoBadLine, bad_line_from}
 use Rattle.capture_text.specs.Pieces.{octets_left}
-use Rattle.capture_text.proofs.Joined.{first_bad}
+
+-- a number up to the end of the count
+abbrev capped : Option ℕ → Option ℕ
+capped number = option_map (λ n. min n (2 ^ 64 - 1)) number
+
+next_capped : (i j : ℕ) → min i (2 ^ 64 - 1) ≡ min j (2 ^ 64 - 1)
+    → min (i + 1) (2 ^ 64 - 1) ≡ min (j + 1) (2 ^ 64 - 1)
+next_capped i j same = omega arith
+
+-- lines that are numbered from two numbers that are equal up to there
+first_bad : (i j : ℕ) (lines : List (List ℕ)) → min i (2 ^ 64 - 1) ≡ min j (2 ^ 64 - 1)
+    → capped (position_from is_bad i lines) ≡ capped (position_from is_bad j lines)
+first_bad i j [] same = refl
+first_bad i j (line ∷ more) same =
+    choose (is_bad line) (first_bad (i + 1) (j + 1) more (next_capped i j same))
+  where
+    choose : (bad : Bool)
+        → capped (position_from is_bad (i + 1) more) ≡ capped (position_from is_bad (j + 1) more)
+        → capped (cond bad (Some i) (position_from is_bad (i + 1) more))
+        ≡ capped (cond bad (Some j) (position_from is_bad (j + 1) more))
+    choose true rest = ap Some same
+    choose false rest = rest
 
 -- a good line is passed over
 pub good_next : (number : ℕ) (line : List ℕ) (more : List (List ℕ)) → is_bad line ≡ false

@@ -17,9 +17,9 @@ pub(crate) enum Manner {
 #[derive(Drop)]
 pub(crate) enum Verdict {
     Passed,
-    /// It has nothing that may be cut.
+    /// The case has nothing that may be cut.
     NotCut,
-    /// It came to this.
+    /// Played in this manner, the case came to this.
     Failed(Manner, Played),
 }
 
@@ -31,7 +31,7 @@ fn is_wanted(wanted: &Wanted, shown: &[u8]) -> bool {
     }
 }
 
-// The same where what is shown comes in pieces.
+// Whether what was printed in pieces is, joined, what is wanted.
 fn is_wanted_joined(alloc: Global, wanted: &Wanted, shown: &[u8]) -> Result<bool, AllocError> {
     match wanted {
         Wanted::Octets(octets) => {

@@ -5,10 +5,10 @@ use Rattle.std.proofs.Common.{refl, sym, ◌∙◌, ap, subst, inl, inr}
 use Rattle.std.specs.Prelude.{bytes_eq}
 use Rattle.std.proofs.lemmas.Slice.Eq.{bytes_eq-Decides}
 use Rattle.outside.specs.Faults.{counted}
-use Rattle.outside.specs.Outside.{Standing, untold, missing, lent, there, HandsOut, Changes}
+use Rattle.outside.specs.Outside.{NameEntry, untold, missing, lent, there, HandsOut, Changes}
 use Rattle.outside.specs.Outside.{lent_from, put_back_at, Acts}
-use Rattle.command_io.specs.Leaves.{is_among, StandsAgain, Keeps, FailedAt, FaultyAt, CleanAt}
-use Rattle.command_io.specs.Leaves.{AtMost, times}
+use Rattle.command_io.specs.OutsideUse.{is_among, StandsAgain, Keeps, FailedAt, FaultyAt, CleanAt}
+use Rattle.command_io.specs.OutsideUse.{AtMost, times}
 use Rattle.command_io.proofs.Leaving.{StandsAgain-refl, Acts-none, Rises-positive}
 
 pub same_name : (name : List ℕ) → bytes_eq name name ≡ true
@@ -27,7 +27,7 @@ not_among name n h = here (bytes_eq n name) h
 
 -- nothing changed
 pub Keeps-alike : {X : Type 0} (faults : X → ℕ) (step : X → X → Type 0) (failed : Bool)
-    (names : List (List ℕ)) (before after : List ℕ → Standing X)
+    (names : List (List ℕ)) (before after : List ℕ → NameEntry X)
     → ((name : List ℕ) → after name ≡ before name) → Keeps faults step failed names before after
 Keeps-alike faults step failed names before after same = record {
   others = λ name absent. same name;
@@ -38,7 +38,7 @@ Keeps-alike faults step failed names before after same = record {
 }
 
 module _ {X : Type 0} (name_of : X → List ℕ) (faults_of : X → ℕ) (name : List ℕ)
-    (before mid after : List ℕ → Standing X) where
+    (before mid after : List ℕ → NameEntry X) where
   -- nothing was told under the name, or one object stood there and another stands there now
   abbrev pub IsExchanged : X → X → Type 0
   IsExchanged x y =
@@ -75,7 +75,7 @@ module _ {X : Type 0} (name_of : X → List ℕ) (faults_of : X → ℕ) (name :
           closes n ∙ ap (λ b. cond b (put_back_at (mid n) y) (mid n)) at
           ∙ ap (λ s. put_back_at s y) was ∙ sym was
 
-      here : (s : Standing X) → before name ≡ s → HandsOut name_of faults_of before name s (Some x)
+      here : (s : NameEntry X) → before name ≡ s → HandsOut name_of faults_of before name s (Some x)
           → IsExchanged x y
       here untold stood hands =
           inl (
@@ -192,7 +192,7 @@ module _ {X : Type 0} (name_of : X → List ℕ) (faults_of : X → ℕ) (name :
           opens n ∙ ap (λ b. cond b (lent_from (before n)) (before n)) at
           ∙ subst (λ m. lent_from (before m) ≡ before m) (sym e) same
 
-      here : (s : Standing X) → before name ≡ s → HandsOut name_of faults_of before name s None
+      here : (s : NameEntry X) → before name ≡ s → HandsOut name_of faults_of before name s None
           → ((n : List ℕ) → mid n ≡ before n) × FailedAt faults_of (before name) (mid name)
           × FaultyAt faults_of (before name) (mid name)
       here untold stood hands = (

@@ -10,12 +10,12 @@ use Rattle.std.proofs.lemmas.List.{append-nil}
 use Rattle.std.proofs.Math.Seq.{take-append-add}
 use Rattle.outside.specs.Faults.{next_count}
 use Rattle.outside.specs.Sink.{SinkTold}
-use Rattle.outside.specs.Outside.{Standing, untold, missing, lent, there, OutsideTold, Asks, Acts}
-use Rattle.command_io.specs.Leaves.{is_among, SomeOf, EachOf, StandsAgain, FailedAt, FaultyAt}
-use Rattle.command_io.specs.Leaves.{CleanAt, Keeps, times, AtMost, IsTextRead, IsWritten}
-use Rattle.command_io.specs.Leaves.{source_faults, sink_faults, AsksFront, raised, Grows, Rises}
-use Rattle.command_io.specs.Leaves.{HasReason, HasFaulty}
-use Rattle.command_io.specs.Leaves.{IsClean, IsCounted, Uses}
+use Rattle.outside.specs.Outside.{NameEntry, untold, missing, lent, there, OutsideTold, Asks, Acts}
+use Rattle.command_io.specs.OutsideUse.{is_among, SomeOf, EachOf, StandsAgain, FailedAt, FaultyAt}
+use Rattle.command_io.specs.OutsideUse.{CleanAt, Keeps, times, AtMost, IsTextRead, IsWritten}
+use Rattle.command_io.specs.OutsideUse.{source_faults, sink_faults, AsksFront, raised, Grows, Rises}
+use Rattle.command_io.specs.OutsideUse.{HasReason, HasFaulty}
+use Rattle.command_io.specs.OutsideUse.{IsClean, IsCounted, Uses}
 
 pub raised-more : (more few count : ℕ) → raised more (raised few count) ≡ raised (more + few) count
 raised-more zero few count = rw zero-add refl
@@ -79,13 +79,13 @@ EachOf-map [] P Q f h = tt
 EachOf-map (name ∷ names) P Q f h = (f name h.0, EachOf-map names P Q f h.1)
 
 module _ {X : Type 0} (faults : X → ℕ) where
-  pub StandsAgain-refl : (failed : Bool) (s : Standing X) → StandsAgain faults failed s s
+  pub StandsAgain-refl : (failed : Bool) (s : NameEntry X) → StandsAgain faults failed s s
   StandsAgain-refl failed untold = refl
   StandsAgain-refl failed missing = refl
   StandsAgain-refl failed lent = refl
   StandsAgain-refl failed (there x) = (x, refl, (0, refl), λ none. refl)
 
-  pub StandsAgain-then : (f g : Bool) (b m a : Standing X) → StandsAgain faults f b m
+  pub StandsAgain-then : (f g : Bool) (b m a : NameEntry X) → StandsAgain faults f b m
       → StandsAgain faults g m a
       → StandsAgain faults (f || g) b a
   StandsAgain-then f g untold m a first second = subst (λ s. StandsAgain faults g s a) first second
@@ -100,7 +100,7 @@ module _ {X : Type 0} (faults : X → ℕ) where
         λ none. then.3 (or-false f g none).1 ∙ first.3 (or-false f g none).0,
       )
 
-  pub FailedAt-before : (f : Bool) (b m a : Standing X) → StandsAgain faults f b m
+  pub FailedAt-before : (f : Bool) (b m a : NameEntry X) → StandsAgain faults f b m
       → FailedAt faults m a → FailedAt faults b a
   FailedAt-before f untold m a first second = tt
   FailedAt-before f missing m a first second = tt
@@ -110,7 +110,7 @@ module _ {X : Type 0} (faults : X → ℕ) where
       first.1 second in
       (then.0, then.1, Rises-after (faults x) (faults first.0) (faults then.0) first.2 then.2)
 
-  pub FailedAt-after : (f : Bool) (b m a : Standing X) → FailedAt faults b m
+  pub FailedAt-after : (f : Bool) (b m a : NameEntry X) → FailedAt faults b m
       → StandsAgain faults f m a → FailedAt faults b a
   FailedAt-after f untold m a first second = tt
   FailedAt-after f missing m a first second = tt
@@ -120,14 +120,14 @@ module _ {X : Type 0} (faults : X → ℕ) where
       first.1 second in
       (then.0, then.1, Rises-before (faults x) (faults first.0) (faults then.0) first.2 then.2)
 
-  pub FaultyAt-before : (f : Bool) (b m a : Standing X) → StandsAgain faults f b m
+  pub FaultyAt-before : (f : Bool) (b m a : NameEntry X) → StandsAgain faults f b m
       → FaultyAt faults m a → FaultyAt faults b a
   FaultyAt-before f untold m a first second = tt
   FaultyAt-before f missing m a first second = tt
   FaultyAt-before f lent m a first second = tt
   FaultyAt-before f (there x) m a first second = subst (λ s. FaultyAt faults s a) first.1 second
 
-  pub FaultyAt-after : (f : Bool) (b m a : Standing X) → FaultyAt faults b m
+  pub FaultyAt-after : (f : Bool) (b m a : NameEntry X) → FaultyAt faults b m
       → StandsAgain faults f m a → FaultyAt faults b a
   FaultyAt-after f untold m a first second = tt
   FaultyAt-after f missing m a first second = tt
@@ -137,7 +137,7 @@ module _ {X : Type 0} (faults : X → ℕ) where
       first.1 second in
       (then.0, then.1, Grows-positive (faults first.0) (faults then.0) then.2 first.2)
 
-  pub CleanAt-after : (b m : Standing X) → StandsAgain faults false b m → CleanAt faults b
+  pub CleanAt-after : (b m : NameEntry X) → StandsAgain faults false b m → CleanAt faults b
       → CleanAt faults m
   CleanAt-after untold m first clean = subst (λ s. CleanAt faults s) (sym first) tt
   CleanAt-after missing m first clean = subst (λ s. CleanAt faults s) (sym first) tt
@@ -167,13 +167,13 @@ module _ {X : Type 0} (step : X → X → Type 0) where
   AtMost-then (suc n) k x m y (inr some) then =
       rw suc-add (inr (some.0, some.1, AtMost-then n k some.0 m y some.2 then))
 
-  pub Acts-none : (n : ℕ) (s : Standing X) → Acts (AtMost step n) s s
+  pub Acts-none : (n : ℕ) (s : NameEntry X) → Acts (AtMost step n) s s
   Acts-none n untold = refl
   Acts-none n missing = refl
   Acts-none n lent = refl
   Acts-none n (there x) = (x, refl, AtMost-none n x)
 
-  pub Acts-then : (n k : ℕ) (b m a : Standing X) → Acts (AtMost step n) b m
+  pub Acts-then : (n k : ℕ) (b m a : NameEntry X) → Acts (AtMost step n) b m
       → Acts (AtMost step k) m a → Acts (AtMost step (n + k)) b a
   Acts-then n k untold m a first second = subst (λ s. Acts (AtMost step k) s a) first second
   Acts-then n k missing m a first second = subst (λ s. Acts (AtMost step k) s a) first second
@@ -196,7 +196,7 @@ times-append (n ∷ first) second name = here (bytes_eq name n) (times-append fi
 
 -- names that are named more often
 pub Acts-wider : {X : Type 0} (step : X → X → Type 0) (first second : List (List ℕ))
-    (name : List ℕ) (b a : Standing X) → Acts (AtMost step (times first name)) b a
+    (name : List ℕ) (b a : NameEntry X) → Acts (AtMost step (times first name)) b a
     → Acts (AtMost step (times (first ++ second) name)) b a
 Acts-wider step first second name b a acts =
     subst (λ n. Acts (AtMost step n) b a) (sym (times-append first second name))
@@ -210,7 +210,7 @@ is_among-append first second name = list_any-append (bytes_eq name) first second
 
 module _ (f g : Bool) (first second : List (List ℕ)) where
   pub Keeps-then : {X : Type 0} (faults : X → ℕ) (step : X → X → Type 0)
-      (p q r : List ℕ → Standing X)
+      (p q r : List ℕ → NameEntry X)
       → Keeps faults step f first p q → Keeps faults step g second q r
       → Keeps faults step (f || g) (first ++ second) p r
   Keeps-then faults step p q r kept then = record {
@@ -292,7 +292,7 @@ module _ (f g : Bool) (first second outputs : List (List ℕ)) (b m a : OutsideT
         (a.sources name) (sources.again name) h) some))
     reason_second (inr some) =
         inr (subst
-        (λ (s : List ℕ → Standing SinkTold). SomeOf outputs
+        (λ (s : List ℕ → NameEntry SinkTold). SomeOf outputs
         (λ name. FailedAt sink_faults (s name) (a.sinks name))) sinks some)
 
     faulty_first : HasFaulty first [] b m → HasFaulty (first ++ second) outputs b a
@@ -307,7 +307,7 @@ module _ (f g : Bool) (first second outputs : List (List ℕ)) (b m a : OutsideT
         (a.sources name) (sources.again name) h) some))
     faulty_second (inr some) =
         inr (subst
-        (λ (s : List ℕ → Standing SinkTold). SomeOf outputs
+        (λ (s : List ℕ → NameEntry SinkTold). SomeOf outputs
         (λ name. FaultyAt sink_faults (s name) (a.sinks name))) sinks some)
 
     IsCounted-then : IsCounted first [] f b m → IsCounted second outputs g m a
@@ -354,7 +354,7 @@ module _ (f g : Bool) (first second outputs : List (List ℕ)) (b m a : OutsideT
                   (λ name h. CleanAt-after source_faults (b.sources name) (m.sources name)
                   (subst (λ (t : Bool). StandsAgain source_faults t (b.sources name)
                   (m.sources name)) none.0 (sources.again name)) h) parts.1,
-              subst (λ (s : List ℕ → Standing SinkTold). EachOf outputs
+              subst (λ (s : List ℕ → NameEntry SinkTold). EachOf outputs
                   (λ name. CleanAt sink_faults (s name))) (sym sinks) clean.1,
             ) none.1
             ∙ counted.exact (parts.0, tt) none.0
@@ -370,9 +370,9 @@ module _ (f g : Bool) (first second outputs : List (List ℕ)) (b m a : OutsideT
         used.sources then.sources;
     sinks = record {
       others = λ name absent. then.sinks.others name absent
-          ∙ ap (λ (s : List ℕ → Standing SinkTold). s name) sinks;
+          ∙ ap (λ (s : List ℕ → NameEntry SinkTold). s name) sinks;
       again = λ name. StandsAgain-more name;
-      acts = λ name. subst (λ (s : List ℕ → Standing SinkTold).
+      acts = λ name. subst (λ (s : List ℕ → NameEntry SinkTold).
           Acts (AtMost IsWritten (times outputs name)) (s name) (a.sinks name)) sinks
           (then.sinks.acts name);
     };
@@ -385,5 +385,5 @@ module _ (f g : Bool) (first second outputs : List (List ℕ)) (b m a : OutsideT
       StandsAgain-more name =
           StandsAgain-then sink_faults f g (b.sinks name) (b.sinks name) (a.sinks name)
           (StandsAgain-refl sink_faults f (b.sinks name))
-          (subst (λ (s : List ℕ → Standing SinkTold). StandsAgain sink_faults g (s name)
+          (subst (λ (s : List ℕ → NameEntry SinkTold). StandsAgain sink_faults g (s name)
           (a.sinks name)) sinks (then.sinks.again name))

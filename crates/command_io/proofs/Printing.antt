@@ -12,8 +12,8 @@ use Rattle.command_io.specs.declared.status.Status.{Status}
 use Rattle.command_io.specs.declared.status.Status.TheVariants.{Done, Usage, Input, Outside, Full}
 use Rattle.command_io.specs.declared.status.Status.TheVariants.{Memory}
 use Rattle.command_io.specs.Statuses.{is_outside, is_whole, is_of_command, OnWhole}
-use Rattle.command_io.specs.Leaves.{SomeOf, Rises, Uses, source_faults, sink_faults, FailedAt}
-use Rattle.command_io.specs.Leaves.{FaultyAt, IsTextRead, IsWritten}
+use Rattle.command_io.specs.OutsideUse.{SomeOf, Rises, Uses, source_faults, sink_faults, FailedAt}
+use Rattle.command_io.specs.OutsideUse.{FaultyAt, IsTextRead, IsWritten}
 use Rattle.command_io.specs.declared.input.Refusal.{Refusal}
 use Rattle.command_io.specs.declared.input.Refusal.TheVariants.{Long, BadLine}
 use Rattle.command_io.specs.Saying.{Said, duty_to_say, refusal_text, full_text}

@@ -10,12 +10,12 @@ use Rattle.outside.specs.Faults.{counted, next_count}
 use Rattle.outside.specs.Octets.{Takes}
 use Rattle.outside.specs.Source.{SourceTold}
 use Rattle.outside.specs.Text.{TextResult, IsTextOf, ReadsText, is_failed_text}
-use Rattle.outside.specs.Outside.{Standing, untold as untold_name, missing as missing_name, lent}
+use Rattle.outside.specs.Outside.{NameEntry, untold as untold_name, missing as missing_name, lent}
 use Rattle.outside.specs.Outside.{there, OutsideTold, Asks, Acts, OpensIn, ClosesIn, HandsOut}
 use Rattle.command_io.specs.declared.input.TheConstants.{TEXT_LIMIT}
 use Rattle.command_io.specs.declared.input.InputEnd.TheVariants.{Outside}
-use Rattle.command_io.specs.Leaves.{SomeOf, Keeps, Rises, source_faults}
-use Rattle.command_io.specs.Leaves.{sink_faults, FailedAt, FaultyAt, IsTextRead, IsWritten}
+use Rattle.command_io.specs.OutsideUse.{SomeOf, Keeps, Rises, source_faults}
+use Rattle.command_io.specs.OutsideUse.{sink_faults, FailedAt, FaultyAt, IsTextRead, IsWritten}
 use Rattle.command_io.specs.Saying.{told, told_by, text_of, emptied}
 use Rattle.command_io.specs.Inputs.{input_of, IsInput, is_lost, IsReadTo, OpensInput, ReadsInput}
 use Rattle.command_io.proofs.Leaving.{Asks-none}
@@ -74,7 +74,7 @@ lt-test n h = grind (arith, nat_tests)
 
 -- sinks that are as before
 pub Keeps-same : {X : Type 0} (faults : X → ℕ) (step : X → X → Type 0) (failed : Bool)
-    (names : List (List ℕ)) (before after : List ℕ → Standing X)
+    (names : List (List ℕ)) (before after : List ℕ → NameEntry X)
     → after ≡ before → Keeps faults step failed names before after
 Keeps-same faults step failed names before after same =
     Keeps-alike faults step failed names before after (λ name. ap (λ s. s name) same)
@@ -239,7 +239,7 @@ module _ (b m a : OutsideTold) (name : List ℕ) where
           nothing_opened (λ source. source.name)
           source_faults name b.sources m.sources m.sources opens.source opens.sources
 
-      read : (s : Standing SourceTold) → b.sources name ≡ s
+      read : (s : NameEntry SourceTold) → b.sources name ≡ s
           → HandsOut (λ source. source.name) source_faults b.sources name s None
           → Acts (IsReadTo (Err Outside)) s (m.sources name)
       read untold_name at hands = nothing.0 name ∙ at
@@ -247,7 +247,7 @@ module _ (b m a : OutsideTold) (name : List ℕ) where
       read lent at hands = nothing.0 name ∙ at
       read (there object) at hands = absurd cc
 
-      text : (s : Standing SourceTold)
+      text : (s : NameEntry SourceTold)
           → HandsOut (λ source. source.name) source_faults b.sources name s None
           → IsInput (Err Outside) (text_of s)
       text untold_name hands = tt

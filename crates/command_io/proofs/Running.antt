@@ -7,14 +7,14 @@ use Rattle.std.proofs.Math.Nat.{min-zero, suc-min-suc, zero-min}
 use Rattle.std.proofs.lemmas.List.{append-nil}
 use Rattle.outside.specs.Octets.{Adds}
 use Rattle.outside.specs.Sink.{SinkTold}
-use Rattle.outside.specs.Outside.{Standing, OutsideTold, Asks}
+use Rattle.outside.specs.Outside.{NameEntry, OutsideTold, Asks}
 use Rattle.command_io.specs.declared.status.Status.{Status}
 use Rattle.command_io.specs.declared.status.Status.TheVariants.{Done, Usage, Input, Outside, Full}
 use Rattle.command_io.specs.declared.status.Status.TheVariants.{Memory}
 use Rattle.command_io.specs.Statuses.{is_outside, OnWhole}
-use Rattle.command_io.specs.Leaves.{is_among, SomeOf, Rises, Uses}
-use Rattle.command_io.specs.Leaves.{source_faults, sink_faults, FailedAt, FaultyAt, IsTextRead}
-use Rattle.command_io.specs.Leaves.{IsWritten}
+use Rattle.command_io.specs.OutsideUse.{is_among, SomeOf, Rises, Uses}
+use Rattle.command_io.specs.OutsideUse.{source_faults, sink_faults, FailedAt, FaultyAt, IsTextRead}
+use Rattle.command_io.specs.OutsideUse.{IsWritten}
 use Rattle.command_io.specs.Saying.{Said, Duty}
 use Rattle.command_io.specs.Runs.{output_name, taken_of, Took, EachFile, IsSaid, MatchesWords}
 use Rattle.command_io.specs.Runs.{IsThere, IsComplete, IsRun}
@@ -89,7 +89,7 @@ IsCut Full = ⊥
 IsCut Outside = Unit {0}
 IsCut Memory = Unit {0}
 
-module _ (status : Status) (cut : IsCut status) (before after : List ℕ → Standing SinkTold)
+module _ (status : Status) (cut : IsCut status) (before after : List ℕ → NameEntry SinkTold)
     (same : (name : List ℕ) → taken_of (after name) ≡ taken_of (before name)) where
   nothing_took : (s : Status) → IsCut s → (name : List ℕ) (octets : List ℕ)
       → Took s (taken_of (before name)) (taken_of (after name)) octets
@@ -188,7 +188,7 @@ pub IsRun-unread : (duty : Duty) (b a : OutsideTold) (name : List ℕ) (more : L
     → IsRun duty b a status
 IsRun-unread duty b a name more status cut command inputs opens =
     cut_run duty b a status cut (λ none. absurd cc)
-    (λ n. ap (λ (s : List ℕ → Standing SinkTold). taken_of (s n)) opens.sinks)
+    (λ n. ap (λ (s : List ℕ → NameEntry SinkTold). taken_of (s n)) opens.sinks)
     (subst (λ names. Uses names (output_name ∷ []) (is_outside status) b a) (sym inputs)
     (subst (λ f. Uses (name ∷ more) (output_name ∷ []) f b a) (or-right (is_outside status))
     (Uses-then (is_outside status) false (name ∷ []) more (output_name ∷ []) b a a
@@ -278,7 +278,7 @@ module _ (duty rest : Duty) (b m a : OutsideTold) (name : List ℕ) (status : St
 
       output : OnWhole status (IsThere (b.sinks output_name))
       output =
-          subst (λ (s : List ℕ → Standing SinkTold). OnWhole status (IsThere (s output_name)))
+          subst (λ (s : List ℕ → NameEntry SinkTold). OnWhole status (IsThere (s output_name)))
           opens.sinks run.output
 
       printed : OnWhole status (Asks b.written_names a.written_names (output_name ∷ []))
@@ -287,7 +287,7 @@ module _ (duty rest : Duty) (b m a : OutsideTold) (name : List ℕ) (status : St
           opens.written run.printed
 
       said : IfSome rest.says (IsSaid status b.sinks a.sinks)
-      said = subst (λ (s : List ℕ → Standing SinkTold). IfSome rest.says (IsSaid status s a.sinks))
+      said = subst (λ (s : List ℕ → NameEntry SinkTold). IfSome rest.says (IsSaid status s a.sinks))
           opens.sinks run.said
 
       opened : OnWhole status

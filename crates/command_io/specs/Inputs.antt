@@ -10,7 +10,7 @@ use Rattle.command_io.specs.declared.input.Refusal.TheVariants.{Long, BadLine}
 use Rattle.command_io.specs.declared.input.InputEnd.{InputEnd}
 use Rattle.command_io.specs.declared.input.InputEnd.TheVariants.{Refused, Outside, Memory}
 use Rattle.command_io.specs.declared.input.TheConstants.{TEXT_LIMIT}
-use Rattle.command_io.specs.Leaves.{Uses}
+use Rattle.command_io.specs.OutsideUse.{Uses}
 use Rattle.command_io.specs.Saying.{Text, untold, missing, told, emptied, text_of}
 
 -- an input's text as it is read, or why there is none

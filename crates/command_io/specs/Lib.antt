@@ -1,4 +1,4 @@
-pub mod Leaves
+pub mod OutsideUse
 pub mod Statuses
 pub mod Saying
 pub mod Runs

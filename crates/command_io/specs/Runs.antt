@@ -4,7 +4,7 @@ use Rattle.std.specs.Prelude.{Option, None, IfSome, codes, Result, Ok, Err, Vec}
 use Rattle.std.specs.declared.alloc.Global.{Global}
 use Rattle.outside.specs.Octets.{Adds}
 use Rattle.outside.specs.Sink.{SinkTold, AppendsAll, AppendsPart}
-use Rattle.outside.specs.Outside.{Standing, untold, missing, lent, there, OutsideTold, Asks}
+use Rattle.outside.specs.Outside.{NameEntry, untold, missing, lent, there, OutsideTold, Asks}
 use Rattle.command_io.specs.declared.status.Status.{Status}
 use Rattle.command_io.specs.declared.status.Status.TheVariants.{Done, Usage, Input, Outside, Full}
 use Rattle.command_io.specs.declared.status.Status.TheVariants.{Memory}
@@ -12,7 +12,7 @@ use Rattle.command_io.specs.declared.input.InputEnd.{InputEnd}
 use Rattle.command_io.specs.declared.input.InputEnd.TheVariants.{Refused}
 use Rattle.command_io.specs.declared.input.InputEnd.TheVariants as ends
 use Rattle.command_io.specs.Statuses.{is_outside, OnWhole}
-use Rattle.command_io.specs.Leaves.{Uses, Rises}
+use Rattle.command_io.specs.OutsideUse.{Uses, Rises}
 use Rattle.command_io.specs.Saying.{Said, Duty, prints, refusal_text, duty_to_say}
 
 -- the name of standard output among the sinks
@@ -20,7 +20,7 @@ abbrev pub output_name : List ℕ
 output_name = codes "-"
 
 -- the octets told to be taken by what stands under a name
-abbrev pub taken_of : Standing SinkTold → Option (List ℕ)
+abbrev pub taken_of : NameEntry SinkTold → Option (List ℕ)
 taken_of untold = None
 taken_of missing = None
 taken_of lent = None
@@ -42,7 +42,7 @@ EachFile (file ∷ files) fact = fact file.0 file.1 × EachFile files fact
 
 -- the status and the whole output are those said; after a fault outside and want of memory a front
 -- part of the output went out
-pub record IsSaid (status : Status) (before after : List ℕ → Standing SinkTold) (said : Said)
+pub record IsSaid (status : Status) (before after : List ℕ → NameEntry SinkTold) (said : Said)
     : Type 0 where
   pub answered : OnWhole status (said.status ≡ status)
   pub output : Took status (taken_of (before output_name)) (taken_of (after output_name)) said.text
@@ -56,7 +56,7 @@ MatchesWords false status = (status ≡ Usage) ⊎ (status ≡ Outside)
 MatchesWords true status = status ≢ Usage
 
 -- a sink stands under the name, where anything is told of it
-abbrev pub IsThere : Standing SinkTold → Type 0
+abbrev pub IsThere : NameEntry SinkTold → Type 0
 IsThere untold = Unit {0}
 IsThere missing = ⊥
 IsThere lent = ⊥

@@ -1,7 +1,7 @@
 -- What a command says, and what is told of its inputs.
 use Rattle.std.specs.Prelude.{ℕ, Bool, List, [], ◌∷◌, ◌++◌, Option, Some, None, codes, decimal}
 use Rattle.outside.specs.Source.{SourceTold}
-use Rattle.outside.specs.Outside.{Standing, OutsideTold, lent, there}
+use Rattle.outside.specs.Outside.{NameEntry, OutsideTold, lent, there}
 use Rattle.outside.specs.Outside.{untold as untold_name, missing as missing_name}
 use Rattle.command_io.specs.declared.status.Status.{Status}
 use Rattle.command_io.specs.declared.input.Refusal.{Refusal}
@@ -39,7 +39,7 @@ told_by None = untold
 told_by (Some octets) = told octets
 
 -- what is told of the text that stands under a name
-abbrev pub text_of : Standing SourceTold → Text
+abbrev pub text_of : NameEntry SourceTold → Text
 text_of untold_name = untold
 text_of missing_name = missing
 text_of lent = missing

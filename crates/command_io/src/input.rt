@@ -14,18 +14,18 @@ const _: () = prove!(TEXT_LIMIT == 67_108_864);
 /// Why an input is refused.
 #[derive(Clone, Copy, Debug, PartialEq, Eq)]
 pub enum Refusal {
-    /// It has more octets than a text may have.
+    /// The input has more octets than a text may have.
     Long,
-    /// Its first bad line. Lines count from 1.
+    /// The first bad line of the input. Lines count from 1.
     BadLine(u64),
 }
 
 /// Why an input isn't there.
 #[derive(Clone, Copy, Debug, PartialEq, Eq)]
 pub enum InputEnd {
-    /// It is refused.
+    /// The input is refused.
     Refused(Refusal),
-    /// It couldn't be opened, or a read failed.
+    /// The input couldn't be opened, or a read failed.
     Outside,
     /// Memory ran out.
     Memory,

@@ -7,7 +7,7 @@ use Rattle.std.proofs.lemmas.List.{append-nil, reverse-append}
 use Rattle.mms_services.specs.declared.initiate.Initiate.{Initiate}
 use Rattle.tpkt_cotp.specs.Written.{wire}
 use Rattle.stack_wire.specs.Tsdus.{accept_tsdu}
-use Rattle.stack_assoc.specs.Told.{Told}
+use Rattle.stack_assoc.specs.Arrivals.{Arrival}
 use Rattle.stack_assoc.specs.Courses.{Course}
 use Rattle.bilateral.specs.Rows.{CentreRows, place_of_title}
 use Rattle.sbo_device.specs.declared.key.Key.{Key}
@@ -157,7 +157,7 @@ asked_more rows past who event answered turns last before is one =
 
 -- what is to be known of the answer
 pub record Follows (rows : CentreRows) (past : Past) (who : ℕ) (items : List Item)
-    (told : List Told) (turns : List Turn) (octets : List ℕ) (answer : Answer) (old : Talking) :
+    (told : List Arrival) (turns : List Turn) (octets : List ℕ) (answer : Answer) (old : Talking) :
     Type 0 where
   pub progress : Progress
   pub stage : Stage

@@ -12,8 +12,8 @@ use Rattle.stack_messages.specs.declared.fault.StackFault.{StackFault}
 use Rattle.stack_messages.specs.declared.heard.Heard.{Heard}
 use Rattle.stack_messages.specs.declared.heard.Heard.TheVariants as heards
 use Rattle.stack_assoc.specs.declared.input.StackIn.TheVariants as inputs
-use Rattle.stack_assoc.specs.Told.{Told, asked, confirmed, gone, heard, called}
-use Rattle.stack_assoc.specs.Handing.{is_offer, heard_in, handed_out}
+use Rattle.stack_assoc.specs.Arrivals.{Arrival, asked, confirmed, gone, heard, called}
+use Rattle.stack_assoc.specs.Handing.{is_offer, input_heard, handed_out}
 use Rattle.tase_views.specs.declared.call.CallKind.{CallKind}
 use Rattle.tase_views.specs.Calls.{IsCall}
 use Rattle.tase_map.specs.Asked.{call_in}
@@ -64,7 +64,7 @@ asked_offer : (b : Bool) (title : Option (List ℕ)) (initiate : Initiate)
 asked_offer true title initiate = tt
 asked_offer false title initiate = tt
 
-asked_heard : (h : Heard) → IsLawfulHeard h → IfSome (turn_in (heard_in h)) IsAsked
+asked_heard : (h : Heard) → IsLawfulHeard h → IfSome (turn_in (input_heard h)) IsAsked
 asked_heard (heards.Connect c) l = asked_offer (is_offer c) c.title c.initiate
 asked_heard (heards.Accept a) l = tt
 asked_heard heards.Refuse l = tt
@@ -75,14 +75,14 @@ asked_heard heards.AbortAccept l = tt
 asked_heard (heards.Pdu p) l = asked_pdu p l
 asked_heard (heards.BadRequest invoke) l = (inr refl, refl)
 
-asked_told : (told : List Told) → All IsLawfulTold told
+asked_told : (told : List Arrival) → All IsLawfulTold told
     → AreAsked (filter_map turn_in (handed_out told))
 asked_told [] l = tt
 asked_told (asked r ∷ told) l = asked_told told (All-tail IsLawfulTold (asked r) told l)
 asked_told (confirmed c ∷ told) l = asked_told told (All-tail IsLawfulTold (confirmed c) told l)
 asked_told (gone ∷ told) l = (tt, asked_told told (All-tail IsLawfulTold gone told l))
 asked_told (heard h ∷ told) l =
-    asked_found (turn_in (heard_in h)) (filter_map turn_in (handed_out told))
+    asked_found (turn_in (input_heard h)) (filter_map turn_in (handed_out told))
     (asked_heard h (All-head IsLawfulTold (heard h) told l))
     (asked_told told (All-tail IsLawfulTold (heard h) told l))
 

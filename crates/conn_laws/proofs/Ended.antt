@@ -7,8 +7,8 @@ use Rattle.std.proofs.lemmas.Bool.{false≢true}
 use Rattle.std.proofs.lemmas.List.{append-nil, append_cancel_left}
 use Rattle.std.proofs.lemmas.List.Folds.{list_any-append}
 use Rattle.stack_messages.specs.declared.fault.StackFault.{StackFault}
-use Rattle.stack_wire.specs.declared.setup.Setup.{Setup}
-use Rattle.stack_assoc.specs.Told.{Told, called, first_in, connect_in}
+use Rattle.stack_wire.specs.declared.setup.AssociationSetup.{AssociationSetup}
+use Rattle.stack_assoc.specs.Arrivals.{Arrival, called, first_in, connect_in}
 use Rattle.stack_assoc.specs.Handing.{answers_to}
 use Rattle.stack_assoc.specs.Expectations.{setup_after}
 use Rattle.stack_assoc.proofs.StreamLaws.{fault_stays}
@@ -119,7 +119,7 @@ same_answers rows done [] r e i l =
 same_answers rows done (item ∷ more) r e i l =
     same_by r.told r.broken e
   where
-    same_by : (told : List Told) (broken : Option StackFault)
+    same_by : (told : List Arrival) (broken : Option StackFault)
         → reading_of (text_of done) ≡ reading told broken
         → answers_to called (reading_of (text_of (done ++ item ∷ more))).told
         ≡ answers_to called told
@@ -132,9 +132,9 @@ same_answers rows done (item ∷ more) r e i l =
         let front = longer_front done (item ∷ more) (t ∷ told)
         (subst (λ (x : Reading). HasFront (text_of done) x.told) e (whole_front (text_of done))) in
         let f = front_read text (t ∷ told) front in
-        ap (λ (ts : List Told). answers_to called ts) f.1
+        ap (λ (ts : List Arrival). answers_to called ts) f.1
         ∙ answers_told text (t ∷ told) f.0
-        (subst (λ (ts : List Told). HasFront text ts) f.1 (whole_front text)) (omega arith)
+        (subst (λ (ts : List Arrival). HasFront text ts) f.1 (whole_front text)) (omega arith)
 
 -- and what its connect fixed
 same_setup : (done more : List Item)
@@ -145,7 +145,7 @@ same_setup done more connect =
     let told = (reading_of (text_of done)).told in
     let f = whole_front (text_of done) in
     let g = front_read (text_of (done ++ more)) told (longer_front done more told f) in
-    ap (λ (ts : List Told). setup_after ts) g.1
+    ap (λ (ts : List Arrival). setup_after ts) g.1
     ∙ setup_kept told g.0
     (size_first told f.messages f.starts.whole f.starts.spelled f.tell connect) connect
 
@@ -193,7 +193,7 @@ ending rows turns (turn ∷ more) last e is goes none =
     }
 
 -- what was said on the way to the end
-ending_said : (rows : CentreRows) (items : List Item) (told : List Told) (turns : List Turn)
+ending_said : (rows : CentreRows) (items : List Item) (told : List Arrival) (turns : List Turn)
     (octets_more : List ℕ) (last : Turn) (front : List Turn) (old new : Talking)
     → (g : GoesOn rows items told turns [] old new)
     → (e : Ending rows turns g.more front last) → list_any (is_last rows) front ≡ false
@@ -256,7 +256,7 @@ close_unsaid false true octets e = absurd (false≢true (sym e))
 close_unsaid false false octets e = refl
 
 -- an offer that is declined is refused
-quiet_refuses : (rows : CentreRows) (setup : Setup) (front : List Turn) (last : Turn)
+quiet_refuses : (rows : CentreRows) (setup : AssociationSetup) (front : List Turn) (last : Turn)
     → list_any (begins rows) front ≡ false
     → quiet_at rows setup front last
     ≡ (if is_declined rows (last ∷ []) then refusal_said setup else [])
@@ -297,7 +297,7 @@ chosen true xs ys e = e refl
 chosen false xs ys e = refl
 
 -- the last turn is one of those of the items with which it ended
-last_within : (rows : CentreRows) (items : List Item) (told : List Told) (turns : List Turn)
+last_within : (rows : CentreRows) (items : List Item) (told : List Arrival) (turns : List Turn)
     (end : ConnEnd) → (e : EndsBy rows items told turns end)
     → list_any (is_last rows) (turns_of e.done) ≡ true
 last_within rows items told turns end e =
@@ -306,7 +306,7 @@ last_within rows items told turns end e =
     (k.1 ∙ ap (λ (ts : List Turn). ts ++ k.0) (e.whole ∙ e.ends.is))
     ∙ any_here (is_last rows) e.ends.front k.0 e.last (last_of_cause rows items end e.last e.cause)
 
-early_end : (rows : CentreRows) (items : List Item) (told later : List Told) (turns : List Turn)
+early_end : (rows : CentreRows) (items : List Item) (told later : List Arrival) (turns : List Turn)
     (octets octets_more : List ℕ) (end : ConnEnd)
     → (e : EndsBy rows items (told ++ later) turns end)
     → asks_behind rows [] e.ends.front ≡ [] → list_any (begins rows) e.ends.front ≡ false
@@ -348,7 +348,7 @@ early_end rows items told later turns octets octets_more end e none unbegun said
     chosen declined (refusal_said setup) (refusal_said (setup_after r.told))
     (λ d.
     let f = e.fixed (cause_declined rows items end last e.cause d) in
-    ap (λ (s : Setup). refusal_said s)
+    ap (λ (s : AssociationSetup). refusal_said s)
     (f.0 ∙ sym (ap (λ (x : List Item). setup_after (reading_of (text_of x)).told) all
     ∙ same_setup e.done extra f.1))) in
     ap (λ (os : List ℕ). os ++ octets_more) said
@@ -398,7 +398,7 @@ close_said true begun octets e f = absurd (false≢true (sym e))
 close_said false true octets e f = refl
 close_said false false octets e f = absurd (false≢true f)
 
-concluded_last : (rows : CentreRows) (setup : Setup) (front : List Turn) (last : Turn)
+concluded_last : (rows : CentreRows) (setup : AssociationSetup) (front : List Turn) (last : Turn)
     (rest : List Turn) → is_open rows front ≡ false → list_any (begins rows) front ≡ true
     → list_any (is_last rows) front ≡ false → is_last rows last ≡ true → Follows front last
     → quiet_at rows setup front last ≡ concluded_octets setup (without_pauses (last ∷ rest))
@@ -417,7 +417,7 @@ concluded_last rows setup front ends rest o b l is f = refl
 concluded_last rows setup front pauses rest o b l is f = absurd (false≢true is)
 
 -- no more is answered at once on the way to the end
-none_answered : (rows : CentreRows) (items : List Item) (told later : List Told)
+none_answered : (rows : CentreRows) (items : List Item) (told later : List Arrival)
     (turns : List Turn) (end : ConnEnd) (old : Talking) → IsInput items
     → (e : EndsBy rows items (told ++ later) turns end) → (asked : Asked) (before : List Turn)
     → Runs rows items told before asked old → is_some (first_in connect_in told) ≡ true
@@ -434,7 +434,7 @@ none_answered rows items told later turns end old i e asked before r connect =
     ∙ x.answered ∙ sym (append-nil (answers_to called told)))
 
 closed_end : (rows : CentreRows) (past : Past) (who : ℕ) (items : List Item)
-    (told later : List Told) (turns more : List Turn) (octets octets_more : List ℕ)
+    (told later : List Arrival) (turns more : List Turn) (octets octets_more : List ℕ)
     (end : ConnEnd) (old : Talking)
     → (e : EndsBy rows items (told ++ later) (turns ++ more) end)
     → Ending rows turns more e.ends.front e.last
@@ -479,7 +479,7 @@ closed_end rows past who items told later turns more octets octets_more end old 
           append-nil (octets ++ octets_more)
           ∙ ap (λ (os : List ℕ). octets ++ os)
           (added ∙ ap (λ (os : List ℕ). os ++ quiet_at rows setup front last) unanswered
-          ∙ ap (λ (s : Setup). quiet_at rows s front last) (k.1 later ∙ sym x.setup)
+          ∙ ap (λ (s : AssociationSetup). quiet_at rows s front last) (k.1 later ∙ sym x.setup)
           ∙ concluded_last rows talk.setup front last rest shut begun e.ends.goes is follows)
           ∙ moved more_items i (last ∷ rest)
           (t ∙ ap (λ (ts : List Turn). ts ++ rest) e.ends.is
@@ -509,7 +509,7 @@ open_of_tests rows front b f e g =
     ap (λ (x : Bool). x && not (list_any finishes front)) e ∙ ap (λ (x : Bool). b && not x) g
 
 says_end : (rows : CentreRows) (past : Past) (who : ℕ) (items : List Item)
-    (told later : List Told) (turns more : List Turn) (octets octets_more : List ℕ)
+    (told later : List Arrival) (turns more : List Turn) (octets octets_more : List ℕ)
     (end : ConnEnd) (stage : Stage) (old : Talking) → IsInput items
     → (e : EndsBy rows items (told ++ later) (turns ++ more) end)
     → (n : Ending rows turns more e.ends.front e.last)

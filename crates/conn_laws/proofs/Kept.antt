@@ -2,7 +2,7 @@
 use Rattle.std.proofs.Common.{◌≡◌, ℕ, false, List, [], ◌∷◌, ◌++◌, Option, None}
 use Rattle.std.proofs.Common.{refl, sym, ap, subst, ◌∙◌, reverse}
 use Rattle.std.proofs.lemmas.Bool.{false≢true}
-use Rattle.stack_assoc.specs.Told.{Told}
+use Rattle.stack_assoc.specs.Arrivals.{Arrival}
 use Rattle.bilateral.specs.Rows.{CentreRows}
 use Rattle.tase_views.specs.declared.event.EventKind.{EventKind}
 use Rattle.tase_views.specs.History.{Past}
@@ -55,7 +55,7 @@ begun_serves rows past who v none stands p =
 -- ---- with an item more
 
 early_more : (progress : Progress) (rows : CentreRows) (items : List Item) (item : Item)
-    (told : List Told) (answered : List Turn) (octets : List ℕ)
+    (told : List Arrival) (answered : List Turn) (octets : List ℕ)
     → SaysEarly progress rows items told answered octets
     → SaysEarly progress rows (items ++ item ∷ []) told answered octets
 early_more (progresses.Running asked) rows items item told answered octets says = says
@@ -77,7 +77,7 @@ open_more rows past who items item answered octets says = record {
 }
 
 says_more : (stage : Stage) (progress : Progress) (rows : CentreRows) (past : Past) (who : ℕ)
-    (items : List Item) (item : Item) (told : List Told) (answered : List Turn) (octets : List ℕ)
+    (items : List Item) (item : Item) (told : List Arrival) (answered : List Turn) (octets : List ℕ)
     → SaysBy stage progress rows past who items told answered octets
     → SaysBy stage progress rows past who (items ++ item ∷ []) told answered octets
 says_more stages.Early progress rows past who items item told answered octets says =
@@ -139,7 +139,7 @@ open_beside rows past others who items answered octets a says =
     }
 
 says_beside : (stage : Stage) (progress : Progress) (rows : CentreRows) (past others : Past)
-    (who : ℕ) (items : List Item) (told : List Told) (answered : List Turn) (octets : List ℕ)
+    (who : ℕ) (items : List Item) (told : List Arrival) (answered : List Turn) (octets : List ℕ)
     → AreOthers who others → SaysBy stage progress rows past who items told answered octets
     → SaysBy stage progress rows (others ++ past) who items told answered octets
 says_beside stages.Early progress rows past others who items told answered octets a says =

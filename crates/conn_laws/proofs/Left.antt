@@ -6,10 +6,10 @@ use Rattle.std.specs.List.{list_any}
 use Rattle.std.proofs.lemmas.Bool.{false≢true}
 use Rattle.std.proofs.lemmas.List.{append-nil, append_cancel_left, reverse-append}
 use Rattle.mms_services.specs.declared.initiate.Initiate.{Initiate}
-use Rattle.stack_wire.specs.declared.setup.Setup.{Setup}
+use Rattle.stack_wire.specs.declared.setup.AssociationSetup.{AssociationSetup}
 use Rattle.stack_assoc.specs.declared.input.StackIn.TheVariants as inputs
-use Rattle.stack_assoc.specs.declared.standing.Standing.{Standing}
-use Rattle.stack_assoc.specs.Told.{Told, called, first_in, connect_in}
+use Rattle.stack_assoc.specs.declared.end_state.EndState.{EndState}
+use Rattle.stack_assoc.specs.Arrivals.{Arrival, called, first_in, connect_in}
 use Rattle.stack_assoc.specs.Handing.{answers_to}
 use Rattle.stack_assoc.specs.Courses.{Course, is_accepted}
 use Rattle.bilateral.specs.Rows.{CentreRows}
@@ -58,7 +58,7 @@ use Rattle.conn_laws.proofs.Wanted.{waiting_of, answered_goes}
 
 -- ---- no more was said than is sent
 
-early_front : (rows : CentreRows) (items : List Item) (told : List Told) (answered : List Turn)
+early_front : (rows : CentreRows) (items : List Item) (told : List Arrival) (answered : List Turn)
     (octets : List ℕ) (v : Course) → HasFront (text_of items) told
     → octets ≡ answers_to called told
     → Whatever items answered (λ text ended rest. (others : List ℕ)
@@ -69,7 +69,7 @@ early_front rows items told answered octets v front said = λ more i rest t.
     let f = front_read text told (longer_front items more told front) in
     let later = answers_to called f.0 ++ refusal_octets rows r in (
       later,
-      ap (λ (ts : List Told). answers_to called ts ++ refusal_octets rows r) f.1
+      ap (λ (ts : List Arrival). answers_to called ts ++ refusal_octets rows r) f.1
           ∙ ap (λ (os : List ℕ). os ++ refusal_octets rows r) (answers-append told f.0)
           ∙ append_assoc (answers_to called told) (answers_to called f.0) (refusal_octets rows r)
           ∙ ap (λ (os : List ℕ). os ++ later) (sym said),
@@ -87,7 +87,7 @@ answered_read rows past who items octets event asked v s r =
           ∙ append_assoc s.answered (s.are.last ∷ []) f.0,
     )
 
-pub setup_known : (items : List Item) (told : List Told) (answered : List Turn) (rows : CentreRows)
+pub setup_known : (items : List Item) (told : List Arrival) (answered : List Turn) (rows : CentreRows)
     (turns : List Turn) (asked : Asked) (v : Talking) → Runs rows items told turns asked v
     → is_some (first_in connect_in told) ≡ true
     → Whatever items answered (λ text ended rest.
@@ -129,7 +129,7 @@ IsKept whole rows past who items answered octets end old =
     LeftBy whole old.stage end old.course.standing old.course rows past who items answered
     (octets ++ left_said old.stage old.course end)
 
-early_kept : (rows : CentreRows) (past : Past) (who : ℕ) (items : List Item) (told : List Told)
+early_kept : (rows : CentreRows) (past : Past) (who : ℕ) (items : List Item) (told : List Arrival)
     (answered : List Turn) (octets : List ℕ) (end : ConnEnd) (old : Talking)
     → old.stage ≡ stages.Early → is_accepted old.course.standing ≡ false
     → events_by who past ≡ [] → reverse (events_by who past) ≡ asks_behind rows [] answered
@@ -167,13 +167,13 @@ open_kept rows past who items octets event end old peer offered s p r =
     (subst (λ (x : Progress). SaysBy old.stage x rows past who items s.told s.answered octets) p
     s.says) in
     early_kept rows past who items s.told s.answered octets end old early
-    (ap (λ (x : Standing). is_accepted x)
+    (ap (λ (x : EndState). is_accepted x)
     (r.standing ∙ ap (λ (x : Stage). standing_by x asked old.held) early)) before.0 s.asked
     (has_front (text_of items) s.told old.course r.stands) before.1
 
 -- while its association is open
 served_kept : (rows : CentreRows) (past : Past) (who : ℕ) (items : List Item)
-    (told : List Told) (turns answered : List Turn) (octets : List ℕ) (end : ConnEnd)
+    (told : List Arrival) (turns answered : List Turn) (octets : List ℕ) (end : ConnEnd)
     (asked : Asked) (peer : ℕ) (detail : ℤ) (old : Talking)
     → Runs rows items told turns asked old → old.stage ≡ stages.Open peer detail
     → reverse (events_by who past) ≡ asks_behind rows [] answered
@@ -281,7 +281,7 @@ up_to_read rows items answered goes b = (
 )
 
 -- behind it
-pub kept_on : (whole : Bool) (stage : Stage) (end : ConnEnd) (standing : Standing)
+pub kept_on : (whole : Bool) (stage : Stage) (end : ConnEnd) (standing : EndState)
     (rows : CentreRows) (past : Past)
     (who : ℕ) (items : List Item) (answered : List Turn) (octets : List ℕ) (old new : Talking)
     → (is_open_stage stage ≡ true → new.course ≡ old.course)
@@ -296,7 +296,7 @@ kept_on whole (stages.Closed peer) end standing rows past who items answered oct
     = k
 
 pub leaves : (whole : Bool) (rows : CentreRows) (past : Past) (who : ℕ) (items : List Item)
-    (told : List Told)
+    (told : List Arrival)
     (turns answered : List Turn) (octets octets_more : List ℕ) (end : ConnEnd)
     (old new : Talking) → IsInput items → StandsAt rows items told turns new → IsLeft end old new
     → pending_of new ≡ pending_of old ++ octets_more
@@ -354,7 +354,7 @@ refused_leaves rows past who items octets octets_more event fault old new s righ
 -- ---- it is given up
 
 concluded_kept : (rows : CentreRows) (past : Past) (who : ℕ) (items : List Item)
-    (told : List Told) (answered : List Turn) (octets : List ℕ) (end : ConnEnd) (peer : ℕ)
+    (told : List Arrival) (answered : List Turn) (octets : List ℕ) (end : ConnEnd) (peer : ℕ)
     (old : Talking) → Runs rows items told answered askeds.Nothing old
     → old.stage ≡ stages.Closed peer
     → reverse (events_by who past) ≡ asks_behind rows [] answered
@@ -378,14 +378,14 @@ concluded_kept rows past who items told answered octets end peer old r st before
       asked = before;
       before = octets;
       octets = λ more i rest t. (
-        ap (λ (s : Setup). octets ++ parting end standing s) (setup more i rest t),
+        ap (λ (s : AssociationSetup). octets ++ parting end standing s) (setup more i rest t),
         concluded_octets (talk_of (reading_of (text_of (items ++ more)))
             (has_ended (items ++ more))).setup (without_pauses rest),
         sym (says.octets more i rest t),
       );
     })))
 
-idle_kept : (rows : CentreRows) (past : Past) (who : ℕ) (items : List Item) (told : List Told)
+idle_kept : (rows : CentreRows) (past : Past) (who : ℕ) (items : List Item) (told : List Arrival)
     (answered : List Turn) (octets : List ℕ) (end : ConnEnd) (stage : Stage) (old : Talking)
     → Runs rows items told answered askeds.Nothing old → old.stage ≡ stage
     → reverse (events_by who past) ≡ asks_behind rows [] answered
@@ -393,7 +393,7 @@ idle_kept : (rows : CentreRows) (past : Past) (who : ℕ) (items : List Item) (t
     → IsKept true rows past who items answered octets end old
 idle_kept rows past who items told answered octets end stages.Early old r st before says =
     early_kept rows past who items told answered octets end old st
-    (ap (λ (x : Standing). is_accepted x)
+    (ap (λ (x : EndState). is_accepted x)
     (r.standing ∙ ap (λ (x : Stage). standing_by x askeds.Nothing old.held) st)
     ∙ early_unaccepted old.held) says.0 before
     (has_front (text_of items) told old.course r.stands) says.1
@@ -452,7 +452,7 @@ asks_close (progresses.Cut left) end old new e l w n = absurd l
 
 pub closing_leaves : (rows : CentreRows) (past : Past) (who : ℕ) (items : List Item)
     (octets : List ℕ) (event : Option EventKind) (whole : Bool) (end : ConnEnd)
-    (standing : Standing)
+    (standing : EndState)
     (old new : Talking) → (h : HasLeft whole end standing rows past who items octets None old)
     → IsLeaving old.progress → Leaves event old new × StandsAt rows items h.told h.turns new
     → HasLeft whole end standing rows past who items octets event new
@@ -497,7 +497,7 @@ close_of (progresses.Ended left) event end old p w = absurd w
 close_of (progresses.Cut left) event end old p w = absurd w
 
 closed_says : (whole : Bool) (rows : CentreRows) (past : Past) (who : ℕ) (items : List Item)
-    (answered : List Turn) (octets : List ℕ) (end : ConnEnd) (standing : Standing) (course : Course)
+    (answered : List Turn) (octets : List ℕ) (end : ConnEnd) (standing : EndState) (course : Course)
     → LeftOpen whole standing course rows past who items answered octets
     → LeftClosed whole end standing rows (with_event who events.Close past) who items answered
     (octets ++ parted course end)
@@ -514,8 +514,8 @@ closed_says whole rows past who items answered octets end standing course o =
       octets = λ more i rest t.
           let talk = talk_of (reading_of (text_of (items ++ more))) (has_ended (items ++ more)) in
           let b = o.octets more i rest t in (
-            ap (λ (x : Standing). octets ++ parting end x course.setup) o.stood
-                ∙ ap (λ (s : Setup). octets ++ parting end standing s) (o.setup more i rest t),
+            ap (λ (x : EndState). octets ++ parting end x course.setup) o.stood
+                ∙ ap (λ (s : AssociationSetup). octets ++ parting end standing s) (o.setup more i rest t),
             b.0,
             close_adds rows (own_table rows key.peer) talk key who past o.seat
                 ∙ ap (λ (os : List ℕ). os ++ close_octets talk.setup (turns_left rows past key
@@ -532,7 +532,7 @@ closed_shut (stages.Closed peer) = refl
 
 closed_by : (whole : Bool) (stage : Stage) (rows : CentreRows) (past : Past) (who : ℕ)
     (items : List Item)
-    (answered : List Turn) (octets : List ℕ) (end : ConnEnd) (standing : Standing)
+    (answered : List Turn) (octets : List ℕ) (end : ConnEnd) (standing : EndState)
     (old new : Course) → is_open_stage stage ≡ true
     → LeftBy whole stage end standing old rows past who items answered octets
     → LeftBy whole (closed stage) end standing new rows (with_event who events.Close past) who items
@@ -547,7 +547,7 @@ closed_by whole (stages.Closed peer) rows past who items answered octets end sta
 
 pub closed_leaves : (rows : CentreRows) (past : Past) (who : ℕ) (items : List Item)
     (octets : List ℕ) (event : EventKind) (answer : Answer) (whole : Bool) (end : ConnEnd)
-    (standing : Standing)
+    (standing : EndState)
     (old new : Talking) → (h : HasLeft whole end standing rows past who items octets
     (Some event) old)
     → HasTold rows items h.told h.turns (Ok answer) old new

@@ -4,8 +4,8 @@ use Rattle.std.proofs.Common.{refl, sym, ap, subst, ◌∙◌, append_assoc, rev
 use Rattle.std.specs.Prelude.{if◌then◌else◌, ◌⊎◌}
 use Rattle.std.proofs.lemmas.Bool.{false≢true}
 use Rattle.std.proofs.lemmas.List.{append-nil}
-use Rattle.stack_wire.specs.declared.setup.Setup.{Setup}
-use Rattle.stack_assoc.specs.declared.standing.Standing.{Standing}
+use Rattle.stack_wire.specs.declared.setup.AssociationSetup.{AssociationSetup}
+use Rattle.stack_assoc.specs.declared.end_state.EndState.{EndState}
 use Rattle.stack_assoc.specs.Courses.{Course, is_accepted}
 use Rattle.bilateral.specs.Rows.{CentreRows}
 use Rattle.tase_views.specs.declared.event.EventKind.{EventKind}
@@ -41,7 +41,7 @@ use Rattle.conn_laws.proofs.TurnLists.{one_item_more}
 
 -- ---- with entries of other seats
 
-left_beside : (whole : Bool) (stage : Stage) (end : ConnEnd) (standing : Standing) (course : Course)
+left_beside : (whole : Bool) (stage : Stage) (end : ConnEnd) (standing : EndState) (course : Course)
     (rows : CentreRows) (past others : Past) (who : ℕ) (items : List Item)
     (answered : List Turn) (octets : List ℕ) → AreOthers who others
     → LeftBy whole stage end standing course rows past who items answered octets
@@ -104,7 +104,7 @@ left_beside whole (stages.Closed peer) end standing course rows past others who 
           );
     })
 
-pub others_leave : (whole : Bool) (end : ConnEnd) (standing : Standing) (rows : CentreRows)
+pub others_leave : (whole : Bool) (end : ConnEnd) (standing : EndState) (rows : CentreRows)
     (past others : Past)
     (who : ℕ) (items : List Item) (octets : List ℕ) (waiting : Option EventKind) (v : Talking)
     → HasLeft whole end standing rows past who items octets waiting v → AreOthers who others
@@ -139,7 +139,7 @@ up_to_last_on rows (turn ∷ turns) more =
     last_on (is_last rows turn) turn (up_to_last rows turns) (up_to_last rows (turns ++ more))
     (up_to_last_on rows turns more)
 
-left_more : (whole : Bool) (stage : Stage) (end : ConnEnd) (standing : Standing) (course : Course)
+left_more : (whole : Bool) (stage : Stage) (end : ConnEnd) (standing : EndState) (course : Course)
     (rows : CentreRows) (past : Past) (who : ℕ) (items : List Item) (item : Item)
     (answered : List Turn) (octets : List ℕ)
     → LeftBy whole stage end standing course rows past who items answered octets
@@ -194,7 +194,7 @@ left_more whole (stages.Closed peer) end standing course rows past who items ite
           answered k.octets;
     })
 
-pub dropped_leaves : (whole : Bool) (end : ConnEnd) (standing : Standing) (rows : CentreRows)
+pub dropped_leaves : (whole : Bool) (end : ConnEnd) (standing : EndState) (rows : CentreRows)
     (past : Past)
     (who : ℕ) (items : List Item) (item : Item) (octets : List ℕ) (old new : Talking)
     → (h : HasLeft whole end standing rows past who items octets None old)
@@ -236,7 +236,7 @@ dropped_leaves whole end standing rows past who items item octets old new h p in
 
 -- ---- what that means
 
-said_some : (whole : Bool) (stage : Stage) (end : ConnEnd) (standing : Standing) (course : Course)
+said_some : (whole : Bool) (stage : Stage) (end : ConnEnd) (standing : EndState) (course : Course)
     (rows : CentreRows) (past : Past) (who : ℕ) (items : List Item) (answered rest : List Turn)
     (octets : List ℕ) → IsInput items → turns_of items ≡ answered ++ rest
     → is_open_stage stage ≡ false
@@ -283,7 +283,7 @@ said_some whole (stages.Closed peer) end standing course rows past who items ans
     (inl k.asked, inl (k.key, k.opened, k.closed, k.before, e.1, e.0, e.2))
 
 -- once it has ended
-pub was_left : (whole : Bool) (end : ConnEnd) (standing : Standing) (rows : CentreRows)
+pub was_left : (whole : Bool) (end : ConnEnd) (standing : EndState) (rows : CentreRows)
     (past : Past) (who : ℕ)
     (items : List Item) (octets : List ℕ) (v : Talking)
     → HasLeft whole end standing rows past who items octets None v → v.progress ≡ progresses.Cut end
@@ -305,7 +305,7 @@ was_left whole end standing rows past who items octets v h p =
       octets = s.1;
     }
 
-unexplained : (setup : Setup) (rest : List Turn) → IsUnexplained rest
+unexplained : (setup : AssociationSetup) (rest : List Turn) → IsUnexplained rest
     → close_octets setup rest ≡ abort_octets setup
 unexplained setup [] u = refl
 unexplained setup (offers title ∷ rest) u = refl
@@ -318,12 +318,12 @@ unexplained setup (breaks ∷ rest) u = refl
 unexplained setup (ends ∷ rest) u = absurd u
 unexplained setup (pauses ∷ rest) u = refl
 
-parts : (end : ConnEnd) (standing : Standing) (setup : Setup) → answering.aborts end ≡ true
+parts : (end : ConnEnd) (standing : EndState) (setup : AssociationSetup) → answering.aborts end ≡ true
     → is_accepted standing ≡ true → parting end standing setup ≡ abort_octets setup
 parts end standing setup a s = rw (a, s) refl
 
 -- where nothing in the text explains its close, all was said
-pub all_said : (end : ConnEnd) (standing : Standing) (rows : CentreRows) (past : Past) (who : ℕ)
+pub all_said : (end : ConnEnd) (standing : EndState) (rows : CentreRows) (past : Past) (who : ℕ)
     (items : List Item) (answered rest : List Turn) (octets : List ℕ) → IsInput items
     → turns_of items ≡ answered ++ rest → IsUnexplained (without_pauses rest)
     → answering.aborts end ≡ true → is_accepted standing ≡ true

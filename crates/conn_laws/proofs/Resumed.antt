@@ -2,7 +2,7 @@
 use Rattle.std.proofs.Common.{◌≡◌, ℕ, Bool, true, List, Option, None}
 use Rattle.std.proofs.Common.{refl, sym, ap, subst, ◌∙◌}
 use Rattle.std.proofs.lemmas.Bool.{false≢true}
-use Rattle.stack_assoc.specs.declared.standing.Standing.{Standing}
+use Rattle.stack_assoc.specs.declared.end_state.EndState.{EndState}
 use Rattle.stack_assoc.specs.Courses.{Course}
 use Rattle.bilateral.specs.Rows.{CentreRows}
 use Rattle.tase_views.specs.declared.event.EventKind.{EventKind}
@@ -46,7 +46,7 @@ sent_serves rows past who items octets waiting old new s stands same =
           (sym p) s.says);
     }
 
-pub sent_leaves : (whole : Bool) (end : ConnEnd) (standing : Standing) (rows : CentreRows)
+pub sent_leaves : (whole : Bool) (end : ConnEnd) (standing : EndState) (rows : CentreRows)
     (past : Past) (who : ℕ) (items : List Item) (octets : List ℕ) (waiting : Option EventKind)
     (old new : Talking) → (h : HasLeft whole end standing rows past who items octets waiting old)
     → StandsAt rows items h.told h.turns new → IsSent old new
@@ -72,7 +72,7 @@ sent_leaves whole end standing rows past who items octets waiting old new h stan
     }
 
 -- while its association is open the end doesn't matter yet
-other_end : (whole : Bool) (stage : Stage) (end other : ConnEnd) (standing : Standing)
+other_end : (whole : Bool) (stage : Stage) (end other : ConnEnd) (standing : EndState)
     (course : Course) (rows : CentreRows) (past : Past) (who : ℕ) (items : List Item)
     (answered : List Turn) (octets : List ℕ) → is_open_stage stage ≡ true
     → LeftBy whole stage end standing course rows past who items answered octets
@@ -94,7 +94,7 @@ leaving_is (progresses.Ended end) l = absurd l
 leaving_is (progresses.Cut end) l = absurd l
 
 -- it is given up once more, for another end
-pub left_again : (whole : Bool) (end other : ConnEnd) (standing : Standing) (rows : CentreRows)
+pub left_again : (whole : Bool) (end other : ConnEnd) (standing : EndState) (rows : CentreRows)
     (past : Past) (who : ℕ) (items : List Item) (octets : List ℕ) (old new : Talking)
     → (h : HasLeft whole end standing rows past who items octets None old)
     → IsLeaving old.progress → StandsAt rows items h.told h.turns new → IsLeft other old new

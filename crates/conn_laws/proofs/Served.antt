@@ -8,7 +8,7 @@ use Rattle.std.proofs.lemmas.Bool.{false≢true}
 use Rattle.std.proofs.lemmas.List.{append-nil}
 use Rattle.bilateral.specs.Rows.{CentreRows}
 use Rattle.stack_messages.specs.declared.fault.StackFault.{StackFault}
-use Rattle.stack_assoc.specs.Told.{Told, called}
+use Rattle.stack_assoc.specs.Arrivals.{Arrival, called}
 use Rattle.stack_assoc.specs.Handing.{answers_to}
 use Rattle.stack_assoc.specs.Expectations.{setup_after}
 use Rattle.stack_wire.specs.Tsdus.{refusal_tsdu}
@@ -100,7 +100,7 @@ kept_front rows (turn ∷ turns) =
 -- ---- the event that waits
 
 -- the turns that were acted on begin those of the items
-pub begins_turns : (rows : CentreRows) (items : List Item) (told : List Told) (turns : List Turn)
+pub begins_turns : (rows : CentreRows) (items : List Item) (told : List Arrival) (turns : List Turn)
     (asked : Asked) (v : Talking) → Runs rows items told turns asked v
     → Begins turns (turns_of items)
 begins_turns rows items told turns asked v r =
@@ -190,7 +190,7 @@ early_said rows items i l =
 -- ---- at rest
 
 -- all that was read was acted on
-pub all_done : (rows : CentreRows) (items : List Item) (told : List Told) (turns : List Turn)
+pub all_done : (rows : CentreRows) (items : List Item) (told : List Arrival) (turns : List Turn)
     (v : Talking) → IsResting v → Runs rows items told turns askeds.Nothing v
     → IsDone items told (turns ++ []) v
 all_done rows items told turns v at r =
@@ -204,7 +204,7 @@ all_done rows items told turns v at r =
     (subst P clear r.reads))
 
 running_said : (rows : CentreRows) (past : Past) (who : ℕ) (items : List Item)
-    (told : List Told) (turns : List Turn) (octets : List ℕ) (stage : Stage) → IsInput items
+    (told : List Arrival) (turns : List Turn) (octets : List ℕ) (stage : Stage) → IsInput items
     → turns_of items ≡ turns → told ≡ (reading_of (text_of items)).told
     → list_any (is_last rows) turns ≡ false
     → SaysBy stage (progresses.Running askeds.Nothing) rows past who items told turns octets
@@ -212,7 +212,7 @@ running_said : (rows : CentreRows) (past : Past) (who : ℕ) (items : List Item)
 running_said rows past who items told turns octets stages.Early i t all l says =
     inr (
       says.0,
-      says.1 ∙ ap (λ (ts : List Told). answers_to called ts) all
+      says.1 ∙ ap (λ (ts : List Arrival). answers_to called ts) all
           ∙ early_said rows items i (ap (λ (ts : List Turn). list_any (is_last rows) ts) t ∙ l),
     )
 running_said rows past who items told turns octets (stages.Open peer detail) i t all l says =
@@ -270,7 +270,7 @@ pub record AtEnd (rows : CentreRows) (items : List Item) (turns : List Turn) : T
   pub is : turns_of items ≡ turns ++ rest
   pub whole : up_to_last rows (turns_of items) ≡ turns
 
-pub at_end : (rows : CentreRows) (items : List Item) (told : List Told) (turns : List Turn)
+pub at_end : (rows : CentreRows) (items : List Item) (told : List Arrival) (turns : List Turn)
     (end : ConnEnd) → EndsBy rows items told turns end → AtEnd rows items turns
 at_end rows items told turns end e =
     let k = kept_front rows (turns_of e.done) in
@@ -290,7 +290,7 @@ at_end rows items told turns end e =
     }
 
 ended_said : (rows : CentreRows) (past : Past) (who : ℕ) (items : List Item)
-    (told : List Told) (turns rest : List Turn) (octets : List ℕ) (end : ConnEnd) (stage : Stage)
+    (told : List Arrival) (turns rest : List Turn) (octets : List ℕ) (end : ConnEnd) (stage : Stage)
     → IsInput items → turns_of items ≡ turns ++ rest
     → (is_running : SaysBy stage (progresses.Ended end) rows past who items told turns octets)
     → HasSaid rows past who items octets

@@ -8,12 +8,12 @@ use Rattle.tpkt_cotp.specs.Written.{wire}
 use Rattle.mms_services.specs.declared.initiate.Initiate.{Initiate}
 use Rattle.mms_services.specs.declared.pdu.MmsPdu.TheVariants as pdus
 use Rattle.stack_messages.specs.declared.heard.Connecting.{Connecting}
-use Rattle.stack_wire.specs.declared.setup.Setup.{Setup}
+use Rattle.stack_wire.specs.declared.setup.AssociationSetup.{AssociationSetup}
 use Rattle.stack_wire.specs.Tsdus.{accept_tsdu}
-use Rattle.stack_assoc.specs.Told.{Told, called, first_in, connect_in}
+use Rattle.stack_assoc.specs.Arrivals.{Arrival, called, first_in, connect_in}
 use Rattle.stack_assoc.specs.Handing.{answers_to}
 use Rattle.stack_assoc.specs.Expectations.{setup_after}
-use Rattle.stack_assoc.specs.declared.standing.Standing.{Standing}
+use Rattle.stack_assoc.specs.declared.end_state.EndState.{EndState}
 use Rattle.stack_assoc.specs.Courses.{Course, Stands, is_accepted}
 use Rattle.bilateral.specs.Rows.{CentreRows}
 use Rattle.sbo_device.specs.declared.key.Key.{Key}
@@ -66,7 +66,7 @@ behind_first rows items more answered title rest l e i t =
     ∙ without-append answered (offers title ∷ rest)
     ∙ ap (λ (ts : List Turn). ts ++ offers title ∷ without_pauses rest) alone)
 
-opening_is : (told : List Told) (offered : Initiate) (v : Course) (text : List ℕ) (ended : Bool)
+opening_is : (told : List Arrival) (offered : Initiate) (v : Course) (text : List ℕ) (ended : Bool)
     → IsFixed told v (reading_of text) → IsGranted told offered
     → (talk_of (reading_of text) ended).opening
     ≡ answers_to called told ++ wire v.setup.size (accept_tsdu v.setup offered)
@@ -75,15 +75,15 @@ opening_is told offered v text ended x g =
     let front = answers_to called told in
     ap (λ (os : List ℕ). os
     ++ accept_octets (setup_after r.told) (first_in connect_in r.told)) x.answered
-    ∙ ap (λ (s : Setup). front ++ accept_octets s (first_in connect_in r.told)) x.setup
+    ∙ ap (λ (s : AssociationSetup). front ++ accept_octets s (first_in connect_in r.told)) x.setup
     ∙ ap (λ (c : Option Connecting). front ++ accept_octets (setup_after told) c)
     (x.first ∙ g.first)
     ∙ ap (λ (o : Initiate). front
     ++ wire (setup_after told).size (accept_tsdu (setup_after told) o)) (sym g.is)
-    ∙ ap (λ (s : Setup). front ++ wire s.size (accept_tsdu s offered)) (sym x.course_setup)
+    ∙ ap (λ (s : AssociationSetup). front ++ wire s.size (accept_tsdu s offered)) (sym x.course_setup)
 
 pub opened_says : (rows : CentreRows) (past : Past) (who : ℕ) (items : List Item)
-    (told : List Told) (answered : List Turn) (title : Option (List ℕ)) (peer : ℕ)
+    (told : List Arrival) (answered : List Turn) (title : Option (List ℕ)) (peer : ℕ)
     (offered : Initiate) (octets : List ℕ) (v : Course)
     → Stands called (text_of items) told v → is_some (first_in connect_in told) ≡ true
     → IsGranted told offered → list_any (is_last rows) answered ≡ false
@@ -124,20 +124,20 @@ abbrev pub answer_octets : CentreRows → Past → Key → Course → ℤ → �
 answer_octets rows past key v detail invoke call = said v.setup (within detail invoke (pdu_in invoke
     (reply_to (own_table rows key.peer) (view_of rows key.peer past) key.ordinal call)))
 
-reply_is : (told : List Told) (detail : ℤ) (v : Course) (text : List ℕ) (ended : Bool)
+reply_is : (told : List Arrival) (detail : ℤ) (v : Course) (text : List ℕ) (ended : Bool)
     (invoke : ℕ) (reply : ReplyKind) → IsFixed told v (reading_of text)
     → detail ≡ detail_of (first_in connect_in told)
     → said v.setup (within detail invoke (pdu_in invoke reply))
     ≡ reply_octets (talk_of (reading_of text) ended) invoke reply
 reply_is told detail v text ended invoke reply x d =
     let r = reading_of text in
-    ap (λ (s : Setup). said s (within detail invoke (pdu_in invoke reply)))
+    ap (λ (s : AssociationSetup). said s (within detail invoke (pdu_in invoke reply)))
     (x.course_setup ∙ sym x.setup)
     ∙ ap (λ (z : ℤ). said (setup_after r.told) (within z invoke (pdu_in invoke reply)))
     (d ∙ ap (λ (c : Option Connecting). detail_of c) (sym x.first))
 
 pub requested_says : (rows : CentreRows) (past : Past) (who : ℕ) (items : List Item)
-    (told : List Told) (answered : List Turn) (invoke : ℕ) (call : CallKind) (detail : ℤ)
+    (told : List Arrival) (answered : List Turn) (invoke : ℕ) (call : CallKind) (detail : ℤ)
     (octets : List ℕ) (v : Course) → Stands called (text_of items) told v
     → is_some (first_in connect_in told) ≡ true → detail ≡ detail_of (first_in connect_in told)
     → (o : SaysOpen rows past who items answered octets)
@@ -195,20 +195,20 @@ taken_says rows past who items answered octets o =
 -- ---- a close
 
 -- the octets of an end by this cause
-closed_octets : (cause : Cause) (v : Course) (setup : Setup) (rest : List Turn)
+closed_octets : (cause : Cause) (v : Course) (setup : AssociationSetup) (rest : List Turn)
     → v.standing ≡ served_standing (askeds.Closing cause) None → v.setup ≡ setup
     → closed_said v cause ++ owed (progress_closed cause) setup rest
     ≡ close_octets setup (turn_for cause ∷ rest)
 closed_octets causes.Concluded v setup rest a e =
-    ap (λ (s : Setup). said s pdus.Concluded ++ concluded_octets setup rest) e
+    ap (λ (s : AssociationSetup). said s pdus.Concluded ++ concluded_octets setup rest) e
 closed_octets causes.Released v setup rest a e =
-    append-nil (release_octets v.setup) ∙ ap (λ (s : Setup). release_octets s) e
+    append-nil (release_octets v.setup) ∙ ap (λ (s : AssociationSetup). release_octets s) e
 closed_octets causes.Aborted v setup rest a e = refl
 closed_octets causes.LinkEnd v setup rest a e = refl
 closed_octets (causes.Broken fault) v setup rest a e =
     append-nil (aborted v)
-    ∙ ap (λ (s : Standing). if is_accepted s then abort_octets v.setup else []) a
-    ∙ ap (λ (s : Setup). abort_octets s) e
+    ∙ ap (λ (s : EndState). if is_accepted s then abort_octets v.setup else []) a
+    ∙ ap (λ (s : AssociationSetup). abort_octets s) e
 
 turn_kept : (cause : Cause) (rest : List Turn)
     → without_pauses (turn_for cause ∷ rest) ≡ turn_for cause ∷ without_pauses rest
@@ -219,7 +219,7 @@ turn_kept causes.LinkEnd rest = refl
 turn_kept (causes.Broken fault) rest = refl
 
 pub closed_says : (rows : CentreRows) (past : Past) (who : ℕ) (items : List Item)
-    (told : List Told) (answered : List Turn) (cause : Cause) (octets : List ℕ) (v : Course)
+    (told : List Arrival) (answered : List Turn) (cause : Cause) (octets : List ℕ) (v : Course)
     → Stands called (text_of items) told v → is_some (first_in connect_in told) ≡ true
     → v.standing ≡ served_standing (askeds.Closing cause) None
     → SaysOpen rows past who items answered octets

@@ -4,7 +4,7 @@ use Rattle.std.proofs.Common.{sym, ap, subst, ◌∙◌, append_assoc}
 use Rattle.std.specs.Prelude.{is_some}
 use Rattle.std.proofs.lemmas.List.{append-nil, append_cancel_left}
 use Rattle.std.proofs.lemmas.Grind.{flat_map-append}
-use Rattle.stack_assoc.specs.Told.{Told, called, first_in, connect_in}
+use Rattle.stack_assoc.specs.Arrivals.{Arrival, called, first_in, connect_in}
 use Rattle.stack_assoc.specs.Handing.{answer_to, answers_to}
 use Rattle.stack_assoc.specs.Expectations.{setup_after}
 use Rattle.stack_assoc.specs.Courses.{Course, Stands}
@@ -25,7 +25,7 @@ pub text-append : (items more : List Item) → text_of (items ++ more) ≡ text_
 text-append items more = flat_map-append octets_of items more
 
 -- with more behind it
-pub longer_front : (items more : List Item) (told : List Told) → HasFront (text_of items) told
+pub longer_front : (items more : List Item) (told : List Arrival) → HasFront (text_of items) told
     → HasFront (text_of (items ++ more)) told
 longer_front items more told f = record {
   messages = f.messages;
@@ -42,12 +42,12 @@ longer_front items more told f = record {
 
 -- ---- what is answered at once
 
-pub answers-append : (told others : List Told)
+pub answers-append : (told others : List Arrival)
     → answers_to called (told ++ others) ≡ answers_to called told ++ answers_to called others
 answers-append told others = flat_map-append (answer_to called) told others
 
 -- nothing more behind a connect
-pub connected_once : (octets : List ℕ) (told later : List Told)
+pub connected_once : (octets : List ℕ) (told later : List Arrival)
     → is_some (first_in connect_in told) ≡ true → HasFront octets (told ++ later)
     → answers_to called later ≡ []
 connected_once octets told later c f =
@@ -58,13 +58,13 @@ connected_once octets told later c f =
 -- ---- what is fixed
 
 -- what the whole text fixes is what was told of it
-pub record IsFixed (told : List Told) (course : Course) (whole : Reading) : Type 0 where
+pub record IsFixed (told : List Arrival) (course : Course) (whole : Reading) : Type 0 where
   pub answered : answers_to called whole.told ≡ answers_to called told
   pub setup : setup_after whole.told ≡ setup_after told
   pub first : first_in connect_in whole.told ≡ first_in connect_in told
   pub course_setup : course.setup ≡ setup_after told
 
-pub fixed_over : (items more : List Item) (told : List Told) (v : Course)
+pub fixed_over : (items more : List Item) (told : List Arrival) (v : Course)
     → Stands called (text_of items) told v → is_some (first_in connect_in told) ≡ true
     → IsFixed told v (reading_of (text_of (items ++ more)))
 fixed_over items more told v s connect =
@@ -73,11 +73,11 @@ fixed_over items more told v s connect =
     (longer_front items more told (has_front (text_of items) told v s)) in
     let k = setup_fixed (text_of items) told v s connect in
     record {
-      answered = ap (λ (ts : List Told). answers_to called ts) f.1
+      answered = ap (λ (ts : List Arrival). answers_to called ts) f.1
           ∙ answers_kept text told f.0
-          (subst (λ (ts : List Told). HasFront text ts) f.1 (whole_front text)) connect;
-      setup = ap (λ (ts : List Told). setup_after ts) f.1 ∙ k.1 f.0;
-      first = ap (λ (ts : List Told). first_in connect_in ts) f.1
+          (subst (λ (ts : List Arrival). HasFront text ts) f.1 (whole_front text)) connect;
+      setup = ap (λ (ts : List Arrival). setup_after ts) f.1 ∙ k.1 f.0;
+      first = ap (λ (ts : List Arrival). first_in connect_in ts) f.1
           ∙ first_kept connect_in told f.0 connect;
       course_setup = k.0;
     }

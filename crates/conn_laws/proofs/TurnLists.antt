@@ -7,7 +7,7 @@ use Rattle.std.proofs.lemmas.Bool.{false≢true}
 use Rattle.std.proofs.lemmas.List.{append-nil}
 use Rattle.std.proofs.lemmas.List.Folds.{list_any-append}
 use Rattle.bilateral.specs.Rows.{CentreRows, place_of_title}
-use Rattle.stack_wire.specs.declared.setup.Setup.{Setup}
+use Rattle.stack_wire.specs.declared.setup.AssociationSetup.{AssociationSetup}
 use Rattle.tase_views.specs.declared.event.EventKind.{EventKind}
 use Rattle.tase_views.specs.declared.event.EventKind.TheVariants as events
 use Rattle.tase_map.specs.Inputs.{Item, IsInput, text_of, has_ended}
@@ -65,7 +65,7 @@ peer_kept : (b : Bool) (octets : List ℕ) → not b ≡ false → (if b then []
 peer_kept true octets e = refl
 peer_kept false octets e = absurd (false≢true (sym e))
 
-quiet_one : (rows : CentreRows) (setup : Setup) (before : List Turn) (turn : Turn)
+quiet_one : (rows : CentreRows) (setup : AssociationSetup) (before : List Turn) (turn : Turn)
     → is_last rows turn ≡ false → quiet_at rows setup before turn ≡ []
 quiet_one rows setup before (offers title) e = peer_kept (is_peers rows title) _ e
 quiet_one rows setup before offers_badly e = absurd (false≢true (sym e))
@@ -78,7 +78,7 @@ quiet_one rows setup before ends e = refl
 quiet_one rows setup before pauses e = refl
 
 -- nothing is said of them
-pub quiet_none : (rows : CentreRows) (setup : Setup) (before turns : List Turn)
+pub quiet_none : (rows : CentreRows) (setup : AssociationSetup) (before turns : List Turn)
     → list_any (is_last rows) turns ≡ false → quiet_behind rows setup before turns ≡ []
 quiet_none rows setup before [] l = refl
 quiet_none rows setup before (turn ∷ turns) l =

@@ -3,8 +3,8 @@ use Rattle.std.proofs.Common.{◌≡◌, ℕ, true, false, List, [], ◌∷◌, 
 use Rattle.std.proofs.Common.{refl, sym, ap, subst, ◌∙◌, append_assoc, reverse, inr}
 use Rattle.std.specs.Prelude.{is_some, Ok}
 use Rattle.std.proofs.lemmas.List.{append-nil}
-use Rattle.stack_wire.specs.declared.setup.Setup as wire_setup
-use Rattle.stack_assoc.specs.Told.{Told, first_in, connect_in}
+use Rattle.stack_wire.specs.declared.setup.AssociationSetup as wire_setup
+use Rattle.stack_assoc.specs.Arrivals.{Arrival, first_in, connect_in}
 use Rattle.bilateral.specs.Rows.{CentreRows}
 use Rattle.tase_views.specs.Setup.{Setup}
 use Rattle.tase_views.specs.declared.event.EventKind.{EventKind}
@@ -39,7 +39,7 @@ use Rattle.conn_laws.proofs.TurnLists.{never_empty}
 use Rattle.conn_laws.proofs.Wanted.{waiting_of, answered_goes}
 
 -- where an event waits a connect was told
-connected_asked : (rows : CentreRows) (items : List Item) (told : List Told) (turns : List Turn)
+connected_asked : (rows : CentreRows) (items : List Item) (told : List Arrival) (turns : List Turn)
     (asked : Asked) (event : EventKind) (v : Talking)
     → IsWaiting (progresses.Running asked) (Some event) → Runs rows items told turns asked v
     → is_some (first_in connect_in told) ≡ true
@@ -82,7 +82,7 @@ stalled stage v = record v { progress = progresses.Refused; stage = stage }
 
 -- of the last answer nothing was said
 some_kept : (stage : Stage) (progress : Progress) (rows : CentreRows) (past : Past) (who : ℕ)
-    (items : List Item) (told : List Told) (turns : List Turn) (event : EventKind)
+    (items : List Item) (told : List Arrival) (turns : List Turn) (event : EventKind)
     (octets missing : List ℕ) (end : ConnEnd) (v : Talking)
     → reverse (events_by who (with_event who event past)) ≡ asks_behind rows [] turns
     → Whatever items turns (λ text ended rest.
@@ -119,7 +119,7 @@ some_kept (stages.Closed peer) progress rows past who items told turns event oct
       before = octets;
       octets = λ more i rest t.
           let talk = talk_of (reading_of (text_of (items ++ more))) (has_ended (items ++ more)) in (
-            ap (λ (s : wire_setup.Setup). octets ++ parting end v.course.standing s)
+            ap (λ (s : wire_setup.AssociationSetup). octets ++ parting end v.course.standing s)
                 (setup more i rest t),
             missing ++ owed progress talk.setup (without_pauses rest),
             sym (says.octets more i rest t)

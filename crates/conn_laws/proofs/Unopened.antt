@@ -6,7 +6,7 @@ use Rattle.std.proofs.lemmas.List.{append-nil}
 use Rattle.tpkt_cotp.specs.Written.{wire}
 use Rattle.mms_services.specs.declared.initiate.Initiate.{Initiate}
 use Rattle.stack_wire.specs.Tsdus.{refusal_tsdu}
-use Rattle.stack_assoc.specs.Told.{called}
+use Rattle.stack_assoc.specs.Arrivals.{called}
 use Rattle.stack_assoc.specs.Handing.{answers_to}
 use Rattle.stack_assoc.specs.Expectations.{setup_after}
 use Rattle.bilateral.specs.Rows.{CentreRows}

@@ -5,8 +5,8 @@ use Rattle.std.specs.Prelude.{is_some, if◌then◌else◌, ◌||◌}
 use Rattle.std.specs.List.{list_any}
 use Rattle.std.proofs.lemmas.List.{append-nil, append_cancel_left}
 use Rattle.std.proofs.lemmas.List.Folds.{list_any-append}
-use Rattle.stack_wire.specs.declared.setup.Setup.{Setup}
-use Rattle.stack_assoc.specs.Told.{Told, called}
+use Rattle.stack_wire.specs.declared.setup.AssociationSetup.{AssociationSetup}
+use Rattle.stack_assoc.specs.Arrivals.{Arrival, called}
 use Rattle.stack_assoc.specs.Handing.{answers_to}
 use Rattle.stack_assoc.specs.Expectations.{setup_after}
 use Rattle.bilateral.specs.Rows.{CentreRows, place_of_title}
@@ -45,7 +45,7 @@ use Rattle.conn_laws.proofs.TurnLists.{behind_silent, same_ends}
 -- ---- what is said on the way
 
 -- nothing more is answered at once once the association has begun
-unanswered : (rows : CentreRows) (items : List Item) (told later : List Told)
+unanswered : (rows : CentreRows) (items : List Item) (told later : List Arrival)
     (turns more : List Turn) (asked : Asked) (stage : Stage) (old new : Talking)
     → Runs rows items told turns askeds.Nothing old
     → Runs rows items (told ++ later) more asked new → old.stage ≡ stage
@@ -61,7 +61,7 @@ none_said octets more later e n =
 
 -- behind messages that are answered at once, and turns that ask for nothing
 pub says_on : (rows : CentreRows) (past : Past) (who : ℕ) (items : List Item)
-    (told later : List Told) (turns more front : List Turn) (asked : Asked) (stage : Stage)
+    (told later : List Arrival) (turns more front : List Turn) (asked : Asked) (stage : Stage)
     (octets octets_more : List ℕ) (old new : Talking)
     → Runs rows items told turns askeds.Nothing old
     → Runs rows items (told ++ later) more asked new → old.stage ≡ stage
@@ -111,7 +111,7 @@ says_on rows past who items told later turns more front asked (stages.Closed pee
 
 pub goes_on : (rows : CentreRows) (past : Past) (who : ℕ) (items : List Item)
     (octets octets_more : List ℕ) (old new : Talking)
-    → (s : Serves rows past who items octets None old) (later : List Told) (more : List Turn)
+    → (s : Serves rows past who items octets None old) (later : List Arrival) (more : List Turn)
     → old.progress ≡ progresses.Running askeds.Nothing
     → new.progress ≡ progresses.Running askeds.Nothing → new.stage ≡ old.stage
     → StandsAt rows items (s.told ++ later) (s.turns ++ more) new
@@ -191,7 +191,7 @@ begins_none rows causes.Aborted = refl
 begins_none rows causes.LinkEnd = refl
 begins_none rows (causes.Broken fault) = refl
 
-asks_one : (rows : CentreRows) (items : List Item) (told : List Told) (turns : List Turn)
+asks_one : (rows : CentreRows) (items : List Item) (told : List Arrival) (turns : List Turn)
     (asked : Asked) (event : EventKind) (v : Talking) → WaitsFor (progresses.Running asked) event
     → Runs rows items told turns asked v → AsksOne rows turns
 asks_one rows items told turns askeds.Nothing event v w r = absurd w
@@ -244,7 +244,7 @@ close_quiet : (b : Bool) (one : EventKind) (octets : List ℕ)
 close_quiet true one octets e = refl
 close_quiet false one octets e = absurd cc
 
-asking_quiet : (rows : CentreRows) (setup : Setup) (front : List Turn) (last : Turn)
+asking_quiet : (rows : CentreRows) (setup : AssociationSetup) (front : List Turn) (last : Turn)
     (one : EventKind) → asks_at rows front last ≡ one ∷ []
     → quiet_at rows setup front last ≡ []
 asking_quiet rows setup front (offers title) one e =
@@ -325,7 +325,7 @@ is_waiting askeds.Taking event w = w
 is_waiting (askeds.Closing cause) event w = w
 
 -- where an event is asked, what is answered at once is all that is said
-asking_said : (rows : CentreRows) (items : List Item) (told : List Told) (turns : List Turn)
+asking_said : (rows : CentreRows) (items : List Item) (told : List Arrival) (turns : List Turn)
     (event : EventKind) (octets_more : List ℕ) (old new : Talking)
     → (g : GoesOn rows items told turns (event ∷ []) old new)
     → (a : AsksOne rows (turns ++ g.more)) → Behind rows turns g.more event a

@@ -2,10 +2,10 @@
 -- given up.
 use Rattle.std.specs.Prelude.{◌≡◌, ℕ, Bool, true, false, if◌then◌else◌, ◌⊎◌, List, [], ◌∷◌, ◌++◌}
 use Rattle.std.specs.Prelude.{reverse, Option, Some, None}
-use Rattle.stack_wire.specs.declared.setup.Setup.{Setup}
-use Rattle.stack_assoc.specs.declared.standing.Standing.{Standing}
+use Rattle.stack_wire.specs.declared.setup.AssociationSetup.{AssociationSetup}
+use Rattle.stack_assoc.specs.declared.end_state.EndState.{EndState}
 use Rattle.stack_assoc.specs.Courses.{Course, is_accepted}
-use Rattle.stack_assoc.specs.Told.{Told}
+use Rattle.stack_assoc.specs.Arrivals.{Arrival}
 use Rattle.bilateral.specs.Rows.{CentreRows}
 use Rattle.sbo_device.specs.declared.key.Key.{Key}
 use Rattle.tase_views.specs.declared.event.EventKind.{EventKind}
@@ -43,7 +43,7 @@ is_leaving _ = false
 
 -- the octets with which a connection is left, by how its association stood: those of an abort,
 -- unless the link can't take them
-abbrev pub parting : ConnEnd → Standing → Setup → List ℕ
+abbrev pub parting : ConnEnd → EndState → AssociationSetup → List ℕ
 parting end standing setup =
     if aborts end then (if is_accepted standing then abort_octets setup else []) else []
 
@@ -61,7 +61,7 @@ pub record LeftEarly (rows : CentreRows) (past : Past) (who : ℕ) (items : List
 
 -- its association is still open: all that it is sent was said, or where memory was wanting for the
 -- last answer, all but that
-pub record LeftOpen (whole : Bool) (standing : Standing) (course : Course) (rows : CentreRows)
+pub record LeftOpen (whole : Bool) (standing : EndState) (course : Course) (rows : CentreRows)
     (past : Past) (who : ℕ) (items : List Item) (answered : List Turn) (said : List ℕ) :
     Type 0 where
   pub key : Key
@@ -76,7 +76,7 @@ pub record LeftOpen (whole : Bool) (standing : Standing) (course : Course) (rows
       × (turns_left rows past key text ended ≡ rest) × (whole ≡ true → missing ≡ []))
 
 -- it was closed then: all that it was sent before that close was said, and the parting
-pub record LeftClosed (whole : Bool) (end : ConnEnd) (standing : Standing) (rows : CentreRows)
+pub record LeftClosed (whole : Bool) (end : ConnEnd) (standing : EndState) (rows : CentreRows)
     (past : Past) (who : ℕ) (items : List Item) (answered : List Turn) (said : List ℕ) :
     Type 0 where
   pub key : Key
@@ -91,7 +91,7 @@ pub record LeftClosed (whole : Bool) (end : ConnEnd) (standing : Standing) (rows
       × (whole ≡ true → missing ≡ []))
 
 -- it was closed before, at the peer's asking: no more than it is sent was said, and the parting
-pub record LeftConcluded (end : ConnEnd) (standing : Standing) (rows : CentreRows) (past : Past)
+pub record LeftConcluded (end : ConnEnd) (standing : EndState) (rows : CentreRows) (past : Past)
     (who : ℕ) (items : List Item) (answered : List Turn) (said : List ℕ) : Type 0 where
   pub key : Key
   pub opened : HasOpened past who key
@@ -102,7 +102,7 @@ pub record LeftConcluded (end : ConnEnd) (standing : Standing) (rows : CentreRow
       (said ≡ before ++ parting end standing (talk_of (reading_of text) ended).setup)
       × (others : List ℕ) × (sent rows past key text ended ≡ before ++ others))
 
-abbrev pub LeftBy : Bool → Stage → ConnEnd → Standing → Course → CentreRows → Past → ℕ → List Item
+abbrev pub LeftBy : Bool → Stage → ConnEnd → EndState → Course → CentreRows → Past → ℕ → List Item
     → List Turn → List ℕ → Type 0
 LeftBy whole stages.Early end standing course rows past who items answered said =
     LeftEarly rows past who items answered said
@@ -114,10 +114,10 @@ LeftBy whole (stages.Closed peer) end standing course rows past who items answer
 
 -- a connection that was left for this end while its association stood so; the turns whose events
 -- were answered begin those that the items tell
-pub record HasLeft (whole : Bool) (end : ConnEnd) (standing : Standing) (rows : CentreRows)
+pub record HasLeft (whole : Bool) (end : ConnEnd) (standing : EndState) (rows : CentreRows)
     (past : Past) (who : ℕ) (items : List Item) (said : List ℕ) (waiting : Option EventKind)
     (v : Talking) : Type 0 where
-  pub told : List Told
+  pub told : List Arrival
   pub turns : List Turn
   pub input : IsInput items
   pub stands : StandsAt rows items told turns v
@@ -137,7 +137,7 @@ IsUnexplained (turn ∷ turns) = ⊥
 
 -- the association is closed, and no more than it is sent was said, and the parting; or without one
 -- no more than a connection without one is sent
-abbrev pub HasSaidSome : ConnEnd → Standing → CentreRows → Past → ℕ → List Item → List ℕ → Type 0
+abbrev pub HasSaidSome : ConnEnd → EndState → CentreRows → Past → ℕ → List Item → List ℕ → Type 0
 HasSaidSome end standing rows past who items said =
     ((key : Key) × HasOpened past who key × (is_closed key past ≡ true) × (before : List ℕ)
     × (others : List ℕ) × (said ≡ before
@@ -148,7 +148,7 @@ HasSaidSome end standing rows past who items said =
 
 -- the seat has had the first of the events that the input asks, and then the close of an
 -- association that was open
-pub record WasLeft (end : ConnEnd) (standing : Standing) (rows : CentreRows) (past : Past)
+pub record WasLeft (end : ConnEnd) (standing : EndState) (rows : CentreRows) (past : Past)
     (who : ℕ) (items : List Item) (said : List ℕ) : Type 0 where
   pub asked : List EventKind
   pub others : List EventKind

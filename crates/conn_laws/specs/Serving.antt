@@ -3,8 +3,8 @@
 use Rattle.std.specs.Prelude.{◌≡◌, ℕ, Bool, true, ◌⊎◌, List, [], ◌∷◌, ◌++◌, reverse, Option, Some}
 use Rattle.std.specs.Prelude.{None}
 use Rattle.std.specs.Prelude.{Result}
-use Rattle.stack_wire.specs.declared.setup.Setup.{Setup}
-use Rattle.stack_assoc.specs.Told.{Told, called}
+use Rattle.stack_wire.specs.declared.setup.AssociationSetup.{AssociationSetup}
+use Rattle.stack_assoc.specs.Arrivals.{Arrival, called}
 use Rattle.stack_assoc.specs.Handing.{answers_to}
 use Rattle.bilateral.specs.Rows.{CentreRows}
 use Rattle.sbo_device.specs.declared.key.Key.{Key}
@@ -82,7 +82,8 @@ Whatever items answered Holds = (more : List Item) → IsInput (items ++ more)
 
 -- before an open: what answers the messages that were read; in the end, all that a connection
 -- without one is sent
-abbrev pub SaysEarly : Progress → CentreRows → List Item → List Told → List Turn → List ℕ → Type 0
+abbrev pub SaysEarly : Progress → CentreRows → List Item → List Arrival → List Turn → List ℕ
+    → Type 0
 SaysEarly (progresses.Running asked) rows items told answered said = said ≡ answers_to called told
 SaysEarly (progresses.Ended end) rows items told answered said =
     Whatever items answered (λ text ended rest. said ≡ early_octets rows text)
@@ -98,7 +99,7 @@ pub record SaysOpen (rows : CentreRows) (past : Past) (who : ℕ) (items : List 
       (said ≡ sent rows past key text ended) × (turns_left rows past key text ended ≡ rest))
 
 -- what is still owed behind the response to conclude
-abbrev pub owed : Progress → Setup → List Turn → List ℕ
+abbrev pub owed : Progress → AssociationSetup → List Turn → List ℕ
 owed (progresses.Running asked) setup rest = concluded_octets setup rest
 owed _ setup rest = []
 
@@ -112,7 +113,7 @@ pub record SaysClosed (progress : Progress) (rows : CentreRows) (past : Past) (w
       said ++ owed progress (talk_of (reading_of text) ended).setup rest
       ≡ sent rows past key text ended)
 
-abbrev pub SaysBy : Stage → Progress → CentreRows → Past → ℕ → List Item → List Told → List Turn
+abbrev pub SaysBy : Stage → Progress → CentreRows → Past → ℕ → List Item → List Arrival → List Turn
     → List ℕ → Type 0
 SaysBy stages.Early progress rows past who items told answered said =
     (events_by who past ≡ []) × SaysEarly progress rows items told answered said
@@ -127,7 +128,7 @@ SaysBy (stages.Closed peer) progress rows past who items told answered said =
 -- has said these octets in all, and waits for the answer to this event, if to one
 pub record Serves (rows : CentreRows) (past : Past) (who : ℕ) (items : List Item)
     (said : List ℕ) (waiting : Option EventKind) (v : Talking) : Type 0 where
-  pub told : List Told
+  pub told : List Arrival
   pub turns : List Turn
   pub input : IsInput items
   pub stands : StandsAt rows items told turns v
@@ -138,7 +139,7 @@ pub record Serves (rows : CentreRows) (past : Past) (who : ℕ) (items : List It
   pub says : SaysBy v.stage v.progress rows past who items told answered said
 
 -- where the connection stands behind an answer, or a refusal, that it was told
-pub record HasTold (rows : CentreRows) (items : List Item) (told : List Told) (turns : List Turn)
+pub record HasTold (rows : CentreRows) (items : List Item) (told : List Arrival) (turns : List Turn)
     (outcome : Result Answer StepFault) (old new : Talking) : Type 0 where
   pub stands : StandsAt rows items told turns new
   pub progress : new.progress ≡ progress_told old.progress old.stage outcome

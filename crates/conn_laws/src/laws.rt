@@ -2,7 +2,7 @@
 ghost use Rattle.std.specs.Prelude.{◌≡◌, ℕ, List, [], ◌∷◌, ◌++◌, reverse, Option, Some, None, Ok};
 ghost use Rattle.std.specs.Prelude.{Err, Bool, true, false};
 ghost use Rattle.bilateral.specs.Rows.{CentreRows};
-ghost use Rattle.stack_assoc.specs.declared.standing.Standing.{Standing};
+ghost use Rattle.stack_assoc.specs.declared.end_state.EndState.{EndState};
 ghost use Rattle.stack_assoc.specs.Courses.{is_accepted};
 ghost use Rattle.tase_views.specs.Setup.{Setup};
 ghost use Rattle.tase_views.specs.declared.event.EventKind.{EventKind as AnyEvent};
@@ -127,46 +127,46 @@ pub fn connections_leave()
         (octets ++ added) None new }
     ensures closing { (rows : CentreRows) (past : Past) (who : ℕ) (items : List Item)
         (octets : List ℕ) (event : Option AnyEvent) (whole : Bool) (end : AnyEnd)
-        (standing : Standing) (old new : Talking)
+        (standing : EndState) (old new : Talking)
         → (h : HasLeft whole end standing rows past who items octets None old)
         → IsLeaving old.progress → Leaves event old new × StandsAt rows items h.told h.turns new
         → HasLeft whole end standing rows past who items octets event new }
     ensures closed { (rows : CentreRows) (past : Past) (who : ℕ) (items : List Item)
         (octets : List ℕ) (event : AnyEvent) (answer : Answer) (whole : Bool) (end : AnyEnd)
-        (standing : Standing) (old new : Talking)
+        (standing : EndState) (old new : Talking)
         → (h : HasLeft whole end standing rows past who items octets (Some event) old)
         → HasTold rows items h.told h.turns (Ok answer) old new
         → HasLeft whole end standing rows (with_event who event past) who items
         (octets ++ told_said old.progress old.stage old.course (Ok answer)) None new }
-    ensures others { (whole : Bool) (end : AnyEnd) (standing : Standing) (rows : CentreRows)
+    ensures others { (whole : Bool) (end : AnyEnd) (standing : EndState) (rows : CentreRows)
         (past others : Past) (who : ℕ) (items : List Item) (octets : List ℕ)
         (waiting : Option AnyEvent) (v : Talking)
         → HasLeft whole end standing rows past who items octets waiting v → AreOthers who others
         → HasLeft whole end standing rows (others ++ past) who items octets waiting v }
-    ensures sent { (whole : Bool) (end : AnyEnd) (standing : Standing) (rows : CentreRows)
+    ensures sent { (whole : Bool) (end : AnyEnd) (standing : EndState) (rows : CentreRows)
         (past : Past) (who : ℕ) (items : List Item) (octets : List ℕ)
         (waiting : Option AnyEvent) (old new : Talking)
         → (h : HasLeft whole end standing rows past who items octets waiting old)
         → StandsAt rows items h.told h.turns new → IsSent old new
         → HasLeft whole end standing rows past who items octets waiting new }
-    ensures again { (whole : Bool) (end other : AnyEnd) (standing : Standing) (rows : CentreRows)
+    ensures again { (whole : Bool) (end other : AnyEnd) (standing : EndState) (rows : CentreRows)
         (past : Past) (who : ℕ) (items : List Item) (octets : List ℕ) (old new : Talking)
         → (h : HasLeft whole end standing rows past who items octets None old)
         → IsLeaving old.progress → StandsAt rows items h.told h.turns new → IsLeft other old new
         → HasLeft whole other standing rows past who items octets None new }
-    ensures dropped { (whole : Bool) (end : AnyEnd) (standing : Standing) (rows : CentreRows)
+    ensures dropped { (whole : Bool) (end : AnyEnd) (standing : EndState) (rows : CentreRows)
         (past : Past) (who : ℕ) (items : List Item) (item : Item) (octets : List ℕ)
         (old new : Talking)
         → (h : HasLeft whole end standing rows past who items octets None old)
         → old.progress ≡ progresses.Cut end → IsInput (items ++ item ∷ [])
         → StandsAt rows (items ++ item ∷ []) h.told h.turns new → TakesIn old new
         → HasLeft whole end standing rows past who (items ++ item ∷ []) octets None new }
-    ensures left { (whole : Bool) (end : AnyEnd) (standing : Standing) (rows : CentreRows)
+    ensures left { (whole : Bool) (end : AnyEnd) (standing : EndState) (rows : CentreRows)
         (past : Past) (who : ℕ) (items : List Item) (octets : List ℕ) (v : Talking)
         → HasLeft whole end standing rows past who items octets None v
         → v.progress ≡ progresses.Cut end
         → WasLeft end standing rows past who items octets }
-    ensures whole { (end : AnyEnd) (standing : Standing) (rows : CentreRows) (past : Past)
+    ensures whole { (end : AnyEnd) (standing : EndState) (rows : CentreRows) (past : Past)
         (who : ℕ) (items : List Item) (answered rest : List Turn) (octets : List ℕ)
         → IsInput items → turns_of items ≡ answered ++ rest → IsUnexplained (without_pauses rest)
         → aborts end ≡ true → is_accepted standing ≡ true

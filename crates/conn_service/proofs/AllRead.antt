@@ -11,7 +11,7 @@ use Rattle.mms_services.specs.declared.pdu.MmsPdu.TheVariants as pdus
 use Rattle.stack_messages.specs.declared.fault.StackFault.{StackFault}
 use Rattle.stack_assoc.specs.declared.input.StackIn.{StackIn}
 use Rattle.stack_assoc.specs.declared.input.StackIn.TheVariants as inputs
-use Rattle.stack_assoc.specs.Told.{Told, called}
+use Rattle.stack_assoc.specs.Arrivals.{Arrival, called}
 use Rattle.stack_assoc.specs.Handing.{handed_out}
 use Rattle.stack_assoc.specs.Courses.{Stands}
 use Rattle.bilateral.specs.Rows.{CentreRows}
@@ -114,7 +114,7 @@ item_bounds idle = refl
 item_bounds ended = refl
 
 -- while an item is being read: those before it have ended
-within_done : (items : List Item) (told : List Told) (seen : List Turn) (v : Talking)
+within_done : (items : List Item) (told : List Arrival) (seen : List Turn) (v : Talking)
     → (w : IsWithin items told seen v) → bounds seen ≡ bounds (turns_of w.done)
 within_done items told seen v w =
     let heard : bounds (filter_map turn_in (handed_out w.later)) ≡ 0 =
@@ -126,7 +126,7 @@ within_done items told seen v w =
     omega (arith, heard, all)
 
 -- and it hasn't
-within_more : (items : List Item) (told : List Told) (seen : List Turn) (v : Talking)
+within_more : (items : List Item) (told : List Arrival) (seen : List Turn) (v : Talking)
     → Stands called (text_of items) told v.course → IsWithin items told seen v
     → bounds seen + 1 ≤ bounds (turns_of items)
 within_more items told seen v s w =
@@ -146,8 +146,8 @@ within_more items told seen v s w =
 -- ---- where a take waits
 
 -- what a take asks was acted on last, and something is left of what was taken in
-record IsTaking (rows : CentreRows) (items : List Item) (told : List Told) (turns : List Turn)
-    (more : List Turn) (later : List Told) (new : Talking) : Type 0 where
+record IsTaking (rows : CentreRows) (items : List Item) (told : List Arrival) (turns : List Turn)
+    (more : List Turn) (later : List Arrival) (new : Talking) : Type 0 where
   asks_are : asks_behind rows turns more ≡ events.Take ∷ []
   runs : Runs rows items (told ++ later) (turns ++ more) askeds.Taking new
   within : IsWithin items (told ++ later) (turns ++ more) new
@@ -198,8 +198,8 @@ pause_not e = absurd cc
 end_not : behinds.End ≡ behinds.Nothing → ⊥
 end_not e = absurd cc
 
-within_never : (rows : CentreRows) (items : List Item) (told : List Told)
-    (turns more : List Turn) (later : List Told) (old new : Talking)
+within_never : (rows : CentreRows) (items : List Item) (told : List Arrival)
+    (turns more : List Turn) (later : List Arrival) (old new : Talking)
     → IsTaking rows items told turns more later new → (old.behind ≡ behinds.Nothing → ⊥)
     → IsPassed old.held old.behind
     → IsWithin items told (turns ++ turns_held old.held) old → ⊥
@@ -216,8 +216,8 @@ within_never rows items told turns more later old new t n p w =
     ∙ sym (ap (λ (is : List Item). bounds (turns_of is)) same.0) in
     omega (arith, none, one, before, after)
 
-done_never : (rows : CentreRows) (items : List Item) (told : List Told)
-    (turns more : List Turn) (later : List Told) (old new : Talking)
+done_never : (rows : CentreRows) (items : List Item) (told : List Arrival)
+    (turns more : List Turn) (later : List Arrival) (old new : Talking)
     → IsTaking rows items told turns more later new
     → turns ++ turns_held old.held ≡ turns_of items → ⊥
 done_never rows items told turns more later old new t d =
@@ -230,8 +230,8 @@ done_never rows items told turns more later old new t d =
     within_more items (told ++ later) (turns ++ more) new t.runs.stands t.within in
     omega (arith, held, one, before, joined, after)
 
-read_never : (behind : Behind) (rows : CentreRows) (items : List Item) (told : List Told)
-    (turns more : List Turn) (later : List Told) (old new : Talking)
+read_never : (behind : Behind) (rows : CentreRows) (items : List Item) (told : List Arrival)
+    (turns more : List Turn) (later : List Arrival) (old new : Talking)
     → IsTaking rows items told turns more later new → old.behind ≡ behind
     → IsPassed old.held old.behind
     → ReadsBy behind items told (turns ++ turns_held old.held) old → ⊥
@@ -243,7 +243,7 @@ read_never behinds.End rows items told turns more later old new t b p w =
     within_never rows items told turns more later old new t (λ e. end_not (sym b ∙ e)) p w
 
 old_never : (fault : Option StackFault) (rows : CentreRows) (items : List Item)
-    (told : List Told) (turns more : List Turn) (later : List Told) (old new : Talking)
+    (told : List Arrival) (turns more : List Turn) (later : List Arrival) (old new : Talking)
     → IsTaking rows items told turns more later new
     → Runs rows items told turns askeds.Nothing old → old.course.fault ≡ fault
     → MatchOption fault (ReadsBy old.behind items told (turns ++ turns_held old.held) old)
@@ -261,8 +261,8 @@ old_never (Some fault) rows items told turns more later old new t r f b =
 
 -- ---- all of it was read
 
-new_read : (behind : Behind) (rows : CentreRows) (items : List Item) (told : List Told)
-    (turns more : List Turn) (later : List Told) (old new : Talking)
+new_read : (behind : Behind) (rows : CentreRows) (items : List Item) (told : List Arrival)
+    (turns more : List Turn) (later : List Arrival) (old new : Talking)
     → Runs rows items told turns askeds.Nothing old
     → asks_behind rows turns more ≡ events.Take ∷ []
     → Runs rows items (told ++ later) (turns ++ more) askeds.Taking new
@@ -277,7 +277,7 @@ new_read behinds.End rows items told turns more later old new r a t b w =
     (record { asks_are = a; runs = t; within = w }) r refl r.reads)
 
 -- where a take waits nothing is held, and no rule was broken
-pub taking_reads : (rows : CentreRows) (items : List Item) (told : List Told)
+pub taking_reads : (rows : CentreRows) (items : List Item) (told : List Arrival)
     (turns : List Turn) (v : Talking) → Runs rows items told turns askeds.Taking v
     → ReadsBy v.behind items told turns v
 taking_reads rows items told turns v r =
@@ -305,7 +305,7 @@ taking_of (progresses.Cut end) w = absurd w
 some_none : Some events.Take ≡ None → ⊥
 some_none e = absurd cc
 
-take_read : (p : Progress) (rows : CentreRows) (items : List Item) (told : List Told)
+take_read : (p : Progress) (rows : CentreRows) (items : List Item) (told : List Arrival)
     (turns : List Turn) (old new : Talking) → old.progress ≡ p → IsWaiting p None
     → StandsAt rows items told turns old
     → WantsBy p rows items told turns (Some events.Take) old new
@@ -332,7 +332,7 @@ take_read (progresses.Ended end) rows items told turns old new e w s r = absurd 
 take_read (progresses.Cut end) rows items told turns old new e w s r = absurd w
 
 -- an event that a connection wants: where it is a take
-pub wanted_read : (rows : CentreRows) (items : List Item) (told : List Told)
+pub wanted_read : (rows : CentreRows) (items : List Item) (told : List Arrival)
     (turns : List Turn) (event : EventKind) (old new : Talking) → IsWaiting old.progress None
     → StandsAt rows items told turns old → Wants rows items told turns (Some event) old new
     → IsAllRead event new

@@ -6,7 +6,7 @@ use Rattle.std.proofs.Common.{inl, inr, append_assoc, ⊎_elim}
 use Rattle.std.proofs.lemmas.List.{append-nil, reverse-append}
 use Rattle.std.specs.Result.{IsErrAnd}
 use Rattle.std.proofs.lemmas.Result.{err_from_is_err_and}
-use Rattle.stack_assoc.specs.Told.{Told}
+use Rattle.stack_assoc.specs.Arrivals.{Arrival}
 use Rattle.bilateral.specs.Rows.{CentreRows}
 use Rattle.sbo_device.specs.declared.key.Key.{Key}
 use Rattle.std.specs.List.{list_any}
@@ -95,7 +95,7 @@ then_adds old between new more a p = record {
 }
 
 -- what is said on the way to what is wanted
-wanted_by : (p : Progress) (rows : CentreRows) (items : List Item) (told : List Told)
+wanted_by : (p : Progress) (rows : CentreRows) (items : List Item) (told : List Arrival)
     (turns : List Turn) (event : Option EventKind) (old new : Talking) → IsWaiting p None
     → WantsBy p rows items told turns event old new
     → (more : List ℕ) × (pending_of new ≡ pending_of old ++ more)
@@ -251,7 +251,7 @@ goes_never setup past between after who items said event faults.UnknownName old 
 
 -- ---- nothing is wanted
 
-none_rests : (p : Progress) (rows : CentreRows) (items : List Item) (told : List Told)
+none_rests : (p : Progress) (rows : CentreRows) (items : List Item) (told : List Arrival)
     (turns : List Turn) (old new : Talking) → old.progress ≡ p → IsWaiting p None
     → StandsAt rows items told turns old → WantsBy p rows items told turns None old new
     → IsResting new
@@ -415,7 +415,7 @@ served_of setup past after who items said old new g = (items, said ++ g.adds.add
 -- an event that is wanted may be taken
 pub asking_of : (rows : CentreRows) (past : Past) (who : ℕ) (event : EventKind)
     (old new : Talking) → IsServed rows past who old → new.stage ≡ old.stage
-    → ((centre : CentreRows) (items : List Item) (told : List Told) (turns : List Turn)
+    → ((centre : CentreRows) (items : List Item) (told : List Arrival) (turns : List Turn)
     → StandsAt centre items told turns old → Wants centre items told turns (Some event) old new)
     → IsAsking rows past who event new
 asking_of rows past who event old new x stage wants =
@@ -463,7 +463,7 @@ AttendsSo setup past who old result after new = (items : List Item) (said : List
     → Attends setup past who items said old result after new
 
 abbrev pub WantsSo : Option EventKind → Talking → Talking → Type 0
-WantsSo event old new = (rows : CentreRows) (items : List Item) (told : List Told)
+WantsSo event old new = (rows : CentreRows) (items : List Item) (told : List Arrival)
     (turns : List Turn) → StandsAt rows items told turns old
     → Wants rows items told turns event old new
 

@@ -7,9 +7,9 @@ use Rattle.std.specs.Prelude.{MatchBool, unwrap_or}
 use Rattle.std.proofs.lemmas.Bool.{false≢true, true≢false}
 use Rattle.std.specs.Result.{IsErrAnd}
 use Rattle.std.proofs.lemmas.Result.{err_from_is_err_and}
-use Rattle.stack_assoc.specs.Told.{Told}
+use Rattle.stack_assoc.specs.Arrivals.{Arrival}
 use Rattle.stack_assoc.specs.Courses.{Course}
-use Rattle.stack_assoc.specs.declared.standing.Standing.{Standing}
+use Rattle.stack_assoc.specs.declared.end_state.EndState.{EndState}
 use Rattle.bilateral.specs.Rows.{CentreRows}
 use Rattle.sbo_device.specs.declared.key.Key.{Key}
 use Rattle.tase_views.specs.Setup.{Setup}
@@ -59,7 +59,7 @@ pub served_free : (rows : CentreRows) (past : Past) (who : ℕ) (v : Talking)
     → IsServed rows past who v → IsFree v.progress
 served_free rows past who v s = waits_free v.progress s.2.waits
 
-pub placed_of : {rows : CentreRows} {items : List Item} {told : List Told} {turns : List Turn}
+pub placed_of : {rows : CentreRows} {items : List Item} {told : List Arrival} {turns : List Turn}
     {v : Talking} → StandsAt rows items told turns v → IsPlaced v
 placed_of {rows} {items} {told} {turns} s =
     record { rows = rows; items = items; told = told; turns = turns; stands = s }
@@ -119,7 +119,7 @@ same_past before after is = ap (λ (n : NodeState). reverse n.history) is
 -- ---- an event that was answered
 
 abbrev pub StaysAt : Talking → Talking → Type 0
-StaysAt old new = (rows : CentreRows) (items : List Item) (heard : List Told) (turns : List Turn)
+StaysAt old new = (rows : CentreRows) (items : List Item) (heard : List Arrival) (turns : List Turn)
     → StandsAt rows items heard turns old → StandsAt rows items heard turns new
 
 pub answered_on : (before after : NodeState) (who : ℕ) (items : List Item) (said : List ℕ)
@@ -220,7 +220,7 @@ closed_asks peer (askeds.Closing cause) held event a w = absurd a
 -- where an event waits, the seat has an association exactly where it is open
 seat_by : (stage : Stage) (asked : Asked) (held : Option Coming) (event : EventKind)
     (progress : Progress) (rows : CentreRows) (past : Past) (who : ℕ) (items : List Item)
-    (told : List Told) (answered : List Turn) (said : List ℕ) → IsAskedAt asked stage held
+    (told : List Arrival) (answered : List Turn) (said : List ℕ) → IsAskedAt asked stage held
     → IsWaiting (progresses.Running asked) (Some event)
     → SaysBy stage progress rows past who items told answered said
     → is_some (association_in past who) ≡ is_open_stage stage
@@ -264,7 +264,7 @@ some_close event e = ap (λ (o : Option EventKind). unwrap_or o events.Stop) e
 some_none : {event : EventKind} → Some event ≡ None → ⊥
 some_none e = absurd cc
 
-want_by : (p : Progress) (rows : CentreRows) (items : List Item) (told : List Told)
+want_by : (p : Progress) (rows : CentreRows) (items : List Item) (told : List Arrival)
     (turns : List Turn) (event : EventKind) (old new : Talking)
     → IsClosing p None conn_ends.Stopped
     → WantsBy p rows items told turns (Some event) old new
@@ -297,10 +297,10 @@ pub record WantsClose (rows : CentreRows) (past : Past) (who : ℕ) (items : Lis
   pub pending : pending_of new ≡ pending_of old
   pub course : new.course ≡ old.course
   pub seat : is_some (association_in past who) ≡ true
-  pub standing : Standing
+  pub standing : EndState
   pub left : HasLeft true conn_ends.Stopped standing rows past who items said (Some event) new
 
-left_seat : (stage : Stage) (whole : Bool) (end : ConnEnd) (standing : Standing) (course : Course)
+left_seat : (stage : Stage) (whole : Bool) (end : ConnEnd) (standing : EndState) (course : Course)
     (rows : CentreRows) (past : Past) (who : ℕ) (items : List Item) (answered : List Turn)
     (said : List ℕ) → is_open_stage stage ≡ true
     → LeftBy whole stage end standing course rows past who items answered said
@@ -313,7 +313,7 @@ left_seat (stages.Closed peer) whole end standing course rows past who items ans
     absurd (false≢true o)
 
 pub wants_close : (rows : CentreRows) (past : Past) (who : ℕ) (items : List Item)
-    (said : List ℕ) (event : EventKind) (standing : Standing) (old new : Talking)
+    (said : List ℕ) (event : EventKind) (standing : EndState) (old new : Talking)
     → (h : HasLeft true conn_ends.Stopped standing rows past who items said None old)
     → Wants rows items h.told h.turns (Some event) old new
     → WantsClose rows past who items said event old new
@@ -338,7 +338,7 @@ wants_close rows past who items said event standing old new h w =
 -- whatever the link gave
 pub parting_wants : (rows : CentreRows) (past : Past) (who : ℕ) (event : EventKind)
     (old new : Talking) → (p : IsParting rows past who old)
-    → ((rows : CentreRows) (items : List Item) (told : List Told) (turns : List Turn)
+    → ((rows : CentreRows) (items : List Item) (told : List Arrival) (turns : List Turn)
     → StandsAt rows items told turns old → Wants rows items told turns (Some event) old new)
     → WantsClose rows past who p.0 p.1 event old new
 parting_wants rows past who event old new p wants =
@@ -445,7 +445,7 @@ none_event : None ≡ Some events.Close → ⊥
 none_event e = absurd cc
 
 -- where it was cut at once nothing is wanted
-none_by : (p : Progress) (rows : CentreRows) (items : List Item) (told : List Told)
+none_by : (p : Progress) (rows : CentreRows) (items : List Item) (told : List Arrival)
     (turns : List Turn) (old new : Talking) → IsClosing p None conn_ends.Stopped
     → WantsBy p rows items told turns None old new
     → (is_leaving p ≡ false) × (p ≡ progresses.Cut conn_ends.Stopped) × (new ≡ old)
@@ -467,7 +467,7 @@ cut_by true setup past who items said old after new e c = absurd cc
 cut_by false setup past who items said old after new e c = c
 
 pub uncut_on : (setup : Setup) (past after : Past) (who : ℕ) (items : List Item)
-    (said : List ℕ) (standing : Standing) (old new : Talking) → after ≡ past
+    (said : List ℕ) (standing : EndState) (old new : Talking) → after ≡ past
     → (h : HasLeft true conn_ends.Stopped standing setup.centre past who items said None old)
     → Wants setup.centre items h.told h.turns None old new
     → Closes setup past who items said old (Ok tt) after new

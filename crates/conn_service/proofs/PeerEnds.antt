@@ -5,7 +5,7 @@ use Rattle.std.specs.Prelude.{filter, slice_get, option_map, option_and_then, if
 use Rattle.std.specs.List.{list_any}
 use Rattle.bilateral.specs.Rows.{CentreRows}
 use Rattle.stack_messages.specs.declared.fault.StackFault.{StackFault}
-use Rattle.stack_assoc.specs.Told.{Told}
+use Rattle.stack_assoc.specs.Arrivals.{Arrival}
 use Rattle.tase_map.specs.Inputs.{Item, text_of}
 use Rattle.tase_map.specs.Readings.{reading_of}
 use Rattle.tase_map.specs.Turns.{Turn, offers, offers_badly, asks, concludes, releases, aborts}
@@ -86,7 +86,7 @@ cause_end rows items (conn_ends.Full weight limit) last c = absurd c
 cause_end rows items conn_ends.Memory last c = absurd c
 
 -- where it has ended
-pub ended_so : (rows : CentreRows) (items : List Item) (told : List Told) (turns : List Turn)
+pub ended_so : (rows : CentreRows) (items : List Item) (told : List Arrival) (turns : List Turn)
     (end : ConnEnd) → EndsBy rows items told turns end → peer_end rows items ≡ Some end
 ended_so rows items told turns end e =
     let a = at_end rows items told turns end e in

@@ -9,9 +9,9 @@ use Rattle.std.specs.Result.{IsErrAnd}
 use Rattle.std.proofs.lemmas.List.{append-nil}
 use Rattle.std.proofs.lemmas.Result.{err_from_is_err_and}
 use Rattle.mms_services.specs.declared.initiate.Initiate.{Initiate}
-use Rattle.stack_wire.specs.declared.setup.Setup.{Setup as Sets}
+use Rattle.stack_wire.specs.declared.setup.AssociationSetup.{AssociationSetup}
 use Rattle.stack_assoc.specs.Courses.{Course, is_accepted}
-use Rattle.stack_assoc.specs.declared.standing.Standing.{Standing}
+use Rattle.stack_assoc.specs.declared.end_state.EndState.{EndState}
 use Rattle.bilateral.specs.Rows.{CentreRows}
 use Rattle.sbo_device.specs.declared.key.Key.{Key}
 use Rattle.tase_views.specs.Setup.{Setup}
@@ -87,7 +87,7 @@ refused_at rows past who items said event asked rest v s r w is un standing =
       rest = rest;
       is = is;
       unexplained = un;
-      accepted = ap (λ (x : Standing). is_accepted x) (r.standing
+      accepted = ap (λ (x : EndState). is_accepted x) (r.standing
           ∙ ap (λ (h : Option Coming). standing_by v.stage asked h) w.held_is)
           ∙ standing v.stage (ap (λ (x : Stage). is_open_stage x) w.stage_is);
       setup = over_all (λ text ended others.
@@ -172,7 +172,7 @@ refused setup past who place items said event v s a right is =
 
 -- ---- the octets of the close
 
-unexplained_abort : (setup : Sets) (rest : List Turn) → IsUnexplained rest
+unexplained_abort : (setup : AssociationSetup) (rest : List Turn) → IsUnexplained rest
     → close_octets setup rest ≡ abort_octets setup
 unexplained_abort setup [] u = refl
 unexplained_abort setup (offers title ∷ rest) u = refl
@@ -211,7 +211,7 @@ abort_said rows past who items said event v s f says =
     says.octets in
     let aborts_it : parted v.course conn_ends.Stopped ≡ abort_octets talk.setup =
     ap (λ (b : Bool). if b then abort_octets v.course.setup else []) f.accepted
-    ∙ ap (λ (x : Sets). abort_octets x) f.setup in
+    ∙ ap (λ (x : AssociationSetup). abort_octets x) f.setup in
     let closes_it : sent rows now key text over ≡ said ++ abort_octets talk.setup =
     close_adds rows (own_table rows key.peer) talk key who past says.seat
     ∙ ap (λ (os : List ℕ). os ++ close_octets talk.setup (turns_left rows past key text over))
@@ -256,7 +256,7 @@ early_parted : (rows : CentreRows) (items : List Item) (past : Past) (who : ℕ)
     → parted v.course conn_ends.Stopped ≡ []
 early_parted rows items past who said event peer granted v s r =
     ap (λ (b : Bool). if b then abort_octets v.course.setup else [])
-    (ap (λ (x : Standing). is_accepted x) (r.standing
+    (ap (λ (x : EndState). is_accepted x) (r.standing
     ∙ ap (λ (x : Stage). standing_by x (askeds.Opening peer granted) v.held)
     (opens_early peer granted v.stage v.held r.waits)))
 

@@ -2,7 +2,7 @@
 use Rattle.std.specs.Prelude.{◌≡◌, ℕ, ◌+◌, ◌-◌, ◌*◌, Bool, true, false, ◌⊎◌, if◌then◌else◌, List}
 use Rattle.std.specs.Prelude.{[], ◌∷◌, ◌++◌, reverse}
 use Rattle.std.specs.Prelude.{Option, Some, None, is_some, Result, Ok, Err, MatchBool}
-use Rattle.stack_assoc.specs.declared.standing.Standing.{Standing}
+use Rattle.stack_assoc.specs.declared.end_state.EndState.{EndState}
 use Rattle.bilateral.specs.Rows.{CentreRows}
 use Rattle.sbo_device.specs.declared.key.Key.{Key}
 use Rattle.tase_views.specs.Setup.{Setup}
@@ -83,7 +83,7 @@ pub record IsThrough (setup : Setup) (past : Past) (who : ℕ) (items : List Ite
 
 -- it was left since the node was stopped
 abbrev pub IsLeftFor : CentreRows → Past → ℕ → List Item → List ℕ → Talking → Type 0
-IsLeftFor rows past who items said v = (standing : Standing)
+IsLeftFor rows past who items said v = (standing : EndState)
     × HasLeft true conn_ends.Stopped standing rows past who items said None v
 
 abbrev pub IsParting : CentreRows → Past → ℕ → Talking → Type 0

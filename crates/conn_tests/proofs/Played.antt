@@ -2,7 +2,7 @@
 use Rattle.std.proofs.Common.{◌≡◌, ℕ, Bool, true, false, List, [], ◌∷◌, ◌++◌, Option, Some, None}
 use Rattle.std.proofs.Common.{Result, Ok, Err, IfOk, OnOk, MatchBool, refl, sym, ap, ◌∙◌, subst}
 use Rattle.bilateral.specs.Rows.{CentreRows}
-use Rattle.stack_assoc.specs.Told.{Told}
+use Rattle.stack_assoc.specs.Arrivals.{Arrival}
 use Rattle.tase_map.specs.Inputs.{Item}
 use Rattle.tase_map.specs.Turns.{Turn}
 use Rattle.mms_services.specs.declared.initiate.Initiate.{Initiate}
@@ -181,7 +181,7 @@ told_free (progresses.Cut end) stage told f = absurd f
 
 pub told_ready : {A E : Type 0} (r : Result A E) (old new : Talking)
     (told : Result Answer StepFault) → IsPlaced old → IsAnswerFor old.progress told
-    → ((rows : CentreRows) (items : List Item) (heard : List Told) (turns : List Turn)
+    → ((rows : CentreRows) (items : List Item) (heard : List Arrival) (turns : List Turn)
     → StandsAt rows items heard turns old → OnOk r (StandsAt rows items heard turns new))
     → OnOk r (new.progress ≡ progress_told old.progress old.stage told) → OnOk r (IsReady new)
 told_ready (Ok x) old new told p f stands e = record {
@@ -207,7 +207,7 @@ waits_awaited (progresses.Ended end) event w = w
 waits_awaited (progresses.Cut end) event w = w
 
 wanted_by : (progress : Progress) (event : Option EventKind) (rows : CentreRows)
-    (items : List Item) (told : List Told) (turns : List Turn) (old new : Talking)
+    (items : List Item) (told : List Arrival) (turns : List Turn) (old new : Talking)
     → old.progress ≡ progress → StandsAt rows items told turns old → IsFree progress
     → WantsBy progress rows items told turns event old new → HasWanted event new
 wanted_by (progresses.Running askeds.Nothing) (Some event) rows items told turns old new e s f w = (
@@ -282,7 +282,7 @@ wanted_by (progresses.Cut end) None rows items told turns old new e s f w =
     })
 
 pub wanted : {E : Type 0} (r : Result (Option EventKind) E) (old new : Talking) → IsReady old
-    → ((rows : CentreRows) (items : List Item) (told : List Told) (turns : List Turn)
+    → ((rows : CentreRows) (items : List Item) (told : List Arrival) (turns : List Turn)
     → StandsAt rows items told turns old
     → IfOk r (λ event. Wants rows items told turns event old new))
     → IfOk r (λ event. HasWanted event new)
@@ -294,7 +294,7 @@ wanted (Err x) old new r w = tt
 -- ---- what is taken in, and what was sent
 
 stood : (item : Item) (old new : Talking) → IsPlaced old
-    → ((rows : CentreRows) (items : List Item) (told : List Told) (turns : List Turn)
+    → ((rows : CentreRows) (items : List Item) (told : List Arrival) (turns : List Turn)
     → StandsAt rows items told turns old → StandsAt rows (items ++ item ∷ []) told turns new)
     → IsPlaced new
 stood item old new p s = record {
@@ -306,7 +306,7 @@ stood item old new p s = record {
 }
 
 pub taken_ready : (item : Item) (old new : Talking) → IsAtRest old
-    → ((rows : CentreRows) (items : List Item) (told : List Told) (turns : List Turn)
+    → ((rows : CentreRows) (items : List Item) (told : List Arrival) (turns : List Turn)
     → StandsAt rows items told turns old → StandsAt rows (items ++ item ∷ []) told turns new)
     → TakesIn old new → IsReady new
 taken_ready item old new r s e = record {
@@ -315,7 +315,7 @@ taken_ready item old new r s e = record {
 }
 
 pub taken : {A E : Type 0} (r : Result A E) (item : Item) (old new : Talking) → IsAtRest old
-    → ((rows : CentreRows) (items : List Item) (told : List Told) (turns : List Turn)
+    → ((rows : CentreRows) (items : List Item) (told : List Arrival) (turns : List Turn)
     → StandsAt rows items told turns old
     → OnOk r (StandsAt rows (items ++ item ∷ []) told turns new))
     → OnOk r (TakesIn old new) → OnOk r (IsReady new)
@@ -326,7 +326,7 @@ pub at_rest_ready : (v : Talking) → IsAtRest v → IsReady v
 at_rest_ready v r = record { placed = r.placed; free = r.resting.free }
 
 placed_on : (old new : Talking) → IsPlaced old
-    → ((rows : CentreRows) (items : List Item) (told : List Told) (turns : List Turn)
+    → ((rows : CentreRows) (items : List Item) (told : List Arrival) (turns : List Turn)
     → StandsAt rows items told turns old → StandsAt rows items told turns new)
     → IsPlaced new
 placed_on old new p s = record {
@@ -338,7 +338,7 @@ placed_on old new p s = record {
 }
 
 pub sent_rests : (old new : Talking) → IsAtRest old
-    → ((rows : CentreRows) (items : List Item) (told : List Told) (turns : List Turn)
+    → ((rows : CentreRows) (items : List Item) (told : List Arrival) (turns : List Turn)
     → StandsAt rows items told turns old → StandsAt rows items told turns new)
     → IsSent old new → IsAtRest new
 sent_rests old new r s e = record {
@@ -374,7 +374,7 @@ given_up false end octets old new e =
     subst IsFree (sym (ap (λ (v : Talking). v.progress) e.is)) tt
 
 pub left_ready : (end : ConnEnd) (old new : Talking) → IsAtRest old
-    → ((rows : CentreRows) (items : List Item) (told : List Told) (turns : List Turn)
+    → ((rows : CentreRows) (items : List Item) (told : List Arrival) (turns : List Turn)
     → StandsAt rows items told turns old → StandsAt rows items told turns new)
     → IsLeft end old new → IsReady new
 left_ready end old new r s l = record {

@@ -12,13 +12,15 @@ use Rattle.node_turn.specs.declared.turn_node.NodeSetup.{NodeSetup}
 abbrev pub turn_setup : Setup → NodeSetup
 turn_setup setup = record { centre = setup.centre; limit = setup.limit }
 
--- entries as pairs of a seat's number and an event, and back
+-- the entries of a history as pairs of a seat's number and an event
 abbrev pub turn_log : List Entry → List (ℕ × EventKind)
 turn_log history = map (λ e. (e.who, e.event)) history
 
+-- the entry that such a pair is
 abbrev pub logged_entry : ℕ × EventKind → Entry
 logged_entry e = record { who = e.0; event = e.1 }
 
+-- the past, the newest entry first, that a log of such pairs is
 abbrev pub past_in : List (ℕ × EventKind) → Past
 past_in log = reverse (map logged_entry log)
 

@@ -1,4 +1,4 @@
-mod Standing
+mod NameEntries
 pub mod Calling
 pub mod Writing
 pub mod Reading

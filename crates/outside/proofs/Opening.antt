@@ -7,7 +7,7 @@ use Rattle.std.proofs.lemmas.Slice.Eq.{bytes_eq-Decides}
 use Rattle.outside.specs.Faults.{counted}
 use Rattle.outside.specs.Source.{SourceTold}
 use Rattle.outside.specs.Sink.{SinkTold}
-use Rattle.outside.specs.Outside.{OutsideTold, OpensIn, ClosesIn, OpensOut, ClosesOut, Standing, untold, missing, lent, there, lent_from, put_back_at, HandsOut, Changes, Acts, Asks}
+use Rattle.outside.specs.Outside.{OutsideTold, OpensIn, ClosesIn, OpensOut, ClosesOut, NameEntry, untold, missing, lent, there, lent_from, put_back_at, HandsOut, Changes, Acts, Asks}
 
 pub bytes_are : (xs ys : List ℕ) → bytes_eq xs ys ≡ true → xs ≡ ys
 bytes_are xs ys = (bytes_eq-Decides xs ys).0
@@ -16,34 +16,34 @@ pub bytes_same : (xs : List ℕ) → bytes_eq xs xs ≡ true
 bytes_same xs = (bytes_eq-Decides xs xs).1 refl
 
 -- what stood under a name where x was opened there and y was closed, and what stands there then
-abbrev pub IsExchanged : {X : Type 0} → Standing X → Standing X → X → X → Type 0
+abbrev pub IsExchanged : {X : Type 0} → NameEntry X → NameEntry X → X → X → Type 0
 IsExchanged {X} untold after x y = after ≡ untold
 IsExchanged {X} missing after x y = ⊥
 IsExchanged {X} lent after x y = ⊥
 IsExchanged {X} (there object) after x y = (object ≡ x) × (after ≡ there y)
 
 -- the object that stood under the name was exchanged, and every other name is as before
-pub record Exchanges {X : Type 0} (before after : List ℕ → Standing X) (name : List ℕ)
+pub record Exchanges {X : Type 0} (before after : List ℕ → NameEntry X) (name : List ℕ)
     (x y : X) : Type 0 where
   pub object : IsExchanged (before name) (after name) x y
   pub others : (n : List ℕ) → bytes_eq n name ≡ false → after n ≡ before n
 
 module _ {X : Type 0} where
   -- at the name itself, and at another one
-  pub changed_at : (change : Standing X → Standing X) (before after : List ℕ → Standing X)
+  pub changed_at : (change : NameEntry X → NameEntry X) (before after : List ℕ → NameEntry X)
       (name : List ℕ)
       → Changes change before after name → after name ≡ change (before name)
   changed_at change before after name changes =
       changes name ∙ ap (λ t. cond t (change (before name)) (before name)) (bytes_same name)
 
-  pub same_at : (change : Standing X → Standing X) (before after : List ℕ → Standing X)
+  pub same_at : (change : NameEntry X → NameEntry X) (before after : List ℕ → NameEntry X)
       (name n : List ℕ)
       → Changes change before after name → bytes_eq n name ≡ false → after n ≡ before n
   same_at change before after name n changes other =
       changes n ∙ ap (λ t. cond t (change (before n)) (before n)) other
 
   -- a change at a name under which it changes nothing
-  pub unchanged : (change : Standing X → Standing X) (before after : List ℕ → Standing X)
+  pub unchanged : (change : NameEntry X → NameEntry X) (before after : List ℕ → NameEntry X)
       (name n : List ℕ)
       → Changes change before after name → change (before name) ≡ before name → after n ≡ before n
   unchanged change before after name n changes nothing = elim (cases_Bool (bytes_eq n name)) [
@@ -55,13 +55,13 @@ module _ {X : Type 0} where
 
   -- an open that hands out nothing changes nothing
   pub opened_nothing : (name_of : X → List ℕ) (faults_of : X → ℕ)
-      (before after : List ℕ → Standing X) (name n : List ℕ)
+      (before after : List ℕ → NameEntry X) (name n : List ℕ)
       → HandsOut name_of faults_of before name (before name) None
       → Changes lent_from before after name → after n ≡ before n
   opened_nothing name_of faults_of before after name n handed opened =
       unchanged lent_from before after name n opened (go (before name) handed)
     where
-      go : (stood : Standing X) → HandsOut name_of faults_of before name stood None
+      go : (stood : NameEntry X) → HandsOut name_of faults_of before name stood None
           → lent_from stood ≡ stood
       go untold h = refl
       go missing h = refl
@@ -69,7 +69,7 @@ module _ {X : Type 0} where
       go (there x) h = let none = h.0 in cc
 
   pub exchanges : (name_of : X → List ℕ) (faults_of : X → ℕ)
-      (before mid after : List ℕ → Standing X) (name : List ℕ) (x y : X)
+      (before mid after : List ℕ → NameEntry X) (name : List ℕ) (x y : X)
       → HandsOut name_of faults_of before name (before name) (Some x)
       → Changes lent_from before mid name
       → name_of y ≡ name_of x → Changes (λ s. put_back_at s y) mid after (name_of y)
@@ -87,10 +87,10 @@ module _ {X : Type 0} where
           unchanged (λ s. put_back_at s y) mid after (name_of y) n closed
           (ap (λ s. put_back_at s y) at_y ∙ sym at_y) ∙ mid_as n
 
-      go : (stood : Standing X) → before name ≡ stood
+      go : (stood : NameEntry X) → before name ≡ stood
           → HandsOut name_of faults_of before name stood (Some x) → Exchanges before after name x y
       go untold is h = record {
-        object = subst (λ (s : Standing X). IsExchanged s (after name) x y) (sym is)
+        object = subst (λ (s : NameEntry X). IsExchanged s (after name) x y) (sym is)
             (untold_there is h.1 name ∙ is);
         others = λ n other. untold_there is h.1 n;
       }
@@ -104,7 +104,7 @@ module _ {X : Type 0} where
           let mid_is : mid name ≡ lent = changed_at lent_from before mid name opened
           ∙ ap lent_from is in
           record {
-            object = subst (λ (s : Standing X). IsExchanged s (after name) x y) (sym is) (
+            object = subst (λ (s : NameEntry X). IsExchanged s (after name) x y) (sym is) (
               x_is,
               changed_at (λ s. put_back_at s y) mid after name closed'
                   ∙ ap (λ s. put_back_at s y) mid_is,
@@ -114,11 +114,11 @@ module _ {X : Type 0} where
           }
 
   -- what the object went through is what what stands under its name went through
-  pub acts : (R : X → X → Type 0) (before after : List ℕ → Standing X) (name : List ℕ) (x y : X)
+  pub acts : (R : X → X → Type 0) (before after : List ℕ → NameEntry X) (name : List ℕ) (x y : X)
       → Exchanges before after name x y → R x y → Acts R (before name) (after name)
   acts R before after name x y exchanged fact = go (before name) exchanged.object
     where
-      go : (stood : Standing X) → IsExchanged stood (after name) x y → Acts R stood (after name)
+      go : (stood : NameEntry X) → IsExchanged stood (after name) x y → Acts R stood (after name)
       go untold h = h
       go missing h = absurd h
       go lent h = absurd h

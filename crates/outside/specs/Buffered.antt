@@ -18,6 +18,7 @@ HandsOn before after gathered rest (Ok done) = AppendsAll before after gathered 
 HandsOn before after gathered rest (Err failed) =
     (front : List ℕ) × (gathered ≡ front ++ rest) × Appends before after front true
 
--- the same, where what didn't go out is lost
+-- what was gathered went out, or a front part of it before a write that failed; what didn't go out
+-- is lost
 abbrev pub Finishes : SinkTold → SinkTold → List ℕ → Result (Unit {0}) SinkFailed → Type 0
 Finishes before after gathered result = (rest : List ℕ) × HandsOn before after gathered rest result

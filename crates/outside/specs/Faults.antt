@@ -1,7 +1,7 @@
 -- The count of faults of an object outside. It stands still at its type's end.
 use Rattle.std.specs.Prelude.{Bool, true, false, ℕ, ◌+◌, ◌-◌, ◌^◌, max, min}
 
--- one more, or the same at the type's end
+-- a count with one more; at the type's end it stands still
 abbrev pub next_count : ℕ → ℕ
 next_count n = max n (min (n + 1) (2 ^ 64 - 1))
 

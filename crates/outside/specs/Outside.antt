@@ -1,23 +1,24 @@
 -- What an outside tells of its names, and what opening and closing an object does to it.
-use Rattle.std.specs.Prelude.{◌≡◌, ◌⊎◌, ℕ, List, [], ◌∷◌, ◌++◌, Option, Some, None, IfSome, is_none, nat_lt, bytes_eq, if◌then◌else◌}
+use Rattle.std.specs.Prelude.{◌≡◌, ◌⊎◌, ℕ, List, [], ◌∷◌, ◌++◌, Option, Some, None, IfSome, is_none}
+use Rattle.std.specs.Prelude.{nat_lt, bytes_eq, if◌then◌else◌}
 use Rattle.outside.specs.Faults.{counted}
 use Rattle.outside.specs.Source.{SourceTold}
 use Rattle.outside.specs.Sink.{SinkTold}
 
 -- what is told of a name: nothing; that it isn't there; that its object is handed out; that this
 -- object stands there
-pub data Standing (X : Type 0) : Type 0 where
-  untold : Standing X
-  missing : Standing X
-  lent : Standing X
-  there : X → Standing X
+pub data NameEntry (X : Type 0) : Type 0 where
+  untold : NameEntry X
+  missing : NameEntry X
+  lent : NameEntry X
+  there : X → NameEntry X
 
 -- what an outside tells
 pub record OutsideTold : Type 0 where
   -- what stands under each name of a source
-  pub sources : List ℕ → Standing SourceTold
+  pub sources : List ℕ → NameEntry SourceTold
   -- what stands under each name of a sink
-  pub sinks : List ℕ → Standing SinkTold
+  pub sinks : List ℕ → NameEntry SinkTold
   -- the names that it was asked to open for reading, in order, also those that it found nothing
   -- under
   pub read_names : Option (List (List ℕ))
@@ -27,13 +28,13 @@ pub record OutsideTold : Type 0 where
   pub faults : ℕ
 
 -- what stands under a name after an open, and after an object was put back there
-abbrev pub lent_from : {X : Type 0} → Standing X → Standing X
+abbrev pub lent_from : {X : Type 0} → NameEntry X → NameEntry X
 lent_from {X} untold = untold
 lent_from {X} missing = missing
 lent_from {X} lent = lent
 lent_from {X} (there object) = lent
 
-abbrev pub put_back_at : {X : Type 0} → Standing X → X → Standing X
+abbrev pub put_back_at : {X : Type 0} → NameEntry X → X → NameEntry X
 put_back_at {X} untold object = untold
 put_back_at {X} missing object = missing
 put_back_at {X} lent object = there object
@@ -42,8 +43,8 @@ put_back_at {X} (there other) object = there object
 -- what an open hands out: exactly what stands under the name, and it bears that name. Where nothing
 -- is told of the name, a new object, which has no faults, or nothing; of the name that such an
 -- object bears nothing is told either
-abbrev pub HandsOut : {X : Type 0} → (X → List ℕ) → (X → ℕ) → (List ℕ → Standing X) → List ℕ
-    → Standing X → Option X → Type 0
+abbrev pub HandsOut : {X : Type 0} → (X → List ℕ) → (X → ℕ) → (List ℕ → NameEntry X) → List ℕ
+    → NameEntry X → Option X → Type 0
 HandsOut {X} name_of faults_of before name untold result =
     IfSome result (λ object. (faults_of object ≡ 0) × (before (name_of object) ≡ untold))
 HandsOut {X} name_of faults_of before name missing result = result ≡ None
@@ -52,14 +53,14 @@ HandsOut {X} name_of faults_of before name (there object) result =
     (result ≡ Some object) × (name_of object ≡ name)
 
 -- this change at the name; every other name is as before
-abbrev pub Changes : {X : Type 0} → (Standing X → Standing X) → (List ℕ → Standing X)
-    → (List ℕ → Standing X) → List ℕ → Type 0
+abbrev pub Changes : {X : Type 0} → (NameEntry X → NameEntry X) → (List ℕ → NameEntry X)
+    → (List ℕ → NameEntry X) → List ℕ → Type 0
 Changes change before after name =
     (n : List ℕ) → after n ≡ (if bytes_eq n name then change (before n) else before n)
 
 -- what the object under a name went through between these two, where it is told; what isn't there
 -- stays so
-abbrev pub Acts : {X : Type 0} → (X → X → Type 0) → Standing X → Standing X → Type 0
+abbrev pub Acts : {X : Type 0} → (X → X → Type 0) → NameEntry X → NameEntry X → Type 0
 Acts {X} R untold after = after ≡ untold
 Acts {X} R missing after = after ≡ missing
 Acts {X} R lent after = after ≡ lent

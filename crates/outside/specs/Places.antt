@@ -2,29 +2,29 @@
 use Rattle.std.specs.Prelude.{◌≡◌, ℕ, List, [], ◌∷◌, Option, Some, None, bytes_eq, if◌then◌else◌}
 use Rattle.std.specs.Option.{IfSome}
 use Rattle.outside.specs.Names.{AskedState}
-use Rattle.outside.specs.Outside.{Standing, untold, missing, lent, there, OutsideTold}
+use Rattle.outside.specs.Outside.{NameEntry, untold, missing, lent, there, OutsideTold}
 use Rattle.outside.specs.States.{TextState, ByteState, text_told, byte_told}
 
 -- what stands at a place
-abbrev pub at_place : {X : Type 0} → Option X → Standing X
+abbrev pub at_place : {X : Type 0} → Option X → NameEntry X
 at_place {X} None = lent
 at_place {X} (Some object) = there object
 
 -- what stands under a name
-abbrev pub standing : {X : Type 0} → List (List ℕ × Option X) → List ℕ → Standing X
+abbrev pub standing : {X : Type 0} → List (List ℕ × Option X) → List ℕ → NameEntry X
 standing [] name = missing
 standing (place ∷ places) name =
     if bytes_eq name place.0 then at_place place.1 else standing places name
 
 -- the object that stands there
-abbrev pub object_there : {X : Type 0} → Standing X → Option X
+abbrev pub object_there : {X : Type 0} → NameEntry X → Option X
 object_there {X} untold = None
 object_there {X} missing = None
 object_there {X} lent = None
 object_there {X} (there object) = Some object
 
 -- what is told of it
-abbrev pub told_there : {X Y : Type 0} → (X → Y) → Standing X → Standing Y
+abbrev pub told_there : {X Y : Type 0} → (X → Y) → NameEntry X → NameEntry Y
 told_there {X} {Y} told untold = untold
 told_there {X} {Y} told missing = missing
 told_there {X} {Y} told lent = lent

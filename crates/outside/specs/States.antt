@@ -4,8 +4,8 @@ use Rattle.outside.specs.Source.{SourceTold}
 use Rattle.outside.specs.Sink.{SinkTold}
 
 -- a source: the octets left, those given so far, whether the last read answered that nothing is
--- left, whether it did or failed, how many reads came directly after such a one, the numbers of the
--- calls that fail, the number of the next call, the faults, the name
+-- left, whether it did or failed, how many reads came directly after the end or a failed read, the
+-- numbers of the calls that fail, the number of the next call, the faults, the name
 pub record TextState : Type 0 where
   pub left : List ℕ
   pub given : List ℕ
@@ -27,8 +27,9 @@ text_told s = record {
   name = s.name;
 }
 
--- a sink: the octets taken, the room left for more, whether the last write failed, and the same as
--- of a source
+-- a sink: the octets taken, the room left for more, whether the last write failed, how many writes
+-- came directly after a failed one, the numbers of the calls that fail, the number of the next
+-- call, the faults, the name
 pub record ByteState : Type 0 where
   pub taken : List ℕ
   pub room : ℕ

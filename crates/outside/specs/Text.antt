@@ -47,11 +47,11 @@ is_failed_text (Err out_of_memory) = false
 -- what reading a text leaves of a source that gave these octets to it
 pub record ReadsText (before after : SourceTold) (limit : ℕ) (result : TextResult)
     (octets : List ℕ) : Type 0 where
-  -- they came from the front of those left
+  -- the octets came from the front of those left
   pub took : Takes before.left after.left octets
-  -- they were added to those given so far
+  -- the octets were added to those given so far
   pub gave : Adds before.given after.given octets
-  -- they are at most the limit and one piece
+  -- the octets are at most the limit and one piece
   pub most : length octets ≤ limit + PIECE
   -- what is answered of them
   pub text : IsTextOf octets after.left limit result

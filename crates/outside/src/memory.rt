@@ -110,7 +110,7 @@ impl MemoryOutside {
         self.read_names.names()
     }
 
-    /// The same for writing.
+    /// The names that it was asked to open for writing, in order; None once one had no room.
     pub fn written_names(&self) -> Option<&[AskedName]>
         ensures { option_map (λ names. names.now) result ≡ self.now.written_names.names }
     {

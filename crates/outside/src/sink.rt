@@ -50,7 +50,7 @@ pub fn write_all<S: Sink>(sink: &mut S, bytes: &[u8]) -> Result<(), SinkFailed>
     end
 }
 
-// The same, and how many went out.
+// Writes all octets, up to a write that fails, and answers how many went out.
 pub(crate) fn write_front<S: Sink>(sink: &mut S, bytes: &[u8]) -> (usize, Result<(), SinkFailed>)
     ensures within { result.0 ≤ length bytes.now }
     ensures whole { OnOk result.1 (result.0 ≡ length bytes.now) }

@@ -31,7 +31,7 @@ pub fn read_text<S: Source>(
     read_pieces(alloc, source, &mut piece, limit)
 }
 
-// The same, with the room for a piece.
+// Reads all octets that are left, if they are at most `limit`, each piece into this room.
 fn read_pieces<S: Source>(
     alloc: Global,
     source: &mut S,

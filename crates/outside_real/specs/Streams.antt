@@ -44,7 +44,7 @@ reads_stream {S} {F} stream_left file_left (File before) (File after) outcome bu
 reads_stream {S} {F} stream_left file_left (Standard before) (File after) outcome buf = ⊥
 reads_stream {S} {F} stream_left file_left (File before) (Standard after) outcome buf = ⊥
 
--- the same of writing
+-- an attempt at writing is one at the stream or the file that it is, of which std says this
 abbrev pub writes_stream : {S F : Type 0} → (S → Option (List ℕ)) → (F → Option (List ℕ))
     → Stream S F → Stream S F → Result ℕ Error → List ℕ → Type 0
 writes_stream {S} {F} stream_holds file_holds (Standard before) (Standard after) outcome piece =

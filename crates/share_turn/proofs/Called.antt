@@ -6,9 +6,9 @@ use Rattle.std.specs.Option.{unwrap_or}
 use mathlib.Core.List.{IsPrefix}
 use Rattle.atomic_table.specs.Table.{Me}
 use Rattle.atomic_table.specs.Seated.{TableId}
-use Rattle.share_turn.specs.declared.known.Known.{Known}
-use Rattle.share_turn.specs.declared.known.Phase.{Phase}
-use Rattle.share_turn.specs.declared.known.Phase.TheVariants.{AtTurn}
+use Rattle.share_turn.specs.declared.seat_view.SeatView.{SeatView}
+use Rattle.share_turn.specs.declared.seat_view.Phase.{Phase}
+use Rattle.share_turn.specs.declared.seat_view.Phase.TheVariants.{AtTurn}
 use Rattle.share_turn.specs.Entries.{Each, own, Behind, Keeps, Claims}
 use Rattle.share_turn.specs.Steps.{at_phase, at_front, IsOut, IsAlone}
 use Rattle.share_turn.specs.Public.{added, sitting, numbers, Came}
@@ -23,7 +23,7 @@ module _ {A F E : Type 0} where
 
 module _ {O E T A F : Type 0} (setup_of : O → T) (history_of : O → List (ℕ × E))
     (right : T → List (ℕ × E) → ℕ → E → Result A F → Type 0) where
-  pub came : (table : TableId) (k d : Known E T) (p : Phase) (m : Me (Option O) (Known E T))
+  pub came : (table : TableId) (k d : SeatView E T) (p : Phase) (m : Me (Option O) (SeatView E T))
       (t who : ℕ) (setup : T) (obj obj' : O) (event : E) (outcome : Result A F)
       (front : List (ℕ × E))
       → d ≡ at_phase p k → IsOut setup_of history_of t d m → m.1 ≡ (0, Some obj) ∷ []
@@ -35,10 +35,10 @@ module _ {O E T A F : Type 0} (setup_of : O → T) (history_of : O → List (ℕ
   came table k d p m t who setup obj obj' event outcome front waits out held is me told ok err seen
       =
       let out' : IsOut setup_of history_of t (at_phase p k) m = subst
-      (λ (z : Known E T). IsOut setup_of history_of t z m) waits out in
+      (λ (z : SeatView E T). IsOut setup_of history_of t z m) waits out in
       let o : O = out'.0 in
       let same : o ≡ obj = ap (λ (c : List (ℕ × Option O)). unwrap_or (get_or c 0 (0, Some o)).1 o)
-      (sym (ap (λ (z : Me (Option O) (Known E T)). z.1) out'.1) ∙ held) in
+      (sym (ap (λ (z : Me (Option O) (SeatView E T)). z.1) out'.1) ∙ held) in
       let set : setup_of obj ≡ setup = sym (ap setup_of same)
       ∙ ap (λ (l : List T). get_or l 0 setup) (sym out'.2 ∙ is) in (
         history_of obj,
@@ -52,7 +52,7 @@ module _ {O E T A F : Type 0} (setup_of : O → T) (history_of : O → List (ℕ
 
 module _ {O E T : Type 0} (setup_of : O → T) (history_of : O → List (ℕ × E)) where
   -- the object that is out with a seat that is alone
-  pub closes : (table : TableId) (k d : Known E T) (p : Phase) (m : Me (Option O) (Known E T))
+  pub closes : (table : TableId) (k d : SeatView E T) (p : Phase) (m : Me (Option O) (SeatView E T))
       (t : ℕ) (obj : O)
       → d ≡ at_phase p k → IsOut setup_of history_of t d m → m.1 ≡ (0, Some obj) ∷ [] → IsAlone m.0
       → Each (Keeps (history_of obj)) (numbers (sitting table k))
@@ -60,14 +60,14 @@ module _ {O E T : Type 0} (setup_of : O → T) (history_of : O → List (ℕ × 
   closes table k d p m t obj waits out held alone =
       let ps : List (ℕ × List (ℕ × E)) = numbers (sitting table k) in
       let out' : IsOut setup_of history_of t (at_phase p k) m = subst
-      (λ (z : Known E T). IsOut setup_of history_of t z m) waits out in
+      (λ (z : SeatView E T). IsOut setup_of history_of t z m) waits out in
       let o : O = out'.0 in
       let same : o ≡ obj = ap (λ (c : List (ℕ × Option O)). unwrap_or (get_or c 0 (0, Some o)).1 o)
-      (sym (ap (λ (z : Me (Option O) (Known E T)). z.1) out'.1) ∙ held) in
-      let told = subst (λ (z : Me (Option O) (Known E T)). Each (Behind z.0.front)
+      (sym (ap (λ (z : Me (Option O) (SeatView E T)). z.1) out'.1) ∙ held) in
+      let told = subst (λ (z : Me (Option O) (SeatView E T)). Each (Behind z.0.front)
       ((z.0.number, z.0.before) ∷ z.0.ended)) out'.1 out'.4 in
       let alone' : IsAlone (at_front (AtTurn t) (history_of o) k) = subst
-      (λ (z : Me (Option O) (Known E T)). IsAlone z.0) out'.1 alone in
+      (λ (z : Me (Option O) (SeatView E T)). IsAlone z.0) out'.1 alone in
       subst (λ (z : O). Each (Keeps (history_of z)) ps
       × Each (λ (e : ℕ × E). Claims ps e.0) (history_of z)) same
       (each_keeps (history_of o) ps (out'.3, told.1), alone'.1)

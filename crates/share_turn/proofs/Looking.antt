@@ -7,15 +7,15 @@ use mathlib.Core.Logic.{dite}
 use native.Mathlib.Decide.{ℕ_discrete}
 use Rattle.atomic_table.specs.Table.{State, Me, step, Act, keeps, Valid, homes_after, carried_after}
 use Rattle.atomic_table.specs.Table.{Allows}
-use Rattle.share_turn.specs.declared.known.Known.{Known}
-use Rattle.share_turn.specs.declared.known.Phase.{Phase}
-use Rattle.share_turn.specs.declared.known.Phase.TheVariants.{Idle, Holding, Waiting, Reached}
-use Rattle.share_turn.specs.declared.known.Phase.TheVariants.{AtTurn, Returned, Spent}
+use Rattle.share_turn.specs.declared.seat_view.SeatView.{SeatView}
+use Rattle.share_turn.specs.declared.seat_view.Phase.{Phase}
+use Rattle.share_turn.specs.declared.seat_view.Phase.TheVariants.{Idle, Holding, Waiting, Reached}
+use Rattle.share_turn.specs.declared.seat_view.Phase.TheVariants.{AtTurn, Returned, Spent}
 use Rattle.share_turn.specs.Entries.{Each, Behind, Claims, AllDiffer}
 use Rattle.share_turn.specs.Turns.{claimed, Stands, IsKept}
 use Rattle.share_turn.specs.Steps.{read_number}
 use Rattle.share_turn.proofs.Owned.{each_map}
-use Rattle.share_turn.proofs.Views.{fits_at, stays}
+use Rattle.share_turn.proofs.Views.{fits_at, stays, LeadsTo}
 
 module _ {E : Type 0} where
   abbrev Below : ℕ → (ℕ × List (ℕ × E)) → Type 0
@@ -87,7 +87,7 @@ module _ {E : Type 0} where
 
 module _ {O E T : Type 0} (setup_of : O → T) (history_of : O → List (ℕ × E)) (setup : T) where
   abbrev K : Type 0
-  K = Known E T
+  K = SeatView E T
 
   abbrev M : Type 0
   M = Me (Option O) K
@@ -101,13 +101,9 @@ module _ {O E T : Type 0} (setup_of : O → T) (history_of : O → List (ℕ × 
       let k : K = me.0 in
       let f = r.each_seat id k at in
       let ps : List (ℕ × List (ℕ × E)) = (k.number, k.before) ∷ k.ended in
-      let Goal : List ℕ → Type 0 = λ ws. (v : K) × (a : Act (Option O)) × Valid s.homes me.1 a
-      × Rule record {
-        words = set ws 2 (get_or ws 2 0);
-        homes = homes_after s.homes me.1 a;
-        views = set s.views id v;
-      }
-      × read_number (step slots 2 0 0 none) me (get_or ws 2 0) (v, carried_after me.1 a) in
+      let Goal : List ℕ → Type 0 = λ ws. LeadsTo setup_of history_of setup s.views id
+      (set ws 2 (get_or ws 2 0)) s.homes me.1
+      (read_number (step slots 2 0 0 none) me (get_or ws 2 0)) in
       subst Goal (sym r.words) (
         k,
         keeps,

@@ -10,27 +10,27 @@ use lib.ListN.{get_elem?}
 use Rattle.atomic_table.specs.Table.{State, Me, step, Act, keeps, Valid, homes_after}
 use Rattle.atomic_table.specs.Table.{carried_after, Allows, Splits, Joins}
 use Rattle.atomic_table.proofs.Lists.{exchanged, set_else, at_snoc, at_longer, at_set}
-use Rattle.share_turn.specs.declared.known.Known.{Known}
-use Rattle.share_turn.specs.declared.known.Phase.{Phase}
-use Rattle.share_turn.specs.declared.known.Phase.TheVariants.{Idle, Holding}
-use Rattle.share_turn.specs.declared.known.Phase.TheVariants.{AtTurn, Spent}
+use Rattle.share_turn.specs.declared.seat_view.SeatView.{SeatView}
+use Rattle.share_turn.specs.declared.seat_view.Phase.{Phase}
+use Rattle.share_turn.specs.declared.seat_view.Phase.TheVariants.{Idle, Holding}
+use Rattle.share_turn.specs.declared.seat_view.Phase.TheVariants.{AtTurn, Spent}
 use Rattle.share_turn.specs.Entries.{own, Claims, AllDiffer}
 use Rattle.share_turn.specs.Turns.{claims, Stands, Fits, Apart, IsKept}
 use Rattle.share_turn.specs.Steps.{at_phase, fresh, drawn, spent, longer, joined, drew_number}
 use Rattle.share_turn.proofs.Owned.{each_map, each_append, stands_on, below, fresh_none, none_both}
 use Rattle.share_turn.proofs.Views.{seats, pairs, apart_sym, fits_at, apart_at, place_stays}
-use Rattle.share_turn.proofs.Views.{changes, stays}
+use Rattle.share_turn.proofs.Views.{changes, stays, LeadsTo}
 
 module _ {E T : Type 0} where
   -- another view comes behind the others
-  seats_snoc : (F : Known E T → Type 0) (vs : List (Known E T)) (w : Known E T) → F w
-      → ((j : ℕ) (k : Known E T) → get_elem? vs j ≡ some k → F k) → (j : ℕ) (k : Known E T)
+  seats_snoc : (F : SeatView E T → Type 0) (vs : List (SeatView E T)) (w : SeatView E T) → F w
+      → ((j : ℕ) (k : SeatView E T) → get_elem? vs j ≡ some k → F k) → (j : ℕ) (k : SeatView E T)
       → get_elem? (vs ++ w ∷ []) j ≡ some k → F k
   seats_snoc F vs w mine others j k e = ⊎_elim (others j k) (λ (t : w ≡ k). subst F t mine)
       (at_snoc vs w k j e)
 
   -- where it stands among the others, or as the last one
-  snoc_at : (vs : List (Known E T)) (w k : Known E T) (j : ℕ) → get_elem? (vs ++ w ∷ []) j ≡ some k
+  snoc_at : (vs : List (SeatView E T)) (w k : SeatView E T) (j : ℕ) → get_elem? (vs ++ w ∷ []) j ≡ some k
       → (get_elem? vs j ≡ some k) ⊎ ((j ≡ length vs) × (w ≡ k))
   snoc_at [] w k zero e = inr (refl, some-injective w k e)
   snoc_at [] w k (suc j) e = absurd (cc e)
@@ -38,18 +38,18 @@ module _ {E T : Type 0} where
   snoc_at (v ∷ vs) w k (suc j) e = ⊎_elim inl (λ (t : (j ≡ length vs) × (w ≡ k)). inr
       (ap suc t.0, t.1)) (snoc_at vs w k j e)
 
-  pairs_snoc : (vs : List (Known E T)) (w : Known E T)
-      → ((j : ℕ) (l : Known E T) → get_elem? vs j ≡ some l → Apart w l)
-      → ((i j : ℕ) (k l : Known E T) → i ≢ j → get_elem? vs i ≡ some k → get_elem? vs j ≡ some l
+  pairs_snoc : (vs : List (SeatView E T)) (w : SeatView E T)
+      → ((j : ℕ) (l : SeatView E T) → get_elem? vs j ≡ some l → Apart w l)
+      → ((i j : ℕ) (k l : SeatView E T) → i ≢ j → get_elem? vs i ≡ some k → get_elem? vs j ≡ some l
       → Apart k l)
-      → (i j : ℕ) (k l : Known E T) → i ≢ j → get_elem? (vs ++ w ∷ []) i ≡ some k
+      → (i j : ℕ) (k l : SeatView E T) → i ≢ j → get_elem? (vs ++ w ∷ []) i ≡ some k
       → get_elem? (vs ++ w ∷ []) j ≡ some l → Apart k l
   pairs_snoc vs w mine all i j k l ne a b = ⊎_elim
       (λ (t : get_elem? vs i ≡ some k). ⊎_elim (λ (u : get_elem? vs j ≡ some l). all i j k l ne t u)
       (λ (u : (j ≡ length vs) × (w ≡ l)). apart_sym l k
-      (subst (λ (z : Known E T). Apart z k) u.1 (mine i k t))) (snoc_at vs w l j b))
+      (subst (λ (z : SeatView E T). Apart z k) u.1 (mine i k t))) (snoc_at vs w l j b))
       (λ (t : (i ≡ length vs) × (w ≡ k)). ⊎_elim
-      (λ (u : get_elem? vs j ≡ some l). subst (λ (z : Known E T). Apart z l) t.1 (mine j l u))
+      (λ (u : get_elem? vs j ≡ some l). subst (λ (z : SeatView E T). Apart z l) t.1 (mine j l u))
       (λ (u : (j ≡ length vs) × (w ≡ l)). absurd (ne (t.0 ∙ sym u.0))) (snoc_at vs w l j b))
       (snoc_at vs w k i a)
 
@@ -102,7 +102,7 @@ set_swap (x ∷ xs) (suc i) (suc j) a b ne = ap (λ l. x ∷ l)
 
 module _ {O E T : Type 0} (setup_of : O → T) (history_of : O → List (ℕ × E)) (setup : T) where
   abbrev K : Type 0
-  K = Known E T
+  K = SeatView E T
 
   abbrev M : Type 0
   M = Me (Option O) K
@@ -120,14 +120,8 @@ module _ {O E T : Type 0} (setup_of : O → T) (history_of : O → List (ℕ × 
       let k : K = me.0 in
       let w : K = at_phase (Holding r.count) k in
       let f = fits_at setup r.log r.next r.turn r.count k Idle idle (r.each_seat id k at) in
-      let Goal : ℕ → List ℕ → Type 0 = λ x ws. (v : K) × (a : Act (Option O)) × Valid s.homes me.1 a
-      × Rule record {
-        words = set ws 2 x;
-        homes = homes_after s.homes me.1 a;
-        views = set
-            s.views id v;
-      }
-      × drew_number (step slots 2 t (t + 1) none) me (get_or ws 2 0) (v, carried_after me.1 a) in
+      let Goal : ℕ → List ℕ → Type 0 = λ x ws. LeadsTo setup_of history_of setup s.views id
+      (set ws 2 x) s.homes me.1 (drew_number (step slots 2 t (t + 1) none) me (get_or ws 2 0)) in
       let none_there : own r.count r.log ≡ [] = fresh_none r.count r.log r.logged in
       let two = none_both r.count k.front f.rest (ap (own r.count) f.seen ∙ none_there) in
       let alive : k.setup ≡ setup ∷ [] = ⊎_elim (λ (is : Idle ≡ Spent). absurd (cc is))

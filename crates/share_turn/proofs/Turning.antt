@@ -13,17 +13,17 @@ use lib.ListN.{get_elem?}
 use Rattle.atomic_table.specs.Table.{State, Me, step, Act, keeps, takes, gives, Valid}
 use Rattle.atomic_table.specs.Table.{homes_after, carried_after, Allows, opening}
 use Rattle.atomic_table.proofs.Lists.{exchanged, set_here}
-use Rattle.share_turn.specs.declared.known.Known.{Known}
-use Rattle.share_turn.specs.declared.known.Phase.{Phase}
-use Rattle.share_turn.specs.declared.known.Phase.TheVariants.{Idle, Waiting, Reached}
-use Rattle.share_turn.specs.declared.known.Phase.TheVariants.{AtTurn, Returned, Spent}
+use Rattle.share_turn.specs.declared.seat_view.SeatView.{SeatView}
+use Rattle.share_turn.specs.declared.seat_view.Phase.{Phase}
+use Rattle.share_turn.specs.declared.seat_view.Phase.TheVariants.{Idle, Waiting, Reached}
+use Rattle.share_turn.specs.declared.seat_view.Phase.TheVariants.{AtTurn, Returned, Spent}
 use Rattle.share_turn.specs.Entries.{Each, own, Claims}
 use Rattle.share_turn.specs.Turns.{claims, Stands, HasTicket, Fits, Apart, IsKept}
-use Rattle.share_turn.specs.Steps.{starting, at_phase, at_front, Told, drew_ticket, read_turn}
+use Rattle.share_turn.specs.Steps.{starting, at_phase, at_front, ClaimsHold, drew_ticket, read_turn}
 use Rattle.share_turn.specs.Steps.{IsOut, took_out, GoesOn, put_back, published}
 use Rattle.share_turn.proofs.Owned.{each_map, each_append, stands_on, stands_log, not_own}
 use Rattle.share_turn.proofs.Views.{at_lt, seats, pairs, fits_at, apart_at, fits_log, fits_turn}
-use Rattle.share_turn.proofs.Views.{told_of, place_stays, changes, stays}
+use Rattle.share_turn.proofs.Views.{told_of, place_stays, changes, stays, LeadsTo}
 
 only : {O : Type 0} {o : O} (hs : List (maybe.Option (Option O))) → length hs ≡ 1
     → set hs 0 (some (Some o)) ≡ some (Some o) ∷ []
@@ -33,7 +33,7 @@ only (x ∷ y ∷ hs) e = absurd (omega (arith, e))
 
 module _ {O E T : Type 0} (setup_of : O → T) (history_of : O → List (ℕ × E)) (setup : T) where
   abbrev K : Type 0
-  K = Known E T
+  K = SeatView E T
 
   abbrev M : Type 0
   M = Me (Option O) K
@@ -78,14 +78,8 @@ module _ {O E T : Type 0} (setup_of : O → T) (history_of : O → List (ℕ × 
       let k : K = me.0 in
       let w : K = at_phase (Waiting r.next) k in
       let f = fits_at setup r.log r.next r.turn r.count k Idle idle (r.each_seat id k at) in
-      let Goal : ℕ → List ℕ → Type 0 = λ x ws. (v : K) × (a : Act (Option O)) × Valid s.homes me.1 a
-      × Rule record {
-        words = set ws 0 x;
-        homes = homes_after s.homes me.1 a;
-        views = set
-            s.views id v;
-      }
-      × drew_ticket (step slots 0 t (t + 1) none) me (get_or ws 0 0) (v, carried_after me.1 a) in
+      let Goal : ℕ → List ℕ → Type 0 = λ x ws. LeadsTo setup_of history_of setup s.views id
+      (set ws 0 x) s.homes me.1 (drew_ticket (step slots 0 t (t + 1) none) me (get_or ws 0 0)) in
       subst (λ (ws : List ℕ). Goal (either (eqb (get_or ws 0 0) t) (t + 1) (get_or ws 0 0)) ws)
       (sym r.words)
       (exchanged r.next t (t + 1) (λ x. Goal x (r.next ∷ r.turn ∷ r.count ∷ []))
@@ -121,13 +115,9 @@ module _ {O E T : Type 0} (setup_of : O → T) (history_of : O → List (ℕ × 
       let k : K = me.0 in
       let f = fits_at setup r.log r.next r.turn r.count k (Waiting t) waits (r.each_seat id k at) in
       let w : K = at_phase (Reached t) k in
-      let Goal : List ℕ → Type 0 = λ ws. (v : K) × (a : Act (Option O)) × Valid s.homes me.1 a
-      × Rule record {
-        words = set ws 1 (get_or ws 1 0);
-        homes = homes_after s.homes me.1 a;
-        views = set s.views id v;
-      }
-      × read_turn (step slots 1 0 0 none) me (get_or ws 1 0) (v, carried_after me.1 a) in
+      let Goal : List ℕ → Type 0 = λ ws. LeadsTo setup_of history_of setup s.views id
+      (set ws 1 (get_or ws 1 0)) s.homes me.1
+      (read_turn (step slots 1 0 0 none) me (get_or ws 1 0)) in
       subst Goal (sym r.words) (dite (ℕ_discrete r.turn t)
       (λ e. (
         w,
@@ -165,16 +155,9 @@ module _ {O E T : Type 0} (setup_of : O → T) (history_of : O → List (ℕ × 
       let k : K = me.0 in
       let f = fits_at setup r.log r.next r.turn r.count k (Reached t) reached
       (r.each_seat id k at) in
-      let Goal : List ℕ → List (maybe.Option (Option O)) → Type 0 = λ ws hs. (v : K)
-      × (a : Act (Option O)) × Valid hs me.1 a
-      × Rule record {
-        words = set ws 1 (get_or ws 1 0);
-        homes = homes_after hs me.1 a;
-        views =
-            set s.views id v;
-      }
-      × took_out setup_of history_of (step slots 1 0 0 none) me (get_or ws 1 0)
-      (v, carried_after me.1 a) in
+      let Goal : List ℕ → List (maybe.Option (Option O)) → Type 0 = λ ws hs.
+      LeadsTo setup_of history_of setup s.views id (set ws 1 (get_or ws 1 0)) hs me.1
+      (took_out setup_of history_of (step slots 1 0 0 none) me (get_or ws 1 0)) in
       subst (λ (ws : List ℕ). Goal ws s.homes) (sym r.words) (⊎_elim
       (λ (home : (o : O) × (s.homes ≡ some (Some o) ∷ []) × (history_of o ≡ r.log)
       × (setup_of o ≡ setup)).
@@ -326,15 +309,9 @@ module _ {O E T : Type 0} (setup_of : O → T) (history_of : O → List (ℕ × 
       × (setup_of x ≡ setup)). ap length h.1)
       (λ (h : (s.homes ≡ none ∷ []) × ((j : ℕ) × (l : K) × (u : ℕ) × (get_elem? s.views j ≡ some l)
       × (l.phase ≡ AtTurn u))). ap length h.0) r.place in
-      let Goal : List ℕ → List (ℕ × Option O) → Type 0 = λ ws c. (v : K) × (a : Act (Option O))
-      × Valid s.homes c a × Rule record {
-        words = set ws 1
-            (get_or ws 1 0);
-        homes = homes_after s.homes c a;
-        views = set s.views id v;
-      }
-      × put_back setup_of history_of (step slots 1 0 0 none) (k, c) (get_or ws 1 0)
-      (v, carried_after c a) in
+      let Goal : List ℕ → List (ℕ × Option O) → Type 0 = λ ws c.
+      LeadsTo setup_of history_of setup s.views id (set ws 1 (get_or ws 1 0)) s.homes c
+      (put_back setup_of history_of (step slots 1 0 0 none) (k, c) (get_or ws 1 0)) in
       subst (λ (ws : List ℕ). Goal ws me.1) (sym r.words)
       (subst (λ (c : List (ℕ × Option O)). Goal (r.next ∷ r.turn ∷ r.count ∷ []) c) (sym out) (
         w,
@@ -346,9 +323,9 @@ module _ {O E T : Type 0} (setup_of : O → T) (history_of : O → List (ℕ × 
             let now_too : t ≡ t' = cc (turn, at_turn) in
             subst (λ (u : ℕ). let m : M = (at_front (Returned t) (history_of o) k, []) in
             let n : M = (at_front (Returned u) (history_of o') k, []) in (m ≡ n)
-            × Told w) now_too
+            × ClaimsHold w) now_too
             (subst (λ (x : O). let m : M = (at_front (Returned t) (history_of o) k, []) in
-            let n : M = (at_front (Returned t) (history_of x) k, []) in (m ≡ n) × Told w) same
+            let n : M = (at_front (Returned t) (history_of x) k, []) in (m ≡ n) × ClaimsHold w) same
             (refl, told_of setup (history_of o) r.next r.turn r.count w refl fits)),
       ))
 
@@ -371,14 +348,8 @@ module _ {O E T : Type 0} (setup_of : O → T) (history_of : O → List (ℕ × 
         differ = f.differ;
         in_turn = tt;
       } in
-      let Goal : List ℕ → Type 0 = λ ws. (v : K) × (a : Act (Option O)) × Valid s.homes me.1 a
-      × Rule record {
-        words = set ws 1 (t + 1);
-        homes = homes_after s.homes me.1 a;
-        views = set
-            s.views id v;
-      }
-      × published (step slots 1 (t + 1) 0 none) me (t + 1) (v, carried_after me.1 a) in
+      let Goal : List ℕ → Type 0 = λ ws. LeadsTo setup_of history_of setup s.views id
+      (set ws 1 (t + 1)) s.homes me.1 (published (step slots 1 (t + 1) 0 none) me (t + 1)) in
       subst Goal (sym r.words) (
         w,
         keeps,

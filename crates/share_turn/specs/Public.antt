@@ -2,11 +2,11 @@
 use Rattle.std.specs.Prelude.{◌≡◌, ℕ, List, [], ◌∷◌, ◌++◌, Result, Ok, Err}
 use Rattle.atomic_table.specs.Seated.{TableId}
 use Rattle.atomic_table.specs.declared.shared.Seat.{Seat}
-use Rattle.share_turn.specs.declared.known.Known.{Known}
+use Rattle.share_turn.specs.declared.seat_view.SeatView.{SeatView}
 use Rattle.share_turn.specs.Entries.{Keeps}
 
 -- a shared turn: which one it is, and the setup of its object
-pub record Turn (T : Type 0) : Type 0 where
+pub record SharedTurn (T : Type 0) : Type 0 where
   pub table : TableId
   pub setup : T
 
@@ -19,19 +19,19 @@ pub record Sitting (E T : Type 0) : Type 0 where
   pub front : List (ℕ × E)
   pub ended : List (ℕ × List (ℕ × E))
 
-abbrev pub turn : {T : Type 0} → TableId → T → Turn T
+abbrev pub turn : {T : Type 0} → TableId → T → SharedTurn T
 turn table setup = record { table = table; setup = setup }
 
 module _ {E T : Type 0} where
-  abbrev pub sitting : TableId → Known E T → Sitting E T
+  abbrev pub sitting : TableId → SeatView E T → Sitting E T
   sitting table k =
       record { table = table; setup = k.setup; number = k.number; front = k.front; ended = k.ended }
 
-  abbrev pub sitting_at : {S : Type 0} → Seat S (Known E T) → Sitting E T
+  abbrev pub sitting_at : {S : Type 0} → Seat S (SeatView E T) → Sitting E T
   sitting_at place = sitting place.table_id place.me.0
 
   -- the seat is one of that turn
-  abbrev pub IsOf : Turn T → Sitting E T → Type 0
+  abbrev pub IsOf : SharedTurn T → Sitting E T → Type 0
   IsOf t s = (s.table ≡ t.table) × (s.setup ≡ t.setup ∷ [])
 
   -- the seat with another front
@@ -49,8 +49,8 @@ added (Ok a) x = x ∷ []
 added (Err e) x = []
 
 module _ {E T A F : Type 0} where
-  -- A call of the seat came behind `before`, which begins with what the seat had seen and has no more
-  -- of its own. The outcome is right over it, and the front is it with what the call adds.
+  -- A call of the seat came behind `before`, which begins with what the seat had seen and has no
+  -- more of its own. The outcome is right over it, and the front is it with what the call adds.
   abbrev pub Came : (T → List (ℕ × E) → ℕ → E → Result A F → Type 0)
       → T → Sitting E T → E → Result A F → List (ℕ × E) → Type 0
   Came right setup s event outcome front = (before : List (ℕ × E))

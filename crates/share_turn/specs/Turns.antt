@@ -4,10 +4,10 @@ use Rattle.std.specs.Prelude.{◌≡◌, ◌≢◌, ◌⊎◌, ℕ, ◌<◌, ◌
 use mathlib.Core.Option.{none, some}
 use lib.ListN.{get_elem?}
 use Rattle.atomic_table.specs.Table.{State}
-use Rattle.share_turn.specs.declared.known.Known.{Known}
-use Rattle.share_turn.specs.declared.known.Phase.{Phase}
-use Rattle.share_turn.specs.declared.known.Phase.TheVariants.{Idle, Holding, Waiting, Reached}
-use Rattle.share_turn.specs.declared.known.Phase.TheVariants.{AtTurn, Returned, Spent}
+use Rattle.share_turn.specs.declared.seat_view.SeatView.{SeatView}
+use Rattle.share_turn.specs.declared.seat_view.Phase.{Phase}
+use Rattle.share_turn.specs.declared.seat_view.Phase.TheVariants.{Idle, Holding, Waiting, Reached}
+use Rattle.share_turn.specs.declared.seat_view.Phase.TheVariants.{AtTurn, Returned, Spent}
 use Rattle.share_turn.specs.Entries.{Each, own, Behind, Claims, AllDiffer}
 
 module _ {E : Type 0} where
@@ -37,7 +37,7 @@ module _ {E : Type 0} where
   InTurn next turn log front (AtTurn t) = (t ≡ turn) × (t < next) × (front ≡ log)
   InTurn next turn log front (Returned t) = (t ≡ turn) × (t < next) × (front ≡ log)
 
-abbrev pub claims : {E T : Type 0} → Known E T → List (ℕ × List (ℕ × E))
+abbrev pub claims : {E T : Type 0} → SeatView E T → List (ℕ × List (ℕ × E))
 claims k = claimed k.phase (k.number, k.before) k.ended
 
 abbrev pub HasTicket : Phase → ℕ → Type 0
@@ -51,7 +51,7 @@ HasTicket (Returned t) n = t ≡ n
 
 -- a live view and the log
 pub record Fits {E T : Type 0} (setup : T) (log : List (ℕ × E)) (next turn count : ℕ)
-    (k : Known E T) : Type 0 where
+    (k : SeatView E T) : Type 0 where
   pub setup_is : (k.phase ≡ Spent) ⊎ (k.setup ≡ setup ∷ [])
   pub rest : List (ℕ × E)
   pub seen : k.front ++ rest ≡ log
@@ -60,20 +60,20 @@ pub record Fits {E T : Type 0} (setup : T) (log : List (ℕ × E)) (next turn co
   pub in_turn : InTurn next turn log k.front k.phase
 
 -- any two views
-pub record Apart {E T : Type 0} (k l : Known E T) : Type 0 where
+pub record Apart {E T : Type 0} (k l : SeatView E T) : Type 0 where
   pub numbers : (n : ℕ) → Claims (claims k) n → Claims (claims l) n → ⊥
   pub tickets : (n : ℕ) → HasTicket k.phase n → HasTicket l.phase n → ⊥
 
 module _ {O E T : Type 0} (setup_of : O → T) (history_of : O → List (ℕ × E)) where
   -- the object is at home with the log as its history, or out with a view at the turn
-  abbrev pub IsPlaced : T → List (ℕ × E) → State (Option O) (Known E T) → Type 0
+  abbrev pub IsPlaced : T → List (ℕ × E) → State (Option O) (SeatView E T) → Type 0
   IsPlaced setup log s =
       ((o : O) × (s.homes ≡ some (Some o) ∷ []) × (history_of o ≡ log) × (setup_of o ≡ setup))
       ⊎ ((s.homes ≡ none ∷ [])
-      × ((j : ℕ) × (k : Known E T) × (t : ℕ)
+      × ((j : ℕ) × (k : SeatView E T) × (t : ℕ)
       × (get_elem? s.views j ≡ some k) × (k.phase ≡ AtTurn t)))
 
-  pub record IsKept (setup : T) (s : State (Option O) (Known E T)) : Type 0 where
+  pub record IsKept (setup : T) (s : State (Option O) (SeatView E T)) : Type 0 where
     pub next : ℕ
     pub turn : ℕ
     pub count : ℕ
@@ -82,7 +82,7 @@ module _ {O E T : Type 0} (setup_of : O → T) (history_of : O → List (ℕ × 
     pub order : turn ≤ next
     pub logged : Each (λ e. e.0 < count) log
     pub place : IsPlaced setup log s
-    pub each_seat : (j : ℕ) (k : Known E T) → get_elem? s.views j ≡ some k
+    pub each_seat : (j : ℕ) (k : SeatView E T) → get_elem? s.views j ≡ some k
         → Fits setup log next turn count k
-    pub each_pair : (i j : ℕ) (k l : Known E T) → i ≢ j
+    pub each_pair : (i j : ℕ) (k l : SeatView E T) → i ≢ j
         → get_elem? s.views i ≡ some k → get_elem? s.views j ≡ some l → Apart k l

@@ -2,10 +2,10 @@
 //! stands once.
 #![tactic(auto)]
 
-mod known;
 mod laws;
 mod object;
 mod plays;
+mod seat_view;
 mod shared;
 
 pub use laws::others_come_behind;

@@ -2,17 +2,18 @@
 ghost use Rattle.std.specs.Prelude.{◌≡◌, ◌+◌, ◌<◌, ◌^◌, ◌++◌, ◌∷◌, [], length, IfOk, Option, Some};
 ghost use mathlib.Core.List.{IsPrefix};
 ghost use Rattle.share_turn.specs.Entries.{Each, own, Keeps, Claims, AllDiffer};
-ghost use Rattle.share_turn.specs.Steps.{Told, at_phase, at_front, longer, IsOut, GoesOn, Stays};
-ghost use Rattle.share_turn.specs.Steps.{IsAlone};
+ghost use Rattle.share_turn.specs.Steps.{ClaimsHold, at_phase, at_front, longer, IsOut, GoesOn};
+ghost use Rattle.share_turn.specs.Steps.{Stays, IsAlone};
 ghost use Rattle.share_turn.specs.Public.{sitting_at, IsOf, at, numbers, added, Came};
-ghost use Rattle.share_turn.specs.declared.known.Phase.TheVariants.{Idle, Holding, Waiting, AtTurn};
+ghost use Rattle.share_turn.specs.declared.seat_view.Phase.TheVariants.{Idle, Holding, Waiting};
+ghost use Rattle.share_turn.specs.declared.seat_view.Phase.TheVariants.{AtTurn};
 
-use crate::known::Known;
 use crate::object::Object;
 use crate::plays::{
     DrawNumber, DrawTicket, JoinSeats, Law, Publish, PutBack, ReadNumber, ReadTurn, SplitSeat,
     TakeOut,
 };
+use crate::seat_view::SeatView;
 use atomic_table::Table;
 use std::alloc::{AllocError, Global};
 use std::hint;
@@ -21,7 +22,7 @@ use std::snapshot::Snapshot;
 use std::sync::Wait;
 
 /// A seat at the table.
-type Place<O> = atomic_table::Seat<Option<O>, Known<<O as Object>::Event, <O as Object>::Setup>>;
+type Place<O> = atomic_table::Seat<Option<O>, SeatView<<O as Object>::Event, <O as Object>::Setup>>;
 
 /// The word of the next ticket.
 const TICKET: usize = 0;
@@ -38,14 +39,14 @@ const LOOKS: u32 = 100;
 /// An object that threads share: each call takes its turn, and steps the object alone.
 #[derive(Drop)]
 pub struct Shared<O: Object + Drop> {
-    table: Table<Option<O>, Known<O::Event, O::Setup>, Snapshot<O>, Law<O>, Global>,
+    table: Table<Option<O>, SeatView<O::Event, O::Setup>, Snapshot<O>, Law<O>, Global>,
 }
 
 impl<O: Object + Drop> Model for Shared<O> {
-    ghost use Rattle.share_turn.specs.Public.{Turn, turn};
+    ghost use Rattle.share_turn.specs.Public.{SharedTurn, turn};
     ghost use Rattle.share_turn.specs.Steps.{IsTurnTable};
 
-    ghost Value = { Turn O.Setup };
+    ghost Value = { SharedTurn O.Setup };
 
     ghost view = { λ s. turn s.table.shared.table_id (O.setup s.table.shared.key.value) };
 
@@ -197,7 +198,7 @@ impl<O: Object + Drop> Shared<O> {
         requires who { who ≡ place.old.me.0.number }
         ensures same { Stays place.old place.new }
         ensures me { place.new.me ≡ (at_front Idle place.new.me.0.front place.old.me.0, []) }
-        ensures told { Told place.new.me.0 }
+        ensures told { ClaimsHold place.new.me.0 }
         ensures one { Came O.right self.now.setup (sitting_at place.old) event result
             place.new.me.0.front }
     {
@@ -278,7 +279,7 @@ impl<O: Object + Drop> Shared<O> {
         requires object { GoesOn O.setup O.history place.old.me.0 object }
         ensures same { Stays place.old place.new }
         ensures me { place.new.me ≡ (at_front Idle (O.history object) place.old.me.0, []) }
-        ensures told { Told place.new.me.0 }
+        ensures told { ClaimsHold place.new.me.0 }
     {
         let shared = &self.table.shared;
         shared.exchange(place, 0, Some(object));

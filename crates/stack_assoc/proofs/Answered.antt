@@ -11,13 +11,13 @@ use Rattle.stack_messages.specs.declared.expecting.Side.{Side}
 use Rattle.stack_messages.specs.declared.fault.StackFault.{StackFault}
 use Rattle.stack_wire.specs.Setups.{cut_size}
 use Rattle.stack_wire.specs.Tsdus.{connect_tsdu}
-use Rattle.stack_wire.specs.declared.setup.Setup.{Setup}
-use Rattle.stack_assoc.specs.declared.known.Known.{Known}
-use Rattle.stack_assoc.specs.declared.standing.Standing.{Standing}
+use Rattle.stack_wire.specs.declared.setup.AssociationSetup.{AssociationSetup}
+use Rattle.stack_assoc.specs.declared.milestones.Milestones.{Milestones}
+use Rattle.stack_assoc.specs.declared.end_state.EndState.{EndState}
 use Rattle.stack_assoc.specs.declared.taken.Opening.{Opening}
 use Rattle.stack_assoc.specs.declared.taken.Opening.TheVariants as openings
 use Rattle.stack_assoc.specs.Fronts.{StartsWith}
-use Rattle.stack_assoc.specs.Told.{Told, Role, called, calling, side_of, end_of}
+use Rattle.stack_assoc.specs.Arrivals.{Arrival, Role, called, calling, side_of, end_of}
 use Rattle.stack_assoc.specs.Expectations.{setup_after}
 use Rattle.stack_assoc.specs.Tellings.{TellsNext, BreaksNext, Tell, Stops}
 use Rattle.stack_assoc.specs.Handing.{answers_to}
@@ -34,30 +34,30 @@ use Rattle.stack_assoc.proofs.TurnLaws.{spelled_push}
 
 -- ---- the opening is told
 
-opening_tells : (role : Role) (before : List Told) (o : Opening)
+opening_tells : (role : Role) (before : List Arrival) (o : Opening)
     → TellsNext role before (opening_told o) (opening_seen o)
 opening_tells role before (openings.Request r) = refl
 opening_tells role before (openings.Confirm c) = refl
 
-pub tell_opened : (role : Role) (told : List Told) (ms : List Message) (owed : Option Opening)
+pub tell_opened : (role : Role) (told : List Arrival) (ms : List Message) (owed : Option Opening)
     → Tell role told ms → Tell role (told ++ opened owed) (ms ++ opening_listed owed)
 tell_opened role told ms None s =
-    let P : List Told → Type 0 = λ ts. Tell role ts (ms ++ []) in
+    let P : List Arrival → Type 0 = λ ts. Tell role ts (ms ++ []) in
     let Q : List Message → Type 0 = λ xs. Tell role told xs in
     subst P (sym (append-nil told)) (subst Q (sym (append-nil ms)) s)
 tell_opened role told ms (Some o) s =
     spelled_push (TellsNext role) [] told (opening_told o) ms (opening_seen o) s
     (opening_tells role ([] ++ told) o)
 
-knows_nil : (role : Role) (told : List Told) (k : Known) → Knows role told k
+knows_nil : (role : Role) (told : List Arrival) (k : Milestones) → Knows role told k
     → Knows role (told ++ []) k
-knows_nil role told k s = let P : List Told → Type 0 = λ ts. Knows role ts k in
+knows_nil role told k s = let P : List Arrival → Type 0 = λ ts. Knows role ts k in
     subst P (sym (append-nil told)) s
 
 abbrev pub answered : Course → Course
 answered v = record v { owed = None }
 
-pub answered_stands : (role : Role) (octets : List ℕ) (told : List Told) (v : Course)
+pub answered_stands : (role : Role) (octets : List ℕ) (told : List Arrival) (v : Course)
     → v.fault ≡ None → Stands role octets told v
     → Stands role octets (told ++ opened v.owed) (answered v)
 answered_stands role octets told v none s =
@@ -78,7 +78,7 @@ answered_stands role octets told v none s =
 
 -- ---- and answered
 
-nothing_told : (role : Role) (told : List Told) (ms : List Message) → ms ≡ [] → Tell role told ms
+nothing_told : (role : Role) (told : List Arrival) (ms : List Message) → ms ≡ [] → Tell role told ms
     → told ≡ []
 nothing_told role [] ms e s = refl
 nothing_told role (t ∷ told) [] e s = absurd s
@@ -98,15 +98,15 @@ abbrev opening_size : Opening → Option ℕ
 opening_size (openings.Request r) = r.parameters.size
 opening_size (openings.Confirm c) = c.parameters.size
 
-first_size : (told : List Told) (o : Opening) (s : Setup) → told ≡ []
+first_size : (told : List Arrival) (o : Opening) (s : AssociationSetup) → told ≡ []
     → s ≡ setup_after (told ++ opening_told o ∷ []) → s.size ≡ cut_size (opening_size o)
-first_size [] (openings.Request r) s e is = ap (λ (x : Setup). x.size) is
-first_size [] (openings.Confirm c) s e is = ap (λ (x : Setup). x.size) is
+first_size [] (openings.Request r) s e is = ap (λ (x : AssociationSetup). x.size) is
+first_size [] (openings.Confirm c) s e is = ap (λ (x : AssociationSetup). x.size) is
 first_size (t ∷ told) o s e is = absurd cc
 
 -- before an opening that is owed an answer nothing was told
-owed_size : (role : Role) (octets : List ℕ) (told : List Told) (ms : List Message)
-    (owed : Option Opening) (held : Option Message) (line : Line) (s : Setup) (o : Opening)
+owed_size : (role : Role) (octets : List ℕ) (told : List Arrival) (ms : List Message)
+    (owed : Option Opening) (held : Option Message) (line : Line) (s : AssociationSetup) (o : Opening)
     → owed ≡ Some o → Tell role told ms
     → lines.Stands (end_of role) octets (ms ++ (opening_listed owed ++ listed held)) line
     → s ≡ setup_after (told ++ opened owed) → s.size ≡ cut_size (opening_size o)
@@ -142,7 +142,7 @@ answers_by (calling own said) (Some (openings.Confirm c)) side size title e t si
     ∙ ap (λ (n : ℕ). wire n (connect_tsdu own)) (sized (openings.Confirm c) refl)
     ∙ sym (append-nil (wire (cut_size c.parameters.size) (connect_tsdu own)))
 
-pub answers_owed : (role : Role) (octets : List ℕ) (told : List Told) (v : Course)
+pub answers_owed : (role : Role) (octets : List ℕ) (told : List Arrival) (v : Course)
     → v.fault ≡ None → Stands role octets told v
     → owed_octets v.known.side v.owed v.setup.size v.title ≡ answers_to role (opened v.owed)
 answers_owed role octets told v none s =
@@ -170,7 +170,7 @@ message_placed ms (Some n) m e = ap (λ (x : Message). ms ++ x ∷ []) (some_mes
     ∙ sym (append-nil (ms ++ m ∷ []))
 
 -- with this message told
-abbrev pub told_one : Told → Standing → Course → Course
+abbrev pub told_one : Arrival → EndState → Course → Course
 told_one t standing v = record v {
   held = None;
   known = known_with v.known t;
@@ -178,8 +178,8 @@ told_one t standing v = record v {
   standing = standing;
 }
 
-pub told_stands : (role : Role) (octets : List ℕ) (told : List Told) (v : Course) (t : Told)
-    (m : Message) (standing : Standing) → v.fault ≡ None → Stands role octets told (answered v)
+pub told_stands : (role : Role) (octets : List ℕ) (told : List Arrival) (v : Course) (t : Arrival)
+    (m : Message) (standing : EndState) → v.fault ≡ None → Stands role octets told (answered v)
     → v.held ≡ Some m → TellsNext role told t m
     → Stands role octets (told ++ t ∷ []) (told_one t standing (answered v))
 told_stands role octets told v t m standing none s is tells =
@@ -202,7 +202,7 @@ told_stands role octets told v t m standing none s is tells =
     }
 
 -- a message that breaks a rule
-pub broken_stops : (role : Role) (octets : List ℕ) (told : List Told) (v : Course) (m : Message)
+pub broken_stops : (role : Role) (octets : List ℕ) (told : List Arrival) (v : Course) (m : Message)
     (f : StackFault) → v.fault ≡ None → Stands role octets told (answered v) → v.held ≡ Some m
     → BreaksNext role told m f → Stops role octets told f
 broken_stops role octets told v m f none s is breaks =
@@ -219,7 +219,7 @@ broken_stops role octets told v m f none s is breaks =
     })
 
 -- with a rule broken
-pub stopped_stands : (role : Role) (octets : List ℕ) (told : List Told) (v : Course)
+pub stopped_stands : (role : Role) (octets : List ℕ) (told : List Arrival) (v : Course)
     (held : Option Message) (f : StackFault) → Stands role octets told (answered v)
     → Stops role octets told f
     → Stands role octets told (record (answered v) { held = held; fault = Some f })

@@ -9,11 +9,11 @@ use Rattle.stack_messages.specs.declared.expecting.Expecting.{Expecting}
 use Rattle.stack_messages.specs.declared.expecting.Phase.{Phase}
 use Rattle.stack_messages.specs.declared.expecting.Side.{Side}
 use Rattle.stack_messages.specs.declared.heard.Connecting.{Connecting}
-use Rattle.stack_wire.specs.declared.setup.Setup.{Setup}
-use Rattle.stack_assoc.specs.declared.known.Known.{Known}
-use Rattle.stack_assoc.specs.Told.{Told, Role, called, calling, side_of, or_else, first_in, size_in}
-use Rattle.stack_assoc.specs.Told.{confirm_in, connect_in, accept_in, is_refuse, is_conclude}
-use Rattle.stack_assoc.specs.Told.{is_concluded}
+use Rattle.stack_wire.specs.declared.setup.AssociationSetup.{AssociationSetup}
+use Rattle.stack_assoc.specs.declared.milestones.Milestones.{Milestones}
+use Rattle.stack_assoc.specs.Arrivals.{Arrival, Role, called, calling, side_of, or_else, first_in, size_in}
+use Rattle.stack_assoc.specs.Arrivals.{confirm_in, connect_in, accept_in, is_refuse, is_conclude}
+use Rattle.stack_assoc.specs.Arrivals.{is_concluded}
 use Rattle.stack_assoc.specs.Expectations.{setup_by, size_by, setup_after, phase_after}
 use Rattle.stack_assoc.specs.Expectations.{awaited_after, expecting_after}
 use Rattle.stack_assoc.specs.Knowing.{Knows, known_with, sized_by, fixed_by, setup_with}
@@ -73,7 +73,7 @@ is_any_push : {A : Type 0} (p : A → Bool) (xs : List A) (x : A) (b : Bool) →
     → (p x || b) ≡ list_any p (xs ++ x ∷ [])
 is_any_push p xs x b e = ap (λ (c : Bool). p x || c) e ∙ sym (any_push p xs x)
 
-pub knows_more : (role : Role) (told : List Told) (k : Known) (t : Told) → Knows role told k
+pub knows_more : (role : Role) (told : List Arrival) (k : Milestones) (t : Arrival) → Knows role told k
     → Knows role (told ++ t ∷ []) (known_with k t)
 knows_more role told k t s = record {
   side = s.side;
@@ -108,7 +108,7 @@ fixed_more (Some m) (Some e) None (Some d) = refl
 fixed_more (Some m) (Some e) (Some n) None = refl
 fixed_more (Some m) (Some e) (Some n) (Some d) = refl
 
-pub setup_more : (role : Role) (told : List Told) (k : Known) (s : Setup) (t : Told)
+pub setup_more : (role : Role) (told : List Arrival) (k : Milestones) (s : AssociationSetup) (t : Arrival)
     → Knows role told k → s ≡ setup_after told → setup_with k s t ≡ setup_after (told ++ t ∷ [])
 setup_more role told k s t knows is =
     let size = size_in t in
@@ -116,7 +116,7 @@ setup_more role told k s t knows is =
     ap (λ (b : Bool). sized_by size b (fixed_by connect k.connected s)) knows.begun
     ∙ ap (λ (b : Bool). sized_by size (is_some (first_in size_in told)) (fixed_by connect b s))
     knows.connected
-    ∙ ap (λ (x : Setup). sized_by size (is_some (first_in size_in told))
+    ∙ ap (λ (x : AssociationSetup). sized_by size (is_some (first_in size_in told))
     (fixed_by connect (is_some (first_in connect_in told)) x)) is
     ∙ fixed_more (first_in size_in told) (first_in connect_in told) size connect
     ∙ ap (λ (o : Option (Option ℕ)). setup_by (size_by o) (or_else (first_in connect_in told) connect))
@@ -124,7 +124,7 @@ setup_more role told k s t knows is =
     ∙ ap (λ (o : Option Connecting). setup_by (size_by (first_in size_in (told ++ t ∷ []))) o)
     (sym (first_push connect_in told t))
 
-pub since_more : (role : Role) (told later : List Told) → IsSince role told
+pub since_more : (role : Role) (told later : List Arrival) → IsSince role told
     → IsSince role (told ++ later)
 since_more called told later s = tt
 since_more (calling title None) told later s = tt
@@ -141,7 +141,7 @@ expected_with side phase acse mms awaited = record {
   awaited = awaited;
 }
 
-phase_known : (role : Role) (told : List Told) (k : Known) → Knows role told k
+phase_known : (role : Role) (told : List Arrival) (k : Milestones) → Knows role told k
     → phase_by k.side k ≡ phase_after role told
 phase_known called told k s = ap (λ (side : Side). phase_by side k) s.side
     ∙ ap (λ (b : Bool). called_phase b k.concluding) s.connected
@@ -155,7 +155,7 @@ phase_known (calling title said) told k s = ap (λ (side : Side). phase_by side 
     ∙ ap (λ (b : Bool). calling_phase (is_some (first_in confirm_in told))
     (list_any is_refuse told) (is_some (first_in accept_in told)) b) s.concluded
 
-awaited_known : (role : Role) (told : List Told) (k : Known) → Knows role told k
+awaited_known : (role : Role) (told : List Arrival) (k : Milestones) → Knows role told k
     → IsSince role told → (k.said && not k.concluded) ≡ awaited_after role told
 awaited_known called told k s since = ap (λ (b : Bool). b && not k.concluded) s.said
 awaited_known (calling title None) told k s since = ap (λ (b : Bool). b && not k.concluded) s.said
@@ -164,7 +164,7 @@ awaited_known (calling title (Some n)) told k s since =
     ∙ ap (λ (b : Bool). not b) s.concluded
     ∙ ap (λ (b : Bool). b && not (list_any is_concluded told)) (sym (le-leb n (length told) since))
 
-pub expecting_known : (role : Role) (told : List Told) (k : Known) (s : Setup)
+pub expecting_known : (role : Role) (told : List Arrival) (k : Milestones) (s : AssociationSetup)
     → Knows role told k → IsSince role told → s ≡ setup_after told
     → expecting_by k s.acse s.mms ≡ expecting_after role told
 expecting_known role told k s knows since is =
@@ -172,7 +172,7 @@ expecting_known role told k s knows since is =
     knows.side
     ∙ ap (λ (x : Phase). expected_with (side_of role) x s.acse s.mms (k.said && not k.concluded))
     (phase_known role told k knows)
-    ∙ ap (λ (x : Setup). expected_with (side_of role) (phase_after role told) x.acse x.mms
+    ∙ ap (λ (x : AssociationSetup). expected_with (side_of role) (phase_after role told) x.acse x.mms
     (k.said && not k.concluded)) is
     ∙ ap (λ (x : Bool). expected_with (side_of role) (phase_after role told)
     (setup_after told).acse (setup_after told).mms x) (awaited_known role told k knows since)

@@ -10,16 +10,16 @@ use Rattle.stack_messages.specs.declared.expecting.Expecting.{Expecting}
 use Rattle.stack_messages.specs.declared.fault.StackFault.{StackFault}
 use Rattle.stack_messages.specs.declared.heard.Heard.{Heard}
 use Rattle.stack_messages.specs.Messages.{message}
-use Rattle.stack_assoc.specs.declared.standing.Standing.{Standing}
-use Rattle.stack_assoc.specs.declared.standing.Standing.TheVariants as standings
+use Rattle.stack_assoc.specs.declared.end_state.EndState.{EndState}
+use Rattle.stack_assoc.specs.declared.end_state.EndState.TheVariants as standings
 use Rattle.stack_assoc.specs.declared.taken.Opening.{Opening}
 use Rattle.stack_assoc.specs.declared.taken.Opening.TheVariants as openings
 use Rattle.stack_assoc.specs.declared.taken.Came.{Came}
 use Rattle.stack_assoc.specs.declared.taken.Came.TheVariants as cames
 use Rattle.stack_assoc.specs.declared.taken.Said.{Said}
 use Rattle.stack_assoc.specs.declared.taken.Said.TheVariants as saids
-use Rattle.stack_assoc.specs.Told.{Told, heard, Role, called, calling, end_of}
-use Rattle.stack_assoc.specs.Told as tellings
+use Rattle.stack_assoc.specs.Arrivals.{Arrival, heard, Role, called, calling, end_of}
+use Rattle.stack_assoc.specs.Arrivals as tellings
 use Rattle.stack_assoc.specs.Expectations.{expecting_after, setup_after}
 use Rattle.stack_assoc.specs.Tellings.{TellsNext, Tells, Stops}
 use Rattle.stack_assoc.specs.Handing.{handed_out, answer_to, answers_to}
@@ -33,7 +33,7 @@ use Rattle.stack_assoc.proofs.Answered.{tell_opened, answered, answered_stands, 
 use Rattle.stack_assoc.proofs.Answered.{told_stands, broken_stops, stopped_stands}
 
 -- what goes before a message: it came in this call, and is owed an answer
-pub record Before (role : Role) (octets : List ℕ) (told : List Told) (old v : Course)
+pub record Before (role : Role) (octets : List ℕ) (told : List Arrival) (old v : Course)
     (out written : List ℕ) : Type 0 where
   pub clear : v.fault ≡ None
   pub stands : Stands role octets told v
@@ -41,12 +41,12 @@ pub record Before (role : Role) (octets : List ℕ) (told : List Told) (old v : 
   pub free : is_offered old.standing ≡ false
   pub answered : written ≡ out ++ owed_octets v.known.side v.owed v.setup.size v.title
 
-standing_opened : (s : Standing) (owed : Option Opening) → standing_behind s (opened owed) ≡ s
+standing_opened : (s : EndState) (owed : Option Opening) → standing_behind s (opened owed) ≡ s
 standing_opened s None = refl
 standing_opened s (Some (openings.Request r)) = refl
 standing_opened s (Some (openings.Confirm c)) = refl
 
-standing_one : (s : Standing) (owed : Option Opening) (t : Told)
+standing_one : (s : EndState) (owed : Option Opening) (t : Arrival)
     → standing_behind s (opened owed ++ t ∷ []) ≡ standing_with s t
 standing_one s None t = refl
 standing_one s (Some (openings.Request r)) t = refl
@@ -57,14 +57,14 @@ nothing_handed None = refl
 nothing_handed (Some (openings.Request r)) = refl
 nothing_handed (Some (openings.Confirm c)) = refl
 
-one_handed : (owed : Option Opening) (t : Told)
+one_handed : (owed : Option Opening) (t : Arrival)
     → handed_out (opened owed ++ t ∷ []) ≡ handed_out (t ∷ [])
 one_handed None t = refl
 one_handed (Some (openings.Request r)) t = refl
 one_handed (Some (openings.Confirm c)) t = refl
 
 -- a message behind the opening isn't answered at once
-abbrev IsQuiet : Told → Type 0
+abbrev IsQuiet : Arrival → Type 0
 IsQuiet t = (role : Role) → answer_to role t ≡ []
 
 quiet_heard : (h : Heard) → IsQuiet (heard h)
@@ -75,14 +75,14 @@ quiet_gone : IsQuiet tellings.gone
 quiet_gone called = refl
 quiet_gone (calling title said) = refl
 
-answers_quiet : (role : Role) (owed : Option Opening) (t : Told) → IsQuiet t
+answers_quiet : (role : Role) (owed : Option Opening) (t : Arrival) → IsQuiet t
     → answers_to role (opened owed ++ t ∷ []) ≡ answers_to role (opened owed)
 answers_quiet role None t quiet = ap (λ (os : List ℕ). os ++ []) (quiet role)
 answers_quiet role (Some o) t quiet =
     ap (λ (os : List ℕ). answer_to role (opening_told o) ++ (os ++ [])) (quiet role)
 
 -- the opening alone
-goes_opened : (role : Role) (octets : List ℕ) (told : List Told) (old v : Course)
+goes_opened : (role : Role) (octets : List ℕ) (told : List Arrival) (old v : Course)
     (out written : List ℕ) → Before role octets told old v out written
     → Goes role octets told (opened v.owed) old out (answered v) written
 goes_opened role octets told old v out written b = record {
@@ -93,20 +93,20 @@ goes_opened role octets told old v out written b = record {
 }
 
 -- and a message
-goes_one : (role : Role) (octets : List ℕ) (told : List Told) (old v : Course) (t : Told)
-    (m : Message) (standing : Standing) (out written : List ℕ)
+goes_one : (role : Role) (octets : List ℕ) (told : List Arrival) (old v : Course) (t : Arrival)
+    (m : Message) (standing : EndState) (out written : List ℕ)
     → Before role octets told old v out written → IsQuiet t → v.held ≡ Some m
     → TellsNext role (told ++ opened v.owed) t m → standing ≡ standing_with v.standing t
     → Goes role octets told (opened v.owed ++ t ∷ []) old out (told_one t standing (answered v))
     written
 goes_one role octets told old v t m standing out written b quiet is tells stood =
     let w = told_one t standing (answered v) in
-    let P : List Told → Type 0 = λ ts. Stands role octets ts w in
+    let P : List Arrival → Type 0 = λ ts. Stands role octets ts w in
     record {
       stands = subst P (append_assoc told (opened v.owed) (t ∷ []))
           (told_stands role octets (told ++ opened v.owed) v t m standing b.clear
           (answered_stands role octets told v b.clear b.stands) is tells);
-      standing = stood ∙ ap (λ (s : Standing). standing_with s t) b.standing
+      standing = stood ∙ ap (λ (s : EndState). standing_with s t) b.standing
           ∙ sym (standing_one old.standing v.owed t);
       answered = b.answered ∙ ap (λ (os : List ℕ). out ++ os)
           (answers_owed role octets told v b.clear b.stands
@@ -114,14 +114,14 @@ goes_one role octets told old v t m standing out written b quiet is tells stood 
     }
 
 -- what the connect fixed is known behind it
-known_setup : (role : Role) (octets : List ℕ) (told : List Told) (v : Course) (t : Told)
-    (standing : Standing)
+known_setup : (role : Role) (octets : List ℕ) (told : List Arrival) (v : Course) (t : Arrival)
+    (standing : EndState)
     → Stands role octets (told ++ (opened v.owed ++ t ∷ [])) (told_one t standing (answered v))
     → (told_one t standing (answered v)).setup ≡ setup_after (told ++ (opened v.owed ++ t ∷ []))
 known_setup role octets told v t standing s =
     s.setup ∙ ap setup_after (append-nil (told ++ (opened v.owed ++ t ∷ [])))
 
-is_last : (told : List Told) (owed : Option Opening) (t : Told) (new : Course)
+is_last : (told : List Arrival) (owed : Option Opening) (t : Arrival) (new : Course)
     → new.setup ≡ setup_after (told ++ (opened owed ++ t ∷ []))
     → IsLast told (opened owed ++ t ∷ []) new
 is_last told owed t new setup = record {
@@ -133,14 +133,14 @@ is_last told owed t new setup = record {
 }
 
 -- what is expected of the message
-expected : (role : Role) (octets : List ℕ) (told : List Told) (old v : Course)
+expected : (role : Role) (octets : List ℕ) (told : List Arrival) (old v : Course)
     (out written : List ℕ) → Before role octets told old v out written
     → expecting_by v.known v.setup.acse v.setup.mms ≡ expecting_after role (told ++ opened v.owed)
 expected role octets told old v out written b =
     expecting_known role (told ++ opened v.owed) v.known v.setup b.stands.knows
     (since_more role told (opened v.owed) b.stands.since) b.stands.setup
 
-answers_gone : (role : Role) (octets : List ℕ) (told : List Told) (old v : Course)
+answers_gone : (role : Role) (octets : List ℕ) (told : List Arrival) (old v : Course)
     (out written : List ℕ) (came : Came) → Before role octets told old v out written
     → v.held ≡ Some gone
     → Answers role octets told old out (told_answer came saids.Gone)
@@ -155,7 +155,7 @@ answers_gone role octets told old v out written came b is =
           (known_setup role octets told v tellings.gone standings.Closed g.stands),
     )
 
-answers_heard : (role : Role) (octets : List ℕ) (told : List Told) (old v : Course)
+answers_heard : (role : Role) (octets : List ℕ) (told : List Arrival) (old v : Course)
     (out written : List ℕ) (came : Came) (h : Heard) (results : List ℕ) (place : ℕ) (os : List ℕ)
     → Before role octets told old v out written → v.held ≡ Some (tsdu place os)
     → (message (expecting_by v.known v.setup.acse v.setup.mms) os).says h
@@ -173,7 +173,7 @@ answers_heard role octets told old v out written came h results place os b is sa
           (known_setup role octets told v (heard h) s g.stands),
     )
 
-answers_broken : (role : Role) (octets : List ℕ) (told : List Told) (old v : Course)
+answers_broken : (role : Role) (octets : List ℕ) (told : List Arrival) (old v : Course)
     (out written : List ℕ) (came : Came) (f : StackFault) (place : ℕ) (os : List ℕ)
     → Before role octets told old v out written → v.held ≡ Some (tsdu place os)
     → (message (expecting_by v.known v.setup.acse v.setup.mms) os).breaks f
@@ -208,14 +208,14 @@ settled_clear : (v : Course) → v.fault ≡ None → lines.IsSettled v.line →
 settled_clear v none s = subst (λ (o : Option StackFault). MatchOption o (lines.IsSettled v.line)
     (λ f. Unit {0})) (sym none) s
 
-left_open : (role : Role) (octets : List ℕ) (told later : List Told) (old new : Course)
+left_open : (role : Role) (octets : List ℕ) (told later : List Arrival) (old new : Course)
     → is_offered old.standing ≡ false
     → ((rest : List ℕ) × Tells role octets (told ++ later) rest) × IsSettled new
     → NothingLeft role octets told later old new
 left_open role octets told later old new free left = subst (λ (x : Bool). MatchBool x (later ≡ [])
     (((rest : List ℕ) × Tells role octets (told ++ later) rest) × IsSettled new)) (sym free) left
 
-answers_nothing : (role : Role) (octets : List ℕ) (told : List Told) (old v : Course)
+answers_nothing : (role : Role) (octets : List ℕ) (told : List Arrival) (old v : Course)
     (out written : List ℕ) (came : Came) → Before role octets told old v out written
     → v.held ≡ None → LeavesOff role octets told came v → IsThere came v
     → Answers role octets told old out (told_answer came saids.Nothing)
@@ -266,7 +266,7 @@ no_nothing e gone s = s
 no_nothing e (tsdu place os) s = s
 
 -- by what is held, and what it says
-by_held : (role : Role) (octets : List ℕ) (told : List Told) (old v : Course)
+by_held : (role : Role) (octets : List ℕ) (told : List Arrival) (old v : Course)
     (out written : List ℕ) (came : Came) (said : Said) (held : Option Message)
     → Before role octets told old v out written → v.held ≡ held
     → LeavesOff role octets told came v → IsThere came v
@@ -308,7 +308,7 @@ by_held role octets told old v out written came (saids.Broken f) (Some gone) b i
 by_held role octets told old v out written came (saids.Broken f) (Some (tsdu place os)) b is leaves
     there says = answers_broken role octets told old v out written came f place os b is says
 
-pub next_right : (role : Role) (octets : List ℕ) (told : List Told) (old v : Course)
+pub next_right : (role : Role) (octets : List ℕ) (told : List Arrival) (old v : Course)
     (out written : List ℕ) (came : Came) (said : Said) → v.fault ≡ None → v.standing ≡ old.standing
     → is_offered old.standing ≡ false → Takes role octets told came v
     → written ≡ out ++ owed_octets v.known.side v.owed v.setup.size v.title
@@ -327,10 +327,10 @@ next_right role octets told old v out written came said clear stood free takes w
 
 -- ---- nothing more is taken
 
-goes_nowhere : (role : Role) (octets : List ℕ) (told : List Told) (v : Course) (out : List ℕ)
+goes_nowhere : (role : Role) (octets : List ℕ) (told : List Arrival) (v : Course) (out : List ℕ)
     → Stands role octets told v → Goes role octets told [] v out v out
 goes_nowhere role octets told v out s =
-    let P : List Told → Type 0 = λ ts. Stands role octets ts v in
+    let P : List Arrival → Type 0 = λ ts. Stands role octets ts v in
     record {
       stands = subst P (sym (append-nil told)) s;
       standing = refl;
@@ -338,20 +338,20 @@ goes_nowhere role octets told v out s =
     }
 
 -- the same fault again
-pub answers_again : (role : Role) (octets : List ℕ) (told : List Told) (v : Course)
+pub answers_again : (role : Role) (octets : List ℕ) (told : List Arrival) (v : Course)
     (out : List ℕ) (f : StackFault) → v.fault ≡ Some f → Stands role octets told v
     → Answers role octets told v out (Err f) v out
 answers_again role octets told v out f some s =
     let stops : Stops role octets told f = subst (λ (o : Option StackFault). MatchOption o
     (Reads role octets told v) (λ g. Stops role octets told g)) some s.reads in
-    let P : List Told → Type 0 = λ ts. Stops role octets ts f in
+    let P : List Arrival → Type 0 = λ ts. Stops role octets ts f in
     ([], goes_nowhere role octets told v out s, refl, subst P (sym (append-nil told)) stops)
 
-abbrev nothing_later : List Told
+abbrev nothing_later : List Arrival
 nothing_later = []
 
 -- an offer stands unanswered
-pub answers_offered : (role : Role) (octets : List ℕ) (told : List Told) (v : Course)
+pub answers_offered : (role : Role) (octets : List ℕ) (told : List Arrival) (v : Course)
     (out : List ℕ) → is_offered v.standing ≡ true → Stands role octets told v
     → Answers role octets told v out (Ok None) v out
 answers_offered role octets told v out offered s = (

@@ -10,7 +10,7 @@ use Rattle.stack_messages.specs.declared.fault.StackFault.{StackFault}
 use Rattle.stack_messages.specs.declared.heard.Heard.{Heard}
 use Rattle.stack_messages.specs.Meanings.{Meaning, HasOneMeaning}
 use Rattle.stack_messages.specs.Messages.{message}
-use Rattle.stack_assoc.specs.Told.{Told, asked, confirmed, gone, heard, Role}
+use Rattle.stack_assoc.specs.Arrivals.{Arrival, asked, confirmed, gone, heard, Role}
 use Rattle.stack_assoc.specs.Expectations.{expecting_after}
 use Rattle.stack_assoc.specs.Tellings.{TellsNext, BreaksNext}
 use Rattle.stack_assoc.proofs.TurnLaws.{OneEach}
@@ -46,10 +46,10 @@ never_both m one x f s r = elim one [
   | inr b ↦ b.0 x s
 ]
 
-abbrev TellsOrBreaks : Role → List Told → Message → Type 0
-TellsOrBreaks role b m = ((t : Told) × TellsNext role b t m) ⊎ ((f : StackFault) × BreaksNext role b m f)
+abbrev TellsOrBreaks : Role → List Arrival → Message → Type 0
+TellsOrBreaks role b m = ((t : Arrival) × TellsNext role b t m) ⊎ ((f : StackFault) × BreaksNext role b m f)
 
-each : (one : OneMeaning) (role : Role) (b : List Told) (m : Message) → TellsOrBreaks role b m
+each : (one : OneMeaning) (role : Role) (b : List Arrival) (m : Message) → TellsOrBreaks role b m
 each one role b (asks r) = inl (asked r, refl)
 each one role b (confirms c) = inl (confirmed c, refl)
 each one role b transport.gone = inl (gone, tt)
@@ -57,7 +57,7 @@ each one role b (tsdu place octets) =
     elim (said_or_broken (message (expecting_after role b) octets) (one (expecting_after role b) octets))
     [ inl s ↦ inl (heard s.0, s.1) | inr f ↦ inr f ]
 
-once : (one : OneMeaning) (role : Role) (b : List Told) (t u : Told) (m : Message)
+once : (one : OneMeaning) (role : Role) (b : List Arrival) (t u : Arrival) (m : Message)
     → TellsNext role b t m → TellsNext role b u m → t ≡ u
 once one role b (asked r) (asked q) (asks p) s v = ap (λ (x : ConnectRequest). asked x) (s ∙ sym v)
 once one role b (confirmed c) (confirmed d) (confirms e) s v =
@@ -91,7 +91,7 @@ once one role b (heard h) (asked q) (tsdu place octets) s v = absurd v
 once one role b (heard h) (confirmed d) (tsdu place octets) s v = absurd v
 once one role b (heard h) gone (tsdu place octets) s v = absurd v
 
-first : (one : OneMeaning) (role : Role) (b : List Told) (m : Message) (f g : StackFault)
+first : (one : OneMeaning) (role : Role) (b : List Arrival) (m : Message) (f g : StackFault)
     → BreaksNext role b m f → BreaksNext role b m g → f ≡ g
 first one role b (asks r) f g s v = absurd s
 first one role b (confirms c) f g s v = absurd s
@@ -99,7 +99,7 @@ first one role b transport.gone f g s v = absurd s
 first one role b (tsdu place octets) f g s v =
     broken_once (message (expecting_after role b) octets) (one (expecting_after role b) octets) f g s v
 
-never : (one : OneMeaning) (role : Role) (b : List Told) (t : Told) (m : Message) (f : StackFault)
+never : (one : OneMeaning) (role : Role) (b : List Arrival) (t : Arrival) (m : Message) (f : StackFault)
     → TellsNext role b t m → BreaksNext role b m f → ⊥
 never one role b t (asks r) f s v = v
 never one role b t (confirms c) f s v = v

@@ -9,24 +9,25 @@ use Rattle.mms_services.specs.declared.pdu.MmsPdu.{MmsPdu}
 use Rattle.stack_messages.specs.declared.expecting.Expecting.{Expecting}
 use Rattle.stack_messages.specs.Messages.{message}
 use Rattle.stack_messages.specs.declared.fault.StackFault.{StackFault}
-use Rattle.stack_assoc.specs.declared.standing.Standing.{Standing}
+use Rattle.stack_assoc.specs.declared.end_state.EndState.{EndState}
 use Rattle.stack_assoc.specs.InTurn.{SpellInTurn}
 use Rattle.tpkt_cotp.specs.declared.turn.Role as transport
 use Rattle.tpkt_cotp.specs.Lines as lines
 use Rattle.stack_messages.specs.declared.expecting.Side.{Side}
 use Rattle.stack_messages.specs.declared.expecting.Side.TheVariants as sides
 use Rattle.stack_assoc.specs.declared.input.StackState.TheVariants as states
-use Rattle.stack_assoc.specs.declared.known.Known.{Known}
-use Rattle.stack_assoc.specs.Told.{side_of, end_of}
+use Rattle.stack_assoc.specs.declared.milestones.Milestones.{Milestones}
+use Rattle.stack_assoc.specs.Arrivals.{side_of, end_of}
+use Rattle.stack_assoc.specs.Knowing.{Knows}
 use Rattle.stack_assoc.specs.Courses.{Course, taken, Reads, Stands, state_with}
 use Rattle.stack_assoc.specs.Saying.{known_concluding, known_said, is_conclude, with_said}
 use Rattle.stack_assoc.specs.Saying.{role_concluding, role_by, role_said}
-use Rattle.stack_assoc.specs.Told.{Told, asked, confirmed, heard, Role, called, calling, is_concluded}
-use Rattle.stack_assoc.specs.Told as told
+use Rattle.stack_assoc.specs.Arrivals.{Arrival, asked, confirmed, heard, Role, called, calling, is_concluded}
+use Rattle.stack_assoc.specs.Arrivals as told
 use Rattle.stack_assoc.specs.Expectations.{expecting_after, setup_after, phase_after}
 use Rattle.stack_assoc.specs.Tellings.{TellsNext, Tell, Stops}
 
-abbrev awaiting : Option (List ℕ) → List Told → Bool → Expecting
+abbrev awaiting : Option (List ℕ) → List Arrival → Bool → Expecting
 awaiting title before awaited = record {
   side = (expecting_after (calling title None) before).side;
   phase = phase_after (calling title None) before;
@@ -36,13 +37,13 @@ awaiting title before awaited = record {
 }
 
 -- before conclude was said nothing is awaited
-not_awaited : (title : Option (List ℕ)) (n : ℕ) (before : List Told) → length before < n
+not_awaited : (title : Option (List ℕ)) (n : ℕ) (before : List Arrival) → length before < n
     → expecting_after (calling title (Some n)) before ≡ expecting_after (calling title None) before
 not_awaited title n before few =
     ap (λ (b : Bool). awaiting title before (b && not (list_any is_concluded before)))
     (lt-leb n (length before) few)
 
-tells_said : (title : Option (List ℕ)) (n : ℕ) (before : List Told) (t : Told) (m : Message)
+tells_said : (title : Option (List ℕ)) (n : ℕ) (before : List Arrival) (t : Arrival) (m : Message)
     → length before < n → TellsNext (calling title None) before t m
     → TellsNext (calling title (Some n)) before t m
 tells_said title n before (asked r) (asks q) few s = s
@@ -64,7 +65,7 @@ tells_said title n before (heard h) (asks q) few s = absurd s
 tells_said title n before (heard h) (confirms d) few s = absurd s
 tells_said title n before (heard h) gone few s = absurd s
 
-in_turn_said : (title : Option (List ℕ)) (n : ℕ) (before ts : List Told) (ms : List Message)
+in_turn_said : (title : Option (List ℕ)) (n : ℕ) (before ts : List Arrival) (ms : List Message)
     → length before + length ts ≤ n → SpellInTurn (TellsNext (calling title None)) before ts ms
     → SpellInTurn (TellsNext (calling title (Some n))) before ts ms
 in_turn_said title n before [] [] few s = tt
@@ -77,12 +78,12 @@ in_turn_said title n before (t ∷ ts) (m ∷ ms) few s = (
 )
 
 -- what was told stays so once conclude was said behind it
-pub tell_said : (title : Option (List ℕ)) (told : List Told) (ms : List Message)
+pub tell_said : (title : Option (List ℕ)) (told : List Arrival) (ms : List Message)
     → Tell (calling title None) told ms → Tell (calling title (Some (length told))) told ms
 tell_said title told ms s = in_turn_said title (length told) [] told ms (omega arith) s
 
-same_reads : (role : Role) (octets : List ℕ) (told : List Told) (old : Course)
-    (standing : Standing) (fault : Option StackFault) → MatchOption fault
+same_reads : (role : Role) (octets : List ℕ) (told : List Arrival) (old : Course)
+    (standing : EndState) (fault : Option StackFault) → MatchOption fault
     (Reads role octets told old) (λ f. Stops role octets told f) → MatchOption fault
     (Reads role octets told (record old { standing = standing })) (λ f. Stops role octets told f)
 same_reads role octets told old standing None r =
@@ -91,8 +92,8 @@ same_reads role octets told old standing (Some f) s = s
 
 -- ---- the offer and the association don't matter to where an end stands in its stream
 
-pub stands_standing : (role : Role) (octets : List ℕ) (told : List Told) (old new : Course)
-    (standing : Standing) → Stands role octets told old → new ≡ record old { standing = standing }
+pub stands_standing : (role : Role) (octets : List ℕ) (told : List Arrival) (old new : Course)
+    (standing : EndState) → Stands role octets told old → new ≡ record old { standing = standing }
     → Stands role octets told new
 stands_standing role octets told old new standing s is =
     let P : Course → Type 0 = λ v. Stands role octets told v in
@@ -106,7 +107,7 @@ stands_standing role octets told old new standing s is =
 
 -- ---- what was said
 
-reads_said : (role other : Role) (octets : List ℕ) (told : List Told) (old : Course) (k : Known)
+reads_said : (role other : Role) (octets : List ℕ) (told : List Arrival) (old : Course) (k : Milestones)
     (fault : Option StackFault) → fault ≡ None → end_of role ≡ end_of other
     → ((ms : List Message) → Tell role told ms → Tell other told ms) → MatchOption fault
     (Reads role octets told old) (λ f. Stops role octets told f) → MatchOption fault
@@ -117,10 +118,26 @@ reads_said role other octets told old k None e same to r =
     record { messages = r.messages; tell = to r.messages r.tell; stands = subst P same r.stands }
 reads_said role other octets told old k (Some f) e same to s = absurd cc
 
-abbrev pub concluding : Course → Known → Course
+abbrev pub concluding : Course → Milestones → Course
 concluding v k = record v { known = k }
 
-stands_concluding : (role : Role) (octets : List ℕ) (told : List Told) (old : Course) (side : Side)
+-- what has come is the same once this end has said conclude
+knows_concluding : (title : Option (List ℕ)) (said : Option ℕ) (n : ℕ) (told : List Arrival)
+    (k : Milestones) → Knows (calling title said) told k
+    → Knows (calling title (Some n)) told (known_concluding sides.Calling k)
+knows_concluding title said n told k knows = record {
+  side = knows.side;
+  begun = knows.begun;
+  confirmed = knows.confirmed;
+  connected = knows.connected;
+  accepted = knows.accepted;
+  refused = knows.refused;
+  concluding = knows.concluding;
+  concluded = knows.concluded;
+  said = refl;
+}
+
+stands_concluding : (role : Role) (octets : List ℕ) (told : List Arrival) (old : Course) (side : Side)
     → old.fault ≡ None → Stands role octets told old → side ≡ side_of role
     → Stands (role_concluding role told) octets told
     (concluding old (known_concluding side old.known))
@@ -133,17 +150,7 @@ stands_concluding (calling title None) octets told old side none s e =
     (concluding old (known_concluding x old.known)) in
     subst P (sym e) (record {
       title = s.title;
-      knows = record {
-        side = s.knows.side;
-        begun = s.knows.begun;
-        confirmed = s.knows.confirmed;
-        connected = s.knows.connected;
-        accepted = s.knows.accepted;
-        refused = s.knows.refused;
-        concluding = s.knows.concluding;
-        concluded = s.knows.concluded;
-        said = refl;
-      };
+      knows = knows_concluding title None (length told) _ old.known s.knows;
       since = omega arith;
       setup = s.setup;
       reads = reads_said (calling title None) (calling title (Some (length told))) octets told old
@@ -155,31 +162,21 @@ stands_concluding (calling title (Some n)) octets told old side none s e =
     (concluding old (known_concluding x old.known)) in
     subst P (sym e) (record {
       title = s.title;
-      knows = record {
-        side = s.knows.side;
-        begun = s.knows.begun;
-        confirmed = s.knows.confirmed;
-        connected = s.knows.connected;
-        accepted = s.knows.accepted;
-        refused = s.knows.refused;
-        concluding = s.knows.concluding;
-        concluded = s.knows.concluded;
-        said = refl;
-      };
+      knows = knows_concluding title (Some n) n _ old.known s.knows;
       since = s.since;
       setup = s.setup;
       reads = reads_said (calling title (Some n)) (calling title (Some n)) octets told old
           (known_concluding sides.Calling old.known) old.fault none refl (λ ms t. t) s.reads;
     })
 
-stands_by : (role : Role) (octets : List ℕ) (told : List Told) (old : Course) (b : Bool)
+stands_by : (role : Role) (octets : List ℕ) (told : List Arrival) (old : Course) (b : Bool)
     → old.fault ≡ None → Stands role octets told old
     → Stands (role_by b role told) octets told (concluding old (known_said b old.known))
 stands_by role octets told old true none s =
     stands_concluding role octets told old old.known.side none s s.knows.side
 stands_by role octets told old false none s = s
 
-pub stands_said : (role : Role) (octets : List ℕ) (told : List Told) (old new : Course)
+pub stands_said : (role : Role) (octets : List ℕ) (told : List Arrival) (old new : Course)
     (pdu : MmsPdu) → old.fault ≡ None → Stands role octets told old → new ≡ with_said pdu old
     → Stands (role_said role told pdu) octets told new
 stands_said role octets told old new pdu none s is =
@@ -187,7 +184,7 @@ stands_said role octets told old new pdu none s is =
     subst P (sym is) (stands_by role octets told old (is_conclude pdu) none s)
 
 -- a state that is Accepted has no fault
-pub accepted_clear : (fault : Option StackFault) (s : Standing)
+pub accepted_clear : (fault : Option StackFault) (s : EndState)
     → state_with fault s ≡ states.Accepted → fault ≡ None
 accepted_clear None s e = refl
 accepted_clear (Some f) s e = absurd cc

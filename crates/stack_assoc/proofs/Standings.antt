@@ -9,25 +9,25 @@ use Rattle.stack_messages.specs.declared.heard.Heard.{Heard}
 use Rattle.stack_messages.specs.declared.heard.Heard.TheVariants as heards
 use Rattle.stack_assoc.specs.declared.input.StackIn.TheVariants as inputs
 use Rattle.stack_assoc.specs.declared.input.StackState.TheVariants as states
-use Rattle.stack_assoc.specs.declared.standing.Standing.{Standing}
-use Rattle.stack_assoc.specs.declared.standing.Standing.TheVariants as standings
+use Rattle.stack_assoc.specs.declared.end_state.EndState.{EndState}
+use Rattle.stack_assoc.specs.declared.end_state.EndState.TheVariants as standings
 use Rattle.stack_assoc.specs.declared.taken.Came.{Came}
 use Rattle.stack_assoc.specs.declared.taken.Came.TheVariants as cames
 use Rattle.stack_assoc.specs.declared.taken.Said.{Said}
 use Rattle.stack_assoc.specs.declared.taken.Said.TheVariants as saids
-use Rattle.stack_assoc.specs.Handing.{heard_in, is_offer}
+use Rattle.stack_assoc.specs.Handing.{input_heard, is_offer}
 use Rattle.stack_assoc.specs.Courses.{Course, standing_heard, offered_by, StandsBehind}
 use Rattle.stack_assoc.specs.Courses.{FollowsAnswer, fault_in, is_offered, state_with}
 use Rattle.stack_assoc.specs.Saying.{left_by}
 use Rattle.stack_assoc.specs.Steps.{told_with, told_answer}
 use Rattle.stack_assoc.proofs.Answered.{answered}
 
-offer_follows : (old : Standing) (title : Option (List ℕ)) (i : Initiate) (b : Bool)
+offer_follows : (old : EndState) (title : Option (List ℕ)) (i : Initiate) (b : Bool)
     → StandsBehind (if b then inputs.Offer title i else inputs.BadOffer) old (offered_by b)
 offer_follows old title i true = refl
 offer_follows old title i false = refl
 
-heard_follows : (s : Standing) (h : Heard) → StandsBehind (heard_in h) s (standing_heard s h)
+heard_follows : (s : EndState) (h : Heard) → StandsBehind (input_heard h) s (standing_heard s h)
 heard_follows s (heards.Connect c) = offer_follows s c.title c.initiate (is_offer c)
 heard_follows s (heards.Accept a) = refl
 heard_follows s heards.Refuse = refl
@@ -38,14 +38,14 @@ heard_follows s heards.AbortAccept = refl
 heard_follows s (heards.Pdu p) = refl
 heard_follows s (heards.BadRequest invoke) = refl
 
-pub told_follows : (s : Standing) (v : Course) (came : Came) (said : Said) → v.standing ≡ s
+pub told_follows : (s : EndState) (v : Course) (came : Came) (said : Said) → v.standing ≡ s
     → FollowsAnswer (told_answer came said) s (told_with came said (answered v)).standing
 told_follows s v cames.Message saids.Nothing e = e
 told_follows s v cames.Nothing saids.Nothing e = e
 told_follows s v (cames.Fault f) saids.Nothing e = e
 told_follows s v came saids.Gone e = refl
 told_follows s v came (saids.Heard h results) e =
-    let P : Standing → Type 0 = λ w. StandsBehind (heard_in h) s (standing_heard w h) in
+    let P : EndState → Type 0 = λ w. StandsBehind (input_heard h) s (standing_heard w h) in
     subst P (sym e) (heard_follows s h)
 told_follows s v came (saids.Broken f) e = e
 
@@ -61,7 +61,7 @@ told_fault v came (saids.Broken f) e = refl
 -- ---- no offer stands unanswered
 
 -- at the start of a stream
-pub free_waiting : (f : Option StackFault) (s : Standing) → state_with f s ≡ states.Waiting
+pub free_waiting : (f : Option StackFault) (s : EndState) → state_with f s ≡ states.Waiting
     → is_offered s ≡ false
 free_waiting None standings.Waiting e = refl
 free_waiting None standings.Offered e = absurd cc
@@ -72,7 +72,7 @@ free_waiting None standings.Closed e = absurd cc
 free_waiting (Some f) s e = absurd cc
 
 -- where the association stands
-pub free_accepted : (f : Option StackFault) (s : Standing) → state_with f s ≡ states.Accepted
+pub free_accepted : (f : Option StackFault) (s : EndState) → state_with f s ≡ states.Accepted
     → is_offered s ≡ false
 free_accepted None standings.Waiting e = absurd cc
 free_accepted None standings.Offered e = absurd cc
@@ -83,7 +83,7 @@ free_accepted None standings.Closed e = absurd cc
 free_accepted (Some f) s e = absurd cc
 
 -- once it was released
-pub free_released : (side : Side) (s : Standing) → is_offered s ≡ false
+pub free_released : (side : Side) (s : EndState) → is_offered s ≡ false
     → is_offered (left_by side s) ≡ false
 free_released sides.Called s free = refl
 free_released sides.Calling s free = free

@@ -8,17 +8,17 @@ use Rattle.tpkt_cotp.specs.Lines as lines
 use Rattle.tpkt_cotp.specs.Lines.{Line}
 use Rattle.tpkt_cotp.specs.declared.fault.CotpFault.{CotpFault}
 use Rattle.stack_messages.specs.declared.fault.StackFault.{StackFault}
-use Rattle.stack_wire.specs.declared.setup.Setup.{Setup}
-use Rattle.stack_assoc.specs.declared.known.Known.{Known}
+use Rattle.stack_wire.specs.declared.setup.AssociationSetup.{AssociationSetup}
+use Rattle.stack_assoc.specs.declared.milestones.Milestones.{Milestones}
 use Rattle.stack_assoc.specs.declared.taken.Opening.{Opening}
 use Rattle.stack_assoc.specs.declared.taken.Came.{Came}
 use Rattle.stack_assoc.specs.declared.taken.Came.TheVariants as cames
-use Rattle.stack_assoc.specs.Told.{Told, Role, end_of}
+use Rattle.stack_assoc.specs.Arrivals.{Arrival, Role, end_of}
 use Rattle.stack_assoc.specs.Expectations.{setup_after}
 use Rattle.stack_assoc.specs.Tellings.{Tell, Stops, transport_fault}
 use Rattle.stack_assoc.specs.Knowing.{Knows}
 use Rattle.stack_assoc.specs.Taking.{opening_seen, opening_told, opened, opening_listed}
-use Rattle.stack_assoc.specs.declared.standing.Standing.{Standing}
+use Rattle.stack_assoc.specs.declared.end_state.EndState.{EndState}
 use Rattle.stack_assoc.specs.Courses.{Course, listed, taken, Reads, Stands, state_of, state_with}
 use Rattle.stack_assoc.specs.Steps.{opened_with, TakesOne, Takes, IsTaken, IsBegun, Untold}
 use Rattle.stack_assoc.specs.Steps.{FewerLeft, IsEmpty}
@@ -27,18 +27,18 @@ use Rattle.stack_assoc.proofs.Openings.{nothing_before}
 use Rattle.stack_assoc.proofs.KnowingMore.{knows_more, setup_more}
 
 -- without a fault
-pub reads_of : (role : Role) (octets : List ℕ) (told : List Told) (v : Course) → v.fault ≡ None
+pub reads_of : (role : Role) (octets : List ℕ) (told : List Arrival) (v : Course) → v.fault ≡ None
     → Stands role octets told v → Reads role octets told v
 reads_of role octets told v none s = subst (λ (o : Option StackFault). MatchOption o
     (Reads role octets told v) (λ f. Stops role octets told f)) none s.reads
 
-pub matched_none : (role : Role) (octets : List ℕ) (told : List Told) (v : Course) → v.fault ≡ None
+pub matched_none : (role : Role) (octets : List ℕ) (told : List Arrival) (v : Course) → v.fault ≡ None
     → Reads role octets told v → MatchOption v.fault (Reads role octets told v)
     (λ f. Stops role octets told f)
 matched_none role octets told v none r = subst (λ (o : Option StackFault). MatchOption o
     (Reads role octets told v) (λ f. Stops role octets told f)) (sym none) r
 
-pub matched_some : (role : Role) (octets : List ℕ) (told : List Told) (v : Course) (f : StackFault)
+pub matched_some : (role : Role) (octets : List ℕ) (told : List Arrival) (v : Course) (f : StackFault)
     → v.fault ≡ Some f → Stops role octets told f → MatchOption v.fault
     (Reads role octets told v) (λ f. Stops role octets told f)
 matched_some role octets told v f some s = subst (λ (o : Option StackFault). MatchOption o
@@ -79,19 +79,19 @@ following_placed ms owed None m a = append_assoc ms (opening_listed owed ++ []) 
     ∙ ap (λ (xs : List Message). ms ++ (xs ++ m ∷ [])) (append-nil (opening_listed owed))
 following_placed ms owed (Some n) m a = absurd cc
 
-pub known_alone : (role : Role) (told : List Told) (owed : Option Opening) (k : Known) → owed ≡ None
+pub known_alone : (role : Role) (told : List Arrival) (owed : Option Opening) (k : Milestones) → owed ≡ None
     → Knows role (told ++ opened owed) k → Knows role told k
 known_alone role told None k e s =
-    let P : List Told → Type 0 = λ ts. Knows role ts k in subst P (append-nil told) s
+    let P : List Arrival → Type 0 = λ ts. Knows role ts k in subst P (append-nil told) s
 known_alone role told (Some o) k e s = absurd cc
 
-pub setup_alone : (told : List Told) (owed : Option Opening) (s : Setup) → owed ≡ None
+pub setup_alone : (told : List Arrival) (owed : Option Opening) (s : AssociationSetup) → owed ≡ None
     → s ≡ setup_after (told ++ opened owed) → s ≡ setup_after told
 setup_alone told None s e is = is ∙ ap setup_after (append-nil told)
 setup_alone told (Some o) s e is = absurd cc
 
 -- an opening was taken
-pub takes_opening : (role : Role) (octets : List ℕ) (told : List Told) (old new : Course)
+pub takes_opening : (role : Role) (octets : List ℕ) (told : List Arrival) (old new : Course)
     (o : Opening) (line : Line) → Stands role octets told old → old.fault ≡ None → old.held ≡ None
     → ((given : List Message) → lines.Stands (end_of role) octets given old.line
     → lines.Stands (end_of role) octets (given ++ opening_seen o ∷ []) line)
@@ -123,7 +123,7 @@ takes_opening role octets told old new o line s none free next is =
     })
 
 -- a message to be read was taken
-pub takes_following : (role : Role) (octets : List ℕ) (told : List Told) (old new : Course)
+pub takes_following : (role : Role) (octets : List ℕ) (told : List Arrival) (old new : Course)
     (m : Message) (line : Line) → Stands role octets told old → old.fault ≡ None → old.held ≡ None
     → ((given : List Message) → lines.Stands (end_of role) octets given old.line
     → lines.Stands (end_of role) octets (given ++ m ∷ []) line)
@@ -152,7 +152,7 @@ takes_following role octets told old new m line s none free next is =
     })
 
 -- no message was taken
-stands_line : (role : Role) (octets : List ℕ) (told : List Told) (old : Course) (line : Line)
+stands_line : (role : Role) (octets : List ℕ) (told : List Arrival) (old : Course) (line : Line)
     → (s : Stands role octets told old) → old.fault ≡ None → (ms : List Message)
     → Tell role told ms → lines.Stands (end_of role) octets (ms ++ taken old) line
     → Stands role octets told (record old { line = line })
@@ -166,7 +166,7 @@ stands_line role octets told old line s none ms tell stands = record {
       (record { messages = ms; tell = tell; stands = stands });
 }
 
-pub takes_nothing : (role : Role) (octets : List ℕ) (told : List Told) (old new : Course)
+pub takes_nothing : (role : Role) (octets : List ℕ) (told : List Arrival) (old new : Course)
     (line : Line) → Stands role octets told old → old.fault ≡ None
     → ((given : List Message) → lines.Stands (end_of role) octets given old.line
     → lines.Stands (end_of role) octets given line
@@ -188,7 +188,7 @@ takes_nothing role octets told old new line s none next is =
       taken = tt;
     })
 
-pub takes_fault : (role : Role) (octets : List ℕ) (told : List Told) (old new : Course)
+pub takes_fault : (role : Role) (octets : List ℕ) (told : List Arrival) (old new : Course)
     (line : Line) (broken : CotpFault) (f : StackFault) → Stands role octets told old
     → old.fault ≡ None → f ≡ transport_fault broken
     → ((given : List Message) → lines.Stands (end_of role) octets given old.line
@@ -241,7 +241,7 @@ owed_of mid free (inl held) = absurd (some_held mid.held free held)
 owed_of mid free (inr owed) = owed
 
 -- behind what has begun comes a message to be read
-pub takes_behind : (role : Role) (octets : List ℕ) (told : List Told) (mid new : Course)
+pub takes_behind : (role : Role) (octets : List ℕ) (told : List Arrival) (mid new : Course)
     (came : Came) → mid.held ≡ None → IsBegun mid → TakesOne role octets told mid came new
     → IsEmpty came new → Takes role octets told came new
 takes_behind role octets told mid new cames.Message free b t empty = record {
@@ -255,7 +255,7 @@ takes_behind role octets told mid new (cames.Fault f) free b t empty =
     record { stands = t.stands; leaves = t.leaves; there = empty }
 
 -- no message came
-pub takes_none : (role : Role) (octets : List ℕ) (told : List Told) (old new : Course)
+pub takes_none : (role : Role) (octets : List ℕ) (told : List Arrival) (old new : Course)
     (came : Came) → (came ≡ cames.Message → ⊥) → TakesOne role octets told old came new
     → IsEmpty came new → Takes role octets told came new
 takes_none role octets told old new cames.Message none t empty = absurd (none refl)
@@ -280,4 +280,4 @@ fewer_then old mid new (cames.Fault f) a b = tt
 
 pub untold_state : (old new : Course) → Untold old new → state_of new ≡ state_of old
 untold_state old new u = ap (λ (f : Option StackFault). state_with f new.standing) u.fault
-    ∙ ap (λ (s : Standing). state_with old.fault s) u.standing
+    ∙ ap (λ (s : EndState). state_with old.fault s) u.standing

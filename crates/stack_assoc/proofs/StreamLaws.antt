@@ -10,7 +10,7 @@ use Rattle.tpkt_cotp.proofs.OneStream as once
 use Rattle.tpkt_cotp.proofs.Answering.{stops_more}
 use Rattle.stack_messages.specs.declared.fault.StackFault.{StackFault}
 use Rattle.stack_assoc.specs.Fronts.{StartsWith}
-use Rattle.stack_assoc.specs.Told.{Told, Role, end_of}
+use Rattle.stack_assoc.specs.Arrivals.{Arrival, Role, end_of}
 use Rattle.stack_assoc.specs.Tellings.{TellsNext, BreaksNext, Tell, Tells, StopsBelow, StopsAbove}
 use Rattle.stack_assoc.specs.Tellings.{Stops, transport_fault}
 use Rattle.stack_assoc.specs.Courses.{Course, Reads}
@@ -85,8 +85,8 @@ one_of : (ms : List Message) (m : Message) (others : List Message)
 one_of ms m others = append_assoc ms (m ∷ []) others
 
 abbrev Outcome : Role → List ℕ → Type 0
-Outcome role octets = ((told : List Told) × (rest : List ℕ) × Tells role octets told rest)
-    ⊎ ((told : List Told) × (fault : StackFault) × Stops role octets told fault)
+Outcome role octets = ((told : List Arrival) × (rest : List ℕ) × Tells role octets told rest)
+    ⊎ ((told : List Arrival) × (fault : StackFault) × Stops role octets told fault)
 
 abbrev Broken : Role → List Message → Type 0
 Broken role ms = BrokenTurn {B = StackFault} (TellsNext role) (BreaksNext role) [] ms
@@ -133,13 +133,13 @@ always one role octets = elim (below.always (end_of role) octets) [
       ]
 ]
 
-same_told : (one : OneMeaning) (role : Role) (told other : List Told) (ms ns : List Message)
+same_told : (one : OneMeaning) (role : Role) (told other : List Arrival) (ms ns : List Message)
     → ms ≡ ns → Tell role told ms → Tell role other ns → told ≡ other
 same_told one role told other ms ns e s t =
     let P : List Message → Type 0 = λ xs. Tell role told xs in
     spelled_once (TellsNext role) (one_each one role).once [] told other ns (subst P e s) t
 
-pub tells_once : (one : OneMeaning) (role : Role) (octets : List ℕ) (told other : List Told)
+pub tells_once : (one : OneMeaning) (role : Role) (octets : List ℕ) (told other : List Arrival)
     (rest left : List ℕ) → Tells role octets told rest → Tells role octets other left
     → (told ≡ other) × (rest ≡ left)
 tells_once one role octets told other rest left s t =
@@ -147,7 +147,7 @@ tells_once one role octets told other rest left s t =
     (same_told one role told other s.messages t.messages same.0 s.tell t.tell, same.1)
 
 -- a message that breaks a rule isn't among messages that were told
-not_told : (one : OneMeaning) (role : Role) (told other : List Told) (ms : List Message)
+not_told : (one : OneMeaning) (role : Role) (told other : List Arrival) (ms : List Message)
     (m : Message) (all : List Message) (f : StackFault) → Continues (ms ++ m ∷ []) all
     → Tell role told all → Tell role other ms → BreaksNext role other m f → ⊥
 not_told one role told other ms m all f c s t b =
@@ -155,7 +155,7 @@ not_told one role told other ms m all f c s t b =
     spelled_unbroken (TellsNext role) (BreaksNext role) (one_each one role) [] told other ms m c.0 f
     (subst P (c.1 ∙ one_of ms m c.0) s) t b
 
-above_once : (one : OneMeaning) (role : Role) (octets : List ℕ) (told other : List Told)
+above_once : (one : OneMeaning) (role : Role) (octets : List ℕ) (told other : List Arrival)
     (f g : StackFault) → StopsAbove role octets told f → StopsAbove role octets other g
     → (told ≡ other) × (f ≡ g)
 above_once one role octets told other f g s t =
@@ -168,14 +168,14 @@ above_once one role octets told other f g s t =
     s.messages t.messages s.next t.next c.0 d.0 f g e s.tell t.tell s.breaks t.breaks in
     (same.told, same.fault)
 
-mixed : (one : OneMeaning) (role : Role) (octets : List ℕ) (told other : List Told)
+mixed : (one : OneMeaning) (role : Role) (octets : List ℕ) (told other : List Arrival)
     (f g : StackFault) → StopsBelow role octets told f → StopsAbove role octets other g → ⊥
 mixed one role octets told other f g s t =
     not_told one role told other t.messages t.next s.messages g
     (front_stopped (end_of role) octets (t.messages ++ t.next ∷ []) s.messages s.broken t.starts
     s.stops) s.tell t.tell t.breaks
 
-pub stops_once : (one : OneMeaning) (role : Role) (octets : List ℕ) (told other : List Told)
+pub stops_once : (one : OneMeaning) (role : Role) (octets : List ℕ) (told other : List Arrival)
     (f g : StackFault) → Stops role octets told f → Stops role octets other g
     → (told ≡ other) × (f ≡ g)
 stops_once one role octets told other f g (inl s) (inl t) =
@@ -191,7 +191,7 @@ stops_once one role octets told other f g (inr s) (inl t) =
 stops_once one role octets told other f g (inr s) (inr t) =
     above_once one role octets told other f g s t
 
-pub never_both : (one : OneMeaning) (role : Role) (octets : List ℕ) (told other : List Told)
+pub never_both : (one : OneMeaning) (role : Role) (octets : List ℕ) (told other : List Arrival)
     (rest : List ℕ) (f : StackFault) → Tells role octets told rest → Stops role octets other f → ⊥
 never_both one role octets told other rest f s (inl t) =
     once.says_or_stops (end_of role) octets s.messages t.messages rest t.broken s.said t.stops
@@ -202,24 +202,24 @@ never_both one role octets told other rest f s (inr t) =
 
 -- ---- whatever follows
 
-abbrev pub GoesOn : List Told → List Told → Type 0
-GoesOn told later = (others : List Told) × (later ≡ told ++ others)
+abbrev pub GoesOn : List Arrival → List Arrival → Type 0
+GoesOn told later = (others : List Arrival) × (later ≡ told ++ others)
 
-goes_on : (one : OneMeaning) (role : Role) (told later : List Told) (ms all : List Message)
+goes_on : (one : OneMeaning) (role : Role) (told later : List Arrival) (ms all : List Message)
     → Continues ms all → Tell role told ms → Tell role later all → GoesOn told later
 goes_on one role told later ms all c s t =
     let P : List Message → Type 0 = λ xs. Tell role later xs in
     let p = spelled_parts (TellsNext role) [] later ms c.0 (subst P c.1 t) in
     let same = spelled_once (TellsNext role) (one_each one role).once [] p.first told ms p.front s in
-    (p.later, p.is ∙ ap (λ (ts : List Told). ts ++ p.later) same)
+    (p.later, p.is ∙ ap (λ (ts : List Arrival). ts ++ p.later) same)
 
-tells_front : (role : Role) (octets rest more : List ℕ) (told : List Told)
+tells_front : (role : Role) (octets rest more : List ℕ) (told : List Arrival)
     → (s : Tells role octets told rest) → StartsWith (end_of role) (octets ++ more) s.messages
 tells_front role octets rest more told s =
     front_more (end_of role) octets more s.messages
     (said_front (end_of role) octets rest s.messages s.said)
 
-pub told_stays : (one : OneMeaning) (role : Role) (octets more : List ℕ) (told later : List Told)
+pub told_stays : (one : OneMeaning) (role : Role) (octets more : List ℕ) (told later : List Arrival)
     (rest left : List ℕ) → Tells role octets told rest → Tells role (octets ++ more) later left
     → GoesOn told later
 told_stays one role octets more told later rest left s t =
@@ -251,7 +251,7 @@ front_or_past (x ∷ xs) (z ∷ ys) y more rest e =
     ]
 
 -- behind messages that were told, a message breaks a rule
-above_later : (one : OneMeaning) (role : Role) (octets : List ℕ) (told later : List Told)
+above_later : (one : OneMeaning) (role : Role) (octets : List ℕ) (told later : List Arrival)
     (ms : List Message) (f : StackFault) → StartsWith (end_of role) octets ms → Tell role told ms
     → StopsAbove role octets later f → GoesOn told later
 above_later one role octets told later ms f s tell t =
@@ -264,7 +264,7 @@ above_later one role octets told later ms f s tell t =
       | inr p ↦ absurd (not_told one role told later t.messages t.next ms f p tell t.tell t.breaks)
     ]
 
-pub stopped_stays : (one : OneMeaning) (role : Role) (octets more : List ℕ) (told later : List Told)
+pub stopped_stays : (one : OneMeaning) (role : Role) (octets more : List ℕ) (told later : List Arrival)
     (rest : List ℕ) (f : StackFault) → Tells role octets told rest
     → Stops role (octets ++ more) later f → GoesOn told later
 stopped_stays one role octets more told later rest f s (inl t) =
@@ -275,7 +275,7 @@ stopped_stays one role octets more told later rest f s (inr t) =
     above_later one role (octets ++ more) told later s.messages f
     (tells_front role octets rest more told s) s.tell t
 
-pub fault_stays : (role : Role) (octets more : List ℕ) (told : List Told) (f : StackFault)
+pub fault_stays : (role : Role) (octets more : List ℕ) (told : List Arrival) (f : StackFault)
     → Stops role octets told f → Stops role (octets ++ more) told f
 fault_stays role octets more told f (inl s) = inl (record {
   messages = s.messages;
@@ -293,7 +293,7 @@ fault_stays role octets more told f (inr s) = inr (record {
 })
 
 -- ends that have told all of the same octets have told the same
-pub told_alike : (one : OneMeaning) (role : Role) (octets : List ℕ) (told others : List Told)
+pub told_alike : (one : OneMeaning) (role : Role) (octets : List ℕ) (told others : List Arrival)
     (f g : Option StackFault) (v w : Course)
     → MatchOption f (Reads role octets told v) (λ f. Stops role octets told f)
     → MatchOption g (Reads role octets others w) (λ g. Stops role octets others g)

@@ -9,17 +9,18 @@ use Rattle.tpkt_cotp.specs.Lines as transport
 use Rattle.stack_messages.specs.declared.fault.StackFault.{StackFault}
 use Rattle.stack_messages.specs.declared.heard.Heard.{Heard}
 use Rattle.stack_messages.specs.declared.heard.Heard.TheVariants as heards
-use Rattle.stack_wire.specs.declared.setup.Setup.{Setup}
+use Rattle.stack_wire.specs.declared.setup.AssociationSetup.{AssociationSetup}
 use Rattle.stack_assoc.specs.declared.input.StackIn.{StackIn}
 use Rattle.stack_assoc.specs.declared.input.StackIn.TheVariants as inputs
 use Rattle.stack_assoc.specs.declared.input.StackState.{StackState}
 use Rattle.stack_assoc.specs.declared.input.StackState.TheVariants as states
-use Rattle.stack_assoc.specs.declared.known.Known.{Known}
+use Rattle.stack_assoc.specs.declared.milestones.Milestones.{Milestones}
 use Rattle.stack_assoc.specs.declared.taken.Opening.{Opening}
-use Rattle.stack_assoc.specs.declared.standing.Standing.{Standing}
-use Rattle.stack_assoc.specs.declared.standing.Standing.TheVariants as standings
-use Rattle.stack_assoc.specs.Told.{Told, asked, confirmed, heard, Role, called, calling, end_of}
-use Rattle.stack_assoc.specs.Told as told
+use Rattle.stack_assoc.specs.declared.end_state.EndState.{EndState}
+use Rattle.stack_assoc.specs.declared.end_state.EndState.TheVariants as standings
+use Rattle.stack_assoc.specs.Arrivals.{Arrival, asked, confirmed, heard, Role, called, calling}
+use Rattle.stack_assoc.specs.Arrivals.{end_of}
+use Rattle.stack_assoc.specs.Arrivals as told
 use Rattle.stack_assoc.specs.Expectations.{setup_after}
 use Rattle.stack_assoc.specs.Tellings.{Tell, Tells, Stops}
 use Rattle.stack_assoc.specs.Handing.{is_offer, handed_out, answers_to}
@@ -36,11 +37,11 @@ pub record Course : Type 0 where
   pub owed : Option Opening
   pub held : Option Message
   -- what has come
-  pub known : Known
+  pub known : Milestones
   -- what the connect fixed
-  pub setup : Setup
+  pub setup : AssociationSetup
   -- the offer and the association
-  pub standing : Standing
+  pub standing : EndState
   -- the rule that was broken
   pub fault : Option StackFault
 
@@ -54,7 +55,7 @@ taken v = opening_listed v.owed ++ listed v.held
 -- ---- where it stands in its stream
 
 -- the messages of the transport tell these; then come those that aren't told yet
-pub record Reads (role : Role) (octets : List ℕ) (told : List Told) (v : Course) : Type 0 where
+pub record Reads (role : Role) (octets : List ℕ) (told : List Arrival) (v : Course) : Type 0 where
   pub messages : List Message
   pub tell : Tell role told messages
   pub stands : transport.Stands (end_of role) octets (messages ++ taken v) v.line
@@ -64,13 +65,13 @@ title_of called = None
 title_of (calling title said) = title
 
 -- conclude was said after so many of these messages
-abbrev pub IsSince : Role → List Told → Type 0
+abbrev pub IsSince : Role → List Arrival → Type 0
 IsSince called told = Unit {0}
 IsSince (calling title None) told = Unit {0}
 IsSince (calling title (Some n)) told = n ≤ length told
 
 -- fed these octets, and these messages told; what is owed an answer counts as come already
-pub record Stands (role : Role) (octets : List ℕ) (told : List Told) (v : Course) : Type 0 where
+pub record Stands (role : Role) (octets : List ℕ) (told : List Arrival) (v : Course) : Type 0 where
   pub title : v.title ≡ title_of role
   pub knows : Knows role (told ++ opened v.owed) v.known
   pub since : IsSince role told
@@ -78,7 +79,8 @@ pub record Stands (role : Role) (octets : List ℕ) (told : List Told) (v : Cour
   pub reads : MatchOption v.fault (Reads role octets told v) (λ f. Stops role octets told f)
 
 -- all that the octets tell was told: they leave a rest, or break a rule behind it
-pub record HasToldAll (role : Role) (octets : List ℕ) (told : List Told) (v : Course) : Type 0 where
+pub record HasToldAll (role : Role) (octets : List ℕ) (told : List Arrival) (v : Course) :
+    Type 0 where
   pub stands : Stands role octets told v
   pub all : MatchOption v.fault ((rest : List ℕ) × Tells role octets told rest) (λ f. Unit {0})
 
@@ -100,15 +102,15 @@ IsAlone (Some m) line = IsSound m × (line.held ≡ [])
 
 -- ---- the offer and the association
 
-abbrev pub offered_by : Bool → Standing
+abbrev pub offered_by : Bool → EndState
 offered_by true = standings.Offered
 offered_by false = standings.BadlyOffered
 
-abbrev pub finishing : Standing → Standing
+abbrev pub finishing : EndState → EndState
 finishing standings.Accepted = standings.Finishing
 finishing s = s
 
-abbrev pub standing_heard : Standing → Heard → Standing
+abbrev pub standing_heard : EndState → Heard → EndState
 standing_heard s (heards.Connect c) = offered_by (is_offer c)
 standing_heard s (heards.Accept a) = standings.Accepted
 standing_heard s heards.Refuse = standings.Closed
@@ -120,29 +122,29 @@ standing_heard s (heards.Pdu p) = s
 standing_heard s (heards.BadRequest invoke) = s
 
 -- a message makes an offer, the association or its end
-abbrev pub standing_with : Standing → Told → Standing
+abbrev pub standing_with : EndState → Arrival → EndState
 standing_with s (asked r) = s
 standing_with s (confirmed c) = s
 standing_with s told.gone = standings.Closed
 standing_with s (heard h) = standing_heard s h
 
-abbrev pub standing_behind : Standing → List Told → Standing
+abbrev pub standing_behind : EndState → List Arrival → EndState
 standing_behind s [] = s
 standing_behind s (t ∷ told) = standing_behind (standing_with s t) told
 
 -- an offer stands unanswered
-abbrev pub is_offered : Standing → Bool
+abbrev pub is_offered : EndState → Bool
 is_offered standings.Offered = true
 is_offered standings.BadlyOffered = true
 is_offered _ = false
 
 -- the association stands, unless the stream has broken a rule
-abbrev pub is_accepted : Standing → Bool
+abbrev pub is_accepted : EndState → Bool
 is_accepted standings.Accepted = true
 is_accepted standings.Finishing = true
 is_accepted _ = false
 
-abbrev pub state_by : Standing → StackState
+abbrev pub state_by : EndState → StackState
 state_by standings.Waiting = states.Waiting
 state_by standings.Offered = states.Offered
 state_by standings.BadlyOffered = states.Offered
@@ -150,7 +152,7 @@ state_by standings.Accepted = states.Accepted
 state_by standings.Finishing = states.Accepted
 state_by standings.Closed = states.Ended
 
-abbrev pub state_with : Option StackFault → Standing → StackState
+abbrev pub state_with : Option StackFault → EndState → StackState
 state_with None s = state_by s
 state_with (Some f) s = states.Ended
 
@@ -164,7 +166,7 @@ abbrev pub IsSettled : Course → Type 0
 IsSettled v = MatchOption v.fault (transport.IsSettled v.line) (λ f. Unit {0})
 
 -- these messages more were taken, and answered
-pub record Goes (role : Role) (octets : List ℕ) (told later : List Told) (old : Course)
+pub record Goes (role : Role) (octets : List ℕ) (told later : List Arrival) (old : Course)
     (out : List ℕ) (new : Course) (written : List ℕ) : Type 0 where
   pub stands : Stands role octets (told ++ later) new
   pub standing : new.standing ≡ standing_behind old.standing later
@@ -172,37 +174,37 @@ pub record Goes (role : Role) (octets : List ℕ) (told later : List Told) (old 
 
 -- nothing is handed out: an offer stands unanswered, so that nothing is taken; or all whole
 -- messages were taken
-abbrev pub NothingLeft : Role → List ℕ → List Told → List Told → Course → Course → Type 0
+abbrev pub NothingLeft : Role → List ℕ → List Arrival → List Arrival → Course → Course → Type 0
 NothingLeft role octets told later old new =
     MatchBool (is_offered old.standing) (later ≡ [])
     (((rest : List ℕ) × Tells role octets (told ++ later) rest) × IsSettled new)
 
 -- the message that hands something out is the last of those that were taken, and what the connect
 -- fixed is known
-pub record IsLast (told later : List Told) (new : Course) : Type 0 where
-  pub passed : List Told
-  pub last : Told
+pub record IsLast (told later : List Arrival) (new : Course) : Type 0 where
+  pub passed : List Arrival
+  pub last : Arrival
   pub is : later ≡ passed ++ last ∷ []
   pub quiet : handed_out passed ≡ []
   pub setup : new.setup ≡ setup_after (told ++ later)
 
 -- an answer is right: what the next message hands out; or none; or the rule that is broken
-abbrev pub Answers : Role → List ℕ → List Told → Course → List ℕ
+abbrev pub Answers : Role → List ℕ → List Arrival → Course → List ℕ
     → Result (Option StackIn) StackFault → Course → List ℕ → Type 0
-Answers role octets told old out (Ok (Some input)) new written = (later : List Told)
+Answers role octets told old out (Ok (Some input)) new written = (later : List Arrival)
     × Goes role octets told later old out new written × (handed_out later ≡ input ∷ [])
     × IsLast told later new
-Answers role octets told old out (Ok None) new written = (later : List Told)
+Answers role octets told old out (Ok None) new written = (later : List Arrival)
     × Goes role octets told later old out new written × (handed_out later ≡ [])
     × NothingLeft role octets told later old new
-Answers role octets told old out (Err f) new written = (later : List Told)
+Answers role octets told old out (Err f) new written = (later : List Arrival)
     × Goes role octets told later old out new written × (handed_out later ≡ [])
     × Stops role octets (told ++ later) f
 
 -- ---- behind an answer
 
 -- how an end stands behind what was handed out
-abbrev pub StandsBehind : StackIn → Standing → Standing → Type 0
+abbrev pub StandsBehind : StackIn → EndState → EndState → Type 0
 StandsBehind (inputs.Offer title initiate) old new = new ≡ standings.Offered
 StandsBehind inputs.BadOffer old new = new ≡ standings.BadlyOffered
 StandsBehind (inputs.Accepted initiate) old new = new ≡ standings.Accepted
@@ -212,8 +214,9 @@ StandsBehind inputs.Released old new = (new ≡ finishing old) ⊎ (new ≡ stan
 StandsBehind inputs.Aborted old new = new ≡ standings.Closed
 StandsBehind inputs.Refused old new = new ≡ standings.Closed
 
--- as before, where nothing was
-abbrev pub FollowsAnswer : Result (Option StackIn) StackFault → Standing → Standing → Type 0
+-- how an end stands behind an answer: by what was handed out; where nothing was, as before the
+-- answer
+abbrev pub FollowsAnswer : Result (Option StackIn) StackFault → EndState → EndState → Type 0
 FollowsAnswer (Ok (Some input)) old new = StandsBehind input old new
 FollowsAnswer (Ok None) old new = new ≡ old
 FollowsAnswer (Err f) old new = new ≡ old

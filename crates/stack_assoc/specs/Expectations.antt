@@ -3,21 +3,21 @@
 use Rattle.std.specs.Prelude.{ℕ, Bool, false, not, ◌&&◌, List, [], Option, Some, None, is_some}
 use Rattle.std.specs.Prelude.{nat_le, length, if◌then◌else◌}
 use Rattle.std.specs.List.{list_any}
-use Rattle.stack_wire.specs.declared.setup.Setup.{Setup}
+use Rattle.stack_wire.specs.declared.setup.AssociationSetup.{AssociationSetup}
 use Rattle.stack_wire.specs.Setups.{cut_size}
 use Rattle.presentation_profile.specs.Agreements.{acse_of, mms_of, results_of}
 use Rattle.stack_messages.specs.declared.expecting.Expecting.{Expecting}
 use Rattle.stack_messages.specs.declared.expecting.Phase.{Phase}
 use Rattle.stack_messages.specs.declared.expecting.Phase.TheVariants as phases
 use Rattle.stack_messages.specs.declared.heard.Connecting.{Connecting}
-use Rattle.stack_assoc.specs.Told.{Told, Role, called, calling, side_of, first_in, connect_in}
-use Rattle.stack_assoc.specs.Told.{accept_in, confirm_in, size_in, is_refuse, is_conclude}
-use Rattle.stack_assoc.specs.Told.{is_concluded}
+use Rattle.stack_assoc.specs.Arrivals.{Arrival, Role, called, calling, side_of, first_in}
+use Rattle.stack_assoc.specs.Arrivals.{connect_in, accept_in, confirm_in, size_in, is_refuse}
+use Rattle.stack_assoc.specs.Arrivals.{is_conclude, is_concluded}
 
 -- at the called end none stands until a connect has come, and it is concluded once a conclude has;
 -- at the calling end it ends at once where no connect confirm has come or a refuse has, none stands
 -- until an accept has come, and it is concluded once a conclude response has
-abbrev pub phase_after : Role → List Told → Phase
+abbrev pub phase_after : Role → List Arrival → Phase
 phase_after called told = if is_some (first_in connect_in told)
     then (if list_any is_conclude told then phases.Concluded else phases.Associated)
     else phases.Unassociated
@@ -35,7 +35,7 @@ abbrev pub id_or : ℕ → Option ℕ → ℕ
 id_or other None = other
 id_or other (Some id) = id
 
-abbrev pub setup_by : ℕ → Option Connecting → Setup
+abbrev pub setup_by : ℕ → Option Connecting → AssociationSetup
 setup_by size None = record {
   size = size;
   session = None;
@@ -58,7 +58,7 @@ abbrev pub size_by : Option (Option ℕ) → ℕ
 size_by None = 1024
 size_by (Some size) = cut_size size
 
-abbrev pub setup_after : List Told → Setup
+abbrev pub setup_after : List Arrival → AssociationSetup
 setup_after told = setup_by (size_by (first_in size_in told)) (first_in connect_in told)
 
 -- a conclude response is awaited where conclude was said before so many messages came, and none has
@@ -67,13 +67,13 @@ abbrev pub said_by : Option ℕ → ℕ → Bool
 said_by None count = false
 said_by (Some n) count = nat_le n count
 
-abbrev pub awaited_after : Role → List Told → Bool
+abbrev pub awaited_after : Role → List Arrival → Bool
 awaited_after called told = false
 awaited_after (calling title said) told =
     said_by said (length told) && not (list_any is_concluded told)
 
 -- what is expected behind these messages
-abbrev pub expecting_after : Role → List Told → Expecting
+abbrev pub expecting_after : Role → List Arrival → Expecting
 expecting_after role told = record {
   side = side_of role;
   phase = phase_after role told;

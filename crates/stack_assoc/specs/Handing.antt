@@ -14,7 +14,8 @@ use Rattle.stack_wire.specs.Setups.{cut_size}
 use Rattle.stack_wire.specs.Tsdus.{connect_tsdu}
 use Rattle.stack_assoc.specs.declared.input.StackIn.{StackIn}
 use Rattle.stack_assoc.specs.declared.input.StackIn.TheVariants as inputs
-use Rattle.stack_assoc.specs.Told.{Told, asked, confirmed, gone, heard, Role, called, calling}
+use Rattle.stack_assoc.specs.Arrivals.{Arrival, asked, confirmed, gone, heard, Role}
+use Rattle.stack_assoc.specs.Arrivals.{called, calling}
 
 -- too little is offered of one of the parameters, so that nothing can be granted
 abbrev pub is_below : ℤ → Option ℤ → Bool
@@ -30,35 +31,35 @@ abbrev pub is_offer : Connecting → Bool
 is_offer c = is_some (acse_of c.contexts)
     && (bytes_eq c.context mms_context && not (is_too_little c.initiate))
 
-abbrev pub heard_in : Heard → StackIn
-heard_in (heards.Connect c) =
+abbrev pub input_heard : Heard → StackIn
+input_heard (heards.Connect c) =
     if is_offer c then inputs.Offer c.title c.initiate else inputs.BadOffer
-heard_in (heards.Accept a) = inputs.Accepted a.initiate
-heard_in heards.Refuse = inputs.Refused
-heard_in heards.Finish = inputs.Released
-heard_in heards.Disconnect = inputs.Released
-heard_in heards.Abort = inputs.Aborted
-heard_in heards.AbortAccept = inputs.Aborted
-heard_in (heards.Pdu p) = inputs.Pdu p
-heard_in (heards.BadRequest invoke) = inputs.BadRequest invoke
+input_heard (heards.Accept a) = inputs.Accepted a.initiate
+input_heard heards.Refuse = inputs.Refused
+input_heard heards.Finish = inputs.Released
+input_heard heards.Disconnect = inputs.Released
+input_heard heards.Abort = inputs.Aborted
+input_heard heards.AbortAccept = inputs.Aborted
+input_heard (heards.Pdu p) = inputs.Pdu p
+input_heard (heards.BadRequest invoke) = inputs.BadRequest invoke
 
 -- what is handed out of a message: nothing of a connect request or confirm
-abbrev pub stack_in : Told → Option StackIn
+abbrev pub stack_in : Arrival → Option StackIn
 stack_in (asked r) = None
 stack_in (confirmed c) = None
 stack_in gone = Some inputs.Aborted
-stack_in (heard h) = Some (heard_in h)
+stack_in (heard h) = Some (input_heard h)
 
-abbrev pub handed_out : List Told → List StackIn
+abbrev pub handed_out : List Arrival → List StackIn
 handed_out told = filter_map stack_in told
 
 -- the octets that answer a message at once: the called end confirms a connect request, the calling
 -- end sends its connect behind a connect confirm
-abbrev pub answer_to : Role → Told → List ℕ
+abbrev pub answer_to : Role → Arrival → List ℕ
 answer_to called (asked r) = confirm_octets r
 answer_to (calling title said) (confirmed c) =
     wire (cut_size c.parameters.size) (connect_tsdu title)
 answer_to _ _ = []
 
-abbrev pub answers_to : Role → List Told → List ℕ
+abbrev pub answers_to : Role → List Arrival → List ℕ
 answers_to role told = flat_map (answer_to role) told

@@ -8,12 +8,12 @@ use Rattle.stack_messages.specs.declared.expecting.Phase.{Phase}
 use Rattle.stack_messages.specs.declared.expecting.Phase.TheVariants as phases
 use Rattle.stack_messages.specs.declared.expecting.Side.{Side}
 use Rattle.stack_messages.specs.declared.expecting.Side.TheVariants as sides
-use Rattle.stack_wire.specs.declared.setup.Setup.{Setup}
+use Rattle.stack_wire.specs.declared.setup.AssociationSetup.{AssociationSetup}
 use Rattle.stack_wire.specs.Setups.{cut_size}
-use Rattle.stack_assoc.specs.declared.known.Known.{Known}
-use Rattle.stack_assoc.specs.Told.{Told, Role, called, calling, side_of, first_in, size_in}
-use Rattle.stack_assoc.specs.Told.{confirm_in}
-use Rattle.stack_assoc.specs.Told.{connect_in, accept_in, is_refuse, is_conclude, is_concluded}
+use Rattle.stack_assoc.specs.declared.milestones.Milestones.{Milestones}
+use Rattle.stack_assoc.specs.Arrivals.{Arrival, Role, called, calling, side_of, first_in, size_in}
+use Rattle.stack_assoc.specs.Arrivals.{confirm_in}
+use Rattle.stack_assoc.specs.Arrivals.{connect_in, accept_in, is_refuse, is_conclude, is_concluded}
 use Rattle.stack_assoc.specs.Expectations.{setup_by}
 
 -- this end has said conclude
@@ -22,8 +22,8 @@ has_said called = false
 has_said (calling title None) = false
 has_said (calling title (Some n)) = true
 
--- what is kept is so of these messages
-pub record Knows (role : Role) (told : List Told) (k : Known) : Type 0 where
+-- the milestones are those of these messages
+pub record Knows (role : Role) (told : List Arrival) (k : Milestones) : Type 0 where
   pub side : k.side ≡ side_of role
   pub begun : k.begun ≡ is_some (first_in size_in told)
   pub confirmed : k.confirmed ≡ is_some (first_in confirm_in told)
@@ -34,7 +34,7 @@ pub record Knows (role : Role) (told : List Told) (k : Known) : Type 0 where
   pub concluded : k.concluded ≡ list_any is_concluded told
   pub said : k.said ≡ has_said role
 
-abbrev pub nothing_known : Side → Known
+abbrev pub nothing_known : Side → Milestones
 nothing_known side = record {
   side = side;
   begun = false;
@@ -47,8 +47,8 @@ nothing_known side = record {
   said = false;
 }
 
--- one message more
-abbrev pub known_with : Known → Told → Known
+-- the milestones behind one message more
+abbrev pub known_with : Milestones → Arrival → Milestones
 known_with k t = record {
   side = k.side;
   begun = is_some (size_in t) || k.begun;
@@ -62,17 +62,17 @@ known_with k t = record {
 }
 
 -- the first size and the first connect fix what is said after them
-abbrev pub sized_by : Option (Option ℕ) → Bool → Setup → Setup
+abbrev pub sized_by : Option (Option ℕ) → Bool → AssociationSetup → AssociationSetup
 sized_by None begun s = s
 sized_by (Some size) true s = s
 sized_by (Some size) false s = record s { size = cut_size size }
 
-abbrev pub fixed_by : Option Connecting → Bool → Setup → Setup
+abbrev pub fixed_by : Option Connecting → Bool → AssociationSetup → AssociationSetup
 fixed_by None connected s = s
 fixed_by (Some c) true s = s
 fixed_by (Some c) false s = setup_by s.size (Some c)
 
-abbrev pub setup_with : Known → Setup → Told → Setup
+abbrev pub setup_with : Milestones → AssociationSetup → Arrival → AssociationSetup
 setup_with k s t = sized_by (size_in t) k.begun (fixed_by (connect_in t) k.connected s)
 
 abbrev pub called_phase : Bool → Bool → Phase
@@ -84,11 +84,11 @@ calling_phase confirmed refused accepted concluded = if confirmed && not refused
     then (if accepted then (if concluded then phases.Concluded else phases.Associated)
     else phases.Unassociated) else phases.Ending
 
-abbrev pub phase_by : Side → Known → Phase
+abbrev pub phase_by : Side → Milestones → Phase
 phase_by sides.Called k = called_phase k.connected k.concluding
 phase_by _ k = calling_phase k.confirmed k.refused k.accepted k.concluded
 
-abbrev pub expecting_by : Known → ℕ → ℕ → Expecting
+abbrev pub expecting_by : Milestones → ℕ → ℕ → Expecting
 expecting_by k acse mms = record {
   side = k.side;
   phase = phase_by k.side k;

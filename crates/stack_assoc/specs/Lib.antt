@@ -1,6 +1,6 @@
 pub mod Fronts
 pub mod InTurn
-pub mod Told
+pub mod Arrivals
 pub mod Expectations
 pub mod Tellings
 pub mod Handing

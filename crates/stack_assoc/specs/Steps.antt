@@ -14,16 +14,16 @@ use Rattle.stack_messages.specs.declared.heard.Heard.{Heard}
 use Rattle.stack_messages.specs.declared.heard.Heard.TheVariants as heards
 use Rattle.stack_assoc.specs.declared.input.StackIn.{StackIn}
 use Rattle.stack_assoc.specs.declared.input.StackIn.TheVariants as inputs
-use Rattle.stack_assoc.specs.declared.standing.Standing.TheVariants as standings
+use Rattle.stack_assoc.specs.declared.end_state.EndState.TheVariants as standings
 use Rattle.stack_assoc.specs.declared.taken.Opening.{Opening}
 use Rattle.stack_assoc.specs.declared.taken.Came.{Came}
 use Rattle.stack_assoc.specs.declared.taken.Came.TheVariants as cames
 use Rattle.stack_assoc.specs.declared.taken.Said.{Said}
 use Rattle.stack_assoc.specs.declared.taken.Said.TheVariants as saids
-use Rattle.stack_assoc.specs.Told.{Told, heard, Role, end_of}
+use Rattle.stack_assoc.specs.Arrivals.{Arrival, heard, Role, end_of}
 use Rattle.stack_assoc.specs.Expectations.{setup_by, id_or}
 use Rattle.stack_assoc.specs.Tellings.{Tell, transport_fault}
-use Rattle.stack_assoc.specs.Handing.{heard_in}
+use Rattle.stack_assoc.specs.Handing.{input_heard}
 use Rattle.stack_assoc.specs.Knowing.{nothing_known, known_with, setup_with}
 use Rattle.stack_assoc.specs.Taking.{opening_told, results_heard}
 use Rattle.stack_assoc.specs.Courses.{Course, taken, Stands, standing_with}
@@ -74,7 +74,7 @@ IsEmpty cames.Message v = Unit {0}
 IsEmpty _ v = v.held ≡ None
 
 -- all messages so far were taken, and then there is a rest
-pub record HasRest (role : Role) (octets : List ℕ) (told : List Told) (v : Course) : Type 0 where
+pub record HasRest (role : Role) (octets : List ℕ) (told : List Arrival) (v : Course) : Type 0 where
   pub messages : List Message
   pub rest : List ℕ
   pub tell : Tell role told messages
@@ -82,7 +82,7 @@ pub record HasRest (role : Role) (octets : List ℕ) (told : List Told) (v : Cou
   pub settled : lines.IsSettled v.line
 
 -- all messages so far were taken, and then this rule is broken
-pub record HasBroken (role : Role) (octets : List ℕ) (told : List Told) (fault : StackFault)
+pub record HasBroken (role : Role) (octets : List ℕ) (told : List Arrival) (fault : StackFault)
     (v : Course) : Type 0 where
   pub messages : List Message
   pub broken : CotpFault
@@ -90,7 +90,7 @@ pub record HasBroken (role : Role) (octets : List ℕ) (told : List Told) (fault
   pub stops : transport.Stops (end_of role) octets (messages ++ taken v) broken
   pub is : fault ≡ transport_fault broken
 
-abbrev pub LeavesOff : Role → List ℕ → List Told → Came → Course → Type 0
+abbrev pub LeavesOff : Role → List ℕ → List Arrival → Came → Course → Type 0
 LeavesOff role octets told cames.Message v = Unit {0}
 LeavesOff role octets told cames.Nothing v = HasRest role octets told v
 LeavesOff role octets told (cames.Fault f) v = HasBroken role octets told f v
@@ -100,8 +100,8 @@ abbrev pub IsTaken : Course → Came → Course → Type 0
 IsTaken old cames.Message new = IsSome new.held ⊎ ((old.owed ≡ None) × IsSome new.owed)
 IsTaken old _ new = Unit {0}
 
-pub record TakesOne (role : Role) (octets : List ℕ) (told : List Told) (old : Course) (came : Came)
-    (new : Course) : Type 0 where
+pub record TakesOne (role : Role) (octets : List ℕ) (told : List Arrival) (old : Course)
+    (came : Came) (new : Course) : Type 0 where
   pub stands : Stands role octets told new
   pub leaves : LeavesOff role octets told came new
   pub taken : IsTaken old came new
@@ -115,8 +115,8 @@ abbrev pub IsThere : Came → Course → Type 0
 IsThere cames.Message v = IsSome v.held
 IsThere _ v = v.held ≡ None
 
-pub record Takes (role : Role) (octets : List ℕ) (told : List Told) (came : Came) (new : Course) :
-    Type 0 where
+pub record Takes (role : Role) (octets : List ℕ) (told : List Arrival) (came : Came)
+    (new : Course) : Type 0 where
   pub stands : Stands role octets told new
   pub leaves : LeavesOff role octets told came new
   pub there : IsThere came new
@@ -159,5 +159,5 @@ left_answer _ = Ok None
 abbrev pub told_answer : Came → Said → Result (Option StackIn) StackFault
 told_answer came saids.Nothing = left_answer came
 told_answer came saids.Gone = Ok (Some inputs.Aborted)
-told_answer came (saids.Heard h results) = Ok (Some (heard_in h))
+told_answer came (saids.Heard h results) = Ok (Some (input_heard h))
 told_answer came (saids.Broken f) = Err f

@@ -18,7 +18,7 @@ use Rattle.stack_assoc.specs.declared.taken.Following.{Following}
 use Rattle.stack_assoc.specs.declared.taken.Following.TheVariants as followings
 use Rattle.stack_assoc.specs.declared.taken.Said.{Said}
 use Rattle.stack_assoc.specs.declared.taken.Said.TheVariants as saids
-use Rattle.stack_assoc.specs.Told.{Told, asked, confirmed}
+use Rattle.stack_assoc.specs.Arrivals.{Arrival, asked, confirmed}
 
 abbrev pub opening_seen : Opening → Message
 opening_seen (openings.Request r) = asks r
@@ -29,12 +29,12 @@ following_seen followings.Gone = transport.gone
 following_seen (followings.Tsdu place octets) = tsdu place octets.items
 
 -- what an opening tells
-abbrev pub opening_told : Opening → Told
+abbrev pub opening_told : Opening → Arrival
 opening_told (openings.Request r) = asked r
 opening_told (openings.Confirm c) = confirmed c
 
 -- what is known of it already
-abbrev pub opened : Option Opening → List Told
+abbrev pub opened : Option Opening → List Arrival
 opened None = []
 opened (Some o) = opening_told o ∷ []
 

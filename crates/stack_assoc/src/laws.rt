@@ -1,11 +1,11 @@
 //! What holds of all streams.
 ghost use Rattle.std.specs.Prelude.{◌≡◌, ℕ, List, ◌++◌, ◌⊎◌};
 ghost use Rattle.stack_messages.specs.declared.fault.StackFault.{StackFault};
-ghost use Rattle.stack_assoc.specs.Told.{Told, Role};
+ghost use Rattle.stack_assoc.specs.Arrivals.{Arrival, Role};
 ghost use Rattle.stack_assoc.specs.Tellings.{Tells, Stops};
 ghost use Rattle.mms_services.specs.declared.pdu.MmsPdu.{MmsPdu};
 ghost use Rattle.stack_assoc.specs.declared.input.StackState.TheVariants as states;
-ghost use Rattle.stack_assoc.specs.declared.standing.Standing.{Standing};
+ghost use Rattle.stack_assoc.specs.declared.end_state.EndState.{EndState};
 ghost use Rattle.stack_assoc.specs.Courses.{Course, Stands, HasToldAll, state_of};
 ghost use Rattle.stack_assoc.specs.Saying.{with_standing, with_said, role_said};
 
@@ -14,29 +14,30 @@ use stack_messages::messages_have_one_reading;
 /// Octets tell messages and a rest, or stop at a fault: one of the two, and in one way.
 pub fn one_reading()
     ensures always { (role : Role) (octets : List ℕ)
-        → ((told : List Told) × (rest : List ℕ) × Tells role octets told rest)
-        ⊎ ((told : List Told) × (fault : StackFault) × Stops role octets told fault) }
-    ensures tells { (role : Role) (octets : List ℕ) (told others : List Told) (rest other : List ℕ)
-        → Tells role octets told rest → Tells role octets others other → (told ≡ others)
-        × (rest ≡ other) }
-    ensures stops { (role : Role) (octets : List ℕ) (told others : List Told) (f g : StackFault)
+        → ((told : List Arrival) × (rest : List ℕ) × Tells role octets told rest)
+        ⊎ ((told : List Arrival) × (fault : StackFault) × Stops role octets told fault) }
+    ensures tells { (role : Role) (octets : List ℕ) (told others : List Arrival)
+        (rest other : List ℕ) → Tells role octets told rest → Tells role octets others other
+        → (told ≡ others) × (rest ≡ other) }
+    ensures stops { (role : Role) (octets : List ℕ) (told others : List Arrival) (f g : StackFault)
         → Stops role octets told f → Stops role octets others g → (told ≡ others) × (f ≡ g) }
-    ensures never_both { (role : Role) (octets : List ℕ) (told others : List Told) (rest : List ℕ)
-        (f : StackFault) → Tells role octets told rest → Stops role octets others f → ⊥ }
+    ensures never_both { (role : Role) (octets : List ℕ) (told others : List Arrival)
+        (rest : List ℕ) (f : StackFault) → Tells role octets told rest → Stops role octets others f
+        → ⊥ }
 {
     messages_have_one_reading();
 }
 
 /// What was told stays told, and a fault stays, whatever follows.
 pub fn what_was_told_stays()
-    ensures told { (role : Role) (octets more : List ℕ) (told later : List Told)
+    ensures told { (role : Role) (octets more : List ℕ) (told later : List Arrival)
         (rest left : List ℕ) → Tells role octets told rest
         → Tells role (octets ++ more) later left
-        → (others : List Told) × (later ≡ told ++ others) }
-    ensures stopped { (role : Role) (octets more : List ℕ) (told later : List Told)
+        → (others : List Arrival) × (later ≡ told ++ others) }
+    ensures stopped { (role : Role) (octets more : List ℕ) (told later : List Arrival)
         (rest : List ℕ) (f : StackFault) → Tells role octets told rest
-        → Stops role (octets ++ more) later f → (others : List Told) × (later ≡ told ++ others) }
-    ensures broken { (role : Role) (octets more : List ℕ) (told : List Told) (f : StackFault)
+        → Stops role (octets ++ more) later f → (others : List Arrival) × (later ≡ told ++ others) }
+    ensures broken { (role : Role) (octets more : List ℕ) (told : List Arrival) (f : StackFault)
         → Stops role octets told f → Stops role (octets ++ more) told f }
 {
     messages_have_one_reading();
@@ -45,10 +46,10 @@ pub fn what_was_told_stays()
 /// Whatever an end says, it stands where it stood in its stream; once the calling end has said
 /// conclude, its response is awaited.
 pub fn saying_takes_nothing()
-    ensures standing { (role : Role) (octets : List ℕ) (told : List Told) (v : Course)
-        (standing : Standing) → Stands role octets told v
+    ensures standing { (role : Role) (octets : List ℕ) (told : List Arrival) (v : Course)
+        (standing : EndState) → Stands role octets told v
         → Stands role octets told (with_standing standing v) }
-    ensures said { (role : Role) (octets : List ℕ) (told : List Told) (v : Course) (pdu : MmsPdu)
+    ensures said { (role : Role) (octets : List ℕ) (told : List Arrival) (v : Course) (pdu : MmsPdu)
         → state_of v ≡ states.Accepted → Stands role octets told v
         → Stands (role_said role told pdu) octets told (with_said pdu v) }
 {}
@@ -56,7 +57,7 @@ pub fn saying_takes_nothing()
 /// It doesn't matter where a stream is cut: ends that were fed the same octets, in whatever pieces,
 /// and have told all of them, have told the same messages, and met the same fault or none.
 pub fn cuts_change_nothing()
-    ensures { (role : Role) (octets : List ℕ) (told others : List Told) (one other : Course)
+    ensures { (role : Role) (octets : List ℕ) (told others : List Arrival) (one other : Course)
         → HasToldAll role octets told one → HasToldAll role octets others other
         → (told ≡ others) × (one.fault ≡ other.fault) }
 {

@@ -1,13 +1,13 @@
 //! Both ends of an association: octets of a stream to messages, and messages to octets.
 #![tactic(auto)]
 
+mod end_state;
 mod input;
-mod known;
 mod laws;
+mod milestones;
 mod offer;
 mod saying;
 mod stack;
-mod standing;
 mod taken;
 mod taking;
 mod telling;

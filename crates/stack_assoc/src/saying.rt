@@ -5,13 +5,13 @@ ghost use Rattle.mms_services.specs.Initiates.{IsFullInitiate};
 ghost use Rattle.mms_services.specs.PduOctets.{pdu_len, IsWritable};
 ghost use Rattle.stack_wire.specs.Tsdus.{accept_tsdu, refusal_tsdu, data_tsdu, abort_tsdu};
 ghost use Rattle.stack_assoc.specs.declared.input.StackState.TheVariants as states;
-ghost use Rattle.stack_assoc.specs.declared.standing.Standing.TheVariants as standings;
+ghost use Rattle.stack_assoc.specs.declared.end_state.EndState.TheVariants as standings;
 ghost use Rattle.stack_assoc.specs.Courses.{is_offered, is_accepted, state_of};
 ghost use Rattle.stack_assoc.specs.Saying.{with_standing, with_said, may_release};
 ghost use Rattle.stack_assoc.specs.Saying.{released, release_octets};
 
+use crate::end_state::EndState;
 use crate::stack::Stack;
-use crate::standing::Standing;
 use mms_services::{Initiate, MmsPdu};
 use stack_messages::Side;
 use stack_wire::{
@@ -32,7 +32,7 @@ impl Stack {
         ensures same { OnErr result (out.new.items ≡ out.old.items) }
     {
         write_accept(self.alloc, out, &self.setup, answer)?;
-        self.standing = Standing::Accepted;
+        self.standing = EndState::Accepted;
         Ok(())
     }
 
@@ -47,7 +47,7 @@ impl Stack {
         ensures same { OnErr result (out.new.items ≡ out.old.items) }
     {
         write_refusal(self.alloc, out, self.setup.size, self.setup.acse)?;
-        self.standing = Standing::Closed;
+        self.standing = EndState::Closed;
         Ok(())
     }
 
@@ -82,8 +82,8 @@ impl Stack {
         ensures { result ≡ may_release self.now }
     {
         match (self.known.side, self.standing, self.fault) {
-            (Side::Called, Standing::Finishing, None) => true,
-            (Side::Calling, Standing::Accepted, None) => true,
+            (Side::Called, EndState::Finishing, None) => true,
+            (Side::Calling, EndState::Accepted, None) => true,
             _ => false,
         }
     }
@@ -93,7 +93,7 @@ impl Stack {
         ensures { result ≡ is_accepted self.now.standing }
     {
         match self.standing {
-            Standing::Accepted | Standing::Finishing => true,
+            EndState::Accepted | EndState::Finishing => true,
             _ => false,
         }
     }
@@ -111,7 +111,7 @@ impl Stack {
         match self.known.side {
             Side::Called => {
                 write_release(self.alloc, out, self.setup.size, self.setup.acse)?;
-                self.standing = Standing::Closed;
+                self.standing = EndState::Closed;
                 Ok(())
             }
             _ => write_finish(self.alloc, out, self.setup.size, self.setup.acse),
@@ -128,6 +128,6 @@ impl Stack {
             ++ wire self.old.setup.size (abort_tsdu self.old.setup.acse) }
     {
         write_abort(out, self.setup.acse);
-        self.standing = Standing::Closed;
+        self.standing = EndState::Closed;
     }
 }

@@ -6,21 +6,21 @@ ghost use Rattle.tpkt_cotp.specs.declared.limits.TheConstants.{PIECE_LIMIT};
 ghost use Rattle.tpkt_cotp.specs.declared.limits.TheConstants.{TPKT_LIMIT, TSDU_LIMIT};
 ghost use Rattle.tpkt_cotp.specs.Written.{request_octets};
 ghost use Rattle.stack_assoc.specs.declared.input.StackState.TheVariants as states;
-ghost use Rattle.stack_assoc.specs.Told.{Told, Role, called, calling};
+ghost use Rattle.stack_assoc.specs.Arrivals.{Arrival, Role, called, calling};
 ghost use Rattle.stack_assoc.specs.Expectations.{setup_by};
 ghost use Rattle.stack_assoc.specs.Courses.{Stands, IsSettled, is_offered, Answers, state_of};
 ghost use Rattle.stack_assoc.specs.Courses.{FollowsAnswer, fault_in, octets_in, count_held};
 ghost use Rattle.stack_assoc.specs.Taking.{following_seen};
 ghost use Rattle.stack_assoc.specs.Steps.{IsNew, left_of};
 
+use crate::end_state::EndState;
 use crate::input::{StackIn, StackState};
-use crate::known::Known;
-use crate::standing::Standing;
+use crate::milestones::Milestones;
 use crate::taken::{Following, Opening};
 use ber_values::Oid;
 use presentation_profile::Results;
 use stack_messages::{Side, StackFault};
-use stack_wire::Setup;
+use stack_wire::AssociationSetup;
 use std::alloc::{AllocError, Global};
 use std::marker::Model;
 use tpkt_cotp::{Transport, write_cr};
@@ -34,9 +34,9 @@ pub struct Stack {
     /// A connect request or confirm whose answer isn't out yet, and the message behind it.
     pub(crate) owed: Option<Opening>,
     pub(crate) held: Option<Following>,
-    pub(crate) known: Known,
-    pub(crate) setup: Setup,
-    pub(crate) standing: Standing,
+    pub(crate) known: Milestones,
+    pub(crate) setup: AssociationSetup,
+    pub(crate) standing: EndState,
     pub(crate) fault: Option<StackFault>,
 }
 
@@ -64,10 +64,10 @@ impl Model for Stack {
 }
 
 /// What nothing has fixed yet.
-fn first_setup(alloc: Global) -> Setup
+fn first_setup(alloc: Global) -> AssociationSetup
     ensures { result ≡ setup_by 1024 None }
 {
-    Setup {
+    AssociationSetup {
         size: 1024,
         session: None,
         presentation: None,
@@ -87,9 +87,9 @@ impl Stack {
             transport: Transport::new(alloc, end),
             owed: None,
             held: None,
-            known: Known::new(side),
+            known: Milestones::new(side),
             setup: first_setup(alloc),
-            standing: Standing::Waiting,
+            standing: EndState::Waiting,
             fault: None,
         }
     }
@@ -137,7 +137,7 @@ impl Stack {
         requires settled { IsSettled self.old }
         requires answered { is_offered self.old.standing ≡ false }
         // The stream goes on by the piece.
-        ensures ok { (role : Role) (octets : List ℕ) (told : List Told)
+        ensures ok { (role : Role) (octets : List ℕ) (told : List Arrival)
             → Stands role octets told self.old
             → OnOk result (Stands role (octets ++ piece.now) told self.new) }
         // Behind a fault the octets are dropped.
@@ -162,7 +162,7 @@ impl Stack {
         &mut self,
         out: &mut Vec<u8>,
     ) -> Result<Result<Option<StackIn>, StackFault>, AllocError>
-        ensures ok { (role : Role) (octets : List ℕ) (told : List Told)
+        ensures ok { (role : Role) (octets : List ℕ) (told : List Arrival)
             → Stands role octets told self.old
             → IfOk result (λ answer. Answers role octets told self.old out.old.items answer
             self.new out.new.items) }
@@ -174,7 +174,7 @@ impl Stack {
         ensures broken { IfOk result (λ answer. self.new.fault ≡ fault_in answer) }
         ensures again { (fault : StackFault) → self.old.fault ≡ Some fault
             → result ≡ Ok (Err fault) }
-        ensures kept { (role : Role) (octets : List ℕ) (told : List Told)
+        ensures kept { (role : Role) (octets : List ℕ) (told : List Arrival)
             → Stands role octets told self.old → OnErr result (Stands role octets told self.new) }
         ensures state { OnErr result (state_of self.new ≡ state_of self.old) }
         ensures stays { OnErr result (self.new.standing ≡ self.old.standing) }

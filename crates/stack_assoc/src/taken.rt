@@ -1,7 +1,7 @@
 //! What the transport gave that isn't told yet.
 ghost use Rattle.std.specs.Prelude.{◌≡◌, IfOk, Some};
 ghost use Rattle.tpkt_cotp.specs.Sound.{IsSound, IsSize};
-ghost use Rattle.stack_assoc.specs.Told.{size_in};
+ghost use Rattle.stack_assoc.specs.Arrivals.{size_in};
 ghost use Rattle.stack_assoc.specs.Taking.{results_heard, opening_seen, opening_told};
 
 use presentation_profile::{Results, results_of};

@@ -1,7 +1,7 @@
 //! What an end takes from its transport, and what it reads of that.
 ghost use Rattle.std.specs.Prelude.{◌≡◌, ℕ, List, ◌++◌, None, IfOk, OnOk, OnErr};
 ghost use Rattle.tpkt_cotp.specs.Sound.{IsSound};
-ghost use Rattle.stack_assoc.specs.Told.{Told, Role};
+ghost use Rattle.stack_assoc.specs.Arrivals.{Arrival, Role};
 ghost use Rattle.stack_assoc.specs.Tellings.{transport_fault};
 ghost use Rattle.stack_assoc.specs.Knowing.{expecting_by};
 ghost use Rattle.stack_messages.specs.Messages.{message};
@@ -44,7 +44,7 @@ impl Stack {
     /// Takes one message of the transport.
     fn take_one(&mut self) -> Result<Came, AllocError>
         requires { self.old.held ≡ None }
-        ensures ok { (role : Role) (octets : List ℕ) (told : List Told)
+        ensures ok { (role : Role) (octets : List ℕ) (told : List Arrival)
             → Stands role octets told self.old → self.old.fault ≡ None
             → IfOk result (λ came. TakesOne role octets told self.old came self.new) }
         ensures untold { Untold self.old self.new }
@@ -77,10 +77,10 @@ impl Stack {
     /// Takes the next message to be read, unless there is one, and what comes before it.
     pub(crate) fn take(&mut self) -> Result<Came, AllocError>
         requires { self.old.fault ≡ None }
-        ensures ok { (role : Role) (octets : List ℕ) (told : List Told)
+        ensures ok { (role : Role) (octets : List ℕ) (told : List Arrival)
             → Stands role octets told self.old
             → IfOk result (λ came. Takes role octets told came self.new) }
-        ensures kept { (role : Role) (octets : List ℕ) (told : List Told)
+        ensures kept { (role : Role) (octets : List ℕ) (told : List Arrival)
             → Stands role octets told self.old → OnErr result (Stands role octets told self.new) }
         ensures untold { Untold self.old self.new }
         ensures fewer { IfOk result (λ came. FewerLeft came self.old self.new) }
@@ -98,7 +98,7 @@ impl Stack {
     /// Takes the next message to be read behind what begins a connection, unless there is one.
     fn take_behind(&mut self) -> Result<Came, AllocError>
         requires { self.old.fault ≡ None }
-        ensures ok { (role : Role) (octets : List ℕ) (told : List Told)
+        ensures ok { (role : Role) (octets : List ℕ) (told : List Arrival)
             → Stands role octets told self.old → IsBegun self.old
             → IfOk result (λ came. Takes role octets told came self.new) }
         ensures untold { Untold self.old self.new }

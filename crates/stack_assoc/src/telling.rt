@@ -2,15 +2,15 @@
 ghost use Rattle.std.specs.Prelude.{◌≡◌, Some, Ok, OnOk, OnErr, IsErr};
 ghost use Rattle.stack_assoc.specs.Knowing.{fixed_by};
 ghost use Rattle.stack_messages.specs.declared.heard.Heard.TheVariants as heards;
-ghost use Rattle.stack_assoc.specs.Handing.{heard_in};
+ghost use Rattle.stack_assoc.specs.Handing.{input_heard};
 ghost use Rattle.stack_assoc.specs.Taking.{results_heard};
 ghost use Rattle.stack_assoc.specs.Steps.{IsModest, IsTellable, told_heard, told_with, told_answer};
 ghost use Rattle.stack_assoc.specs.Steps.{left_with, left_answer};
 
+use crate::end_state::EndState;
 use crate::input::StackIn;
 use crate::offer::is_offer;
 use crate::stack::Stack;
-use crate::standing::Standing;
 use crate::taken::{Came, Said};
 use presentation_profile::{Results, acse_id, mms_id};
 use stack_messages::{Connecting, Heard, StackFault};
@@ -47,7 +47,7 @@ impl Stack {
             Said::Nothing => self.tell_rest(came),
             Said::Gone => {
                 self.held = None;
-                self.standing = Standing::Closed;
+                self.standing = EndState::Closed;
                 Ok(Some(StackIn::Aborted))
             }
             Said::Heard(heard, results) => Ok(Some(self.tell_heard(heard, results))),
@@ -78,7 +78,7 @@ impl Stack {
         requires modest { IsModest message }
         requires results { results ≡ results_heard message }
         ensures course { self.new ≡ told_heard message self.old }
-        ensures input { result ≡ heard_in message }
+        ensures input { result ≡ input_heard message }
     {
         self.held = None;
         self.standing = self.standing.with_heard(&message);
@@ -101,7 +101,7 @@ impl Stack {
         requires results { results ≡ results_heard (heards.Connect connecting) }
         ensures course { self.new
             ≡ record self.old { setup = fixed_by (Some connecting) connected self.old.setup } }
-        ensures input { result ≡ heard_in (heards.Connect connecting) }
+        ensures input { result ≡ input_heard (heards.Connect connecting) }
     {
         let may_be_accepted = is_offer(&connecting);
         let acse = acse_id(connecting.contexts.as_slice()).unwrap_or(OWN_ACSE);

@@ -1,5 +1,5 @@
 pub mod Exact
 pub mod LayersRead
 pub mod OneMeaning
-mod Worked
+pub mod Worked
 pub mod OneMessage

@@ -55,6 +55,7 @@ use Rattle.stack_messages.specs.declared.expecting.Phase.TheVariants as phases
 use Rattle.stack_messages.specs.declared.expecting.Side.TheVariants as sides
 use Rattle.stack_messages.specs.declared.fault.Layer.{Layer}
 use Rattle.stack_messages.specs.declared.fault.Layer.TheVariants as layers
+use Rattle.stack_messages.specs.declared.heard.Connecting.{Connecting}
 use Rattle.stack_messages.specs.declared.heard.Heard.TheVariants as heard
 use Rattle.stack_messages.specs.Meanings.{says_just, inside}
 use Rattle.stack_messages.specs.Layers.{fault_of, octets_at, in_layer, spdu_of, ppdu_at, apdu_at, pdu_at}
@@ -64,7 +65,7 @@ use Rattle.ber_values.specs.Heads.{head_by, element_by, extent_of, extent_within
 use Rattle.ber_values.specs.Extents.{definite}
 use Rattle.ber_values.specs.Grammars.{passed_within, passed_in}
 
-abbrev span : ℕ → ℕ → Span
+abbrev pub span : ℕ → ℕ → Span
 span from to = record { from = from; to = to }
 
 -- what a grammar reads in a layer is what the octets say, and its fault theirs
@@ -76,8 +77,10 @@ layer-breaks : {X : Type 0} (layer : Layer) (placed : ℕ → ℕ) (g : Grammar 
 unfolding in_layer
 layer-breaks layer placed g at octets b exact e = (b, (exact at octets).fault b e, refl)
 
+-- ---- the messages
+
 -- a connect of two control centres
-connecting_octets : List ℕ
+unfoldable pub connecting_octets : List ℕ
 connecting_octets =
     13 ∷ 168 ∷ 5 ∷ 6 ∷ 19 ∷ 1 ∷ 0 ∷ 22 ∷ 1 ∷ 2 ∷ 20 ∷ 2 ∷ 0 ∷ 2 ∷ 51 ∷ 2 ∷ 0 ∷ 1 ∷ 52 ∷ 2 ∷ 0 ∷
     1 ∷ 193 ∷ 146 ∷ 49 ∷ 129 ∷ 143 ∷ 160 ∷ 3 ∷ 128 ∷ 1 ∷ 1 ∷ 162 ∷ 129 ∷ 135 ∷ 129 ∷ 4 ∷ 0 ∷ 0 ∷
@@ -88,72 +91,6 @@ connecting_octets =
     40 ∷ 49 ∷ 6 ∷ 2 ∷ 81 ∷ 1 ∷ 2 ∷ 1 ∷ 3 ∷ 160 ∷ 40 ∷ 168 ∷ 38 ∷ 128 ∷ 3 ∷ 0 ∷ 253 ∷ 232 ∷ 129 ∷
     1 ∷ 5 ∷ 130 ∷ 1 ∷ 5 ∷ 131 ∷ 1 ∷ 5 ∷ 164 ∷ 22 ∷ 128 ∷ 1 ∷ 1 ∷ 129 ∷ 3 ∷ 5 ∷ 241 ∷ 0 ∷ 130 ∷
     12 ∷ 3 ∷ 238 ∷ 28 ∷ 0 ∷ 0 ∷ 4 ∷ 8 ∷ 0 ∷ 0 ∷ 121 ∷ 239 ∷ 24 ∷ []
-
-own : Initiate
-own = record { detail = Some (pos 65000); calling = pos 5; called = pos 5; nesting = Some (pos 5); version = pos 1 }
-
-abbrev on_offer : List Offered
-on_offer = offered 1 (82 ∷ 1 ∷ 0 ∷ 1 ∷ []) true ∷ offered 3 (40 ∷ 202 ∷ 34 ∷ 2 ∷ 1 ∷ []) true ∷ []
-
-connect_spdu : session.spdu_in connecting_octets ≡ Ok (spdus.Connect (Some (0 ∷ 1 ∷ [])) (span 24 170))
-unfolding connecting_octets session.spdu_in session.whole_in session.coded_in rules.all_in rules.rest_in connection item parameter_in lengths.length_in
-connect_spdu = refl
-
-connect_ppdu : (ppdu expects.Connect).reading 24 (octets_at connecting_octets (span 24 170)) ≡ Ok (taken (ppdus.Connect (Some (0 ∷ 0 ∷ 0 ∷ 1 ∷ [])) on_offer 1 (span 93 170)) 170 [])
-unfolding connecting_octets ppdu set_up set_up_contents mode parameters connect connect_selectors
-    accept outcomes.results outcomes.accepting_results outcomes.first_in outcomes.one_result
-    outcomes.result_contents after_others before_others others selector_in user_data external offers
-    offer offer_contents transfers length_in tag_in head_in integer_in unsigned_in oid_in gives
-    then_in map_in branch_in refused skip by_length pass_in sized_part_in parted_in part_in
-    choose_in maybe_in contents_as contents_where all_in whole_in more_in list_in count_in
-    leaves.unsigned leaves.unsigned_within leaves.oid leaves.octet leaves.octet_in leaves.span
-    leaves.selector leaves.selector_in leaves.fixed leaves.raw leaves.integer leaves.bits bits_in
-    extent_of extent_within definite head_by element_by passed_within passed_in
-connect_ppdu = refl
-
-connect_apdu : (apdu (asked on_offer)).reading 93 (octets_at connecting_octets (span 93 170)) ≡ Ok (taken (apdus.Aarq (record { context = 40 ∷ 202 ∷ 34 ∷ 2 ∷ 3 ∷ []; title = Some (41 ∷ 135 ∷ 103 ∷ 1 ∷ []); user = external_of 3 (span 130 170) })) 170 [])
-unfolding connecting_octets apdu one_apdu request one_oid context_name calling_title user_last
-    responses.response responses.context_passed responses.one_result responses.result_next
-    responses.user_of_result responses.some_user_last external user_information by_tag rising_within
-    rising_in named_in perhaps_in attempt length_in tag_in head_in integer_in unsigned_in oid_in
-    gives then_in map_in branch_in refused skip by_length pass_in sized_part_in parted_in part_in
-    choose_in maybe_in contents_as contents_where all_in whole_in more_in list_in count_in
-    leaves.unsigned leaves.unsigned_within leaves.oid leaves.octet leaves.octet_in leaves.span
-    leaves.selector leaves.selector_in leaves.fixed leaves.raw leaves.integer leaves.bits bits_in
-    extent_of extent_within definite head_by element_by passed_within passed_in
-connect_apdu = refl
-
-connect_pdu : pdu.reading 0 (octets_at connecting_octets (span 130 170)) ≡ Ok (taken (pdus.Initiate own) 40 [])
-unfolding connecting_octets own pdu one_pdu confirmed_request confirmed_response frame_pdu invoke_in
-    one_request set_request unknown_request one_response set_response identify_request
-    identify_response some_syntaxes initiate initiate_detail coded_in by_first leaves.visible_within
-    leaves.text_in leaves.visible visible_in length_in tag_in head_in integer_in unsigned_in oid_in
-    gives then_in map_in branch_in refused skip by_length pass_in sized_part_in parted_in part_in
-    choose_in maybe_in contents_as contents_where all_in whole_in more_in list_in count_in
-    leaves.unsigned leaves.unsigned_within leaves.oid leaves.octet leaves.octet_in leaves.span
-    leaves.selector leaves.selector_in leaves.fixed leaves.raw leaves.integer leaves.bits bits_in
-    extent_of extent_within definite head_by element_by passed_within passed_in
-connect_pdu = refl
-
-called : Expecting
-called = record { side = sides.Called; phase = phases.Unassociated; acse = 0; mms = 0; awaited = false }
-
--- it is heard at the called end, before an association stands
-connect_heard : (message called connecting_octets).says (heard.Connect (record { session = Some (0 ∷ 1 ∷ []); presentation = Some (0 ∷ 0 ∷ 0 ∷ 1 ∷ []); contexts = on_offer; context = 40 ∷ 202 ∷ 34 ∷ 2 ∷ 3 ∷ []; title = Some (41 ∷ 135 ∷ 103 ∷ 1 ∷ []); initiate = own }))
-unfolding message inside spdu_of connect_at ppdu_at apdu_at pdu_at says_just called
-connect_heard = (
-  spdus.Connect (Some (0 ∷ 1 ∷ [])) (span 24 170),
-  (spdu_reads connecting_octets).found _ connect_spdu,
-  (
-    _,
-    layer-says layers.Presentation (λ n. n) (ppdu expects.Connect) 24 _ _ (ppdu_reads expects.Connect) connect_ppdu,
-    (
-      _,
-      layer-says layers.Acse (λ n. n) (apdu (asked on_offer)) 93 _ _ (apdu_reads (asked on_offer)) connect_apdu,
-      (_, layer-says layers.Mms _ pdu 0 _ _ pdu_reads connect_pdu, refl),
-    ),
-  ),
-)
 
 -- the accept that answers it
 accepting_octets : List ℕ
@@ -166,116 +103,10 @@ accepting_octets =
     38 ∷ 128 ∷ 3 ∷ 0 ∷ 253 ∷ 232 ∷ 129 ∷ 1 ∷ 5 ∷ 130 ∷ 1 ∷ 5 ∷ 131 ∷ 1 ∷ 5 ∷ 164 ∷ 22 ∷ 128 ∷ 1 ∷
     1 ∷ 129 ∷ 3 ∷ 5 ∷ 225 ∷ 0 ∷ 130 ∷ 12 ∷ 3 ∷ 108 ∷ 28 ∷ 0 ∷ 0 ∷ 0 ∷ 0 ∷ 0 ∷ 0 ∷ 0 ∷ 1 ∷ 16 ∷ []
 
-calling : Expecting
-calling = record { side = sides.Calling; phase = phases.Unassociated; acse = 1; mms = 3; awaited = false }
-
-accept_spdu : session.spdu_in accepting_octets ≡ Ok (spdus.Accept (Some (0 ∷ 1 ∷ [])) (span 20 136))
-unfolding accepting_octets session.spdu_in session.whole_in session.coded_in rules.all_in rules.rest_in connection item parameter_in lengths.length_in
-accept_spdu = refl
-
-accept_ppdu : (ppdu (expects.Accept (Some 1))).reading 20 (octets_at accepting_octets (span 20 136)) ≡ Ok (taken (ppdus.Accept (Some (0 ∷ 0 ∷ 0 ∷ 1 ∷ [])) (0 ∷ 0 ∷ []) 1 (span 64 136)) 136 [])
-unfolding accepting_octets ppdu set_up set_up_contents mode parameters connect connect_selectors
-    accept outcomes.results outcomes.accepting_results outcomes.first_in outcomes.one_result
-    outcomes.result_contents after_others before_others others selector_in user_data external offers
-    offer offer_contents transfers length_in tag_in head_in integer_in unsigned_in oid_in gives
-    then_in map_in branch_in refused skip by_length pass_in sized_part_in parted_in part_in
-    choose_in maybe_in contents_as contents_where all_in whole_in more_in list_in count_in
-    leaves.unsigned leaves.unsigned_within leaves.oid leaves.octet leaves.octet_in leaves.span
-    leaves.selector leaves.selector_in leaves.fixed leaves.raw leaves.integer leaves.bits bits_in
-    extent_of extent_within definite head_by element_by passed_within passed_in
-accept_ppdu = refl
-
-accept_apdu : (apdu (answered calling)).reading 64 (octets_at accepting_octets (span 64 136)) ≡ Ok (taken (apdus.Aare (record { result = 0; user = Some (external_of 3 (span 96 136)) })) 136 [])
-unfolding accepting_octets calling apdu one_apdu request one_oid context_name calling_title
-    user_last responses.response responses.context_passed responses.one_result responses.result_next
-    responses.user_of_result responses.some_user_last external user_information by_tag rising_within
-    rising_in named_in perhaps_in attempt length_in tag_in head_in integer_in unsigned_in oid_in
-    gives then_in map_in branch_in refused skip by_length pass_in sized_part_in parted_in part_in
-    choose_in maybe_in contents_as contents_where all_in whole_in more_in list_in count_in
-    leaves.unsigned leaves.unsigned_within leaves.oid leaves.octet leaves.octet_in leaves.span
-    leaves.selector leaves.selector_in leaves.fixed leaves.raw leaves.integer leaves.bits bits_in
-    extent_of extent_within definite head_by element_by passed_within passed_in
-accept_apdu = refl
-
-accept_pdu : pdu.reading 0 (octets_at accepting_octets (span 96 136)) ≡ Ok (taken (pdus.Initiated own) 40 [])
-unfolding accepting_octets own pdu one_pdu confirmed_request confirmed_response frame_pdu invoke_in
-    one_request set_request unknown_request one_response set_response identify_request
-    identify_response some_syntaxes initiate initiate_detail coded_in by_first leaves.visible_within
-    leaves.text_in leaves.visible visible_in length_in tag_in head_in integer_in unsigned_in oid_in
-    gives then_in map_in branch_in refused skip by_length pass_in sized_part_in parted_in part_in
-    choose_in maybe_in contents_as contents_where all_in whole_in more_in list_in count_in
-    leaves.unsigned leaves.unsigned_within leaves.oid leaves.octet leaves.octet_in leaves.span
-    leaves.selector leaves.selector_in leaves.fixed leaves.raw leaves.integer leaves.bits bits_in
-    extent_of extent_within definite head_by element_by passed_within passed_in
-accept_pdu = refl
-
--- it is heard at the calling end
-accept_heard : (message calling accepting_octets).says (heard.Accept (record { acse = 1; mms = 3; initiate = own }))
-unfolding message inside spdu_of accept_at ppdu_at apdu_at pdu_at says_just calling
-accept_heard = (
-  spdus.Accept (Some (0 ∷ 1 ∷ [])) (span 20 136),
-  (spdu_reads accepting_octets).found _ accept_spdu,
-  (
-    _,
-    layer-says layers.Presentation (λ n. n) (ppdu (expects.Accept (Some 1))) 20 _ _ (ppdu_reads (expects.Accept (Some 1))) accept_ppdu,
-    (
-      _,
-      layer-says layers.Acse (λ n. n) (apdu (answered calling)) 64 _ _ (apdu_reads (answered calling)) accept_apdu,
-      (_, layer-says layers.Mms _ pdu 0 _ _ pdu_reads accept_pdu, refl),
-    ),
-  ),
-)
-
-answering : Expecting
-answering = record { side = sides.Called; phase = phases.Associated; acse = 1; mms = 3; awaited = false }
-
-asking : Expecting
-asking = record { side = sides.Calling; phase = phases.Associated; acse = 1; mms = 3; awaited = false }
-
 -- a request to identify
-identify_octets : List ℕ
+unfoldable pub identify_octets : List ℕ
 identify_octets =
     1 ∷ 0 ∷ 1 ∷ 0 ∷ 97 ∷ 14 ∷ 48 ∷ 12 ∷ 2 ∷ 1 ∷ 3 ∷ 160 ∷ 7 ∷ 160 ∷ 5 ∷ 2 ∷ 1 ∷ 1 ∷ 130 ∷ 0 ∷ []
-
-identify_spdu : session.spdu_in identify_octets ≡ Ok (spdus.Carry (span 4 20))
-unfolding identify_octets session.spdu_in
-identify_spdu = refl
-
-identify_ppdu : (ppdu (expects.Carry 3)).reading 4 (octets_at identify_octets (span 4 20)) ≡ Ok (taken (ppdus.Carry 3 (span 13 20)) 20 [])
-unfolding identify_octets ppdu set_up set_up_contents mode parameters connect connect_selectors
-    accept outcomes.results outcomes.accepting_results outcomes.first_in outcomes.one_result
-    outcomes.result_contents after_others before_others others selector_in user_data external offers
-    offer offer_contents transfers length_in tag_in head_in integer_in unsigned_in oid_in gives
-    then_in map_in branch_in refused skip by_length pass_in sized_part_in parted_in part_in
-    choose_in maybe_in contents_as contents_where all_in whole_in more_in list_in count_in
-    leaves.unsigned leaves.unsigned_within leaves.oid leaves.octet leaves.octet_in leaves.span
-    leaves.selector leaves.selector_in leaves.fixed leaves.raw leaves.integer leaves.bits bits_in
-    extent_of extent_within definite head_by element_by passed_within passed_in
-identify_ppdu = refl
-
-identify_pdu : pdu.reading 0 (octets_at identify_octets (span 13 20)) ≡ Ok (taken (pdus.Request 1 asked_for.Identify) 7 [])
-unfolding identify_octets pdu one_pdu confirmed_request confirmed_response frame_pdu invoke_in
-    one_request set_request unknown_request one_response set_response identify_request
-    identify_response some_syntaxes initiate initiate_detail coded_in by_first leaves.visible_within
-    leaves.text_in leaves.visible visible_in length_in tag_in head_in integer_in unsigned_in oid_in
-    gives then_in map_in branch_in refused skip by_length pass_in sized_part_in parted_in part_in
-    choose_in maybe_in contents_as contents_where all_in whole_in more_in list_in count_in
-    leaves.unsigned leaves.unsigned_within leaves.oid leaves.octet leaves.octet_in leaves.span
-    leaves.selector leaves.selector_in leaves.fixed leaves.raw leaves.integer leaves.bits bits_in
-    extent_of extent_within definite head_by element_by passed_within passed_in
-identify_pdu = refl
-
-identify_heard : (message answering identify_octets).says (heard.Pdu (pdus.Request 1 asked_for.Identify))
-unfolding message inside spdu_of carry_at ppdu_at data_at pdu_at answering
-identify_heard = (
-  spdus.Carry (span 4 20),
-  (spdu_reads identify_octets).found _ identify_spdu,
-  (
-    _,
-    layer-says layers.Presentation (λ n. n) (ppdu (expects.Carry 3)) 4 _ _ (ppdu_reads (expects.Carry 3)) identify_ppdu,
-    inl (_, layer-says layers.Mms _ pdu 0 _ _ pdu_reads identify_pdu, refl, refl),
-  ),
-)
 
 -- its response
 identified_octets : List ℕ
@@ -283,12 +114,58 @@ identified_octets =
     1 ∷ 0 ∷ 1 ∷ 0 ∷ 97 ∷ 32 ∷ 48 ∷ 30 ∷ 2 ∷ 1 ∷ 3 ∷ 160 ∷ 25 ∷ 161 ∷ 23 ∷ 2 ∷ 1 ∷ 1 ∷ 162 ∷ 18 ∷
     128 ∷ 6 ∷ 67 ∷ 69 ∷ 78 ∷ 84 ∷ 82 ∷ 69 ∷ 129 ∷ 5 ∷ 84 ∷ 65 ∷ 83 ∷ 69 ∷ 50 ∷ 130 ∷ 1 ∷ 49 ∷ []
 
-identified_spdu : session.spdu_in identified_octets ≡ Ok (spdus.Carry (span 4 38))
-unfolding identified_octets session.spdu_in
-identified_spdu = refl
+-- the request without its last octet
+short_octets : List ℕ
+short_octets =
+    1 ∷ 0 ∷ 1 ∷ 0 ∷ 97 ∷ 14 ∷ 48 ∷ 12 ∷ 2 ∷ 1 ∷ 3 ∷ 160 ∷ 7 ∷ 160 ∷ 5 ∷ 2 ∷ 1 ∷ 1 ∷ 130 ∷ []
 
-identified_ppdu : (ppdu (expects.Carry 3)).reading 4 (octets_at identified_octets (span 4 38)) ≡ Ok (taken (ppdus.Carry 3 (span 13 38)) 38 [])
-unfolding identified_octets ppdu set_up set_up_contents mode parameters connect connect_selectors
+-- what the connect asks for, and the accept grants
+unfoldable pub wanted : Initiate
+wanted = record { detail = Some (pos 65000); calling = pos 5; called = pos 5; nesting = Some (pos 5); version = pos 1 }
+
+abbrev pub on_offer : List Offered
+on_offer = offered 1 (82 ∷ 1 ∷ 0 ∷ 1 ∷ []) true ∷ offered 3 (40 ∷ 202 ∷ 34 ∷ 2 ∷ 1 ∷ []) true ∷ []
+
+abbrev pub connecting : Connecting
+connecting = record {
+  session = Some (0 ∷ 1 ∷ []);
+  presentation = Some (0 ∷ 0 ∷ 0 ∷ 1 ∷ []);
+  contexts = on_offer;
+  context = 40 ∷ 202 ∷ 34 ∷ 2 ∷ 3 ∷ [];
+  title = Some (41 ∷ 135 ∷ 103 ∷ 1 ∷ []);
+  initiate = wanted;
+}
+
+-- the called end before an association stands, and the calling end then
+abbrev pub called : Expecting
+called = record { side = sides.Called; phase = phases.Unassociated; acse = 1; mms = 3; awaited = false }
+
+abbrev calling : Expecting
+calling = record { side = sides.Calling; phase = phases.Unassociated; acse = 1; mms = 3; awaited = false }
+
+-- both once it stands
+abbrev pub answering : Expecting
+answering = record { side = sides.Called; phase = phases.Associated; acse = 1; mms = 3; awaited = false }
+
+abbrev asking : Expecting
+asking = record { side = sides.Calling; phase = phases.Associated; acse = 1; mms = 3; awaited = false }
+
+-- ---- what each layer reads
+
+spdu_rows : (session.spdu_in connecting_octets ≡ Ok (spdus.Connect (Some (0 ∷ 1 ∷ [])) (span 24 170)))
+    × (session.spdu_in accepting_octets ≡ Ok (spdus.Accept (Some (0 ∷ 1 ∷ [])) (span 20 136)))
+    × (session.spdu_in identify_octets ≡ Ok (spdus.Carry (span 4 20)))
+    × (session.spdu_in identified_octets ≡ Ok (spdus.Carry (span 4 38)))
+    × (session.spdu_in short_octets ≡ Ok (spdus.Carry (span 4 19)))
+unfolding connecting_octets accepting_octets identify_octets identified_octets short_octets session.spdu_in session.whole_in session.coded_in rules.all_in rules.rest_in connection item parameter_in lengths.length_in
+spdu_rows = (refl, refl, refl, refl, refl)
+
+ppdu_rows : ((ppdu expects.Connect).reading 24 (octets_at connecting_octets (span 24 170)) ≡ Ok (taken (ppdus.Connect (Some (0 ∷ 0 ∷ 0 ∷ 1 ∷ [])) on_offer 1 (span 93 170)) 170 []))
+    × ((ppdu (expects.Accept (Some 1))).reading 20 (octets_at accepting_octets (span 20 136)) ≡ Ok (taken (ppdus.Accept (Some (0 ∷ 0 ∷ 0 ∷ 1 ∷ [])) (0 ∷ 0 ∷ []) 1 (span 64 136)) 136 []))
+    × ((ppdu (expects.Carry 3)).reading 4 (octets_at identify_octets (span 4 20)) ≡ Ok (taken (ppdus.Carry 3 (span 13 20)) 20 []))
+    × ((ppdu (expects.Carry 3)).reading 4 (octets_at identified_octets (span 4 38)) ≡ Ok (taken (ppdus.Carry 3 (span 13 38)) 38 []))
+    × ((ppdu (expects.Carry 3)).reading 4 (octets_at short_octets (span 4 19)) ≡ Err (fault_at 5 whys.Length))
+unfolding connecting_octets accepting_octets identify_octets identified_octets short_octets ppdu set_up set_up_contents mode parameters connect connect_selectors
     accept outcomes.results outcomes.accepting_results outcomes.first_in outcomes.one_result
     outcomes.result_contents after_others before_others others selector_in user_data external offers
     offer offer_contents transfers length_in tag_in head_in integer_in unsigned_in oid_in gives
@@ -297,57 +174,100 @@ unfolding identified_octets ppdu set_up set_up_contents mode parameters connect 
     leaves.unsigned leaves.unsigned_within leaves.oid leaves.octet leaves.octet_in leaves.span
     leaves.selector leaves.selector_in leaves.fixed leaves.raw leaves.integer leaves.bits bits_in
     extent_of extent_within definite head_by element_by passed_within passed_in
-identified_ppdu = refl
+ppdu_rows = (refl, refl, refl, refl, refl)
 
-identified_pdu : pdu.reading 0 (octets_at identified_octets (span 13 38)) ≡ Ok (taken (pdus.Response 1 answers.Identify) 25 [])
-unfolding identified_octets pdu one_pdu confirmed_request confirmed_response frame_pdu invoke_in
-    one_request set_request unknown_request one_response set_response identify_request
-    identify_response some_syntaxes initiate initiate_detail coded_in by_first leaves.visible_within
-    leaves.text_in leaves.visible visible_in length_in tag_in head_in integer_in unsigned_in oid_in
-    gives then_in map_in branch_in refused skip by_length pass_in sized_part_in parted_in part_in
-    choose_in maybe_in contents_as contents_where all_in whole_in more_in list_in count_in
-    leaves.unsigned leaves.unsigned_within leaves.oid leaves.octet leaves.octet_in leaves.span
-    leaves.selector leaves.selector_in leaves.fixed leaves.raw leaves.integer leaves.bits bits_in
-    extent_of extent_within definite head_by element_by passed_within passed_in
-identified_pdu = refl
-
-identified_heard : (message asking identified_octets).says (heard.Pdu (pdus.Response 1 answers.Identify))
-unfolding message inside spdu_of carry_at ppdu_at data_at pdu_at asking
-identified_heard = (
-  spdus.Carry (span 4 38),
-  (spdu_reads identified_octets).found _ identified_spdu,
-  (
-    _,
-    layer-says layers.Presentation (λ n. n) (ppdu (expects.Carry 3)) 4 _ _ (ppdu_reads (expects.Carry 3)) identified_ppdu,
-    inl (_, layer-says layers.Mms _ pdu 0 _ _ pdu_reads identified_pdu, refl, refl),
-  ),
-)
-
--- the same request, without its last octet
-short_octets : List ℕ
-short_octets =
-    1 ∷ 0 ∷ 1 ∷ 0 ∷ 97 ∷ 14 ∷ 48 ∷ 12 ∷ 2 ∷ 1 ∷ 3 ∷ 160 ∷ 7 ∷ 160 ∷ 5 ∷ 2 ∷ 1 ∷ 1 ∷ 130 ∷ []
-
-short_spdu : session.spdu_in short_octets ≡ Ok (spdus.Carry (span 4 19))
-unfolding short_octets session.spdu_in
-short_spdu = refl
-
-short_ppdu : (ppdu (expects.Carry 3)).reading 4 (octets_at short_octets (span 4 19)) ≡ Err (fault_at 5 whys.Length)
-unfolding short_octets ppdu set_up set_up_contents mode parameters connect connect_selectors accept
-    outcomes.results outcomes.accepting_results outcomes.first_in outcomes.one_result
-    outcomes.result_contents after_others before_others others selector_in user_data external offers
-    offer offer_contents transfers length_in tag_in head_in integer_in unsigned_in oid_in gives
+apdu_rows : ((apdu (asked on_offer)).reading 93 (octets_at connecting_octets (span 93 170)) ≡ Ok (taken (apdus.Aarq (record { context = 40 ∷ 202 ∷ 34 ∷ 2 ∷ 3 ∷ []; title = Some (41 ∷ 135 ∷ 103 ∷ 1 ∷ []); user = external_of 3 (span 130 170) })) 170 []))
+    × ((apdu (answered calling)).reading 64 (octets_at accepting_octets (span 64 136)) ≡ Ok (taken (apdus.Aare (record { result = 0; user = Some (external_of 3 (span 96 136)) })) 136 []))
+unfolding connecting_octets accepting_octets apdu one_apdu request one_oid context_name calling_title user_last
+    responses.response responses.context_passed responses.one_result responses.result_next
+    responses.user_of_result responses.some_user_last external user_information by_tag rising_within
+    rising_in named_in perhaps_in attempt length_in tag_in head_in integer_in unsigned_in oid_in gives
     then_in map_in branch_in refused skip by_length pass_in sized_part_in parted_in part_in
     choose_in maybe_in contents_as contents_where all_in whole_in more_in list_in count_in
     leaves.unsigned leaves.unsigned_within leaves.oid leaves.octet leaves.octet_in leaves.span
     leaves.selector leaves.selector_in leaves.fixed leaves.raw leaves.integer leaves.bits bits_in
     extent_of extent_within definite head_by element_by passed_within passed_in
-short_ppdu = refl
+apdu_rows = (refl, refl)
+
+pdu_rows : (pdu.reading 0 (octets_at connecting_octets (span 130 170)) ≡ Ok (taken (pdus.Initiate wanted) 40 []))
+    × (pdu.reading 0 (octets_at accepting_octets (span 96 136)) ≡ Ok (taken (pdus.Initiated wanted) 40 []))
+    × (pdu.reading 0 (octets_at identify_octets (span 13 20)) ≡ Ok (taken (pdus.Request 1 asked_for.Identify) 7 []))
+    × (pdu.reading 0 (octets_at identified_octets (span 13 38)) ≡ Ok (taken (pdus.Response 1 answers.Identify) 25 []))
+unfolding connecting_octets accepting_octets identify_octets identified_octets wanted pdu one_pdu confirmed_request confirmed_response frame_pdu invoke_in
+    one_request set_request unknown_request one_response set_response identify_request
+    identify_response some_syntaxes initiate initiate_detail coded_in by_first leaves.visible_within
+    leaves.text_in leaves.visible visible_in length_in tag_in head_in integer_in unsigned_in oid_in gives
+    then_in map_in branch_in refused skip by_length pass_in sized_part_in parted_in part_in
+    choose_in maybe_in contents_as contents_where all_in whole_in more_in list_in count_in
+    leaves.unsigned leaves.unsigned_within leaves.oid leaves.octet leaves.octet_in leaves.span
+    leaves.selector leaves.selector_in leaves.fixed leaves.raw leaves.integer leaves.bits bits_in
+    extent_of extent_within definite head_by element_by passed_within passed_in
+pdu_rows = (refl, refl, refl, refl)
+
+-- ---- what is heard
+
+-- a connect at the called end, before an association stands
+pub connect_heard : (message called connecting_octets).says (heard.Connect connecting)
+unfolding message inside spdu_of connect_at ppdu_at apdu_at pdu_at says_just
+connect_heard = (
+  spdus.Connect (Some (0 ∷ 1 ∷ [])) (span 24 170),
+  (spdu_reads connecting_octets).found _ spdu_rows.0,
+  (
+    _,
+    layer-says layers.Presentation (λ n. n) (ppdu expects.Connect) 24 _ _ (ppdu_reads expects.Connect) ppdu_rows.0,
+    (
+      _,
+      layer-says layers.Acse (λ n. n) (apdu (asked on_offer)) 93 _ _ (apdu_reads (asked on_offer)) apdu_rows.0,
+      (_, layer-says layers.Mms _ pdu 0 _ _ pdu_reads pdu_rows.0, refl),
+    ),
+  ),
+)
+
+-- its accept at the calling end
+accept_heard : (message calling accepting_octets).says (heard.Accept (record { acse = 1; mms = 3; initiate = wanted }))
+unfolding message inside spdu_of accept_at ppdu_at apdu_at pdu_at says_just
+accept_heard = (
+  spdus.Accept (Some (0 ∷ 1 ∷ [])) (span 20 136),
+  (spdu_reads accepting_octets).found _ spdu_rows.1,
+  (
+    _,
+    layer-says layers.Presentation (λ n. n) (ppdu (expects.Accept (Some 1))) 20 _ _ (ppdu_reads (expects.Accept (Some 1))) ppdu_rows.1,
+    (
+      _,
+      layer-says layers.Acse (λ n. n) (apdu (answered calling)) 64 _ _ (apdu_reads (answered calling)) apdu_rows.1,
+      (_, layer-says layers.Mms _ pdu 0 _ _ pdu_reads pdu_rows.1, refl),
+    ),
+  ),
+)
+
+pub identify_heard : (message answering identify_octets).says (heard.Pdu (pdus.Request 1 asked_for.Identify))
+unfolding message inside spdu_of carry_at ppdu_at data_at pdu_at
+identify_heard = (
+  spdus.Carry (span 4 20),
+  (spdu_reads identify_octets).found _ spdu_rows.2,
+  (
+    _,
+    layer-says layers.Presentation (λ n. n) (ppdu (expects.Carry 3)) 4 _ _ (ppdu_reads (expects.Carry 3)) ppdu_rows.2,
+    inl (_, layer-says layers.Mms _ pdu 0 _ _ pdu_reads pdu_rows.2, refl, refl),
+  ),
+)
+
+identified_heard : (message asking identified_octets).says (heard.Pdu (pdus.Response 1 answers.Identify))
+unfolding message inside spdu_of carry_at ppdu_at data_at pdu_at
+identified_heard = (
+  spdus.Carry (span 4 38),
+  (spdu_reads identified_octets).found _ spdu_rows.3,
+  (
+    _,
+    layer-says layers.Presentation (λ n. n) (ppdu (expects.Carry 3)) 4 _ _ (ppdu_reads (expects.Carry 3)) ppdu_rows.3,
+    inl (_, layer-says layers.Mms _ pdu 0 _ _ pdu_reads pdu_rows.3, refl, refl),
+  ),
+)
 
 short_broken : (message answering short_octets).breaks (fault_of layers.Presentation 5 whys.Length)
-unfolding message inside spdu_of carry_at ppdu_at answering
+unfolding message inside spdu_of carry_at ppdu_at
 short_broken = inr (
   spdus.Carry (span 4 19),
-  (spdu_reads short_octets).found _ short_spdu,
-  inl (layer-breaks layers.Presentation (λ n. n) (ppdu (expects.Carry 3)) 4 _ _ (ppdu_reads (expects.Carry 3)) short_ppdu),
+  (spdu_reads short_octets).found _ spdu_rows.4,
+  inl (layer-breaks layers.Presentation (λ n. n) (ppdu (expects.Carry 3)) 4 _ _ (ppdu_reads (expects.Carry 3)) ppdu_rows.4),
 )

@@ -15,7 +15,7 @@ use Rattle.mms_services.specs.declared.initiate.Initiate.{Initiate}
 use Rattle.mms_services.specs.declared.pdu.MmsPdu.{MmsPdu}
 use Rattle.mms_services.specs.declared.pdu.MmsPdu.TheVariants as pdus
 use Rattle.mms_services.specs.PduOctets.{pdu_octets, pdu_len}
-use Rattle.stack_wire.specs.declared.setup.Setup.{Setup}
+use Rattle.stack_wire.specs.declared.setup.AssociationSetup.{AssociationSetup}
 use Rattle.stack_wire.specs.Said.{IsTsdu, IsSaid}
 use Rattle.stack_wire.specs.Setups.{IsSetup}
 use Rattle.stack_wire.specs.Tsdus.{nowhere, own_parameters, own_request, own_offers, accepted}
@@ -86,12 +86,12 @@ accepted-most mms answer = omega (
   initiated_pdu-most answer,
 )
 
-abbrev pub accept_ppdu : Setup → Initiate → List ℕ
+abbrev pub accept_ppdu : AssociationSetup → Initiate → List ℕ
 accept_ppdu setup answer =
     ppdu_octets (ppdus.Accept setup.presentation setup.results setup.acse nowhere)
     (apdu_octets (accepted setup.mms) (pdu_octets (pdus.Initiated answer)))
 
-pub accept_ppdu-most : (setup : Setup) (answer : Initiate) → IsSetup setup
+pub accept_ppdu-most : (setup : AssociationSetup) (answer : Initiate) → IsSetup setup
     → HasSelector setup.presentation → length (accept_ppdu setup answer) ≤ 397
 accept_ppdu-most setup answer is has = omega (
   arith,
@@ -100,7 +100,7 @@ accept_ppdu-most setup answer is has = omega (
   accepted-most setup.mms answer,
 )
 
-pub accept-fits : (setup : Setup) (answer : Initiate) → IsSetup setup
+pub accept-fits : (setup : AssociationSetup) (answer : Initiate) → IsSetup setup
     → HasSelector setup.session → HasSelector setup.presentation
     → IsTsdu (accept_tsdu setup answer)
 unfolding accept_tsdu

@@ -12,7 +12,7 @@ use Rattle.mms_services.specs.declared.initiate.Initiate.{Initiate}
 use Rattle.mms_services.specs.declared.pdu.MmsPdu.{MmsPdu}
 use Rattle.mms_services.specs.declared.pdu.MmsPdu.TheVariants as pdus
 use Rattle.mms_services.specs.PduOctets.{pdu_octets}
-use Rattle.stack_wire.specs.declared.setup.Setup.{Setup}
+use Rattle.stack_wire.specs.declared.setup.AssociationSetup.{AssociationSetup}
 use Rattle.stack_wire.specs.Said.{IsTsdu}
 use Rattle.stack_wire.specs.Tsdus.{nowhere, own_parameters, own_request, own_offers, accepted}
 use Rattle.stack_wire.specs.Tsdus.{called_session, called_presentation, connect_tsdu, accept_tsdu}
@@ -80,7 +80,7 @@ pub accepted_apdu_is : (mms : ℕ) (answer : Initiate) (response : Apdu) (body o
 accepted_apdu_is mms answer response body octets lent same is own there =
     same ∙ step apdu_octets response (accepted mms) body (initiated_pdu answer) octets is own there
 
-pub accept_ppdu_is : (setup : Setup) (answer : Initiate) (accept : Ppdu)
+pub accept_ppdu_is : (setup : AssociationSetup) (answer : Initiate) (accept : Ppdu)
     (body octets lent : List ℕ) → lent ≡ octets → octets ≡ ppdu_octets accept body
     → accept ≡ ppdus.Accept setup.presentation setup.results setup.acse nowhere
     → body ≡ accepted_apdu setup.mms answer → lent ≡ accept_ppdu setup answer
@@ -89,7 +89,7 @@ accept_ppdu_is setup answer accept body octets lent same is own there = same
     (ppdus.Accept setup.presentation setup.results setup.acse nowhere) body
     (accepted_apdu setup.mms answer) octets is own there
 
-pub accept_is : (setup : Setup) (answer : Initiate) (spdu : Spdu) (body octets : List ℕ)
+pub accept_is : (setup : AssociationSetup) (answer : Initiate) (spdu : Spdu) (body octets : List ℕ)
     → octets ≡ written_form spdu body → spdu ≡ spdus.Accept setup.session nowhere
     → body ≡ accept_ppdu setup answer → octets ≡ accept_tsdu setup answer
 unfolding accept_tsdu

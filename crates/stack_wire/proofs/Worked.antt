@@ -11,7 +11,7 @@ use Rattle.mms_services.specs.Identities.{identify_response_octets}
 use Rattle.mms_services.specs.Initiates.{initiate_octets, later_octets, last_octets}
 use Rattle.mms_services.specs.Initiates.{initiate_detail_octets}
 use Rattle.mms_services.specs.PduOctets.{pdu_octets, response_octets, invoke_octets}
-use Rattle.stack_wire.specs.declared.setup.Setup.{Setup}
+use Rattle.stack_wire.specs.declared.setup.AssociationSetup.{AssociationSetup}
 use Rattle.stack_wire.specs.Tsdus.{connect_tsdu, accept_tsdu, refusal_tsdu, finish_tsdu}
 use Rattle.stack_wire.specs.Tsdus.{release_tsdu, abort_tsdu, data_tsdu}
 
@@ -42,7 +42,7 @@ unfolding wire session.length_octets ber.length_octets ber.integer_octets presen
 bare_connect = refl
 
 -- the accept of a connect with two offers, both of which are agreed on
-setup : Setup
+setup : AssociationSetup
 setup = record {
   size = 1024;
   session = Some (0 ∷ 1 ∷ []);

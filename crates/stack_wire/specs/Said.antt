@@ -9,7 +9,7 @@ use Rattle.tpkt_cotp.specs.Written.{wire}
 abbrev pub IsTsdu : List ℕ → Type 0
 IsTsdu octets = (1 ≤ length octets) × (length octets ≤ TSDU_LIMIT)
 
--- it is a TSDU, and cut at any size, its octets are this message, at any place
+-- octets are a TSDU that, cut into TPDUs of any size, spells the one message of it, at any place
 pub record IsSaid (octets : List ℕ) : Type 0 where
   pub fits : IsTsdu octets
   pub said : (size at : ℕ) → 128 ≤ size

@@ -17,7 +17,7 @@ use Rattle.mms_services.specs.declared.initiate.Initiate.{Initiate}
 use Rattle.mms_services.specs.declared.pdu.MmsPdu.{MmsPdu}
 use Rattle.mms_services.specs.declared.pdu.MmsPdu.TheVariants as pdus
 use Rattle.mms_services.specs.PduOctets.{pdu_octets}
-use Rattle.stack_wire.specs.declared.setup.Setup.{Setup}
+use Rattle.stack_wire.specs.declared.setup.AssociationSetup.{AssociationSetup}
 
 -- where a body stands isn't written
 abbrev pub nowhere : Span
@@ -65,7 +65,7 @@ connect_tsdu title = written_form (spdus.Connect (Some called_session) nowhere)
 abbrev pub accepted : ℕ → Apdu
 accepted mms = apdus.Aare (record { result = 0; user = Some (external_of mms nowhere) })
 
-unfoldable pub accept_tsdu : Setup → Initiate → List ℕ
+unfoldable pub accept_tsdu : AssociationSetup → Initiate → List ℕ
 accept_tsdu setup answer = written_form (spdus.Accept setup.session nowhere)
     (ppdu_octets (ppdus.Accept setup.presentation setup.results setup.acse nowhere)
     (apdu_octets (accepted setup.mms) (pdu_octets (pdus.Initiated answer))))
@@ -83,13 +83,15 @@ refusal_tsdu acse = written_form spdus.Refuse (written 48 (carried acse refused)
 
 -- ---- either end, over an association
 
--- it asks for the release, answers that, and ends the association at once
+-- the finish, which asks for the release
 unfoldable pub finish_tsdu : ℕ → List ℕ
 finish_tsdu acse = written_form spdus.Finish (carried acse apdus.Rlrq)
 
+-- the disconnect, which answers a finish
 unfoldable pub release_tsdu : ℕ → List ℕ
 release_tsdu acse = written_form spdus.Disconnect (carried acse apdus.Rlre)
 
+-- the abort, which ends the association at once
 unfoldable pub abort_tsdu : ℕ → List ℕ
 abort_tsdu acse = written_form spdus.Abort (written 160 (carried acse apdus.Abrt))
 

@@ -12,7 +12,7 @@ ghost use Rattle.stack_wire.specs.Tsdus.{nowhere, accepted, refused, accept_tsdu
 ghost use Rattle.stack_wire.specs.Tsdus.{finish_tsdu, release_tsdu, data_tsdu};
 
 use crate::layers::{NOWHERE, apdu_octets, carried, pdu_octets, ppdu_octets, spdu_octets, wrapped};
-use crate::setup::Setup;
+use crate::setup::AssociationSetup;
 use acse_assoc::{Apdu, AssociateResponse};
 use ber_values::External;
 use mms_services::{Initiate, MmsPdu};
@@ -36,7 +36,7 @@ fn same_selector(alloc: Global, called: &Option<Selector>) -> Result<Option<Sele
 }
 
 /// The association is accepted, in the contexts of a setup.
-fn accepted(setup: &Setup) -> Apdu
+fn accepted(setup: &AssociationSetup) -> Apdu
     ensures { result ≡ accepted setup.now.mms }
 {
     Apdu::Aare(AssociateResponse {
@@ -59,7 +59,7 @@ fn refused() -> Apdu
 }
 
 /// The presentation accept of a setup.
-fn accept_of(alloc: Global, setup: &Setup) -> Result<Ppdu, AllocError>
+fn accept_of(alloc: Global, setup: &AssociationSetup) -> Result<Ppdu, AllocError>
     ensures value { IfOk result (λ accept. accept ≡ Ppdu.Accept setup.now.presentation
         setup.now.results setup.now.acse nowhere) }
     ensures sized { IfOk result (λ accept. HasSelector setup.now.presentation) }
@@ -75,7 +75,7 @@ fn accept_of(alloc: Global, setup: &Setup) -> Result<Ppdu, AllocError>
 }
 
 /// The session accept of a setup.
-fn session_of(alloc: Global, setup: &Setup) -> Result<Spdu, AllocError>
+fn session_of(alloc: Global, setup: &AssociationSetup) -> Result<Spdu, AllocError>
     ensures value { IfOk result (λ accept. accept ≡ Spdu.Accept setup.now.session nowhere) }
     ensures sized { IfOk result (λ accept. HasSelector setup.now.session) }
 {
@@ -87,7 +87,11 @@ fn session_of(alloc: Global, setup: &Setup) -> Result<Spdu, AllocError>
 }
 
 /// The TSDU of an accept.
-fn accept_tsdu(alloc: Global, setup: &Setup, answer: &Initiate) -> Result<Vec<u8>, AllocError>
+fn accept_tsdu(
+    alloc: Global,
+    setup: &AssociationSetup,
+    answer: &Initiate,
+) -> Result<Vec<u8>, AllocError>
     requires setup { IsSetup setup.now }
     requires full { IsFullInitiate answer.now }
     ensures value { IfOk result (λ octets. octets.items ≡ accept_tsdu setup.now answer.now) }
@@ -157,7 +161,7 @@ fn data_tsdu(alloc: Global, mms: u32, pdu: &MmsPdu) -> Result<Vec<u8>, AllocErro
 pub fn write_accept(
     alloc: Global,
     out: &mut Vec<u8>,
-    setup: &Setup,
+    setup: &AssociationSetup,
     answer: &Initiate,
 ) -> Result<(), AllocError>
     requires setup { IsSetup setup.now }

@@ -6,7 +6,7 @@ ghost use Rattle.mms_services.specs.declared.initiate.Initiate.{Initiate};
 ghost use Rattle.mms_services.specs.declared.pdu.MmsPdu.{MmsPdu};
 ghost use Rattle.mms_services.specs.PduOctets.{pdu_len};
 ghost use Rattle.tpkt_cotp.specs.Selectors.{HasSelector};
-ghost use Rattle.stack_wire.specs.declared.setup.Setup.{Setup};
+ghost use Rattle.stack_wire.specs.declared.setup.AssociationSetup.{AssociationSetup};
 ghost use Rattle.stack_wire.specs.Layouts.{AreLaidOut};
 ghost use Rattle.stack_wire.specs.Setups.{IsSetup};
 ghost use Rattle.stack_wire.specs.Said.{IsSaid};
@@ -23,7 +23,7 @@ pub fn answers_are_laid_out()
 /// TPDU.
 pub fn what_is_written_is_said()
     ensures connect { (title : Option (List ℕ)) → IsTitle title → IsSaid (connect_tsdu title) }
-    ensures accept { (setup : Setup) (answer : Initiate) → IsSetup setup
+    ensures accept { (setup : AssociationSetup) (answer : Initiate) → IsSetup setup
         → HasSelector setup.session → HasSelector setup.presentation
         → IsSaid (accept_tsdu setup answer) }
     ensures refusal { (acse : ℕ) → IsSaid (refusal_tsdu acse) }

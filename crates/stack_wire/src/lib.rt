@@ -13,4 +13,4 @@ pub use abort::write_abort;
 pub use answers::{write_accept, write_data, write_finish, write_refusal, write_release};
 pub use calling::{MMS_CONTEXT, OWN_ACSE, OWN_MMS, own_parameters, write_connect};
 pub use laws::{answers_are_laid_out, what_is_written_is_said};
-pub use setup::{Setup, cut_size};
+pub use setup::{AssociationSetup, cut_size};

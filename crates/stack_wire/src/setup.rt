@@ -7,7 +7,7 @@ use tpkt_cotp::Selector;
 
 /// What a connect fixed of what is said after it.
 #[derive(Debug, Drop)]
-pub struct Setup {
+pub struct AssociationSetup {
     /// The most octets of a TPDU: 128 to 1,024.
     pub size: u16,
     /// The session selector that was called.

@@ -10,7 +10,7 @@ use Rattle.tpkt_cotp.specs.Lines.{Line, fed_to, fed}
 use Rattle.tpkt_cotp.specs.Places.{Placed, End, Stream, stopped, left}
 use Rattle.tpkt_cotp.specs.Goings.{stream_of, HandsOut}
 use Rattle.stack_messages.specs.declared.fault.StackFault.{StackFault}
-use Rattle.stream_listing.specs.declared.hearing.Told.{Told}
+use Rattle.stream_listing.specs.declared.hearing.ListedMessage.{ListedMessage}
 use Rattle.stream_listing.specs.Lines.{at_line, rest_line, fault_line}
 use Rattle.stream_listing.specs.Hearing.{told_in, first_of, context_told, context_of}
 use Rattle.stream_listing.specs.Listings.{Listing, with_text, broken_by, transport_fault}
@@ -98,7 +98,7 @@ lists_message t u m context now size before after broken hands sized listed =
     placed : Placed
     placed = record { message = message_seen m; place = t.start; next = u.start }
 
-    here : (told : Result Told StackFault) → told_in context (message_seen m) ≡ told
+    here : (told : Result ListedMessage StackFault) → told_in context (message_seen m) ≡ told
         → IsListed told t.start size context now before after broken
         → Lists (state t context false) (state u now broken) before after
     here (Ok told) at is = record {
@@ -106,7 +106,7 @@ lists_message t u m context now size before after broken hands sized listed =
       is = is.2;
       goes = λ more.
           ap (of_stream context) (hands more)
-          ∙ ap (λ (r : Result Told StackFault). listed_before (record
+          ∙ ap (λ (r : Result ListedMessage StackFault). listed_before (record
           { message = message_seen m; place = t.start; next = u.start }) r
           (of_stream (first_of context (context_told r)) (stream_of (fed u more)))) at
           ∙ ap (λ (n : ℕ). with_text (at_line t.start told.name n)
@@ -121,7 +121,7 @@ lists_message t u m context now size before after broken hands sized listed =
       is = is.1;
       goes = λ more.
           ap (of_stream context) (hands more)
-          ∙ ap (λ (r : Result Told StackFault). listed_before (record
+          ∙ ap (λ (r : Result ListedMessage StackFault). listed_before (record
           { message = message_seen m; place = t.start; next = u.start }) r
           (of_stream (first_of context (context_told r)) (stream_of (fed u more)))) at
           ∙ broken_alone f

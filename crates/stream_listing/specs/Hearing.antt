@@ -12,7 +12,7 @@ use Rattle.stack_messages.specs.declared.heard.Heard.{Heard}
 use Rattle.stack_messages.specs.declared.heard.Heard.TheVariants as heard
 use Rattle.stack_messages.specs.Meanings.{Meaning, HasOneMeaning}
 use Rattle.stack_messages.specs.Messages.{message}
-use Rattle.stream_listing.specs.declared.hearing.Told.{Told}
+use Rattle.stream_listing.specs.declared.hearing.ListedMessage.{ListedMessage}
 use Rattle.stream_listing.specs.declared.names.MessageName.TheVariants as names
 use Rattle.stream_listing.specs.Names.{heard_name}
 use Rattle.stack_messages.proofs.OneMessage.{one_message}
@@ -23,8 +23,8 @@ the_one meaning (inl says) = Ok says.0.0
 the_one meaning (inr breaks) = Err breaks.1.0
 
 -- what a TSDU says, or where it breaks a rule first
-unfoldable pub heard_in : Expecting → List ℕ → Result Heard StackFault
-heard_in e octets = the_one (message e octets) (one_message e octets)
+unfoldable pub message_in : Expecting → List ℕ → Result Heard StackFault
+message_in e octets = the_one (message e octets) (one_message e octets)
 
 -- a reader of captures takes the messages of both ends in any order; the id of the context of MMS
 -- counts, and is 3 before any is told
@@ -50,18 +50,18 @@ context_in heard.AbortAccept = None
 context_in (heard.Pdu pdu) = None
 context_in (heard.BadRequest invoke) = None
 
-abbrev pub told_by : Result Heard StackFault → Result Told StackFault
+abbrev pub told_by : Result Heard StackFault → Result ListedMessage StackFault
 told_by (Ok h) = Ok (record { name = heard_name h; context = context_in h })
 told_by (Err f) = Err f
 
 -- what is told of a message, where this id counts
-abbrev pub told_in : Option ℕ → Message → Result Told StackFault
+abbrev pub told_in : Option ℕ → Message → Result ListedMessage StackFault
 told_in context (asks request) = Ok (record { name = names.Cr; context = None })
 told_in context (confirms confirm) = Ok (record { name = names.Cc; context = None })
 told_in context gone = Ok (record { name = names.Dr; context = None })
-told_in context (tsdu place octets) = told_by (heard_in (expecting context) octets)
+told_in context (tsdu place octets) = told_by (message_in (expecting context) octets)
 
-abbrev pub context_told : Result Told StackFault → Option ℕ
+abbrev pub context_told : Result ListedMessage StackFault → Option ℕ
 context_told (Ok told) = told.context
 context_told (Err f) = None
 

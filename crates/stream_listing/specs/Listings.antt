@@ -9,7 +9,7 @@ use Rattle.tpkt_cotp.specs.Places.{Placed, End, left, stopped, ended, stream_in}
 use Rattle.tpkt_cotp.specs.Goings.{stream_of}
 use Rattle.stack_messages.specs.declared.fault.Layer.TheVariants as layers
 use Rattle.stack_messages.specs.declared.fault.StackFault.{StackFault}
-use Rattle.stream_listing.specs.declared.hearing.Told.{Told}
+use Rattle.stream_listing.specs.declared.hearing.ListedMessage.{ListedMessage}
 use Rattle.stream_listing.specs.Lines.{at_line, rest_line, fault_line}
 use Rattle.stream_listing.specs.Hearing.{told_in, first_of, context_told, context_of}
 
@@ -36,7 +36,7 @@ end_listing (left count) = record { text = rest_line count; broken = false }
 end_listing (stopped f) = broken_by (transport_fault f)
 
 -- a message with what is told of it, and what is listed behind it
-abbrev pub listed_before : Placed → Result Told StackFault → Listing → Listing
+abbrev pub listed_before : Placed → Result ListedMessage StackFault → Listing → Listing
 listed_before p (Ok told) listing =
     with_text (at_line p.place told.name (p.next - p.place)) listing
 listed_before p (Err f) listing = broken_by f
@@ -77,7 +77,7 @@ pub record Lists (old new : State) (before after : List ℕ) : Type 0 where
   pub is : after ≡ before ++ added
   pub goes : (more : List ℕ) → yet_listed old more ≡ with_text added (yet_listed new more)
 
--- the same, where a piece came
+-- what was listed of a piece, from one state to the next, is added behind a text
 pub record ListsPiece (old new : State) (piece before after : List ℕ) : Type 0 where
   pub added : List ℕ
   pub is : after ≡ before ++ added
@@ -99,8 +99,8 @@ pub record IsAtRest (t : Line) : Type 0 where
   pub rest : stream_of t ≡ ended (left (stream_place (t.place + length t.unread) - t.start))
 
 -- what was added for a message, of which this is told, and the id that counts after it
-abbrev pub IsListed : Result Told StackFault → ℕ → ℕ → Option ℕ → Option ℕ → List ℕ → List ℕ
-    → Bool → Type 0
+abbrev pub IsListed : Result ListedMessage StackFault → ℕ → ℕ → Option ℕ → Option ℕ → List ℕ
+    → List ℕ → Bool → Type 0
 IsListed (Ok told) place size context now before after broken = (broken ≡ false)
     × (now ≡ first_of context told.context) × (after ≡ before ++ at_line place told.name size)
 IsListed (Err f) place size context now before after broken = (broken ≡ true)

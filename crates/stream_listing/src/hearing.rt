@@ -11,7 +11,7 @@ use tpkt_cotp::TransportIn;
 
 /// What is told of a message: its name, and the id of the context of MMS, if it has one.
 #[derive(Clone, Copy)]
-pub(crate) struct Told {
+pub(crate) struct ListedMessage {
     pub(crate) name: MessageName,
     pub(crate) context: Option<u32>,
 }
@@ -52,7 +52,7 @@ fn hear(
     context: Option<u32>,
     tsdu: &[u8],
 ) -> Result<Result<Heard, StackFault>, AllocError>
-    ensures { IfOk result (λ heard. heard ≡ spec.heard_in (spec.expecting context) tsdu.now) }
+    ensures { IfOk result (λ heard. heard ≡ spec.message_in (spec.expecting context) tsdu.now) }
 {
     read_message(alloc, tsdu, expecting(context))
 }
@@ -61,12 +61,12 @@ fn tell_tsdu(
     alloc: Global,
     context: Option<u32>,
     tsdu: &[u8],
-) -> Result<Result<Told, StackFault>, AllocError>
+) -> Result<Result<ListedMessage, StackFault>, AllocError>
     ensures { IfOk result (λ told.
-        told ≡ spec.told_by (spec.heard_in (spec.expecting context) tsdu.now)) }
+        told ≡ spec.told_by (spec.message_in (spec.expecting context) tsdu.now)) }
 {
     match hear(alloc, context, tsdu)? {
-        Ok(heard) => Ok(Ok(Told {
+        Ok(heard) => Ok(Ok(ListedMessage {
             name: name_of(&heard),
             context: context_in(&heard),
         })),
@@ -80,7 +80,7 @@ pub(crate) fn tell(
     alloc: Global,
     context: Option<u32>,
     message: &TransportIn,
-) -> Result<Result<Told, StackFault>, AllocError>
+) -> Result<Result<ListedMessage, StackFault>, AllocError>
     ensures { IfOk result (λ told. told ≡ spec.told_in context (message_seen message.now)) }
 {
     let name = match message {
@@ -89,7 +89,7 @@ pub(crate) fn tell(
         TransportIn::Gone => MessageName::Dr,
         TransportIn::Tsdu { octets, .. } => return tell_tsdu(alloc, context, octets.as_slice()),
     };
-    Ok(Ok(Told {
+    Ok(Ok(ListedMessage {
         name,
         context: None,
     }))

@@ -9,8 +9,8 @@ use Rattle.std.proofs.lemmas.List.{append-nil}
 use Rattle.std.proofs.lemmas.List.Folds.{list_any-append}
 use Rattle.bilateral.specs.Rows.{CentreRows}
 use Rattle.stack_messages.specs.declared.fault.StackFault.{StackFault}
-use Rattle.stack_wire.specs.declared.setup.Setup.{Setup}
-use Rattle.stack_assoc.specs.Told.{Told, called, first_in, connect_in}
+use Rattle.stack_wire.specs.declared.setup.AssociationSetup.{AssociationSetup}
+use Rattle.stack_assoc.specs.Arrivals.{Arrival, called, first_in, connect_in}
 use Rattle.stack_assoc.specs.Expectations.{setup_after}
 use Rattle.stack_assoc.specs.Handing.{answers_to}
 use Rattle.tase_views.specs.declared.event.EventKind.{EventKind}
@@ -88,7 +88,7 @@ uncut rows (x ∷ turns) goes =
 -- ---- where it stands with something to be acted on
 
 -- it runs, with nothing waiting
-pub running_idle : (rows : CentreRows) (items : List Item) (told : List Told) (turns : List Turn)
+pub running_idle : (rows : CentreRows) (items : List Item) (told : List Arrival) (turns : List Turn)
     (v : Talking) → IsIdle v.progress → StandsAt rows items told turns v
     → Runs rows items told turns askeds.Nothing v
 running_idle rows items told turns v idle s =
@@ -115,7 +115,7 @@ abbrev pub ends_with : (rows : CentreRows) (turns : List Turn) (turn : Turn)
 ends_with rows turns turn goes = record { front = turns; is = refl; goes = goes }
 
 -- what is to hold of a turn, and of the event that it asks for
-pub record Asking (rows : CentreRows) (told : List Told) (turns : List Turn) (turn : Turn)
+pub record Asking (rows : CentreRows) (told : List Arrival) (turns : List Turn) (turn : Turn)
     (event : EventKind) (stage : Stage) (asked : Asked) (coming : Coming) : Type 0 where
   pub turn_is : turn_coming coming ≡ Some turn
   pub fault : fault_held (Some coming) ≡ fault_seen None asked
@@ -132,12 +132,12 @@ pub record Asking (rows : CentreRows) (told : List Told) (turns : List Turn) (tu
   pub agreed : IsAgreed told stage asked
   pub last : IsAskedBy rows (turns ++ turn ∷ []) asked
   pub asks_are : asks_at rows turns turn ≡ event ∷ []
-  pub quiet : (setup : Setup) → quiet_at rows setup turns turn ≡ []
+  pub quiet : (setup : AssociationSetup) → quiet_at rows setup turns turn ≡ []
   pub waits : WaitsFor (progresses.Running asked) event
   pub due : IsAskedAt asked stage None
 
 -- what was read stays read
-read_on : (b : Behind) (items : List Item) (told : List Told) (seen : List Turn)
+read_on : (b : Behind) (items : List Item) (told : List Arrival) (seen : List Turn)
     (held : Option Coming) (progress : Progress) (v : Talking) → ReadsBy b items told seen v
     → ReadsBy b items told seen (record v { held = held; progress = progress })
 read_on behinds.Nothing items told seen held progress v r = record {
@@ -167,7 +167,7 @@ read_on behinds.End items told seen held progress v r = record {
   seen_is = r.seen_is;
 }
 
-has_read_by : (f : Option StackFault) (items : List Item) (told : List Told) (seen : List Turn)
+has_read_by : (f : Option StackFault) (items : List Item) (told : List Arrival) (seen : List Turn)
     (held : Option Coming) (progress : Progress) (v : Talking) → v.course.fault ≡ f
     → HasRead items told seen v
     → HasRead items told seen (record v { held = held; progress = progress })
@@ -187,7 +187,7 @@ has_read_by (Some f) items told seen held progress v e r =
     subst Q (sym e) (subst P e r)
 
 -- and what was held was seen
-pub has_read : (items : List Item) (told : List Told) (turns more : List Turn)
+pub has_read : (items : List Item) (told : List Arrival) (turns more : List Turn)
     (held : Option Coming) (progress : Progress) (v : Talking) (coming : Coming)
     → listed (turn_coming coming) ≡ more
     → HasRead items told (turns ++ turns_held (Some coming)) v
@@ -197,7 +197,7 @@ has_read items told turns more held progress v coming is r =
     (subst (λ (ts : List Turn). HasRead items told ts v)
     (ap (λ (ts : List Turn). turns ++ ts) is ∙ sym (append-nil (turns ++ more))) r)
 
-runs_asking : (rows : CentreRows) (items : List Item) (told : List Told) (turns : List Turn)
+runs_asking : (rows : CentreRows) (items : List Item) (told : List Arrival) (turns : List Turn)
     (turn : Turn) (event : EventKind) (stage : Stage) (asked : Asked) (coming : Coming)
     (v : Talking) → v.stage ≡ stage → v.held ≡ None
     → Asking rows told turns turn event stage asked coming
@@ -241,7 +241,7 @@ runs_asking rows items told turns turn event stage asked coming v at empty a r =
     }
 
 -- it steps to an event
-pub asks_event : (rows : CentreRows) (items : List Item) (told : List Told) (turns : List Turn)
+pub asks_event : (rows : CentreRows) (items : List Item) (told : List Arrival) (turns : List Turn)
     (turn : Turn) (event : EventKind) (stage : Stage) (asked : Asked) (coming : Coming)
     (v : Talking) → v.stage ≡ stage → v.held ≡ None → IsIdle v.progress
     → (Runs rows items told turns askeds.Nothing (holding coming v)
@@ -273,14 +273,14 @@ asks_event rows items told turns turn event stage asked coming v at empty idle m
 -- ---- it ends
 
 -- all messages that are answered at once were told, and an offer that was declined
-pub record HasToldAll (items : List Item) (told : List Told) (end : ConnEnd) : Type 0 where
+pub record HasToldAll (items : List Item) (told : List Arrival) (end : ConnEnd) : Type 0 where
   pub answered : answers_to called told ≡ answers_to called (reading_of (text_of items)).told
   pub fixed : end ≡ conn_ends.Declined
       → (setup_after told ≡ setup_after (reading_of (text_of items)).told)
       × (is_some (first_in connect_in (reading_of (text_of items)).told) ≡ true)
 
 -- what is to hold of a turn that ends the connection, and of the octets that were said
-pub record Ending (rows : CentreRows) (items : List Item) (told : List Told) (turns : List Turn)
+pub record Ending (rows : CentreRows) (items : List Item) (told : List Arrival) (turns : List Turn)
     (turn : Turn) (end : ConnEnd) (octets : List ℕ) (coming : Coming) : Type 0 where
   pub turn_is : turn_coming coming ≡ Some turn
   pub is_last : is_last rows turn ≡ true
@@ -298,7 +298,7 @@ pub record Ended (end : ConnEnd) (octets : List ℕ) (old new : Talking) : Type 
   pub held : new.held ≡ None
   pub said : pending_of new ≡ pending_of old ++ octets
 
-ended_by : (rows : CentreRows) (items : List Item) (told : List Told) (turns : List Turn)
+ended_by : (rows : CentreRows) (items : List Item) (told : List Arrival) (turns : List Turn)
     (turn : Turn) (end : ConnEnd) (octets : List ℕ) (coming : Coming) (v : Talking)
     → Ending rows items told turns turn end octets coming
     → Runs rows items told turns askeds.Nothing (holding coming v)
@@ -322,7 +322,7 @@ ended_by rows items told turns turn end octets coming v e r =
     }
 
 -- it steps to its end
-pub ends_step : (rows : CentreRows) (items : List Item) (told : List Told) (turns : List Turn)
+pub ends_step : (rows : CentreRows) (items : List Item) (told : List Arrival) (turns : List Turn)
     (turn : Turn) (end : ConnEnd) (octets : List ℕ) (coming : Coming) (v new : Talking)
     → IsIdle v.progress → Ended end octets v new
     → (Runs rows items told turns askeds.Nothing (holding coming v)
@@ -369,9 +369,9 @@ pub record Passing (rows : CentreRows) (turns more : List Turn) (stage : Stage)
   pub concluded : has_concluded stage askeds.Nothing None ≡ true
       → has_concluded stage askeds.Nothing (Some coming) ≡ true
   pub asks_are : asks_behind rows turns more ≡ []
-  pub quiet : (setup : Setup) → quiet_behind rows setup turns more ≡ []
+  pub quiet : (setup : AssociationSetup) → quiet_behind rows setup turns more ≡ []
 
-runs_passing : (rows : CentreRows) (items : List Item) (told : List Told) (turns more : List Turn)
+runs_passing : (rows : CentreRows) (items : List Item) (told : List Arrival) (turns more : List Turn)
     (coming : Coming) (v : Talking) → v.held ≡ None
     → Passing rows turns more v.stage coming
     → Runs rows items told turns askeds.Nothing (holding coming v)
@@ -401,7 +401,7 @@ runs_passing rows items told turns more coming v empty a r =
     }
 
 -- it steps on
-pub goes_step : (rows : CentreRows) (items : List Item) (told : List Told)
+pub goes_step : (rows : CentreRows) (items : List Item) (told : List Arrival)
     (turns more : List Turn) (coming : Coming) (v : Talking) → v.held ≡ None
     → IsIdle v.progress
     → (Runs rows items told turns askeds.Nothing (holding coming v)
@@ -423,7 +423,7 @@ goes_step rows items told turns more coming v empty idle makes s =
         rows_are = s.rows_are;
         peer = s.peer;
         goes = on (λ p. GoesBy p rows items (told ++ []) (turns ++ more) v)
-            (subst (λ (ts : List Told). Runs rows items ts (turns ++ more) askeds.Nothing v)
+            (subst (λ (ts : List Arrival). Runs rows items ts (turns ++ more) askeds.Nothing v)
             (sym (append-nil told)) runs);
         room = on (λ p. RoomBy p v) (record { room = room.room; unsaid = room.unsaid });
       };

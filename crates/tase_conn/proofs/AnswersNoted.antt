@@ -24,9 +24,9 @@ use Rattle.stack_messages.specs.declared.expecting.Side.TheVariants as sides
 use Rattle.stack_messages.specs.declared.heard.Connecting.{Connecting}
 use Rattle.stack_wire.specs.Tsdus.{accept_tsdu}
 use Rattle.stack_assoc.specs.declared.input.StackState.TheVariants as states
-use Rattle.stack_assoc.specs.declared.standing.Standing.{Standing}
-use Rattle.stack_assoc.specs.declared.standing.Standing.TheVariants as standings
-use Rattle.stack_assoc.specs.Told.{Told, Role, called, first_in, connect_in}
+use Rattle.stack_assoc.specs.declared.end_state.EndState.{EndState}
+use Rattle.stack_assoc.specs.declared.end_state.EndState.TheVariants as standings
+use Rattle.stack_assoc.specs.Arrivals.{Arrival, Role, called, first_in, connect_in}
 use Rattle.stack_assoc.specs.Tellings.{Stops}
 use Rattle.stack_assoc.specs.Courses.{Course, Stands, Reads, state_of, state_with, state_by}
 use Rattle.stack_assoc.specs.Saying.{with_standing, with_said, role_by, is_conclude, may_leave}
@@ -76,11 +76,11 @@ use Rattle.tase_conn.proofs.Placing.{talking, reads_moved, parted_stands}
 
 -- the first of these
 abbrev pub Waits : Asked → Talking → Type 0
-Waits asked v = (rows : CentreRows) × (items : List Item) × (told : List Told)
+Waits asked v = (rows : CentreRows) × (items : List Item) × (told : List Arrival)
     × (turns : List Turn) × Runs rows items told turns asked v
 
 waits_by : (progress : Progress) (asked : Asked) (rows : CentreRows) (items : List Item)
-    (told : List Told) (turns : List Turn) (v : Talking) → progress ≡ progresses.Running asked
+    (told : List Arrival) (turns : List Turn) (v : Talking) → progress ≡ progresses.Running asked
     → GoesBy progress rows items told turns v → Runs rows items told turns asked v
 waits_by progress asked rows items told turns v e g =
     subst (λ (p : Progress). GoesBy p rows items told turns v) e g
@@ -96,7 +96,7 @@ waiting asked v p e = (
 )
 
 offered_so : (peer : ℕ) (granted : Initiate) (stage : Stage) (held : Option Coming)
-    (s : Standing) → IsAskedAt (askeds.Opening peer granted) stage held
+    (s : EndState) → IsAskedAt (askeds.Opening peer granted) stage held
     → s ≡ standing_by stage (askeds.Opening peer granted) held → s ≡ standings.Offered
 offered_so peer granted stages.Early None s w e = e
 offered_so peer granted stages.Early (Some coming) s w e = absurd w
@@ -109,7 +109,7 @@ pub opening_offered : (peer : ℕ) (granted : Initiate) (v : Talking)
 opening_offered peer granted v w =
     offered_so peer granted v.stage v.held v.course.standing w.4.waits w.4.standing
 
-full_so : (told : List Told) (peer : ℕ) (granted : Initiate) (stage : Stage)
+full_so : (told : List Arrival) (peer : ℕ) (granted : Initiate) (stage : Stage)
     (held : Option Coming) → IsAskedAt (askeds.Opening peer granted) stage held
     → IsAgreed told stage (askeds.Opening peer granted) → IsFullInitiate granted
 full_so told peer offered stages.Early None w g =
@@ -123,7 +123,7 @@ pub opening_full : (peer : ℕ) (granted : Initiate) (v : Talking)
     → Waits (askeds.Opening peer granted) v → IsFullInitiate granted
 opening_full peer granted v w = full_so w.2 peer granted v.stage v.held w.4.waits w.4.agreed
 
-accepted_so : (invoke : ℕ) (stage : Stage) (held : Option Coming) (s : Standing)
+accepted_so : (invoke : ℕ) (stage : Stage) (held : Option Coming) (s : EndState)
     (f : Option StackFault) → IsAskedAt (askeds.Requesting invoke) stage held
     → s ≡ standing_by stage (askeds.Requesting invoke) held
     → f ≡ fault_seen held (askeds.Requesting invoke) → state_with f s ≡ states.Accepted
@@ -150,7 +150,7 @@ detail_few : (o : Option Connecting) → detail_of o ≤ℤ MOST_DETAIL
 detail_few None = omega (arith, ints)
 detail_few (Some c) = granted_few c.initiate.detail
 
-detail_so : (told : List Told) (invoke : ℕ) (stage : Stage) (held : Option Coming)
+detail_so : (told : List Arrival) (invoke : ℕ) (stage : Stage) (held : Option Coming)
     → IsAskedAt (askeds.Requesting invoke) stage held
     → IsAgreed told stage (askeds.Requesting invoke) → detail_at stage ≤ℤ MOST_DETAIL
 detail_so told invoke (stages.Open peer detail) None w g =
@@ -164,7 +164,7 @@ pub requesting_detail : (invoke : ℕ) (v : Talking) → Waits (askeds.Requestin
     → detail_at v.stage ≤ℤ MOST_DETAIL
 requesting_detail invoke v w = detail_so w.2 invoke v.stage v.held w.4.waits w.4.agreed
 
-concluded_so : (stage : Stage) (held : Option Coming) (s : Standing) (f : Option StackFault)
+concluded_so : (stage : Stage) (held : Option Coming) (s : EndState) (f : Option StackFault)
     → IsAskedAt (askeds.Closing causes.Concluded) stage held
     → s ≡ standing_by stage (askeds.Closing causes.Concluded) held
     → f ≡ fault_seen held (askeds.Closing causes.Concluded) → state_with f s ≡ states.Accepted
@@ -174,12 +174,12 @@ concluded_so (stages.Open peer detail) (Some coming) s f w e g = absurd w
 concluded_so stages.Early held s f w e g = absurd w
 concluded_so (stages.Closed peer) held s f w e g = absurd w
 
-released_so : (stage : Stage) (held : Option Coming) (side : Side) (s : Standing)
+released_so : (stage : Stage) (held : Option Coming) (side : Side) (s : EndState)
     (f : Option StackFault) → IsAskedAt (askeds.Closing causes.Released) stage held
     → side ≡ sides.Called → s ≡ standing_by stage (askeds.Closing causes.Released) held
     → f ≡ fault_seen held (askeds.Closing causes.Released) → may_leave side s f ≡ true
 released_so (stages.Open peer detail) None side s f w c e g =
-    ap (λ (x : Side). may_leave x s f) c ∙ ap (λ (x : Standing). may_leave sides.Called x f) e
+    ap (λ (x : Side). may_leave x s f) c ∙ ap (λ (x : EndState). may_leave sides.Called x f) e
     ∙ ap (λ (x : Option StackFault). may_leave sides.Called standings.Finishing x) g
 released_so (stages.Open peer detail) (Some coming) side s f w c e g = absurd w
 released_so stages.Early held side s f w c e g = absurd w
@@ -201,7 +201,7 @@ closing_may (causes.Broken fault) v w = tt
 
 -- ---- an open is answered
 
-opening_noted : (rows : CentreRows) (items : List Item) (told : List Told) (turns : List Turn)
+opening_noted : (rows : CentreRows) (items : List Item) (told : List Arrival) (turns : List Turn)
     (peer : ℕ) (granted : Initiate) (centre : CentreRows) (course : Course)
     (held : Option Coming) (behind : Behind) (stage : Stage) (out : List ℕ)
     (farewell : Vec ℕ Global) (new : Talking) → StandsAt rows items told turns
@@ -247,12 +247,12 @@ opening_noted rows items told turns peer granted centre course held behind (stag
 
 -- ---- a request is answered
 
-role_called : (b : Bool) (told : List Told) → role_by b called told ≡ called
+role_called : (b : Bool) (told : List Arrival) → role_by b called told ≡ called
 role_called true told = refl
 role_called false told = refl
 
 -- the called end has said it, and stands where it stood
-pub said_stands : (octets : List ℕ) (told : List Told) (course : Course) (pdu : MmsPdu)
+pub said_stands : (octets : List ℕ) (told : List Arrival) (course : Course) (pdu : MmsPdu)
     → course.fault ≡ None → Stands called octets told course
     → Stands called octets told (with_said pdu course)
 said_stands octets told course pdu clear s =
@@ -260,7 +260,7 @@ said_stands octets told course pdu clear s =
     (role_called (is_conclude pdu) told)
     (stands_said called octets told course (with_said pdu course) pdu clear s refl)
 
-requesting_noted : (rows : CentreRows) (items : List Item) (told : List Told) (turns : List Turn)
+requesting_noted : (rows : CentreRows) (items : List Item) (told : List Arrival) (turns : List Turn)
     (invoke : ℕ) (pdu : MmsPdu) (centre : CentreRows) (course : Course)
     (held : Option Coming) (behind : Behind) (stage : Stage) (out : List ℕ)
     (farewell : Vec ℕ Global) (new : Talking) → StandsAt rows items told turns
@@ -303,7 +303,7 @@ requesting_noted rows items told turns invoke pdu centre course held behind (sta
 
 -- ---- a take is answered
 
-taking_noted : (rows : CentreRows) (items : List Item) (told : List Told) (turns : List Turn)
+taking_noted : (rows : CentreRows) (items : List Item) (told : List Arrival) (turns : List Turn)
     (centre : CentreRows) (course : Course) (held : Option Coming) (behind : Behind)
     (stage : Stage) (out : List ℕ) (farewell : Vec ℕ Global) (new : Talking)
     → StandsAt rows items told turns
@@ -362,7 +362,7 @@ whole_for rows items turns cause e w b =
     ∙ ap (λ (ts : List Turn). ts ++ b.0) (append-nil turns))
     ∙ up_to_whole rows turns b.0 (turn_for cause) w (last_for rows cause e)
 
-broken_so : (items : List Item) (told : List Told) (course : Course) (f : Option StackFault)
+broken_so : (items : List Item) (told : List Arrival) (course : Course) (f : Option StackFault)
     (fault : StackFault) → f ≡ Some fault → MatchOption f (Reads called (text_of items) told course)
     (λ g. Stops called (text_of items) told g)
     → (reading_of (text_of items)).broken ≡ Some fault
@@ -371,7 +371,7 @@ broken_so items told course (Some g) fault e r =
     ap (λ (x : Reading). x.broken) (reading_only (text_of items) told (Some g) r) ∙ e
 
 -- a close waits for its answer while the association is open
-closing_connected : {rows : CentreRows} {items : List Item} {told : List Told} {turns : List Turn}
+closing_connected : {rows : CentreRows} {items : List Item} {told : List Arrival} {turns : List Turn}
     (cause : Cause) (v : Talking) → Runs rows items told turns (askeds.Closing cause) v
     → is_connected v.stage (askeds.Closing cause) v.held ≡ true
 closing_connected cause v r = by v.stage v.held r.waits
@@ -383,7 +383,7 @@ closing_connected cause v r = by v.stage v.held r.waits
     by (stages.Closed peer) held w = refl
 
 -- the end that a close brings, and its cause
-pub closed_ends : (rows : CentreRows) (items : List Item) (told : List Told) (turns : List Turn)
+pub closed_ends : (rows : CentreRows) (items : List Item) (told : List Arrival) (turns : List Turn)
     (cause : Cause) (end : ConnEnd) (v : Talking) → v.held ≡ None
     → Runs rows items told turns (askeds.Closing cause) v
     → is_ending (askeds.Closing cause) ≡ true → IsCause rows items end (turn_for cause)
@@ -404,7 +404,7 @@ closed_ends rows items told turns cause end v none r e c = record {
       (seen_front rows items told turns (askeds.Closing cause) v r));
 }
 
-ended_stands : (rows : CentreRows) (items : List Item) (told : List Told) (turns : List Turn)
+ended_stands : (rows : CentreRows) (items : List Item) (told : List Arrival) (turns : List Turn)
     (end : ConnEnd) (centre : CentreRows) (stage : Stage) (course : Course) (out : List ℕ)
     (farewell : Vec ℕ Global) (new : Talking) → centre ≡ rows
     → IfSome (stage_peer stage) (IsPeer rows) → EndsBy rows items told turns end
@@ -418,7 +418,7 @@ ended_stands rows items told turns end centre stage course out farewell new rows
       room = tt;
     })
 
-concluded_noted : (rows : CentreRows) (items : List Item) (told : List Told) (turns : List Turn)
+concluded_noted : (rows : CentreRows) (items : List Item) (told : List Arrival) (turns : List Turn)
     (centre : CentreRows) (course : Course) (behind : Behind) (peer : ℕ) (detail : ℤ)
     (out : List ℕ) (farewell : Vec ℕ Global) (new : Talking) → StandsAt rows items told turns
     (talking centre course None behind (stages.Open peer detail)
@@ -453,7 +453,7 @@ concluded_noted rows items told turns centre course behind peer detail out farew
       room = record { room = s.room.room; unsaid = s.room.unsaid };
     })
 
-closing_noted : (cause : Cause) (rows : CentreRows) (items : List Item) (told : List Told)
+closing_noted : (cause : Cause) (rows : CentreRows) (items : List Item) (told : List Arrival)
     (turns : List Turn) (centre : CentreRows) (course : Course) (held : Option Coming)
     (behind : Behind) (stage : Stage) (out : List ℕ) (farewell : Vec ℕ Global) (new : Talking)
     → StandsAt rows items told turns
@@ -508,7 +508,7 @@ closing_noted cause rows items told turns centre course held behind (stages.Clos
 -- ---- any answer
 
 noted_asked : (asked : Asked) (answer : Answer) (rows : CentreRows) (items : List Item)
-    (told : List Told) (turns : List Turn) (centre : CentreRows) (course : Course)
+    (told : List Arrival) (turns : List Turn) (centre : CentreRows) (course : Course)
     (held : Option Coming) (behind : Behind) (stage : Stage) (out : List ℕ)
     (farewell : Vec ℕ Global) (new : Talking) → StandsAt rows items told turns
     (talking centre course held behind stage (progresses.Running asked) out farewell)
@@ -548,7 +548,7 @@ peer_closed rows (stages.Open peer detail) p = p
 peer_closed rows (stages.Closed peer) p = p
 
 noted_by : (progress : Progress) (answer : Answer) (rows : CentreRows) (items : List Item)
-    (told : List Told) (turns : List Turn) (centre : CentreRows) (course : Course)
+    (told : List Arrival) (turns : List Turn) (centre : CentreRows) (course : Course)
     (held : Option Coming) (behind : Behind) (stage : Stage) (out : List ℕ)
     (farewell : Vec ℕ Global) (new : Talking) → StandsAt rows items told turns
     (talking centre course held behind stage progress out farewell)
@@ -572,7 +572,7 @@ noted_by (progresses.Cut end) answer rows items told turns centre course held be
     farewell new s right n = absurd right
 
 -- it stands where it stood
-pub noted_stands : (answer : Answer) (rows : CentreRows) (items : List Item) (told : List Told)
+pub noted_stands : (answer : Answer) (rows : CentreRows) (items : List Item) (told : List Arrival)
     (turns : List Turn) (old new : Talking) → IsAnswerFor old.progress (Ok answer)
     → Notes old.progress answer old new → StandsAt rows items told turns old
     → StandsAt rows items told turns new
@@ -787,7 +787,7 @@ on_ok T E P Q (Err e) f p = tt
 
 -- an answer was told
 pub told_stands : (told : Result Answer StepFault) (answer : Answer) (rows : CentreRows)
-    (items : List Item) (heard : List Told) (turns : List Turn) (old new : Talking)
+    (items : List Item) (heard : List Arrival) (turns : List Turn) (old new : Talking)
     → told ≡ Ok answer → IsAnswerFor old.progress told → Notes old.progress answer old new
     → StandsAt rows items heard turns old → StandsAt rows items heard turns new
 told_stands told answer rows items heard turns old new e right n s =
@@ -882,7 +882,7 @@ told_stage told answer old new e s = s
 -- ---- after want of memory
 
 peer_told : (progress : Progress) (told : Result Answer StepFault) (rows : CentreRows)
-    (items : List Item) (heard : List Told) (turns : List Turn) (v : Talking)
+    (items : List Item) (heard : List Arrival) (turns : List Turn) (v : Talking)
     → GoesBy progress rows items heard turns v → IsAnswerFor progress told
     → IfSome (stage_peer v.stage) (IsPeer rows)
     → IfSome (stage_peer (stage_told progress told v.stage)) (IsPeer rows)
@@ -906,7 +906,7 @@ peer_told (progresses.Cut end) told rows items heard turns v g right p = absurd 
 
 -- where memory is wanting for an answer the connection may be given up
 pub refused_stands : (told : Result Answer StepFault) (rows : CentreRows) (items : List Item)
-    (heard : List Told) (turns : List Turn) (old new : Talking) → IsAnswerFor old.progress told
+    (heard : List Arrival) (turns : List Turn) (old new : Talking) → IsAnswerFor old.progress told
     → new ≡ record old {
       progress = progresses.Refused;
       stage = stage_told old.progress told old.stage;

@@ -15,9 +15,9 @@ use Rattle.mms_services.specs.declared.pdu.MmsPdu.{MmsPdu}
 use Rattle.mms_services.specs.declared.pdu.MmsPdu.TheVariants as pdus
 use Rattle.mms_services.specs.declared.request.Request.{Request}
 use Rattle.stack_messages.specs.declared.fault.StackFault.{StackFault}
-use Rattle.stack_wire.specs.declared.setup.Setup.{Setup}
+use Rattle.stack_wire.specs.declared.setup.AssociationSetup.{AssociationSetup}
 use Rattle.stack_assoc.specs.declared.input.StackIn.TheVariants as inputs
-use Rattle.stack_assoc.specs.Told.{Told, called}
+use Rattle.stack_assoc.specs.Arrivals.{Arrival, called}
 use Rattle.stack_assoc.specs.Courses.{Stands, is_accepted}
 use Rattle.stack_assoc.specs.Courses as courses
 use Rattle.stack_assoc.specs.Tellings.{Stops}
@@ -51,7 +51,7 @@ use Rattle.tase_conn.proofs.Acted.{open_by, or_left, or_right}
 
 -- ---- an offer
 
-pub asks_open : (rows : CentreRows) (told : List Told) (turns : List Turn)
+pub asks_open : (rows : CentreRows) (told : List Arrival) (turns : List Turn)
     (title : Option (List ℕ)) (initiate offered : Initiate) (peer : ℕ) (stage : Stage)
     → InputIsDue told stage (inputs.Offer title initiate)
     → place_of_title rows title ≡ Some peer → offered ≡ granted initiate
@@ -130,7 +130,7 @@ is_enough i e h = elim h [
 
 -- ---- what an open association asks for
 
-pub asks_request : (rows : CentreRows) (told : List Told) (turns : List Turn) (invoke : ℕ)
+pub asks_request : (rows : CentreRows) (told : List Arrival) (turns : List Turn) (invoke : ℕ)
     (request : Request) (stage : Stage)
     → PduIsDue stage (pdus.Request invoke request) → IsAgreed told stage askeds.Nothing
     → list_any (is_last rows) turns ≡ false
@@ -155,7 +155,7 @@ asks_request rows told turns invoke request (stages.Open p d) due agreed goes = 
   due = tt;
 }
 
-pub asks_badly : (rows : CentreRows) (told : List Told) (turns : List Turn) (invoke : ℕ)
+pub asks_badly : (rows : CentreRows) (told : List Arrival) (turns : List Turn) (invoke : ℕ)
     (stage : Stage) → InputIsDue told stage (inputs.BadRequest invoke)
     → IsAgreed told stage askeds.Nothing → list_any (is_last rows) turns ≡ false
     → Asking rows told turns (asks invoke invalid) (events.Request invalid) stage
@@ -179,7 +179,7 @@ asks_badly rows told turns invoke (stages.Open p d) due agreed goes = record {
   due = tt;
 }
 
-pub asks_take : (rows : CentreRows) (told : List Told) (turns : List Turn) (peer : ℕ) (detail : ℤ)
+pub asks_take : (rows : CentreRows) (told : List Arrival) (turns : List Turn) (peer : ℕ) (detail : ℤ)
     → IsAgreed told (stages.Open peer detail) askeds.Nothing → is_open rows turns ≡ true
     → list_any (is_last rows) turns ≡ false
     → Asking rows told turns pauses events.Take (stages.Open peer detail) askeds.Taking
@@ -210,7 +210,7 @@ quiet_open rows turns octets e = ap (λ (b : Bool). if b then [] else
     (if list_any (begins rows) turns then octets else [])) e
 
 -- its close
-pub asks_close : (rows : CentreRows) (told : List Told) (turns : List Turn) (cause : Cause)
+pub asks_close : (rows : CentreRows) (told : List Arrival) (turns : List Turn) (cause : Cause)
     (peer : ℕ) (detail : ℤ) → IsAgreed told (stages.Open peer detail) askeds.Nothing
     → is_open rows turns ≡ true → list_any (is_last rows) turns ≡ false
     → list_any finishes turns ≡ false
@@ -300,14 +300,14 @@ asks_close rows told turns (causes.Broken fault) peer detail agreed is goes shut
 -- ---- what ends the connection
 
 -- what the connect fixed is known once it has come
-pub setup_known : (rows : CentreRows) (items : List Item) (told : List Told) (turns : List Turn)
+pub setup_known : (rows : CentreRows) (items : List Item) (told : List Arrival) (turns : List Turn)
     (v : Talking) → Runs rows items told turns askeds.Nothing v
     → is_connected v.stage askeds.Nothing v.held ≡ true → v.course.setup ≡ setup_after told
 setup_known rows items told turns v r is =
     (setup_fixed (text_of items) told v.course r.stands (r.connected ∙ is)).0
 
-pub declines_offer : (rows : CentreRows) (items : List Item) (told : List Told)
-    (turns : List Turn) (title : Option (List ℕ)) (initiate : Initiate) (setup : Setup)
+pub declines_offer : (rows : CentreRows) (items : List Item) (told : List Arrival)
+    (turns : List Turn) (title : Option (List ℕ)) (initiate : Initiate) (setup : AssociationSetup)
     → place_of_title rows title ≡ None → setup ≡ setup_after told
     → HasToldAll items told conn_ends.Declined
     → Ending rows items told turns (offers title) conn_ends.Declined (refusal_said setup)
@@ -319,11 +319,11 @@ declines_offer rows items told turns title initiate setup place known all = reco
   cause = ap (λ (p : Option ℕ). is_some p) place;
   asks_are = ap (λ (p : Option ℕ). open_of p) place;
   said = ap (λ (p : Option ℕ). if is_some p then [] else refusal_said (setup_after told)) place
-      ∙ ap (λ (s : Setup). refusal_said s) (sym known);
+      ∙ ap (λ (s : AssociationSetup). refusal_said s) (sym known);
 }
 
-pub declines_badly : (rows : CentreRows) (items : List Item) (told : List Told)
-    (turns : List Turn) (setup : Setup) → setup ≡ setup_after told
+pub declines_badly : (rows : CentreRows) (items : List Item) (told : List Arrival)
+    (turns : List Turn) (setup : AssociationSetup) → setup ≡ setup_after told
     → HasToldAll items told conn_ends.Declined
     → Ending rows items told turns offers_badly conn_ends.Declined (refusal_said setup)
     (comings.Input inputs.BadOffer)
@@ -333,7 +333,7 @@ declines_badly rows items told turns setup known all = record {
   is_last = refl;
   cause = refl;
   asks_are = refl;
-  said = ap (λ (s : Setup). refusal_said s) (sym known);
+  said = ap (λ (s : AssociationSetup). refusal_said s) (sym known);
 }
 
 none_for : (b : Bool) → b ≡ false → event_if b events.Close ≡ []
@@ -347,8 +347,8 @@ said_closed rows turns octets b e f =
     ap (λ (x : Bool). if x then [] else (if list_any (begins rows) turns then octets else [])) e
     ∙ ap (λ (x : Bool). if x then octets else []) f
 
-pub ends_released : (rows : CentreRows) (items : List Item) (told : List Told)
-    (turns : List Turn) (setup : Setup) → setup ≡ setup_after told
+pub ends_released : (rows : CentreRows) (items : List Item) (told : List Arrival)
+    (turns : List Turn) (setup : AssociationSetup) → setup ≡ setup_after told
     → is_open rows turns ≡ false → list_any (begins rows) turns ≡ true
     → HasToldAll items told conn_ends.Finished
     → Ending rows items told turns releases conn_ends.Finished (release_octets setup)
@@ -360,10 +360,10 @@ ends_released rows items told turns setup known e f all = record {
   cause = refl;
   asks_are = none_for (is_open rows turns) e;
   said = said_closed rows turns (release_octets (setup_after told)) true e f
-      ∙ ap (λ (s : Setup). release_octets s) (sym known);
+      ∙ ap (λ (s : AssociationSetup). release_octets s) (sym known);
 }
 
-pub ends_aborted : (rows : CentreRows) (items : List Item) (told : List Told)
+pub ends_aborted : (rows : CentreRows) (items : List Item) (told : List Arrival)
     (turns : List Turn) → is_open rows turns ≡ false
     → HasToldAll items told conn_ends.PeerEnd
     → Ending rows items told turns aborts conn_ends.PeerEnd [] (coming_by causes.Aborted)
@@ -376,7 +376,7 @@ ends_aborted rows items told turns e all = record {
   said = refl;
 }
 
-pub ends_linked : (rows : CentreRows) (items : List Item) (told : List Told)
+pub ends_linked : (rows : CentreRows) (items : List Item) (told : List Arrival)
     (turns : List Turn) → is_open rows turns ≡ false
     → HasToldAll items told conn_ends.PeerEnd
     → Ending rows items told turns ends conn_ends.PeerEnd [] (coming_by causes.LinkEnd)
@@ -390,7 +390,7 @@ ends_linked rows items told turns e all = record {
 }
 
 -- the rule that was broken is the one that the octets break
-pub broken_is : (items : List Item) (told : List Told) (fault : StackFault) (v : Talking)
+pub broken_is : (items : List Item) (told : List Arrival) (fault : StackFault) (v : Talking)
     → Stands called (text_of items) told v.course → v.course.fault ≡ Some fault
     → (reading_of (text_of items)).broken ≡ Some fault
 broken_is items told fault v s e =
@@ -399,8 +399,8 @@ broken_is items told fault v s e =
     (courses.Reads called (text_of items) told v.course)
     (λ g. Stops called (text_of items) told g)) e s.reads))
 
-pub ends_broken : (rows : CentreRows) (items : List Item) (told : List Told)
-    (turns : List Turn) (fault : StackFault) (setup : Setup) (b : Bool)
+pub ends_broken : (rows : CentreRows) (items : List Item) (told : List Arrival)
+    (turns : List Turn) (fault : StackFault) (setup : AssociationSetup) (b : Bool)
     → setup ≡ setup_after told ⊎ (b ≡ false) → is_open rows turns ≡ false
     → list_any (begins rows) turns ≡ b → (reading_of (text_of items)).broken ≡ Some fault
     → HasToldAll items told (conn_ends.Refused fault)
@@ -416,10 +416,10 @@ ends_broken rows items told turns fault setup b known e f broken all = record {
       ∙ said_known b setup (setup_after told) known;
 }
   where
-    said_known : (b : Bool) (setup other : Setup) → setup ≡ other ⊎ (b ≡ false)
+    said_known : (b : Bool) (setup other : AssociationSetup) → setup ≡ other ⊎ (b ≡ false)
         → (if b then abort_octets other else []) ≡ (if b then abort_octets setup else [])
     said_known b setup other (inl k) =
-        ap (λ (s : Setup). if b then abort_octets s else []) (sym k)
+        ap (λ (s : AssociationSetup). if b then abort_octets s else []) (sym k)
     said_known true setup other (inr k) = absurd (false≢true (sym k))
     said_known false setup other (inr k) = refl
 

@@ -7,8 +7,8 @@ use Rattle.std.proofs.lemmas.List.{append-nil}
 use Rattle.std.proofs.lemmas.Grind.{flat_map-append}
 use Rattle.bilateral.specs.Rows.{CentreRows}
 use Rattle.stack_messages.specs.declared.fault.StackFault.{StackFault}
-use Rattle.stack_wire.specs.declared.setup.Setup.{Setup}
-use Rattle.stack_assoc.specs.Told.{Told, called}
+use Rattle.stack_wire.specs.declared.setup.AssociationSetup.{AssociationSetup}
+use Rattle.stack_assoc.specs.Arrivals.{Arrival, called}
 use Rattle.stack_assoc.specs.Expectations.{setup_after}
 use Rattle.stack_assoc.specs.Handing.{answer_to, answers_to}
 use Rattle.tase_views.specs.declared.event.EventKind.{EventKind}
@@ -36,7 +36,7 @@ use Rattle.tase_conn.proofs.LastTurns.{whole_now}
 
 -- ---- turns behind turns
 
-pub quiet_join : (rows : CentreRows) (setup : Setup) (before turns more : List Turn)
+pub quiet_join : (rows : CentreRows) (setup : AssociationSetup) (before turns more : List Turn)
     → quiet_behind rows setup before (turns ++ more)
     ≡ quiet_behind rows setup before turns ++ quiet_behind rows setup (before ++ turns) more
 quiet_join rows setup before [] more =
@@ -53,14 +53,14 @@ quiet_join rows setup before (turn ∷ turns) more =
 -- ---- steps that go on
 
 -- it stands where it stood
-pub passes_none : (rows : CentreRows) (items : List Item) (told : List Told) (turns : List Turn)
+pub passes_none : (rows : CentreRows) (items : List Item) (told : List Arrival) (turns : List Turn)
     (old new : Talking) → StandsAt rows items told turns new → pending_of new ≡ pending_of old
     → Passes rows items told turns old new
 passes_none rows items told turns old new s same =
     record {
       later = [];
       more = [];
-      stands = subst (λ (ts : List Told). StandsAt rows items ts (turns ++ []) new)
+      stands = subst (λ (ts : List Arrival). StandsAt rows items ts (turns ++ []) new)
           (sym (append-nil told))
           (subst (λ (ts : List Turn). StandsAt rows items told ts new) (sym (append-nil turns)) s);
       asks_are = refl;
@@ -69,7 +69,7 @@ passes_none rows items told turns old new s same =
     }
 
 -- one behind the other
-pub passes_then : (rows : CentreRows) (items : List Item) (told : List Told) (turns : List Turn)
+pub passes_then : (rows : CentreRows) (items : List Item) (told : List Arrival) (turns : List Turn)
     (old now new : Talking) → (p : Passes rows items told turns old now)
     → Passes rows items (told ++ p.later) (turns ++ p.more) now new
     → Passes rows items told turns old new
@@ -77,7 +77,7 @@ passes_then rows items told turns old now new p q =
     record {
       later = p.later ++ q.later;
       more = p.more ++ q.more;
-      stands = subst (λ (ts : List Told). StandsAt rows items ts (turns ++ (p.more ++ q.more)) new)
+      stands = subst (λ (ts : List Arrival). StandsAt rows items ts (turns ++ (p.more ++ q.more)) new)
           (append_assoc told p.later q.later)
           (subst (λ (ts : List Turn). StandsAt rows items ((told ++ p.later) ++ q.later) ts new)
           (append_assoc turns p.more q.more) q.stands);
@@ -94,7 +94,7 @@ passes_then rows items told turns old now new p q =
     }
 
 -- and then what acts on what was read
-pub acts_then : (rows : CentreRows) (items : List Item) (told : List Told) (turns : List Turn)
+pub acts_then : (rows : CentreRows) (items : List Item) (told : List Arrival) (turns : List Turn)
     (asked : List EventKind) (old now new : Talking) → (p : Passes rows items told turns old now)
     → Acts rows items (told ++ p.later) (turns ++ p.more) asked now new
     → GoesOn rows items told turns asked old new
@@ -118,7 +118,7 @@ acts_then rows items told turns asked old now new p a =
           (p.quiet setup)));
     }
 
-pub reads_event : (rows : CentreRows) (items : List Item) (told : List Told) (turns : List Turn)
+pub reads_event : (rows : CentreRows) (items : List Item) (told : List Arrival) (turns : List Turn)
     (event : EventKind) (old now new : Talking) → (p : Passes rows items told turns old now)
     → Steps rows items (told ++ p.later) (turns ++ p.more) (steps.Asks event) now new
     → Reads rows items told turns (Some event) old new
@@ -127,7 +127,7 @@ reads_event rows items told turns event old now new p s =
 
 -- ---- nothing is left
 
-ended_resting : (rows : CentreRows) (items : List Item) (told : List Told) (turns : List Turn)
+ended_resting : (rows : CentreRows) (items : List Item) (told : List Arrival) (turns : List Turn)
     (p : Progress) (v : Talking) → v.progress ≡ p → HasEnded p
     → GoesBy p rows items told turns v → IsResting v × IsWhole rows items turns v.progress
 ended_resting rows items told turns (progresses.Ended end) v e h g = (
@@ -145,7 +145,7 @@ ended_resting rows items told turns progresses.Refused v e h g = absurd h
 ended_resting rows items told turns (progresses.Leaving end asked) v e h g = absurd h
 
 -- it has ended
-pub reads_end : (rows : CentreRows) (items : List Item) (told : List Told) (turns : List Turn)
+pub reads_end : (rows : CentreRows) (items : List Item) (told : List Arrival) (turns : List Turn)
     (old now new : Talking) → (p : Passes rows items told turns old now)
     → Steps rows items (told ++ p.later) (turns ++ p.more) steps.Ends now new
     → Reads rows items told turns None old new
@@ -163,7 +163,7 @@ nothing_left None behinds.End e = absurd (false≢true (sym e))
 nothing_left (Some coming) behind e = absurd (false≢true (sym e))
 
 -- all that was read is told by the items
-all_seen : (rows : CentreRows) (items : List Item) (told : List Told) (turns : List Turn)
+all_seen : (rows : CentreRows) (items : List Item) (told : List Arrival) (turns : List Turn)
     (v : Talking) → v.held ≡ None → v.behind ≡ behinds.Nothing
     → Runs rows items told turns askeds.Nothing v → turns ≡ turns_of items
 all_seen rows items told turns v held behind r =
@@ -178,7 +178,7 @@ all_seen rows items told turns v held behind r =
     ∙ d.seen_is
 
 -- all was acted on
-pub reads_all : (rows : CentreRows) (items : List Item) (told : List Told) (turns : List Turn)
+pub reads_all : (rows : CentreRows) (items : List Item) (told : List Arrival) (turns : List Turn)
     (old new : Talking) → Passes rows items told turns old new → IsIdle new.progress
     → has_more new ≡ false → Reads rows items told turns None old new
 reads_all rows items told turns old new p idle none =
@@ -208,7 +208,7 @@ reads_all rows items told turns old new p idle none =
 
 -- ---- it was left
 
-pub stands_closing : (rows : CentreRows) (items : List Item) (told : List Told)
+pub stands_closing : (rows : CentreRows) (items : List Item) (told : List Arrival)
     (turns : List Turn) (end : ConnEnd) (asked : Bool) (v : Talking)
     → v.progress ≡ progresses.Leaving end asked → StandsAt rows items told turns v
     → StandsAt rows items told turns (record v { progress = progresses.Leaving end true })
@@ -223,7 +223,7 @@ stands_closing rows items told turns end asked v e s =
 
 -- ---- it stands somewhere
 
-pub placed_then : (rows : CentreRows) (items : List Item) (told : List Told) (turns : List Turn)
+pub placed_then : (rows : CentreRows) (items : List Item) (told : List Arrival) (turns : List Turn)
     (old new : Talking) → Passes rows items told turns old new → IsPlaced new
 placed_then rows items told turns old new p = record {
   rows = rows;

@@ -13,8 +13,8 @@ use Rattle.bilateral.specs.Rows.{CentreRows}
 use Rattle.stack_messages.specs.declared.fault.StackFault.{StackFault}
 use Rattle.stack_messages.specs.declared.heard.Connecting.{Connecting}
 use Rattle.stack_assoc.specs.declared.input.StackIn.{StackIn}
-use Rattle.stack_assoc.specs.declared.standing.Standing.{Standing}
-use Rattle.stack_assoc.specs.Told.{Told, asked, confirmed, gone, heard, called, connect_in}
+use Rattle.stack_assoc.specs.declared.end_state.EndState.{EndState}
+use Rattle.stack_assoc.specs.Arrivals.{Arrival, asked, confirmed, gone, heard, called, connect_in}
 use Rattle.stack_assoc.specs.Tellings.{Tells, Stops}
 use Rattle.stack_assoc.specs.Handing.{stack_in, handed_out, answers_to}
 use Rattle.stack_assoc.specs.Courses.{Course, Stands, IsSettled, Goes, NothingLeft, IsLast, Answers}
@@ -55,7 +55,7 @@ use Rattle.tase_conn.proofs.Noted.{quiet_unconnected, some-append, IsNext, IsNot
 -- ---- before it has
 
 -- it reads on within an item, and no event waits
-pub record ReadsOn (rows : CentreRows) (items : List Item) (told : List Told) (turns : List Turn)
+pub record ReadsOn (rows : CentreRows) (items : List Item) (told : List Arrival) (turns : List Turn)
     (v : Talking) : Type 0 where
   pub stands : Stands called (text_of items) told v.course
   pub fault : v.course.fault ≡ None
@@ -68,7 +68,7 @@ pub record ReadsOn (rows : CentreRows) (items : List Item) (told : List Told) (t
   pub conclude : has_concluded v.stage askeds.Nothing None ≡ true → has_conclude told ≡ true
   pub agreed : IsAgreed told v.stage askeds.Nothing
 
-within_by : (items : List Item) (told : List Told) (seen : List Turn) (v : Talking)
+within_by : (items : List Item) (told : List Arrival) (seen : List Turn) (v : Talking)
     (fault : Option StackFault) (behind : Behind) → fault ≡ None → is_left None behind ≡ true
     → MatchOption fault (ReadsBy behind items told seen v) (λ f. Begins seen (turns_of items))
     → IsWithin items told seen v
@@ -77,7 +77,7 @@ within_by items told seen v None behinds.Pause e m r = r
 within_by items told seen v None behinds.End e m r = r
 within_by items told seen v (Some f) behind e m r = absurd cc
 
-pub reads_on : (rows : CentreRows) (items : List Item) (told : List Told) (turns : List Turn)
+pub reads_on : (rows : CentreRows) (items : List Item) (told : List Arrival) (turns : List Turn)
     (v : Talking) → Runs rows items told turns askeds.Nothing v → v.held ≡ None
     → has_more v ≡ true → ReadsOn rows items told turns v
 reads_on rows items told turns v r empty more =
@@ -115,7 +115,7 @@ fetched course out coming behind old = record old {
 }
 
 -- it stands so with more messages told, where this comes next
-pub record IsHeld (items : List Item) (told later : List Told) (turns : List Turn)
+pub record IsHeld (items : List Item) (told later : List Arrival) (turns : List Turn)
     (coming : Coming) (stage : Stage) (new : Talking) : Type 0 where
   pub stands : Stands called (text_of items) (told ++ later) new.course
   pub fault : new.course.fault ≡ fault_held (Some coming)
@@ -127,7 +127,7 @@ pub record IsHeld (items : List Item) (told later : List Told) (turns : List Tur
   pub conclude : has_concluded stage askeds.Nothing (Some coming) ≡ true
       → has_conclude (told ++ later) ≡ true
 
-agreed_more : (told later : List Told) (stage : Stage)
+agreed_more : (told later : List Arrival) (stage : Stage)
     → connected told ≡ is_connected stage askeds.Nothing None
     → IsAgreed told stage askeds.Nothing → IsAgreed (told ++ later) stage askeds.Nothing
 agreed_more told later stages.Early c a = tt
@@ -135,7 +135,7 @@ agreed_more told later (stages.Open peer detail) c a =
     a ∙ ap (λ (o : Option Connecting). detail_of o) (sym (first_kept connect_in told later c))
 agreed_more told later (stages.Closed peer) c a = tt
 
-pub runs_on : (rows : CentreRows) (items : List Item) (told later : List Told)
+pub runs_on : (rows : CentreRows) (items : List Item) (told later : List Arrival)
     (turns : List Turn) (coming : Coming) (old : Talking) (course : Course) (out : List ℕ)
     (behind : Behind) → ReadsOn rows items told turns old
     → IsHeld items told later turns coming old.stage (fetched course out coming behind old)
@@ -169,17 +169,17 @@ one_out None input e = absurd cc
 one_out (Some other) input e =
     ap (λ (is : List StackIn). Some (get_or is 0 input)) e
 
-handed_last : (passed later : List Told) (last : Told) (input : StackIn)
+handed_last : (passed later : List Arrival) (last : Arrival) (input : StackIn)
     → handed_out passed ≡ [] → later ≡ passed ++ last ∷ [] → handed_out later ≡ input ∷ []
     → stack_in last ≡ Some input
 handed_last passed later last input quiet is e =
     one_out (stack_in last) input
-    (sym (ap (λ (ts : List Told). handed_out ts) is
+    (sym (ap (λ (ts : List Arrival). handed_out ts) is
     ∙ filter_map-append stack_in passed (last ∷ [])
     ∙ ap (λ (is : List StackIn). is ++ handed_out (last ∷ [])) quiet) ∙ e)
 
 -- an item is read on
-within_more : (items : List Item) (told later : List Told) (turns : List Turn)
+within_more : (items : List Item) (told later : List Arrival) (turns : List Turn)
     (input : StackIn) (old new : Talking) → handed_out later ≡ input ∷ []
     → new.behind ≡ old.behind → IsWithin items told turns old
     → IsWithin items (told ++ later) (turns ++ listed (turn_in input)) new
@@ -193,7 +193,7 @@ within_more items told later turns input old new out behind w =
       is = w.is;
       behind = behind ∙ w.behind;
       later = w.later ++ later;
-      told_is = ap (λ (ts : List Told). ts ++ later) w.told_is
+      told_is = ap (λ (ts : List Arrival). ts ++ later) w.told_is
           ∙ append_assoc first w.later later;
       unbroken = w.unbroken;
       seen_is = ap (λ (ts : List Turn). ts ++ listed (turn_in input)) w.seen_is
@@ -203,7 +203,7 @@ within_more items told later turns input old new out behind w =
           ∙ sym (heard-append w.later later));
     }
 
-within_behind : (items : List Item) (told : List Told) (seen : List Turn) (v : Talking)
+within_behind : (items : List Item) (told : List Arrival) (seen : List Turn) (v : Talking)
     (behind : Behind) (item : Item) → behind ≡ behind_of item → IsWithin items told seen v
     → ReadsBy behind items told seen v
 within_behind items told seen v behinds.Pause item e w = w
@@ -213,13 +213,13 @@ within_behind items told seen v behinds.Nothing given.idle e w = absurd cc
 within_behind items told seen v behinds.Nothing given.ended e w = absurd cc
 
 -- where no rule is broken
-read_by : (items : List Item) (told : List Told) (seen : List Turn) (v : Talking)
+read_by : (items : List Item) (told : List Arrival) (seen : List Turn) (v : Talking)
     → v.course.fault ≡ None → ReadsBy v.behind items told seen v → HasRead items told seen v
 read_by items told seen v e r =
     subst (λ (fault : Option StackFault). MatchOption fault (ReadsBy v.behind items told seen v)
     (λ f. Begins seen (turns_of items))) (sym e) r
 
-standing_more : (passed : List Told) (last : Told) (s : Standing) → handed_out passed ≡ []
+standing_more : (passed : List Arrival) (last : Arrival) (s : EndState) → handed_out passed ≡ []
     → standing_behind s (passed ++ last ∷ []) ≡ standing_with s last
 standing_more [] last s e = refl
 standing_more (asked r ∷ passed) last s e = standing_more passed last s e
@@ -231,22 +231,22 @@ or_false : (b : Bool) → (b || false) ≡ b
 or_false true = refl
 or_false false = refl
 
-quiet_connected : (told later : List Told) → handed_out later ≡ []
+quiet_connected : (told later : List Arrival) → handed_out later ≡ []
     → connected (told ++ later) ≡ connected told
 quiet_connected told later e =
     some-append connect_in told later
     ∙ ap (λ (b : Bool). connected told || b) (quiet_unconnected later e)
     ∙ or_false (connected told)
 
-next_of_told : (rows : CentreRows) (items : List Item) (told later : List Told)
+next_of_told : (rows : CentreRows) (items : List Item) (told later : List Arrival)
     (turns : List Turn) (old : Talking) (course : Course) → ReadsOn rows items told turns old
     → Stands called (text_of items) (told ++ later) course → (l : IsLast told later course)
     → IsNext (told ++ l.passed) l.last old.stage
 next_of_told rows items told later turns old course r s l =
     let front = told ++ l.passed in
     let there : Stands called (text_of items) (front ++ l.last ∷ []) course =
-    subst (λ (ts : List Told). Stands called (text_of items) ts course)
-    (ap (λ (ts : List Told). told ++ ts) l.is ∙ sym (append_assoc told l.passed (l.last ∷ []))) s
+    subst (λ (ts : List Arrival). Stands called (text_of items) ts course)
+    (ap (λ (ts : List Arrival). told ++ ts) l.is ∙ sym (append_assoc told l.passed (l.last ∷ []))) s
     in
     record {
       comes = last_comes (text_of items) front l.last course there;
@@ -255,7 +255,7 @@ next_of_told rows items told later turns old course r s l =
       conclude = λ now. still_concluded told l.passed (r.conclude now);
     }
 
-held_input : (rows : CentreRows) (items : List Item) (told later : List Told)
+held_input : (rows : CentreRows) (items : List Item) (told later : List Arrival)
     (turns : List Turn) (input : StackIn) (old : Talking) (course : Course)
     (out written : List ℕ) → ReadsOn rows items told turns old → course.fault ≡ None
     → Goes called (text_of items) told later old.course old.out course written
@@ -267,7 +267,7 @@ held_input rows items told later turns input old course out written r fault g ha
     let new = fetched course out coming old.behind old in
     let front = told ++ l.passed in
     let all : front ++ l.last ∷ [] ≡ told ++ later =
-    append_assoc told l.passed (l.last ∷ []) ∙ ap (λ (ts : List Told). told ++ ts) (sym l.is) in
+    append_assoc told l.passed (l.last ∷ []) ∙ ap (λ (ts : List Arrival). told ++ ts) (sym l.is) in
     let n : IsNoted front l.last old.stage input =
     noted front l.last old.stage input
     (next_of_told rows items told later turns old course r g.stands l)
@@ -279,14 +279,14 @@ held_input rows items told later turns input old course out written r fault g ha
           (within_behind items (told ++ later) (turns ++ listed (turn_in input)) new old.behind
           r.within.item r.within.behind
           (within_more items told later turns input old new handed refl r.within));
-      due = subst (λ (ts : List Told). IsDue ts old.stage coming) all n.due;
+      due = subst (λ (ts : List Arrival). IsDue ts old.stage coming) all n.due;
       passed = tt;
       standing = g.standing
-          ∙ ap (λ (ts : List Told). standing_behind old.course.standing ts) l.is
+          ∙ ap (λ (ts : List Arrival). standing_behind old.course.standing ts) l.is
           ∙ standing_more l.passed l.last old.course.standing l.quiet
-          ∙ ap (λ (s : Standing). standing_with s l.last) r.standing ∙ n.standing;
-      connect = ap (λ (ts : List Told). connected ts) (sym all) ∙ n.connect;
-      conclude = λ now. ap (λ (ts : List Told). has_conclude ts) (sym all) ∙ n.conclude now;
+          ∙ ap (λ (s : EndState). standing_with s l.last) r.standing ∙ n.standing;
+      connect = ap (λ (ts : List Arrival). connected ts) (sym all) ∙ n.connect;
+      conclude = λ now. ap (λ (ts : List Arrival). has_conclude ts) (sym all) ∙ n.conclude now;
     }
 
 -- ---- what comes behind all messages, or a rule that is broken
@@ -323,7 +323,7 @@ still (stages.Closed peer) comings.Pause n =
 still (stages.Closed peer) comings.End n =
     record { standing = refl; connect = refl; conclude = refl }
 
-due_always : (told : List Told) (stage : Stage) (coming : Coming) → NoInput coming
+due_always : (told : List Arrival) (stage : Stage) (coming : Coming) → NoInput coming
     → IsDue told stage coming
 due_always told stage (comings.Input input) n = absurd n
 due_always told stage (comings.Fault f) n = tt
@@ -336,7 +336,7 @@ passed_always (comings.Fault fault) = tt
 passed_always comings.Pause = refl
 passed_always comings.End = refl
 
-held_other : (rows : CentreRows) (items : List Item) (told later : List Told)
+held_other : (rows : CentreRows) (items : List Item) (told later : List Arrival)
     (turns : List Turn) (coming : Coming) (old : Talking) (course : Course)
     (out written : List ℕ) → ReadsOn rows items told turns old
     → course.fault ≡ fault_held (Some coming)
@@ -361,7 +361,7 @@ held_other rows items told later turns coming old course out written r fault g h
     }
 
 -- what the items tell, where nothing more was handed out
-quiet_turns : (items : List Item) (told later : List Told) (turns : List Turn) (v : Talking)
+quiet_turns : (items : List Item) (told later : List Arrival) (turns : List Turn) (v : Talking)
     (broken : Option StackFault) (w : IsWithin items told turns v) → handed_out later ≡ []
     → reading_of (text_of items) ≡ reading (told ++ later) broken
     → turns_of items ≡ turns ++ (fault_turns broken ++ turns_behind_octets w.item)
@@ -379,7 +379,7 @@ behind_turns behind given.idle e = ap (λ (b : Behind). turns_held (Some (coming
 behind_turns behind given.ended e = ap (λ (b : Behind). turns_held (Some (coming_behind b))) e
 
 -- all of the items is read
-done_behind : (items : List Item) (told later : List Told) (turns : List Turn) (old new : Talking)
+done_behind : (items : List Item) (told later : List Arrival) (turns : List Turn) (old new : Talking)
     (rest : List ℕ) → IsWithin items told turns old → handed_out later ≡ []
     → Tells called (text_of items) (told ++ later) rest → IsSettled new.course
     → IsDone items (told ++ later) (turns ++ turns_held (Some (coming_behind old.behind))) new
@@ -410,14 +410,14 @@ unoffered stages.Early = refl
 unoffered (stages.Open peer detail) = refl
 unoffered (stages.Closed peer) = refl
 
-left_nothing : (b : Bool) (octets : List ℕ) (told later : List Told) (new : Course)
+left_nothing : (b : Bool) (octets : List ℕ) (told later : List Arrival) (new : Course)
     → b ≡ false → MatchBool b (later ≡ [])
     (((rest : List ℕ) × Tells called octets (told ++ later) rest) × IsSettled new)
     → ((rest : List ℕ) × Tells called octets (told ++ later) rest) × IsSettled new
 left_nothing true octets told later new e n = absurd (false≢true (sym e))
 left_nothing false octets told later new e n = n
 
-held_behind : (rows : CentreRows) (items : List Item) (told later : List Told)
+held_behind : (rows : CentreRows) (items : List Item) (told later : List Arrival)
     (turns : List Turn) (old : Talking) (course : Course) (out written : List ℕ)
     → ReadsOn rows items told turns old → course.fault ≡ None
     → Goes called (text_of items) told later old.course old.out course written
@@ -429,13 +429,13 @@ held_behind rows items told later turns old course out written r fault g handed 
     let coming = coming_behind old.behind in
     let new = fetched course out coming behinds.Nothing old in
     let n = left_nothing (is_offered old.course.standing) (text_of items) told later course
-    (ap (λ (s : Standing). is_offered s) r.standing ∙ unoffered old.stage) left in
+    (ap (λ (s : EndState). is_offered s) r.standing ∙ unoffered old.stage) left in
     held_other rows items told later turns coming old course out written r
     (fault ∙ sym (no_fault old.behind)) g handed (no_input old.behind)
     (read_by items (told ++ later) (turns ++ turns_held (Some coming)) new fault
     (done_behind items told later turns old new n.0.0 r.within handed n.0.1 n.1))
 
-broken_begins : (items : List Item) (told later : List Told) (turns : List Turn) (old : Talking)
+broken_begins : (items : List Item) (told later : List Arrival) (turns : List Turn) (old : Talking)
     (f : StackFault) → IsWithin items told turns old → handed_out later ≡ []
     → Stops called (text_of items) (told ++ later) f
     → Begins (turns ++ breaks ∷ []) (turns_of items)
@@ -447,7 +447,7 @@ broken_begins items told later turns old f w handed stops =
           ∙ sym (append_assoc turns (breaks ∷ []) (turns_behind_octets w.item)),
     )
 
-held_fault : (rows : CentreRows) (items : List Item) (told later : List Told)
+held_fault : (rows : CentreRows) (items : List Item) (told later : List Arrival)
     (turns : List Turn) (f : StackFault) (old : Talking) (course : Course)
     (out written : List ℕ) → ReadsOn rows items told turns old → course.fault ≡ Some f
     → Goes called (text_of items) told later old.course old.out course written
@@ -471,18 +471,18 @@ room_by old new e h = record {
   unsaid = ap (λ (v : Vec ℕ Global). v.items) e ∙ h.unsaid;
 }
 
-pub idle_runs : (rows : CentreRows) (items : List Item) (told : List Told) (turns : List Turn)
+pub idle_runs : (rows : CentreRows) (items : List Item) (told : List Arrival) (turns : List Turn)
     (v : Talking) → IsIdle v.progress → StandsAt rows items told turns v
     → Runs rows items told turns askeds.Nothing v
 idle_runs rows items told turns v idle s =
     subst (λ (p : Progress). GoesBy p rows items told turns v) idle s.goes
 
-pub idle_room : (rows : CentreRows) (items : List Item) (told : List Told) (turns : List Turn)
+pub idle_room : (rows : CentreRows) (items : List Item) (told : List Arrival) (turns : List Turn)
     (v : Talking) → IsIdle v.progress → StandsAt rows items told turns v → HasRoom v
 idle_room rows items told turns v idle s = subst (λ (p : Progress). RoomBy p v) idle s.room
 
 -- it stands so, with the same association and what is said at its end
-pub idle_stands : (rows : CentreRows) (items : List Item) (told there : List Told)
+pub idle_stands : (rows : CentreRows) (items : List Item) (told there : List Arrival)
     (turns : List Turn) (old new : Talking) → IsIdle old.progress → new.progress ≡ old.progress
     → new.rows ≡ old.rows → new.stage ≡ old.stage → new.farewell ≡ old.farewell
     → StandsAt rows items told turns old → Runs rows items there turns askeds.Nothing new
@@ -504,7 +504,7 @@ said_on old answers new farewell none e =
     ∙ ap (λ (os : List ℕ). os ++ answers)
     (sym (append-nil old) ∙ ap (λ (os : List ℕ). old ++ os) (sym none))
 
-passes_on : (rows : CentreRows) (items : List Item) (told later : List Told)
+passes_on : (rows : CentreRows) (items : List Item) (told later : List Arrival)
     (turns : List Turn) (coming : Coming) (old : Talking) (course : Course) (out : List ℕ)
     (behind : Behind) → IsIdle old.progress → StandsAt rows items told turns old
     → ReadsOn rows items told turns old
@@ -527,14 +527,14 @@ passes_on rows items told later turns coming old course out behind idle s r h wr
     }
 
 -- what it stands for, where it reads on
-started : (rows : CentreRows) (items : List Item) (told : List Told) (turns : List Turn)
+started : (rows : CentreRows) (items : List Item) (told : List Arrival) (turns : List Turn)
     (v : Talking) → IsIdle v.progress → v.held ≡ None → has_more v ≡ true
     → StandsAt rows items told turns v → ReadsOn rows items told turns v
 started rows items told turns v idle empty more s =
     reads_on rows items told turns v (idle_runs rows items told turns v idle s) empty more
 
 -- a message was handed out
-pub passes_input : (rows : CentreRows) (items : List Item) (told : List Told)
+pub passes_input : (rows : CentreRows) (items : List Item) (told : List Arrival)
     (turns : List Turn) (input : StackIn) (old : Talking) (course : Course) (out : List ℕ)
     → IsIdle old.progress → old.held ≡ None → has_more old ≡ true
     → StandsAt rows items told turns old → course.fault ≡ None
@@ -547,7 +547,7 @@ passes_input rows items told turns input old course out idle empty more s fault 
     a.1.answered
 
 -- all was read
-pub passes_behind : (rows : CentreRows) (items : List Item) (told : List Told)
+pub passes_behind : (rows : CentreRows) (items : List Item) (told : List Arrival)
     (turns : List Turn) (old : Talking) (course : Course) (out : List ℕ)
     → IsIdle old.progress → old.held ≡ None → has_more old ≡ true
     → StandsAt rows items told turns old → course.fault ≡ None
@@ -561,7 +561,7 @@ passes_behind rows items told turns old course out idle empty more s fault a =
     a.1.answered
 
 -- a rule is broken
-pub passes_fault : (rows : CentreRows) (items : List Item) (told : List Told)
+pub passes_fault : (rows : CentreRows) (items : List Item) (told : List Arrival)
     (turns : List Turn) (f : StackFault) (old : Talking) (course : Course) (out : List ℕ)
     → IsIdle old.progress → old.held ≡ None → has_more old ≡ true
     → StandsAt rows items told turns old → course.fault ≡ Some f
@@ -583,7 +583,7 @@ unbroken_by (Some f) stages.Early e = absurd cc
 unbroken_by (Some f) (stages.Open peer detail) e = absurd cc
 unbroken_by (Some f) (stages.Closed peer) e = absurd cc
 
-within_same : (items : List Item) (told : List Told) (seen : List Turn) (old new : Talking)
+within_same : (items : List Item) (told : List Arrival) (seen : List Turn) (old new : Talking)
     → new.behind ≡ old.behind → IsWithin items told seen old → IsWithin items told seen new
 within_same items told seen old new e w = record {
   done = w.done;
@@ -600,7 +600,7 @@ abbrev with_course : Course → Talking → Talking
 with_course course v = record v { course = course }
 
 -- it stands where it stood
-stands_kept : (rows : CentreRows) (items : List Item) (told : List Told)
+stands_kept : (rows : CentreRows) (items : List Item) (told : List Arrival)
     (turns : List Turn) (old : Talking) (course : Course) → IsIdle old.progress
     → old.held ≡ None → has_more old ≡ true → StandsAt rows items told turns old
     → Stands called (text_of items) told course → course.standing ≡ old.course.standing
@@ -613,9 +613,9 @@ stands_kept rows items told turns old course idle empty more s there standing st
     let stage_standing = standing ∙ x.standing in
     let fault : course.fault ≡ None =
     unbroken_by course.fault old.stage
-    (ap (λ (g : Standing). state_with course.fault g) (sym stage_standing) ∙ state
+    (ap (λ (g : EndState). state_with course.fault g) (sym stage_standing) ∙ state
     ∙ ap (λ (f : Option StackFault). state_with f old.course.standing) x.fault
-    ∙ ap (λ (g : Standing). state_with None g) x.standing) in
+    ∙ ap (λ (g : EndState). state_with None g) x.standing) in
     let seen : turns ≡ turns ++ turns_held old.held =
     sym (append-nil turns) ∙ ap (λ (held : Option Coming). turns ++ turns_held held) (sym empty) in
     let w = within_same items told turns old new refl x.within in
@@ -639,7 +639,7 @@ stands_kept rows items told turns old course idle empty more s there standing st
     })
 
 -- where it was seen so before
-pub stands_again : (rows : CentreRows) (items : List Item) (told : List Told)
+pub stands_again : (rows : CentreRows) (items : List Item) (told : List Arrival)
     (turns : List Turn) (view old new : Talking) (course : Course) → view ≡ old
     → IsIdle old.progress → old.held ≡ None → has_more old ≡ true
     → StandsAt rows items told turns old
@@ -700,7 +700,7 @@ fetched_by (Ok None) course out old =
     fetched course out (coming_behind old.behind) behinds.Nothing old
 fetched_by (Err f) course out old = fetched course out (comings.Fault f) behinds.Nothing old
 
-passes_by : (rows : CentreRows) (items : List Item) (told : List Told) (turns : List Turn)
+passes_by : (rows : CentreRows) (items : List Item) (told : List Arrival) (turns : List Turn)
     (answer : Result (Option StackIn) StackFault) (old : Talking) (course : Course)
     (out : List ℕ) → IsIdle old.progress → old.held ≡ None → has_more old ≡ true
     → StandsAt rows items told turns old → course.fault ≡ fault_in answer
@@ -714,7 +714,7 @@ passes_by rows items told turns (Err f) old course out idle empty more s fault a
     passes_fault rows items told turns f old course out idle empty more s fault a
 
 -- where it was seen so before, and is so now
-pub passes_fetched : (rows : CentreRows) (items : List Item) (told : List Told)
+pub passes_fetched : (rows : CentreRows) (items : List Item) (told : List Arrival)
     (turns : List Turn) (answer : Result (Option StackIn) StackFault) (view old new : Talking)
     (course : Course) (out : List ℕ) → view ≡ old → IsIdle old.progress → old.held ≡ None
     → has_more old ≡ true → StandsAt rows items told turns old → course.fault ≡ fault_in answer

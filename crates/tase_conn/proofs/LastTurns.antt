@@ -7,7 +7,7 @@ use Rattle.std.proofs.lemmas.List.{append-nil}
 use Rattle.std.proofs.lemmas.Grind.{flat_map-append}
 use Rattle.bilateral.specs.Rows.{CentreRows}
 use Rattle.stack_messages.specs.declared.fault.StackFault.{StackFault}
-use Rattle.stack_assoc.specs.Told.{Told, called}
+use Rattle.stack_assoc.specs.Arrivals.{Arrival, called}
 use Rattle.stack_assoc.proofs.StreamLaws.{fault_stays}
 use Rattle.tase_map.specs.Inputs.{Item, octets_of, text_of}
 use Rattle.tase_map.specs.Readings.{Reading, Reads, reading_of}
@@ -28,7 +28,7 @@ pub text_on : (items : List Item) (item : Item)
 text_on items item = flat_map-append octets_of items (item ∷ [])
     ∙ ap (λ (os : List ℕ). text_of items ++ os) (append-nil (octets_of item))
 
-broken_by : (text more : List ℕ) (told : List Told) (broken : Option StackFault)
+broken_by : (text more : List ℕ) (told : List Arrival) (broken : Option StackFault)
     (fault : StackFault) → Reads text told broken → broken ≡ Some fault
     → (reading_of (text ++ more)).broken ≡ Some fault
 broken_by text more told None fault r e = absurd cc
@@ -176,7 +176,7 @@ last_stays rows (turn ∷ turns) more e =
     stays_by rows turn turns more (last_stays rows turns more) (is_last rows turn) e
 
 -- behind an end nothing more is acted on, whatever the link gives
-pub whole_now : (rows : CentreRows) (items : List Item) (told : List Told) (turns : List Turn)
+pub whole_now : (rows : CentreRows) (items : List Item) (told : List Arrival) (turns : List Turn)
     (end : ConnEnd) → EndsBy rows items told turns end → up_to_last rows (turns_of items) ≡ turns
 whole_now rows items told turns end e =
     let o = turns_on [] e.done e.dropped in
@@ -188,7 +188,7 @@ whole_now rows items told turns end e =
     ∙ ap (λ (ts : List Turn). up_to_last rows ts) o.1
     ∙ last_stays rows (turns_of e.done) o.0 any ∙ e.whole
 
-pub ends_on : (rows : CentreRows) (items : List Item) (told : List Told) (turns : List Turn)
+pub ends_on : (rows : CentreRows) (items : List Item) (told : List Arrival) (turns : List Turn)
     (item : Item) (end : ConnEnd) → EndsBy rows items told turns end
     → EndsBy rows (items ++ item ∷ []) told turns end
 ends_on rows items told turns item end e = record {

@@ -16,11 +16,11 @@ use Rattle.stack_messages.specs.declared.heard.Heard.{Heard}
 use Rattle.stack_messages.specs.declared.heard.Heard.TheVariants as heards
 use Rattle.stack_assoc.specs.declared.input.StackIn.{StackIn}
 use Rattle.stack_assoc.specs.declared.input.StackIn.TheVariants as inputs
-use Rattle.stack_assoc.specs.declared.standing.Standing.{Standing}
-use Rattle.stack_assoc.specs.declared.standing.Standing.TheVariants as standings
-use Rattle.stack_assoc.specs.Told.{Told, asked, confirmed, gone, heard, or_else, first_in}
-use Rattle.stack_assoc.specs.Told.{connect_in, is_conclude}
-use Rattle.stack_assoc.specs.Handing.{is_offer, is_too_little, heard_in, stack_in, handed_out}
+use Rattle.stack_assoc.specs.declared.end_state.EndState.{EndState}
+use Rattle.stack_assoc.specs.declared.end_state.EndState.TheVariants as standings
+use Rattle.stack_assoc.specs.Arrivals.{Arrival, asked, confirmed, gone, heard, or_else, first_in}
+use Rattle.stack_assoc.specs.Arrivals.{connect_in, is_conclude}
+use Rattle.stack_assoc.specs.Handing.{is_offer, is_too_little, input_heard, stack_in, handed_out}
 use Rattle.stack_assoc.specs.Courses.{offered_by, standing_with, standing_behind}
 use Rattle.tase_map.specs.LawfulTold.{IsLawfulTold}
 use Rattle.tase_map.specs.Turns.{turn_of_pdu}
@@ -56,30 +56,30 @@ or_true true = refl
 or_true false = refl
 
 -- whether a connect is among these
-abbrev pub connected : List Told → Bool
+abbrev pub connected : List Arrival → Bool
 connected told = is_some (first_in connect_in told)
 
-abbrev pub has_conclude : List Told → Bool
+abbrev pub has_conclude : List Arrival → Bool
 has_conclude told = list_any is_conclude told
 
-pub still_connected : (told later : List Told) → connected told ≡ true
+pub still_connected : (told later : List Arrival) → connected told ≡ true
     → connected (told ++ later) ≡ true
 still_connected told later c = some-append connect_in told later ∙ rw c refl
 
-pub still_unconnected : (told later : List Told) → connected told ≡ false
+pub still_unconnected : (told later : List Arrival) → connected told ≡ false
     → connected later ≡ false → connected (told ++ later) ≡ false
 still_unconnected told later c l = some-append connect_in told later ∙ rw (c, l) refl
 
-pub still_concluded : (told later : List Told) → has_conclude told ≡ true
+pub still_concluded : (told later : List Arrival) → has_conclude told ≡ true
     → has_conclude (told ++ later) ≡ true
 still_concluded told later c = list_any-append is_conclude told later ∙ rw c refl
 
-first_behind : (front : List Told) (c : Connecting) → connected front ≡ false
+first_behind : (front : List Arrival) (c : Connecting) → connected front ≡ false
     → first_in connect_in (front ++ heard (heards.Connect c) ∷ []) ≡ Some c
 first_behind [] c e = refl
 first_behind (t ∷ front) c e = behind_one (connect_in t) front c e (first_behind front c)
   where
-    behind_one : (o : Option Connecting) (front : List Told) (c : Connecting)
+    behind_one : (o : Option Connecting) (front : List Arrival) (c : Connecting)
         → is_some (or_else o (first_in connect_in front)) ≡ false
         → (connected front ≡ false
         → first_in connect_in (front ++ heard (heards.Connect c) ∷ []) ≡ Some c)
@@ -89,7 +89,7 @@ first_behind (t ∷ front) c e = behind_one (connect_in t) front c e (first_behi
 
 -- ---- messages of which nothing is handed out
 
-pub quiet_standing : (told : List Told) (s : Standing) → handed_out told ≡ []
+pub quiet_standing : (told : List Arrival) (s : EndState) → handed_out told ≡ []
     → standing_behind s told ≡ s
 quiet_standing [] s e = refl
 quiet_standing (asked r ∷ told) s e = quiet_standing told s e
@@ -97,7 +97,7 @@ quiet_standing (confirmed c ∷ told) s e = quiet_standing told s e
 quiet_standing (gone ∷ told) s e = absurd cc
 quiet_standing (heard h ∷ told) s e = absurd cc
 
-pub quiet_unconnected : (told : List Told) → handed_out told ≡ [] → connected told ≡ false
+pub quiet_unconnected : (told : List Arrival) → handed_out told ≡ [] → connected told ≡ false
 quiet_unconnected [] e = refl
 quiet_unconnected (asked r ∷ told) e = quiet_unconnected told e
 quiet_unconnected (confirmed c ∷ told) e = quiet_unconnected told e
@@ -107,14 +107,14 @@ quiet_unconnected (heard h ∷ told) e = absurd cc
 -- ---- the message that is handed out
 
 -- where no event waits: it may come behind those before it, and these are known of the association
-pub record IsNext (front : List Told) (last : Told) (stage : Stage) : Type 0 where
+pub record IsNext (front : List Arrival) (last : Arrival) (stage : Stage) : Type 0 where
   pub comes : Comes front last
   pub lawful : IsLawfulTold last
   pub connect : connected front ≡ is_connected stage askeds.Nothing None
   pub conclude : has_concluded stage askeds.Nothing None ≡ true → has_conclude front ≡ true
 
 -- it is due, and what is known of the association is known with it
-pub record IsNoted (front : List Told) (last : Told) (stage : Stage) (input : StackIn) : Type 0
+pub record IsNoted (front : List Arrival) (last : Arrival) (stage : Stage) (input : StackIn) : Type 0
   where
     pub due : InputIsDue (front ++ last ∷ []) stage input
     pub standing : standing_with (standing_by stage askeds.Nothing None) last
@@ -132,7 +132,7 @@ enough true true false e = refl
 enough true false c e = absurd (false≢true e)
 enough false b c e = absurd (false≢true e)
 
-early_connect : (b : Bool) (front : List Told) (c : Connecting) → connected front ≡ false
+early_connect : (b : Bool) (front : List Arrival) (c : Connecting) → connected front ≡ false
     → (b ≡ true → is_too_little c.initiate ≡ false)
     → standing_with standings.Waiting (heard (heards.Connect c)) ≡ offered_by b
     → IsNoted front (heard (heards.Connect c)) stages.Early
@@ -157,7 +157,7 @@ early_connect false front c e offer is = record {
 }
 
 -- a message by which nothing begins
-early_other : (front : List Told) (last : Told) (input : StackIn) → connected front ≡ false
+early_other : (front : List Arrival) (last : Arrival) (input : StackIn) → connected front ≡ false
     → connected (last ∷ []) ≡ false → InputIsDue (front ++ last ∷ []) stages.Early input
     → standing_with standings.Waiting last
     ≡ standing_by stages.Early askeds.Nothing (Some (comings.Input input))
@@ -171,10 +171,10 @@ early_other front last input e l due standing c d = record {
   conclude = λ never. absurd (false≢true (sym d ∙ never));
 }
 
-unbegun : (front : List Told) → connected front ≡ false → HasBegun front → ⊥
+unbegun : (front : List Arrival) → connected front ≡ false → HasBegun front → ⊥
 unbegun front e b = false≢true (sym e ∙ b.connect)
 
-early_pdu : (front : List Told) (p : MmsPdu) → connected front ≡ false → PduComes front p
+early_pdu : (front : List Arrival) (p : MmsPdu) → connected front ≡ false → PduComes front p
     → IsNoted front (heard (heards.Pdu p)) stages.Early (inputs.Pdu p)
 early_pdu front (pdus.Request invoke request) e c = absurd (unbegun front e c)
 early_pdu front pdus.Conclude e c = absurd (unbegun front e c)
@@ -203,11 +203,11 @@ early_pdu front pdus.Concluded e c =
     early_other front (heard (heards.Pdu pdus.Concluded)) (inputs.Pdu pdus.Concluded) e refl refl
     refl refl refl
 
-some_front : (front : List Told) (t : Told) → 1 ≤ length (front ++ t ∷ [])
+some_front : (front : List Arrival) (t : Arrival) → 1 ≤ length (front ++ t ∷ [])
 some_front front t = omega (arith, length-append front (t ∷ []))
 
-early_heard : (front : List Told) (h : Heard) → connected front ≡ false → HeardComes front h
-    → IsNoted front (heard h) stages.Early (heard_in h)
+early_heard : (front : List Arrival) (h : Heard) → connected front ≡ false → HeardComes front h
+    → IsNoted front (heard h) stages.Early (input_heard h)
 early_heard front (heards.Connect c) e m =
     early_connect (is_offer c) front c e
     (enough (is_some (acse_of c.contexts)) (bytes_eq c.context mms_context)
@@ -227,7 +227,7 @@ early_heard front (heards.BadRequest invoke) e m = absurd (unbegun front e m)
 
 -- ---- while it is open
 
-open_other : (front : List Told) (last : Told) (peer : ℕ) (detail : ℤ) (input : StackIn)
+open_other : (front : List Arrival) (last : Arrival) (peer : ℕ) (detail : ℤ) (input : StackIn)
     → connected front ≡ true → InputIsDue (front ++ last ∷ []) (stages.Open peer detail) input
     → standing_with standings.Accepted last
     ≡ standing_by (stages.Open peer detail) askeds.Nothing (Some (comings.Input input))
@@ -261,9 +261,9 @@ pdu_concludes pdus.Concluded peer detail e = absurd (false≢true e)
 no_conclude : {P : Type 0} → false ≡ true → P
 no_conclude e = absurd (false≢true e)
 
-open_heard : (front : List Told) (h : Heard) (peer : ℕ) (detail : ℤ) → connected front ≡ true
+open_heard : (front : List Arrival) (h : Heard) (peer : ℕ) (detail : ℤ) → connected front ≡ true
     → HeardComes front h → IsLawfulTold (heard h)
-    → IsNoted front (heard h) (stages.Open peer detail) (heard_in h)
+    → IsNoted front (heard h) (stages.Open peer detail) (input_heard h)
 open_heard front (heards.Connect c) peer detail e m l = absurd (false≢true (sym m ∙ e))
 open_heard front (heards.Accept a) peer detail e m l = absurd m
 open_heard front heards.Refuse peer detail e m l = absurd m
@@ -285,7 +285,7 @@ open_heard front (heards.BadRequest invoke) peer detail e m l =
 
 -- ---- behind its close
 
-closed_other : (front : List Told) (last : Told) (peer : ℕ) (input : StackIn)
+closed_other : (front : List Arrival) (last : Arrival) (peer : ℕ) (input : StackIn)
     → connected front ≡ true → has_conclude front ≡ true
     → InputIsDue (front ++ last ∷ []) (stages.Closed peer) input
     → standing_with standings.Accepted last
@@ -298,10 +298,10 @@ closed_other front last peer input e d due standing = record {
   conclude = λ now. still_concluded front (last ∷ []) d;
 }
 
-over : (front : List Told) → has_conclude front ≡ true → HasBegun front → ⊥
+over : (front : List Arrival) → has_conclude front ≡ true → HasBegun front → ⊥
 over front d b = false≢true (sym b.conclude ∙ d)
 
-pdu_over : (front : List Told) (p : MmsPdu) → has_conclude front ≡ true → PduComes front p
+pdu_over : (front : List Arrival) (p : MmsPdu) → has_conclude front ≡ true → PduComes front p
     → turn_of_pdu p ≡ None
 pdu_over front (pdus.Request invoke request) d c = absurd (over front d c)
 pdu_over front pdus.Conclude d c = absurd (over front d c)
@@ -314,9 +314,9 @@ pdu_over front (pdus.Initiated offer) d c = refl
 pdu_over front pdus.InitiateError d c = refl
 pdu_over front pdus.Concluded d c = refl
 
-closed_heard : (front : List Told) (h : Heard) (peer : ℕ) → connected front ≡ true
+closed_heard : (front : List Arrival) (h : Heard) (peer : ℕ) → connected front ≡ true
     → has_conclude front ≡ true → HeardComes front h
-    → IsNoted front (heard h) (stages.Closed peer) (heard_in h)
+    → IsNoted front (heard h) (stages.Closed peer) (input_heard h)
 closed_heard front (heards.Connect c) peer e d m = absurd (false≢true (sym m ∙ e))
 closed_heard front (heards.Accept a) peer e d m = absurd m
 closed_heard front heards.Refuse peer e d m = absurd m
@@ -335,7 +335,7 @@ closed_heard front (heards.BadRequest invoke) peer e d m = absurd (over front d 
 
 -- ---- however far it has come
 
-gone_noted : (front : List Told) (stage : Stage) → IsNext front gone stage
+gone_noted : (front : List Arrival) (stage : Stage) → IsNext front gone stage
     → IsNoted front gone stage inputs.Aborted
 gone_noted front stages.Early n =
     early_other front gone inputs.Aborted n.connect refl (some_front front gone) refl refl refl
@@ -346,8 +346,8 @@ gone_noted front (stages.Closed peer) n =
     closed_other front gone peer inputs.Aborted n.connect (n.conclude refl)
     (some_front front gone) refl
 
-heard_noted : (front : List Told) (h : Heard) (stage : Stage) → IsNext front (heard h) stage
-    → IsNoted front (heard h) stage (heard_in h)
+heard_noted : (front : List Arrival) (h : Heard) (stage : Stage) → IsNext front (heard h) stage
+    → IsNoted front (heard h) stage (input_heard h)
 heard_noted front h stages.Early n = early_heard front h n.connect n.comes
 heard_noted front h (stages.Open peer detail) n =
     open_heard front h peer detail n.connect n.comes n.lawful
@@ -355,7 +355,7 @@ heard_noted front h (stages.Closed peer) n =
     closed_heard front h peer n.connect (n.conclude refl) n.comes
 
 -- a message of which this is handed out
-pub noted : (front : List Told) (last : Told) (stage : Stage) (input : StackIn)
+pub noted : (front : List Arrival) (last : Arrival) (stage : Stage) (input : StackIn)
     → IsNext front last stage → stack_in last ≡ Some input → IsNoted front last stage input
 noted front (asked r) stage input n e = absurd (none-some input e)
 noted front (confirmed c) stage input n e = absurd (none-some input e)
@@ -363,5 +363,5 @@ noted front gone stage input n e =
     subst (λ (i : StackIn). IsNoted front gone stage i) (same_Some inputs.Aborted input e)
     (gone_noted front stage n)
 noted front (heard h) stage input n e =
-    subst (λ (i : StackIn). IsNoted front (heard h) stage i) (same_Some (heard_in h) input e)
+    subst (λ (i : StackIn). IsNoted front (heard h) stage i) (same_Some (input_heard h) input e)
     (heard_noted front h stage n)

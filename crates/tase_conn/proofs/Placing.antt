@@ -8,9 +8,9 @@ use Rattle.std.proofs.lemmas.List.{append-nil, nil_from_length}
 use Rattle.bilateral.specs.Rows.{CentreRows}
 use Rattle.stack_messages.specs.declared.fault.StackFault.{StackFault}
 use Rattle.stack_assoc.specs.declared.input.StackState.TheVariants as states
-use Rattle.stack_assoc.specs.declared.standing.Standing.{Standing}
-use Rattle.stack_assoc.specs.declared.standing.Standing.TheVariants as standings
-use Rattle.stack_assoc.specs.Told.{Told, called}
+use Rattle.stack_assoc.specs.declared.end_state.EndState.{EndState}
+use Rattle.stack_assoc.specs.declared.end_state.EndState.TheVariants as standings
+use Rattle.stack_assoc.specs.Arrivals.{Arrival, called}
 use Rattle.stack_assoc.specs.Courses.{Course, Stands, IsSettled, is_offered, state_by, state_with}
 use Rattle.stack_assoc.specs.Courses.{state_of}
 use Rattle.tase_map.specs.Inputs.{Item, piece, idle, ended, octets_of, text_of}
@@ -65,7 +65,7 @@ clear_match A B (Some f) e a = absurd cc
 
 -- ---- what was read was read, whatever else changes
 
-reads_by_moved : (b : Behind) (items : List Item) (told : List Told) (seen : List Turn)
+reads_by_moved : (b : Behind) (items : List Item) (told : List Arrival) (seen : List Turn)
     (old new : Talking) → (IsSettled old.course → IsSettled new.course) → new.behind ≡ old.behind
     → ReadsBy b items told seen old → ReadsBy b items told seen new
 reads_by_moved behinds.Nothing items told seen old new settled behind r = record {
@@ -95,7 +95,7 @@ reads_by_moved behinds.End items told seen old new settled behind r = record {
   seen_is = r.seen_is;
 }
 
-pub reads_moved : (f : Option StackFault) (b : Behind) (items : List Item) (told : List Told)
+pub reads_moved : (f : Option StackFault) (b : Behind) (items : List Item) (told : List Arrival)
     (seen : List Turn) (old new : Talking) → (IsSettled old.course → IsSettled new.course)
     → new.behind ≡ old.behind
     → MatchOption f (ReadsBy b items told seen old) (λ fault. Begins seen (turns_of items))
@@ -110,7 +110,7 @@ read_none : reading_of [] ≡ reading [] None
 read_none = reading_only [] [] None
     (nothing_said.0, record { messages = []; said = nothing_said.1; tell = tt })
 
-waiting_alone : (f : Option StackFault) (s : Standing) → state_with f s ≡ states.Waiting
+waiting_alone : (f : Option StackFault) (s : EndState) → state_with f s ≡ states.Waiting
     → (f ≡ None) × (s ≡ standings.Waiting)
 waiting_alone None standings.Waiting e = (refl, refl)
 waiting_alone None standings.Offered e = absurd cc
@@ -162,7 +162,7 @@ started rows course out farewell stands settled waiting room empty =
 
 -- ---- an item more
 
-read_item : (item : Item) (items : List Item) (told : List Told) (seen : List Turn) (v : Talking)
+read_item : (item : Item) (items : List Item) (told : List Arrival) (seen : List Turn) (v : Talking)
     → IsWithin items told seen v → ReadsBy (behind_of item) items told seen v
 read_item (piece octets) items told seen v w = w
 read_item idle items told seen v w = w
@@ -172,7 +172,7 @@ abbrev pub taking : Talking → Item → Course → Talking
 taking old item course = record old { course = course; behind = behind_of item }
 
 -- nothing of it is read yet
-nothing_read : (items : List Item) (item : Item) (told : List Told) (seen : List Turn)
+nothing_read : (items : List Item) (item : Item) (told : List Arrival) (seen : List Turn)
     (old : Talking) (course : Course) → IsDone items told seen old
     → IsWithin (items ++ item ∷ []) told seen (taking old item course)
 nothing_read items item told seen old course d = record {
@@ -187,13 +187,13 @@ nothing_read items item told seen old course d = record {
 }
 
 -- an end that rests waits for its offer, or its association stands
-resting_so : (stage : Stage) (s : Standing) → s ≡ standing_by stage askeds.Nothing None
+resting_so : (stage : Stage) (s : EndState) → s ≡ standing_by stage askeds.Nothing None
     → (s ≡ standings.Waiting) ⊎ (s ≡ standings.Accepted)
 resting_so stages.Early s e = inl e
 resting_so (stages.Open peer detail) s e = inr e
 resting_so (stages.Closed peer) s e = inr e
 
-still_clear : (f : Option StackFault) (s : Standing)
+still_clear : (f : Option StackFault) (s : EndState)
     → (s ≡ standings.Waiting) ⊎ (s ≡ standings.Accepted) → state_with f s ≡ state_by s → f ≡ None
 still_clear None s so e = refl
 still_clear (Some f) s (inl w) e =
@@ -201,13 +201,13 @@ still_clear (Some f) s (inl w) e =
 still_clear (Some f) s (inr w) e =
     absurd (let x : states.Ended ≡ states.Accepted = e ∙ ap state_by w in cc)
 
-not_offered : (s : Standing) → (s ≡ standings.Waiting) ⊎ (s ≡ standings.Accepted)
+not_offered : (s : EndState) → (s ≡ standings.Waiting) ⊎ (s ≡ standings.Accepted)
     → is_offered s ≡ false
 not_offered s (inl e) = ap is_offered e
 not_offered s (inr e) = ap is_offered e
 
 -- what feeding ensures
-pub record Fed (items : List Item) (item : Item) (told : List Told) (old new : Course) :
+pub record Fed (items : List Item) (item : Item) (told : List Arrival) (old new : Course) :
     Type 0 where
   pub stands : Stands called (text_of items) told old
       → Stands called (text_of items ++ octets_of item) told new
@@ -222,7 +222,7 @@ rests_clear stage old new clear is standing state =
     (state ∙ ap (λ (f : Option StackFault). state_with f old.standing) clear
     ∙ ap state_by (sym standing))
 
-runs_taken : (rows : CentreRows) (items : List Item) (told : List Told) (turns : List Turn)
+runs_taken : (rows : CentreRows) (items : List Item) (told : List Arrival) (turns : List Turn)
     (item : Item) (centre : CentreRows) (course : Course) (held : Option Coming)
     (behind : Behind) (stage : Stage) (progress : Progress) (out : List ℕ)
     (farewell : Vec ℕ Global) (fed : Course) → behind ≡ behinds.Nothing → held ≡ None
@@ -268,7 +268,7 @@ runs_taken rows items told turns item centre course None behinds.Pause stage pro
 runs_taken rows items told turns item centre course None behinds.End stage progress out farewell
     fed e h r f = absurd cc
 
-goes_taken : (progress : Progress) (rows : CentreRows) (items : List Item) (told : List Told)
+goes_taken : (progress : Progress) (rows : CentreRows) (items : List Item) (told : List Arrival)
     (turns : List Turn) (item : Item) (old : Talking) (fed : Course) → IsFree progress
     → is_running progress ≡ true → old.behind ≡ behinds.Nothing → old.held ≡ None
     → GoesBy progress rows items told turns old → Fed items item told old.course fed
@@ -299,7 +299,7 @@ room_kept (progresses.Ended end) old new keep r = tt
 room_kept (progresses.Cut end) old new keep r = tt
 
 -- it was taken in
-pub taken_in : (rows : CentreRows) (items : List Item) (told : List Told) (turns : List Turn)
+pub taken_in : (rows : CentreRows) (items : List Item) (told : List Arrival) (turns : List Turn)
     (item : Item) (old : Talking) (fed : Course) → IsResting old → is_running old.progress ≡ true
     → Fed items item told old.course fed → StandsAt rows items told turns old
     → StandsAt rows (items ++ item ∷ []) told turns (taking old item fed)
@@ -312,7 +312,7 @@ taken_in rows items told turns item old fed rest run f s = record {
       (λ r. record { room = r.room; unsaid = r.unsaid }) s.room;
 }
 
-goes_dropped : (progress : Progress) (rows : CentreRows) (items : List Item) (told : List Told)
+goes_dropped : (progress : Progress) (rows : CentreRows) (items : List Item) (told : List Arrival)
     (turns : List Turn) (item : Item) (v : Talking) → is_running progress ≡ false
     → GoesBy progress rows items told turns v
     → GoesBy progress rows (items ++ item ∷ []) told turns v
@@ -324,7 +324,7 @@ goes_dropped (progresses.Ended end) rows items told turns item v e g =
 goes_dropped (progresses.Cut end) rows items told turns item v e g = g
 
 -- it was dropped, once the connection was left or has ended
-pub dropped : (rows : CentreRows) (items : List Item) (told : List Told) (turns : List Turn)
+pub dropped : (rows : CentreRows) (items : List Item) (told : List Arrival) (turns : List Turn)
     (item : Item) (v : Talking) → is_running v.progress ≡ false
     → StandsAt rows items told turns v → StandsAt rows (items ++ item ∷ []) told turns v
 dropped rows items told turns item v e s = record {
@@ -336,7 +336,7 @@ dropped rows items told turns item v e s = record {
 
 -- ---- nothing for now, and nothing more
 
-no_octets : (items : List Item) (item : Item) (told : List Told) (course : Course)
+no_octets : (items : List Item) (item : Item) (told : List Arrival) (course : Course)
     → octets_of item ≡ [] → Fed items item told course course
 no_octets items item told course e = record {
   stands = λ s. subst (λ (os : List ℕ). Stands called os told course)
@@ -346,7 +346,7 @@ no_octets items item told course e = record {
 }
 
 -- an item without octets was taken in
-pub idle_taken : (rows : CentreRows) (items : List Item) (told : List Told) (turns : List Turn)
+pub idle_taken : (rows : CentreRows) (items : List Item) (told : List Arrival) (turns : List Turn)
     (item : Item) (old : Talking) → octets_of item ≡ [] → IsResting old
     → is_running old.progress ≡ true → StandsAt rows items told turns old
     → StandsAt rows (items ++ item ∷ []) told turns (record old { behind = behind_of item })
@@ -355,7 +355,7 @@ idle_taken rows items told turns item old e rest run s =
     (no_octets items item told old.course e) s
 
 -- what its end needs so that it may be fed
-settled_so : (rows : CentreRows) (items : List Item) (told : List Told) (turns : List Turn)
+settled_so : (rows : CentreRows) (items : List Item) (told : List Arrival) (turns : List Turn)
     (centre : CentreRows) (course : Course) (held : Option Coming) (behind : Behind)
     (stage : Stage) (progress : Progress) (out : List ℕ) (farewell : Vec ℕ Global)
     → behind ≡ behinds.Nothing → held ≡ None → Runs rows items told turns askeds.Nothing
@@ -375,7 +375,7 @@ settled_so rows items told turns centre course None behinds.Pause stage progress
 settled_so rows items told turns centre course None behinds.End stage progress out farewell e h r =
     absurd cc
 
-settled_by : (progress : Progress) (rows : CentreRows) (items : List Item) (told : List Told)
+settled_by : (progress : Progress) (rows : CentreRows) (items : List Item) (told : List Arrival)
     (turns : List Turn) (v : Talking) → IsFree progress → is_running progress ≡ true
     → v.behind ≡ behinds.Nothing → v.held ≡ None → GoesBy progress rows items told turns v
     → IsSettled v.course × (is_offered v.course.standing ≡ false)
@@ -405,7 +405,7 @@ may_feed v rest run p = settled_by v.progress p.rows p.items p.told p.turns v re
 abbrev pub apart : Talking → Progress → List ℕ → Vec ℕ Global → Talking
 apart v progress out farewell = record v { progress = progress; out = out; farewell = farewell }
 
-pub runs_apart : (rows : CentreRows) (items : List Item) (told : List Told) (turns : List Turn)
+pub runs_apart : (rows : CentreRows) (items : List Item) (told : List Arrival) (turns : List Turn)
     (asked : Asked) (v : Talking) (progress : Progress) (out : List ℕ) (farewell : Vec ℕ Global)
     → Runs rows items told turns asked v
     → Runs rows items told turns asked (apart v progress out farewell)
@@ -427,7 +427,7 @@ runs_apart rows items told turns asked v progress out farewell r = record {
   last = r.last;
 }
 
-goes_apart : (by : Progress) (rows : CentreRows) (items : List Item) (told : List Told)
+goes_apart : (by : Progress) (rows : CentreRows) (items : List Item) (told : List Arrival)
     (turns : List Turn) (v : Talking) (progress : Progress) (out : List ℕ)
     (farewell : Vec ℕ Global) → GoesBy by rows items told turns v
     → GoesBy by rows items told turns (apart v progress out farewell)
@@ -441,7 +441,7 @@ goes_apart (progresses.Cut end) rows items told turns v progress out farewell g 
     record { read = g.read; acted = g.acted }
 
 -- it stands where it stood, whatever was sent
-pub sent_on : (rows : CentreRows) (items : List Item) (told : List Told) (turns : List Turn)
+pub sent_on : (rows : CentreRows) (items : List Item) (told : List Arrival) (turns : List Turn)
     (old new : Talking) → new ≡ record old { out = new.out; farewell = new.farewell }
     → (HasRoom old → HasRoom new) → StandsAt rows items told turns old
     → StandsAt rows items told turns new
@@ -471,7 +471,7 @@ pub may_part : (v : Talking) → MayLeave v.progress → IsPlaced v → HasRoom 
 may_part v m p = room_left v.progress v m p.stands.room
 
 -- it has ended
-pub parted_stands : (rows : CentreRows) (items : List Item) (told : List Told)
+pub parted_stands : (rows : CentreRows) (items : List Item) (told : List Arrival)
     (turns : List Turn) (end : ConnEnd) (octets : List ℕ) (old new : Talking)
     → Parts (progresses.Cut end) octets old new → old.rows ≡ rows
     → IfSome (stage_peer old.stage) (IsPeer rows) → StandsAt rows items told turns new
@@ -483,7 +483,7 @@ parted_stands rows items told turns end octets old new p rows_are peer =
       room = tt;
     })
 
-left_by : (b : Bool) (rows : CentreRows) (items : List Item) (told : List Told)
+left_by : (b : Bool) (rows : CentreRows) (items : List Item) (told : List Arrival)
     (turns : List Turn) (end : ConnEnd) (old new : Talking) → is_open_stage old.stage ≡ b
     → HasRoom old → MatchBool b (new ≡ record old { progress = progresses.Leaving end false })
     (Parts (progresses.Cut end) (parted old.course end) old new)
@@ -499,7 +499,7 @@ left_by false rows items told turns end old new e room l s =
     parted_stands rows items told turns end (parted old.course end) old new l s.rows_are s.peer
 
 -- it was left
-pub left_stands : (rows : CentreRows) (items : List Item) (told : List Told) (turns : List Turn)
+pub left_stands : (rows : CentreRows) (items : List Item) (told : List Arrival) (turns : List Turn)
     (end : ConnEnd) (old new : Talking) → HasRoom old → IsLeft end old new
     → StandsAt rows items told turns old → StandsAt rows items told turns new
 left_stands rows items told turns end old new room l s =
@@ -508,13 +508,13 @@ left_stands rows items told turns end old new room l s =
 -- ---- as code sees it
 
 -- the same by its fields
-pub by_view : (rows : CentreRows) (items : List Item) (told : List Told) (turns : List Turn)
+pub by_view : (rows : CentreRows) (items : List Item) (told : List Arrival) (turns : List Turn)
     (view old : Talking) → view ≡ old → StandsAt rows items told turns old
     → StandsAt rows items told turns view
 by_view rows items told turns view old e s =
     subst (λ (v : Talking). StandsAt rows items told turns v) (sym e) s
 
-pub taken_view : (rows : CentreRows) (items : List Item) (told : List Told) (turns : List Turn)
+pub taken_view : (rows : CentreRows) (items : List Item) (told : List Arrival) (turns : List Turn)
     (item : Item) (view old : Talking) (fed : Course) → view ≡ old → IsResting old
     → is_running old.progress ≡ true → Fed items item told view.course fed
     → StandsAt rows items told turns old
@@ -525,7 +525,7 @@ taken_view rows items told turns item view old fed e rest run f s =
     (ap (λ (v : Talking). is_running v.progress) e ∙ run) f
     (by_view rows items told turns view old e s)
 
-pub idle_view : (rows : CentreRows) (items : List Item) (told : List Told) (turns : List Turn)
+pub idle_view : (rows : CentreRows) (items : List Item) (told : List Arrival) (turns : List Turn)
     (item : Item) (view old : Talking) → view ≡ old → octets_of item ≡ [] → IsResting old
     → is_running old.progress ≡ true → StandsAt rows items told turns old
     → StandsAt rows (items ++ item ∷ []) told turns (record view { behind = behind_of item })
@@ -536,7 +536,7 @@ idle_view rows items told turns item view old e none rest run s =
 -- ---- what was sent
 
 -- the octets before those of an abort were cut
-pub front_sent : (rows : CentreRows) (items : List Item) (told : List Told) (turns : List Turn)
+pub front_sent : (rows : CentreRows) (items : List Item) (told : List Arrival) (turns : List Turn)
     (view old : Talking) (out : List ℕ) → view ≡ old → StandsAt rows items told turns old
     → StandsAt rows items told turns (record view { out = out })
 front_sent rows items told turns view old out e s =
@@ -552,7 +552,7 @@ none_sent out farewell n o f e =
     omega (arith, l, e)
 
 -- those of an abort were cut, so that one was said
-pub farewell_sent : (rows : CentreRows) (items : List Item) (told : List Told)
+pub farewell_sent : (rows : CentreRows) (items : List Item) (told : List Arrival)
     (turns : List Turn) (view old : Talking) (farewell : Vec ℕ Global) (n : ℕ) → view ≡ old
     → view.out ≡ [] → n ≤ length (next_of view) → n ≢ 0 → StandsAt rows items told turns old
     → StandsAt rows items told turns (record view { farewell = farewell })

@@ -4,7 +4,7 @@ use Rattle.std.proofs.Common.{append_assoc, MatchOption}
 use Rattle.std.proofs.lemmas.List.{append-nil}
 use Rattle.bilateral.specs.Rows.{CentreRows}
 use Rattle.stack_messages.specs.declared.fault.StackFault.{StackFault}
-use Rattle.stack_assoc.specs.Told.{Told, called}
+use Rattle.stack_assoc.specs.Arrivals.{Arrival, called}
 use Rattle.stack_assoc.specs.Courses.{Stands}
 use Rattle.tase_map.specs.Inputs.{Item, text_of}
 use Rattle.tase_map.specs.Readings.{reading_of}
@@ -18,8 +18,8 @@ use Rattle.tase_conn.specs.Talking.{Talking}
 use Rattle.tase_conn.specs.Places.{turns_held, Begins, IsWithin, ReadsBy, Runs}
 
 -- what the items tell, where these messages come behind those that were told of the last
-pub within_turns : (items : List Item) (told : List Told) (seen : List Turn) (v : Talking)
-    (w : IsWithin items told seen v) (others : List Told)
+pub within_turns : (items : List Item) (told : List Arrival) (seen : List Turn) (v : Talking)
+    (w : IsWithin items told seen v) (others : List Arrival)
     → (reading_of (text_of items)).told ≡ told ++ others
     → turns_of items ≡ seen ++ (turns_heard others
     ++ (fault_turns (reading_of (text_of items)).broken ++ turns_behind_octets w.item))
@@ -32,7 +32,7 @@ within_turns items told seen v w others e =
     let rest = turns_heard others ++ (broken ++ behind) in
     let all : (reading_of (text_of whole)).told ≡ first ++ (w.later ++ others) =
     subst (λ (is : List Item). (reading_of (text_of is)).told ≡ told ++ others) w.is e
-    ∙ ap (λ (ts : List Told). ts ++ others) w.told_is ∙ append_assoc first w.later others in
+    ∙ ap (λ (ts : List Arrival). ts ++ others) w.told_is ∙ append_assoc first w.later others in
     let joined : (turns_heard (w.later ++ others) ++ broken) ++ behind ≡ later ++ rest =
     append_assoc (turns_heard (w.later ++ others)) broken behind
     ∙ ap (λ (ts : List Turn). ts ++ (broken ++ behind)) (heard-append w.later others)
@@ -45,7 +45,7 @@ within_turns items told seen v w others e =
     subst (λ (is : List Item). turns_of is ≡ seen ++ (turns_heard others
     ++ (fault_turns (reading_of (text_of is)).broken ++ behind))) (sym w.is) found
 
-seen_within : (items : List Item) (told : List Told) (seen : List Turn) (v : Talking)
+seen_within : (items : List Item) (told : List Arrival) (seen : List Turn) (v : Talking)
     → Stands called (text_of items) told v.course → IsWithin items told seen v
     → Begins seen (turns_of items)
 seen_within items told seen v s w =
@@ -55,14 +55,14 @@ seen_within items told seen v s w =
       within_turns items told seen v w f.0 f.1,
     )
 
-seen_read : (items : List Item) (told : List Told) (seen : List Turn) (v : Talking)
+seen_read : (items : List Item) (told : List Arrival) (seen : List Turn) (v : Talking)
     (behind : Behind) → Stands called (text_of items) told v.course
     → ReadsBy behind items told seen v → Begins seen (turns_of items)
 seen_read items told seen v behinds.Nothing s d = ([], sym d.seen_is ∙ sym (append-nil seen))
 seen_read items told seen v behinds.Pause s w = seen_within items told seen v s w
 seen_read items told seen v behinds.End s w = seen_within items told seen v s w
 
-seen_by : (items : List Item) (told : List Told) (seen : List Turn) (v : Talking)
+seen_by : (items : List Item) (told : List Arrival) (seen : List Turn) (v : Talking)
     (fault : Option StackFault) → Stands called (text_of items) told v.course
     → MatchOption fault (ReadsBy v.behind items told seen v) (λ f. Begins seen (turns_of items))
     → Begins seen (turns_of items)
@@ -70,7 +70,7 @@ seen_by items told seen v None s r = seen_read items told seen v v.behind s r
 seen_by items told seen v (Some f) s b = b
 
 -- what was acted on, and what comes next, begins all that the items tell
-pub seen_front : (rows : CentreRows) (items : List Item) (told : List Told) (turns : List Turn)
+pub seen_front : (rows : CentreRows) (items : List Item) (told : List Arrival) (turns : List Turn)
     (asked : Asked) (v : Talking) → Runs rows items told turns asked v
     → Begins (turns ++ turns_held v.held) (turns_of items)
 seen_front rows items told turns asked v r =

@@ -16,9 +16,9 @@ use Rattle.stack_messages.specs.declared.expecting.Side.{Side}
 use Rattle.stack_messages.specs.declared.expecting.Side.TheVariants as sides
 use Rattle.stack_messages.specs.declared.fault.StackFault.{StackFault}
 use Rattle.stack_assoc.specs.declared.input.StackIn.TheVariants as inputs
-use Rattle.stack_assoc.specs.declared.standing.Standing.{Standing}
-use Rattle.stack_assoc.specs.declared.standing.Standing.TheVariants as standings
-use Rattle.stack_assoc.specs.Told.{Told}
+use Rattle.stack_assoc.specs.declared.end_state.EndState.{EndState}
+use Rattle.stack_assoc.specs.declared.end_state.EndState.TheVariants as standings
+use Rattle.stack_assoc.specs.Arrivals.{Arrival}
 use Rattle.stack_assoc.specs.Courses.{is_accepted, is_offered}
 use Rattle.stack_assoc.specs.Saying.{may_leave}
 use Rattle.stack_assoc.specs.Expectations.{setup_after}
@@ -72,7 +72,7 @@ if_ok X E Q P R (Err e) f p q = tt
 -- ---- an event is asked
 
 -- of a function that asks for it
-pub asks_so : (rows : CentreRows) (items : List Item) (told : List Told) (turns : List Turn)
+pub asks_so : (rows : CentreRows) (items : List Item) (told : List Arrival) (turns : List Turn)
     (turn : Turn) (event : EventKind) (stage : Stage) (asked : Asked) (coming : Coming)
     (v new : Talking) (step : Step) → v.stage ≡ stage → v.held ≡ None → IsIdle v.progress
     → step ≡ steps.Asks event → new ≡ asking asked v
@@ -87,19 +87,19 @@ asks_so rows items told turns turn event stage asked coming v new step at empty 
     (asks_event rows items told turns turn event stage asked coming v at empty idle makes s))
 
 -- whether the association is open, and what was agreed on, at a stage
-begun_at : (rows : CentreRows) (items : List Item) (told : List Told) (turns : List Turn)
+begun_at : (rows : CentreRows) (items : List Item) (told : List Arrival) (turns : List Turn)
     (v : Talking) (stage : Stage) → v.stage ≡ stage → Runs rows items told turns askeds.Nothing v
     → list_any (begins rows) turns ≡ has_begun stage askeds.Nothing
 begun_at rows items told turns v stage at r =
     r.begun ∙ ap (λ (x : Stage). has_begun x askeds.Nothing) at
 
-finished_at : (rows : CentreRows) (items : List Item) (told : List Told) (turns : List Turn)
+finished_at : (rows : CentreRows) (items : List Item) (told : List Arrival) (turns : List Turn)
     (v : Talking) (stage : Stage) → v.stage ≡ stage → Runs rows items told turns askeds.Nothing v
     → list_any finishes turns ≡ has_finished stage askeds.Nothing
 finished_at rows items told turns v stage at r =
     r.finished ∙ ap (λ (x : Stage). has_finished x askeds.Nothing) at
 
-is_open_at : (rows : CentreRows) (items : List Item) (told : List Told) (turns : List Turn)
+is_open_at : (rows : CentreRows) (items : List Item) (told : List Arrival) (turns : List Turn)
     (v : Talking) (stage : Stage) → v.stage ≡ stage → Runs rows items told turns askeds.Nothing v
     → is_open rows turns
     ≡ (has_begun stage askeds.Nothing && not (has_finished stage askeds.Nothing))
@@ -107,19 +107,19 @@ is_open_at rows items told turns v stage at r =
     open_by rows turns stage (begun_at rows items told turns v stage at r)
     (finished_at rows items told turns v stage at r)
 
-agreed_at : (rows : CentreRows) (items : List Item) (told : List Told) (turns : List Turn)
+agreed_at : (rows : CentreRows) (items : List Item) (told : List Arrival) (turns : List Turn)
     (v : Talking) (stage : Stage) → v.stage ≡ stage → Runs rows items told turns askeds.Nothing v
     → IsAgreed told stage askeds.Nothing
 agreed_at rows items told turns v stage at r =
     subst (λ (x : Stage). IsAgreed told x askeds.Nothing) at r.agreed
 
-due_at : (rows : CentreRows) (items : List Item) (told : List Told) (turns : List Turn)
+due_at : (rows : CentreRows) (items : List Item) (told : List Arrival) (turns : List Turn)
     (coming : Coming) (v : Talking) (stage : Stage) → v.stage ≡ stage
     → Runs rows items told turns askeds.Nothing (holding coming v) → IsDue told stage coming
 due_at rows items told turns coming v stage at r =
     subst (λ (x : Stage). IsDue told x coming) at r.due
 
-pub opens_so : (rows : CentreRows) (items : List Item) (told : List Told) (turns : List Turn)
+pub opens_so : (rows : CentreRows) (items : List Item) (told : List Arrival) (turns : List Turn)
     (title : Option (List ℕ)) (initiate offered : Initiate) (peer : ℕ) (v new : Talking)
     (step : Step) → v.held ≡ None → IsIdle v.progress → step ≡ steps.Asks (events.Open peer)
     → new ≡ asking (askeds.Opening peer offered) v
@@ -133,13 +133,13 @@ opens_so rows items told turns title initiate offered peer v new step empty idle
     (λ r. asks_open rows told turns title initiate offered peer v.stage r.due
     (subst (λ (x : CentreRows). place_of_title x title ≡ Some peer) s.rows_are place) g r.ending) s
 
-pdu_due : (told : List Told) (stage : Stage) (pdu : MmsPdu)
+pdu_due : (told : List Arrival) (stage : Stage) (pdu : MmsPdu)
     → InputIsDue told stage (inputs.Pdu pdu) → PduIsDue stage pdu
 pdu_due told stages.Early pdu d = d
 pdu_due told (stages.Open peer detail) pdu d = d
 pdu_due told (stages.Closed peer) pdu d = d
 
-pub requests_so : (rows : CentreRows) (items : List Item) (told : List Told) (turns : List Turn)
+pub requests_so : (rows : CentreRows) (items : List Item) (told : List Arrival) (turns : List Turn)
     (invoke : ℕ) (request : Request) (v new : Talking) (step : Step) → v.held ≡ None
     → IsIdle v.progress → step ≡ steps.Asks (events.Request (call_in request))
     → new ≡ asking (askeds.Requesting invoke) v
@@ -157,7 +157,7 @@ requests_so rows items told turns invoke request v new step empty idle is e s =
     (holding (comings.Input (inputs.Pdu (pdus.Request invoke request))) v) v.stage refl r)
     r.ending) s
 
-pub requests_badly : (rows : CentreRows) (items : List Item) (told : List Told)
+pub requests_badly : (rows : CentreRows) (items : List Item) (told : List Arrival)
     (turns : List Turn) (invoke : ℕ) (v new : Talking) (step : Step) → v.held ≡ None
     → IsIdle v.progress → step ≡ steps.Asks (events.Request invalid)
     → new ≡ asking (askeds.Requesting invoke) v
@@ -171,7 +171,7 @@ requests_badly rows items told turns invoke v new step empty idle is e s =
     (agreed_at rows items told turns (holding (comings.Input (inputs.BadRequest invoke)) v) v.stage
     refl r) r.ending) s
 
-pub takes_so : (rows : CentreRows) (items : List Item) (told : List Told) (turns : List Turn)
+pub takes_so : (rows : CentreRows) (items : List Item) (told : List Arrival) (turns : List Turn)
     (peer : ℕ) (detail : ℤ) (v new : Talking) (step : Step) → v.stage ≡ stages.Open peer detail
     → v.held ≡ None → IsIdle v.progress → step ≡ steps.Asks events.Take
     → new ≡ asking askeds.Taking v
@@ -185,7 +185,7 @@ takes_so rows items told turns peer detail v new step at empty idle is e s =
     (is_open_at rows items told turns (holding comings.Pause v) (stages.Open peer detail) at r)
     r.ending) s
 
-pub closes_so : (rows : CentreRows) (items : List Item) (told : List Told) (turns : List Turn)
+pub closes_so : (rows : CentreRows) (items : List Item) (told : List Arrival) (turns : List Turn)
     (cause : Cause) (peer : ℕ) (detail : ℤ) (v new : Talking) (step : Step)
     → v.stage ≡ stages.Open peer detail → v.held ≡ None → IsIdle v.progress
     → step ≡ steps.Asks events.Close → new ≡ asking (askeds.Closing cause) v
@@ -202,7 +202,7 @@ closes_so rows items told turns cause peer detail v new step at empty idle is e 
 
 -- ---- it ends
 
-ended_so : (rows : CentreRows) (items : List Item) (told : List Told) (turns : List Turn)
+ended_so : (rows : CentreRows) (items : List Item) (told : List Arrival) (turns : List Turn)
     (turn : Turn) (end : ConnEnd) (octets : List ℕ) (coming : Coming) (v new : Talking)
     (step : Step) → step ≡ steps.Ends → IsIdle v.progress → Ended end octets v new
     → (Runs rows items told turns askeds.Nothing (holding coming v)
@@ -214,7 +214,7 @@ ended_so rows items told turns turn end octets coming v new step is idle n makes
     (ends_step rows items told turns turn end octets coming v new idle n makes s)
 
 -- its farewell is empty yet
-unsaid : (rows : CentreRows) (items : List Item) (told : List Told) (turns : List Turn)
+unsaid : (rows : CentreRows) (items : List Item) (told : List Arrival) (turns : List Turn)
     (coming : Coming) (v : Talking) → IsIdle v.progress
     → StandsAt rows items told turns (holding coming v) → HasRoom v
 unsaid rows items told turns coming v idle s =
@@ -264,7 +264,7 @@ parting end octets v new p = record {
       ∙ sym (append_assoc v.out v.farewell.items octets);
 }
 
-pub declines_so : (rows : CentreRows) (items : List Item) (told : List Told) (turns : List Turn)
+pub declines_so : (rows : CentreRows) (items : List Item) (told : List Arrival) (turns : List Turn)
     (title : Option (List ℕ)) (initiate : Initiate) (v new : Talking) (step : Step)
     → step ≡ steps.Ends → IsIdle v.progress → place_of_title v.rows title ≡ None
     → Adds (refusal_said v.course.setup) (finished (progresses.Ended conn_ends.Declined) v) new
@@ -290,7 +290,7 @@ declines_so rows items told turns title initiate v new step is idle place a s =
     connected_offer (stages.Open peer detail) d = refl
     connected_offer (stages.Closed peer) d = refl
 
-pub declines_bad : (rows : CentreRows) (items : List Item) (told : List Told) (turns : List Turn)
+pub declines_bad : (rows : CentreRows) (items : List Item) (told : List Arrival) (turns : List Turn)
     (v new : Talking) (step : Step) → step ≡ steps.Ends → IsIdle v.progress
     → Adds (refusal_said v.course.setup) (finished (progresses.Ended conn_ends.Declined) v) new
     → StandsAt rows items told turns (holding (comings.Input inputs.BadOffer) v)
@@ -312,29 +312,29 @@ declines_bad rows items told turns v new step is idle a s =
     connected_bad (stages.Open peer detail) d = refl
     connected_bad (stages.Closed peer) d = refl
 
-shut_at : (rows : CentreRows) (items : List Item) (told : List Told) (turns : List Turn)
+shut_at : (rows : CentreRows) (items : List Item) (told : List Arrival) (turns : List Turn)
     (v : Talking) (stage : Stage) → v.stage ≡ stage → IsShut stage
     → Runs rows items told turns askeds.Nothing v → is_open rows turns ≡ false
 shut_at rows items told turns v stage at shut r =
     is_open_at rows items told turns v stage at r ∙ shut_open stage shut
 
 -- what is said where a rule was broken
-said_broken : (rows : CentreRows) (items : List Item) (told : List Told) (turns : List Turn)
+said_broken : (rows : CentreRows) (items : List Item) (told : List Arrival) (turns : List Turn)
     (fault : StackFault) (v : Talking) (stage : Stage) → v.stage ≡ stage → IsShut stage
     → Runs rows items told turns askeds.Nothing (holding (comings.Fault fault) v)
     → (if has_begun stage askeds.Nothing then abort_octets v.course.setup else [])
     ≡ parted v.course (conn_ends.Refused fault)
 said_broken rows items told turns fault v stages.Early at shut r =
-    ap (λ (s : Standing). if is_accepted s then abort_octets v.course.setup else [])
+    ap (λ (s : EndState). if is_accepted s then abort_octets v.course.setup else [])
     (sym (r.standing ∙ ap (λ (x : Stage). standing_by x askeds.Nothing
     (Some (comings.Fault fault))) at))
 said_broken rows items told turns fault v (stages.Open peer detail) at shut r = absurd shut
 said_broken rows items told turns fault v (stages.Closed peer) at shut r =
-    ap (λ (s : Standing). if is_accepted s then abort_octets v.course.setup else [])
+    ap (λ (s : EndState). if is_accepted s then abort_octets v.course.setup else [])
     (sym (r.standing ∙ ap (λ (x : Stage). standing_by x askeds.Nothing
     (Some (comings.Fault fault))) at))
 
-setup_or : (rows : CentreRows) (items : List Item) (told : List Told) (turns : List Turn)
+setup_or : (rows : CentreRows) (items : List Item) (told : List Arrival) (turns : List Turn)
     (coming : Coming) (v : Talking) (stage : Stage) → v.stage ≡ stage → IsShut stage
     → Runs rows items told turns askeds.Nothing (holding coming v)
     → (v.course.setup ≡ setup_after told) ⊎ (has_begun stage askeds.Nothing ≡ false)
@@ -344,7 +344,7 @@ setup_or rows items told turns coming v (stages.Closed peer) at shut r =
     inl (setup_known rows items told turns (holding coming v) r
     (ap (λ (x : Stage). is_connected x askeds.Nothing (Some coming)) at))
 
-released_setup : (rows : CentreRows) (items : List Item) (told : List Told) (turns : List Turn)
+released_setup : (rows : CentreRows) (items : List Item) (told : List Arrival) (turns : List Turn)
     (v : Talking) (stage : Stage) → v.stage ≡ stage → IsShut stage
     → Runs rows items told turns askeds.Nothing (holding (coming_by causes.Released) v)
     → (v.course.setup ≡ setup_after told) × (list_any (begins rows) turns ≡ true)
@@ -360,7 +360,7 @@ released_setup rows items told turns v (stages.Closed peer) at shut r = (
 )
 
 -- where no association is open none is concluded
-not_concluded : (rows : CentreRows) (items : List Item) (told : List Told) (turns : List Turn)
+not_concluded : (rows : CentreRows) (items : List Item) (told : List Arrival) (turns : List Turn)
     (v : Talking) (stage : Stage) → v.stage ≡ stage → IsShut stage
     → Runs rows items told turns askeds.Nothing (holding (coming_by causes.Concluded) v) → ⊥
 not_concluded rows items told turns v stages.Early at shut r =
@@ -376,13 +376,13 @@ not_concluded rows items told turns v (stages.Closed peer) at shut r =
     some_none : Some concludes ≡ None → ⊥
     some_none e = absurd cc
 
-some_aborted : (told : List Told) (stage : Stage)
+some_aborted : (told : List Arrival) (stage : Stage)
     → IsDue told stage (coming_by causes.Aborted) → 1 ≤ length told
 some_aborted told stages.Early d = d
 some_aborted told (stages.Open peer detail) d = d
 some_aborted told (stages.Closed peer) d = d
 
-pub ends_so : (rows : CentreRows) (items : List Item) (told : List Told) (turns : List Turn)
+pub ends_so : (rows : CentreRows) (items : List Item) (told : List Arrival) (turns : List Turn)
     (cause : Cause) (stage : Stage) (v new : Talking) (step : Step) → v.stage ≡ stage
     → IsShut stage → step ≡ steps.Ends → IsIdle v.progress → EndsFor cause v new
     → StandsAt rows items told turns (holding (coming_by cause) v)
@@ -444,7 +444,7 @@ other_pdu pdus.InitiateError n m = refl
 other_pdu pdus.Conclude n m = absurd (m refl)
 other_pdu pdus.Concluded n m = refl
 
-pub passes_so : (rows : CentreRows) (items : List Item) (told : List Told) (turns : List Turn)
+pub passes_so : (rows : CentreRows) (items : List Item) (told : List Arrival) (turns : List Turn)
     (pdu : MmsPdu) (v : Talking) → v.held ≡ None → IsIdle v.progress → turn_of_pdu pdu ≡ None
     → StandsAt rows items told turns (holding (comings.Input (inputs.Pdu pdu)) v)
     → Steps rows items told turns steps.GoesOn (holding (comings.Input (inputs.Pdu pdu)) v) v
@@ -452,7 +452,7 @@ passes_so rows items told turns pdu v empty idle none s =
     goes_step rows items told turns [] (comings.Input (inputs.Pdu pdu)) v empty idle
     (λ r. passes_pdu rows turns v.stage pdu none r.begun r.finished r.ending) s
 
-pub pauses_so : (rows : CentreRows) (items : List Item) (told : List Told) (turns : List Turn)
+pub pauses_so : (rows : CentreRows) (items : List Item) (told : List Arrival) (turns : List Turn)
     (stage : Stage) (v : Talking) → v.stage ≡ stage → IsShut stage → v.held ≡ None
     → IsIdle v.progress → StandsAt rows items told turns (holding comings.Pause v)
     → Steps rows items told turns steps.GoesOn (holding comings.Pause v) v
@@ -465,27 +465,27 @@ pauses_so rows items told turns stage v at shut empty idle s =
 
 -- what isn't due isn't read
 pub undue : (coming : Coming) (v : Talking) → IsIdle v.progress
-    → ((told : List Told) → IsDue told v.stage coming → ⊥) → IsPlaced (holding coming v) → ⊥
+    → ((told : List Arrival) → IsDue told v.stage coming → ⊥) → IsPlaced (holding coming v) → ⊥
 undue coming v idle none p =
     none p.told (running_idle p.rows p.items p.told p.turns (holding coming v) idle p.stands).due
 
-pub offered_so : (coming : Coming) (v : Talking) (standing : Standing) → IsIdle v.progress
-    → ((stage : Stage) (told : List Told) → IsDue told stage coming
+pub offered_so : (coming : Coming) (v : Talking) (standing : EndState) → IsIdle v.progress
+    → ((stage : Stage) (told : List Arrival) → IsDue told stage coming
     → standing_by stage askeds.Nothing (Some coming) ≡ standing) → is_offered standing ≡ true
     → IsPlaced (holding coming v) → is_offered v.course.standing ≡ true
 offered_so coming v standing idle by is p =
     let r = running_idle p.rows p.items p.told p.turns (holding coming v) idle p.stands in
-    ap (λ (s : Standing). is_offered s) (r.standing ∙ by v.stage p.told r.due) ∙ is
+    ap (λ (s : EndState). is_offered s) (r.standing ∙ by v.stage p.told r.due) ∙ is
 
 pub offer_stands : (title : Option (List ℕ)) (initiate : Initiate) (stage : Stage)
-    (told : List Told) → IsDue told stage (comings.Input (inputs.Offer title initiate))
+    (told : List Arrival) → IsDue told stage (comings.Input (inputs.Offer title initiate))
     → standing_by stage askeds.Nothing (Some (comings.Input (inputs.Offer title initiate)))
     ≡ standings.Offered
 offer_stands title initiate stages.Early told d = refl
 offer_stands title initiate (stages.Open peer detail) told d = absurd d
 offer_stands title initiate (stages.Closed peer) told d = absurd d
 
-pub bad_offer_stands : (stage : Stage) (told : List Told)
+pub bad_offer_stands : (stage : Stage) (told : List Arrival)
     → IsDue told stage (comings.Input inputs.BadOffer)
     → standing_by stage askeds.Nothing (Some (comings.Input inputs.BadOffer))
     ≡ standings.BadlyOffered
@@ -502,7 +502,7 @@ granted_some title initiate v idle little p =
     (holding (comings.Input (inputs.Offer title initiate)) v) idle p.stands in
     enough v.stage p.told r.due
   where
-    enough : (stage : Stage) (told : List Told)
+    enough : (stage : Stage) (told : List Arrival)
         → IsDue told stage (comings.Input (inputs.Offer title initiate)) → ⊥
     enough stages.Early told d = is_enough initiate d.enough little
     enough (stages.Open peer detail) told d = d
@@ -519,7 +519,7 @@ request_lawful invoke request v idle p =
     some_none : Some (asks invoke (call_in request)) ≡ None → ⊥
     some_none e = absurd cc
 
-    lawful : (stage : Stage) (told : List Told)
+    lawful : (stage : Stage) (told : List Arrival)
         → IsDue told stage (comings.Input (inputs.Pdu (pdus.Request invoke request)))
         → IsLawfulRequest request
     lawful stages.Early told d = absurd (some_none d)
@@ -540,13 +540,13 @@ goes_down steps.GoesOn coming v new empty so =
 
 -- ---- an end where no association is open
 
-leave_by : (side : Side) (s : Standing) (f : Option StackFault) → side ≡ sides.Called
+leave_by : (side : Side) (s : EndState) (f : Option StackFault) → side ≡ sides.Called
     → s ≡ standings.Finishing → f ≡ None → may_leave side s f ≡ true
 leave_by side s f c e g =
-    ap (λ (x : Side). may_leave x s f) c ∙ ap (λ (x : Standing). may_leave sides.Called x f) e
+    ap (λ (x : Side). may_leave x s f) c ∙ ap (λ (x : EndState). may_leave sides.Called x f) e
     ∙ ap (λ (x : Option StackFault). may_leave sides.Called standings.Finishing x) g
 
-released_may : (rows : CentreRows) (items : List Item) (told : List Told) (turns : List Turn)
+released_may : (rows : CentreRows) (items : List Item) (told : List Arrival) (turns : List Turn)
     (v : Talking) (stage : Stage) → v.stage ≡ stage → IsShut stage
     → Runs rows items told turns askeds.Nothing (holding (coming_by causes.Released) v)
     → MayAnswer causes.Released v.course

@@ -4,7 +4,7 @@ use Rattle.std.proofs.Common.{Option, Some, None, sym, ap, subst, ◌∙◌, Mat
 use Rattle.std.specs.Prelude.{is_some}
 use Rattle.bilateral.specs.Rows.{CentreRows}
 use Rattle.stack_messages.specs.declared.fault.StackFault.{StackFault}
-use Rattle.stack_assoc.specs.Told.{Told, called, first_in, connect_in}
+use Rattle.stack_assoc.specs.Arrivals.{Arrival, called, first_in, connect_in}
 use Rattle.stack_assoc.specs.Tellings.{Stops}
 use Rattle.stack_assoc.specs.Handing.{answers_to}
 use Rattle.stack_assoc.specs.Expectations.{setup_after}
@@ -30,23 +30,23 @@ use Rattle.tase_conn.specs.Places.{fault_seen}
 use Rattle.tase_conn.proofs.Acted.{HasToldAll}
 
 -- behind the first message nothing more is answered at once
-answered_by : (items : List Item) (told : List Told) (course : Course)
+answered_by : (items : List Item) (told : List Arrival) (course : Course)
     → Stands called (text_of items) told course → 1 ≤ length told
     → answers_to called told ≡ answers_to called (reading_of (text_of items)).told
 answered_by items told course s some =
     let f = told_front (text_of items) told course s in
     let whole = whole_front (text_of items) in
-    sym (ap (λ (ts : List Told). answers_to called ts) f.1
+    sym (ap (λ (ts : List Arrival). answers_to called ts) f.1
     ∙ answers_told (text_of items) told f.0
-    (subst (λ (ts : List Told). HasFront (text_of items) ts) f.1 whole) some)
+    (subst (λ (ts : List Arrival). HasFront (text_of items) ts) f.1 whole) some)
 
 -- what was told, and what its first connect fixed, once one was told
-pub record IsTold (items : List Item) (told : List Told) : Type 0 where
+pub record IsTold (items : List Item) (told : List Arrival) : Type 0 where
   pub answered : answers_to called told ≡ answers_to called (reading_of (text_of items)).told
   pub fixed : (setup_after told ≡ setup_after (reading_of (text_of items)).told)
       × (is_some (first_in connect_in (reading_of (text_of items)).told) ≡ true)
 
-pub told_open : (rows : CentreRows) (items : List Item) (told : List Told) (turns : List Turn)
+pub told_open : (rows : CentreRows) (items : List Item) (told : List Arrival) (turns : List Turn)
     (asked : Asked) (v : Talking) → Runs rows items told turns asked v
     → is_connected v.stage asked v.held ≡ true → IsTold items told
 told_open rows items told turns asked v r is =
@@ -55,15 +55,15 @@ told_open rows items told turns asked v r is =
     record {
       answered = answered_by items told v.course r.stands (some_told told connect);
       fixed = (
-        sym (ap (λ (ts : List Told). setup_after ts) f.1
+        sym (ap (λ (ts : List Arrival). setup_after ts) f.1
             ∙ (setup_fixed (text_of items) told v.course r.stands connect).1 f.0),
-        ap (λ (ts : List Told). is_some (first_in connect_in ts)) f.1
+        ap (λ (ts : List Arrival). is_some (first_in connect_in ts)) f.1
             ∙ ap (λ (o : Option _). is_some o) (first_kept connect_in told f.0 connect) ∙ connect,
       );
     }
 
 -- all of it, where a connect was told
-pub all_open : (rows : CentreRows) (items : List Item) (told : List Told) (turns : List Turn)
+pub all_open : (rows : CentreRows) (items : List Item) (told : List Arrival) (turns : List Turn)
     (v : Talking) (end : ConnEnd) → Runs rows items told turns askeds.Nothing v
     → is_connected v.stage askeds.Nothing v.held ≡ true → HasToldAll items told end
 all_open rows items told turns v end r is =
@@ -71,7 +71,7 @@ all_open rows items told turns v end r is =
     record { answered = t.answered; fixed = λ declined. t.fixed }
 
 -- at an abort
-pub all_some : (items : List Item) (told : List Told) (course : Course) (end : ConnEnd)
+pub all_some : (items : List Item) (told : List Arrival) (course : Course) (end : ConnEnd)
     → Stands called (text_of items) told course → 1 ≤ length told
     → (end ≡ conn_ends.Declined → ⊥) → HasToldAll items told end
 all_some items told course end s some other = record {
@@ -80,16 +80,16 @@ all_some items told course end s some other = record {
 }
 
 -- where all messages of the items were told
-all_read : (items : List Item) (told : List Told) (end : ConnEnd)
+all_read : (items : List Item) (told : List Arrival) (end : ConnEnd)
     → told ≡ (reading_of (text_of items)).told → (end ≡ conn_ends.Declined → ⊥)
     → HasToldAll items told end
 all_read items told end e other = record {
-  answered = ap (λ (ts : List Told). answers_to called ts) e;
+  answered = ap (λ (ts : List Arrival). answers_to called ts) e;
   fixed = λ declined. absurd (other declined);
 }
 
 -- at a rule that is broken
-pub all_broken : (items : List Item) (told : List Told) (fault : StackFault) (course : Course)
+pub all_broken : (items : List Item) (told : List Arrival) (fault : StackFault) (course : Course)
     (end : ConnEnd) → Stands called (text_of items) told course → course.fault ≡ Some fault
     → (end ≡ conn_ends.Declined → ⊥) → HasToldAll items told end
 all_broken items told fault course end s e other =
@@ -100,7 +100,7 @@ all_broken items told fault course end s e other =
     (λ g. Stops called (text_of items) told g)) e s.reads)))) other
 
 -- at the link's end
-pub all_ended : (rows : CentreRows) (items : List Item) (told : List Told) (turns : List Turn)
+pub all_ended : (rows : CentreRows) (items : List Item) (told : List Arrival) (turns : List Turn)
     (v : Talking) (end : ConnEnd) → Runs rows items told turns askeds.Nothing v
     → v.held ≡ Some comings.End → v.behind ≡ behinds.Nothing → (end ≡ conn_ends.Declined → ⊥)
     → HasToldAll items told end

@@ -5,7 +5,7 @@ use Rattle.bilateral.specs.Rows.{CentreRows}
 use Rattle.mms_services.specs.declared.pdu.MmsPdu.TheVariants as pdus
 use Rattle.stack_messages.specs.declared.fault.StackFault.{StackFault}
 use Rattle.stack_assoc.specs.declared.input.StackIn.TheVariants as inputs
-use Rattle.stack_assoc.specs.Told.{Told}
+use Rattle.stack_assoc.specs.Arrivals.{Arrival}
 use Rattle.stack_assoc.specs.Courses.{Course}
 use Rattle.stack_assoc.specs.Steps.{left_of}
 use Rattle.stack_assoc.specs.Expectations.{setup_after}
@@ -62,7 +62,7 @@ has_more v = is_left v.held v.behind
 -- ---- one step
 
 -- what was read was acted on
-pub record Acts (rows : CentreRows) (items : List Item) (told : List Told) (turns : List Turn)
+pub record Acts (rows : CentreRows) (items : List Item) (told : List Arrival) (turns : List Turn)
     (asked : List EventKind) (old new : Talking) : Type 0 where
   pub more : List Turn
   pub stands : StandsAt rows items told (turns ++ more) new
@@ -75,7 +75,7 @@ HasEnded (progresses.Ended end) = Unit {0}
 HasEnded _ = ⊥
 
 -- a step asks for an event, or goes on, or ends the connection
-abbrev pub Steps : CentreRows → List Item → List Told → List Turn → Step → Talking → Talking
+abbrev pub Steps : CentreRows → List Item → List Arrival → List Turn → Step → Talking → Talking
     → Type 0
 Steps rows items told turns (steps.Asks event) old new = WaitsFor new.progress event
     × Acts rows items told turns (event ∷ []) old new
@@ -110,7 +110,7 @@ GoesDown _ before after = Unit {0}
 
 -- wherever it stands with this to be acted on, it goes a step from there
 abbrev pub ActsOn : Coming → Talking → Step → Talking → Type 0
-ActsOn coming old step new = (rows : CentreRows) (items : List Item) (told : List Told)
+ActsOn coming old step new = (rows : CentreRows) (items : List Item) (told : List Arrival)
     (turns : List Turn) → StandsAt rows items told turns (holding coming old)
     → Steps rows items told turns step (holding coming old) new
 

@@ -4,7 +4,7 @@ use Rattle.tpkt_cotp.specs.Written.{wire}
 use Rattle.mms_services.specs.declared.initiate.Initiate.{Initiate}
 use Rattle.mms_services.specs.declared.pdu.MmsPdu.{MmsPdu}
 use Rattle.stack_wire.specs.Tsdus.{accept_tsdu}
-use Rattle.stack_assoc.specs.declared.standing.Standing.TheVariants as standings
+use Rattle.stack_assoc.specs.declared.end_state.EndState.TheVariants as standings
 use Rattle.stack_assoc.specs.Saying.{with_standing, with_said}
 use Rattle.tase_views.specs.declared.reply.Answer.{Answer}
 use Rattle.tase_views.specs.declared.reply.Answer.TheVariants as answers

@@ -13,9 +13,9 @@ use Rattle.stack_messages.specs.declared.fault.StackFault.{StackFault}
 use Rattle.stack_messages.specs.declared.heard.Connecting.{Connecting}
 use Rattle.stack_assoc.specs.declared.input.StackIn.{StackIn}
 use Rattle.stack_assoc.specs.declared.input.StackIn.TheVariants as inputs
-use Rattle.stack_assoc.specs.declared.standing.Standing.{Standing}
-use Rattle.stack_assoc.specs.declared.standing.Standing.TheVariants as standings
-use Rattle.stack_assoc.specs.Told.{Told, called, first_in, connect_in, is_conclude}
+use Rattle.stack_assoc.specs.declared.end_state.EndState.{EndState}
+use Rattle.stack_assoc.specs.declared.end_state.EndState.TheVariants as standings
+use Rattle.stack_assoc.specs.Arrivals.{Arrival, called, first_in, connect_in, is_conclude}
 use Rattle.stack_assoc.specs.Expectations.{setup_after}
 use Rattle.stack_assoc.specs.Handing.{answers_to, handed_out, is_too_little}
 use Rattle.stack_assoc.specs.Courses.{Stands, IsSettled}
@@ -64,7 +64,7 @@ abbrev pub Begins : List Turn → List Turn → Type 0
 Begins front whole = (others : List Turn) × (whole ≡ front ++ others)
 
 -- all that the items tell was read
-pub record IsDone (items : List Item) (told : List Told) (seen : List Turn) (v : Talking) :
+pub record IsDone (items : List Item) (told : List Arrival) (seen : List Turn) (v : Talking) :
     Type 0 where
   pub told_is : told ≡ (reading_of (text_of items)).told
   pub unbroken : (reading_of (text_of items)).broken ≡ None
@@ -78,24 +78,24 @@ behind_of idle = behinds.Pause
 behind_of ended = behinds.End
 
 -- the last item is being read: all that those before it tell was, and then these messages of it
-pub record IsWithin (items : List Item) (told : List Told) (seen : List Turn) (v : Talking) :
+pub record IsWithin (items : List Item) (told : List Arrival) (seen : List Turn) (v : Talking) :
     Type 0 where
   pub done : List Item
   pub item : Item
   pub is : items ≡ done ++ item ∷ []
   pub behind : v.behind ≡ behind_of item
-  pub later : List Told
+  pub later : List Arrival
   pub told_is : told ≡ (reading_of (text_of done)).told ++ later
   pub unbroken : (reading_of (text_of done)).broken ≡ None
   pub seen_is : seen ≡ turns_of done ++ filter_map turn_in (handed_out later)
 
-abbrev pub ReadsBy : Behind → List Item → List Told → List Turn → Talking → Type 0
+abbrev pub ReadsBy : Behind → List Item → List Arrival → List Turn → Talking → Type 0
 ReadsBy behinds.Nothing items told seen v = IsDone items told seen v
 ReadsBy behinds.Pause items told seen v = IsWithin items told seen v
 ReadsBy behinds.End items told seen v = IsWithin items told seen v
 
 -- or a rule was broken, behind which nothing is acted on
-abbrev pub HasRead : List Item → List Told → List Turn → Talking → Type 0
+abbrev pub HasRead : List Item → List Arrival → List Turn → Talking → Type 0
 HasRead items told seen v = MatchOption v.course.fault (ReadsBy v.behind items told seen v)
     (λ fault. Begins seen (turns_of items))
 
@@ -111,7 +111,7 @@ fault_seen held (askeds.Closing (causes.Broken fault)) = Some fault
 fault_seen held _ = fault_held held
 
 -- an offer is that of the first connect, and enough is offered
-pub record IsOffered (told : List Told) (title : Option (List ℕ)) (initiate : Initiate) :
+pub record IsOffered (told : List Arrival) (title : Option (List ℕ)) (initiate : Initiate) :
     Type 0 where
   pub connect : Connecting
   pub first : first_in connect_in told ≡ Some connect
@@ -124,7 +124,7 @@ abbrev pub PduIsDue : Stage → MmsPdu → Type 0
 PduIsDue (stages.Open peer detail) pdu = IsLawfulPdu pdu
 PduIsDue _ pdu = turn_of_pdu pdu ≡ None
 
-abbrev pub InputIsDue : List Told → Stage → StackIn → Type 0
+abbrev pub InputIsDue : List Arrival → Stage → StackIn → Type 0
 InputIsDue told stages.Early (inputs.Offer title initiate) = IsOffered told title initiate
 InputIsDue told stages.Early inputs.BadOffer = Unit {0}
 InputIsDue told stage (inputs.Pdu pdu) = PduIsDue stage pdu
@@ -134,7 +134,7 @@ InputIsDue told (stages.Closed peer) inputs.Released = Unit {0}
 InputIsDue told stage inputs.Aborted = 1 ≤ length told
 InputIsDue told stage _ = ⊥
 
-abbrev pub IsDue : List Told → Stage → Coming → Type 0
+abbrev pub IsDue : List Arrival → Stage → Coming → Type 0
 IsDue told stage (comings.Input input) = InputIsDue told stage input
 IsDue told stage _ = Unit {0}
 
@@ -164,7 +164,7 @@ is_ending (askeds.Closing cause) = true
 is_ending _ = false
 
 -- how the stack's end stands before the open, by what waits and what comes next
-abbrev pub early_standing : Asked → Option Coming → Standing
+abbrev pub early_standing : Asked → Option Coming → EndState
 early_standing (askeds.Opening peer offered) held = standings.Offered
 early_standing asked (Some (comings.Input (inputs.Offer title initiate))) = standings.Offered
 early_standing asked (Some (comings.Input inputs.BadOffer)) = standings.BadlyOffered
@@ -172,14 +172,14 @@ early_standing asked (Some (comings.Input inputs.Aborted)) = standings.Closed
 early_standing asked held = standings.Waiting
 
 -- behind it: the association stands until its release was asked, or the peer has aborted it
-abbrev pub served_standing : Asked → Option Coming → Standing
+abbrev pub served_standing : Asked → Option Coming → EndState
 served_standing (askeds.Closing causes.Released) held = standings.Finishing
 served_standing (askeds.Closing causes.Aborted) held = standings.Closed
 served_standing asked (Some (comings.Input inputs.Released)) = standings.Finishing
 served_standing asked (Some (comings.Input inputs.Aborted)) = standings.Closed
 served_standing asked held = standings.Accepted
 
-abbrev pub standing_by : Stage → Asked → Option Coming → Standing
+abbrev pub standing_by : Stage → Asked → Option Coming → EndState
 standing_by stages.Early asked held = early_standing asked held
 standing_by stage asked held = served_standing asked held
 
@@ -202,13 +202,13 @@ has_concluded stage asked (Some (comings.Input (inputs.Pdu pdus.Conclude))) = tr
 has_concluded stage asked held = false
 
 -- what of its offer is granted
-pub record IsGranted (told : List Told) (offered : Initiate) : Type 0 where
+pub record IsGranted (told : List Arrival) (offered : Initiate) : Type 0 where
   pub connect : Connecting
   pub first : first_in connect_in told ≡ Some connect
   pub is : offered ≡ granted connect.initiate
 
 -- it, and then the most octets of a PDU, are those of the first connect
-abbrev pub IsAgreed : List Told → Stage → Asked → Type 0
+abbrev pub IsAgreed : List Arrival → Stage → Asked → Type 0
 IsAgreed told stages.Early (askeds.Opening peer offered) = IsGranted told offered
 IsAgreed told (stages.Open peer detail) asked = detail ≡ detail_of (first_in connect_in told)
 IsAgreed told stage asked = Unit {0}
@@ -252,7 +252,7 @@ IsAskedBy rows turns (askeds.Closing cause) =
 -- ---- how far it has come
 
 -- it reads on: what was read, and how that and its association stand
-pub record Runs (rows : CentreRows) (items : List Item) (told : List Told) (turns : List Turn)
+pub record Runs (rows : CentreRows) (items : List Item) (told : List Arrival) (turns : List Turn)
     (asked : Asked) (v : Talking) : Type 0 where
   pub stands : Stands called (text_of items) told v.course
   pub fault : v.course.fault ≡ fault_seen v.held asked
@@ -282,7 +282,7 @@ IsCause rows items _ last = ⊥
 -- all that these items tell, up to the first behind which nothing follows, was acted on, and the
 -- last of it is the cause of this end; what the link gave behind them was dropped. All messages
 -- that are answered at once were told, and an offer that was declined
-pub record EndsBy (rows : CentreRows) (items : List Item) (told : List Told) (turns : List Turn)
+pub record EndsBy (rows : CentreRows) (items : List Item) (told : List Arrival) (turns : List Turn)
     (end : ConnEnd) : Type 0 where
   pub done : List Item
   pub dropped : List Item
@@ -301,7 +301,7 @@ pub record IsOver (v : Talking) : Type 0 where
   pub read : v.behind ≡ behinds.Nothing
   pub acted : v.held ≡ None
 
-abbrev pub GoesBy : Progress → CentreRows → List Item → List Told → List Turn → Talking → Type 0
+abbrev pub GoesBy : Progress → CentreRows → List Item → List Arrival → List Turn → Talking → Type 0
 GoesBy (progresses.Running asked) rows items told turns v = Runs rows items told turns asked v
 GoesBy progresses.Refused rows items told turns v = Unit {0}
 GoesBy (progresses.Leaving end asked) rows items told turns v = is_open_stage v.stage ≡ true
@@ -323,7 +323,7 @@ RoomBy _ v = HasRoom v
 
 -- a connection at one of the peers of this centre, whose link has given these items, of which these
 -- messages were told, and what these turns tell was acted on
-pub record StandsAt (rows : CentreRows) (items : List Item) (told : List Told)
+pub record StandsAt (rows : CentreRows) (items : List Item) (told : List Arrival)
     (turns : List Turn) (v : Talking) : Type 0 where
   pub rows_are : v.rows ≡ rows
   pub peer : IfSome (stage_peer v.stage) (IsPeer rows)
@@ -334,6 +334,6 @@ pub record StandsAt (rows : CentreRows) (items : List Item) (told : List Told)
 pub record IsPlaced (v : Talking) : Type 0 where
   pub rows : CentreRows
   pub items : List Item
-  pub told : List Told
+  pub told : List Arrival
   pub turns : List Turn
   pub stands : StandsAt rows items told turns v

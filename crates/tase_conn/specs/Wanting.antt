@@ -5,9 +5,9 @@ use Rattle.std.specs.Prelude.{Option, Some, None}
 use Rattle.std.specs.List.{list_any}
 use Rattle.tpkt_cotp.specs.Written.{wire}
 use Rattle.bilateral.specs.Rows.{CentreRows}
-use Rattle.stack_wire.specs.declared.setup.Setup.{Setup}
+use Rattle.stack_wire.specs.declared.setup.AssociationSetup.{AssociationSetup}
 use Rattle.stack_wire.specs.Tsdus.{refusal_tsdu}
-use Rattle.stack_assoc.specs.Told.{Told, called}
+use Rattle.stack_assoc.specs.Arrivals.{Arrival, called}
 use Rattle.stack_assoc.specs.Expectations.{setup_after}
 use Rattle.stack_assoc.specs.Handing.{answers_to}
 use Rattle.tase_views.specs.declared.event.EventKind.{EventKind}
@@ -25,7 +25,7 @@ use Rattle.tase_conn.specs.Places.{StandsAt}
 
 -- ---- what is said of what asks for no event
 
-abbrev pub refusal_said : Setup → List ℕ
+abbrev pub refusal_said : AssociationSetup → List ℕ
 refusal_said setup = wire setup.size (refusal_tsdu setup.acse)
 
 -- what follows a conclude, whose association is closed: a release is answered, a fault aborts
@@ -34,7 +34,7 @@ behind_close rows before octets = if is_open rows before then [] else
     (if list_any (begins rows) before then octets else [])
 
 -- at one turn, behind these: an offer is refused that can't be accepted
-abbrev pub quiet_at : CentreRows → Setup → List Turn → Turn → List ℕ
+abbrev pub quiet_at : CentreRows → AssociationSetup → List Turn → Turn → List ℕ
 quiet_at rows setup before (offers title) =
     if is_peers rows title then [] else refusal_said setup
 quiet_at rows setup before offers_badly = refusal_said setup
@@ -46,7 +46,7 @@ quiet_at rows setup before breaks = behind_close rows before (abort_octets setup
 quiet_at rows setup before ends = []
 quiet_at rows setup before pauses = []
 
-abbrev pub quiet_behind : CentreRows → Setup → List Turn → List Turn → List ℕ
+abbrev pub quiet_behind : CentreRows → AssociationSetup → List Turn → List Turn → List ℕ
 quiet_behind rows setup before [] = []
 quiet_behind rows setup before (turn ∷ turns) = quiet_at rows setup before turn
     ++ quiet_behind rows setup (before ++ turn ∷ []) turns
@@ -55,9 +55,9 @@ quiet_behind rows setup before (turn ∷ turns) = quiet_at rows setup before tur
 
 -- these messages and turns more were acted on; they ask for these events, and these octets were
 -- said
-pub record GoesOn (rows : CentreRows) (items : List Item) (told : List Told) (turns : List Turn)
+pub record GoesOn (rows : CentreRows) (items : List Item) (told : List Arrival) (turns : List Turn)
     (asked : List EventKind) (old new : Talking) : Type 0 where
-  pub later : List Told
+  pub later : List Arrival
   pub more : List Turn
   pub stands : StandsAt rows items (told ++ later) (turns ++ more) new
   pub asks_are : asks_behind rows turns more ≡ asked
@@ -71,7 +71,7 @@ IsWhole rows items turns (progresses.Running asked) = up_to_last rows (turns_of 
 IsWhole rows items turns (progresses.Ended end) = up_to_last rows (turns_of items) ≡ turns
 IsWhole rows items turns progress = ⊥
 
-pub record IsThrough (rows : CentreRows) (items : List Item) (told : List Told)
+pub record IsThrough (rows : CentreRows) (items : List Item) (told : List Arrival)
     (turns : List Turn) (old new : Talking) : Type 0 where
   pub goes : GoesOn rows items told turns [] old new
   pub resting : IsResting new
@@ -86,7 +86,7 @@ WaitsFor (progresses.Running (askeds.Closing cause)) events.Close = Unit {0}
 WaitsFor _ _ = ⊥
 
 -- an event is the next that is asked; none where nothing is left
-abbrev pub Reads : CentreRows → List Item → List Told → List Turn → Option EventKind → Talking
+abbrev pub Reads : CentreRows → List Item → List Arrival → List Turn → Option EventKind → Talking
     → Talking → Type 0
 Reads rows items told turns (Some event) old new = WaitsFor new.progress event
     × GoesOn rows items told turns (event ∷ []) old new
@@ -111,7 +111,7 @@ pub record Stays (event : Option EventKind) (old new : Talking) : Type 0 where
   pub none : event ≡ None
   pub is : new ≡ old
 
-abbrev pub WantsBy : Progress → CentreRows → List Item → List Told → List Turn
+abbrev pub WantsBy : Progress → CentreRows → List Item → List Arrival → List Turn
     → Option EventKind → Talking → Talking → Type 0
 WantsBy (progresses.Leaving end asked) rows items told turns event old new =
     Leaves event old new × StandsAt rows items told turns new
@@ -119,7 +119,7 @@ WantsBy (progresses.Ended end) rows items told turns event old new = Stays event
 WantsBy (progresses.Cut end) rows items told turns event old new = Stays event old new
 WantsBy progress rows items told turns event old new = Reads rows items told turns event old new
 
-abbrev pub Wants : CentreRows → List Item → List Told → List Turn → Option EventKind → Talking
+abbrev pub Wants : CentreRows → List Item → List Arrival → List Turn → Option EventKind → Talking
     → Talking → Type 0
 Wants rows items told turns event old new =
     WantsBy old.progress rows items told turns event old new
@@ -127,13 +127,13 @@ Wants rows items told turns event old new =
 -- ---- where memory is wanting
 
 -- it goes on, and neither asks for an event nor says anything but what answers these messages
-pub record Passes (rows : CentreRows) (items : List Item) (told : List Told) (turns : List Turn)
+pub record Passes (rows : CentreRows) (items : List Item) (told : List Arrival) (turns : List Turn)
     (old new : Talking) : Type 0 where
-  pub later : List Told
+  pub later : List Arrival
   pub more : List Turn
   pub stands : StandsAt rows items (told ++ later) (turns ++ more) new
   pub asks_are : asks_behind rows turns more ≡ []
-  pub quiet : (setup : Setup) → quiet_behind rows setup turns more ≡ []
+  pub quiet : (setup : AssociationSetup) → quiet_behind rows setup turns more ≡ []
   pub said : pending_of new ≡ pending_of old ++ answers_to called later
 
 -- it goes on with nothing waiting

@@ -7,7 +7,7 @@ ghost use Rattle.tpkt_cotp.specs.declared.limits.TheConstants.{TPKT_LIMIT, TSDU_
 ghost use Rattle.tpkt_cotp.specs.Streams.{stream_place};
 ghost use Rattle.bilateral.specs.Rows.{CentreRows};
 ghost use Rattle.stack_assoc.specs.Courses.{count_held};
-ghost use Rattle.stack_assoc.specs.Told.{Told};
+ghost use Rattle.stack_assoc.specs.Arrivals.{Arrival};
 ghost use Rattle.tase_map.specs.Inputs.{Item, piece as a_piece, idle, ended};
 ghost use Rattle.tase_map.specs.Turns.{Turn};
 ghost use Rattle.tase_conn.specs.declared.stage.Progress.TheVariants as progresses;
@@ -105,7 +105,7 @@ impl Conn {
         requires small { length piece.now ≤ PIECE_LIMIT }
         requires resting { IsResting self.old }
         requires placed { IsPlaced self.old }
-        ensures ok { (rows : CentreRows) (items : List Item) (told : List Told)
+        ensures ok { (rows : CentreRows) (items : List Item) (told : List Arrival)
             (turns : List Turn) → StandsAt rows items told turns self.old
             → OnOk result (StandsAt rows (items ++ a_piece piece.now ∷ []) told turns self.new) }
         ensures same { OnOk result (TakesIn self.old self.new) }
@@ -124,7 +124,7 @@ impl Conn {
     pub fn idle_in(&mut self)
         requires resting { IsResting self.old }
         requires placed { IsPlaced self.old }
-        ensures stands { (rows : CentreRows) (items : List Item) (told : List Told)
+        ensures stands { (rows : CentreRows) (items : List Item) (told : List Arrival)
             (turns : List Turn) → StandsAt rows items told turns self.old
             → StandsAt rows (items ++ idle ∷ []) told turns self.new }
         ensures same { TakesIn self.old self.new }
@@ -139,7 +139,7 @@ impl Conn {
     pub fn end_in(&mut self)
         requires resting { IsResting self.old }
         requires placed { IsPlaced self.old }
-        ensures stands { (rows : CentreRows) (items : List Item) (told : List Told)
+        ensures stands { (rows : CentreRows) (items : List Item) (told : List Arrival)
             (turns : List Turn) → StandsAt rows items told turns self.old
             → StandsAt rows (items ++ ended ∷ []) told turns self.new }
         ensures same { TakesIn self.old self.new }
@@ -172,7 +172,7 @@ impl Conn {
     pub fn sent(&mut self, n: usize)
         requires { n ≤ length (next_of self.old) }
         ensures pending { pending_of self.new ≡ drop n (pending_of self.old) }
-        ensures stands { (rows : CentreRows) (items : List Item) (told : List Told)
+        ensures stands { (rows : CentreRows) (items : List Item) (told : List Arrival)
             (turns : List Turn) → StandsAt rows items told turns self.old
             → StandsAt rows items told turns self.new }
         ensures same { IsSent self.old self.new }

@@ -3,7 +3,7 @@ ghost use Rattle.std.specs.Prelude.{◌≡◌, ◌++◌, List, true, OnOk, OnErr
 ghost use Rattle.tase_map.specs.Inputs.{Item};
 ghost use Rattle.tase_map.specs.Turns.{Turn};
 ghost use Rattle.bilateral.specs.Rows.{CentreRows};
-ghost use Rattle.stack_assoc.specs.Told.{Told};
+ghost use Rattle.stack_assoc.specs.Arrivals.{Arrival};
 ghost use Rattle.tase_conn.specs.declared.stage.Cause.TheVariants as causes;
 ghost use Rattle.tase_conn.specs.Talking.{MayLeave};
 ghost use Rattle.tase_conn.specs.Places.{StandsAt, IsPlaced, HasRoom};
@@ -32,7 +32,7 @@ impl Conn {
         requires free { MayLeave self.old.progress }
         requires placed { IsPlaced self.old }
         // Nothing more is read: it stands where it stood.
-        ensures stands { (rows : CentreRows) (items : List Item) (told : List Told)
+        ensures stands { (rows : CentreRows) (items : List Item) (told : List Arrival)
             (turns : List Turn) → StandsAt rows items told turns self.old
             → StandsAt rows items told turns self.new }
         ensures left { IsLeft end self.old self.new }

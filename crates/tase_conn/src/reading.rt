@@ -3,7 +3,7 @@ ghost use Rattle.std.specs.Prelude.{◌≡◌, ◌<◌, ℕ, List, true, None, I
 ghost use Rattle.tase_map.specs.Inputs.{Item};
 ghost use Rattle.tase_map.specs.Turns.{Turn};
 ghost use Rattle.bilateral.specs.Rows.{CentreRows};
-ghost use Rattle.stack_assoc.specs.Told.{Told};
+ghost use Rattle.stack_assoc.specs.Arrivals.{Arrival};
 ghost use Rattle.tase_conn.specs.declared.stage.Progress.TheVariants as progresses;
 ghost use Rattle.tase_conn.specs.declared.stage.Asked.TheVariants as askeds;
 ghost use Rattle.tase_conn.specs.declared.stage.Coming.TheVariants as comings;
@@ -40,10 +40,10 @@ impl Conn {
     pub fn want(&mut self) -> Result<Option<Event>, AllocError>
         requires free { IsFree self.old.progress }
         requires placed { IsPlaced self.old }
-        ensures ok { (rows : CentreRows) (items : List Item) (told : List Told)
+        ensures ok { (rows : CentreRows) (items : List Item) (told : List Arrival)
             (turns : List Turn) → StandsAt rows items told turns self.old
             → IfOk result (λ event. Wants rows items told turns event self.old self.new) }
-        ensures err { (rows : CentreRows) (items : List Item) (told : List Told)
+        ensures err { (rows : CentreRows) (items : List Item) (told : List Arrival)
             (turns : List Turn) → StandsAt rows items told turns self.old
             → OnErr result (Passes rows items told turns self.old self.new) }
         ensures again { OnErr result (IsIdle self.new.progress) }
@@ -70,10 +70,10 @@ impl Conn {
     fn read_on(&mut self) -> Result<Option<Event>, AllocError>
         requires idle { IsIdle self.old.progress }
         requires placed { IsPlaced self.old }
-        ensures ok { (rows : CentreRows) (items : List Item) (told : List Told)
+        ensures ok { (rows : CentreRows) (items : List Item) (told : List Arrival)
             (turns : List Turn) → StandsAt rows items told turns self.old
             → IfOk result (λ event. Reads rows items told turns event self.old self.new) }
-        ensures err { (rows : CentreRows) (items : List Item) (told : List Told)
+        ensures err { (rows : CentreRows) (items : List Item) (told : List Arrival)
             (turns : List Turn) → StandsAt rows items told turns self.old
             → OnErr result (Passes rows items told turns self.old self.new) }
         ensures again { OnErr result (IsIdle self.new.progress) }
@@ -104,10 +104,10 @@ impl Conn {
         requires idle { IsIdle self.old.progress }
         requires more { has_more self.old ≡ true }
         requires placed { IsPlaced self.old }
-        ensures ok { (rows : CentreRows) (items : List Item) (told : List Told)
+        ensures ok { (rows : CentreRows) (items : List Item) (told : List Arrival)
             (turns : List Turn) → StandsAt rows items told turns self.old
             → IfOk result (λ step. Steps rows items told turns step self.old self.new) }
-        ensures err { (rows : CentreRows) (items : List Item) (told : List Told)
+        ensures err { (rows : CentreRows) (items : List Item) (told : List Arrival)
             (turns : List Turn) → StandsAt rows items told turns self.old
             → OnErr result (StandsAt rows items told turns self.new) }
         ensures same { OnErr result (self.new ≡ record self.old { course = self.new.course }) }
@@ -128,10 +128,10 @@ impl Conn {
         requires empty { self.old.held ≡ None }
         requires more { has_more self.old ≡ true }
         requires placed { IsPlaced self.old }
-        ensures ok { (rows : CentreRows) (items : List Item) (told : List Told)
+        ensures ok { (rows : CentreRows) (items : List Item) (told : List Arrival)
             (turns : List Turn) → StandsAt rows items told turns self.old
             → OnOk result (Passes rows items told turns self.old self.new) }
-        ensures err { (rows : CentreRows) (items : List Item) (told : List Told)
+        ensures err { (rows : CentreRows) (items : List Item) (told : List Arrival)
             (turns : List Turn) → StandsAt rows items told turns self.old
             → OnErr result (StandsAt rows items told turns self.new) }
         ensures same { OnErr result (self.new ≡ record self.old { course = self.new.course }) }

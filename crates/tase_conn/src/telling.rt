@@ -4,9 +4,9 @@ ghost use Rattle.mms_services.specs.Initiates.{IsFullInitiate};
 ghost use Rattle.mms_services.specs.PduOctets.{IsWritable, pdu_len};
 ghost use Rattle.mms_services.specs.declared.initiate.TheConstants.{MOST_DETAIL};
 ghost use Rattle.stack_assoc.specs.declared.input.StackState.TheVariants as states;
-ghost use Rattle.stack_assoc.specs.declared.standing.Standing.TheVariants as standings;
+ghost use Rattle.stack_assoc.specs.declared.end_state.EndState.TheVariants as standings;
 ghost use Rattle.stack_assoc.specs.Courses.{state_of};
-ghost use Rattle.stack_assoc.specs.Told.{Told};
+ghost use Rattle.stack_assoc.specs.Arrivals.{Arrival};
 ghost use Rattle.bilateral.specs.Rows.{CentreRows};
 ghost use Rattle.tase_map.specs.Inputs.{Item};
 ghost use Rattle.tase_map.specs.Turns.{Turn};
@@ -86,7 +86,7 @@ impl Conn {
     pub fn tell(&mut self, told: Result<Answer, StepFault>) -> Result<(), AllocError>
         requires right { IsAnswerFor self.old.progress told }
         requires placed { IsPlaced self.old }
-        ensures ok { (rows : CentreRows) (items : List Item) (heard : List Told)
+        ensures ok { (rows : CentreRows) (items : List Item) (heard : List Arrival)
             (turns : List Turn) → StandsAt rows items heard turns self.old
             → OnOk result (StandsAt rows items heard turns self.new) }
         ensures said { OnOk result (pending_of self.new ≡ pending_of self.old
@@ -99,7 +99,7 @@ impl Conn {
           stage = stage_told self.old.progress told self.old.stage;
         }) }
         // It stands where it stood, and may be given up.
-        ensures kept { (rows : CentreRows) (items : List Item) (heard : List Told)
+        ensures kept { (rows : CentreRows) (items : List Item) (heard : List Arrival)
             (turns : List Turn) → StandsAt rows items heard turns self.old
             → OnErr result (StandsAt rows items heard turns self.new) }
         // A refusal leaves the connection.

@@ -14,7 +14,7 @@ use Rattle.command_io.specs.declared.status.Status.TheVariants.{Memory}
 use Rattle.command_io.specs.Statuses.{code_of}
 use Rattle.command_io.specs.Saying.{texts_of}
 use Rattle.command_io.specs.Runs.{IsRun}
-use Rattle.tase_tool.specs.Words.{asked_in}
+use Rattle.tase_tool.specs.Words.{task_in}
 use Rattle.tase_tool.specs.Saying.{duty_of}
 
 -- words in memory
@@ -33,7 +33,7 @@ IsWordsFrom (Err error) result =
 -- words that are there are run; without memory for them nothing is done
 abbrev pub IsStart : Result Words AllocError → OutsideTold → OutsideTold → Status → Type 0
 IsStart (Ok words) before after status =
-    IsRun (duty_of (asked_in (map string_bytes words.items)) (texts_of before)) before after status
+    IsRun (duty_of (task_in (map string_bytes words.items)) (texts_of before)) before after status
 IsStart (Err memory) before after status = (status ≡ Memory) × (after ≡ before)
 
 -- the words that the system gives are run once, and the exit status is that of how the run ended

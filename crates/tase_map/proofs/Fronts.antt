@@ -25,8 +25,8 @@ use Rattle.tpkt_cotp.proofs.LineLemmas.{nothing_read}
 use Rattle.tpkt_cotp.proofs.OneReading.{rest_from}
 use Rattle.stack_messages.specs.declared.fault.StackFault.{StackFault}
 use Rattle.stack_messages.proofs.OneMessage.{one_message}
-use Rattle.stack_assoc.specs.Told.{Told, asked, confirmed, gone, heard, called, or_else, first_in}
-use Rattle.stack_assoc.specs.Told.{size_in, connect_in}
+use Rattle.stack_assoc.specs.Arrivals.{Arrival, asked, confirmed, gone, heard, called, or_else, first_in}
+use Rattle.stack_assoc.specs.Arrivals.{size_in, connect_in}
 use Rattle.stack_assoc.specs.Fronts.{StartsWith}
 use Rattle.stack_assoc.specs.InTurn.{SpellInTurn}
 use Rattle.stack_assoc.specs.Handing.{answer_to, answers_to}
@@ -46,12 +46,12 @@ use Rattle.tase_map.proofs.LawfulMessages.{told_lawful}
 -- ---- the messages that were told
 
 -- octets begin with messages that tell these
-pub record HasFront (octets : List ℕ) (told : List Told) : Type 0 where
+pub record HasFront (octets : List ℕ) (told : List Arrival) : Type 0 where
   pub messages : List Message
   pub starts : StartsWith ends.Called octets messages
   pub tell : Tell called told messages
 
-front_by : (octets : List ℕ) (told : List Told) (v : Course) (fault : Option StackFault)
+front_by : (octets : List ℕ) (told : List Arrival) (v : Course) (fault : Option StackFault)
     → MatchOption fault (courses.Reads called octets told v) (λ f. Stops called octets told f)
     → HasFront octets told
 front_by octets told v None r = record {
@@ -72,11 +72,11 @@ front_by octets told v (Some fault) (inr s) = record {
 }
 
 -- what was told is told by messages that the octets begin with
-pub has_front : (octets : List ℕ) (told : List Told) (v : Course) → Stands called octets told v
+pub has_front : (octets : List ℕ) (told : List Arrival) (v : Course) → Stands called octets told v
     → HasFront octets told
 has_front octets told v s = front_by octets told v v.fault s.reads
 
-read_by : (octets : List ℕ) (told : List Told) (broken : Option StackFault)
+read_by : (octets : List ℕ) (told : List Arrival) (broken : Option StackFault)
     → Reads octets told broken → HasFront octets told
 read_by octets told None r = record {
   messages = r.1.messages;
@@ -132,14 +132,14 @@ whole_said octets messages s = record {
   remains = nothing_left (turn_after (turns.Opening ends.Called) messages) (length s.whole);
 }
 
-told_more : (text more : List ℕ) (told later : List Told) (broken : Option StackFault)
+told_more : (text more : List ℕ) (told later : List Arrival) (broken : Option StackFault)
     → Tells called text told [] → Reads (text ++ more) later broken → GoesOn told later
 told_more text more told later None t r =
     told_stays one_message called text more told later [] r.0 t r.1
 told_more text more told later (Some fault) t r =
     stopped_stays one_message called text more told later [] fault t r
 
-pub front_read : (octets : List ℕ) (told : List Told) → HasFront octets told
+pub front_read : (octets : List ℕ) (told : List Arrival) → HasFront octets told
     → GoesOn told (reading_of octets).told
 front_read octets told f =
     let text = f.starts.whole ++ f.starts.more in
@@ -149,38 +149,38 @@ front_read octets told f =
     (reading_found text))
 
 -- all that a text tells begins with what was told of it
-pub told_front : (octets : List ℕ) (told : List Told) (v : Course) → Stands called octets told v
-    → (others : List Told) × ((reading_of octets).told ≡ told ++ others)
+pub told_front : (octets : List ℕ) (told : List Arrival) (v : Course) → Stands called octets told v
+    → (others : List Arrival) × ((reading_of octets).told ≡ told ++ others)
 told_front octets told v s = front_read octets told (has_front octets told v s)
 
 -- ---- in its turn, and lawful
 
-come_at : (before front : List Told) (t : Told) (others : List Told)
+come_at : (before front : List Arrival) (t : Arrival) (others : List Arrival)
     → AllCome before (front ++ t ∷ others) → Comes (before ++ front) t
 come_at before [] t others a =
-    subst (λ (b : List Told). Comes b t) (sym (append-nil before)) a.0
+    subst (λ (b : List Arrival). Comes b t) (sym (append-nil before)) a.0
 come_at before (x ∷ front) t others a =
-    subst (λ (b : List Told). Comes b t) (append_assoc before (x ∷ []) front)
+    subst (λ (b : List Arrival). Comes b t) (append_assoc before (x ∷ []) front)
     (come_at (before ++ x ∷ []) front t others a.1)
 
 -- the message that was told last may come behind those before it
-pub last_comes : (octets : List ℕ) (front : List Told) (t : Told) (v : Course)
+pub last_comes : (octets : List ℕ) (front : List Arrival) (t : Arrival) (v : Course)
     → Stands called octets (front ++ t ∷ []) v → Comes front t
 last_comes octets front t v s =
     let f = told_front octets (front ++ t ∷ []) v s in
     let r = reading_of octets in
     come_at [] front t f.0
-    (subst (λ (told : List Told). AllCome [] told) (f.1 ∙ append_assoc front (t ∷ []) f.0)
+    (subst (λ (told : List Arrival). AllCome [] told) (f.1 ∙ append_assoc front (t ∷ []) f.0)
     (told_come octets r.told r.broken (reading_found octets)))
 
 -- and has lawful parts
-pub last_lawful : (octets : List ℕ) (front : List Told) (t : Told) (v : Course)
+pub last_lawful : (octets : List ℕ) (front : List Arrival) (t : Arrival) (v : Course)
     → Stands called octets (front ++ t ∷ []) v → IsLawfulTold t
 last_lawful octets front t v s =
     let told = front ++ t ∷ [] in
     let f = has_front octets told v s in
     All-head IsLawfulTold t []
-    (subst (λ (ts : List Told). All IsLawfulTold ts) (drop-append_seam front (t ∷ []))
+    (subst (λ (ts : List Arrival). All IsLawfulTold ts) (drop-append_seam front (t ∷ []))
     (All-drop IsLawfulTold (length front) told (told_lawful called [] told f.messages f.tell)))
 
 -- ---- what a connect fixes
@@ -210,14 +210,14 @@ message_first : (m : Message) (octets : List ℕ)
     → SpellsMessage (turns.Opening ends.Called) 0 m octets → (r : ConnectRequest) × (m ≡ asks r)
 message_first m octets s = request_first s.tpdu (held_of s.sections) m s.comes.order s.ends
 
-size_told : (t : Told) (told : List Told) (r : ConnectRequest) → TellsNext called [] t (asks r)
+size_told : (t : Arrival) (told : List Arrival) (r : ConnectRequest) → TellsNext called [] t (asks r)
     → is_some (first_in size_in (t ∷ told)) ≡ true
 size_told (asked q) told r s = refl
 size_told (confirmed c) told r s = absurd s
 size_told gone told r s = absurd s
 size_told (heard h) told r s = absurd s
 
-pub size_first : (told : List Told) (messages : List Message) (octets : List ℕ)
+pub size_first : (told : List Arrival) (messages : List Message) (octets : List ℕ)
     → SpellsMessages (turns.Opening ends.Called) 0 messages octets → Tell called told messages
     → is_some (first_in connect_in told) ≡ true → is_some (first_in size_in told) ≡ true
 size_first [] messages octets s tell c = absurd (false≢true c)
@@ -226,7 +226,7 @@ size_first (t ∷ told) (m ∷ messages) octets s tell c =
     let r = message_first m s.0 s.3 in
     size_told t told r.0 (subst (λ (n : Message). TellsNext called [] t n) r.1 tell.0)
 
-pub setup_kept : (told others : List Told) → is_some (first_in size_in told) ≡ true
+pub setup_kept : (told others : List Arrival) → is_some (first_in size_in told) ≡ true
     → is_some (first_in connect_in told) ≡ true → setup_after (told ++ others) ≡ setup_after told
 setup_kept told others size connect =
     ap (λ (o : Option (Option ℕ)). setup_by (size_by o) (first_in connect_in (told ++ others)))
@@ -235,10 +235,10 @@ setup_kept told others size connect =
     (first_kept connect_in told others connect)
 
 -- once a connect has come, nothing more changes what it fixed
-pub setup_fixed : (octets : List ℕ) (told : List Told) (v : Course)
+pub setup_fixed : (octets : List ℕ) (told : List Arrival) (v : Course)
     → Stands called octets told v → is_some (first_in connect_in told) ≡ true
     → (v.setup ≡ setup_after told)
-    × ((others : List Told) → setup_after (told ++ others) ≡ setup_after told)
+    × ((others : List Arrival) → setup_after (told ++ others) ≡ setup_after told)
 setup_fixed octets told v s connect =
     let f = has_front octets told v s in
     let size = size_first told f.messages f.starts.whole f.starts.spelled f.tell connect in (
@@ -248,7 +248,7 @@ setup_fixed octets told v s connect =
 
 -- ---- what is answered at once
 
-answers_front : (told others : List Told) → answers_to called (told ++ others) ≡ []
+answers_front : (told others : List Arrival) → answers_to called (told ++ others) ≡ []
     → answers_to called told ≡ []
 answers_front told others e =
     front_empty (answers_to called told) (answers_to called others)
@@ -267,7 +267,7 @@ transfer_first disconnect at held q c e = absurd cc
 transfer_first (part true more) at held q c e = absurd cc
 transfer_first (part false more) at held q c e = absurd cc
 
-told_quiet : (t : Told) (before : List Told) (m : Message) → ((q : ConnectRequest) → m ≡ asks q → ⊥)
+told_quiet : (t : Arrival) (before : List Arrival) (m : Message) → ((q : ConnectRequest) → m ≡ asks q → ⊥)
     → TellsNext called before t m → answer_to called t ≡ []
 told_quiet (asked r) before (asks q) n s = absurd (n q refl)
 told_quiet (asked r) before (confirms c) n s = absurd s
@@ -277,7 +277,7 @@ told_quiet (confirmed c) before m n s = refl
 told_quiet gone before m n s = refl
 told_quiet (heard h) before m n s = refl
 
-behind_quiet : (at : ℕ) (before told : List Told) (messages : List Message) (octets : List ℕ)
+behind_quiet : (at : ℕ) (before told : List Arrival) (messages : List Message) (octets : List ℕ)
     → SpellsMessages turns.Transfer at messages octets
     → SpellInTurn (TellsNext called) before told messages → answers_to called told ≡ []
 behind_quiet at before [] messages octets s tell = refl
@@ -289,12 +289,12 @@ behind_quiet at before (t ∷ told) (m ∷ messages) octets s tell =
     ∙ behind_quiet (at + length s.0) (before ++ t ∷ []) told messages s.1 s.4 tell.1
 
 -- behind the first message nothing more is answered at once
-pub answers_told : (octets : List ℕ) (told others : List Told) → HasFront octets (told ++ others)
+pub answers_told : (octets : List ℕ) (told others : List Arrival) → HasFront octets (told ++ others)
     → 1 ≤ length told → answers_to called (told ++ others) ≡ answers_to called told
 answers_told octets told others f some =
     by_first told others f.messages f.starts.whole f.starts.spelled f.tell some
   where
-    by_first : (told others : List Told) (messages : List Message) (octets : List ℕ)
+    by_first : (told others : List Arrival) (messages : List Message) (octets : List ℕ)
         → SpellsMessages (turns.Opening ends.Called) 0 messages octets
         → Tell called (told ++ others) messages → 1 ≤ length told
         → answers_to called (told ++ others) ≡ answers_to called told
@@ -305,12 +305,12 @@ answers_told octets told others f some =
         in
         ap (λ (os : List ℕ). answer_to called t ++ os) (none ∙ sym (answers_front told others none))
 
-pub some_told : (told : List Told) → is_some (first_in connect_in told) ≡ true → 1 ≤ length told
+pub some_told : (told : List Arrival) → is_some (first_in connect_in told) ≡ true → 1 ≤ length told
 some_told [] c = absurd (false≢true c)
 some_told (t ∷ told) c = omega arith
 
 -- once a connect has come, nothing more is answered at once
-pub answers_kept : (octets : List ℕ) (told others : List Told) → HasFront octets (told ++ others)
+pub answers_kept : (octets : List ℕ) (told others : List Arrival) → HasFront octets (told ++ others)
     → is_some (first_in connect_in told) ≡ true
     → answers_to called (told ++ others) ≡ answers_to called told
 answers_kept octets told others f connect =

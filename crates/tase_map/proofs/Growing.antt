@@ -11,10 +11,10 @@ use Rattle.tase_points.specs.Sample.{Sample}
 use Rattle.sbo_device.specs.declared.key.Key.{Key}
 use Rattle.bilateral.specs.Rows.{CentreRows, table_of, place_of_see, point_of}
 use Rattle.mms_services.specs.declared.pdu.MmsPdu.TheVariants as pdus
-use Rattle.stack_wire.specs.declared.setup.Setup.{Setup}
+use Rattle.stack_wire.specs.declared.setup.AssociationSetup.{AssociationSetup}
 use Rattle.stack_messages.specs.declared.heard.Connecting.{Connecting}
 use Rattle.stack_messages.specs.declared.fault.StackFault.{StackFault}
-use Rattle.stack_assoc.specs.Told.{Told, called, first_in, connect_in}
+use Rattle.stack_assoc.specs.Arrivals.{Arrival, called, first_in, connect_in}
 use Rattle.stack_assoc.specs.Handing.{answers_to}
 use Rattle.stack_assoc.specs.Expectations.{setup_after}
 use Rattle.tase_views.specs.Calls.{IsCall}
@@ -148,7 +148,7 @@ left_grows (pauses ∷ turns) others n s = other_grows pauses turns others n (λ
 
 -- ---- the reply to a request
 
-abbrev talk_with : List ℕ → Setup → ℤ → List Turn → Talk
+abbrev talk_with : List ℕ → AssociationSetup → ℤ → List Turn → Talk
 talk_with opening setup detail turns = record {
   opening = opening;
   setup = setup;
@@ -156,7 +156,7 @@ talk_with opening setup detail turns = record {
   turns = turns;
 }
 
-module _ (table : OwnTable) (ordinal : ℕ) (opening : List ℕ) (setup : Setup) (detail : ℤ)
+module _ (table : OwnTable) (ordinal : ℕ) (opening : List ℕ) (setup : AssociationSetup) (detail : ℤ)
     (shorter longer : List Turn) where
   abbrev reply_of : List Turn → View → List Turn → List ℕ
   reply_of turns view first =
@@ -273,7 +273,7 @@ chosen : (b c : Bool) → (if b then c else false) ≡ false → b ≡ true → 
 chosen true c e s = e
 chosen false c e s = absurd (false≢true s)
 
-module _ (table : OwnTable) (ordinal : ℕ) (opening : List ℕ) (setup : Setup) (detail : ℤ)
+module _ (table : OwnTable) (ordinal : ℕ) (opening : List ℕ) (setup : AssociationSetup) (detail : ℤ)
     (turns others : List Turn) (count : ℕ) (stand : StandIn turns count) where
   abbrev short : Talk
   short = talk_with opening setup detail turns
@@ -457,7 +457,7 @@ key_found : (key : Key) (found : Option Key) → found ≡ Some key → is_key k
 key_found key found e = ap (λ (o : Option Key). is_key key o) e
     ∙ rw (eq-eqb key.peer key.peer refl, eq-eqb key.ordinal key.ordinal refl) refl
 
-module _ (rows : CentreRows) (table : OwnTable) (key : Key) (opening : List ℕ) (setup : Setup)
+module _ (rows : CentreRows) (table : OwnTable) (key : Key) (opening : List ℕ) (setup : AssociationSetup)
     (detail : ℤ) (turns others : List Turn) where
   abbrev sent_short : Past → List ℕ
   sent_short past = octets_in table key.ordinal (talk_with opening setup detail turns)
@@ -599,7 +599,7 @@ connect_come reading title turns e =
 -- what the text of an association fixes, but for its turns, is fixed by its front
 pub record Grows (text more : List ℕ) (ended : Bool) : Type 0 where
   pub opening : List ℕ
-  pub setup : Setup
+  pub setup : AssociationSetup
   pub detail : ℤ
   pub turns : List Turn
   pub later : List Turn
@@ -608,10 +608,10 @@ pub record Grows (text more : List ℕ) (ended : Bool) : Type 0 where
       ≡ talk_with opening setup detail (turns ++ (later ++ end_turns ended))
   pub closing : (talk_of (reading_of text) true).turns ≡ turns ++ ends ∷ []
 
-talk_is : (a b : List ℕ) (s t : Setup) (d e : ℤ) (ts us : List Turn) → a ≡ b → s ≡ t → d ≡ e
+talk_is : (a b : List ℕ) (s t : AssociationSetup) (d e : ℤ) (ts us : List Turn) → a ≡ b → s ≡ t → d ≡ e
     → ts ≡ us → talk_with a s d ts ≡ talk_with b t e us
 talk_is a b s t d e ts us p q r u =
-    ap (λ (x : List ℕ). talk_with x s d ts) p ∙ ap (λ (x : Setup). talk_with b x d ts) q
+    ap (λ (x : List ℕ). talk_with x s d ts) p ∙ ap (λ (x : AssociationSetup). talk_with b x d ts) q
     ∙ ap (λ (x : ℤ). talk_with b t x ts) r ∙ ap (λ (x : List Turn). talk_with b t e x) u
 
 grows : (text more : List ℕ) (ended : Bool) → IsOpened text → Grows text more ended
@@ -624,14 +624,14 @@ grows text more ended o =
     let connect = connect_come r o.title o.turns o.is in
     let size = size_first r.told f.messages f.starts.whole f.starts.spelled f.tell connect in
     let first : first_in connect_in w.told ≡ first_in connect_in r.told =
-    ap (λ (ts : List Told). first_in connect_in ts) g.1
+    ap (λ (ts : List Arrival). first_in connect_in ts) g.1
     ∙ first_kept connect_in r.told g.0 connect in
     let setup : setup_after w.told ≡ setup_after r.told =
-    ap (λ (ts : List Told). setup_after ts) g.1 ∙ setup_kept r.told g.0 size connect in
+    ap (λ (ts : List Arrival). setup_after ts) g.1 ∙ setup_kept r.told g.0 size connect in
     let answers : answers_to called w.told ≡ answers_to called r.told =
-    ap (λ (ts : List Told). answers_to called ts) g.1
+    ap (λ (ts : List Arrival). answers_to called ts) g.1
     ∙ answers_kept (text ++ more) r.told g.0
-    (subst (λ (ts : List Told). HasFront (text ++ more) ts) g.1 (whole_front (text ++ more)))
+    (subst (λ (ts : List Arrival). HasFront (text ++ more) ts) g.1 (whole_front (text ++ more)))
     connect in
     record {
       opening = answers_to called r.told
@@ -650,7 +650,7 @@ grows text more ended o =
       long = talk_is _ _ _ _ _ _ _ _
           (ap (λ (os : List ℕ). os
           ++ accept_octets (setup_after w.told) (first_in connect_in w.told)) answers
-          ∙ ap (λ (s : Setup). answers_to called r.told
+          ∙ ap (λ (s : AssociationSetup). answers_to called r.told
           ++ accept_octets s (first_in connect_in w.told)) setup
           ∙ ap (λ (c : Option Connecting). answers_to called r.told
           ++ accept_octets (setup_after r.told) c) first)
@@ -794,7 +794,7 @@ closed_more rows past key text more ended added c s g adds =
     ∙ ap (λ (os : List ℕ). os ++ added)
     (sym (ap (λ (talk : Talk). sent_by rows past key talk) g.short))
 
-fixed_close : (setup : Setup) (left others : List Turn) → IsFixed left
+fixed_close : (setup : AssociationSetup) (left others : List Turn) → IsFixed left
     → close_octets setup (left ++ others) ≡ close_octets setup left
 fixed_close setup [] others f = absurd f
 fixed_close setup (concludes ∷ []) others f = absurd f

@@ -20,7 +20,7 @@ use Rattle.stack_messages.specs.Turns.{spdu_may_come}
 use Rattle.tpkt_cotp.specs.Streams.{Message, asks, confirms, tsdu}
 use Rattle.tpkt_cotp.specs.Streams as transport
 use Rattle.stack_assoc.specs.InTurn.{SpellInTurn}
-use Rattle.stack_assoc.specs.Told.{Told, asked, confirmed, gone, heard, Role}
+use Rattle.stack_assoc.specs.Arrivals.{Arrival, asked, confirmed, gone, heard, Role}
 use Rattle.stack_assoc.specs.Expectations.{expecting_after}
 use Rattle.stack_assoc.specs.Tellings.{TellsNext}
 use Rattle.tase_map.specs.LawfulTold.{IsLawfulHeard, IsLawfulTold}
@@ -94,7 +94,7 @@ message_lawful : (e : Expecting) (octets : List ℕ) (h : Heard) → (message e 
 unfolding message
 message_lawful e octets h s = let i = inside_says _ _ h s in said_lawful e octets i.0 h i.2
 
-next_lawful : (role : Role) (before : List Told) (t : Told) (m : Message)
+next_lawful : (role : Role) (before : List Arrival) (t : Arrival) (m : Message)
     → TellsNext role before t m → IsLawfulTold t
 next_lawful role before (asked r) m s = tt
 next_lawful role before (confirmed c) m s = tt
@@ -105,7 +105,7 @@ next_lawful role before (heard h) transport.gone s = absurd s
 next_lawful role before (heard h) (tsdu place octets) s =
     message_lawful (expecting_after role before) octets h s
 
-pub told_lawful : (role : Role) (before told : List Told) (messages : List Message)
+pub told_lawful : (role : Role) (before told : List Arrival) (messages : List Message)
     → SpellInTurn (TellsNext role) before told messages → All IsLawfulTold told
 told_lawful role before [] messages s = All-nil IsLawfulTold
 told_lawful role before (t ∷ told) [] s = absurd s

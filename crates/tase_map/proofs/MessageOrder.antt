@@ -35,8 +35,8 @@ use Rattle.stack_messages.specs.Turns.{may_ask, pdu_may_come, spdu_may_come}
 use Rattle.stack_messages.specs.Turns.{is_before, is_held, is_open}
 use Rattle.tpkt_cotp.specs.Streams.{Message, asks, confirms, tsdu}
 use Rattle.tpkt_cotp.specs.Streams as transport
-use Rattle.stack_assoc.specs.Told.{Told, asked, confirmed, gone, heard, called, first_in}
-use Rattle.stack_assoc.specs.Told.{connect_in, is_conclude}
+use Rattle.stack_assoc.specs.Arrivals.{Arrival, asked, confirmed, gone, heard, called, first_in}
+use Rattle.stack_assoc.specs.Arrivals.{connect_in, is_conclude}
 use Rattle.stack_assoc.specs.InTurn.{SpellInTurn}
 use Rattle.stack_assoc.specs.Expectations.{expecting_after}
 use Rattle.stack_assoc.specs.Tellings.{TellsNext}
@@ -228,17 +228,17 @@ message_may e octets h s = let i = inside_says _ _ h s in said_may e octets i.0 
 -- ---- behind the messages before it
 
 -- a connect has come, and no conclude
-pub record HasBegun (before : List Told) : Type 0 where
+pub record HasBegun (before : List Arrival) : Type 0 where
   pub connect : is_some (first_in connect_in before) ≡ true
   pub conclude : list_any is_conclude before ≡ false
 
-abbrev pub PduComes : List Told → MmsPdu → Type 0
+abbrev pub PduComes : List Arrival → MmsPdu → Type 0
 PduComes before (pdus.Request invoke request) = HasBegun before
 PduComes before pdus.Conclude = HasBegun before
 PduComes before _ = Unit {0}
 
 -- no answer to a connect comes to the called end, nor one to a finish
-abbrev pub HeardComes : List Told → Heard → Type 0
+abbrev pub HeardComes : List Arrival → Heard → Type 0
 HeardComes before (heards.Connect c) = is_some (first_in connect_in before) ≡ false
 HeardComes before (heards.Accept a) = ⊥
 HeardComes before heards.Refuse = ⊥
@@ -249,11 +249,11 @@ HeardComes before heards.AbortAccept = Unit {0}
 HeardComes before (heards.Pdu p) = PduComes before p
 HeardComes before (heards.BadRequest invoke) = HasBegun before
 
-abbrev pub Comes : List Told → Told → Type 0
+abbrev pub Comes : List Arrival → Arrival → Type 0
 Comes before (heard h) = HeardComes before h
 Comes before _ = Unit {0}
 
-abbrev pub AllCome : List Told → List Told → Type 0
+abbrev pub AllCome : List Arrival → List Arrival → Type 0
 AllCome before [] = Unit {0}
 AllCome before (t ∷ told) = Comes before t × AllCome (before ++ t ∷ []) told
 
@@ -275,14 +275,14 @@ held : (a c : Bool) → is_held (phase_by a c) ≡ true → a ≡ true
 held true c e = refl
 held false c e = absurd (false≢true e)
 
-begun : (before : List Told)
+begun : (before : List Arrival)
     → is_open (phase_by (is_some (first_in connect_in before)) (list_any is_conclude before)) ≡ true
     → HasBegun before
 begun before e =
     let c = connected (is_some (first_in connect_in before)) (list_any is_conclude before) e in
     record { connect = c.0; conclude = c.1 }
 
-pdu_comes : (before : List Told) (p : MmsPdu)
+pdu_comes : (before : List Arrival) (p : MmsPdu)
     → pdu_may_come (expecting_after called before) p ≡ true → PduComes before p
 pdu_comes before (pdus.Request invoke request) m = begun before m
 pdu_comes before (pdus.Response invoke response) m = tt
@@ -295,7 +295,7 @@ pdu_comes before pdus.InitiateError m = tt
 pdu_comes before pdus.Conclude m = begun before m
 pdu_comes before pdus.Concluded m = tt
 
-heard_comes : (before : List Told) (h : Heard) → MayCome (expecting_after called before) h
+heard_comes : (before : List Arrival) (h : Heard) → MayCome (expecting_after called before) h
     → HeardComes before h
 heard_comes before (heards.Connect c) m =
     unconnected (is_some (first_in connect_in before)) (list_any is_conclude before) m
@@ -309,7 +309,7 @@ heard_comes before heards.AbortAccept m = tt
 heard_comes before (heards.Pdu p) m = pdu_comes before p m
 heard_comes before (heards.BadRequest invoke) m = begun before m
 
-comes : (before : List Told) (t : Told) (m : Message) → TellsNext called before t m
+comes : (before : List Arrival) (t : Arrival) (m : Message) → TellsNext called before t m
     → Comes before t
 comes before (asked r) m s = tt
 comes before (confirmed c) m s = tt
@@ -320,7 +320,7 @@ comes before (heard h) transport.gone s = absurd s
 comes before (heard h) (tsdu place octets) s =
     heard_comes before h (message_may (expecting_after called before) octets h s)
 
-all_come : (before told : List Told) (messages : List Message)
+all_come : (before told : List Arrival) (messages : List Message)
     → SpellInTurn (TellsNext called) before told messages
     → AllCome before told
 all_come before [] messages s = tt
@@ -329,7 +329,7 @@ all_come before (t ∷ told) (m ∷ messages) s =
     (comes before t m s.0, all_come (before ++ t ∷ []) told messages s.1)
 
 -- all that octets tell comes so
-pub told_come : (octets : List ℕ) (told : List Told) (broken : Option StackFault)
+pub told_come : (octets : List ℕ) (told : List Arrival) (broken : Option StackFault)
     → Reads octets told broken → AllCome [] told
 told_come octets told None r = all_come [] told r.1.messages r.1.tell
 told_come octets told (Some fault) (inl r) = all_come [] told r.messages r.tell

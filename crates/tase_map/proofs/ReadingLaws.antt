@@ -6,7 +6,7 @@ use Rattle.std.proofs.lemmas.List.{append-nil}
 use Rattle.std.proofs.lemmas.List.Elements.{filter_map-append}
 use Rattle.stack_messages.specs.declared.fault.StackFault.{StackFault}
 use Rattle.stack_messages.proofs.OneMessage.{one_message}
-use Rattle.stack_assoc.specs.Told.{Told, called}
+use Rattle.stack_assoc.specs.Arrivals.{Arrival, called}
 use Rattle.stack_assoc.specs.Handing.{stack_in, handed_out}
 use Rattle.stack_assoc.proofs.StreamLaws.{always, tells_once, stops_once, never_both, told_stays}
 use Rattle.stack_assoc.proofs.StreamLaws.{stopped_stays, fault_stays}
@@ -24,14 +24,14 @@ pub reading_found : (octets : List ℕ)
 unfolding reading_of
 reading_found octets = found_reading octets (always one_message called octets)
 
-abbrev pub reading : List Told → Option StackFault → Reading
+abbrev pub reading : List Arrival → Option StackFault → Reading
 reading told broken = record { told = told; broken = broken }
 
-only_reading : (octets : List ℕ) (t : TellsOrStops octets) (told : List Told)
+only_reading : (octets : List ℕ) (t : TellsOrStops octets) (told : List Arrival)
     (broken : Option StackFault) → Reads octets told broken
     → the_reading octets t ≡ reading told broken
 only_reading octets (inl tells) told None r =
-    ap (λ (ts : List Told). reading ts None)
+    ap (λ (ts : List Arrival). reading ts None)
     (tells_once one_message called octets tells.0 told tells.1 r.0 tells.2 r.1).0
 only_reading octets (inl tells) told (Some fault) r =
     absurd (never_both one_message called octets tells.0 told tells.1 fault tells.2 r)
@@ -39,11 +39,11 @@ only_reading octets (inr stops) told None r =
     absurd (never_both one_message called octets told stops.0 r.0 stops.1 r.1 stops.2)
 only_reading octets (inr stops) told (Some fault) r =
     let e = stops_once one_message called octets stops.0 told stops.1 fault stops.2 r in
-    ap (λ (ts : List Told). reading ts (Some stops.1)) e.0
+    ap (λ (ts : List Arrival). reading ts (Some stops.1)) e.0
     ∙ ap (λ (f : StackFault). reading told (Some f)) e.1
 
 -- and nothing else is
-pub reading_only : (octets : List ℕ) (told : List Told) (broken : Option StackFault)
+pub reading_only : (octets : List ℕ) (told : List Arrival) (broken : Option StackFault)
     → Reads octets told broken → reading_of octets ≡ reading told broken
 unfolding reading_of
 reading_only octets told broken r =
@@ -54,12 +54,12 @@ reading_only octets told broken r =
 abbrev pub Continues : List Turn → List Turn → Type 0
 Continues front whole = (others : List Turn) × (whole ≡ front ++ others)
 
-more_turns : (told later others : List Told) (broken : Option StackFault)
+more_turns : (told later others : List Arrival) (broken : Option StackFault)
     → later ≡ told ++ others
     → Continues (turns_told (reading told None)) (turns_told (reading later broken))
 more_turns told later others broken e = (
   filter_map turn_in (handed_out others) ++ fault_turns broken,
-  ap (λ (ts : List Told). filter_map turn_in (handed_out ts) ++ fault_turns broken) e
+  ap (λ (ts : List Arrival). filter_map turn_in (handed_out ts) ++ fault_turns broken) e
       ∙ ap (λ (ms : List _). filter_map turn_in ms ++ fault_turns broken)
       (filter_map-append stack_in told others)
       ∙ ap (λ (ts : List Turn). ts ++ fault_turns broken)
@@ -71,7 +71,7 @@ more_turns told later others broken e = (
       (append-nil (filter_map turn_in (handed_out told)))),
 )
 
-grown : (text more : List ℕ) (told later : List Told) (broken now : Option StackFault)
+grown : (text more : List ℕ) (told later : List Arrival) (broken now : Option StackFault)
     → Reads text told broken → Reads (text ++ more) later now
     → Continues (turns_told (reading told broken)) (turns_told (reading later now))
 grown text more told later None None r s =

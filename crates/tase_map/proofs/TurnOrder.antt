@@ -16,9 +16,9 @@ use Rattle.stack_messages.specs.declared.fault.StackFault.{StackFault}
 use Rattle.stack_messages.specs.declared.heard.Heard.TheVariants as heards
 use Rattle.stack_assoc.specs.declared.input.StackIn.{StackIn}
 use Rattle.stack_assoc.specs.declared.input.StackIn.TheVariants as inputs
-use Rattle.stack_assoc.specs.Told.{Told, asked, confirmed, gone, heard, first_in, connect_in}
-use Rattle.stack_assoc.specs.Told.{is_conclude}
-use Rattle.stack_assoc.specs.Handing.{is_offer, heard_in, stack_in, handed_out}
+use Rattle.stack_assoc.specs.Arrivals.{Arrival, asked, confirmed, gone, heard, first_in, connect_in}
+use Rattle.stack_assoc.specs.Arrivals.{is_conclude}
+use Rattle.stack_assoc.specs.Handing.{is_offer, input_heard, stack_in, handed_out}
 use Rattle.tase_map.specs.Inputs.{Item, text_of, has_ended, IsInput}
 use Rattle.tase_map.specs.Readings.{Reading, reading_of}
 use Rattle.tase_map.specs.Turns.{Turn, offers, offers_badly, asks, concludes, releases, aborts}
@@ -42,7 +42,7 @@ concluded concludes = true
 concluded _ = false
 
 -- the turns of messages
-abbrev turns_heard : List Told → List Turn
+abbrev turns_heard : List Arrival → List Turn
 turns_heard told = filter_map turn_in (handed_out told)
 
 -- an offer has come, and no conclude
@@ -88,7 +88,7 @@ pdu_offered pdus.InitiateError turns = refl
 pdu_offered pdus.Conclude turns = refl
 pdu_offered pdus.Concluded turns = refl
 
-pub offers_told : (told : List Told)
+pub offers_told : (told : List Arrival)
     → list_any offered (turns_heard told) ≡ is_some (first_in connect_in told)
 offers_told [] = refl
 offers_told (asked r ∷ told) = offers_told told
@@ -105,7 +105,7 @@ offers_told (heard heards.AbortAccept ∷ told) = offers_told told
 offers_told (heard (heards.Pdu p) ∷ told) = pdu_offered p (turns_heard told) ∙ offers_told told
 offers_told (heard (heards.BadRequest invoke) ∷ told) = offers_told told
 
-pdu_concluded : (p : MmsPdu) (told : List Told)
+pdu_concluded : (p : MmsPdu) (told : List Arrival)
     → list_any concluded (turns_heard told) ≡ list_any is_conclude told
     → list_any concluded (cons_option (turn_of_pdu p) (turns_heard told))
     ≡ list_any is_conclude (heard (heards.Pdu p) ∷ told)
@@ -120,7 +120,7 @@ pdu_concluded pdus.InitiateError told e = e
 pdu_concluded pdus.Conclude told e = refl
 pdu_concluded pdus.Concluded told e = e
 
-concludes_told : (told : List Told)
+concludes_told : (told : List Arrival)
     → list_any concluded (turns_heard told) ≡ list_any is_conclude told
 concludes_told [] = refl
 concludes_told (asked r ∷ told) = concludes_told told
@@ -137,7 +137,7 @@ concludes_told (heard heards.AbortAccept ∷ told) = concludes_told told
 concludes_told (heard (heards.Pdu p) ∷ told) = pdu_concluded p told (concludes_told told)
 concludes_told (heard (heards.BadRequest invoke) ∷ told) = concludes_told told
 
-begun_turns : (before : List Told) → HasBegun before → IsBegun (turns_heard before)
+begun_turns : (before : List Arrival) → HasBegun before → IsBegun (turns_heard before)
 begun_turns before h = record {
   offer = offers_told before ∙ h.connect;
   conclude = concludes_told before ∙ h.conclude;
@@ -152,20 +152,20 @@ found_follow before None turns f a = subst (λ (ts : List Turn). AllFollow ts tu
 found_follow before (Some turn) turns f a = (f, a)
 
 -- the turn that a message makes
-abbrev turn_of : Told → Option Turn
+abbrev turn_of : Arrival → Option Turn
 turn_of (asked r) = None
 turn_of (confirmed c) = None
 turn_of gone = Some aborts
-turn_of (heard h) = turn_in (heard_in h)
+turn_of (heard h) = turn_in (input_heard h)
 
-turns_cons : (t : Told) (told : List Told)
+turns_cons : (t : Arrival) (told : List Arrival)
     → turns_heard (t ∷ told) ≡ cons_option (turn_of t) (turns_heard told)
 turns_cons (asked r) told = refl
 turns_cons (confirmed c) told = refl
 turns_cons gone told = refl
 turns_cons (heard h) told = refl
 
-turns_more : (told : List Told) (t : Told)
+turns_more : (told : List Arrival) (t : Arrival)
     → turns_heard (told ++ t ∷ []) ≡ turns_heard told ++ cons_option (turn_of t) []
 turns_more told t =
     ap (λ (ms : List StackIn). filter_map turn_in ms) (filter_map-append stack_in told (t ∷ []))
@@ -178,7 +178,7 @@ connect_follows : (b : Bool) (title : Option (List ℕ)) (initiate : Initiate) (
 connect_follows true title initiate before e = e
 connect_follows false title initiate before e = e
 
-pdu_follows : (before : List Told) (p : MmsPdu) → PduComes before p
+pdu_follows : (before : List Arrival) (p : MmsPdu) → PduComes before p
     → IfSome (turn_of_pdu p) (Follows (turns_heard before))
 pdu_follows before (pdus.Request invoke request) c = begun_turns before c
 pdu_follows before (pdus.Response invoke response) c = tt
@@ -191,7 +191,7 @@ pdu_follows before pdus.InitiateError c = tt
 pdu_follows before pdus.Conclude c = begun_turns before c
 pdu_follows before pdus.Concluded c = tt
 
-turn_follows : (before : List Told) (t : Told) → Comes before t
+turn_follows : (before : List Arrival) (t : Arrival) → Comes before t
     → IfSome (turn_of t) (Follows (turns_heard before))
 turn_follows before (asked r) c = tt
 turn_follows before (confirmed x) c = tt
@@ -207,7 +207,7 @@ turn_follows before (heard heards.AbortAccept) c = tt
 turn_follows before (heard (heards.Pdu p)) c = pdu_follows before p c
 turn_follows before (heard (heards.BadRequest invoke)) c = begun_turns before c
 
-heard_follow : (before told : List Told) → AllCome before told
+heard_follow : (before told : List Arrival) → AllCome before told
     → AllFollow (turns_heard before) (turns_heard told)
 heard_follow before [] c = tt
 heard_follow before (t ∷ told) c =

@@ -7,7 +7,7 @@ use Rattle.std.proofs.lemmas.List.Elements.{filter_map-append}
 use Rattle.std.proofs.Math.Seq.{drop-append_seam}
 use Rattle.stack_messages.specs.declared.fault.StackFault.{StackFault}
 use Rattle.stack_assoc.specs.declared.input.StackIn.{StackIn}
-use Rattle.stack_assoc.specs.Told.{Told}
+use Rattle.stack_assoc.specs.Arrivals.{Arrival}
 use Rattle.stack_assoc.specs.Handing.{stack_in, handed_out}
 use Rattle.tase_map.specs.Inputs.{Item, text_of}
 use Rattle.tase_map.specs.Readings.{Reading, reading_of}
@@ -15,10 +15,10 @@ use Rattle.tase_map.specs.Turns.{Turn, turn_in, fault_turns, turns_told, turns_b
 use Rattle.tase_map.specs.Turns.{turns_behind_octets, turns_at, turns_from, turns_of}
 
 -- the turns of messages
-abbrev pub turns_heard : List Told → List Turn
+abbrev pub turns_heard : List Arrival → List Turn
 turns_heard told = filter_map turn_in (handed_out told)
 
-pub heard-append : (told others : List Told)
+pub heard-append : (told others : List Arrival)
     → turns_heard (told ++ others) ≡ turns_heard told ++ turns_heard others
 heard-append told others =
     ap (λ (inputs : List StackIn). filter_map turn_in inputs)
@@ -40,7 +40,7 @@ turns_more before (first ∷ items) item =
     ∙ sym (append_assoc (turns_at before first) rest (turns_at (before ++ first ∷ items) item))
 
 -- what the messages behind a front tell, and the rule that is broken behind them
-between_told : (front whole : Reading) (others : List Told) → front.broken ≡ None
+between_told : (front whole : Reading) (others : List Arrival) → front.broken ≡ None
     → whole.told ≡ front.told ++ others
     → turns_between front whole ≡ turns_heard others ++ fault_turns whole.broken
 between_told front whole others unbroken e =
@@ -49,14 +49,14 @@ between_told front whole others unbroken e =
     let front_is : turns_told front ≡ first =
     ap (λ (broken : Option StackFault). first ++ fault_turns broken) unbroken ∙ append-nil first in
     let whole_is : turns_told whole ≡ first ++ rest =
-    ap (λ (told : List Told). turns_heard told ++ fault_turns whole.broken) e
+    ap (λ (told : List Arrival). turns_heard told ++ fault_turns whole.broken) e
     ∙ ap (λ (ts : List Turn). ts ++ fault_turns whole.broken) (heard-append front.told others)
     ∙ append_assoc first (turns_heard others) (fault_turns whole.broken) in
     ap (λ (ts : List Turn). drop (length ts) (turns_told whole)) front_is
     ∙ ap (λ (ts : List Turn). drop (length first) ts) whole_is ∙ drop-append_seam first rest
 
 -- what items and one more tell, where with it these messages come
-pub item_turns : (done : List Item) (item : Item) (others : List Told)
+pub item_turns : (done : List Item) (item : Item) (others : List Arrival)
     → (reading_of (text_of done)).broken ≡ None
     → (reading_of (text_of (done ++ item ∷ []))).told
     ≡ (reading_of (text_of done)).told ++ others

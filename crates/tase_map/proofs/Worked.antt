@@ -18,7 +18,7 @@ use Rattle.mms_services.specs.PduOctets.{pdu_octets, response_octets, invoke_oct
 use Rattle.stack_messages.specs.declared.heard.Connecting.{Connecting}
 use Rattle.stack_messages.specs.declared.heard.Heard.TheVariants as heards
 use Rattle.stack_wire.specs.Tsdus.{accept_tsdu, refusal_tsdu, release_tsdu, abort_tsdu, data_tsdu}
-use Rattle.stack_assoc.specs.Told.{Told, asked, gone, heard}
+use Rattle.stack_assoc.specs.Arrivals.{Arrival, asked, gone, heard}
 use Rattle.bilateral.specs.declared.rows.Table.{Table}
 use Rattle.bilateral.specs.Rows.{CentreRows}
 use Rattle.tase_views.specs.declared.call.CallKind.TheVariants.{Identify}
@@ -118,20 +118,20 @@ connecting = record {
   initiate = parameters;
 }
 
-abbrev pub first_two : List Told
+abbrev pub first_two : List Arrival
 first_two = asked (record {
   source = 1;
   parameters = record
       { size = Some 10; calling = Some (0 ∷ 1 ∷ []); called = Some (0 ∷ 1 ∷ []) };
 }) ∷ heard (heards.Connect connecting) ∷ []
 
-abbrev request : Told
+abbrev request : Arrival
 request = heard (heards.Pdu (pdus.Request 1 requests.Identify))
 
-abbrev conclude : Told
+abbrev conclude : Arrival
 conclude = heard (heards.Pdu pdus.Conclude)
 
-abbrev reading : List Told → Reading
+abbrev reading : List Arrival → Reading
 reading told = record { told = told; broken = None }
 
 told_turns : turns_told (reading (first_two ++ request ∷ conclude ∷ heard heards.Finish ∷ []))
@@ -177,7 +177,7 @@ aborted_octets = 3 ∷ 0 ∷ 0 ∷ 30 ∷ 2 ∷ 240 ∷ 128 ∷ 25 ∷ 21 ∷ 17
 abbrev pub still_open : View
 still_open = own 0 takes ∷ own 0 (calls Identify) ∷ own 0 takes ∷ own 0 opens ∷ []
 
-abbrev sent : List Told → View → List ℕ
+abbrev sent : List Arrival → View → List ℕ
 sent told view = octets_in (own_table rows 0) 0 (talk_of (reading told) false) view
 
 opened_sent : sent first_two (own 0 opens ∷ []) ≡ confirm_octets ++ accept_octets

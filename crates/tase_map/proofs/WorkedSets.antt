@@ -48,7 +48,7 @@ use Rattle.mms_services.specs.Pdus.{one_pdu, pdu}
 use Rattle.mms_services.specs.PduOctets.{pdu_octets, response_octets, invoke_octets}
 use Rattle.stack_messages.specs.declared.heard.Heard.TheVariants as heards
 use Rattle.stack_wire.specs.Tsdus.{data_tsdu}
-use Rattle.stack_assoc.specs.Told.{Told, heard}
+use Rattle.stack_assoc.specs.Arrivals.{Arrival, heard}
 use Rattle.tase_views.specs.OwnTable.{own_table}
 use Rattle.tase_views.specs.View.{View, own, updated, opens, acts_of_call}
 use Rattle.tase_views.proofs.NodeSample.{rows}
@@ -61,7 +61,7 @@ use Rattle.ber_values.specs.Grammars.{passed_within, passed_in}
 
 -- ---- what requests ask
 
-abbrev told_by : Result (Taken MmsPdu) BerFault → List Told
+abbrev told_by : Result (Taken MmsPdu) BerFault → List Arrival
 told_by (Ok t) = heard (heards.Pdu t.value) ∷ []
 told_by (Err f) = []
 

@@ -1,74 +1,22 @@
 -- A whole input, from its octets on: the connect request of the transport, an offer by a peer's title
 -- and a request to identify, each in a piece of its own, and the end of the link.
-use Rattle.std.proofs.Common.{◌≡◌, ℕ, List, [], ◌∷◌, ◌++◌, true, false, pos, Some, None, Ok}
-use Rattle.std.proofs.Common.{refl, inl, ap}
-use Rattle.ber_values.specs.declared.fault.Span.{Span}
-use Rattle.ber_values.specs.Reading.{Taken}
-use Rattle.ber_values.specs.Tags.{tag_in, length_in}
-use Rattle.ber_values.specs.Heads.{head_in}
-use Rattle.ber_values.specs.Numbers.{integer_in, unsigned_in}
-use Rattle.ber_values.specs.TextContents.{oid_in, visible_in}
-use Rattle.ber_values.specs.BitContents.{bits_in}
-use Rattle.ber_values.specs.Externals.{external_of, external}
-use Rattle.ber_values.specs.Grammars.{Grammar, IsGrammar, taken, gives, then_in, map_in, branch_in, refused, by_length}
-use Rattle.ber_values.specs.Passing.{skip, pass_in}
-use Rattle.ber_values.specs.Parts.{whole_in, sized_part_in, parted_in, part_in, choose_in, maybe_in, contents_as, contents_where, all_in}
-use Rattle.ber_values.specs.Lists.{more_in, list_in, count_in}
-use Rattle.ber_values.specs.Leaves as leaves
+use Rattle.std.proofs.Common.{◌≡◌, ℕ, List, [], ◌∷◌, ◌++◌, true, false, Some, None}
+use Rattle.std.proofs.Common.{refl, ap}
 use Rattle.tpkt_cotp.specs.declared.tpdu.ConnectRequest.{ConnectRequest}
 use Rattle.tpkt_cotp.specs.declared.turn.Role.TheVariants as roles
 use Rattle.tpkt_cotp.specs.Places as streams
 use Rattle.tpkt_cotp.specs.Readings as tpkts
 use Rattle.tpkt_cotp.specs.Streams.{Says, asks, tsdu}
 use Rattle.tpkt_cotp.proofs.Streaming.{left_says}
-use Rattle.session_profile.specs.declared.spdu.Spdu.TheVariants as spdus
-use Rattle.session_profile.specs.Lengths as lengths
-use Rattle.session_profile.specs.Parameters.{parameter_in}
-use Rattle.session_profile.specs.Rules as rules
-use Rattle.session_profile.specs.Connections.{item, connection}
-use Rattle.session_profile.specs.Spdus as session
-use Rattle.session_profile.proofs.Spdus.{spdu_reads}
-use Rattle.presentation_profile.specs.declared.expected.Expected.TheVariants as expects
-use Rattle.presentation_profile.specs.declared.ppdu.Ppdu.TheVariants as ppdus
-use Rattle.presentation_profile.specs.declared.offers.Offered.{Offered}
-use Rattle.presentation_profile.specs.Offers.{transfers, offered, offer_contents, offer, offers}
-use Rattle.presentation_profile.specs.Others.{others, after_others, before_others, selector_in}
-use Rattle.presentation_profile.specs.UserData.{user_data}
-use Rattle.presentation_profile.specs.Results as outcomes
-use Rattle.presentation_profile.specs.Ppdus.{connect_selectors, connect, accept, parameters, mode, set_up_contents, set_up, ppdu}
-use Rattle.presentation_profile.proofs.PpdusRead.{ppdu_reads}
-use Rattle.acse_assoc.specs.declared.apdu.Apdu.TheVariants as apdus
-use Rattle.acse_assoc.specs.Rising.{by_tag, rising_within, rising_in, named_in, perhaps_in, attempt}
-use Rattle.acse_assoc.specs.Users.{user_information}
-use Rattle.acse_assoc.specs.Requests.{one_oid, context_name, calling_title, user_last, request}
-use Rattle.acse_assoc.specs.Responses as responses
-use Rattle.acse_assoc.specs.Apdus.{one_apdu, apdu}
-use Rattle.acse_assoc.proofs.ApdusRead.{apdu_reads}
-use Rattle.mms_services.specs.declared.initiate.Initiate.{Initiate}
 use Rattle.mms_services.specs.declared.pdu.MmsPdu.TheVariants as pdus
 use Rattle.mms_services.specs.declared.request.Request.TheVariants as asked_for
-use Rattle.mms_services.specs.Coded.{by_first, coded_in}
-use Rattle.mms_services.specs.Identities.{identify_request, some_syntaxes, identify_response}
-use Rattle.mms_services.specs.Initiates.{initiate_detail, initiate}
-use Rattle.mms_services.specs.Requests.{unknown_request, set_request, one_request}
-use Rattle.mms_services.specs.Responses.{set_response, one_response}
-use Rattle.mms_services.specs.Pdus.{invoke_in, confirmed_request, confirmed_response, frame_pdu, one_pdu, pdu}
-use Rattle.mms_services.proofs.PdusRead.{pdu_reads}
-use Rattle.stack_messages.specs.declared.expecting.Expecting.{Expecting}
-use Rattle.stack_messages.specs.declared.expecting.Phase.TheVariants as phases
-use Rattle.stack_messages.specs.declared.expecting.Side.TheVariants as sides
-use Rattle.stack_messages.specs.declared.fault.Layer.{Layer}
-use Rattle.stack_messages.specs.declared.fault.Layer.TheVariants as layers
-use Rattle.stack_messages.specs.declared.heard.Connecting.{Connecting}
 use Rattle.stack_messages.specs.declared.heard.Heard.{Heard}
 use Rattle.stack_messages.specs.declared.heard.Heard.TheVariants as heard
-use Rattle.stack_messages.specs.Meanings.{says_just, inside}
-use Rattle.stack_messages.specs.Layers.{octets_at, in_layer, spdu_of, ppdu_at, apdu_at, pdu_at}
-use Rattle.stack_messages.specs.Setting.{asked, connect_at}
-use Rattle.stack_messages.specs.Messages.{data_at, carry_at, message}
+use Rattle.stack_messages.proofs.Worked.{connecting_octets, identify_octets, wanted, connecting}
+use Rattle.stack_messages.proofs.Worked.{connect_heard, identify_heard}
 use Rattle.std.specs.Prelude.{codes}
-use Rattle.stack_assoc.specs.Told.{Told, called}
-use Rattle.stack_assoc.specs.Told as told
+use Rattle.stack_assoc.specs.Arrivals.{Arrival, called}
+use Rattle.stack_assoc.specs.Arrivals as told
 use Rattle.stack_assoc.specs.Handing.{answers_to}
 use Rattle.bilateral.specs.declared.rows.Table.{Table}
 use Rattle.bilateral.specs.Rows.{CentreRows}
@@ -96,144 +44,6 @@ use Rattle.tase_map.specs.Out.{talk_of, octets_in, octets_out}
 use Rattle.tase_map.proofs.Worked.{confirm_octets, accept_octets, identified_octets}
 use Rattle.tase_map.proofs.Worked.{aborted_octets, still_open}
 use Rattle.tase_map.proofs.TurnOrder.{nothing_said}
-use Rattle.ber_values.specs.Heads.{head_by, element_by, extent_of, extent_within}
-use Rattle.ber_values.specs.Extents.{definite}
-use Rattle.ber_values.specs.Grammars.{passed_within, passed_in}
-
-abbrev pub span : ℕ → ℕ → Span
-span from to = record { from = from; to = to }
-
--- what a grammar reads in a layer is what the octets say, and its fault theirs
-layer-says : {X : Type 0} (layer : Layer) (placed : ℕ → ℕ) (g : Grammar X) (at : ℕ) (octets : List ℕ) (t : Taken X) → IsGrammar g → g.reading at octets ≡ Ok t → (in_layer layer placed g at octets).says t.value
-unfolding in_layer
-layer-says layer placed g at octets t exact e = (t, (exact at octets).found t e, refl)
-
--- a connect of two control centres
-unfoldable pub connecting_octets : List ℕ
-connecting_octets =
-    13 ∷ 168 ∷ 5 ∷ 6 ∷ 19 ∷ 1 ∷ 0 ∷ 22 ∷ 1 ∷ 2 ∷ 20 ∷ 2 ∷ 0 ∷ 2 ∷ 51 ∷ 2 ∷ 0 ∷ 1 ∷ 52 ∷ 2 ∷ 0 ∷
-    1 ∷ 193 ∷ 146 ∷ 49 ∷ 129 ∷ 143 ∷ 160 ∷ 3 ∷ 128 ∷ 1 ∷ 1 ∷ 162 ∷ 129 ∷ 135 ∷ 129 ∷ 4 ∷ 0 ∷ 0 ∷
-    0 ∷ 1 ∷ 130 ∷ 4 ∷ 0 ∷ 0 ∷ 0 ∷ 1 ∷ 164 ∷ 35 ∷ 48 ∷ 15 ∷ 2 ∷ 1 ∷ 1 ∷ 6 ∷ 4 ∷ 82 ∷ 1 ∷ 0 ∷ 1 ∷
-    48 ∷ 4 ∷ 6 ∷ 2 ∷ 81 ∷ 1 ∷ 48 ∷ 16 ∷ 2 ∷ 1 ∷ 3 ∷ 6 ∷ 5 ∷ 40 ∷ 202 ∷ 34 ∷ 2 ∷ 1 ∷ 48 ∷ 4 ∷ 6 ∷
-    2 ∷ 81 ∷ 1 ∷ 97 ∷ 84 ∷ 48 ∷ 82 ∷ 2 ∷ 1 ∷ 1 ∷ 160 ∷ 77 ∷ 96 ∷ 75 ∷ 161 ∷ 7 ∷ 6 ∷ 5 ∷ 40 ∷
-    202 ∷ 34 ∷ 2 ∷ 3 ∷ 166 ∷ 6 ∷ 6 ∷ 4 ∷ 41 ∷ 135 ∷ 103 ∷ 1 ∷ 167 ∷ 3 ∷ 2 ∷ 1 ∷ 12 ∷ 190 ∷ 51 ∷
-    40 ∷ 49 ∷ 6 ∷ 2 ∷ 81 ∷ 1 ∷ 2 ∷ 1 ∷ 3 ∷ 160 ∷ 40 ∷ 168 ∷ 38 ∷ 128 ∷ 3 ∷ 0 ∷ 253 ∷ 232 ∷ 129 ∷
-    1 ∷ 5 ∷ 130 ∷ 1 ∷ 5 ∷ 131 ∷ 1 ∷ 5 ∷ 164 ∷ 22 ∷ 128 ∷ 1 ∷ 1 ∷ 129 ∷ 3 ∷ 5 ∷ 241 ∷ 0 ∷ 130 ∷
-    12 ∷ 3 ∷ 238 ∷ 28 ∷ 0 ∷ 0 ∷ 4 ∷ 8 ∷ 0 ∷ 0 ∷ 121 ∷ 239 ∷ 24 ∷ []
-
-unfoldable pub wanted : Initiate
-wanted = record { detail = Some (pos 65000); calling = pos 5; called = pos 5; nesting = Some (pos 5); version = pos 1 }
-
-abbrev pub on_offer : List Offered
-on_offer = offered 1 (82 ∷ 1 ∷ 0 ∷ 1 ∷ []) true ∷ offered 3 (40 ∷ 202 ∷ 34 ∷ 2 ∷ 1 ∷ []) true ∷ []
-
-connect_spdu : session.spdu_in connecting_octets ≡ Ok (spdus.Connect (Some (0 ∷ 1 ∷ [])) (span 24 170))
-unfolding connecting_octets session.spdu_in session.whole_in session.coded_in rules.all_in rules.rest_in connection item parameter_in lengths.length_in
-connect_spdu = refl
-
-connect_ppdu : (ppdu expects.Connect).reading 24 (octets_at connecting_octets (span 24 170)) ≡ Ok (taken (ppdus.Connect (Some (0 ∷ 0 ∷ 0 ∷ 1 ∷ [])) on_offer 1 (span 93 170)) 170 [])
-unfolding connecting_octets ppdu set_up set_up_contents mode parameters connect connect_selectors
-    accept outcomes.results outcomes.accepting_results outcomes.first_in outcomes.one_result
-    outcomes.result_contents after_others before_others others selector_in user_data external offers
-    offer offer_contents transfers length_in tag_in head_in integer_in unsigned_in oid_in gives
-    then_in map_in branch_in refused skip by_length pass_in sized_part_in parted_in part_in
-    choose_in maybe_in contents_as contents_where all_in whole_in more_in list_in count_in
-    leaves.unsigned leaves.unsigned_within leaves.oid leaves.octet leaves.octet_in leaves.span
-    leaves.selector leaves.selector_in leaves.fixed leaves.raw leaves.integer leaves.bits bits_in
-    extent_of extent_within definite head_by element_by passed_within passed_in
-connect_ppdu = refl
-
-connect_apdu : (apdu (asked on_offer)).reading 93 (octets_at connecting_octets (span 93 170)) ≡ Ok (taken (apdus.Aarq (record { context = 40 ∷ 202 ∷ 34 ∷ 2 ∷ 3 ∷ []; title = Some (41 ∷ 135 ∷ 103 ∷ 1 ∷ []); user = external_of 3 (span 130 170) })) 170 [])
-unfolding connecting_octets apdu one_apdu request one_oid context_name calling_title user_last
-    responses.response responses.context_passed responses.one_result responses.result_next
-    responses.user_of_result responses.some_user_last external user_information by_tag rising_within
-    rising_in named_in perhaps_in attempt length_in tag_in head_in integer_in unsigned_in oid_in
-    gives then_in map_in branch_in refused skip by_length pass_in sized_part_in parted_in part_in
-    choose_in maybe_in contents_as contents_where all_in whole_in more_in list_in count_in
-    leaves.unsigned leaves.unsigned_within leaves.oid leaves.octet leaves.octet_in leaves.span
-    leaves.selector leaves.selector_in leaves.fixed leaves.raw leaves.integer leaves.bits bits_in
-    extent_of extent_within definite head_by element_by passed_within passed_in
-connect_apdu = refl
-
-connect_pdu : pdu.reading 0 (octets_at connecting_octets (span 130 170)) ≡ Ok (taken (pdus.Initiate wanted) 40 [])
-unfolding connecting_octets wanted pdu one_pdu confirmed_request confirmed_response frame_pdu
-    invoke_in one_request set_request unknown_request one_response set_response identify_request
-    identify_response some_syntaxes initiate initiate_detail coded_in by_first leaves.visible_within
-    leaves.text_in leaves.visible visible_in length_in tag_in head_in integer_in unsigned_in oid_in
-    gives then_in map_in branch_in refused skip by_length pass_in sized_part_in parted_in part_in
-    choose_in maybe_in contents_as contents_where all_in whole_in more_in list_in count_in
-    leaves.unsigned leaves.unsigned_within leaves.oid leaves.octet leaves.octet_in leaves.span
-    leaves.selector leaves.selector_in leaves.fixed leaves.raw leaves.integer leaves.bits bits_in
-    extent_of extent_within definite head_by element_by passed_within passed_in
-connect_pdu = refl
-
-abbrev opening : Expecting
-opening = record { side = sides.Called; phase = phases.Unassociated; acse = 1; mms = 3; awaited = false }
-
--- it is heard at the called end, before an association stands
-pub connect_heard : (message opening connecting_octets).says (heard.Connect (record { session = Some (0 ∷ 1 ∷ []); presentation = Some (0 ∷ 0 ∷ 0 ∷ 1 ∷ []); contexts = on_offer; context = 40 ∷ 202 ∷ 34 ∷ 2 ∷ 3 ∷ []; title = Some (41 ∷ 135 ∷ 103 ∷ 1 ∷ []); initiate = wanted }))
-unfolding message inside spdu_of connect_at ppdu_at apdu_at pdu_at says_just
-connect_heard = (
-  spdus.Connect (Some (0 ∷ 1 ∷ [])) (span 24 170),
-  (spdu_reads connecting_octets).found _ connect_spdu,
-  (
-    _,
-    layer-says layers.Presentation (λ n. n) (ppdu expects.Connect) 24 _ _ (ppdu_reads expects.Connect) connect_ppdu,
-    (
-      _,
-      layer-says layers.Acse (λ n. n) (apdu (asked on_offer)) 93 _ _ (apdu_reads (asked on_offer)) connect_apdu,
-      (_, layer-says layers.Mms _ pdu 0 _ _ pdu_reads connect_pdu, refl),
-    ),
-  ),
-)
-
-abbrev pub answering : Expecting
-answering = record { side = sides.Called; phase = phases.Associated; acse = 1; mms = 3; awaited = false }
-
--- a request to identify
-unfoldable pub identify_octets : List ℕ
-identify_octets =
-    1 ∷ 0 ∷ 1 ∷ 0 ∷ 97 ∷ 14 ∷ 48 ∷ 12 ∷ 2 ∷ 1 ∷ 3 ∷ 160 ∷ 7 ∷ 160 ∷ 5 ∷ 2 ∷ 1 ∷ 1 ∷ 130 ∷ 0 ∷ []
-
-identify_spdu : session.spdu_in identify_octets ≡ Ok (spdus.Carry (span 4 20))
-unfolding identify_octets session.spdu_in
-identify_spdu = refl
-
-identify_ppdu : (ppdu (expects.Carry 3)).reading 4 (octets_at identify_octets (span 4 20)) ≡ Ok (taken (ppdus.Carry 3 (span 13 20)) 20 [])
-unfolding identify_octets ppdu set_up set_up_contents mode parameters connect connect_selectors
-    accept outcomes.results outcomes.accepting_results outcomes.first_in outcomes.one_result
-    outcomes.result_contents after_others before_others others selector_in user_data external offers
-    offer offer_contents transfers length_in tag_in head_in integer_in unsigned_in oid_in gives
-    then_in map_in branch_in refused skip by_length pass_in sized_part_in parted_in part_in
-    choose_in maybe_in contents_as contents_where all_in whole_in more_in list_in count_in
-    leaves.unsigned leaves.unsigned_within leaves.oid leaves.octet leaves.octet_in leaves.span
-    leaves.selector leaves.selector_in leaves.fixed leaves.raw leaves.integer leaves.bits bits_in
-    extent_of extent_within definite head_by element_by passed_within passed_in
-identify_ppdu = refl
-
-identify_pdu : pdu.reading 0 (octets_at identify_octets (span 13 20)) ≡ Ok (taken (pdus.Request 1 asked_for.Identify) 7 [])
-unfolding identify_octets pdu one_pdu confirmed_request confirmed_response frame_pdu invoke_in
-    one_request set_request unknown_request one_response set_response identify_request
-    identify_response some_syntaxes initiate initiate_detail coded_in by_first leaves.visible_within
-    leaves.text_in leaves.visible visible_in length_in tag_in head_in integer_in unsigned_in oid_in
-    gives then_in map_in branch_in refused skip by_length pass_in sized_part_in parted_in part_in
-    choose_in maybe_in contents_as contents_where all_in whole_in more_in list_in count_in
-    leaves.unsigned leaves.unsigned_within leaves.oid leaves.octet leaves.octet_in leaves.span
-    leaves.selector leaves.selector_in leaves.fixed leaves.raw leaves.integer leaves.bits bits_in
-    extent_of extent_within definite head_by element_by passed_within passed_in
-identify_pdu = refl
-
-identify_heard : (message answering identify_octets).says (heard.Pdu (pdus.Request 1 asked_for.Identify))
-unfolding message inside spdu_of carry_at ppdu_at data_at pdu_at
-identify_heard = (
-  spdus.Carry (span 4 20),
-  (spdu_reads identify_octets).found _ identify_spdu,
-  (
-    _,
-    layer-says layers.Presentation (λ n. n) (ppdu (expects.Carry 3)) 4 _ _ (ppdu_reads (expects.Carry 3)) identify_ppdu,
-    inl (_, layer-says layers.Mms _ pdu 0 _ _ pdu_reads identify_pdu, refl, refl),
-  ),
-)
 
 -- ---- the stream
 
@@ -241,16 +51,6 @@ abbrev pub opener : ConnectRequest
 opener = record {
   source = 1;
   parameters = record { size = Some 10; calling = Some (0 ∷ 1 ∷ []); called = Some (0 ∷ 1 ∷ []) };
-}
-
-abbrev pub connecting : Connecting
-connecting = record {
-  session = Some (0 ∷ 1 ∷ []);
-  presentation = Some (0 ∷ 0 ∷ 0 ∷ 1 ∷ []);
-  contexts = on_offer;
-  context = 40 ∷ 202 ∷ 34 ∷ 2 ∷ 3 ∷ [];
-  title = Some (41 ∷ 135 ∷ 103 ∷ 1 ∷ []);
-  initiate = wanted;
 }
 
 abbrev pub identify : Heard
@@ -283,16 +83,16 @@ said_third = left_says roles.Called (first ++ second ++ third) 0 refl
 
 -- ---- what the octets so far tell
 
-abbrev pub reads : List Told → Reading
+abbrev pub reads : List Arrival → Reading
 reads told = record { told = told; broken = None }
 
-abbrev pub one : List Told
+abbrev pub one : List Arrival
 one = told.asked opener ∷ []
 
-abbrev pub two : List Told
+abbrev pub two : List Arrival
 two = told.asked opener ∷ told.heard (heard.Connect connecting) ∷ []
 
-abbrev pub three : List Told
+abbrev pub three : List Arrival
 three = told.asked opener ∷ told.heard (heard.Connect connecting) ∷ told.heard identify ∷ []
 
 pub read_none : reading_of [] ≡ reads []

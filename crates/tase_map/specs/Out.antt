@@ -8,9 +8,9 @@ use Rattle.mms_services.specs.declared.pdu.MmsPdu.TheVariants as pdus
 use Rattle.mms_services.specs.Negotiations.{granted, granted_of}
 use Rattle.mms_services.specs.PduOctets.{pdu_len}
 use Rattle.stack_messages.specs.declared.heard.Connecting.{Connecting}
-use Rattle.stack_wire.specs.declared.setup.Setup.{Setup}
+use Rattle.stack_wire.specs.declared.setup.AssociationSetup.{AssociationSetup}
 use Rattle.stack_wire.specs.Tsdus.{accept_tsdu, refusal_tsdu, release_tsdu, abort_tsdu, data_tsdu}
-use Rattle.stack_assoc.specs.Told.{called, first_in, connect_in}
+use Rattle.stack_assoc.specs.Arrivals.{called, first_in, connect_in}
 use Rattle.stack_assoc.specs.Expectations.{setup_after}
 use Rattle.stack_assoc.specs.Handing.{answers_to}
 use Rattle.bilateral.specs.Rows.{CentreRows}
@@ -31,12 +31,12 @@ use Rattle.tase_map.specs.Asks.{is_peers}
 -- comes behind its offer
 pub record Talk : Type 0 where
   pub opening : List ℕ
-  pub setup : Setup
+  pub setup : AssociationSetup
   pub detail : ℤ
   pub turns : List Turn
 
 -- the association is accepted with what is granted of the offer
-abbrev pub accept_octets : Setup → Option Connecting → List ℕ
+abbrev pub accept_octets : AssociationSetup → Option Connecting → List ℕ
 accept_octets setup None = []
 accept_octets setup (Some c) = wire setup.size (accept_tsdu setup (granted c.initiate))
 
@@ -65,7 +65,7 @@ talk_of reading ended = record {
 
 -- ---- one entry
 
-abbrev pub said : Setup → MmsPdu → List ℕ
+abbrev pub said : AssociationSetup → MmsPdu → List ℕ
 said setup pdu = wire setup.size (data_tsdu setup.mms pdu)
 
 -- the class of errors of resources, and that none more is told of them
@@ -80,14 +80,14 @@ within detail invoke pdu = if int_lt detail (pos (pdu_len pdu)) then too_long in
 abbrev pub reply_octets : Talk → ℕ → ReplyKind → List ℕ
 reply_octets talk invoke reply = said talk.setup (within talk.detail invoke (pdu_in invoke reply))
 
-abbrev pub release_octets : Setup → List ℕ
+abbrev pub release_octets : AssociationSetup → List ℕ
 release_octets setup = wire setup.size (release_tsdu setup.acse)
 
-abbrev pub abort_octets : Setup → List ℕ
+abbrev pub abort_octets : AssociationSetup → List ℕ
 abort_octets setup = wire setup.size (abort_tsdu setup.acse)
 
 -- what is sent behind the response to conclude
-abbrev pub concluded_octets : Setup → List Turn → List ℕ
+abbrev pub concluded_octets : AssociationSetup → List Turn → List ℕ
 concluded_octets setup (releases ∷ turns) = release_octets setup
 concluded_octets setup (breaks ∷ turns) = abort_octets setup
 concluded_octets setup _ = []
@@ -95,7 +95,7 @@ concluded_octets setup _ = []
 -- a close, by what stands at its place: conclude is answered, and then what follows it; a release is
 -- answered; an abort and the end of the link aren't; a fault, and a close for which there is no
 -- cause, abort the association
-abbrev pub close_octets : Setup → List Turn → List ℕ
+abbrev pub close_octets : AssociationSetup → List Turn → List ℕ
 close_octets setup (concludes ∷ turns) = said setup pdus.Concluded ++ concluded_octets setup turns
 close_octets setup (releases ∷ turns) = release_octets setup
 close_octets setup (aborts ∷ turns) = []

@@ -4,18 +4,18 @@ use Rattle.std.specs.Prelude.{ℕ, List, Option, Some, None, ◌⊎◌}
 use Rattle.std.proofs.Common.{inl, inr}
 use Rattle.stack_messages.specs.declared.fault.StackFault.{StackFault}
 use Rattle.stack_messages.proofs.OneMessage.{one_message}
-use Rattle.stack_assoc.specs.Told.{Told, called}
+use Rattle.stack_assoc.specs.Arrivals.{Arrival, called}
 use Rattle.stack_assoc.specs.Tellings.{Tells, Stops}
 use Rattle.stack_assoc.proofs.StreamLaws.{always}
 
 pub record Reading : Type 0 where
-  pub told : List Told
+  pub told : List Arrival
   pub broken : Option StackFault
 
 -- octets that tell messages and a rest, or messages and a fault
 abbrev pub TellsOrStops : List ℕ → Type 0
-TellsOrStops octets = ((told : List Told) × (rest : List ℕ) × Tells called octets told rest)
-    ⊎ ((told : List Told) × (fault : StackFault) × Stops called octets told fault)
+TellsOrStops octets = ((told : List Arrival) × (rest : List ℕ) × Tells called octets told rest)
+    ⊎ ((told : List Arrival) × (fault : StackFault) × Stops called octets told fault)
 
 abbrev pub the_reading : (octets : List ℕ) → TellsOrStops octets → Reading
 the_reading octets (inl tells) = record { told = tells.0; broken = None }
@@ -26,6 +26,6 @@ unfoldable pub reading_of : List ℕ → Reading
 reading_of octets = the_reading octets (always one_message called octets)
 
 -- octets tell this
-abbrev pub Reads : List ℕ → List Told → Option StackFault → Type 0
+abbrev pub Reads : List ℕ → List Arrival → Option StackFault → Type 0
 Reads octets told None = (rest : List ℕ) × Tells called octets told rest
 Reads octets told (Some fault) = Stops called octets told fault

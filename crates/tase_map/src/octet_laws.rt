@@ -5,7 +5,7 @@ ghost use Rattle.std.specs.Prelude.{Option, Some, None};
 ghost use Rattle.std.specs.List.{All};
 ghost use Rattle.stack_messages.specs.declared.fault.StackFault.{StackFault};
 ghost use Rattle.tpkt_cotp.specs.Streams.{Message};
-ghost use Rattle.stack_assoc.specs.Told.{Told, Role};
+ghost use Rattle.stack_assoc.specs.Arrivals.{Arrival, Role};
 ghost use Rattle.stack_assoc.specs.Tellings.{Tell};
 ghost use Rattle.tase_map.specs.LawfulTold.{IsLawfulTold};
 ghost use Rattle.bilateral.specs.Rows.{CentreRows};
@@ -33,7 +33,7 @@ ghost use Rattle.tase_map.specs.Turns.{Turn, offers, asks, concludes, turns_told
 pub fn octets_tell_one_thing()
     ensures found { (octets : List ℕ)
         → Reads octets (reading_of octets).told (reading_of octets).broken }
-    ensures only { (octets : List ℕ) (told : List Told) (broken : Option StackFault)
+    ensures only { (octets : List ℕ) (told : List Arrival) (broken : Option StackFault)
         → Reads octets told broken
         → reading_of octets ≡ record { told = told; broken = broken } }
 {}
@@ -41,7 +41,7 @@ pub fn octets_tell_one_thing()
 /// The PDUs that messages tell have lawful parts, as `read_pdu` gives them: so requests may be mapped
 /// to calls, and PDUs to replies, at either end.
 pub fn told_pdus_are_lawful()
-    ensures { (role : Role) (told : List Told) (messages : List Message)
+    ensures { (role : Role) (told : List Arrival) (messages : List Message)
         → Tell role told messages → All IsLawfulTold told }
 {}
 

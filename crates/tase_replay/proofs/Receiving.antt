@@ -14,7 +14,7 @@ use Rattle.tase_views.specs.declared.event.Entry.{Entry}
 use Rattle.tase_views.specs.declared.event.EventKind.{EventKind}
 use Rattle.tase_views.specs.declared.fault.StepFault.{StepFault}
 use Rattle.tase_views.specs.declared.fault.StepFault.TheVariants as faults
-use Rattle.stack_assoc.specs.Told.{Told}
+use Rattle.stack_assoc.specs.Arrivals.{Arrival}
 use Rattle.tase_map.specs.Inputs.{Item, piece, idle, ended, IsInput, text_of}
 use Rattle.tase_map.specs.Inputs.{has_ended as items_end}
 use Rattle.tase_map.specs.Readings.{reading_of}
@@ -318,7 +318,7 @@ pub came_behind : (setup : Setup) (scene : Scene) (given : Given) (now : List En
     → (a : Attends setup scene.past given.who (items_of given.who scene.given ++ given.item ∷ [])
     (link_octets setup.centre scene.past given.who (items_of given.who scene.given)) old (Ok tt)
     past conn)
-    → ((items : List Item) (told : List Told) (turns : List Turn)
+    → ((items : List Item) (told : List Arrival) (turns : List Turn)
     → StandsAt setup.centre items told turns conn → StandsAt setup.centre items told turns new)
     → IsSent conn new → pending_of new ≡ []
     → IsBehind setup.centre scene given (scene_by scene (received setup scene given)) now new

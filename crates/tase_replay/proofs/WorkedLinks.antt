@@ -23,7 +23,8 @@ use Rattle.tase_views.specs.Setup.{Setup}
 use Rattle.tase_map.specs.Inputs.{piece}
 use Rattle.tase_conn.specs.declared.stage.ConnEnd.{ConnEnd}
 use Rattle.tase_conn.specs.declared.stage.ConnEnd.TheVariants as conn_ends
-use Rattle.tase_map.proofs.WorkedStream.{wanted, read_none}
+use Rattle.stack_messages.proofs.Worked.{wanted}
+use Rattle.tase_map.proofs.WorkedStream.{read_none}
 use Rattle.tase_replay.specs.Lines.{entry_by}
 use Rattle.tase_replay.specs.Links.{Asking, an_item, asking_in, Given, given_by}
 use Rattle.tase_replay.specs.Play.{Scene, Step, entry_step, Meaning, gives, too_heavy, means}

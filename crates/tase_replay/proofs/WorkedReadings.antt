@@ -33,9 +33,11 @@ use Rattle.stack_assoc.proofs.FrontsKept.{stopped_front}
 use Rattle.tase_map.specs.Inputs.{Item, piece, text_of}
 use Rattle.tase_map.specs.Readings.{reading_of}
 use Rattle.tase_map.proofs.ReadingLaws.{reading_only}
-use Rattle.tase_map.proofs.WorkedStream.{span, connecting_octets, identify_octets, opener, answering}
+use Rattle.stack_messages.proofs.Worked.{span, connecting_octets, identify_octets, answering}
+use Rattle.stack_messages.proofs.Worked.{connect_heard}
+use Rattle.tase_map.proofs.WorkedStream.{opener}
 use Rattle.tase_map.proofs.WorkedStream.{first, second, third, reads, one, two, three}
-use Rattle.tase_map.proofs.WorkedStream.{connect_heard, read_first, read_second, read_third}
+use Rattle.tase_map.proofs.WorkedStream.{read_first, read_second, read_third}
 use Rattle.ber_values.specs.Heads.{head_by, extent_of, extent_within}
 use Rattle.ber_values.specs.Extents.{definite}
 

@@ -8,7 +8,7 @@ ghost use Rattle.plain_text.specs.Numbers.{if_passes};
 ghost use Rattle.plain_text.specs.Words.{words};
 ghost use Rattle.tase_map.specs.Inputs.{Item, IsInput, piece as a_piece};
 ghost use Rattle.tase_map.specs.Turns.{Turn};
-ghost use Rattle.stack_assoc.specs.Told.{Told};
+ghost use Rattle.stack_assoc.specs.Arrivals.{Arrival};
 ghost use Rattle.bilateral.specs.Rows.{CentreRows};
 ghost use Rattle.tase_conn.specs.Places.{StandsAt, IsPlaced};
 ghost use Rattle.tase_conn.specs.Taken.{TakesIn};
@@ -282,7 +282,7 @@ fn take_item(conn: &mut Conn, item: &LinkItem) -> Result<(), AllocError>
     requires fits { IsFit item.now }
     requires resting { IsResting conn.old }
     requires placed { IsPlaced conn.old }
-    ensures stands { (rows : CentreRows) (items : List Item) (told : List Told)
+    ensures stands { (rows : CentreRows) (items : List Item) (told : List Arrival)
         (turns : List Turn) → StandsAt rows items told turns conn.old
         → OnOk result (StandsAt rows (items ++ item_seen item.now ∷ []) told turns conn.new) }
     ensures same { OnOk result (TakesIn conn.old conn.new) }

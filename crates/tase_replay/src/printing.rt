@@ -2,7 +2,7 @@ ghost use Rattle.std.specs.Prelude.{◌≡◌, List, [], ◌∷◌, ◌++◌, le
 ghost use Rattle.std.specs.Prelude.{decimal};
 ghost use Rattle.plain_text.specs.Octets.{hex_text};
 ghost use Rattle.bilateral.specs.Rows.{CentreRows};
-ghost use Rattle.stack_assoc.specs.Told.{Told};
+ghost use Rattle.stack_assoc.specs.Arrivals.{Arrival};
 ghost use Rattle.tase_map.specs.Inputs.{Item};
 ghost use Rattle.tase_map.specs.Turns.{Turn};
 ghost use Rattle.tase_conn.specs.Talking.{pending_of, next_of, end_in};
@@ -81,7 +81,7 @@ pub(crate) fn print_sent<K: Sink>(
         ++ line_of_end who (end_in conn.old.progress))
         (K.told sink.old) (K.told sink.new) result }
     ensures sent { result ≡ Done → pending_of conn.new ≡ [] }
-    ensures stands { (rows : CentreRows) (items : List Item) (heard : List Told)
+    ensures stands { (rows : CentreRows) (items : List Item) (heard : List Arrival)
         (turns : List Turn) → StandsAt rows items heard turns conn.old
         → StandsAt rows items heard turns conn.new }
     ensures same { IsSent conn.old conn.new }
@@ -97,7 +97,7 @@ fn spell_sent(text: &mut Vec<u8>, who: u64, conn: &mut Conn) -> Result<(), Alloc
     ensures lines { OnOk result (text.new.items ≡ line_of_out who (pending_of conn.old)
         ++ line_of_end who (end_in conn.old.progress)) }
     ensures sent { OnOk result (pending_of conn.new ≡ []) }
-    ensures stands { (rows : CentreRows) (items : List Item) (heard : List Told)
+    ensures stands { (rows : CentreRows) (items : List Item) (heard : List Arrival)
         (turns : List Turn) → StandsAt rows items heard turns conn.old
         → StandsAt rows items heard turns conn.new }
     ensures same { IsSent conn.old conn.new }
@@ -113,7 +113,7 @@ fn put_any_out(text: &mut Vec<u8>, who: u64, conn: &mut Conn) -> Result<(), Allo
     ensures line { OnOk result (text.new.items
         ≡ text.old.items ++ line_of_out who (pending_of conn.old)) }
     ensures sent { OnOk result (pending_of conn.new ≡ []) }
-    ensures stands { (rows : CentreRows) (items : List Item) (heard : List Told)
+    ensures stands { (rows : CentreRows) (items : List Item) (heard : List Arrival)
         (turns : List Turn) → StandsAt rows items heard turns conn.old
         → StandsAt rows items heard turns conn.new }
     ensures same { IsSent conn.old conn.new }
@@ -141,7 +141,7 @@ fn put_out(text: &mut Vec<u8>, who: u64, conn: &mut Conn) -> Result<(), AllocErr
     ensures line { OnOk result (text.new.items ≡ text.old.items ++ codes "out " ++ decimal who
         ++ 32 ∷ hex_text (pending_of conn.old) ++ 10 ∷ []) }
     ensures sent { OnOk result (pending_of conn.new ≡ []) }
-    ensures stands { (rows : CentreRows) (items : List Item) (heard : List Told)
+    ensures stands { (rows : CentreRows) (items : List Item) (heard : List Arrival)
         (turns : List Turn) → StandsAt rows items heard turns conn.old
         → StandsAt rows items heard turns conn.new }
     ensures same { IsSent conn.old conn.new }
@@ -160,7 +160,7 @@ fn put_all(text: &mut Vec<u8>, conn: &mut Conn) -> Result<(), AllocError>
     ensures digits { OnOk result (text.new.items
         ≡ text.old.items ++ hex_text (pending_of conn.old)) }
     ensures sent { OnOk result (pending_of conn.new ≡ []) }
-    ensures stands { (rows : CentreRows) (items : List Item) (heard : List Told)
+    ensures stands { (rows : CentreRows) (items : List Item) (heard : List Arrival)
         (turns : List Turn) → StandsAt rows items heard turns conn.old
         → StandsAt rows items heard turns conn.new }
     ensures same { IsSent conn.old conn.new }
@@ -176,7 +176,7 @@ fn put_pending(text: &mut Vec<u8>, conn: &mut Conn) -> Result<(), AllocError>
     ensures digits { OnOk result (text.new.items ≡ text.old.items ++ hex_text (next_of conn.old)) }
     ensures sent { OnOk result (pending_of conn.new
         ≡ drop (length (next_of conn.old)) (pending_of conn.old)) }
-    ensures stands { (rows : CentreRows) (items : List Item) (heard : List Told)
+    ensures stands { (rows : CentreRows) (items : List Item) (heard : List Arrival)
         (turns : List Turn) → StandsAt rows items heard turns conn.old
         → StandsAt rows items heard turns conn.new }
     ensures same { IsSent conn.old conn.new }

@@ -1,4 +1,5 @@
 mod Duties
+mod Listed
 mod Playing
 mod Telling
 mod Sending

@@ -2,11 +2,11 @@
 use Rattle.std.proofs.Common.{◌≡◌, ◌≢◌, List, [], ◌∷◌, length, None, refl}
 use Rattle.std.specs.Prelude.{String, map, string_bytes}
 use Rattle.std.specs.declared.alloc.Global.{Global}
-use Rattle.tase_tool.specs.Words.{asked_in}
+use Rattle.tase_tool.specs.Words.{task_in}
 
 -- what such words ask for is nothing
 pub unasked : (words : List (String Global)) → length words ≢ 2 → length words ≢ 3
-    → length words ≢ 5 → None ≡ asked_in (map string_bytes words)
+    → length words ≢ 5 → None ≡ task_in (map string_bytes words)
 unasked [] two three five = refl
 unasked (a ∷ []) two three five = refl
 unasked (a ∷ b ∷ []) two three five = absurd (two refl)

@@ -30,7 +30,7 @@ read_said len (Err fault) = prints Input (fault_line fault.place (why_name fault
 abbrev pub pdu_said : List ℕ → Said
 pdu_said octets = read_said (length octets) (pdu.reading 0 octets)
 
--- the same of the octets of a capture; a bad line refuses it
+-- what is said of the PDU that a capture is read to; a bad line refuses the capture
 abbrev pub capture_said : Result (List ℕ) ℕ → Said
 capture_said (Ok octets) = pdu_said octets
 capture_said (Err line) = prints Input (refusal_text (codes "in") (BadLine line))

@@ -1,5 +1,6 @@
 pub mod Words
 pub mod Decoding
+pub mod Listing
 pub mod Saying
 pub mod Tables
 pub mod Sent

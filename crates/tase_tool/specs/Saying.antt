@@ -15,9 +15,9 @@ use Rattle.bilateral.specs.declared.fault.TableFault.{TableFault}
 use Rattle.tase_views.specs.Setup.{Setup}
 use Rattle.tase_replay.specs.Play.{Played, End, done, bad_line, history_full, shown_of}
 use Rattle.tase_replay.specs.Play.{scenario_of}
-use Rattle.tase_tool.specs.Words.{Asked, replays, lists_stream, decodes_pdu}
+use Rattle.tase_tool.specs.Words.{Task, replays, lists_stream, decodes_pdu}
 use Rattle.tase_tool.specs.Decoding.{capture_said}
-use Rattle.capture_listing.specs.Listing.{stream_said}
+use Rattle.tase_tool.specs.Listing.{stream_said}
 
 abbrev pub usage : Said
 usage = prints Usage (codes "usage" ++ 10 ∷ [])
@@ -78,7 +78,7 @@ abbrev pub scenario_duty : CentreRows → ℕ → List ℕ → Text → Duty
 scenario_duty rows limit name text =
     text_duty (codes "scenario") (scenario_said rows limit) name text
 
--- over tables that are read, and with refused ones
+-- the duty to play the text under a name over tables that were read; refused ones are told alone
 abbrev pub duty_over : Result CentreRows Refusal → ℕ → List ℕ → Text → Duty
 duty_over (Ok rows) limit name text = scenario_duty rows limit name text
 duty_over (Err refusal) limit name text =
@@ -92,7 +92,7 @@ duty_after missing limit name text =
     record { is_command = true; says = Some (prints Outside []); inputs = [] }
 duty_after (told octets) limit name text = duty_over (tables_read octets) limit name text
 
--- one more input before the others
+-- a duty with one more input before the others
 abbrev pub opening : List ℕ → Duty → Duty
 opening name duty =
     record { is_command = duty.is_command; says = duty.says; inputs = name ∷ duty.inputs }
@@ -112,7 +112,7 @@ abbrev pub list_duty : List ℕ → Text → Duty
 list_duty name text = text_duty (codes "in") (λ octets. stream_said (capture_in octets)) name text
 
 -- what a run of these words owes, by what is told under each name
-abbrev pub duty_of : Option Asked → (List ℕ → Text) → Duty
+abbrev pub duty_of : Option Task → (List ℕ → Text) → Duty
 duty_of None texts = record { is_command = false; says = Some usage; inputs = [] }
 duty_of (Some (replays tables scenario limit)) texts =
     opening tables (duty_after (texts tables) limit scenario (second_text texts tables scenario))

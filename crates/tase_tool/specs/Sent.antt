@@ -11,7 +11,7 @@ use Rattle.bilateral.specs.Rows.{CentreRows}
 use Rattle.node_core.specs.NodeState.{NodeState}
 use Rattle.tase_replay.specs.Play.{Played, play, first_scene}
 use Rattle.tase_replay.specs.AllSent.{AreSentOver}
-use Rattle.tase_tool.specs.Words.{Asked, replays, lists_stream, decodes_pdu}
+use Rattle.tase_tool.specs.Words.{Task, replays, lists_stream, decodes_pdu}
 use Rattle.tase_tool.specs.Saying.{setup_of, tables_read, second_text}
 
 -- a new node of a centre
@@ -50,7 +50,7 @@ SendsOver (Ok rows) limit text = OnTold (SendsWithin (node_of rows limit)) text
 SendsOver (Err refusal) limit text = Unit {0}
 
 -- and of the replay that words ask for, by what is told under each name
-abbrev pub SendsBy : Option Asked → (List ℕ → Text) → Type 0
+abbrev pub SendsBy : Option Task → (List ℕ → Text) → Type 0
 SendsBy None texts = Unit {0}
 SendsBy (Some (replays tables scenario limit)) texts =
     OnTold (λ octets. SendsOver (tables_read octets) limit (second_text texts tables scenario))

@@ -36,7 +36,8 @@ IsRead (Err (Refused refusal)) octets = tables_read octets ≡ Err refusal
 IsRead (Err Outside) octets = Unit {0}
 IsRead (Err Memory) octets = Unit {0}
 
--- the same of what is told of their text
+-- the centre that tables spell, or why they are refused, by what is told of their text; a missing
+-- text is a fault outside
 abbrev pub IsTables : Result CentreRows InputEnd → Text → Type 0
 IsTables result untold = Unit {0}
 IsTables result missing = result ≡ Err Outside

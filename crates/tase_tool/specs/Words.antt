@@ -8,20 +8,20 @@ use Rattle.tase_tool.specs.declared.words.Command.{Command}
 use Rattle.tase_tool.specs.declared.words.Command.TheVariants.{Replay, Decode, DecodePdu}
 
 -- what words ask for
-pub data Asked : Type 0 where
+pub data Task : Type 0 where
   -- the scenario under the second name is played over the tables under the first, on a node whose
   -- history may weigh so many octets
-  replays : List ℕ → List ℕ → ℕ → Asked
+  replays : List ℕ → List ℕ → ℕ → Task
   -- the messages of the stream that the capture under the name holds are listed
-  lists_stream : List ℕ → Asked
+  lists_stream : List ℕ → Task
   -- the PDU that the capture under the name holds is told
-  decodes_pdu : List ℕ → Asked
+  decodes_pdu : List ℕ → Task
 
 -- what a command asks for
-abbrev pub asked_by : Command → Asked
-asked_by (Replay tables scenario limit) = replays tables.now scenario.now limit
-asked_by (Decode capture) = lists_stream capture.now
-asked_by (DecodePdu capture) = decodes_pdu capture.now
+abbrev pub task_of : Command → Task
+task_of (Replay tables scenario limit) = replays tables.now scenario.now limit
+task_of (Decode capture) = lists_stream capture.now
+task_of (DecodePdu capture) = decodes_pdu capture.now
 
 -- a limit that a history may have
 abbrev pub IsLimited : Command → Type 0
@@ -55,13 +55,13 @@ is_decode_pdu verb option capture =
     bytes_eq verb (codes "decode") && bytes_eq option (codes "--pdu") && is_name capture
 
 -- no other words are a command
-abbrev pub asked_in : List (List ℕ) → Option Asked
-asked_in (first ∷ second ∷ []) =
+abbrev pub task_in : List (List ℕ) → Option Task
+task_in (first ∷ second ∷ []) =
     if is_decode first second then Some (lists_stream second) else None
-asked_in (first ∷ second ∷ third ∷ []) =
+task_in (first ∷ second ∷ third ∷ []) =
     if is_replay first second third then Some (replays second third HISTORY_LIMIT)
     else (if is_decode_pdu first second third then Some (decodes_pdu third) else None)
-asked_in (first ∷ second ∷ third ∷ option ∷ word ∷ []) =
+task_in (first ∷ second ∷ third ∷ option ∷ word ∷ []) =
     if is_replay first second third
     then option_map (λ limit. replays second third limit) (limit_in option word) else None
-asked_in words = None
+task_in words = None

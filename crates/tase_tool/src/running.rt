@@ -2,7 +2,7 @@
 ghost use Rattle.std.specs.Prelude.{◌≡◌, ◌≤◌, ◌^◌, map, string_bytes, Some, IfOk, true, codes};
 ghost use Rattle.command_io.specs.Saying.{texts_of, duty_to_say};
 ghost use Rattle.command_io.specs.Runs.{IsRun, EndsRead, Tells};
-ghost use Rattle.tase_tool.specs.Words.{asked_in, replays};
+ghost use Rattle.tase_tool.specs.Words.{task_in, replays};
 ghost use Rattle.tase_tool.specs.Saying.{scenario_said, scenario_duty, duty_of, played_said};
 ghost use Rattle.tase_tool.specs.Tables.{RunsOver};
 ghost use Rattle.tase_tool.specs.Playing.{EndsPlay};
@@ -42,10 +42,10 @@ use tase_replay::{ReplayEnd, replay};
 /// that they gave to the link, its octets in order, and behind them once how its connection ended.
 pub fn run<O: Outside>(alloc: Global, words: &[String], outside: &mut O) -> Status
     ensures runs { let told = O.told outside.old in
-        IsRun (duty_of (asked_in (map string_bytes words.now)) (texts_of told))
+        IsRun (duty_of (task_in (map string_bytes words.now)) (texts_of told))
         told (O.told outside.new) result }
     ensures sent { is_told result ≡ true
-        → SendsBy (asked_in (map string_bytes words.now)) (texts_of (O.told outside.old)) }
+        → SendsBy (task_in (map string_bytes words.now)) (texts_of (O.told outside.old)) }
 {
     match read_command(words) {
         Some(

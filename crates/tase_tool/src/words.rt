@@ -1,7 +1,7 @@
 //! The words of a command.
 ghost use Rattle.std.specs.Prelude.{◌≡◌, ◌≤◌, [], ◌∷◌, map, string_bytes, IfSome};
 ghost use Rattle.std.specs.Option.{option_map};
-ghost use Rattle.tase_tool.specs.Words.{asked_by, asked_in, IsLimited};
+ghost use Rattle.tase_tool.specs.Words.{task_of, task_in, IsLimited};
 ghost use Rattle.tase_tool.specs.Words as own;
 
 use plain_text::read_number;
@@ -68,7 +68,7 @@ fn is_decode_pdu(verb: &str, option: &str, capture: &str) -> bool
 
 // The command of two words.
 fn of_two<'a>(first: &'a str, second: &'a str) -> Option<Command<'a>>
-    ensures asked { option_map asked_by result ≡ asked_in (first.now ∷ second.now ∷ []) }
+    ensures asked { option_map task_of result ≡ task_in (first.now ∷ second.now ∷ []) }
     ensures limit { IfSome result IsLimited }
 {
     if is_decode(first, second) {
@@ -79,8 +79,8 @@ fn of_two<'a>(first: &'a str, second: &'a str) -> Option<Command<'a>>
 
 // The command of three words.
 fn of_three<'a>(first: &'a str, second: &'a str, third: &'a str) -> Option<Command<'a>>
-    ensures asked { option_map asked_by result
-        ≡ asked_in (first.now ∷ second.now ∷ third.now ∷ []) }
+    ensures asked { option_map task_of result
+        ≡ task_in (first.now ∷ second.now ∷ third.now ∷ []) }
     ensures limit { IfSome result IsLimited }
 {
     if is_replay(first, second, third) {
@@ -117,7 +117,7 @@ fn of_five<'a>(
     word: &'a str,
 ) -> Option<Command<'a>>
     ensures limit { IfSome result IsLimited }
-    ensures asked { option_map asked_by result ≡ asked_in
+    ensures asked { option_map task_of result ≡ task_in
         (first.now ∷ tables.now ∷ scenario.now ∷ option.now ∷ word.now ∷ []) }
 {
     if !is_replay(first, tables, scenario) {
@@ -134,7 +134,7 @@ fn of_five<'a>(
 /// The command of these words; nothing where they are none.
 #[tactic(auto, using(crate::proofs::Unasked::unasked))]
 pub(crate) fn read_command(words: &[String]) -> Option<Command<'_>>
-    ensures asked { option_map asked_by result ≡ asked_in (map string_bytes words.now) }
+    ensures asked { option_map task_of result ≡ task_in (map string_bytes words.now) }
     ensures limit { IfSome result IsLimited }
 {
     match words {

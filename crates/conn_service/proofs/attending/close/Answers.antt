@@ -1,6 +1,6 @@
 use Rattle.std.proofs.Common.{◌≡◌, List, reverse, Option, Some, None, refl, subst}
 use Rattle.std.proofs.lemmas.Bool.{false≢true}
-use Rattle.stack_assoc.specs.Told.{Told}
+use Rattle.stack_assoc.specs.Arrivals.{Arrival}
 use Rattle.bilateral.specs.Rows.{CentreRows}
 use Rattle.tase_views.specs.declared.event.EventKind.{EventKind}
 use Rattle.tase_map.specs.Inputs.{Item}

@@ -1,5 +1,5 @@
 use Rattle.std.proofs.Common.{◌∙◌, sym, refl, Some}
-use Rattle.outside.proofs.Standing.{closes_found, closes_nowhere, named_found}
+use Rattle.outside.proofs.NameEntries.{closes_found, closes_nowhere, named_found}
 use Rattle.outside.proofs.places.close.Goals as goal
 
 pub returns-in-Some-clause-closes : goal.returns-in-Some-clause-closes

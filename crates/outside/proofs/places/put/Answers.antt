@@ -1,5 +1,5 @@
 use Rattle.std.proofs.Common.{◌∙◌, sym, Some}
-use Rattle.outside.proofs.Standing.{puts_found, puts_nowhere, named_found, AllNamed-push}
+use Rattle.outside.proofs.NameEntries.{puts_found, puts_nowhere, named_found, AllNamed-push}
 use Rattle.outside.proofs.places.put.Goals as goal
 
 pub returns-in-Some-clause-told : goal.returns-in-Some-clause-told

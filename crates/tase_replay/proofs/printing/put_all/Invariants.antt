@@ -1,7 +1,7 @@
 use Rattle.std.proofs.Common.{◌≡◌, List, ◌++◌, length}
 use Rattle.plain_text.specs.Octets.{hex_text}
 use Rattle.bilateral.specs.Rows.{CentreRows}
-use Rattle.stack_assoc.specs.Told.{Told}
+use Rattle.stack_assoc.specs.Arrivals.{Arrival}
 use Rattle.tase_map.specs.Inputs.{Item}
 use Rattle.tase_map.specs.Turns.{Turn}
 use Rattle.tase_conn.specs.Talking.{pending_of}
@@ -13,7 +13,7 @@ abbrev pub invariant-loop-text : goal.invariant-loop-text
 invariant-loop-text l = record {
   digits : l.text.items ++ hex_text (pending_of l.conn)
       ≡ l.fn.text.items ++ hex_text (pending_of l.fn.conn);
-  stands : (rows : CentreRows) (items : List Item) (heard : List Told)
+  stands : (rows : CentreRows) (items : List Item) (heard : List Arrival)
       (turns : List Turn) → StandsAt rows items heard turns l.fn.conn
       → StandsAt rows items heard turns l.conn;
   same : IsSent l.fn.conn l.conn;

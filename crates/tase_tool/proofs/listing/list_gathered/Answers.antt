@@ -5,7 +5,7 @@ use Rattle.outside.proofs.Writing.{AppendsPart-none}
 use Rattle.command_io.specs.Runs.{Tells}
 use Rattle.command_io.specs.declared.status.Status.TheVariants.{Outside}
 use Rattle.stream_listing.specs.Listings.{listing_of}
-use Rattle.capture_listing.specs.Listing.{listing_said}
+use Rattle.tase_tool.specs.Listing.{listing_said}
 use Rattle.tase_tool.proofs.Playing.{Tells-handed, Tells-unhanded, Tells-failed}
 use Rattle.tase_tool.proofs.listing.list_gathered.Goals as goal
 

@@ -1,8 +1,8 @@
 use Rattle.std.proofs.Common.{true, refl}
 use Rattle.command_io.proofs.Printing.{IsRun-printed, IsRun-unprinted}
 use Rattle.stream_listing.specs.Listings.{listing_of}
-use Rattle.capture_listing.specs.Listing.{listing_said}
-use Rattle.capture_listing.proofs.Listed.{lists_command}
+use Rattle.tase_tool.specs.Listing.{listing_said}
+use Rattle.tase_tool.proofs.Listed.{lists_command}
 use Rattle.tase_tool.proofs.listing.list_on_output.Goals as goal
 
 pub returns-in_default : goal.returns-in_default

@@ -1,6 +1,6 @@
 use Rattle.std.proofs.Common.{codes}
 use Rattle.capture_text.specs.Captures.{capture_in}
-use Rattle.capture_listing.specs.Listing.{stream_said}
+use Rattle.tase_tool.specs.Listing.{stream_said}
 use Rattle.tase_tool.proofs.Duties.{IsRun-read}
 use Rattle.tase_tool.proofs.listing.run_listing.Goals as goal
 

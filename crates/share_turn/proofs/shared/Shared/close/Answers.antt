@@ -1,7 +1,7 @@
 use Rattle.std.proofs.Common.{ap, sym, ◌∙◌, subst, length}
 use Rattle.share_turn.specs.Entries.{Each, Keeps, Claims}
 use Rattle.share_turn.specs.Public.{numbers}
-use Rattle.share_turn.specs.declared.known.Phase.TheVariants.{Waiting}
+use Rattle.share_turn.specs.declared.seat_view.Phase.TheVariants.{Waiting}
 use Rattle.share_turn.proofs.Called.{closes}
 use Rattle.share_turn.proofs.shared.Shared.close.Goals as goal
 

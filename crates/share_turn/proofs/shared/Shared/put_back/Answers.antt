@@ -1,5 +1,5 @@
 use Rattle.std.proofs.Common.{rules, sym, subst}
-use Rattle.share_turn.specs.Steps.{Told}
+use Rattle.share_turn.specs.Steps.{ClaimsHold}
 use Rattle.share_turn.proofs.Turning.{puts_back, publishes}
 use Rattle.share_turn.proofs.shared.Shared.put_back.Goals as goal
 
@@ -23,4 +23,4 @@ store-requires g c = (
 pub returns-clause-told : goal.returns-clause-told
 returns-clause-told g c = let told = (c.load.ensures.2 c.args.ticket c.args.object (search rules)
     (search rules)).1 in
-    subst (λ m. Told m.0) (sym (c.store.ensures.2 c.args.ticket (search rules))) told
+    subst (λ m. ClaimsHold m.0) (sym (c.store.ensures.2 c.args.ticket (search rules))) told

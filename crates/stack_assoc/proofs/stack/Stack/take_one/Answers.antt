@@ -3,7 +3,7 @@ use Rattle.tpkt_cotp.specs.declared.message.TransportIn.{TransportIn}
 use Rattle.tpkt_cotp.specs.declared.fault.CotpFault.{CotpFault}
 use Rattle.tpkt_cotp.specs.Lines as lines
 use Rattle.tpkt_cotp.specs.Lines.{Line}
-use Rattle.stack_assoc.specs.Told.{end_of}
+use Rattle.stack_assoc.specs.Arrivals.{end_of}
 use Rattle.stack_assoc.specs.declared.taken.Opening.TheVariants as openings
 use Rattle.stack_assoc.specs.Courses.{Course}
 use Rattle.stack_assoc.specs.Steps.{opened_with}

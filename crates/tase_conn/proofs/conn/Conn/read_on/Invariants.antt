@@ -2,7 +2,7 @@ use Rattle.std.proofs.Common.{◌≡◌, List}
 use Rattle.tase_map.specs.Inputs.{Item}
 use Rattle.tase_map.specs.Turns.{Turn}
 use Rattle.bilateral.specs.Rows.{CentreRows}
-use Rattle.stack_assoc.specs.Told.{Told}
+use Rattle.stack_assoc.specs.Arrivals.{Arrival}
 use Rattle.tase_conn.specs.Places.{StandsAt, IsPlaced}
 use Rattle.tase_conn.specs.Wanting.{Passes, IsIdle}
 use Rattle.tase_conn.specs.Acting.{weight}
@@ -13,7 +13,7 @@ invariant-loop-self l = record {
   placed : IsPlaced l.self;
   idle : IsIdle l.self.progress;
   stage : l.self.stage ≡ l.initial.self.stage;
-  passes : (rows : CentreRows) (items : List Item) (told : List Told) (turns : List Turn)
+  passes : (rows : CentreRows) (items : List Item) (told : List Arrival) (turns : List Turn)
       → StandsAt rows items told turns l.initial.self
       → Passes rows items told turns l.initial.self l.self;
 }

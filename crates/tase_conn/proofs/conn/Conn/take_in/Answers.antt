@@ -1,5 +1,5 @@
 use Rattle.std.proofs.Common.{◌≡◌, false, true, sym, ◌∙◌}
-use Rattle.stack_assoc.specs.Told.{called}
+use Rattle.stack_assoc.specs.Arrivals.{called}
 use Rattle.tase_map.specs.Inputs.{piece, text_of}
 use Rattle.tase_conn.specs.contracts.conn.Conn.{the_view}
 use Rattle.tase_conn.specs.Talking.{is_running}

@@ -1,7 +1,7 @@
 use Rattle.std.proofs.Common.{true, subst, ap, ◌∙◌}
 use Rattle.outside.specs.Sink.{AppendsPart, WritesAll}
-use Rattle.capture_listing.proofs.Listed.{stopped_piece}
-use Rattle.capture_listing.proofs.printing.list_piece.Goals as goal
+use Rattle.tase_tool.proofs.Listed.{stopped_piece}
+use Rattle.tase_tool.proofs.listing.list_piece.Goals as goal
 
 pub returns-in-Err : goal.returns-in-Err
 returns-in-Err g c =

@@ -11,7 +11,7 @@ use Rattle.command_io.specs.Saying.{prints}
 use Rattle.command_io.specs.Runs.{Tells}
 use Rattle.stream_listing.specs.Listings.{Listing, State, listing_of, yet_listed, with_text, ListsPiece}
 use Rattle.stream_listing.proofs.Listing.{with_text-twice}
-use Rattle.capture_listing.specs.Listing.{status_of, listing_said, ListsOn}
+use Rattle.tase_tool.specs.Listing.{status_of, listing_said, ListsOn}
 
 -- a listing is no answer to words that are no command
 pub lists_command : (listing : Listing) (k l : SinkTold) (status : Status)

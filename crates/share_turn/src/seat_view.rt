@@ -1,7 +1,7 @@
 //! What a seat at the table knows.
 ghost use Rattle.std.specs.Prelude.{ℕ, List};
 ghost use Rattle.std.specs.Borrow.{ftrue};
-ghost use Rattle.share_turn.specs.declared.known.Phase.{Phase};
+ghost use Rattle.share_turn.specs.declared.seat_view.Phase.{Phase};
 
 use std::marker::{Model, PhantomData};
 
@@ -24,7 +24,7 @@ pub enum Phase {
 }
 
 /// What a seat knows. No value of it is made.
-pub struct Known<E, T> {
+pub struct SeatView<E, T> {
     of: PhantomData<(E, T)>,
     /// The setup of the object, once, while the seat lives.
     pub ghost setup: { List T },
@@ -41,6 +41,6 @@ pub struct Known<E, T> {
     pub ghost phase: { Phase },
 }
 
-impl<E, T> Model for Known<E, T> {
+impl<E, T> Model for SeatView<E, T> {
     ghost also_owns = { λ _. ftrue };
 }

@@ -8,7 +8,7 @@ use Rattle.std.proofs.lemmas.Bool.Decides.{nat_tests}
 use Rattle.std.proofs.lemmas.List.Quantifiers.{position-Some}
 use Rattle.std.proofs.lemmas.List.Sums.{fails_before_first}
 use Rattle.std.proofs.lemmas.Slice.Eq.{bytes_eq-Decides}
-use Rattle.outside.specs.Outside.{Standing, untold, missing, lent, there, Changes, lent_from, put_back_at}
+use Rattle.outside.specs.Outside.{NameEntry, untold, missing, lent, there, Changes, lent_from, put_back_at}
 use Rattle.outside.specs.Places.{at_place, standing, object_there, PutsUnder, AllNamed}
 
 -- the places with this at the name, where the name is there
@@ -27,19 +27,19 @@ none_passes : {X : Type 0} (p : X → Bool) (xs : List X) → position p xs ≡ 
 none_passes p xs none = grind (arith, nat_tests)
 
 -- what stands under the name then
-abbrev over : {X : Type 0} → Option X → Standing X → Standing X
+abbrev over : {X : Type 0} → Option X → NameEntry X → NameEntry X
 over {X} object untold = untold
 over {X} object missing = missing
 over {X} object lent = at_place object
 over {X} object (there x) = at_place object
 
-over-none : {X : Type 0} (s : Standing X) → over None s ≡ lent_from s
+over-none : {X : Type 0} (s : NameEntry X) → over None s ≡ lent_from s
 over-none untold = refl
 over-none missing = refl
 over-none lent = refl
 over-none (there x) = refl
 
-over-some : {X : Type 0} (object : X) (s : Standing X) → over (Some object) s ≡ put_back_at s object
+over-some : {X : Type 0} (object : X) (s : NameEntry X) → over (Some object) s ≡ put_back_at s object
 over-some object untold = refl
 over-some object missing = refl
 over-some object lent = refl
@@ -226,13 +226,13 @@ module _ {X : Type 0} (name : List ℕ) where
   ]
 
   -- what an open, a close and a put leave
-  pub changes_placed : (change : Standing X → Standing X) (places after : List (List ℕ × Option X))
+  pub changes_placed : (change : NameEntry X → NameEntry X) (places after : List (List ℕ × Option X))
       (object : Option X)
-      → ((s : Standing X) → over object s ≡ change s) → after ≡ placed places name object
+      → ((s : NameEntry X) → over object s ≡ change s) → after ≡ placed places name object
       → Changes change (standing places) (standing after) name
   changes_placed change places after object same is =
       λ n. ap (λ (l : List (List ℕ × Option X)). standing l n) is ∙ standing-placed places object n
-      ∙ ap (λ (s : Standing X). cond (bytes_eq n name) s (standing places n))
+      ∙ ap (λ (s : NameEntry X). cond (bytes_eq n name) s (standing places n))
       (same (standing places n))
 
   pub lends_found : (places : List (List ℕ × Option X)) (i : ℕ) (here after : List ℕ × Option X)

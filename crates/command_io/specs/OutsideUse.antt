@@ -6,7 +6,7 @@ use Rattle.outside.specs.Faults.{next_count}
 use Rattle.outside.specs.Source.{SourceTold}
 use Rattle.outside.specs.Sink.{SinkTold, Appends}
 use Rattle.outside.specs.Text.{TextResult, ReadsText}
-use Rattle.outside.specs.Outside.{Standing, untold, missing, lent, there, OutsideTold, Asks, Acts}
+use Rattle.outside.specs.Outside.{NameEntry, untold, missing, lent, there, OutsideTold, Asks, Acts}
 use Rattle.command_io.specs.declared.input.TheConstants.{TEXT_LIMIT}
 
 -- a count of faults after so many more
@@ -58,7 +58,7 @@ EachOf (name ∷ names) fact = fact name × EachOf names fact
 
 module _ {X : Type 0} (faults : X → ℕ) where
   -- an object stands there again, with no fewer faults, and with no more unless the call failed
-  abbrev pub StandsAgain : Bool → Standing X → Standing X → Type 0
+  abbrev pub StandsAgain : Bool → NameEntry X → NameEntry X → Type 0
   StandsAgain failed untold after = after ≡ untold
   StandsAgain failed missing after = after ≡ missing
   StandsAgain failed lent after = after ≡ lent
@@ -67,21 +67,21 @@ module _ {X : Type 0} (faults : X → ℕ) where
       × (failed ≡ false → faults y ≡ faults x)
 
   -- no object is told to stand there, or the one that stands there has failed since
-  abbrev pub FailedAt : Standing X → Standing X → Type 0
+  abbrev pub FailedAt : NameEntry X → NameEntry X → Type 0
   FailedAt untold after = Unit {0}
   FailedAt missing after = Unit {0}
   FailedAt lent after = Unit {0}
   FailedAt (there x) after = (y : X) × (after ≡ there y) × Rises (faults x) (faults y)
 
   -- no object is told to stand there, or the one that stands there has a fault, however old
-  abbrev pub FaultyAt : Standing X → Standing X → Type 0
+  abbrev pub FaultyAt : NameEntry X → NameEntry X → Type 0
   FaultyAt untold after = Unit {0}
   FaultyAt missing after = Unit {0}
   FaultyAt lent after = Unit {0}
   FaultyAt (there x) after = (y : X) × (after ≡ there y) × (0 < faults y)
 
   -- the object that stands there, if one does, has no fault
-  abbrev pub CleanAt : Standing X → Type 0
+  abbrev pub CleanAt : NameEntry X → Type 0
   CleanAt untold = Unit {0}
   CleanAt missing = Unit {0}
   CleanAt lent = Unit {0}
@@ -89,7 +89,7 @@ module _ {X : Type 0} (faults : X → ℕ) where
 
 module _ {X : Type 0} (faults : X → ℕ) (step : X → X → Type 0) where
   -- what stands under other names is as before, and under these names something stands again
-  pub record Keeps (failed : Bool) (names : List (List ℕ)) (before after : List ℕ → Standing X)
+  pub record Keeps (failed : Bool) (names : List (List ℕ)) (before after : List ℕ → NameEntry X)
       : Type 0 where
     pub others : (name : List ℕ) → is_among names name ≡ false → after name ≡ before name
     pub again : (name : List ℕ) → StandsAgain faults failed (before name) (after name)

@@ -3,7 +3,7 @@ ghost use Rattle.std.specs.Prelude.{◌≡◌};
 ghost use Rattle.stack_assoc.specs.Courses.{standing_with, state_by, is_offered, finishing};
 ghost use Rattle.stack_assoc.specs.Courses.{offered_by};
 ghost use Rattle.stack_assoc.specs.Handing.{is_offer};
-ghost use Rattle.stack_assoc.specs.Told.{heard};
+ghost use Rattle.stack_assoc.specs.Arrivals.{heard};
 
 use crate::input::StackState;
 use crate::offer::is_offer;
@@ -11,7 +11,7 @@ use stack_messages::Heard;
 
 /// How far an end has come with the offer and the association.
 #[derive(Clone, Copy, Debug, PartialEq, Eq)]
-pub(crate) enum Standing {
+pub(crate) enum EndState {
     /// There is no offer yet, or, at the calling end, no answer.
     Waiting,
     /// An offer that may be accepted stands unanswered.
@@ -26,13 +26,13 @@ pub(crate) enum Standing {
     Closed,
 }
 
-impl Standing {
+impl EndState {
     /// Whether an offer stands unanswered.
     pub(crate) fn is_offered(self) -> bool
         ensures { result ≡ is_offered self }
     {
         match self {
-            Standing::Offered | Standing::BadlyOffered => true,
+            EndState::Offered | EndState::BadlyOffered => true,
             _ => false,
         }
     }
@@ -41,44 +41,44 @@ impl Standing {
         ensures { result ≡ state_by self }
     {
         match self {
-            Standing::Waiting => StackState::Waiting,
-            Standing::Offered | Standing::BadlyOffered => StackState::Offered,
-            Standing::Accepted | Standing::Finishing => StackState::Accepted,
-            Standing::Closed => StackState::Ended,
+            EndState::Waiting => StackState::Waiting,
+            EndState::Offered | EndState::BadlyOffered => StackState::Offered,
+            EndState::Accepted | EndState::Finishing => StackState::Accepted,
+            EndState::Closed => StackState::Ended,
         }
     }
 
-    fn finishing(self) -> Standing
+    fn finishing(self) -> EndState
         ensures { result ≡ finishing self }
     {
         match self {
-            Standing::Accepted => Standing::Finishing,
+            EndState::Accepted => EndState::Finishing,
             other => other,
         }
     }
 
     /// Behind a message more.
-    pub(crate) fn with_heard(self, message: &Heard) -> Standing
+    pub(crate) fn with_heard(self, message: &Heard) -> EndState
         ensures { result ≡ standing_with self (heard message.now) }
     {
         match message {
             Heard::Connect(connecting) => offered(is_offer(connecting)),
-            Heard::Accept(_) => Standing::Accepted,
+            Heard::Accept(_) => EndState::Accepted,
             Heard::Finish => self.finishing(),
             Heard::Refuse | Heard::Disconnect | Heard::Abort | Heard::AbortAccept => {
-                Standing::Closed
+                EndState::Closed
             }
             Heard::Pdu(_) | Heard::BadRequest { .. } => self,
         }
     }
 }
 
-fn offered(may_be_accepted: bool) -> Standing
+fn offered(may_be_accepted: bool) -> EndState
     ensures { result ≡ offered_by may_be_accepted }
 {
     if may_be_accepted {
-        Standing::Offered
+        EndState::Offered
     } else {
-        Standing::BadlyOffered
+        EndState::BadlyOffered
     }
 }

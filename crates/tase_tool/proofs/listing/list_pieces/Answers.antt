@@ -1,7 +1,7 @@
 use Rattle.std.proofs.Common.{◌≡◌, ◌++◌, ◌∙◌, ℕ, List, [], length, take, ap, subst, rules, arith}
 use Rattle.tpkt_cotp.specs.declared.limits.TheConstants.{PIECE_LIMIT}
-use Rattle.capture_listing.proofs.Listed.{Stands, Stands-end, Stands-next, Stands-stop}
-use Rattle.capture_listing.proofs.printing.list_pieces.Goals as goal
+use Rattle.tase_tool.proofs.Listed.{Stands, Stands-end, Stands-next, Stands-stop}
+use Rattle.tase_tool.proofs.listing.list_pieces.Goals as goal
 
 pub returns-then-count-eq0 : goal.returns-then-count-eq0
 returns-then-count-eq0 g c =

@@ -1,4 +1,4 @@
--- What the messages of a stream tell, and who reads them.
+-- What the messages of a stream tell, and the end that reads them.
 use Rattle.std.specs.Prelude.{ℕ, Bool, true, false, List, [], ◌∷◌, Option, Some, None}
 use Rattle.tpkt_cotp.specs.declared.tpdu.ConnectRequest.{ConnectRequest}
 use Rattle.tpkt_cotp.specs.declared.tpdu.ConnectConfirm.{ConnectConfirm}
@@ -13,15 +13,15 @@ use Rattle.stack_messages.specs.declared.heard.Accepting.{Accepting}
 use Rattle.stack_messages.specs.declared.heard.Heard.{Heard}
 use Rattle.stack_messages.specs.declared.heard.Heard.TheVariants as heards
 
--- what one message tells
-pub data Told : Type 0 where
+-- what has come in one message
+pub data Arrival : Type 0 where
   -- a connect request and a connect confirm of the transport
-  asked : ConnectRequest → Told
-  confirmed : ConnectConfirm → Told
+  asked : ConnectRequest → Arrival
+  confirmed : ConnectConfirm → Arrival
   -- the transport has ended
-  gone : Told
+  gone : Arrival
   -- a message of the association
-  heard : Heard → Told
+  heard : Heard → Arrival
 
 -- the end that reads
 pub data Role : Type 0 where
@@ -29,7 +29,7 @@ pub data Role : Type 0 where
   -- its title, if it has one, and after how many messages it first said conclude, if it did
   calling : Option (List ℕ) → Option ℕ → Role
 
--- the same to the transport, and to the layers above it
+-- the end that reads, as the transport names it, and as the layers above it do
 abbrev pub end_of : Role → transport.Role
 end_of called = ends.Called
 end_of (calling title said) = ends.Calling
@@ -50,12 +50,12 @@ first_in f [] = None
 first_in f (x ∷ xs) = or_else (f x) (first_in f xs)
 
 -- what a connect request or confirm says of the size of TPDUs
-abbrev pub size_in : Told → Option (Option ℕ)
+abbrev pub size_in : Arrival → Option (Option ℕ)
 size_in (asked r) = Some r.parameters.size
 size_in (confirmed c) = Some c.parameters.size
 size_in _ = None
 
-abbrev pub confirm_in : Told → Option ConnectConfirm
+abbrev pub confirm_in : Arrival → Option ConnectConfirm
 confirm_in (confirmed c) = Some c
 confirm_in _ = None
 
@@ -63,7 +63,7 @@ abbrev pub connect_heard : Heard → Option Connecting
 connect_heard (heards.Connect c) = Some c
 connect_heard _ = None
 
-abbrev pub connect_in : Told → Option Connecting
+abbrev pub connect_in : Arrival → Option Connecting
 connect_in (heard h) = connect_heard h
 connect_in _ = None
 
@@ -71,7 +71,7 @@ abbrev pub accept_heard : Heard → Option Accepting
 accept_heard (heards.Accept a) = Some a
 accept_heard _ = None
 
-abbrev pub accept_in : Told → Option Accepting
+abbrev pub accept_in : Arrival → Option Accepting
 accept_in (heard h) = accept_heard h
 accept_in _ = None
 
@@ -79,7 +79,7 @@ abbrev pub pdu_heard : Heard → Option MmsPdu
 pdu_heard (heards.Pdu p) = Some p
 pdu_heard _ = None
 
-abbrev pub pdu_in : Told → Option MmsPdu
+abbrev pub pdu_in : Arrival → Option MmsPdu
 pdu_in (heard h) = pdu_heard h
 pdu_in _ = None
 
@@ -87,7 +87,7 @@ abbrev pub is_refuse_heard : Heard → Bool
 is_refuse_heard heards.Refuse = true
 is_refuse_heard _ = false
 
-abbrev pub is_refuse : Told → Bool
+abbrev pub is_refuse : Arrival → Bool
 is_refuse (heard h) = is_refuse_heard h
 is_refuse _ = false
 
@@ -99,8 +99,8 @@ abbrev pub is_concluded_pdu : Option MmsPdu → Bool
 is_concluded_pdu (Some pdus.Concluded) = true
 is_concluded_pdu _ = false
 
-abbrev pub is_conclude : Told → Bool
+abbrev pub is_conclude : Arrival → Bool
 is_conclude t = is_conclude_pdu (pdu_in t)
 
-abbrev pub is_concluded : Told → Bool
+abbrev pub is_concluded : Arrival → Bool
 is_concluded t = is_concluded_pdu (pdu_in t)

@@ -3,7 +3,7 @@ ghost use Rattle.std.specs.Prelude.{◌≡◌};
 ghost use Rattle.stack_assoc.specs.Knowing.{nothing_known, known_with, phase_by, expecting_by};
 ghost use Rattle.stack_assoc.specs.Knowing.{called_phase, calling_phase};
 ghost use Rattle.stack_assoc.specs.Taking.{opening_told};
-ghost use Rattle.stack_assoc.specs.Told.{heard};
+ghost use Rattle.stack_assoc.specs.Arrivals.{heard};
 
 use crate::taken::Opening;
 use mms_services::MmsPdu;
@@ -11,7 +11,7 @@ use stack_messages::{Expecting, Heard, Phase, Side};
 
 /// What has come, as far as it decides what may come now.
 #[derive(Clone, Copy)]
-pub(crate) struct Known {
+pub(crate) struct Milestones {
     pub(crate) side: Side,
     /// A connect request or confirm of the transport.
     pub(crate) begun: bool,
@@ -28,12 +28,12 @@ pub(crate) struct Known {
     pub(crate) said: bool,
 }
 
-impl Known {
+impl Milestones {
     /// Nothing has come.
-    pub(crate) fn new(side: Side) -> Known
+    pub(crate) fn new(side: Side) -> Milestones
         ensures { result ≡ nothing_known side }
     {
-        Known {
+        Milestones {
             side,
             begun: false,
             confirmed: false,
@@ -69,15 +69,15 @@ impl Known {
     }
 
     /// An opening more.
-    pub(crate) fn with_opening(self, opening: &Opening) -> Known
+    pub(crate) fn with_opening(self, opening: &Opening) -> Milestones
         ensures { result ≡ known_with self (opening_told opening.now) }
     {
         match opening {
-            Opening::Request(_) => Known {
+            Opening::Request(_) => Milestones {
                 begun: true,
                 ..self
             },
-            Opening::Confirm(_) => Known {
+            Opening::Confirm(_) => Milestones {
                 begun: true,
                 confirmed: true,
                 ..self
@@ -86,27 +86,27 @@ impl Known {
     }
 
     /// A message of the association more.
-    pub(crate) fn with_heard(self, message: &Heard) -> Known
+    pub(crate) fn with_heard(self, message: &Heard) -> Milestones
         ensures { result ≡ known_with self (heard message.now) }
     {
         match message {
-            Heard::Connect(_) => Known {
+            Heard::Connect(_) => Milestones {
                 connected: true,
                 ..self
             },
-            Heard::Accept(_) => Known {
+            Heard::Accept(_) => Milestones {
                 accepted: true,
                 ..self
             },
-            Heard::Refuse => Known {
+            Heard::Refuse => Milestones {
                 refused: true,
                 ..self
             },
-            Heard::Pdu(MmsPdu::Conclude) => Known {
+            Heard::Pdu(MmsPdu::Conclude) => Milestones {
                 concluding: true,
                 ..self
             },
-            Heard::Pdu(MmsPdu::Concluded) => Known {
+            Heard::Pdu(MmsPdu::Concluded) => Milestones {
                 concluded: true,
                 ..self
             },

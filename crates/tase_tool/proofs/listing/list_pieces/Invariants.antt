@@ -1,7 +1,7 @@
 use Rattle.std.proofs.Common.{◌≡◌, length}
 use Rattle.tpkt_cotp.specs.declared.limits.TheConstants.{PIECE_LIMIT}
-use Rattle.capture_listing.proofs.Listed.{Stands}
-use Rattle.capture_listing.proofs.printing.list_pieces.Given as goal
+use Rattle.tase_tool.proofs.Listed.{Stands}
+use Rattle.tase_tool.proofs.listing.list_pieces.Given as goal
 
 abbrev pub invariant-loop-pieces : goal.invariant-loop-pieces
 invariant-loop-pieces g l = record {
