@@ -14,7 +14,7 @@ use Rattle.std.proofs.lemmas.List.{append-nil, length-append, length_push, get_o
 use Rattle.std.proofs.lemmas.List.{get_or_at, get_or_push, set_at}
 use Rattle.std.proofs.lemmas.List.Elements.{All-head, All-tail}
 use Rattle.std.proofs.lemmas.Iterator.Adapters.{position_from-zero}
-use Rattle.bilateral.specs.declared.given.Given.{Given}
+use Rattle.bilateral.specs.declared.limit_rows.LimitRows.{LimitRows}
 use Rattle.bilateral.specs.declared.line.TableLine.{TableLine}
 use Rattle.bilateral.specs.declared.line.TableLine.TheVariants.{Point, Device, Peer, Slots, Sets}
 use Rattle.bilateral.specs.declared.line.TableLine.TheVariants.{Pending}
@@ -24,7 +24,8 @@ use Rattle.bilateral.specs.declared.rows.See.{See as SeeRow}
 use Rattle.bilateral.specs.declared.rows.Control.{Control as ControlRow}
 use Rattle.bilateral.specs.declared.rows.Table.{Table}
 use Rattle.bilateral.specs.declared.rows.TheConstants.{DEVICE_LIMIT, PEER_LIMIT, POINT_LIMIT}
-use Rattle.bilateral.specs.declared.rows.TheConstants.{SEE_LIMIT, SPAN_LIMIT}
+use Rattle.sbo_device.specs.declared.device.TheConstants.{SPAN_LIMIT}
+use Rattle.bilateral.specs.declared.rows.TheConstants.{SEE_LIMIT}
 use Rattle.bilateral.specs.Rows.{CentreRows, IsCentre, IsTable, IsControlling, IsDevice, no_table}
 use Rattle.bilateral.specs.Rows.{no_point, no_device}
 use Rattle.bilateral.specs.Rows.{place_of_see, place_of_control}
@@ -138,7 +139,7 @@ same_titles (Some a) (Some b) same = ap Some (same_octets a b same)
 abbrev rows_by : List PointRow → List DeviceRow → List Table → CentreRows
 rows_by points devices tables = record { points = points; devices = devices; tables = tables }
 
-abbrev so_far_by : List PointRow → List DeviceRow → List Table → Given → SoFar
+abbrev so_far_by : List PointRow → List DeviceRow → List Table → LimitRows → SoFar
 so_far_by points devices tables given =
     record { rows = rows_by points devices tables; given = given }
 
@@ -239,7 +240,7 @@ module _ (points : List PointRow) (devices : List DeviceRow) (done : List Table)
       ∙ ap (λ t. set (done ++ table ∷ []) (length done) (g t)) last_is
       ∙ set_at done table [] (g table) (length done) refl)
 
-abbrev given_by : Bool → Bool → Bool → Given
+abbrev given_by : Bool → Bool → Bool → LimitRows
 given_by slots sets pending = record { slots = slots; sets = sets; pending = pending }
 
 -- a table with these rows and limits, and all else of another
@@ -267,7 +268,7 @@ control_of device row = record row { device = device }
 
 -- the rows of a table, one after another
 sees_grow : (rows : CentreRows) → AllPairs (λ a b. a.name ≢ b.name) rows.points
-    → (done : List Table) (table : Table) (given : Given) (before more : List SeeRow)
+    → (done : List Table) (table : Table) (given : LimitRows) (before more : List SeeRow)
     → All (λ see. see.point < length rows.points) more
     → AllPairs (λ a b. a.point ≢ b.point) (before ++ more) → length (before ++ more) ≤ SEE_LIMIT
     → Grows (so_far_by rows.points rows.devices (done ++ with_sees table before ∷ []) given)
@@ -309,7 +310,7 @@ sees_grow rows names done table given before (see ∷ more) known once limit =
     (subst (λ (ss : List SeeRow). length ss ≤ SEE_LIMIT) (sym same) limit)))
 
 controls_grow : (rows : CentreRows) → AllPairs (λ a b. a.name ≢ b.name) rows.devices
-    → (done : List Table) (table : Table) (given : Given) (before more : List ControlRow)
+    → (done : List Table) (table : Table) (given : LimitRows) (before more : List ControlRow)
     → All (λ row. row.device < length rows.devices) more
     → AllPairs (λ a b. a.device ≢ b.device) (before ++ more)
     → length (before ++ more) ≤ DEVICE_LIMIT
@@ -406,7 +407,7 @@ limits_grow points devices done table =
 -- the lines of a table, behind those of the tables before it
 module _ (rows : CentreRows) (lawful : IsCentre rows) (done : List Table) (table : Table)
     (more : List Table) (parts : rows.tables ≡ done ++ table ∷ more) where
-  peer_free : (given : Given)
+  peer_free : (given : LimitRows)
       → row_fault (so_far_by rows.points rows.devices done given) (Peer (empty_table table))
       ≡ None
   peer_free given =
@@ -442,7 +443,7 @@ module _ (rows : CentreRows) (lawful : IsCentre rows) (done : List Table) (table
       (controls_grow rows lawful.device_names done seen given [] table.controls
       controlling.known controlling.once controlling.limit)
 
-  table_grows : (given : Given)
+  table_grows : (given : LimitRows)
       → Grows (so_far_by rows.points rows.devices done given) (table_lines rows table)
       (so_far_by rows.points rows.devices (done ++ table ∷ []) (given_by true true true))
   table_grows given = (
@@ -457,9 +458,9 @@ module _ (rows : CentreRows) (lawful : IsCentre rows) (done : List Table) (table
   )
 
 -- the lines of tables, behind those of the tables before them
-tables_grow : (rows : CentreRows) → IsCentre rows → (done more : List Table) (given : Given)
+tables_grow : (rows : CentreRows) → IsCentre rows → (done more : List Table) (given : LimitRows)
     → rows.tables ≡ done ++ more
-    → (last : Given)
+    → (last : LimitRows)
     × Grows (so_far_by rows.points rows.devices done given) (flat_map (table_lines rows) more)
     (so_far_by rows.points rows.devices (done ++ more) last)
 tables_grow rows lawful done [] given parts = (

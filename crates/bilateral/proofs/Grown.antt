@@ -19,7 +19,8 @@ use Rattle.bilateral.specs.declared.rows.DeviceRow.{DeviceRow}
 use Rattle.bilateral.specs.declared.rows.See.{See as SeeRow}
 use Rattle.bilateral.specs.declared.rows.Control.{Control as ControlRow}
 use Rattle.bilateral.specs.declared.rows.Table.{Table}
-use Rattle.bilateral.specs.declared.rows.TheConstants.{DEVICE_LIMIT, SEE_LIMIT, SPAN_LIMIT}
+use Rattle.bilateral.specs.declared.rows.TheConstants.{DEVICE_LIMIT, SEE_LIMIT}
+use Rattle.sbo_device.specs.declared.device.TheConstants.{SPAN_LIMIT}
 use Rattle.bilateral.specs.declared.rows.TheConstants.{SLOT_LIMIT, SET_LIMIT, PENDING_LEAST}
 use Rattle.bilateral.specs.declared.rows.TheConstants.{PENDING_LIMIT}
 use Rattle.tase_points.specs.Layouts.{IsLayout}
@@ -275,7 +276,7 @@ IsTable-with_see points table see lawful known fresh room layout = record {
   pending = lawful.pending;
 }
 
--- the same for a device
+-- a table with a row more, for a device that is there and has no row yet
 pub IsControlling-with_control : (devices : ℕ) (table : Table) (row : ControlRow)
     → IsControlling devices table → row.device < devices
     → place_of_control table row.device ≡ None → length table.controls < DEVICE_LIMIT
@@ -289,84 +290,61 @@ IsControlling-with_control devices table row lawful known fresh room = record {
   limit = omega (arith, length_push table.controls row, room);
 }
 
+-- a table with other rows for devices, and with other limits, each in its range
+table_with : (points : ℕ) (table : Table) (controls : List ControlRow) (slots sets pending : ℕ)
+    → IsTable points table → 1 ≤ slots → slots ≤ SLOT_LIMIT → 1 ≤ sets → sets ≤ SET_LIMIT
+    → PENDING_LEAST ≤ pending → pending ≤ PENDING_LIMIT
+    → IsTable points (record table {
+      controls = controls;
+      slots = slots;
+      sets = sets;
+      pending = pending;
+    })
+table_with points table controls slots sets pending lawful slots_least slots_most sets_least sets_most
+    pending_least pending_most = record {
+      known = lawful.known;
+      once = lawful.once;
+      limit = lawful.limit;
+      layouts = lawful.layouts;
+      key = lawful.key;
+      title = lawful.title;
+      domain = lawful.domain;
+      id = lawful.id;
+      slots_least = slots_least;
+      slots = slots_most;
+      sets_least = sets_least;
+      sets = sets_most;
+      pending_least = pending_least;
+      pending = pending_most;
+    }
+
 -- a row for a device leaves the rest of a table as it was
 pub IsTable-with_control : (points : ℕ) (table : Table) (row : ControlRow) → IsTable points table
     → IsTable points (with_control table row)
-IsTable-with_control points table row lawful = record {
-  known = lawful.known;
-  once = lawful.once;
-  limit = lawful.limit;
-  layouts = lawful.layouts;
-  key = lawful.key;
-  title = lawful.title;
-  domain = lawful.domain;
-  id = lawful.id;
-  slots_least = lawful.slots_least;
-  slots = lawful.slots;
-  sets_least = lawful.sets_least;
-  sets = lawful.sets;
-  pending_least = lawful.pending_least;
-  pending = lawful.pending;
-}
+IsTable-with_control points table row lawful =
+    table_with points table (table.controls ++ row ∷ []) table.slots table.sets table.pending lawful
+    lawful.slots_least lawful.slots lawful.sets_least lawful.sets lawful.pending_least
+    lawful.pending
 
 -- a table with another limit
 pub IsTable-with_slots : (points : ℕ) (table : Table) (number : ℕ) → IsTable points table
     → 1 ≤ number → number ≤ SLOT_LIMIT → IsTable points (with_slots table number)
-IsTable-with_slots points table number lawful least most = record {
-  known = lawful.known;
-  once = lawful.once;
-  limit = lawful.limit;
-  layouts = lawful.layouts;
-  key = lawful.key;
-  title = lawful.title;
-  domain = lawful.domain;
-  id = lawful.id;
-  slots_least = least;
-  slots = most;
-  sets_least = lawful.sets_least;
-  sets = lawful.sets;
-  pending_least = lawful.pending_least;
-  pending = lawful.pending;
-}
+IsTable-with_slots points table number lawful least most =
+    table_with points table table.controls number table.sets table.pending lawful least most
+    lawful.sets_least lawful.sets lawful.pending_least lawful.pending
 
 pub IsTable-with_sets : (points : ℕ) (table : Table) (number : ℕ) → IsTable points table
     → 1 ≤ number → number ≤ SET_LIMIT → IsTable points (with_sets table number)
-IsTable-with_sets points table number lawful least most = record {
-  known = lawful.known;
-  once = lawful.once;
-  limit = lawful.limit;
-  layouts = lawful.layouts;
-  key = lawful.key;
-  title = lawful.title;
-  domain = lawful.domain;
-  id = lawful.id;
-  slots_least = lawful.slots_least;
-  slots = lawful.slots;
-  sets_least = least;
-  sets = most;
-  pending_least = lawful.pending_least;
-  pending = lawful.pending;
-}
+IsTable-with_sets points table number lawful least most =
+    table_with points table table.controls table.slots number table.pending lawful
+    lawful.slots_least lawful.slots least most lawful.pending_least lawful.pending
 
 pub IsTable-with_pending : (points : ℕ) (table : Table) (number : ℕ) → IsTable points table
     → PENDING_LEAST ≤ number → number ≤ PENDING_LIMIT
     → IsTable points (with_pending table number)
-IsTable-with_pending points table number lawful least most = record {
-  known = lawful.known;
-  once = lawful.once;
-  limit = lawful.limit;
-  layouts = lawful.layouts;
-  key = lawful.key;
-  title = lawful.title;
-  domain = lawful.domain;
-  id = lawful.id;
-  slots_least = lawful.slots_least;
-  slots = lawful.slots;
-  sets_least = lawful.sets_least;
-  sets = lawful.sets;
-  pending_least = least;
-  pending = most;
-}
+IsTable-with_pending points table number lawful least most =
+    table_with points table table.controls table.slots table.sets number lawful
+    lawful.slots_least lawful.slots lawful.sets_least lawful.sets least most
 
 -- what another last table leaves as it was is so in every peer's table
 pub kept_of : {V : Type 0} (f : Table → V) (rows : CentreRows) (table : Table)

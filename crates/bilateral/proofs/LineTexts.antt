@@ -31,7 +31,8 @@ use Rattle.bilateral.specs.declared.line.TableLine.TheVariants.{Pending, See, Co
 use Rattle.bilateral.specs.declared.rows.PointRow.{PointRow}
 use Rattle.bilateral.specs.declared.rows.DeviceRow.{DeviceRow}
 use Rattle.bilateral.specs.declared.rows.Table.{Table}
-use Rattle.bilateral.specs.declared.rows.TheConstants.{SPAN_LIMIT, SLOT_LIMIT, SET_LIMIT}
+use Rattle.bilateral.specs.declared.rows.TheConstants.{SLOT_LIMIT, SET_LIMIT}
+use Rattle.sbo_device.specs.declared.device.TheConstants.{SPAN_LIMIT}
 use Rattle.bilateral.specs.declared.rows.TheConstants.{PENDING_LEAST, PENDING_LIMIT}
 use Rattle.bilateral.specs.Lines.{line_in, line_of, form_of, named_device, see_with}
 use Rattle.bilateral.specs.Writing.{spaced, kind_word, component_word, layout_word, title_word}

@@ -9,7 +9,7 @@ use Rattle.std.specs.List.{list_any}
 use Rattle.std.proofs.lemmas.List.{append-nil, map-append}
 use Rattle.std.proofs.lemmas.List.Folds.{list_any-append}
 use Rattle.tase_points.specs.declared.layout.Component.{Component}
-use Rattle.bilateral.specs.declared.given.Given.{Given}
+use Rattle.bilateral.specs.declared.limit_rows.LimitRows.{LimitRows}
 use Rattle.bilateral.specs.declared.line.TableLine.{TableLine}
 use Rattle.bilateral.specs.declared.line.TableLine.TheVariants.{Point, Device, Peer, Slots, Sets}
 use Rattle.bilateral.specs.declared.line.TableLine.TheVariants.{Pending, See, Control}
@@ -44,7 +44,7 @@ any-push : {X : Type 0} (p : X → Bool) (xs : List X) (x : X)
 any-push p xs x =
     list_any-append p xs (x ∷ []) ∙ ap (λ b. list_any p xs || b) (or_false (p x))
 
-abbrev given_by : Bool → Bool → Bool → Given
+abbrev given_by : Bool → Bool → Bool → LimitRows
 given_by slots sets pending = record { slots = slots; sets = sets; pending = pending }
 
 same_given : (a b c d e f : Bool) → a ≡ d → b ≡ e → c ≡ f → given_by a b c ≡ given_by d e f
@@ -101,13 +101,13 @@ new_number read line own d n some =
     ap (last_or d) (filter_map-push_some read own line n some)
     ∙ last_or-push (filter_map read own) n d
 
-abbrev so_far_by : List PointRow → List DeviceRow → List Table → Given → SoFar
+abbrev so_far_by : List PointRow → List DeviceRow → List Table → LimitRows → SoFar
 so_far_by points devices tables given =
     record { rows = record { points = points; devices = devices; tables = tables }; given = given }
 
 -- the lines of a table: the last table changes
 last_changed : (points : List PointRow) (devices : List DeviceRow) (parts : List Section)
-    (line : TableLine) (g : Table → Table) (given : Given)
+    (line : TableLine) (g : Table → Table) (given : LimitRows)
     → 0 < length (map (table_in points devices) parts)
     → ((part : Section)
     → table_in points devices (with_own line part) ≡ g (table_in points devices part))

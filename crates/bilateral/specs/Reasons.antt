@@ -5,13 +5,14 @@ use Rattle.std.specs.Prelude.{None}
 use Rattle.plain_text.specs.Lines.{is_skipped}
 use Rattle.bilateral.specs.declared.fault.TableWhy.{TableWhy}
 use Rattle.bilateral.specs.declared.fault.TableWhy.TheVariants.{Word, Again, Unknown, Limit, Place}
-use Rattle.bilateral.specs.declared.given.Given.{Given}
+use Rattle.bilateral.specs.declared.limit_rows.LimitRows.{LimitRows}
 use Rattle.bilateral.specs.declared.line.TableLine.{TableLine}
 use Rattle.bilateral.specs.declared.line.TableLine.TheVariants.{Point, Device, Peer, Slots, Sets}
 use Rattle.bilateral.specs.declared.line.TableLine.TheVariants.{Pending, See, Control}
 use Rattle.bilateral.specs.declared.rows.DeviceRow.{DeviceRow}
 use Rattle.bilateral.specs.declared.rows.TheConstants.{DEVICE_LIMIT, PEER_LIMIT, POINT_LIMIT}
-use Rattle.bilateral.specs.declared.rows.TheConstants.{SEE_LIMIT, SPAN_LIMIT}
+use Rattle.sbo_device.specs.declared.device.TheConstants.{SPAN_LIMIT}
+use Rattle.bilateral.specs.declared.rows.TheConstants.{SEE_LIMIT}
 use Rattle.bilateral.specs.declared.rows.Table.{Table}
 use Rattle.bilateral.specs.Rows.{CentreRows, place_of_point, place_of_device, place_of_peer}
 use Rattle.bilateral.specs.Rows.{place_of_title, place_of_see, place_of_control, table_of}
@@ -21,13 +22,13 @@ use Rattle.bilateral.specs.Lines.{line_in}
 abbrev pub no_rows : CentreRows
 no_rows = record { points = []; devices = []; tables = [] }
 
-abbrev pub nothing_given : Given
+abbrev pub nothing_given : LimitRows
 nothing_given = record { slots = false; sets = false; pending = false }
 
 -- the rows so far, and which limits the last table was given
 pub record SoFar : Type 0 where
   pub rows : CentreRows
-  pub given : Given
+  pub given : LimitRows
 
 -- the number of the last peer
 abbrev pub last_peer : CentreRows → ℕ
@@ -107,7 +108,7 @@ row_fault so_far line =
     first_reason (is_misplaced so_far line) (is_unknown so_far line) (is_again so_far line)
     (is_too_much so_far line)
 
--- the same of a line that may be none of the forms
+-- why the lines so far can't take a line: it has none of the forms, or what it says can't stand
 abbrev pub form_fault : SoFar → Option TableLine → Option TableWhy
 form_fault so_far None = Some Word
 form_fault so_far (Some line) = row_fault so_far line

@@ -8,7 +8,8 @@ use Rattle.bilateral.specs.declared.rows.PointRow.{PointRow}
 use Rattle.bilateral.specs.declared.rows.DeviceRow.{DeviceRow}
 use Rattle.bilateral.specs.declared.rows.Table.{Table}
 use Rattle.bilateral.specs.declared.rows.TheConstants.{DEVICE_LIMIT, PEER_LIMIT, POINT_LIMIT}
-use Rattle.bilateral.specs.declared.rows.TheConstants.{SEE_LIMIT, SPAN_LIMIT, SLOT_LIMIT}
+use Rattle.sbo_device.specs.declared.device.TheConstants.{SPAN_LIMIT}
+use Rattle.bilateral.specs.declared.rows.TheConstants.{SEE_LIMIT, SLOT_LIMIT}
 use Rattle.bilateral.specs.declared.rows.TheConstants.{SLOT_DEFAULT, SET_LIMIT, SET_DEFAULT}
 use Rattle.bilateral.specs.declared.rows.TheConstants.{PENDING_LEAST, PENDING_LIMIT}
 use Rattle.bilateral.specs.declared.rows.TheConstants.{PENDING_DEFAULT}

@@ -9,7 +9,7 @@ use Rattle.std.specs.Str.Lines.{lines}
 use Rattle.plain_text.specs.Lines.{is_skipped}
 use Rattle.plain_text.specs.Words.{each_in}
 use Rattle.bilateral.specs.declared.fault.TableFault.{TableFault}
-use Rattle.bilateral.specs.declared.given.Given.{Given}
+use Rattle.bilateral.specs.declared.limit_rows.LimitRows.{LimitRows}
 use Rattle.bilateral.specs.declared.line.TableLine.{TableLine}
 use Rattle.bilateral.specs.declared.line.TableLine.TheVariants.{Point, Device, Peer, Slots, Sets}
 use Rattle.bilateral.specs.declared.line.TableLine.TheVariants.{Pending, See, Control}
@@ -122,7 +122,7 @@ is_pending (Pending number) = true
 is_pending _ = false
 
 -- the limits that stand among the lines of the last table
-abbrev pub given_among : List TableLine → Given
+abbrev pub given_among : List TableLine → LimitRows
 given_among own = record {
   slots = list_any is_slots own;
   sets = list_any is_sets own;

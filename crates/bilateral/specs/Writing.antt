@@ -16,7 +16,8 @@ use Rattle.table_words.specs.Devices.{IsForm}
 use Rattle.bilateral.specs.declared.line.TableLine.{TableLine}
 use Rattle.bilateral.specs.declared.line.TableLine.TheVariants.{Point, Device, Peer, Slots, Sets}
 use Rattle.bilateral.specs.declared.line.TableLine.TheVariants.{Pending, See, Control}
-use Rattle.bilateral.specs.declared.rows.TheConstants.{SPAN_LIMIT, SLOT_LIMIT, SLOT_DEFAULT}
+use Rattle.bilateral.specs.declared.rows.TheConstants.{SLOT_LIMIT, SLOT_DEFAULT}
+use Rattle.sbo_device.specs.declared.device.TheConstants.{SPAN_LIMIT}
 use Rattle.bilateral.specs.declared.rows.TheConstants.{SET_LIMIT, SET_DEFAULT, PENDING_LEAST}
 use Rattle.bilateral.specs.declared.rows.TheConstants.{PENDING_LIMIT, PENDING_DEFAULT}
 use Rattle.bilateral.specs.declared.rows.DeviceRow.{DeviceRow}

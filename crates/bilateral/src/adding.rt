@@ -11,8 +11,8 @@ ghost use Rattle.bilateral.specs.Reading.{row_fault, last_table, with_row, seen_
 ghost use Rattle.bilateral.specs.Reading.{controlled_in_last};
 ghost use Rattle.bilateral.specs.Store.{rows_of, so_far, IsStore};
 
-use crate::given::Given;
 use crate::index;
+use crate::limit_rows::LimitRows;
 use crate::line::TableLine;
 use crate::rows::{Control, DEVICE_LIMIT, DeviceRow, PointRow, SEE_LIMIT, See, Table};
 use crate::store::Store;
@@ -83,7 +83,7 @@ impl Store {
     {
         index::note_name(alloc, &mut self.keys, table.key.as_slice())?;
         self.tables.push(table)?;
-        self.given = Given::nothing();
+        self.given = LimitRows::nothing();
         Ok(())
     }
 

@@ -9,11 +9,10 @@ ghost use Rattle.bilateral.specs.Store.{rows_of, so_far, IsStore};
 
 use crate::fault::TableWhy;
 use crate::line::TableLine;
-use crate::rows::{
-    DEVICE_LIMIT, DeviceRow, PEER_LIMIT, POINT_LIMIT, PointRow, SEE_LIMIT, SPAN_LIMIT, Table,
-};
+use crate::rows::{DEVICE_LIMIT, DeviceRow, PEER_LIMIT, POINT_LIMIT, PointRow, SEE_LIMIT, Table};
 use crate::store::Store;
 use ber_values::Visible;
+use sbo_device::SPAN_LIMIT;
 use tase_points::Layout;
 
 impl Store {

@@ -7,10 +7,10 @@ mod centre;
 mod device_line;
 mod fault;
 mod faults;
-mod given;
 mod index;
 mod laws;
 mod limit_line;
+mod limit_rows;
 mod line;
 mod reading;
 mod rows;
@@ -25,6 +25,7 @@ pub use reading::read_centre;
 pub use rows::{
     Control, Controls, DEVICE_LIMIT, DeviceRow, PEER_LIMIT, PENDING_DEFAULT, PENDING_LEAST,
     PENDING_LIMIT, POINT_LIMIT, PointRow, SEE_LIMIT, SET_DEFAULT, SET_LIMIT, SLOT_DEFAULT,
-    SLOT_LIMIT, SPAN_LIMIT, See, Sees, Table,
+    SLOT_LIMIT, See, Sees, Table,
 };
+pub use sbo_device::SPAN_LIMIT;
 pub use table_words::{IDENTIFIER_LIMIT, NAME_LIMIT};

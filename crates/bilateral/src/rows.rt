@@ -16,9 +16,6 @@ pub const PEER_LIMIT: usize = 256;
 /// The most rows of a table.
 pub const SEE_LIMIT: usize = 5000;
 
-/// The longest span of a selection, in milliseconds.
-pub const SPAN_LIMIT: u64 = 86400000;
-
 /// The most transfer sets that a table offers.
 pub const SLOT_LIMIT: u64 = 16;
 
@@ -48,8 +45,6 @@ const _: () = prove!(DEVICE_LIMIT == 2_000);
 const _: () = prove!(PEER_LIMIT == 256);
 
 const _: () = prove!(SEE_LIMIT == 5_000);
-
-const _: () = prove!(SPAN_LIMIT == 86_400_000);
 
 const _: () = prove!(SLOT_LIMIT == 16);
 

@@ -6,8 +6,8 @@ ghost use Rattle.bilateral.specs.Rows.{place_of_see, place_of_control, place_of_
 ghost use Rattle.bilateral.specs.Reading.{at_start};
 ghost use Rattle.bilateral.specs.Store.{rows_of, so_far, IsStore};
 
-use crate::given::Given;
 use crate::index::{self, NameSet, RowIndex};
+use crate::limit_rows::LimitRows;
 use crate::rows::{DeviceRow, PointRow, Table};
 use ber_values::Oid;
 use std::alloc::Global;
@@ -23,7 +23,7 @@ pub struct Store {
     pub keys: NameSet,
     pub sees: RowIndex,
     pub controls: RowIndex,
-    pub given: Given,
+    pub given: LimitRows,
 }
 
 impl Store {
@@ -40,7 +40,7 @@ impl Store {
             keys: index::no_names(alloc),
             sees: index::no_rows(alloc),
             controls: index::no_rows(alloc),
-            given: Given::nothing(),
+            given: LimitRows::nothing(),
         }
     }
 

@@ -1,7 +1,7 @@
 -- What stands behind the first word of a call is what may stand behind this verb.
 use Rattle.std.proofs.Common.{◌≡◌, ◌⊎◌, ℕ, suc, ◌<◌, Bool, true, false, List, [], ◌∷◌, length}
 use Rattle.std.proofs.Common.{map, Option, Some, None, codes, decimal, refl, sym, ap, subst, ◌∙◌}
-use Rattle.std.proofs.Common.{inl, inr, arith, drop}
+use Rattle.std.proofs.Common.{inl, inr, arith, drop, cond}
 use Rattle.std.specs.Prelude.{IfSome}
 use Rattle.std.specs.Fmt.{signed_decimal, digits}
 use Rattle.std.specs.List.{All}
@@ -100,47 +100,36 @@ is_word : (word text : List ℕ) (verb found : Verb) → text ≡ verb_text verb
 is_word word text verb found e test k =
     (bytes_eq-Decides word text).0 test ∙ e ∙ ap verb_text (some_same verb found k)
 
+-- a word is the text of the verb that it is found to be: by this test, or by those behind it
+verb_or : (word : List ℕ) (verb tested : Verb) (text : List ℕ) (others : Option Verb)
+    → text ≡ verb_text tested → cond (bytes_eq word text) (Some tested) others ≡ Some verb
+    → (others ≡ Some verb → word ≡ verb_text verb) → word ≡ verb_text verb
+verb_or word verb tested text others same found behind =
+    chosen (word ≡ verb_text verb) verb (bytes_eq word text) _ _
+    (λ t k. is_word word text tested verb same t k) (λ t k. behind k) found
+
 set_verb_in-found : (word : List ℕ) (verb : Verb) → set_verb_in word ≡ Some verb
     → word ≡ verb_text verb
 set_verb_in-found word verb e =
-    chosen goal verb (bytes_eq word (codes "readset")) _ _
-    (λ t k. is_word word (codes "readset") verbs.ReadSet verb refl t k) (λ t k.
-    chosen goal verb (bytes_eq word (codes "readset+")) _ _
-    (λ t k. is_word word (codes "readset+") verbs.ReadSetEcho verb refl t k) (λ t k.
-    chosen goal verb (bytes_eq word (codes "writeset")) _ _
-    (λ t k. is_word word (codes "writeset") verbs.WriteSet verb refl t k) (λ t k.
-    chosen goal verb (bytes_eq word (codes "define")) _ _
-    (λ t k. is_word word (codes "define") verbs.Define verb refl t k) (λ t k.
-    chosen goal verb (bytes_eq word (codes "members")) _ _
-    (λ t k. is_word word (codes "members") verbs.MembersOf verb refl t k) (λ t k.
-    chosen goal verb (bytes_eq word (codes "delete")) _ _
-    (λ t k. is_word word (codes "delete") verbs.Delete verb refl t k) (λ t k.
-    chosen goal verb (bytes_eq word (codes "deletescope")) _ _
-    (λ t k. is_word word (codes "deletescope") verbs.DeleteScope verb refl t k) (λ t k.
-    absurd cc) k) k) k) k) k) k) e
-  where
-    goal : Type 0
-    goal = word ≡ verb_text verb
+    verb_or word verb verbs.ReadSet (codes "readset") _ refl e (λ k.
+    verb_or word verb verbs.ReadSetEcho (codes "readset+") _ refl k (λ k.
+    verb_or word verb verbs.WriteSet (codes "writeset") _ refl k (λ k.
+    verb_or word verb verbs.Define (codes "define") _ refl k (λ k.
+    verb_or word verb verbs.MembersOf (codes "members") _ refl k (λ k.
+    verb_or word verb verbs.Delete (codes "delete") _ refl k (λ k.
+    verb_or word verb verbs.DeleteScope (codes "deletescope") _ refl k (λ k.
+    absurd cc)))))))
 
 pub verb_in-found : (word : List ℕ) (verb : Verb) → verb_in word ≡ Some verb
     → word ≡ verb_text verb
 verb_in-found word verb e =
-    chosen goal verb (bytes_eq word (codes "identify")) _ _
-    (λ t k. is_word word (codes "identify") verbs.Identify verb refl t k) (λ t k.
-    chosen goal verb (bytes_eq word (codes "read")) _ _
-    (λ t k. is_word word (codes "read") verbs.Read verb refl t k) (λ t k.
-    chosen goal verb (bytes_eq word (codes "read+")) _ _
-    (λ t k. is_word word (codes "read+") verbs.ReadEcho verb refl t k) (λ t k.
-    chosen goal verb (bytes_eq word (codes "write")) _ _
-    (λ t k. is_word word (codes "write") verbs.Write verb refl t k) (λ t k.
-    chosen goal verb (bytes_eq word (codes "names")) _ _
-    (λ t k. is_word word (codes "names") verbs.NameList verb refl t k) (λ t k.
-    chosen goal verb (bytes_eq word (codes "odd")) _ _
-    (λ t k. is_word word (codes "odd") verbs.Odd verb refl t k) (λ t k.
-    set_verb_in-found word verb k) k) k) k) k) k) e
-  where
-    goal : Type 0
-    goal = word ≡ verb_text verb
+    verb_or word verb verbs.Identify (codes "identify") _ refl e (λ k.
+    verb_or word verb verbs.Read (codes "read") _ refl k (λ k.
+    verb_or word verb verbs.ReadEcho (codes "read+") _ refl k (λ k.
+    verb_or word verb verbs.Write (codes "write") _ refl k (λ k.
+    verb_or word verb verbs.NameList (codes "names") _ refl k (λ k.
+    verb_or word verb verbs.Odd (codes "odd") _ refl k (λ k.
+    set_verb_in-found word verb k))))))
 
 -- each name is a word
 names_each : (names : List ObjectName) → All IsName names → Each IsNameWord (map name_text names)

@@ -29,7 +29,7 @@ abbrev pub Halts : Halt → (ℕ → Type 0) → Type 0
 Halts halts.Memory P = Unit {0}
 Halts (halts.Bad count) P = P count
 
--- the same reading, one word further on
+-- where a reading stopped, counted with one word more in front of what it read
 abbrev pub one_more : Halt → Halt
 one_more halts.Memory = halts.Memory
 one_more (halts.Bad count) = halts.Bad (count + 1)

@@ -35,7 +35,7 @@ abbrev mutual
   IsTextual (structure ds) = AreTextual ds
   IsTextual (array ds) = AreTextual ds
 
-  -- the same of each member
+  -- each member is data that a text spells
   pub AreTextual : Data → Type 0
   AreTextual no_data = Unit {0}
   AreTextual (datum d ds) = IsTextual d × AreTextual ds
@@ -45,7 +45,7 @@ pub record IsWithin (n : ℕ) (d : Datum) : Type 0 where
   pub shallow : depth d ≤ n
   pub parts : IsTextual d
 
--- the same of each member
+-- members of at most so many levels, and of parts that a text spells
 pub record AreWithin (n : ℕ) (ds : Data) : Type 0 where
   pub shallow : deepest ds ≤ n
   pub parts : AreTextual ds
@@ -139,7 +139,8 @@ pub record BegunMembers (n close : ℕ) (os : List ℕ) (left : ℕ) : Type 0 wh
   pub lawful : AreWithin n members
   pub shares : Shares os left (members_text members ++ close ∷ [])
 
--- the same of members up to a closing bracket
+-- a text does not begin with members of at most so many levels and a closing bracket, and from its
+-- first bad place on it has so many octets
 pub record BreaksMembers (n close : ℕ) (os : List ℕ) (left : ℕ) : Type 0 where
   pub begins : BegunMembers n close os left
   pub longest : (ds : Data) (tail : List ℕ) → AreWithin n ds → (l : ℕ)

@@ -46,7 +46,7 @@ abbrev pub is_bits : Bits → Bool
 is_bits b = (length b.octets == (b.count + 7) / 8)
     && (slice_index b.octets (length b.octets - 1) % 2 ^ (8 * length b.octets - b.count) == 0)
 
--- so many bits in these octets
+-- the bit string of so many bits in these octets, where the bits fill them
 abbrev pub bits_of : ℕ → List ℕ → Option Datum
 bits_of count held =
     option_map bits (if_passes is_bits (record { count = count; octets = held }))

@@ -1,19 +1,19 @@
-/// Which limits the last table was given.
+/// Which rows of limits the last table has had.
 #[derive(Clone, Copy, Debug)]
-pub struct Given {
+pub struct LimitRows {
     pub slots: bool,
     pub sets: bool,
     pub pending: bool,
 }
 
-impl Given {
+impl LimitRows {
     ghost use Rattle.std.specs.Prelude.{◌≡◌};
     ghost use Rattle.bilateral.specs.Reading.{nothing_given};
 
-    pub fn nothing() -> Given
+    pub fn nothing() -> LimitRows
         ensures { result ≡ nothing_given }
     {
-        Given {
+        LimitRows {
             slots: false,
             sets: false,
             pending: false,
