@@ -3,7 +3,7 @@ use Rattle.std.proofs.Common.{◌≡◌, ℕ, Bool, List, [], ◌∷◌, ◌++�
 use Rattle.std.proofs.Common.{refl, ap, ◌∙◌, if◌then◌else◌}
 use Rattle.bilateral.specs.Rows.{CentreRows}
 use Rattle.sbo_device.specs.declared.key.Key.{Key}
-use Rattle.stack_assoc.specs.Told.{called}
+use Rattle.stack_assoc.specs.Arrivals.{called}
 use Rattle.stack_assoc.specs.Expectations.{setup_after}
 use Rattle.stack_assoc.specs.Handing.{answers_to}
 use Rattle.stack_wire.specs.Tsdus.{refusal_tsdu}
