@@ -10,7 +10,7 @@ use Rattle.ber_values.proofs.Leaves.{oid_contents, unsigned_within_contents, raw
 use Rattle.ber_values.proofs.Externals.{external_contents}
 use Rattle.acse_assoc.specs.Users.{user_information}
 use Rattle.acse_assoc.specs.Requests.{one_oid, context_name, calling_title, user_last, request}
-use Rattle.acse_assoc.specs.Responses.{context_passed, one_result, result_next, user_of_result}
+use Rattle.acse_assoc.specs.Responses.{context_passed, result_number, result_next, user_of_result}
 use Rattle.acse_assoc.specs.Responses.{some_user_last, response}
 use Rattle.acse_assoc.specs.Apdus.{one_apdu, apdu}
 use Rattle.acse_assoc.proofs.RisingReads.{either_reads, rising_reads, named_reads, perhaps_reads}
@@ -52,8 +52,8 @@ unfolding context_passed
 context_passed_reads = then_reads _ _ (rising_reads _ _) (λ least.
     map_reads _ _ (perhaps_reads _ _ one_oid_contents least))
 
-one_result_contents : (e : Expected) → IsContentsGrammar (one_result e)
-unfolding one_result
+one_result_contents : (e : Expected) → IsContentsGrammar (result_number e)
+unfolding result_number
 one_result_contents e = all_reads _ (part_reads 2 _ (unsigned_within_contents 0 _))
 
 result_next_reads : (e : Expected) (from : ℕ) → IsGrammar (result_next e from)

@@ -13,8 +13,8 @@ use Rattle.ber_values.specs.declared.tag.Tag.{Tag}
 use Rattle.ber_values.specs.Tags.{SpellsTag}
 use Rattle.ber_values.specs.Grammars.{first_is}
 use Rattle.ber_values.specs.Parts.{Contents}
-use Rattle.ber_values.specs.Runs.{AnyElement, IsSound, element_octets, elements_octets}
-use Rattle.acse_assoc.specs.Rising.{is_named, may_pass}
+use Rattle.ber_values.specs.Runs.{AnyElement, IsSoundElement, element_octets, elements_octets}
+use Rattle.acse_assoc.specs.Rising.{is_tag_numbered, may_pass}
 use Rattle.ber_values.specs.Grammars.{is_context}
 use Rattle.acse_assoc.specs.Sequences.{IsRising, IsSequence, HasElement, LacksElement}
 
@@ -40,15 +40,15 @@ class_of tag (first ∷ low ∷ []) s = ap (λ (t : Tag). eqb t.class 2) (sym s.
 class_of tag (first ∷ high ∷ low ∷ []) s = ap (λ (t : Tag). eqb t.class 2) (sym s.3)
 class_of tag (a ∷ b ∷ c ∷ d ∷ more) s = elim s [ ]
 
-pub context-first : (e : AnyElement) → IsSound e → e.tag.class ≡ 2
+pub context-first : (e : AnyElement) → IsSoundElement e → e.tag.class ≡ 2
     → first_is is_context e.tagged ≡ true
 context-first e s c = class_of e.tag e.tagged s.tag ∙ eq-eqb e.tag.class 2 c
 
-pub first-context : (e : AnyElement) → IsSound e → first_is is_context e.tagged ≡ true
+pub first-context : (e : AnyElement) → IsSoundElement e → first_is is_context e.tagged ≡ true
     → e.tag.class ≡ 2
 first-context e s c = eqb-true e.tag.class 2 (sym (class_of e.tag e.tagged s.tag) ∙ c)
 
-not_long : (n : ℕ) (tag : Tag) → tag.long_form ≡ true → is_named n tag ≡ true → ⊥
+not_long : (n : ℕ) (tag : Tag) → tag.long_form ≡ true → is_tag_numbered n tag ≡ true → ⊥
 not_long n tag long named =
     let p = three tag.constructed (not tag.long_form) (eqb tag.number n) named in
     false≢true (sym (not_false tag.long_form p.1) ∙ long)
@@ -57,7 +57,7 @@ octet_of : (first n : ℕ) → first / 64 ≡ 2 → first / 32 % 2 ≡ 1 → fir
 octet_of first n class form number = omega (arith, class, form, number)
 
 spelled_named : (n : ℕ) (tag : Tag) (tagged : List ℕ) → SpellsTag tag tagged → tag.class ≡ 2
-    → is_named n tag ≡ true → tagged ≡ (160 + n) ∷ []
+    → is_tag_numbered n tag ≡ true → tagged ≡ (160 + n) ∷ []
 spelled_named n tag [] s c named = elim s [ ]
 spelled_named n tag (first ∷ []) s c named =
     let p = three tag.constructed (not tag.long_form) (eqb tag.number n) named in
@@ -73,7 +73,7 @@ spelled_named n tag (first ∷ high ∷ low ∷ []) s c named = absurd
 spelled_named n tag (a ∷ b ∷ c ∷ d ∷ more) s d' named = elim s [ ]
 
 -- the element of a number has its tag in one octet
-pub named-tagged : (n : ℕ) (e : AnyElement) → IsSound e → e.tag.class ≡ 2 → is_named n e.tag ≡ true
+pub named-tagged : (n : ℕ) (e : AnyElement) → IsSoundElement e → e.tag.class ≡ 2 → is_tag_numbered n e.tag ≡ true
     → e.tagged ≡ (160 + n) ∷ []
 named-tagged n e s c named = spelled_named n e.tag e.tagged s.tag c named
 
@@ -84,7 +84,7 @@ form_of_octet : (n : ℕ) → n < 31 → (160 + n) / 32 % 2 ≡ 1
 form_of_octet n small = omega (arith, small)
 
 named_spelled : (n : ℕ) (tag : Tag) → n < 31 → SpellsTag tag ((160 + n) ∷ []) → (tag.number ≡ n)
-    × (is_named n tag ≡ true)
+    × (is_tag_numbered n tag ≡ true)
 named_spelled n tag small s =
     let number : tag.number ≡ n = ap (λ (t : Tag). t.number) s.1 ∙ number_of_octet n small in
     let form : tag.constructed ≡ true = ap (λ (t : Tag). t.constructed) s.1
@@ -95,15 +95,15 @@ named_spelled n tag small s =
           (eq-eqb tag.number n number),
     )
 
-pub tagged-named : (n : ℕ) (e : AnyElement) → n < 31 → IsSound e → e.tagged ≡ (160 + n) ∷ []
-    → (e.tag.number ≡ n) × (is_named n e.tag ≡ true)
+pub tagged-named : (n : ℕ) (e : AnyElement) → n < 31 → IsSoundElement e → e.tagged ≡ (160 + n) ∷ []
+    → (e.tag.number ≡ n) × (is_tag_numbered n e.tag ≡ true)
 tagged-named n e small s is = named_spelled n e.tag small (subst (SpellsTag e.tag) is s.tag)
 
 class_spelled : (n : ℕ) (tag : Tag) → n < 31 → SpellsTag tag ((160 + n) ∷ []) → tag.class ≡ 2
 class_spelled n tag small s = let octet : (160 + n) / 64 ≡ 2 = omega (arith, small) in ap
     (λ (t : Tag). t.class) s.1 ∙ octet
 
-pub tagged-context : (n : ℕ) (e : AnyElement) → n < 31 → IsSound e → e.tagged ≡ (160 + n) ∷ []
+pub tagged-context : (n : ℕ) (e : AnyElement) → n < 31 → IsSoundElement e → e.tagged ≡ (160 + n) ∷ []
     → e.tag.class ≡ 2
 tagged-context n e small s is = class_spelled n e.tag small (subst (SpellsTag e.tag) is s.tag)
 
@@ -111,39 +111,39 @@ tagged-context n e small s is = class_spelled n e.tag small (subst (SpellsTag e.
 pub record PassesAt (number from : ℕ) (tag : Tag) : Type 0 where
   pub least : from ≤ tag.number
   pub most : tag.number ≤ number
-  pub unnamed : is_named number tag ≡ false
+  pub unnamed : is_tag_numbered number tag ≡ false
 
 pub passes-at : (number least : ℕ) (tag : Tag) → may_pass number least tag ≡ true
     → PassesAt number least tag
 passes-at number least tag e =
     let p = three (nat_le least tag.number) (nat_le tag.number number)
-    (not (is_named number tag)) e in
+    (not (is_tag_numbered number tag)) e in
     record {
       least = leb-true least tag.number p.0;
       most = leb-true tag.number number p.1;
-      unnamed = not_false (is_named number tag) p.2;
+      unnamed = not_false (is_tag_numbered number tag) p.2;
     }
 
 pub stops-at : (number least : ℕ) (tag : Tag) → least ≤ tag.number
-    → may_pass number least tag ≡ false → (number < tag.number) ⊎ (is_named number tag ≡ true)
-stops-at number least tag enough stops = elim (cases_Bool (is_named number tag)) [
+    → may_pass number least tag ≡ false → (number < tag.number) ⊎ (is_tag_numbered number tag ≡ true)
+stops-at number least tag enough stops = elim (cases_Bool (is_tag_numbered number tag)) [
   | inl named ↦ inr named
   | inr unnamed ↦ inl (above (cases_Bool (nat_le tag.number number)) unnamed)
 ]
   where
     above : (nat_le tag.number number ≡ true) ⊎ (nat_le tag.number number ≡ false)
-        → is_named number tag ≡ false → number < tag.number
+        → is_tag_numbered number tag ≡ false → number < tag.number
     above (inr more) unnamed = leb-false tag.number number more
     above (inl most) unnamed = absurd
         (false≢true (sym stops
-        ∙ all_three (nat_le least tag.number) (nat_le tag.number number) (not (is_named number tag))
+        ∙ all_three (nat_le least tag.number) (nat_le tag.number number) (not (is_tag_numbered number tag))
         (le-leb least tag.number enough) most (ap not unnamed)))
 
 -- ---- elements whose numbers rise from a least one
 
 abbrev pub RisesFrom : ℕ → List AnyElement → Type 0
 RisesFrom least [] = Unit {0}
-RisesFrom least (e ∷ es) = IsSound e × (e.tag.class ≡ 2) × (least ≤ e.tag.number)
+RisesFrom least (e ∷ es) = IsSoundElement e × (e.tag.class ≡ 2) × (least ≤ e.tag.number)
     × RisesFrom (e.tag.number + 1) es
 
 abbrev pub IsAbove : ℕ → AnyElement → Type 0
@@ -151,7 +151,7 @@ IsAbove least e = least ≤ e.tag.number
 
 -- a rising sequence in one piece
 pub record RisesWhole (least : ℕ) (es : List AnyElement) : Type 0 where
-  pub sound : All IsSound es
+  pub sound : All IsSoundElement es
   pub context : All (λ e. e.tag.class ≡ 2) es
   pub rising : IsRising es
   pub above : All (IsAbove least) es
@@ -172,28 +172,28 @@ rising_cons e es above rising (suc i) (suc j) d lt within = rising i j d (omega 
 pub rises-all : (least : ℕ) (es : List AnyElement) → RisesFrom least es → RisesWhole least es
 rises-all least [] r =
     record {
-      sound = All-nil IsSound;
+      sound = All-nil IsSoundElement;
       context = All-nil _;
       rising = λ i j d lt within. absurd (omega (arith, within));
       above = All-nil (IsAbove least);
     }
 rises-all least (e ∷ es) r =
     let rest = rises-all (e.tag.number + 1) es r.3 in record {
-      sound = All-cons IsSound e es r.0 rest.sound;
+      sound = All-cons IsSoundElement e es r.0 rest.sound;
       context = All-cons (λ x. x.tag.class ≡ 2) e es r.1 rest.context;
       rising = rising_cons e es rest.above rest.rising;
       above = All-cons (IsAbove least) e es r.2
           (All_least least (e.tag.number + 1) es (omega (arith, r.2)) rest.above);
     }
 
-pub rises-from : (least : ℕ) (es : List AnyElement) → All IsSound es → All (λ e. e.tag.class ≡ 2) es
+pub rises-from : (least : ℕ) (es : List AnyElement) → All IsSoundElement es → All (λ e. e.tag.class ≡ 2) es
     → IsRising es → All (IsAbove least) es → RisesFrom least es
 rises-from least [] sound context rising above = tt
 rises-from least (e ∷ es) sound context rising above = (
-  All-head IsSound e es sound,
+  All-head IsSoundElement e es sound,
   All-head (λ x. x.tag.class ≡ 2) e es context,
   All-head (IsAbove least) e es above,
-  rises-from (e.tag.number + 1) es (All-tail IsSound e es sound)
+  rises-from (e.tag.number + 1) es (All-tail IsSoundElement e es sound)
       (All-tail (λ x. x.tag.class ≡ 2) e es context)
       (λ i j d lt within. rising (suc i) (suc j) d (omega (arith, lt)) (omega (arith, within)))
       (λ k d within. let h = rising 0 (suc k) d (omega arith) (omega (arith, within)) in omega
@@ -285,7 +285,7 @@ above-lacks n least (e ∷ es) small below r =
 
 abbrev pub PassRising : ℕ → ℕ → List AnyElement → Type 0
 PassRising number least [] = Unit {0}
-PassRising number least (e ∷ es) = IsSound e × (e.tag.class ≡ 2)
+PassRising number least (e ∷ es) = IsSoundElement e × (e.tag.class ≡ 2)
     × (may_pass number least e.tag ≡ true) × PassRising number (e.tag.number + 1) es
 
 abbrev pub after_run : ℕ → List AnyElement → ℕ
@@ -311,5 +311,5 @@ passes-lacks n m least (e ∷ run) le small p =
     All-cons (LacksTag (160 + m)) e run (λ is.
     let k = tagged-named m e small p.0 is in
     let same : m ≡ n = omega (arith, k.0, a.most, le) in
-    false≢true (sym a.unnamed ∙ subst (λ (j : ℕ). is_named j e.tag ≡ true) same k.1))
+    false≢true (sym a.unnamed ∙ subst (λ (j : ℕ). is_tag_numbered j e.tag ≡ true) same k.1))
     (passes-lacks n m (e.tag.number + 1) run le small p.3)

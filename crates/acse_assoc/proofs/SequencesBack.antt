@@ -17,7 +17,7 @@ use Rattle.ber_values.specs.Reading.{Taken}
 use Rattle.ber_values.specs.Tags.{SpellsTag}
 use Rattle.ber_values.specs.Grammars.{Grammar, taken, gives, then_in, map_in, branch_in, has_tag}
 use Rattle.ber_values.specs.Parts.{Contents, part_in, maybe_in, all_in}
-use Rattle.ber_values.specs.Runs.{AnyElement, IsSound, element_octets, elements_octets}
+use Rattle.ber_values.specs.Runs.{AnyElement, IsSoundElement, element_octets, elements_octets}
 use Rattle.ber_values.proofs.Runs.{after_tag, element-parts, element-part}
 use Rattle.acse_assoc.specs.declared.expected.Expected.{Expected}
 use Rattle.acse_assoc.specs.declared.request.AssociateRequest.{AssociateRequest}
@@ -26,9 +26,9 @@ use Rattle.acse_assoc.specs.Rising.{rising_within, rising_in, named_in, perhaps_
 use Rattle.acse_assoc.specs.Rising.{attempt}
 use Rattle.acse_assoc.specs.Users.{user_information}
 use Rattle.acse_assoc.specs.Requests.{one_oid, context_name, titled, title_of, calling_title}
-use Rattle.acse_assoc.specs.Requests.{user_last, request_of, request}
-use Rattle.acse_assoc.specs.Responses.{context_passed, one_result, result_next, user_of_result}
-use Rattle.acse_assoc.specs.Responses.{some_user_last, response_of, response}
+use Rattle.acse_assoc.specs.Requests.{user_last, aarq_of, request}
+use Rattle.acse_assoc.specs.Responses.{context_passed, result_number, result_next, user_of_result}
+use Rattle.acse_assoc.specs.Responses.{some_user_last, aare_of, response}
 use Rattle.acse_assoc.specs.Writing.{HasUser}
 use Rattle.acse_assoc.specs.Sequences.{HasElement, LacksElement, MayHaveElement}
 use Rattle.acse_assoc.specs.Sequences.{HasTitle, IsAarq, IsAare}
@@ -46,7 +46,7 @@ pub record FoundFirst {X : Type 0} (n : ℕ) (c : Contents X) (least at : ℕ) (
   pub element : AnyElement
   pub rest : List AnyElement
   pub whole : es ≡ element ∷ rest
-  pub sound : IsSound element
+  pub sound : IsSoundElement element
   pub tagged : element.tagged ≡ (160 + n) ∷ []
   pub spelled : c.spells (at + length element.tagged + length element.sized) x element.contents
   pub enough : least ≤ n
@@ -124,7 +124,7 @@ carried n at next es run rest least whole p place m lt small Y d y h =
     (has-behind (160 + m) d at run rest y (passes-lacks n m least run (omega (arith, lt)) small p)
     (subst (λ (xs : List AnyElement). HasElement (160 + m) d at xs y) whole h))
 
-carried_on : (n place : ℕ) (e : AnyElement) (rest : List AnyElement) → n < 31 → IsSound e
+carried_on : (n place : ℕ) (e : AnyElement) (rest : List AnyElement) → n < 31 → IsSoundElement e
     → e.tagged ≡ (160 + n) ∷ []
     → Carries n place (e ∷ rest) (place + length (element_octets e)) rest
 carried_on n place e rest less s tagged m lt small Y d y (inl a) =
@@ -378,7 +378,7 @@ request_in_turn : (e : Expected) (at : ℕ) (es : List AnyElement) (r : Associat
     → EndsRising 31 three.next three.rest → (request e).spells at r (elements_octets es)
 unfolding request all_in then_in map_in context_name calling_title user_last
 request_in_turn e at es r o is one two three four = (
-  taken (request_of r.context (titled two.least o) r.user) four.0.next four.0.rest,
+  taken (aarq_of r.context (titled two.least o) r.user) four.0.next four.0.rest,
   (
     taken r.context one.next (elements_octets one.rest),
     (taken one.least one.place one.middle, one.passed, one.reads),
@@ -406,7 +406,7 @@ request_in_turn e at es r o is one two three four = (
   ),
   (
     four.2,
-    ap (λ (t : Option (List ℕ)). request_of r.context
+    ap (λ (t : Option (List ℕ)). aarq_of r.context
         (record { title = t; least = least_after 6 two.least o }) r.user) is,
   ),
 )
@@ -468,14 +468,14 @@ response_in_turn : (e : Expected) (at : ℕ) (es : List AnyElement) (name : Opti
     (r : AssociateResponse)
     (one : ReadsNext 1 0 at es (perhaps_in 1 one_oid) name (λ l. least_after 1 l name))
     (two : ReadsNext 2 (least_after 1 one.least name) one.next one.rest
-    (named_in 2 (one_result e)) r.result (λ l. 3))
+    (named_in 2 (result_number e)) r.result (λ l. 3))
     (three : ReadsNext 30 3 two.next two.rest (user_of_result e r.result) r.user
     (λ l. least_after 30 l r.user))
     → EndsRising (least_after 30 three.least r.user) three.next three.rest
     → (response e).spells at r (elements_octets es)
 unfolding response all_in then_in map_in context_passed result_next some_user_last
 response_in_turn e at es name r one two three four = (
-  taken (response_of r.result r.user) four.0.next four.0.rest,
+  taken (aare_of r.result r.user) four.0.next four.0.rest,
   (
     taken (least_after 1 one.least name) one.next (elements_octets one.rest),
     (
@@ -506,14 +506,14 @@ response_in_turn e at es name r one two three four = (
 
 response_back : (e : Expected) (at : ℕ) (es : List AnyElement) (name : Option (List ℕ))
     (r : AssociateResponse) → IsOctets (elements_octets es) → RisesFrom 0 es
-    → MayHaveElement 161 one_oid at es name → HasElement 162 (one_result e) at es r.result
+    → MayHaveElement 161 one_oid at es name → HasElement 162 (result_number e) at es r.result
     → MayHaveElement 190 (user_information e.response_id) at es r.user → HasUser r.result r.user
     → (response e).spells at r (elements_octets es)
 response_back e at es name r os rises context result user accepted =
     let one = perhaps 1 one_oid 0 at es name (omega arith) rises context in
     let from = least_after 1 one.least name in
-    let two = named 2 (one_result e) from one.next one.rest r.result (omega arith) one.rises
-    (one.carries 2 (omega arith) (omega arith) ℕ (one_result e) r.result result) in
+    let two = named 2 (result_number e) from one.next one.rest r.result (omega arith) one.rises
+    (one.carries 2 (omega arith) (omega arith) ℕ (result_number e) r.result result) in
     let second = may_carry 1 0 at es one 30 (user_information e.response_id) r.user (omega arith)
     (omega arith) user in
     let third = may_carry 2 from one.next one.rest two 30 (user_information e.response_id) r.user

@@ -23,9 +23,9 @@ use Rattle.acse_assoc.specs.declared.response.AssociateResponse.{AssociateRespon
 use Rattle.acse_assoc.specs.Rising.{rising_in, named_in, perhaps_in, least_after, attempt}
 use Rattle.acse_assoc.specs.Users.{user_information}
 use Rattle.acse_assoc.specs.Requests.{Titled, one_oid, context_name, titled, title_of}
-use Rattle.acse_assoc.specs.Requests.{calling_title, user_last, request_of, request}
-use Rattle.acse_assoc.specs.Responses.{context_passed, one_result, result_next, user_of_result}
-use Rattle.acse_assoc.specs.Responses.{some_user_last, response_of, response}
+use Rattle.acse_assoc.specs.Requests.{calling_title, user_last, aarq_of, request}
+use Rattle.acse_assoc.specs.Responses.{context_passed, result_number, result_next, user_of_result}
+use Rattle.acse_assoc.specs.Responses.{some_user_last, aare_of, response}
 use Rattle.acse_assoc.specs.Writing.{HasUser}
 use Rattle.acse_assoc.specs.Sequences.{HasElement, LacksElement, MayHaveElement, HasTitle, IsAarq}
 use Rattle.acse_assoc.specs.Sequences.{IsAare}
@@ -248,8 +248,8 @@ aarq_from : (e : Expected) (at : ℕ) (octets : List ℕ) (es : List AnyElement)
     (least : ℕ) (o : Option (Option (List ℕ))) (user : External) → IsOctets octets → Are 0 octets es
     → HasElement 161 one_oid at es context → MayHaveElement 166 (attempt one_oid) at es o
     → HasElement 190 (user_information e.request_id) at es user
-    → (request e).spells at (request_of context (titled least o) user) octets
-    → IsAarq e at octets es (request_of context (titled least o) user)
+    → (request e).spells at (aarq_of context (titled least o) user) octets
+    → IsAarq e at octets es (aarq_of context (titled least o) user)
 aarq_from e at octets es context least o user os are has_context has_title has_user spelled =
     record {
       sequence = rises-sequence octets es are.0 are.1;
@@ -261,7 +261,7 @@ aarq_from e at octets es context least o user os are has_context has_title has_u
           (subst IsOctets are.0 os) are.1 has_context
           (has-weaker 166 one_oid (attempt one_oid) name (Some name)
           (λ place xs s. attempted_some place xs name s) at es has) refl has_user in
-          let one = request_one e at octets (request_of context (titled least o) user) other spelled
+          let one = request_one e at octets (aarq_of context (titled least o) user) other spelled
           (subst (λ (xs : List ℕ). (request e).spells at other xs) (sym are.0) again) in
           no_title name (sym none ∙ ap (λ (r : AssociateRequest). r.title) one));
       user = has_user;
@@ -292,13 +292,13 @@ spelled-aarq e at octets r os whole =
     let v = user.2.0 in
     let l = user.2.2.0 in
     let is_user : u ≡ taken v.value l.next l.rest = user.2.2.2 in
-    let is_whole : t ≡ taken (request_of c.value ti.value u.value) u.next u.rest = whole.1.2.2.2 in
+    let is_whole : t ≡ taken (aarq_of c.value ti.value u.value) u.next u.rest = whole.1.2.2.2 in
     let ended : l.rest ≡ [] = sym (ap (λ (x : Taken External). x.rest) is_user)
     ∙ sym (ap (λ (x : Taken AssociateRequest). x.rest) is_whole) ∙ whole.2.0 in
-    let value : r ≡ request_of c.value (titled t1.value o.value) v.value = whole.2.1
+    let value : r ≡ aarq_of c.value (titled t1.value o.value) v.value = whole.2.1
     ∙ ap (λ (x : Taken AssociateRequest). x.value) is_whole
-    ∙ ap (λ (x : Taken Titled). request_of c.value x.value u.value) is_title
-    ∙ ap (λ (x : Taken External). request_of c.value
+    ∙ ap (λ (x : Taken Titled). aarq_of c.value x.value u.value) is_title
+    ∙ ap (λ (x : Taken External). aarq_of c.value
     (titled t1.value o.value) x.value) is_user in
     let one = took_named 1 one_oid 0 at octets c1 c (omega arith) whole.1.1.1 whole.1.1.2 in
     let two = took_perhaps 6 (attempt one_oid) 2 c.next c.rest t1 o
@@ -372,14 +372,14 @@ spelled-aare e at octets r whole =
     let v = user.2.0 in
     let l = user.2.2.0 in
     let is_user : u ≡ taken v.value l.next l.rest = user.2.2.2 in
-    let is_whole : t ≡ taken (response_of q.value u.value) u.next u.rest = whole.1.2.2.2 in
+    let is_whole : t ≡ taken (aare_of q.value u.value) u.next u.rest = whole.1.2.2.2 in
     let ended : l.rest ≡ [] = sym (ap (λ (x : Taken (Option External)). x.rest) is_user)
     ∙ sym (ap (λ (x : Taken AssociateResponse). x.rest) is_whole) ∙ whole.2.0 in
-    let value : r ≡ response_of q.value v.value = whole.2.1
+    let value : r ≡ aare_of q.value v.value = whole.2.1
     ∙ ap (λ (x : Taken AssociateResponse). x.value) is_whole
-    ∙ ap (λ (x : Taken (Option External)). response_of q.value x.value) is_user in
+    ∙ ap (λ (x : Taken (Option External)). aare_of q.value x.value) is_user in
     let one = took_perhaps 1 one_oid 0 at octets c1 o (omega arith) whole.1.1.1 whole.1.1.2.1 in
-    let two = took_named 2 (one_result e) least o.next o.rest q1 q
+    let two = took_named 2 (result_number e) least o.next o.rest q1 q
     (omega arith) result.1 result.2 in
     let three = took_user e q.value q.next q.rest u1 v user.1 user.2.1 in
     let after = least_after 30 u1.value v.value in
@@ -396,8 +396,8 @@ spelled-aare e at octets r whole =
         name = o.value;
         context = one.has es2 second;
         result = has_behind 1 0 least at o.next octets o.rest one.took 162
-            (one_result e) es2 q.value
-            (has-front 162 (one_result e) o.next two.took.here es3 q.value two.has);
+            (result_number e) es2 q.value
+            (has-front 162 (result_number e) o.next two.took.here es3 q.value two.has);
         user = may_behind 1 0 least at o.next octets o.rest one.took 30
             (user_information e.response_id) es2 v.value (omega arith) (omega arith)
             (may_behind 2 least 3 o.next q.next o.rest q.rest two.took 30

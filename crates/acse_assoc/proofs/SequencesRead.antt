@@ -11,10 +11,10 @@ use Rattle.ber_values.specs.Reading.{Taken, Begins}
 use Rattle.ber_values.specs.Tags.{SpellsTag}
 use Rattle.ber_values.specs.Grammars.{taken, gives, then_in, branch_in, first_is, has_tag}
 use Rattle.ber_values.specs.Grammars.{by_length}
-use Rattle.ber_values.specs.Runs.{AnyElement, IsSound, element_octets, elements_octets}
+use Rattle.ber_values.specs.Runs.{AnyElement, IsSoundElement, element_octets, elements_octets}
 use Rattle.ber_values.proofs.Runs.{after_tag, element-parts, element-tagged, element-skipped}
 use Rattle.ber_values.proofs.Runs.{element-first, element-some, skipped-element, tag-one}
-use Rattle.acse_assoc.specs.Rising.{is_named, may_pass, by_tag, rising_within}
+use Rattle.acse_assoc.specs.Rising.{is_tag_numbered, may_pass, by_tag, rising_within}
 use Rattle.ber_values.specs.Grammars.{is_context}
 use Rattle.acse_assoc.specs.Rising.{rising_in}
 use Rattle.acse_assoc.specs.Sequences.{LacksElement}
@@ -53,7 +53,7 @@ takes_none number least at octets t stops is = subst (TakesRising number least a
     })
 
 takes_more : (number least at next : ℕ) (octets after : List ℕ) (t : Taken ℕ) (e : AnyElement)
-    → IsSound e → e.tag.class ≡ 2 → may_pass number least e.tag ≡ true
+    → IsSoundElement e → e.tag.class ≡ 2 → may_pass number least e.tag ≡ true
     → octets ≡ element_octets e ++ after → next ≡ at + length (element_octets e)
     → TakesRising number (e.tag.number + 1) next after t → TakesRising number least at octets t
 takes_more number least at next octets after t e s class may parts place r = record {
@@ -67,7 +67,7 @@ takes_more number least at next octets after t e s class may parts place r = rec
 }
 
 same_tag : (at : ℕ) (octets rest : List ℕ) (tag : Taken Tag) (e : AnyElement)
-    → Begins Tag SpellsTag at octets tag → IsSound e → octets ≡ element_octets e ++ rest
+    → Begins Tag SpellsTag at octets tag → IsSoundElement e → octets ≡ element_octets e ++ rest
     → tag.value ≡ e.tag
 same_tag at octets rest tag e spelled s parts =
     ap (λ (t : Taken Tag). t.value)
@@ -137,7 +137,7 @@ absent n least at (e ∷ es) small r stops (inr other) =
     All-cons (LacksTag (160 + n)) e es is_other
     (above-lacks n (e.tag.number + 1) es small (omega (arith, above)) r.3)
   where
-    next : (n < e.tag.number) ⊎ (is_named n e.tag ≡ true) → e.tagged ≢ (160 + n) ∷ []
+    next : (n < e.tag.number) ⊎ (is_tag_numbered n e.tag ≡ true) → e.tagged ≢ (160 + n) ∷ []
         → n < e.tag.number
     next (inl above) is_other = above
     next (inr named) is_other = absurd (is_other (named-tagged n e r.0 r.1 named))

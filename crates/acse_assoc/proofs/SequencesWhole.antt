@@ -7,7 +7,7 @@ use Rattle.ber_values.specs.Grammars.{branch_in, has_tag}
 use Rattle.ber_values.specs.Parts.{Contents, part_in, choose_in, contents_as, whole_in}
 use Rattle.ber_values.specs.Readers.{taken_whole}
 use Rattle.ber_values.specs.Leaves.{raw}
-use Rattle.ber_values.specs.Runs.{AnyElement, IsSound, element_octets}
+use Rattle.ber_values.specs.Runs.{AnyElement, IsSoundElement, element_octets}
 use Rattle.ber_values.proofs.Octets.{IsOctets-rest}
 use Rattle.ber_values.proofs.Runs.{part-element, element-part}
 use Rattle.acse_assoc.specs.declared.expected.Expected.{Expected}
@@ -126,7 +126,7 @@ whole-aare e at octets r (t, one, (ended, is)) =
 
 -- and the other way round
 alone_begins : {X : Type 0} (tag : ℕ) (f : X → Apdu) (c : Contents X) (at : ℕ) (a : AnyElement)
-    (x : X) → IsSound a → a.tagged ≡ tag ∷ []
+    (x : X) → IsSoundElement a → a.tagged ≡ tag ∷ []
     → c.spells (at + length a.tagged + length a.sized) x a.contents
     → (part_in tag (contents_as f c)).begins at (element_octets a)
     (taken_whole at (element_octets a) (f x))

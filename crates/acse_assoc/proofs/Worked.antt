@@ -17,7 +17,7 @@ use Rattle.acse_assoc.specs.declared.expected.Expected.{Expected}
 use Rattle.ber_values.specs.Externals.{external_of, external}
 use Rattle.acse_assoc.specs.Users.{user_information}
 use Rattle.acse_assoc.specs.Requests.{one_oid, context_name, calling_title, user_last, request}
-use Rattle.acse_assoc.specs.Responses.{context_passed, one_result, result_next, user_of_result}
+use Rattle.acse_assoc.specs.Responses.{context_passed, result_number, result_next, user_of_result}
 use Rattle.acse_assoc.specs.Responses.{some_user_last, response}
 use Rattle.acse_assoc.specs.Apdus.{one_apdu, apdu}
 use Rattle.ber_values.specs.Heads.{head_by, element_by, extent_of, extent_within}
@@ -48,7 +48,7 @@ bare : List ℕ
 bare = 97 ∷ 5 ∷ 162 ∷ 3 ∷ 2 ∷ 1 ∷ 0 ∷ []
 
 bare_read : (apdu any).reading 0 bare ≡ Err (fault_at 7 whys.Short)
-unfolding bare apdu one_apdu whole_in response one_oid context_passed one_result result_next
+unfolding bare apdu one_apdu whole_in response one_oid context_passed result_number result_next
     user_of_result some_user_last external user_information by_tag rising_within rising_in named_in
     perhaps_in tag_in length_in head_in unsigned_in oid_in gives then_in map_in branch_in refused
     skip by_length sized_part_in parted_in part_in choose_in maybe_in contents_as contents_where

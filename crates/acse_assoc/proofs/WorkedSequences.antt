@@ -9,7 +9,7 @@ use Rattle.ber_values.specs.Parts.{sized_part_in, parted_in, part_in, choose_in,
 use Rattle.ber_values.specs.Parts.{contents_where, all_in}
 use Rattle.ber_values.specs.Leaves.{unsigned, oid, span}
 use Rattle.ber_values.specs.Externals.{external_of, external}
-use Rattle.ber_values.specs.Runs.{AnyElement, IsSound, elements_octets}
+use Rattle.ber_values.specs.Runs.{AnyElement, IsSoundElement, elements_octets}
 use Rattle.ber_values.specs.declared.head.Head.{Head}
 use Rattle.acse_assoc.specs.Users.{user_information}
 use Rattle.acse_assoc.specs.Requests.{one_oid}
@@ -31,7 +31,7 @@ short tag contents = record {
 }
 
 short_sound : (tag : ℕ) (contents : List ℕ) → tag % 32 ≢ 31 → length contents < 128
-    → IsSound (short tag contents)
+    → IsSoundElement (short tag contents)
 short_sound tag contents single few = record {
   tag = (single, refl);
   behind = inl (inl (few, refl, refl), refl);

@@ -32,16 +32,16 @@ use Rattle.acse_assoc.specs.Rising.{least_after}
 use Rattle.acse_assoc.specs.Rising.{by_tag, rising_within, rising_in, named_in, perhaps_in, attempt}
 use Rattle.acse_assoc.specs.Users.{user_information}
 use Rattle.acse_assoc.specs.Requests.{one_oid, context_name, titled, calling_title}
-use Rattle.acse_assoc.specs.Requests.{user_last, request_of, request}
+use Rattle.acse_assoc.specs.Requests.{user_last, aarq_of, request}
 use Rattle.acse_assoc.specs.Apdus.{one_apdu, apdu}
-use Rattle.acse_assoc.specs.Writing.{user_octets, title_octets, request_contents, request_octets}
-use Rattle.acse_assoc.specs.Responses.{context_passed, largest_result, one_result, result_next}
-use Rattle.acse_assoc.specs.Responses.{user_of_result, some_user_last, response_of, response}
-use Rattle.acse_assoc.specs.Writing.{mms_context, result_octets, diagnosed, diagnostic}
-use Rattle.acse_assoc.specs.Writing.{some_user_octets, response_contents, HasUser, IsSmall, IsOfId}
-use Rattle.acse_assoc.specs.Writing.{some_moved, IsTitle, apdu_octets, short_octets}
-use Rattle.acse_assoc.specs.Writing.{apdu_as_written, IsWritable, IsHeld, IsAsExpected}
-use Rattle.acse_assoc.specs.Writing.{response_octets}
+use Rattle.acse_assoc.specs.Writing.{user_information_octets, title_octets, aarq_contents, aarq_octets}
+use Rattle.acse_assoc.specs.Responses.{context_passed, largest_result, result_number, result_next}
+use Rattle.acse_assoc.specs.Responses.{user_of_result, some_user_last, aare_of, response}
+use Rattle.acse_assoc.specs.Writing.{mms_context, aare_result_octets, diagnosed, diagnostic}
+use Rattle.acse_assoc.specs.Writing.{some_user_octets, aare_contents, HasUser, IsSmall, IsOfId}
+use Rattle.acse_assoc.specs.Writing.{some_moved, IsKeptTitle, apdu_octets, short_octets}
+use Rattle.acse_assoc.specs.Writing.{apdu_as_written, IsWritableApdu, IsKeptApdu, IsExpectedApdu}
+use Rattle.acse_assoc.specs.Writing.{aare_octets}
 use Rattle.acse_assoc.proofs.RisingReads.{rising_reads, rising_within_reads}
 use Rattle.acse_assoc.proofs.Sizes.{context_len}
 
@@ -151,9 +151,9 @@ user_spelled expected id body at small few wanted =
 
 user_part_begins : (expected : Option ℕ) (id : ℕ) (body : List ℕ) (at : ℕ) → id < 2 ^ 32
     → length body ≤ MOST_BODY → is_wanted expected id ≡ true
-    → (part_in 190 (user_information expected)).begins at (user_octets id body)
-    (taken (external_of id (last_span (at + length (user_octets id body)) body))
-    (at + length (user_octets id body)) [])
+    → (part_in 190 (user_information expected)).begins at (user_information_octets id body)
+    (taken (external_of id (last_span (at + length (user_information_octets id body)) body))
+    (at + length (user_information_octets id body)) [])
 user_part_begins expected id body at small few wanted =
     let inner = written 40 (external_octets id body) in
     let from = at + 1 + length (length_octets (length inner)) in
@@ -164,31 +164,31 @@ user_part_begins expected id body at small few wanted =
           (omega (arith, external_few id body small few, few)),
     ) in
     subst (λ (u : External). (part_in 190 (user_information expected)).begins at
-    (user_octets id body) (taken u (at + length (user_octets id body)) []))
+    (user_information_octets id body) (taken u (at + length (user_information_octets id body)) []))
     (last_in at from id 190 inner body refl)
     (last-written 190 (user_information expected) at _ inner (omega (arith, size, few))
     (user_spelled expected id body from small few wanted))
 
 user_begins : (expected : Option ℕ) (least id : ℕ) (body : List ℕ) (at : ℕ) → (nat_le least 30 ≡ true)
     → id < 2 ^ 32 → length body ≤ MOST_BODY → is_wanted expected id ≡ true
-    → (named_in 30 (user_information expected) least).begins at (user_octets id body)
-    (taken (external_of id (last_span (at + length (user_octets id body)) body))
-    (at + length (user_octets id body)) [])
+    → (named_in 30 (user_information expected) least).begins at (user_information_octets id body)
+    (taken (external_of id (last_span (at + length (user_information_octets id body)) body))
+    (at + length (user_information_octets id body)) [])
 unfolding named_in branch_in
 user_begins expected least id body at le small few wanted =
     inl (le, user_part_begins expected id body at small few wanted)
 
 user_last_begins : (e : Expected) (from id : ℕ) (body : List ℕ) (at : ℕ)
     → (from ≡ 2) ⊎ (from ≡ 7) → id < 2 ^ 32 → length body ≤ MOST_BODY
-    → is_wanted e.request_id id ≡ true → (user_last e from).begins at (user_octets id body)
-    (taken (external_of id (last_span (at + length (user_octets id body)) body))
-    (at + length (user_octets id body)) [])
+    → is_wanted e.request_id id ≡ true → (user_last e from).begins at (user_information_octets id body)
+    (taken (external_of id (last_span (at + length (user_information_octets id body)) body))
+    (at + length (user_information_octets id body)) [])
 unfolding user_last then_in map_in
 user_last_begins e from id body at which small few wanted =
-    let end = at + length (user_octets id body) in
+    let end = at + length (user_information_octets id body) in
     let user = external_of id (last_span end body) in (
-      taken from at (user_octets id body),
-      rising_stops 30 from at (user_octets id body) (before_user from at _ which),
+      taken from at (user_information_octets id body),
+      rising_stops 30 from at (user_information_octets id body) (before_user from at _ which),
       (
         taken user end [],
         user_begins e.request_id from id body at (below from which) small few wanted,
@@ -217,7 +217,7 @@ context_begins at context rest named = (
   ),
 )
 
-title_begins : (at : ℕ) (title : Option (List ℕ)) (rest : List ℕ) → IsTitle title
+title_begins : (at : ℕ) (title : Option (List ℕ)) (rest : List ℕ) → IsKeptTitle title
     → calling_title.begins at (title_octets title ++ (190 ∷ rest))
     (taken (titled 2 (option_map Some title)) (at + length (title_octets title)) (190 ∷ rest))
 unfolding calling_title then_in map_in perhaps_in maybe_in branch_in gives attempt
@@ -264,9 +264,9 @@ title_least None = inl refl
 title_least (Some title) = inr refl
 
 request_spelled : (e : Expected) (context : List ℕ) (title : Option (List ℕ)) (id : ℕ)
-    (body : List ℕ) (at : ℕ) (front last whole : List ℕ) → IsOid context → IsTitle title → id < 2 ^ 32
+    (body : List ℕ) (at : ℕ) (front last whole : List ℕ) → IsOid context → IsKeptTitle title → id < 2 ^ 32
     → length body ≤ MOST_BODY → is_wanted e.request_id id ≡ true
-    → front ≡ written 161 (written 6 context) → last ≡ user_octets id body
+    → front ≡ written 161 (written 6 context) → last ≡ user_information_octets id body
     → whole ≡ front ++ (title_octets title ++ last)
     → (request e).spells at (record {
       context = context;
@@ -285,7 +285,7 @@ request_spelled e context title id body at front last whole named titled_is smal
       length-append front (title_octets title ++ last),
       length-append (title_octets title) last,
     ) in
-    let made : AssociateRequest = request_of context t (external_of id (last_span end body)) in (
+    let made : AssociateRequest = aarq_of context t (external_of id (last_span end body)) in (
       taken made end [],
       (
         taken context next (title_octets title ++ last),
@@ -323,14 +323,14 @@ request_spelled e context title id body at front last whole named titled_is smal
         (taken context (at + length os) (title_octets title ++ last))) (sym f)
         (context_begins at context (title_octets title ++ last) named)
 
-    title_at : last ≡ user_octets id body
+    title_at : last ≡ user_information_octets id body
         → calling_title.begins (at + length front) (title_octets title ++ last)
         (taken (titled 2 (option_map Some title)) (at + length front + length (title_octets title)) last)
     title_at l = subst (λ (os : List ℕ). calling_title.begins (at + length front) (title_octets title ++ os)
         (taken (titled 2 (option_map Some title)) (at + length front + length (title_octets title)) os))
         (sym l) (title_begins (at + length front) title _ titled_is)
 
-    last_at : last ≡ user_octets id body
+    last_at : last ≡ user_information_octets id body
         → (user_last e (titled 2 (option_map Some title)).least).begins
         (at + length front + length (title_octets title)) last
         (taken (external_of id (last_span (at + length front + length (title_octets title) + length last) body))
@@ -378,8 +378,8 @@ unfolding rising_in rising_within by_length by_tag branch_in gives tag_in
 before_result at rest = refl
 
 one_result_spelled : (e : Expected) (at result : ℕ) → result < 256 → result ≤ largest_result e
-    → (one_result e).spells at result (written 2 (integer_octets (pos result)))
-unfolding one_result all_in unsigned_within contents_where
+    → (result_number e).spells at result (written 2 (integer_octets (pos result)))
+unfolding result_number all_in unsigned_within contents_where
 one_result_spelled e at result small most =
     let octets = integer_octets (pos result) in (
       taken result (at + length (written 2 octets)) [],
@@ -396,17 +396,17 @@ one_result_spelled e at result small most =
     )
 
 result_begins : (e : Expected) (at result : ℕ) (rest : List ℕ) → result < 256
-    → result ≤ largest_result e → (result_next e 2).begins at (result_octets result ++ rest)
-    (taken result (at + length (result_octets result)) rest)
+    → result ≤ largest_result e → (result_next e 2).begins at (aare_result_octets result ++ rest)
+    (taken result (at + length (aare_result_octets result)) rest)
 unfolding result_next then_in named_in branch_in
 result_begins e at result rest small most =
     let octets = integer_octets (pos result) in
     let size : length octets ≤ 8 = integer-few result (omega (arith, small)) in (
-      taken 2 at (result_octets result ++ rest),
+      taken 2 at (aare_result_octets result ++ rest),
       rising_stops 2 2 at _ (before_result at _),
       inl (
         refl,
-        part-written 162 (one_result e) at result (written 2 octets) rest
+        part-written 162 (result_number e) at result (written 2 octets) rest
             (omega (arith, size, written-few 2 octets (omega (arith, size))))
             (one_result_spelled e _ result small most),
       ),
@@ -427,7 +427,7 @@ after_diagnostic : (room at : ℕ) (user : Option External) (body : List ℕ)
     → (rising_within 30 (suc room) 4).begins at (some_user_octets user body)
     (taken 4 at (some_user_octets user body))
 after_diagnostic room at None body = (rising_within_reads 30 (suc room) 4 at []).found _ (none_first room at)
-after_diagnostic room at (Some user) body = (rising_within_reads 30 (suc room) 4 at (user_octets user.id body)).found _ (some_first 30 4 room at _)
+after_diagnostic room at (Some user) body = (rising_within_reads 30 (suc room) 4 at (user_information_octets user.id body)).found _ (some_first 30 4 room at _)
 
 diagnostic_is : (result : ℕ) → diagnostic result ≡ written 163 (161 ∷ 3 ∷ 2 ∷ 1 ∷ diagnosed result ∷ [])
 unfolding length_octets
@@ -483,7 +483,7 @@ user_of_result_begins e result None body at has small few wanted =
       ),
     )
 user_of_result_begins e result (Some user) body at has small few wanted =
-    let end = at + length (user_octets user.id body) in
+    let end = at + length (user_information_octets user.id body) in
     let moved_user = external_of user.id (last_span end body) in
     let part = user_part_begins e.response_id user.id body at small few wanted in
     elim (cases_Bool (eqb result 0)) [
@@ -522,13 +522,13 @@ some_user_last_begins e result user body at has small few wanted =
 response_spelled : (e : Expected) (result : ℕ) (user : Option External) (body : List ℕ) (at : ℕ)
     → result < 256 → result ≤ largest_result e → HasUser result user → IsSmall user
     → length body ≤ MOST_BODY → IsOfId e.response_id user
-    → (response e).spells at (response_of result (some_moved (last_span
-    (at + length (response_contents (response_of result user) body)) body) user))
-    (response_contents (response_of result user) body)
+    → (response e).spells at (aare_of result (some_moved (last_span
+    (at + length (aare_contents (aare_of result user) body)) body) user))
+    (aare_contents (aare_of result user) body)
 unfolding response all_in then_in map_in
 response_spelled e result user body at byte most has small few wanted =
     let context = written 161 (written 6 mms_context) in
-    let answer = result_octets result in
+    let answer = aare_result_octets result in
     let last = diagnostic result ++ some_user_octets user body in
     let next = at + length context in
     let then_at = next + length answer in
@@ -541,7 +541,7 @@ response_spelled e result user body at byte most has small few wanted =
       length-append (diagnostic result) (some_user_octets user body),
     ) in
     let found = some_moved (last_span end body) user in (
-      taken (response_of result found) end [],
+      taken (aare_of result found) end [],
       (
         taken 2 next (answer ++ last),
         context_passes at (answer ++ last),
@@ -557,14 +557,14 @@ response_spelled e result user body at byte most has small few wanted =
       ),
       (
         refl,
-        ap (λ (n : ℕ). response_of result (some_moved (last_span n body) user)) (sym ends),
+        ap (λ (n : ℕ). aare_of result (some_moved (last_span n body) user)) (sym ends),
       ),
     )
 
 -- ---- APDUs
 
 user_few : (id : ℕ) (body : List ℕ) → id < 2 ^ 32 → length body ≤ MOST_BODY
-    → length (user_octets id body) ≤ length body + 32
+    → length (user_information_octets id body) ≤ length body + 32
 user_few id body small few =
     let first = external_few id body small few in
     let second = written-few 40 (external_octets id body) (omega (arith, first, few)) in
@@ -576,7 +576,7 @@ user_few id body small few =
       written-few 190 (written 40 (external_octets id body)) (omega (arith, first, second, few)),
     )
 
-title_few : (title : Option (List ℕ)) → IsTitle title → length (title_octets title) ≤ 44
+title_few : (title : Option (List ℕ)) → IsKeptTitle title → length (title_octets title) ≤ 44
 title_few None named = omega arith
 title_few (Some title) named =
     let first = written-few 6 title (omega (arith, named.1)) in
@@ -587,9 +587,9 @@ title_few (Some title) named =
       written-few 166 (written 6 title) (omega (arith, named.1, first)),
     )
 
-request_few : (r : AssociateRequest) (body : List ℕ) → IsOid r.context → IsTitle r.title
+request_few : (r : AssociateRequest) (body : List ℕ) → IsOid r.context → IsKeptTitle r.title
     → r.user.id < 2 ^ 32 → length body ≤ MOST_BODY
-    → length (request_contents r body) ≤ length body + 200
+    → length (aarq_contents r body) ≤ length body + 200
 request_few r body named titled_is small few =
     let first = written-few 6 r.context (omega (arith, named.1)) in
     let second = written-few 161 (written 6 r.context) (omega (arith, named.1, first)) in
@@ -601,8 +601,8 @@ request_few r body named titled_is small few =
       title_few r.title titled_is,
       user_few r.user.id body small few,
       length-append (written 161 (written 6 r.context))
-          (title_octets r.title ++ user_octets r.user.id body),
-      length-append (title_octets r.title) (user_octets r.user.id body),
+          (title_octets r.title ++ user_information_octets r.user.id body),
+      length-append (title_octets r.title) (user_information_octets r.user.id body),
     )
 
 some_user_few : (user : Option External) (body : List ℕ) → IsSmall user → length body ≤ MOST_BODY
@@ -612,7 +612,7 @@ some_user_few (Some user) body small few = user_few user.id body small few
 
 response_few : (result : ℕ) (user : Option External) (body : List ℕ) → result < 256 → IsSmall user
     → length body ≤ MOST_BODY
-    → length (response_contents (response_of result user) body) ≤ length body + 100
+    → length (aare_contents (aare_of result user) body) ≤ length body + 100
 response_few result user body byte small few =
     let size = integer-few result (omega (arith, byte)) in
     let first = written-few 2 (integer_octets (pos result)) (omega (arith, size)) in
@@ -626,8 +626,8 @@ response_few result user body byte small few =
       first,
       second,
       some_user_few user body small few,
-      length-append (written 161 (written 6 mms_context)) (result_octets result ++ last),
-      length-append (result_octets result) last,
+      length-append (written 161 (written 6 mms_context)) (aare_result_octets result ++ last),
+      length-append (aare_result_octets result) last,
       length-append (diagnostic result) (some_user_octets user body),
     )
 
@@ -642,15 +642,15 @@ whole_begins e at v octets end begins = (
   (refl, refl),
 )
 
-request_begins : (e : Expected) (r : AssociateRequest) (body : List ℕ) (at : ℕ) → IsHeld (Aarq r)
+request_begins : (e : Expected) (r : AssociateRequest) (body : List ℕ) (at : ℕ) → IsKeptApdu (Aarq r)
     → is_wanted e.request_id r.user.id ≡ true → length body ≤ MOST_BODY
-    → (one_apdu e).begins at (request_octets r body ++ [])
-    (taken (apdu_as_written at (Aarq r) body) (at + length (request_octets r body)) [])
+    → (one_apdu e).begins at (aarq_octets r body ++ [])
+    (taken (apdu_as_written at (Aarq r) body) (at + length (aarq_octets r body)) [])
 unfolding one_apdu contents_as
 request_begins e r body at held wanted few =
-    let contents = request_contents r body in
+    let contents = aarq_contents r body in
     let from = at + 1 + length (length_octets (length contents)) in
-    let ends : from + length contents ≡ at + length (request_octets r body) =
+    let ends : from + length contents ≡ at + length (aarq_octets r body) =
     omega (arith, length-append (length_octets (length contents)) contents) in
     choose-written 96 _ _ at _ contents []
     (omega (arith, request_few r body held.0 held.1.0 held.1.1 few, few)) (
@@ -669,21 +669,21 @@ request_begins e r body at held wanted few =
     )
 
 response_begins : (e : Expected) (r : AssociateResponse) (body : List ℕ) (at : ℕ)
-    → HasUser r.result r.user → IsHeld (Aare r) → r.result ≤ largest_result e
+    → HasUser r.result r.user → IsKeptApdu (Aare r) → r.result ≤ largest_result e
     → IsOfId e.response_id r.user → length body ≤ MOST_BODY
-    → (one_apdu e).begins at (response_octets r body ++ [])
-    (taken (apdu_as_written at (Aare r) body) (at + length (response_octets r body)) [])
+    → (one_apdu e).begins at (aare_octets r body ++ [])
+    (taken (apdu_as_written at (Aare r) body) (at + length (aare_octets r body)) [])
 unfolding one_apdu contents_as
 response_begins e r body at has held most wanted few =
-    let contents = response_contents r body in
+    let contents = aare_contents r body in
     let from = at + 1 + length (length_octets (length contents)) in
-    let ends : from + length contents ≡ at + length (response_octets r body) =
+    let ends : from + length contents ≡ at + length (aare_octets r body) =
     omega (arith, length-append (length_octets (length contents)) contents) in
     choose-other 96 _ _ at _ _ refl (choose-written 97 _ _ at _ contents []
     (omega (arith, response_few r.result r.user body held.0 held.1 few, few)) (
-      response_of r.result (some_moved (last_span (from + length contents) body) r.user),
+      aare_of r.result (some_moved (last_span (from + length contents) body) r.user),
       response_spelled e r.result r.user body from held.0 most has held.1 few wanted,
-      ap (λ (n : ℕ). Aare (response_of r.result (some_moved (last_span n body) r.user)))
+      ap (λ (n : ℕ). Aare (aare_of r.result (some_moved (last_span n body) r.user)))
           (sym ends),
     ))
 
@@ -714,8 +714,8 @@ abort_begins e at =
     (part-written 100 _ at Abrt (128 ∷ 1 ∷ 0 ∷ []) [] short_few (_, refl, refl)))))
 
 -- what is written for an APDU begins with it
-pub apdu_begins : (e : Expected) (v : Apdu) (body : List ℕ) → IsWritable v → IsHeld v
-    → IsAsExpected e v → length body ≤ MOST_BODY → (at : ℕ)
+pub apdu_begins : (e : Expected) (v : Apdu) (body : List ℕ) → IsWritableApdu v → IsKeptApdu v
+    → IsExpectedApdu e v → length body ≤ MOST_BODY → (at : ℕ)
     → (apdu e).begins at (apdu_octets v body)
     (taken (apdu_as_written at v body) (at + length (apdu_octets v body)) [])
 apdu_begins e (Aarq r) body writable held expected few at =

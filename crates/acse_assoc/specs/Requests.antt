@@ -44,12 +44,12 @@ user_last e from = then_in (rising_in USER_INFORMATION from) (λ least.
     then_in (named_in USER_INFORMATION (user_information e.request_id) least) (λ user.
     map_in (λ last. user) (rising_in LARGEST_NUMBER (USER_INFORMATION + 1))))
 
-abbrev pub request_of : List ℕ → Titled → External → AssociateRequest
-request_of context t user =
+abbrev pub aarq_of : List ℕ → Titled → External → AssociateRequest
+aarq_of context t user =
     record { context = context; title = t.title; user = user }
 
 unfoldable pub request : Expected → Contents AssociateRequest
 request e = all_in
     (then_in context_name (λ context.
     then_in calling_title (λ t.
-    map_in (request_of context t) (user_last e t.least))))
+    map_in (aarq_of context t) (user_last e t.least))))

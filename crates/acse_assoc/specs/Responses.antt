@@ -23,12 +23,12 @@ abbrev pub largest_result : Expected → ℕ
 largest_result e = if e.accepted then 0 else LARGEST_RESULT
 
 -- a number from 0 to 255, alone
-unfoldable pub one_result : Expected → Contents ℕ
-one_result e = all_in (part_in 2 (unsigned_within 0 (largest_result e)))
+unfoldable pub result_number : Expected → Contents ℕ
+result_number e = all_in (part_in 2 (unsigned_within 0 (largest_result e)))
 
 unfoldable pub result_next : Expected → ℕ → Grammar ℕ
 result_next e from =
-    then_in (rising_in RESULT from) (λ least. named_in RESULT (one_result e) least)
+    then_in (rising_in RESULT from) (λ least. named_in RESULT (result_number e) least)
 
 -- where the association is accepted there is user information, else perhaps
 unfoldable pub user_of_result : Expected → ℕ → ℕ → Grammar (Option External)
@@ -43,11 +43,11 @@ some_user_last e result = then_in (rising_in USER_INFORMATION (RESULT + 1)) (λ 
     map_in (λ last. user)
     (rising_in LARGEST_NUMBER (least_after USER_INFORMATION least user))))
 
-abbrev pub response_of : ℕ → Option External → AssociateResponse
-response_of result user = record { result = result; user = user }
+abbrev pub aare_of : ℕ → Option External → AssociateResponse
+aare_of result user = record { result = result; user = user }
 
 unfoldable pub response : Expected → Contents AssociateResponse
 response e = all_in
     (then_in context_passed (λ least.
     then_in (result_next e least) (λ result.
-    map_in (response_of result) (some_user_last e result))))
+    map_in (aare_of result) (some_user_last e result))))

@@ -27,14 +27,14 @@ abbrev pub either_in : {X : Type 0} → Bool → Grammar X → Grammar X → Gra
 either_in test one other = branch_in (λ octets. test) one other
 
 -- whether this is the constructed tag of the context class with this number, in one octet
-abbrev pub is_named : ℕ → Tag → Bool
-is_named number tag = tag.constructed && not tag.long_form && (tag.number == number)
+abbrev pub is_tag_numbered : ℕ → Tag → Bool
+is_tag_numbered number tag = tag.constructed && not tag.long_form && (tag.number == number)
 
 -- whether an element may be passed over before the one of a number: its own number is from `least`
 -- to that one, and it isn't that element
 abbrev pub may_pass : ℕ → ℕ → Tag → Bool
 may_pass number least tag =
-    nat_le least tag.number && nat_le tag.number number && not (is_named number tag)
+    nat_le least tag.number && nat_le tag.number number && not (is_tag_numbered number tag)
 
 -- passes over at most so many elements, whose numbers rise from `least` to `number`; the least
 -- number that may follow them

@@ -17,12 +17,12 @@ request_seen r =
     record { context = r.context.now; title = option_copied r.title; user = r.user }
 
 -- the body of user information, if there is any, stands between two places
-abbrev pub IsSomeWithin : ℕ → ℕ → Option External → Type 0
-IsSomeWithin at end None = Unit {0}
-IsSomeWithin at end (Some user) = IsSpanWithin at end user.body
+abbrev pub IsUserBodyWithin : ℕ → ℕ → Option External → Type 0
+IsUserBodyWithin at end None = Unit {0}
+IsUserBodyWithin at end (Some user) = IsSpanWithin at end user.body
 
 -- the body of an APDU, if it has one, stands between two places
-abbrev pub IsBodyWithin : ℕ → ℕ → Apdu → Type 0
-IsBodyWithin at end (Aarq r) = IsSpanWithin at end r.user.body
-IsBodyWithin at end (Aare r) = IsSomeWithin at end r.user
-IsBodyWithin at end apdu = Unit {0}
+abbrev pub IsApduBodyWithin : ℕ → ℕ → Apdu → Type 0
+IsApduBodyWithin at end (Aarq r) = IsSpanWithin at end r.user.body
+IsApduBodyWithin at end (Aare r) = IsUserBodyWithin at end r.user
+IsApduBodyWithin at end apdu = Unit {0}

@@ -3,13 +3,13 @@
 use Rattle.std.specs.Prelude.{◌≡◌, ◌≢◌, ℕ, ◌+◌, ◌<◌, List, [], ◌∷◌, length, All, AllPairs, ◌⊎◌}
 use Rattle.std.specs.Prelude.{Option, Some, None}
 use Rattle.ber_values.specs.Parts.{Contents}
-use Rattle.ber_values.specs.Runs.{AnyElement, IsSound, element_octets, elements_octets}
+use Rattle.ber_values.specs.Runs.{AnyElement, IsSoundElement, element_octets, elements_octets}
 use Rattle.acse_assoc.specs.declared.expected.Expected.{Expected}
 use Rattle.acse_assoc.specs.declared.request.AssociateRequest.{AssociateRequest}
 use Rattle.acse_assoc.specs.declared.response.AssociateResponse.{AssociateResponse}
 use Rattle.acse_assoc.specs.Users.{user_information}
 use Rattle.acse_assoc.specs.Requests.{one_oid}
-use Rattle.acse_assoc.specs.Responses.{one_result}
+use Rattle.acse_assoc.specs.Responses.{result_number}
 use Rattle.acse_assoc.specs.Writing.{HasUser}
 
 -- each number is below those of all later elements
@@ -18,7 +18,7 @@ IsRising elements = AllPairs (λ a b. a.tag.number < b.tag.number) elements
 
 -- octets are these elements, all of the context class, whose numbers rise
 pub record IsSequence (octets : List ℕ) (elements : List AnyElement) : Type 0 where
-  pub sound : All IsSound elements
+  pub sound : All IsSoundElement elements
   pub parts : octets ≡ elements_octets elements
   pub context : All (λ e. e.tag.class ≡ 2) elements
   pub rising : IsRising elements
@@ -60,14 +60,14 @@ pub record IsAare (e : Expected) (at : ℕ) (octets : List ℕ) (elements : List
   pub sequence : IsSequence octets elements
   pub name : Option (List ℕ)
   pub context : MayHaveElement 161 one_oid at elements name
-  pub result : HasElement 162 (one_result e) at elements r.result
+  pub result : HasElement 162 (result_number e) at elements r.result
   pub user : MayHaveElement 190 (user_information e.response_id) at elements r.user
   pub accepted : HasUser r.result r.user
 
 -- octets, of which the first has the place at, are one element of this tag, whose contents hold
 pub record IsOneElement (tag at : ℕ) (octets : List ℕ) (Holds : ℕ → List ℕ → Type 0) : Type 0 where
   pub element : AnyElement
-  pub sound : IsSound element
+  pub sound : IsSoundElement element
   pub tagged : element.tagged ≡ tag ∷ []
   pub parts : octets ≡ element_octets element
   pub contents : Holds (at + length element.tagged + length element.sized) element.contents

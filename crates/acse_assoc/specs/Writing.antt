@@ -17,19 +17,19 @@ use Rattle.acse_assoc.specs.declared.apdu.Apdu.TheVariants.{Aarq, Aare, Rlrq, Rl
 use Rattle.ber_values.specs.Externals.{external_of}
 
 -- the user information of this context
-abbrev pub user_octets : ℕ → List ℕ → List ℕ
-user_octets id body = written 190 (written 40 (external_octets id body))
+abbrev pub user_information_octets : ℕ → List ℕ → List ℕ
+user_information_octets id body = written 190 (written 40 (external_octets id body))
 
 abbrev pub title_octets : Option (List ℕ) → List ℕ
 title_octets None = []
 title_octets (Some title) = written 166 (written 6 title)
 
-abbrev pub request_contents : AssociateRequest → List ℕ → List ℕ
-request_contents r body = written 161 (written 6 r.context)
-    ++ (title_octets r.title ++ user_octets r.user.id body)
+abbrev pub aarq_contents : AssociateRequest → List ℕ → List ℕ
+aarq_contents r body = written 161 (written 6 r.context)
+    ++ (title_octets r.title ++ user_information_octets r.user.id body)
 
-abbrev pub request_octets : AssociateRequest → List ℕ → List ℕ
-request_octets r body = written 96 (request_contents r body)
+abbrev pub aarq_octets : AssociateRequest → List ℕ → List ℕ
+aarq_octets r body = written 96 (aarq_contents r body)
 
 -- iso standard 9506 part 2, the application context
 abbrev pub mms_context : List ℕ
@@ -45,25 +45,25 @@ diagnostic result = 163 ∷ 5 ∷ 161 ∷ 3 ∷ 2 ∷ 1 ∷ diagnosed result ∷
 
 abbrev pub some_user_octets : Option External → List ℕ → List ℕ
 some_user_octets None body = []
-some_user_octets (Some user) body = user_octets user.id body
+some_user_octets (Some user) body = user_information_octets user.id body
 
-abbrev pub result_octets : ℕ → List ℕ
-result_octets result = written 162 (written 2 (integer_octets (pos result)))
+abbrev pub aare_result_octets : ℕ → List ℕ
+aare_result_octets result = written 162 (written 2 (integer_octets (pos result)))
 
-abbrev pub response_contents : AssociateResponse → List ℕ → List ℕ
-response_contents r body = written 161 (written 6 mms_context)
-    ++ (result_octets r.result ++ (diagnostic r.result ++ some_user_octets r.user body))
+abbrev pub aare_contents : AssociateResponse → List ℕ → List ℕ
+aare_contents r body = written 161 (written 6 mms_context)
+    ++ (aare_result_octets r.result ++ (diagnostic r.result ++ some_user_octets r.user body))
 
-abbrev pub response_octets : AssociateResponse → List ℕ → List ℕ
-response_octets r body = written 97 (response_contents r body)
+abbrev pub aare_octets : AssociateResponse → List ℕ → List ℕ
+aare_octets r body = written 97 (aare_contents r body)
 
 -- the reason: normal, or none
 abbrev pub short_octets : ℕ → List ℕ
 short_octets tag = tag ∷ 3 ∷ 128 ∷ 1 ∷ 0 ∷ []
 
 abbrev pub apdu_octets : Apdu → List ℕ → List ℕ
-apdu_octets (Aarq r) body = request_octets r body
-apdu_octets (Aare r) body = response_octets r body
+apdu_octets (Aarq r) body = aarq_octets r body
+apdu_octets (Aare r) body = aare_octets r body
 apdu_octets Rlrq body = short_octets 98
 apdu_octets Rlre body = short_octets 99
 apdu_octets Abrt body = short_octets 100
@@ -93,24 +93,24 @@ abbrev pub HasUser : ℕ → Option External → Type 0
 HasUser result None = result ≢ 0
 HasUser result (Some user) = Unit {0}
 
-abbrev pub IsWritable : Apdu → Type 0
-IsWritable (Aare r) = HasUser r.result r.user
-IsWritable apdu = Unit {0}
+abbrev pub IsWritableApdu : Apdu → Type 0
+IsWritableApdu (Aare r) = HasUser r.result r.user
+IsWritableApdu apdu = Unit {0}
 
 -- what the types of a title and of user information keep
-abbrev pub IsTitle : Option (List ℕ) → Type 0
-IsTitle None = Unit {0}
-IsTitle (Some title) = IsOid title
+abbrev pub IsKeptTitle : Option (List ℕ) → Type 0
+IsKeptTitle None = Unit {0}
+IsKeptTitle (Some title) = IsOid title
 
 abbrev pub IsSmall : Option External → Type 0
 IsSmall None = Unit {0}
 IsSmall (Some user) = user.id < 2 ^ 32
 
 -- what the type of an APDU keeps
-abbrev pub IsHeld : Apdu → Type 0
-IsHeld (Aarq r) = IsOid r.context × (IsTitle r.title × (r.user.id < 2 ^ 32))
-IsHeld (Aare r) = (r.result < 256) × IsSmall r.user
-IsHeld apdu = Unit {0}
+abbrev pub IsKeptApdu : Apdu → Type 0
+IsKeptApdu (Aarq r) = IsOid r.context × (IsKeptTitle r.title × (r.user.id < 2 ^ 32))
+IsKeptApdu (Aare r) = (r.result < 256) × IsSmall r.user
+IsKeptApdu apdu = Unit {0}
 
 -- the id is the one that is expected, if one is
 abbrev pub IsOfId : Option ℕ → Option External → Type 0
@@ -118,7 +118,7 @@ IsOfId wanted None = Unit {0}
 IsOfId wanted (Some user) = is_wanted wanted user.id ≡ true
 
 -- an APDU has what is expected of it
-abbrev pub IsAsExpected : Expected → Apdu → Type 0
-IsAsExpected e (Aarq r) = is_wanted e.request_id r.user.id ≡ true
-IsAsExpected e (Aare r) = (r.result ≤ largest_result e) × IsOfId e.response_id r.user
-IsAsExpected e apdu = Unit {0}
+abbrev pub IsExpectedApdu : Expected → Apdu → Type 0
+IsExpectedApdu e (Aarq r) = is_wanted e.request_id r.user.id ≡ true
+IsExpectedApdu e (Aare r) = (r.result ≤ largest_result e) × IsOfId e.response_id r.user
+IsExpectedApdu e apdu = Unit {0}

@@ -6,8 +6,8 @@ ghost use Rattle.ber_values.specs.declared.lengths.TheConstants.{MOST_BODY};
 ghost use Rattle.ber_values.specs.Readers.{IsReadBy, taken_from, taken_whole};
 ghost use Rattle.ber_values.specs.Stops.{Answers};
 ghost use Rattle.acse_assoc.specs.Apdus.{one_apdu, apdu};
-ghost use Rattle.acse_assoc.specs.Seen.{IsBodyWithin};
-ghost use Rattle.acse_assoc.specs.Writing.{apdu_octets, short_octets, IsWritable};
+ghost use Rattle.acse_assoc.specs.Seen.{IsApduBodyWithin};
+ghost use Rattle.acse_assoc.specs.Writing.{apdu_octets, short_octets, IsWritableApdu};
 
 use crate::expected::Expected;
 use crate::numbers::{AARE, AARQ, ABRT, RLRE, RLRQ};
@@ -44,7 +44,7 @@ pub fn read_apdu(
     requires stop { end ≤ length bytes.now }
     ensures exact { IfOk result (λ read. IsReadBy (apdu expected)
         (taken_whole at (slice_range bytes.now at end)) at (slice_range bytes.now at end) read) }
-    ensures body { IfOk result (λ read. IfOk read (λ v. IsBodyWithin at end v)) }
+    ensures body { IfOk result (λ read. IfOk read (λ v. IsApduBodyWithin at end v)) }
 {
     settle(apdu_from(alloc, &bytes[at..end], at, expected))
 }
@@ -55,7 +55,7 @@ fn apdu_from(alloc: Global, octets: &[u8], at: usize, expected: Expected) -> Res
     requires { at + length octets.now < 2 ^ 64 }
     ensures exact { Answers (taken_whole at octets.now) result
         ((apdu expected).reading at octets.now) }
-    ensures body { IfOk result (λ v. IsBodyWithin at (at + length octets.now) v) }
+    ensures body { IfOk result (λ v. IsApduBodyWithin at (at + length octets.now) v) }
 {
     let (apdu, next) = take_apdu(alloc, octets, at, expected)?;
     take_end(octets_from(octets, at, next), next)?;
@@ -74,7 +74,7 @@ fn take_apdu(
     ensures exact { Answers (taken_from at octets.now) result
         ((one_apdu expected).reading at octets.now) }
     ensures within { IfOk result (λ x. (at < x.1) × (x.1 ≤ at + length octets.now)) }
-    ensures body { IfOk result (λ x. IsBodyWithin at (at + length octets.now) x.0) }
+    ensures body { IfOk result (λ x. IsApduBodyWithin at (at + length octets.now) x.0) }
 {
     if has_tag(octets, AARQ) {
         let part = take_part(octets, at, AARQ)?;
@@ -101,7 +101,7 @@ fn take_apdu(
 /// Appends an APDU with this body, of at most [`MOST_BODY`] octets; the place of its own body
 /// doesn't count. RLRQ, RLRE and ABRT have none. After want of memory `out` is as before.
 pub fn write_apdu(out: &mut Vec<u8>, apdu: &Apdu, body: &[u8]) -> Result<(), AllocError>
-    requires writable { IsWritable apdu.now }
+    requires writable { IsWritableApdu apdu.now }
     requires bounded { length body.now ≤ MOST_BODY }
     ensures ok { OnOk result (out.new.items ≡ out.old.items ++ apdu_octets apdu.now body.now) }
     ensures err { OnErr result (out.new.items ≡ out.old.items) }

@@ -12,8 +12,9 @@ ghost use Rattle.ber_values.specs.declared.lengths.TheConstants.{MOST_BODY};
 ghost use Rattle.ber_values.specs.Grammars.{taken};
 ghost use Rattle.acse_assoc.specs.Apdus.{apdu};
 ghost use Rattle.acse_assoc.specs.Sequences.{IsWholeAarq, IsWholeAare};
-ghost use Rattle.acse_assoc.specs.Writing.{apdu_octets, apdu_as_written, IsWritable, IsHeld};
-ghost use Rattle.acse_assoc.specs.Writing.{IsAsExpected};
+ghost use Rattle.acse_assoc.specs.Writing.{apdu_octets, apdu_as_written, IsWritableApdu};
+ghost use Rattle.acse_assoc.specs.Writing.{IsKeptApdu};
+ghost use Rattle.acse_assoc.specs.Writing.{IsExpectedApdu};
 
 /// Octets have one reading, whatever is expected: exactly one holds, they spell exactly one APDU,
 /// or they have exactly one first fault.
@@ -25,8 +26,8 @@ pub fn apdus_have_one_reading()
 /// What is written for an APDU that has what is expected of it is read back as the same APDU, whose
 /// body is the octets that were given.
 pub fn written_apdus_are_read()
-    ensures { (e : Expected) (v : Apdu) (body : List ℕ) → IsWritable v → IsHeld v
-        → IsAsExpected e v → length body ≤ MOST_BODY → (at : ℕ)
+    ensures { (e : Expected) (v : Apdu) (body : List ℕ) → IsWritableApdu v → IsKeptApdu v
+        → IsExpectedApdu e v → length body ≤ MOST_BODY → (at : ℕ)
         → (apdu e).begins at (apdu_octets v body)
         (taken (apdu_as_written at v body) (at + length (apdu_octets v body)) []) }
 {}

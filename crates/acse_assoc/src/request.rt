@@ -12,7 +12,7 @@ ghost use Rattle.ber_values.specs.declared.lengths.TheConstants.{MOST_BODY};
 ghost use Rattle.acse_assoc.specs.Rising.{read_of};
 ghost use Rattle.acse_assoc.specs.Requests.{one_oid, context_name, calling_title, user_last};
 ghost use Rattle.acse_assoc.specs.Requests.{request};
-ghost use Rattle.acse_assoc.specs.Writing.{title_octets, request_contents, request_octets};
+ghost use Rattle.acse_assoc.specs.Writing.{title_octets, aarq_contents, aarq_octets};
 ghost use Rattle.acse_assoc.specs.Seen.{titled_seen, request_seen};
 
 use crate::expected::Expected;
@@ -249,7 +249,7 @@ fn put_title(out: &mut Vec<u8>, title: &Option<Oid>) -> Result<(), AllocError>
 fn request_len(request: &AssociateRequest, body: usize) -> usize
     requires { body ≤ MOST_BODY }
     ensures value { (octets : List ℕ) → length octets ≡ body
-        → result ≡ length (request_contents request.now octets) }
+        → result ≡ length (aarq_contents request.now octets) }
     ensures few { result ≤ body + 100 }
 {
     named_oid_len(&request.context) + title_len(&request.title) + user_len(request.user.id, body)
@@ -264,7 +264,7 @@ pub(crate) fn put_request(
 ) -> Result<(), AllocError>
     requires { length body.now ≤ MOST_BODY }
     ensures ok { OnOk result
-        (out.new.items ≡ out.old.items ++ request_octets request.now body.now) }
+        (out.new.items ≡ out.old.items ++ aarq_octets request.now body.now) }
     ensures err { OnErr result (Extends out.old.items out.new.items) }
 {
     write_head(out, AARQ, request_len(request, body.len()))?;

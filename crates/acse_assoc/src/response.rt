@@ -7,13 +7,13 @@ ghost use Rattle.ber_values.specs.Grammars.{taken};
 ghost use Rattle.acse_assoc.specs.declared.numbers.TheConstants.{USER_INFORMATION};
 ghost use Rattle.ber_values.specs.declared.lengths.TheConstants.{MOST_BODY};
 ghost use Rattle.ber_values.specs.Writing.{written, integer_octets};
-ghost use Rattle.acse_assoc.specs.Writing.{mms_context, result_octets, diagnostic};
+ghost use Rattle.acse_assoc.specs.Writing.{mms_context, aare_result_octets, diagnostic};
 ghost use Rattle.acse_assoc.specs.Writing.{some_user_octets};
-ghost use Rattle.acse_assoc.specs.Writing.{response_contents, response_octets};
+ghost use Rattle.acse_assoc.specs.Writing.{aare_contents, aare_octets};
 ghost use Rattle.acse_assoc.specs.Rising.{perhaps_in, least_after};
 ghost use Rattle.acse_assoc.specs.Users.{user_information};
-ghost use Rattle.acse_assoc.specs.Seen.{IsSomeWithin};
-ghost use Rattle.acse_assoc.specs.Responses.{context_passed, largest_result, one_result};
+ghost use Rattle.acse_assoc.specs.Seen.{IsUserBodyWithin};
+ghost use Rattle.acse_assoc.specs.Responses.{context_passed, largest_result, result_number};
 ghost use Rattle.acse_assoc.specs.Responses.{result_next, user_of_result, some_user_last, response};
 
 use crate::expected::Expected;
@@ -46,7 +46,7 @@ pub(crate) fn response_from(
 ) -> Result<AssociateResponse, BerFault>
     requires { part.now.head.body + length part.now.contents.now < 2 ^ 64 }
     ensures exact { result ≡ (response expected).reading part.now.head part.now.contents.now }
-    ensures body { IfOk result (λ r. IsSomeWithin part.now.head.body
+    ensures body { IfOk result (λ r. IsUserBodyWithin part.now.head.body
         (part.now.head.body + length part.now.contents.now) r.user) }
 {
     let left = pass_context(part.contents, part.head.body)?;
@@ -92,10 +92,10 @@ impl Expected {
 }
 
 /// The result that alone stands in this element.
-#[tactic(auto, unfolding(crate::specs::Responses::one_result, ber_values::specs::Parts::all_in, ber_values::specs::Parts::part_in))]
+#[tactic(auto, unfolding(crate::specs::Responses::result_number, ber_values::specs::Parts::all_in, ber_values::specs::Parts::part_in))]
 fn result_from(part: &Part<'_>, expected: Expected) -> Result<u8, BerFault>
     requires { part.now.head.body + length part.now.contents.now < 2 ^ 64 }
-    ensures { result ≡ (one_result expected).reading part.now.head part.now.contents.now }
+    ensures { result ≡ (result_number expected).reading part.now.head part.now.contents.now }
 {
     let number = take_part(part.contents, part.head.body, INTEGER)?;
     let result = number.unsigned_within(0, expected.largest_result())?;
@@ -133,7 +133,7 @@ fn perhaps_user<'a>(
         left.now.at left.now.octets.now) }
     ensures within { IfOk result (λ x. (left.now.at ≤ x.1)
         × (x.1 + length x.2.now ≡ left.now.at + length left.now.octets.now)) }
-    ensures body { IfOk result (λ x. IsSomeWithin left.now.at
+    ensures body { IfOk result (λ x. IsUserBodyWithin left.now.at
         (left.now.at + length left.now.octets.now) x.0) }
 {
     if USER_INFORMATION < left.least {
@@ -160,7 +160,7 @@ fn user_of_result<'a>(
         left.now.at left.now.octets.now) }
     ensures within { IfOk result (λ x. (left.now.at ≤ x.1)
         × (x.1 + length x.2.now ≡ left.now.at + length left.now.octets.now)) }
-    ensures body { IfOk result (λ x. IsSomeWithin left.now.at
+    ensures body { IfOk result (λ x. IsUserBodyWithin left.now.at
         (left.now.at + length left.now.octets.now) x.0) }
 {
     if code == 0 {
@@ -181,7 +181,7 @@ fn take_user(
     requires { at + length octets.now < 2 ^ 64 }
     ensures exact { Gives (λ x. taken x.0 x.1 x.2.now) result
         ((some_user_last expected code).reading at octets.now) }
-    ensures body { IfOk result (λ x. IsSomeWithin at (at + length octets.now) x.0) }
+    ensures body { IfOk result (λ x. IsUserBodyWithin at (at + length octets.now) x.0) }
 {
     let left = pass_rising(octets, at, USER_INFORMATION, RESULT + 1)?;
     let (user, at, octets) = user_of_result(&left, code, expected)?;
@@ -216,14 +216,14 @@ fn code_len(code: u8) -> usize
 
 /// The length of a written result.
 fn result_len(code: u8) -> usize
-    ensures value { result ≡ length (result_octets code) }
+    ensures value { result ≡ length (aare_result_octets code) }
     ensures few { result ≤ 12 }
 {
     2 + code_len(code)
 }
 
 fn put_result(out: &mut Vec<u8>, code: u8) -> Result<(), AllocError>
-    ensures ok { OnOk result (out.new.items ≡ out.old.items ++ result_octets code) }
+    ensures ok { OnOk result (out.new.items ≡ out.old.items ++ aare_result_octets code) }
     ensures err { OnErr result (Extends out.old.items out.new.items) }
 {
     write_head(out, RESULT_TAG, code_len(code))?;
@@ -269,7 +269,7 @@ fn put_some_user(out: &mut Vec<u8>, user: Option<External>, body: &[u8]) -> Resu
 fn response_len(response: &AssociateResponse, body: usize) -> usize
     requires { body ≤ MOST_BODY }
     ensures value { (octets : List ℕ) → length octets ≡ body
-        → result ≡ length (response_contents response.now octets) }
+        → result ≡ length (aare_contents response.now octets) }
     ensures few { result ≤ body + 56 }
 {
     CONTEXT.len() + result_len(response.result) + 7 + some_user_len(response.user, body)
@@ -284,7 +284,7 @@ pub(crate) fn put_response(
 ) -> Result<(), AllocError>
     requires { length body.now ≤ MOST_BODY }
     ensures ok { OnOk result
-        (out.new.items ≡ out.old.items ++ response_octets response.now body.now) }
+        (out.new.items ≡ out.old.items ++ aare_octets response.now body.now) }
     ensures err { OnErr result (Extends out.old.items out.new.items) }
 {
     write_head(out, AARE, response_len(response, body.len()))?;

@@ -3,7 +3,7 @@ ghost use Rattle.std.specs.Prelude.{◌≡◌, ◌+◌, ◌-◌, ◌^◌, ◌<�
 ghost use Rattle.std.specs.Prelude.{OnErr};
 ghost use Rattle.ber_values.specs.Faults.{Gives};
 ghost use Rattle.ber_values.specs.Grammars.{taken};
-ghost use Rattle.acse_assoc.specs.Rising.{is_named, may_pass, rising_in, PassesNext};
+ghost use Rattle.acse_assoc.specs.Rising.{is_tag_numbered, may_pass, rising_in, PassesNext};
 
 use ber_values::{BerFault, Tag, is_context, octets_from, read_tag, skip_part};
 
@@ -18,7 +18,7 @@ pub(crate) struct Left<'a> {
 
 /// Whether this is the tag of the element of a number.
 fn is_named(number: u32, tag: &Tag) -> bool
-    ensures { result ≡ is_named number tag.now }
+    ensures { result ≡ is_tag_numbered number tag.now }
 {
     tag.constructed && !tag.long_form && tag.number == number
 }

@@ -10,7 +10,7 @@ ghost use Rattle.acse_assoc.specs.Users.{user_information};
 ghost use Rattle.ber_values.specs.declared.lengths.TheConstants.{MOST_BODY};
 ghost use Rattle.ber_values.specs.Writing.{written};
 ghost use Rattle.ber_values.specs.Externals.{external_octets, IsSpanWithin};
-ghost use Rattle.acse_assoc.specs.Writing.{user_octets};
+ghost use Rattle.acse_assoc.specs.Writing.{user_information_octets};
 
 use crate::numbers::{EXTERNAL, USER_INFORMATION, USER_INFORMATION_TAG};
 use crate::rising::Left;
@@ -73,7 +73,7 @@ fn external_part_len(id: u32, body: usize) -> usize
 pub(crate) fn user_len(id: u32, body: usize) -> usize
     requires { body ≤ MOST_BODY }
     ensures value { (octets : List ℕ) → length octets ≡ body
-        → result ≡ length (user_octets id octets) }
+        → result ≡ length (user_information_octets id octets) }
     ensures few { result ≤ body + 28 }
 {
     part_len(external_part_len(id, body))
@@ -92,7 +92,8 @@ fn put_external(out: &mut Vec<u8>, id: u32, body: &[u8]) -> Result<(), AllocErro
 /// Appends the user information of this context.
 pub(crate) fn put_user(out: &mut Vec<u8>, id: u32, body: &[u8]) -> Result<(), AllocError>
     requires { length body.now ≤ MOST_BODY }
-    ensures ok { OnOk result (out.new.items ≡ out.old.items ++ user_octets id body.now) }
+    ensures ok { OnOk result
+        (out.new.items ≡ out.old.items ++ user_information_octets id body.now) }
     ensures err { OnErr result (Extends out.old.items out.new.items) }
 {
     write_head(out, USER_INFORMATION_TAG, external_part_len(id, body.len()))?;

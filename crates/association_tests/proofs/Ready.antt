@@ -12,9 +12,9 @@ use Rattle.stack_assoc.specs.declared.end_state.EndState.{EndState}
 use Rattle.stack_assoc.specs.declared.end_state.EndState.TheVariants as standings
 use Rattle.stack_assoc.specs.Arrivals.{Arrival, Role}
 use Rattle.stack_assoc.specs.Tellings.{Tells}
-use Rattle.stack_assoc.specs.Courses.{Course, Stands, IsSettled, is_offered, state_of, state_with}
-use Rattle.stack_assoc.specs.Courses.{Answers, FollowsAnswer, fault_in}
-use Rattle.stack_assoc.specs.Saying.{with_standing, with_said, role_said, released, may_leave}
+use Rattle.stack_assoc.specs.Courses.{Course, CourseStands, IsCourseSettled, is_offered, stack_state_of, state_with}
+use Rattle.stack_assoc.specs.Courses.{IsNextAnswer, FollowsAnswer, fault_in}
+use Rattle.stack_assoc.specs.Saying.{with_standing, with_said, role_said, course_released, may_leave}
 use Rattle.stack_assoc.specs.Saying.{may_release, left_by}
 use Rattle.association_tests.specs.Playing.{IsSomewhere, IsGoing, IsReady, IsBehind, is_free}
 
@@ -22,8 +22,8 @@ use Rattle.association_tests.specs.Playing.{IsSomewhere, IsGoing, IsReady, IsBeh
 
 -- a piece more
 pub fed_going : {A E : Type 0} (r : Result A E) (old new : Course) (piece : List ℕ) → IsReady old
-    → ((role : Role) (octets : List ℕ) (told : List Arrival) → Stands role octets told old
-    → OnOk r (Stands role (octets ++ piece) told new))
+    → ((role : Role) (octets : List ℕ) (told : List Arrival) → CourseStands role octets told old
+    → OnOk r (CourseStands role (octets ++ piece) told new))
     → OnOk r (new.standing ≡ old.standing) → OnOk r (IsGoing new)
 fed_going (Ok x) old new piece p s e =
     let here = p.going.somewhere in
@@ -38,13 +38,13 @@ fed_going (Ok x) old new piece p s e =
     }
 fed_going (Err x) old new piece p s e = tt
 
-settled_by : (v : Course) (f : StackFault) → v.fault ≡ Some f → IsSettled v
-settled_by v f e = subst (λ (o : Option StackFault). MatchOption o (lines.IsSettled v.line)
+settled_by : (v : Course) (f : StackFault) → v.fault ≡ Some f → IsCourseSettled v
+settled_by v f e = subst (λ (o : Option StackFault). MatchOption o (lines.IsLineSettled v.line)
     (λ g. Unit {0})) (sym e) tt
 
 behind : (answer : Result (Option StackIn) StackFault) (old new : Course) (out written : List ℕ)
     → IsGoing old → ((role : Role) (octets : List ℕ) (told : List Arrival)
-    → Stands role octets told old → Answers role octets told old out answer new written)
+    → CourseStands role octets told old → IsNextAnswer role octets told old out answer new written)
     → FollowsAnswer answer old.standing new.standing → new.fault ≡ fault_in answer
     → IsBehind answer new
 behind (Ok (Some input)) old new out written g a f e =
@@ -58,7 +58,7 @@ behind (Ok None) old new out written g a f e =
     let here = g.somewhere in
     let b = a here.role here.octets here.told here.stands in
     let P : Bool → Type 0 = λ offered. MatchBool offered (b.0 ≡ [])
-    (((rest : List ℕ) × Tells here.role here.octets (here.told ++ b.0) rest) × IsSettled new) in
+    (((rest : List ℕ) × Tells here.role here.octets (here.told ++ b.0) rest) × IsCourseSettled new) in
     record {
       going = record {
         somewhere = record
@@ -81,8 +81,8 @@ behind (Err x) old new out written g a f e =
 
 pub answered_behind : {E : Type 0} (r : Result (Result (Option StackIn) StackFault) E)
     (old new : Course) (out written : List ℕ) → IsGoing old
-    → ((role : Role) (octets : List ℕ) (told : List Arrival) → Stands role octets told old
-    → IfOk r (λ answer. Answers role octets told old out answer new written))
+    → ((role : Role) (octets : List ℕ) (told : List Arrival) → CourseStands role octets told old
+    → IfOk r (λ answer. IsNextAnswer role octets told old out answer new written))
     → IfOk r (λ answer. FollowsAnswer answer old.standing new.standing)
     → IfOk r (λ answer. new.fault ≡ fault_in answer) → IfOk r (λ answer. IsBehind answer new)
 answered_behind (Ok answer) old new out written g a f e = behind answer old new out written g a f e
@@ -103,9 +103,9 @@ free_of (Some f) s none e = absurd cc
 
 pub said_ready : {A E : Type 0} (r : Result A E) (old new : Course) (pdu : MmsPdu)
     → ((role : Role) (octets : List ℕ) (told : List Arrival) (v : Course) (pdu : MmsPdu)
-    → state_of v ≡ states.Accepted → Stands role octets told v
-    → Stands (role_said role told pdu) octets told (with_said pdu v))
-    → IsReady old → state_of old ≡ states.Accepted → OnOk r (new ≡ with_said pdu old)
+    → stack_state_of v ≡ states.Accepted → CourseStands role octets told v
+    → CourseStands (role_said role told pdu) octets told (with_said pdu v))
+    → IsReady old → stack_state_of old ≡ states.Accepted → OnOk r (new ≡ with_said pdu old)
     → OnOk r (IsReady new)
 said_ready (Ok x) old new pdu law p accepted e =
     let here = p.going.somewhere in
@@ -132,12 +132,12 @@ left_free sides.Either s free = free
 
 pub left_ready : {A E : Type 0} (r : Result A E) (old new : Course)
     → ((role : Role) (octets : List ℕ) (told : List Arrival) (v : Course) (s : EndState)
-    → Stands role octets told v → Stands role octets told (with_standing s v))
-    → IsReady old → OnOk r (new ≡ released old) → OnOk r (IsReady new)
+    → CourseStands role octets told v → CourseStands role octets told (with_standing s v))
+    → IsReady old → OnOk r (new ≡ course_released old) → OnOk r (IsReady new)
 left_ready (Ok x) old new law p e =
     let here = p.going.somewhere in
     let standing : EndState = left_by old.known.side old.standing in
-    let left : IsReady (released old) = record {
+    let left : IsReady (course_released old) = record {
       going = record {
         somewhere = record {
           role = here.role;

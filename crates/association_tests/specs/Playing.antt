@@ -5,13 +5,13 @@ use Rattle.stack_assoc.specs.declared.input.StackIn.{StackIn}
 use Rattle.stack_assoc.specs.declared.input.StackState.{StackState}
 use Rattle.stack_assoc.specs.declared.input.StackState.TheVariants as states
 use Rattle.stack_assoc.specs.Arrivals.{Arrival, Role}
-use Rattle.stack_assoc.specs.Courses.{Course, Stands, IsSettled, is_offered}
+use Rattle.stack_assoc.specs.Courses.{Course, CourseStands, IsCourseSettled, is_offered}
 
 pub record IsSomewhere (v : Course) : Type 0 where
   pub role : Role
   pub octets : List ℕ
   pub told : List Arrival
-  pub stands : Stands role octets told v
+  pub stands : CourseStands role octets told v
 
 -- it stands somewhere in a stream, and no offer stands unanswered
 pub record IsGoing (v : Course) : Type 0 where
@@ -21,7 +21,7 @@ pub record IsGoing (v : Course) : Type 0 where
 -- and more may be fed
 pub record IsReady (v : Course) : Type 0 where
   pub going : IsGoing v
-  pub settled : IsSettled v
+  pub settled : IsCourseSettled v
 
 -- behind an answer
 abbrev pub IsBehind : Result (Option StackIn) StackFault → Course → Type 0

@@ -1,8 +1,8 @@
 //! A calling end, what it hears, and what it says.
 ghost use Rattle.std.specs.Prelude.{◌≡◌, ◌≤◌, true, IfOk, OnOk, length};
-ghost use Rattle.mms_services.specs.PduOctets.{IsWritable, pdu_len};
+ghost use Rattle.mms_services.specs.PduOctets.{IsWritablePdu, pdu_len};
 ghost use Rattle.stack_assoc.specs.declared.input.StackState.TheVariants as states;
-ghost use Rattle.stack_assoc.specs.Courses.{state_of};
+ghost use Rattle.stack_assoc.specs.Courses.{stack_state_of};
 ghost use Rattle.stack_assoc.specs.Saying.{may_release};
 ghost use Rattle.association_tests.specs.Playing.{IsGoing, IsReady, IsBehind, is_free};
 
@@ -76,7 +76,7 @@ fn next_of(
 
 /// Whether no offer stands unanswered.
 fn is_free(stack: &Stack) -> bool
-    ensures { result ≡ is_free (state_of stack.now) }
+    ensures { result ≡ is_free (stack_state_of stack.now) }
 {
     match stack.state() {
         StackState::Offered => false,
@@ -144,8 +144,8 @@ pub(crate) fn hear(alloc: Global, end: &mut End, digits: &str) -> Result<(), Fai
 
 fn say_now(stack: &mut Stack, pdu: &MmsPdu, out: &mut Vec<u8>) -> Result<(), AllocError>
     requires ready { IsReady stack.old }
-    requires accepted { state_of stack.old ≡ states.Accepted }
-    requires writable { IsWritable pdu.now }
+    requires accepted { stack_state_of stack.old ≡ states.Accepted }
+    requires writable { IsWritablePdu pdu.now }
     requires few { pdu_len pdu.now ≤ 65000 }
     ensures { OnOk result (IsReady stack.new) }
 {
@@ -155,8 +155,8 @@ fn say_now(stack: &mut Stack, pdu: &MmsPdu, out: &mut Vec<u8>) -> Result<(), All
 
 fn say_short(stack: &mut Stack, pdu: &MmsPdu, out: &mut Vec<u8>) -> Result<(), AllocError>
     requires ready { IsReady stack.old }
-    requires accepted { state_of stack.old ≡ states.Accepted }
-    requires writable { IsWritable pdu.now }
+    requires accepted { stack_state_of stack.old ≡ states.Accepted }
+    requires writable { IsWritablePdu pdu.now }
     ensures { OnOk result (IsReady stack.new) }
 {
     if pdu_len(pdu) > 65_000 {
@@ -168,7 +168,7 @@ fn say_short(stack: &mut Stack, pdu: &MmsPdu, out: &mut Vec<u8>) -> Result<(), A
 /// Says a PDU, where the association stands.
 pub(crate) fn say(stack: &mut Stack, pdu: &MmsPdu, out: &mut Vec<u8>) -> Result<(), AllocError>
     requires ready { IsReady stack.old }
-    requires writable { IsWritable pdu.now }
+    requires writable { IsWritablePdu pdu.now }
     ensures { OnOk result (IsReady stack.new) }
 {
     match stack.state() {

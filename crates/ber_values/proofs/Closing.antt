@@ -5,7 +5,7 @@ use Rattle.std.proofs.lemmas.Bool.{false≢true, and_parts}
 use Rattle.ber_values.specs.declared.fault.BerFault.{BerFault}
 use Rattle.ber_values.specs.declared.head.Head.{Head}
 use Rattle.ber_values.specs.Grammars.{Grammar, taken, then_in, map_in, branch_in, passed_in}
-use Rattle.ber_values.specs.Extents.{Extent, definite, octet_in, extent_to, spanned, closing}
+use Rattle.ber_values.specs.Extents.{Extent, definite, this_octet_in, extent_to, spanned, closing}
 use Rattle.ber_values.specs.Extents.{is_element, closed, indefinite, is_indefinite}
 use Rattle.ber_values.specs.Heads.{head_by, element_by, extent_within, IsHeadWithin}
 
@@ -70,7 +70,7 @@ extent-none (suc room) constructed at octets none = absurd (omega (arith, none))
 marked : (g : Grammar (Unit {0})) (constructed : Bool) (at : ℕ) (octets : List ℕ)
     → is_indefinite constructed octets ≡ true
     → (indefinite g).reading at octets ≡ (closed g).reading (at + 1) (drop 1 octets)
-unfolding indefinite then_in octet_in
+unfolding indefinite then_in this_octet_in
 marked g constructed at [] e = absurd (false≢true (and_parts constructed false e).1)
 marked g constructed at (first ∷ octets) e = rw (and_parts constructed _ e).1 refl
 

@@ -7,7 +7,7 @@ use Rattle.ber_values.specs.declared.fault.Why.TheVariants as whys
 use Rattle.ber_values.specs.declared.head.Head.{Head}
 use Rattle.ber_values.specs.Faults.{fault_at}
 use Rattle.ber_values.specs.declared.stop.Stop.{Stop}
-use Rattle.ber_values.specs.Stops.{Stops}
+use Rattle.ber_values.specs.Stops.{StopsAs}
 use Rattle.ber_values.specs.Grammars.{Grammar, taken}
 use Rattle.ber_values.specs.Lists.{count_in}
 use Rattle.ber_values.proofs.Lists.{ListSoFar, so_far-begins, so_far-more, so_far-stops, so_far-full, so_far-misses, so_far-ends, some_left, none_left}
@@ -35,7 +35,7 @@ counted-more {g = g} {least = least} {most = most} {xs = xs} {at = at} {octets =
     }
 
 -- reading an element stopped
-pub counted-stop : {X : Type 0} {g : Grammar X} {least most : ℕ} {xs : List X} {at : ℕ} {octets : List ℕ} {total : Result (List X) BerFault} → CountedSoFar g least most xs at octets total → (empty : Bool) → empty ≡ eqb (length octets) 0 → empty ≡ false → length xs < most → (stop : Stop) → Stops stop (g.reading at octets) → Stops stop total
+pub counted-stop : {X : Type 0} {g : Grammar X} {least most : ℕ} {xs : List X} {at : ℕ} {octets : List ℕ} {total : Result (List X) BerFault} → CountedSoFar g least most xs at octets total → (empty : Bool) → empty ≡ eqb (length octets) 0 → empty ≡ false → length xs < most → (stop : Stop) → StopsAs stop (g.reading at octets) → StopsAs stop total
 counted-stop {g = g} {least = least} {most = most} {xs = xs} {at = at} {octets = octets} {total = total} s empty is left room stop read = so_far-stops g least most xs at octets total stop room (some_left octets empty is left) read s.reads
 
 -- octets are left, and no more elements may stand there

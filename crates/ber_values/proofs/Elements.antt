@@ -12,7 +12,7 @@ use Rattle.ber_values.specs.Bits.{Bits}
 use Rattle.ber_values.specs.Visible.{is_visible_octet}
 use Rattle.ber_values.specs.Reading.{IsReading, HasOneReading}
 use Rattle.ber_values.specs.Contents.{HasLength, has_length, ContentsFault, contents_in}
-use Rattle.ber_values.specs.Numbers.{twos_complement, SpellsInteger, IntegerFault, integer_in, SpellsUnsigned, UnsignedFault, is_below, unsigned_of, unsigned_in}
+use Rattle.ber_values.specs.Numbers.{twos_complement, SpellsInteger, IntegerFault, integer_in, SpellsUnsigned, UnsignedFault, is_number_below, unsigned_of, unsigned_in}
 use Rattle.ber_values.specs.Booleans.{SpellsBoolean, BooleanFault, boolean_in}
 use Rattle.ber_values.specs.BitContents.{bits_with, SpellsBits, BreaksBits, BitsFault, keeps_bits, bits_in}
 use Rattle.ber_values.specs.TextContents.{SpellsOid, OidFault, oid_in, SpellsVisible, VisibleFault, visible_in}
@@ -71,22 +71,22 @@ integer_reads head octets =
     contents_read ℤ (λ v. SpellsInteger v octets) (HasLength 1 8 octets) ⊥ (has_length 1 8 octets) true (twos_complement octets) head
     (record { length_kept = length_kept 1 8 octets; length_test = length_test 1 8 octets; spelled = λ a k. (length_kept 1 8 octets a, refl); broken = λ a k. absurd (never k); from_spelled = λ x s. (length_test 1 8 octets s.0, refl, s.1); from_broken = λ b. absurd b })
 
-is_below-from : (limit : ℕ) (z : ℤ) → is_below limit z ≡ true
+is_below-from : (limit : ℕ) (z : ℤ) → is_number_below limit z ≡ true
     → (pos (unsigned_of z) ≡ z) × (unsigned_of z < limit)
 is_below-from limit (pos n) e = (refl, ltb-true n limit e)
 is_below-from limit (negsuc n) e = absurd (false≢true e)
 
-not_below : (limit : ℕ) (z : ℤ) → is_below limit z ≡ false → (z <ℤ pos 0) ⊎ (pos limit ≤ℤ z)
+not_below : (limit : ℕ) (z : ℤ) → is_number_below limit z ≡ false → (z <ℤ pos 0) ⊎ (pos limit ≤ℤ z)
 not_below limit (pos n) e = let le : limit ≤ n = ltb-false n limit e in inr (omega (arith, ints))
 not_below limit (negsuc n) e = inl (omega (arith, ints))
 
-from_not_below : (limit : ℕ) (z : ℤ) → (z <ℤ pos 0) ⊎ (pos limit ≤ℤ z) → is_below limit z ≡ false
+from_not_below : (limit : ℕ) (z : ℤ) → (z <ℤ pos 0) ⊎ (pos limit ≤ℤ z) → is_number_below limit z ≡ false
 from_not_below limit (pos n) (inl below) = absurd (omega (arith, ints, below))
 from_not_below limit (pos n) (inr above) = le-ltb n limit (omega (arith, ints, above))
 from_not_below limit (negsuc n) h = refl
 
 below_is : (limit : ℕ) (z : ℤ) (x : ℕ) → pos x ≡ z → x < limit
-    → (is_below limit z ≡ true) × (x ≡ unsigned_of z)
+    → (is_number_below limit z ≡ true) × (x ≡ unsigned_of z)
 below_is limit (pos n) x e lt =
     let same : x ≡ n = cc in (lt-ltb n limit (omega (arith, same, lt)), same)
 below_is limit (negsuc n) x e lt = absurd cc
@@ -95,10 +95,10 @@ below_is limit (negsuc n) x e lt = absurd cc
 pub below_reads : (limit : ℕ) (head : Head) (octets : List ℕ)
     → IsReading ℕ (λ v. SpellsInteger (pos v) octets × (v < limit))
     (ContentsFault (HasLength 1 8 octets) ((twos_complement octets <ℤ pos 0) ⊎ (pos limit ≤ℤ twos_complement octets)) head)
-    (contents_in (has_length 1 8 octets) (is_below limit (twos_complement octets)) (unsigned_of (twos_complement octets)) head)
+    (contents_in (has_length 1 8 octets) (is_number_below limit (twos_complement octets)) (unsigned_of (twos_complement octets)) head)
 below_reads limit head octets =
     let z = twos_complement octets in
-    contents_read ℕ (λ v. SpellsInteger (pos v) octets × (v < limit)) (HasLength 1 8 octets) ((z <ℤ pos 0) ⊎ (pos limit ≤ℤ z)) (has_length 1 8 octets) (is_below limit z) (unsigned_of z) head
+    contents_read ℕ (λ v. SpellsInteger (pos v) octets × (v < limit)) (HasLength 1 8 octets) ((z <ℤ pos 0) ⊎ (pos limit ≤ℤ z)) (has_length 1 8 octets) (is_number_below limit z) (unsigned_of z) head
     (record {
       length_kept = length_kept 1 8 octets;
       length_test = length_test 1 8 octets;

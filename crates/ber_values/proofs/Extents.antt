@@ -10,7 +10,7 @@ use Rattle.ber_values.specs.Reading.{Taken, Begins, IsReading}
 use Rattle.ber_values.specs.Tags.{SpellsLength, LengthFault, length_in}
 use Rattle.ber_values.specs.Grammars.{Grammar, IsGrammar, taken, map_in, passed_in}
 use Rattle.ber_values.specs.Extents.{Extent, sized, BeginsSized, IsPastEnd, definite, BeginsOctet}
-use Rattle.ber_values.specs.Extents.{OctetFault, octet_in, extent_to, spanned, closing}
+use Rattle.ber_values.specs.Extents.{OctetFault, this_octet_in, extent_to, spanned, closing}
 use Rattle.ber_values.specs.Extents.{is_element, closed, indefinite}
 use Rattle.ber_values.proofs.Reading.{IsReading-then, IsReading-as}
 use Rattle.ber_values.proofs.Tags.{length_reads}
@@ -63,8 +63,8 @@ definite_reads at octets =
     (λ size. cond (ltb (length size.rest) size.value) (Err (fault_at at whys.Length))
     (Ok (sized size))) (length_reads at octets) (λ size s. fits_reads at size))
 
-pub octet_reads : (octet : ℕ) (why : Why) → IsGrammar (octet_in octet why)
-unfolding octet_in
+pub octet_reads : (octet : ℕ) (why : Why) → IsGrammar (this_octet_in octet why)
+unfolding this_octet_in
 octet_reads octet why at [] =
     IsReading-as (Taken (Unit {0})) (λ t. ⊥) (BeginsOctet octet at []) _
     (OctetFault octet why at []) _ (λ t h. absurd h) (λ t h. h) (λ f h. h) (λ f h. h)
@@ -89,7 +89,7 @@ spanned_reads g one at octets =
 
 closing_reads : IsGrammar closing
 unfolding closing
-closing_reads = then_reads (octet_in 0 whys.Tag) (λ u. octet_in 0 whys.Length)
+closing_reads = then_reads (this_octet_in 0 whys.Tag) (λ u. this_octet_in 0 whys.Length)
     (octet_reads 0 whys.Tag) (λ u. octet_reads 0 whys.Length)
 
 closed_reads : (element : Grammar (Unit {0})) → IsGrammar element → IsGrammar (closed element)
@@ -102,5 +102,5 @@ closed_reads element one =
 pub indefinite_reads : (element : Grammar (Unit {0})) → IsGrammar element
     → IsGrammar (indefinite element)
 unfolding indefinite
-indefinite_reads element one = then_reads (octet_in 128 whys.Length) (λ u. closed element)
+indefinite_reads element one = then_reads (this_octet_in 128 whys.Length) (λ u. closed element)
     (octet_reads 128 whys.Length) (λ u. closed_reads element one)

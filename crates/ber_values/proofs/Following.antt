@@ -7,7 +7,7 @@ use Rattle.ber_values.specs.declared.head.Head.{Head}
 use Rattle.ber_values.specs.Reading.{Taken}
 use Rattle.ber_values.specs.Grammars.{Grammar, taken, gives, then_in, map_in, branch_in, first_is}
 use Rattle.ber_values.specs.Grammars.{by_length, passed_within, passed_in}
-use Rattle.ber_values.specs.Extents.{Extent, sized, definite, octet_in, spanned}
+use Rattle.ber_values.specs.Extents.{Extent, sized, definite, this_octet_in, spanned}
 use Rattle.ber_values.specs.Extents.{closing, closed, indefinite}
 use Rattle.ber_values.specs.Heads.{element_by, extent_within, extent_of}
 use Rattle.ber_values.proofs.Passed.{drop_on}
@@ -76,8 +76,8 @@ passed-follows : (g : Grammar (Unit {0})) (skips : ℕ → Bool) → Follows g
 unfolding passed_in by_length
 passed-follows g skips one at octets = passed_within-follows g skips (length octets) one at octets
 
-octet-follows : (octet : ℕ) (why : Why) → Follows (octet_in octet why)
-unfolding octet_in
+octet-follows : (octet : ℕ) (why : Why) → Follows (this_octet_in octet why)
+unfolding this_octet_in
 octet-follows octet why at [] t b = absurd b
 octet-follows octet why at (first ∷ rest) t (same, is) =
     let one : 1 ≡ at + 1 - at = omega arith in

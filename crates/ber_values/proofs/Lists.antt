@@ -10,7 +10,7 @@ use Rattle.ber_values.specs.Reading.{Taken, IsReading}
 use Rattle.ber_values.specs.Grammars.{Grammar, IsGrammar, taken}
 use Rattle.ber_values.specs.declared.stop.Stop.{Stop}
 use Rattle.ber_values.specs.declared.stop.Stop.TheVariants as stops
-use Rattle.ber_values.specs.Stops.{Stops}
+use Rattle.ber_values.specs.Stops.{StopsAs}
 use Rattle.ber_values.specs.Parts.{IsContentsGrammar}
 use Rattle.ber_values.specs.Lists.{BeginsList, SpellsList, BreaksList, ListFault, more_in, count_in, list_in}
 use Rattle.ber_values.proofs.Reading.{IsReading-then, IsReading-as}
@@ -262,8 +262,8 @@ so_far-fails g least most xs at octets total f room some read s =
     sym s.reads ∙ ap (λ n. more_in g least n xs at octets) k ∙ more_fails g least (most - length xs - 1) xs at octets f some read
 
 -- reading an element stopped
-pub so_far-stops : {X : Type 0} (g : Grammar X) (least most : ℕ) (xs : List X) (at : ℕ) (octets : List ℕ) (total : Result (List X) BerFault) (stop : Stop) → length xs < most → 0 < length octets → Stops stop (g.reading at octets)
-    → ListSoFar g least most xs at octets total → Stops stop total
+pub so_far-stops : {X : Type 0} (g : Grammar X) (least most : ℕ) (xs : List X) (at : ℕ) (octets : List ℕ) (total : Result (List X) BerFault) (stop : Stop) → length xs < most → 0 < length octets → StopsAs stop (g.reading at octets)
+    → ListSoFar g least most xs at octets total → StopsAs stop total
 so_far-stops g least most xs at octets total stops.Memory room some read s = tt
 so_far-stops g least most xs at octets total (stops.Fault f) room some read s = so_far-fails g least most xs at octets total f room some read s
 
@@ -306,7 +306,7 @@ members-more {g = g} {least = least} {most = most} {xs = xs} {at = at} {octets =
     }
 
 -- reading an element stopped
-pub members-stop : {X : Type 0} {g : Grammar X} {least most : ℕ} {xs : List X} {at : ℕ} {octets : List ℕ} {total : Result (List X) BerFault} → MembersSoFar g least most xs at octets total → 0 < length octets → (stop : Stop) → Stops stop (g.reading at octets) → Stops stop total
+pub members-stop : {X : Type 0} {g : Grammar X} {least most : ℕ} {xs : List X} {at : ℕ} {octets : List ℕ} {total : Result (List X) BerFault} → MembersSoFar g least most xs at octets total → 0 < length octets → (stop : Stop) → StopsAs stop (g.reading at octets) → StopsAs stop total
 members-stop {g = g} {least = least} {most = most} {xs = xs} {at = at} {octets = octets} {total = total} s some stop read = so_far-stops g least most xs at octets total stop (omega (arith, some, s.fewer)) some read s.reads
 
 -- no octets are left, and more elements are wanted

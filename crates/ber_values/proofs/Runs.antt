@@ -14,7 +14,7 @@ use Rattle.ber_values.specs.declared.tag.Tag.{Tag}
 use Rattle.ber_values.specs.declared.head.Head.{Head}
 use Rattle.ber_values.specs.Reading.{Taken, Begins, IsReading}
 use Rattle.ber_values.specs.Tags.{tag_with, SpellsTag, SpellsLength}
-use Rattle.ber_values.specs.Extents.{Extent, sized, definite, octet_in, spanned, closing}
+use Rattle.ber_values.specs.Extents.{Extent, sized, definite, this_octet_in, spanned, closing}
 use Rattle.ber_values.specs.Extents.{is_element, closed, indefinite, is_indefinite, extent_to}
 use Rattle.ber_values.specs.Heads.{head_of, HeadFault, element_by, extent_within}
 use Rattle.ber_values.specs.Heads.{extent_of}
@@ -23,7 +23,7 @@ use Rattle.ber_values.specs.Grammars.{by_length, passed_within, passed_in}
 use Rattle.ber_values.specs.Passing.{skip, pass_in}
 use Rattle.ber_values.specs.Parts.{Contents, Parted, parted, part_in, is_constructed}
 use Rattle.ber_values.specs.Runs.{AnyElement, element_octets, elements_octets, HasPassingTag}
-use Rattle.ber_values.specs.Runs.{IsElementBy, StandsBehind, IsSound, BeginsPassed}
+use Rattle.ber_values.specs.Runs.{IsElementBy, StandsBehind, IsSoundElement, BeginsPassed}
 use Rattle.ber_values.specs.Runs.{BeginsRun, TakesRun, BreaksRun}
 use Rattle.ber_values.proofs.Reading.{Ok_is, IsReading-as}
 use Rattle.ber_values.proofs.Heads.{extent_reads}
@@ -350,8 +350,8 @@ sized-told = record {
 }
 
 octet-to : (octet at : ℕ) (octets : List ℕ) (t : Taken (Unit {0})) (why : Why)
-    → (octet_in octet why).begins at octets t → (octets ≡ octet ∷ t.rest) × (t.next ≡ at + 1)
-unfolding octet_in
+    → (this_octet_in octet why).begins at octets t → (octets ≡ octet ∷ t.rest) × (t.next ≡ at + 1)
+unfolding this_octet_in
 octet-to octet at [] t why b = absurd b
 octet-to octet at (first ∷ rest) t why (same, is) = (
   ap (λ (x : ℕ). x ∷ rest) same
@@ -369,7 +369,7 @@ closing-to at octets t (u, one, two) =
 
 closing-from : (at : ℕ) (rest : List ℕ)
     → closing.begins at (0 ∷ 0 ∷ rest) (taken tt (at + 1 + 1) rest)
-unfolding closing then_in octet_in
+unfolding closing then_in this_octet_in
 closing-from at rest = (taken tt (at + 1) (0 ∷ rest), (refl, refl), (refl, refl))
 
 -- octets that stand in place of a length, elements, and the end of contents
@@ -421,7 +421,7 @@ module _ (extents : Bool → Grammar Extent)
       (taken (extent_to (at + 1) (elements_octets run ++ 0 ∷ 0 ∷ rest)
       (at + 1 + length (elements_octets run))) (at + 1 + length (elements_octets run) + 1 + 1)
       rest)
-  unfolding indefinite closed then_in spanned map_in octet_in passed_in by_length
+  unfolding indefinite closed then_in spanned map_in this_octet_in passed_in by_length
   closed-from at run rest sound passed =
       let inner = elements_octets run ++ 0 ∷ 0 ∷ rest in
       let end = at + 1 + length (elements_octets run) in
@@ -521,20 +521,20 @@ extent-told = told-within 16
 
 -- ---- elements that are sound
 
-pub element-first : (skips : ℕ → Bool) (e : AnyElement) (rest : List ℕ) → IsSound e
+pub element-first : (skips : ℕ → Bool) (e : AnyElement) (rest : List ℕ) → IsSoundElement e
     → first_is skips (element_octets e ++ rest) ≡ first_is skips e.tagged
 element-first skips e rest s = tag-first skips e rest s.tag
 
-pub element-some : (e : AnyElement) → IsSound e → 0 < length (element_octets e)
+pub element-some : (e : AnyElement) → IsSoundElement e → 0 < length (element_octets e)
 element-some e s = tag-some e s.tag
 
-pub element-tagged : (e : AnyElement) (at : ℕ) (rest : List ℕ) → IsSound e
+pub element-tagged : (e : AnyElement) (at : ℕ) (rest : List ℕ) → IsSoundElement e
     → Begins Tag SpellsTag at (element_octets e ++ rest)
     (record { value = e.tag; next = at + length e.tagged; rest = after_tag e rest })
 element-tagged e at rest s = tag-begins e at rest s.tag
 
 -- a sound element at the front is passed over
-pub element-skipped : (e : AnyElement) (at : ℕ) (rest : List ℕ) → IsSound e
+pub element-skipped : (e : AnyElement) (at : ℕ) (rest : List ℕ) → IsSoundElement e
     → skip.begins at (element_octets e ++ rest) (taken tt (at + length (element_octets e)) rest)
 unfolding skip
 element-skipped e at rest s = element-by extent_of (StandsBehind 16) extent-told e at rest s
@@ -619,7 +619,7 @@ same_fields a b one two three four five =
       closing = os;
     }) five
 
-pub element-one : (a b : AnyElement) (xs ys : List ℕ) → IsSound a → IsSound b
+pub element-one : (a b : AnyElement) (xs ys : List ℕ) → IsSoundElement a → IsSoundElement b
     → element_octets a ++ xs ≡ element_octets b ++ ys → (a ≡ b) × (xs ≡ ys)
 element-one a b xs ys one two e =
     let tags = tag-one 0 (element_octets a ++ xs) _ _ (tag-begins a 0 xs one.tag)
@@ -663,7 +663,7 @@ pub run-longest : (skips : ℕ → Bool) (octets : List ℕ) (run more : List An
     → (others : List AnyElement) × (run ≡ more ++ others)
 run-longest skips octets run [] rest after b c = (run, refl)
 run-longest skips octets [] (m ∷ more) rest after b c =
-    let one = All-head IsSound m more c.sound in
+    let one = All-head IsSoundElement m more c.sound in
     let whole : rest ≡ element_octets m ++ (elements_octets more ++ after) = sym b.0.parts ∙ c.parts
     ∙ append_assoc (element_octets m) (elements_octets more) after in
     absurd (false≢true (sym b.1 ∙ ap (first_is skips) whole
@@ -675,17 +675,17 @@ run-longest skips octets (e ∷ run) (m ∷ more) rest after b c =
     (append_assoc (element_octets e) (elements_octets run) rest) ∙ sym b.0.parts ∙ c.parts
     ∙ append_assoc (element_octets m) (elements_octets more) after in
     let same = element-one e m (elements_octets run ++ rest) (elements_octets more ++ after)
-    (All-head IsSound e run b.0.sound) (All-head IsSound m more c.sound) both in
+    (All-head IsSoundElement e run b.0.sound) (All-head IsSoundElement m more c.sound) both in
     let behind = run-longest skips (elements_octets run ++ rest) run more rest after (
       record {
-        sound = All-tail IsSound e run b.0.sound;
+        sound = All-tail IsSoundElement e run b.0.sound;
         parts = refl;
         passed = All-tail (HasPassingTag skips) e run b.0.passed;
       },
       b.1,
     )
     (record {
-      sound = All-tail IsSound m more c.sound;
+      sound = All-tail IsSoundElement m more c.sound;
       parts = same.1;
       passed = All-tail (HasPassingTag skips) m more c.passed;
     }) in (
@@ -717,13 +717,13 @@ run-one skips octets run other rest after b c =
 
 run_none : (skips : ℕ → Bool) (octets : List ℕ) → BeginsPassed skips octets [] octets
 run_none skips octets =
-    record { sound = All-nil IsSound; parts = refl; passed = All-nil (HasPassingTag skips) }
+    record { sound = All-nil IsSoundElement; parts = refl; passed = All-nil (HasPassingTag skips) }
 
 run_more : (skips : ℕ → Bool) (e : AnyElement) (octets after rest : List ℕ) (run : List AnyElement)
-    → IsSound e → first_is skips octets ≡ true → octets ≡ element_octets e ++ after
+    → IsSoundElement e → first_is skips octets ≡ true → octets ≡ element_octets e ++ after
     → BeginsPassed skips after run rest → BeginsPassed skips octets (e ∷ run) rest
 run_more skips e octets after rest run s first parts b = record {
-  sound = All-cons IsSound e run s b.sound;
+  sound = All-cons IsSoundElement e run s b.sound;
   parts = parts ∙ ap (λ os. element_octets e ++ os) b.parts
       ∙ sym (append_assoc (element_octets e) (elements_octets run) rest);
   passed = All-cons (HasPassingTag skips) e run
@@ -761,7 +761,7 @@ within-breaks skips (suc n) at octets f few (inl (first, inr (u, one, more))) =
     )
 
 breaks_behind : (skips : ℕ → Bool) (n at : ℕ) (run : List AnyElement) (rest : List ℕ) (f : BerFault)
-    → All IsSound run → All (HasPassingTag skips) run → first_is skips rest ≡ true
+    → All IsSoundElement run → All (HasPassingTag skips) run → first_is skips rest ≡ true
     → HeadFault (at + length (elements_octets run)) rest f
     → length (elements_octets run ++ rest) ≤ n
     → (passed_within skip skips n).fault at (elements_octets run ++ rest) f
@@ -775,12 +775,12 @@ breaks_behind skips zero at (e ∷ run) rest f sound passed first breaks few = a
     (omega (
       arith,
       few,
-      element-some e (All-head IsSound e run sound),
+      element-some e (All-head IsSoundElement e run sound),
       length-append (elements_octets (e ∷ run)) rest,
       length-append (element_octets e) (elements_octets run),
     ))
 breaks_behind skips (suc n) at (e ∷ run) rest f sound passed first breaks few =
-    let one = All-head IsSound e run sound in
+    let one = All-head IsSoundElement e run sound in
     let behind = elements_octets run ++ rest in
     let place = at + length (element_octets e) in
     let parts : element_octets e ++ behind ≡ elements_octets (e ∷ run) ++ rest = sym
@@ -803,7 +803,7 @@ breaks_behind skips (suc n) at (e ∷ run) rest f sound passed first breaks few 
         taken tt place behind,
         subst (λ (os : List ℕ). skip.begins at os (taken tt place behind)) parts
             (element-by extent_of (StandsBehind 16) extent-told e at behind one),
-        breaks_behind skips n place run rest f (All-tail IsSound e run sound)
+        breaks_behind skips n place run rest f (All-tail IsSoundElement e run sound)
             (All-tail (HasPassingTag skips) e run passed) first
             (subst (λ (k : ℕ). HeadFault k rest f) ends breaks) fewer,
       ),
@@ -838,7 +838,7 @@ body_at at e = at + length e.tagged + length e.sized
 
 -- an element of a tag at the front is a sound one
 pub part-element : {X : Type 0} (tag : ℕ) (c : Contents X) (at : ℕ) (octets : List ℕ) (t : Taken X)
-    → tag % 32 ≢ 31 → (part_in tag c).begins at octets t → (e : AnyElement) × IsSound e
+    → tag % 32 ≢ 31 → (part_in tag c).begins at octets t → (e : AnyElement) × IsSoundElement e
     × (octets ≡ element_octets e ++ t.rest) × (t.next ≡ at + length (element_octets e))
     × (e.tagged ≡ tag ∷ []) × c.spells (body_at at e) t.value e.contents
 unfolding part_in
@@ -877,7 +877,7 @@ tag_of_one tag t tagged s is = (subst (λ (os : List ℕ). SpellsTag t os) is s)
 
 -- a sound element of a tag at the front is one
 pub element-part : {X : Type 0} (tag : ℕ) (c : Contents X) (at : ℕ) (e : AnyElement) (rest : List ℕ)
-    (x : X) → IsSound e → e.tagged ≡ tag ∷ [] → c.spells (body_at at e) x e.contents
+    (x : X) → IsSoundElement e → e.tagged ≡ tag ∷ [] → c.spells (body_at at e) x e.contents
     → (part_in tag c).begins at (element_octets e ++ rest)
     (taken x (at + length (element_octets e)) rest)
 unfolding part_in

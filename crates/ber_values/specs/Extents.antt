@@ -72,8 +72,8 @@ read_octet octet why at (first ∷ rest) =
     if first == octet then Ok (taken tt (at + 1) rest) else Err (fault_at at why)
 
 -- this octet, else a fault for this reason
-unfoldable pub octet_in : ℕ → Why → Grammar (Unit {0})
-octet_in octet why = record {
+unfoldable pub this_octet_in : ℕ → Why → Grammar (Unit {0})
+this_octet_in octet why = record {
   begins = BeginsOctet octet;
   fault = OctetFault octet why;
   reading = read_octet octet why;
@@ -95,7 +95,7 @@ spanned g = record {
 
 -- the end of contents, two octets 00
 unfoldable pub closing : Grammar (Unit {0})
-closing = then_in (octet_in 0 whys.Tag) (λ u. octet_in 0 whys.Length)
+closing = then_in (this_octet_in 0 whys.Tag) (λ u. this_octet_in 0 whys.Length)
 
 -- whether an octet begins an element, and not the end of contents
 abbrev pub is_element : ℕ → Bool
@@ -108,7 +108,7 @@ closed element = then_in (spanned (passed_in element is_element))
 
 -- the octet that stands in place of a length, then such contents
 unfoldable pub indefinite : Grammar (Unit {0}) → Grammar Extent
-indefinite element = then_in (octet_in 128 whys.Length) (λ u. closed element)
+indefinite element = then_in (this_octet_in 128 whys.Length) (λ u. closed element)
 
 -- whether the octets behind a tag have that octet at their front, and the tag may have it
 abbrev pub is_indefinite : Bool → List ℕ → Bool

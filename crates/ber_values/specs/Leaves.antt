@@ -13,7 +13,7 @@ use Rattle.ber_values.specs.Bits.{Bits}
 use Rattle.ber_values.specs.Visible.{is_visible_octet}
 use Rattle.ber_values.specs.Contents.{HasLength, has_length, ContentsFault, contents_in}
 use Rattle.ber_values.specs.Numbers.{twos_complement, SpellsInteger, IntegerFault, integer_in}
-use Rattle.ber_values.specs.Numbers.{SpellsUnsigned, UnsignedFault, unsigned_in, is_below}
+use Rattle.ber_values.specs.Numbers.{SpellsUnsigned, UnsignedFault, unsigned_in, is_number_below}
 use Rattle.ber_values.specs.Numbers.{unsigned_of}
 use Rattle.ber_values.specs.Booleans.{SpellsBoolean, BooleanFault, boolean_in}
 use Rattle.ber_values.specs.BitContents.{SpellsBits, BitsFault, bits_in}
@@ -74,7 +74,7 @@ NaturalFault head octets = ContentsFault (HasLength 1 8 octets)
 
 unfoldable pub natural_in : Head → List ℕ → Result ℕ BerFault
 natural_in head octets = contents_in (has_length 1 8 octets)
-    (is_below (2 ^ 63) (twos_complement octets)) (unsigned_of (twos_complement octets)) head
+    (is_number_below (2 ^ 63) (twos_complement octets)) (unsigned_of (twos_complement octets)) head
 
 unfoldable pub natural : Contents ℕ
 natural = record {

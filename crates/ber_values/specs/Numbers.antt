@@ -33,9 +33,9 @@ UnsignedFault head octets =
     ((twos_complement octets <ℤ pos 0) ⊎ (pos (2 ^ 32) ≤ℤ twos_complement octets)) head
 
 -- whether an integer is from 0 up to a limit, and which number it is then
-abbrev pub is_below : ℕ → ℤ → Bool
-is_below limit (pos n) = nat_lt n limit
-is_below limit (negsuc n) = false
+abbrev pub is_number_below : ℕ → ℤ → Bool
+is_number_below limit (pos n) = nat_lt n limit
+is_number_below limit (negsuc n) = false
 
 abbrev pub unsigned_of : ℤ → ℕ
 unsigned_of (pos n) = n
@@ -43,5 +43,5 @@ unsigned_of (negsuc n) = 0
 
 unfoldable pub unsigned_in : Head → List ℕ → Result ℕ BerFault
 unsigned_in head octets =
-    contents_in (has_length 1 8 octets) (is_below (2 ^ 32) (twos_complement octets))
+    contents_in (has_length 1 8 octets) (is_number_below (2 ^ 32) (twos_complement octets))
     (unsigned_of (twos_complement octets)) head

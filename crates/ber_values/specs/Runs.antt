@@ -1,5 +1,6 @@
 -- Elements one behind another, whatever their tags and contents, and runs of them.
-use Rattle.std.specs.Prelude.{◌≡◌, ℕ, zero, suc, ◌+◌, Bool, true, false, List, [], ◌∷◌, ◌++◌, length}
+use Rattle.std.specs.Prelude.{◌≡◌, ℕ, zero, suc, ◌+◌, Bool, true, false, List, [], ◌∷◌, ◌++◌}
+use Rattle.std.specs.Prelude.{length}
 use Rattle.std.specs.Prelude.{All, flat_map, ◌⊎◌}
 use Rattle.ber_values.specs.declared.extent.TheConstants.{MOST_CHAINED}
 use Rattle.ber_values.specs.declared.tag.Tag.{Tag}
@@ -50,13 +51,13 @@ StandsBehind (suc room) constructed sized contents closing =
     × (sized ≡ 128 ∷ []) × (contents ≡ elements_octets run) × (closing ≡ 0 ∷ 0 ∷ []))
 
 -- an element whose octets are as the standard has them, with at most sixteen in a chain
-abbrev pub IsSound : AnyElement → Type 0
-IsSound e = IsElementBy (StandsBehind MOST_CHAINED) e
+abbrev pub IsSoundElement : AnyElement → Type 0
+IsSoundElement e = IsElementBy (StandsBehind MOST_CHAINED) e
 
 -- octets begin with these elements, each of which passes a test
 pub record BeginsPassed (skips : ℕ → Bool) (octets : List ℕ) (run : List AnyElement)
     (rest : List ℕ) : Type 0 where
-  pub sound : All IsSound run
+  pub sound : All IsSoundElement run
   pub parts : octets ≡ elements_octets run ++ rest
   pub passed : All (HasPassingTag skips) run
 

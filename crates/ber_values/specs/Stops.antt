@@ -6,14 +6,14 @@ use Rattle.ber_values.specs.declared.stop.Stop.{Stop}
 use Rattle.ber_values.specs.declared.stop.Stop.TheVariants as stops
 
 -- why a function stopped is what reading gives, unless memory ran out
-abbrev pub Stops : {Y : Type 0} → Stop → Result Y BerFault → Type 0
-Stops stops.Memory read = Unit {0}
-Stops (stops.Fault f) read = read ≡ Err f
+abbrev pub StopsAs : {Y : Type 0} → Stop → Result Y BerFault → Type 0
+StopsAs stops.Memory read = Unit {0}
+StopsAs (stops.Fault f) read = read ≡ Err f
 
 -- what a function returned, seen by view, is what reading gives, unless memory ran out
 abbrev pub Answers : {X Y : Type 0} → (X → Y) → Result X Stop → Result Y BerFault → Type 0
 Answers view (Ok x) read = read ≡ Ok (view x)
-Answers view (Err stop) read = Stops stop read
+Answers view (Err stop) read = StopsAs stop read
 
 -- want of memory apart from faults
 abbrev pub settled : {X : Type 0} → Result X Stop → Result (Result X BerFault) AllocError

@@ -108,7 +108,7 @@ fn read_closed(octets: &[u8], at: usize, room: usize) -> Result<Extent<'_>, BerF
 }
 
 /// The octets behind the end of contents at the front.
-#[tactic(auto, unfolding(crate::specs::Extents::closing, crate::specs::Extents::octet_in, crate::specs::Grammars::then_in))]
+#[tactic(auto, unfolding(crate::specs::Extents::closing, crate::specs::Extents::this_octet_in, crate::specs::Grammars::then_in))]
 fn take_closing(octets: &[u8], at: usize) -> Result<&[u8], BerFault>
     requires { at + length octets.now < 2 ^ 64 }
     ensures exact { Gives (λ rest. taken tt (at + 2) rest.now) result

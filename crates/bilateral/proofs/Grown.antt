@@ -31,7 +31,7 @@ use Rattle.bilateral.specs.Rows.{place_of_device, place_of_see, place_of_control
 use Rattle.bilateral.specs.Rows.{no_table, no_point, no_device}
 use Rattle.bilateral.specs.Reading.{with_see, with_control, with_slots, with_sets}
 use Rattle.bilateral.specs.Reading.{with_pending, with_last, last_peer, last_table}
-use Rattle.bilateral.specs.Lines.{IsLawful}
+use Rattle.bilateral.specs.Lines.{IsLawfulLine}
 use Rattle.plain_text.proofs.Parts.{position-None}
 use Rattle.bilateral.proofs.Positions.{position-push_here, position-push_other}
 use Rattle.bilateral.proofs.Taken.{IsNewPoint, IsNewDevice, IsNewPeer}
@@ -94,7 +94,7 @@ right_span false span none right =
     let both = and_parts (leb 1 span) (leb span SPAN_LIMIT) (not-false _ right) in
     (λ e. leb-true 1 span both.0, leb-true span SPAN_LIMIT both.1)
 
-IsDevice-new : (device : DeviceRow) → IsLawful (Device device) → (rows : CentreRows)
+IsDevice-new : (device : DeviceRow) → IsLawfulLine (Device device) → (rows : CentreRows)
     → IsNewDevice rows device → IsDevice device
 IsDevice-new device lawful rows new =
     let spans = right_span device.direct device.span lawful.1.no_span new.span in
@@ -102,7 +102,7 @@ IsDevice-new device lawful rows new =
 
 -- a device more
 pub IsCentre-with_device : (rows : CentreRows) (device : DeviceRow) → IsCentre rows
-    → IsLawful (Device device) → IsNewDevice rows device
+    → IsLawfulLine (Device device) → IsNewDevice rows device
     → IsCentre (record rows { devices = rows.devices ++ device ∷ [] })
 IsCentre-with_device rows device lawful words new = record {
   names = lawful.names;
@@ -126,7 +126,7 @@ IsCentre-with_device rows device lawful words new = record {
 }
 
 -- a new table has no rows, and limits within bounds
-IsTable-new : (points : ℕ) (table : Table) → IsLawful (Peer table) → IsTable points table
+IsTable-new : (points : ℕ) (table : Table) → IsLawfulLine (Peer table) → IsTable points table
 IsTable-new points table lawful = record {
   known = subst (λ sees. All (λ see. see.point < points) sees) (sym lawful.3.0)
       (λ k d below. absurd (omega arith));
@@ -147,7 +147,7 @@ IsTable-new points table lawful = record {
   pending = omega (arith, lawful.3.4);
 }
 
-IsControlling-new : (devices : ℕ) (table : Table) → IsLawful (Peer table)
+IsControlling-new : (devices : ℕ) (table : Table) → IsLawfulLine (Peer table)
     → IsControlling devices table
 IsControlling-new devices table lawful = record {
   known = subst (λ controls. All (λ c. c.device < devices) controls) (sym lawful.3.1)
@@ -159,7 +159,7 @@ IsControlling-new devices table lawful = record {
 
 -- a peer more
 pub IsCentre-with_peer : (rows : CentreRows) (table : Table) → IsCentre rows
-    → IsLawful (Peer table) → IsNewPeer rows table
+    → IsLawfulLine (Peer table) → IsNewPeer rows table
     → IsCentre (record rows { tables = rows.tables ++ table ∷ [] })
 IsCentre-with_peer rows table lawful words new = record {
   names = lawful.names;

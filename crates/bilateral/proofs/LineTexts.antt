@@ -12,7 +12,7 @@ use Rattle.std.proofs.lemmas.Bool.{cond-true, and_parts, and_from, leb-true, eqb
 use Rattle.std.proofs.lemmas.Bool.{le-leb}
 use Rattle.plain_text.specs.Lines.{is_skipped}
 use Rattle.plain_text.specs.Words.{words_in, each_in}
-use Rattle.plain_text.specs.Numbers.{number_in, integer_in, if_passes, negative}
+use Rattle.plain_text.specs.Numbers.{number_in, integer_of_word, if_passes, negative}
 use Rattle.plain_text.proofs.Decimal.{number_in-of_decimal}
 use Rattle.tase_points.specs.declared.kind.Kind.{Kind}
 use Rattle.tase_points.specs.declared.kind.Kind.TheVariants.{State, Discrete, Real}
@@ -20,10 +20,10 @@ use Rattle.tase_points.specs.declared.layout.Component.{Component}
 use Rattle.tase_points.specs.declared.layout.Component.TheVariants.{Value, Time, Millis, Flags, Cov}
 use Rattle.sbo_device.specs.declared.kind.CommandKind.{CommandKind}
 use Rattle.sbo_device.specs.declared.kind.CommandKind.TheVariants.{Command, Setpoint}
-use Rattle.table_words.specs.Words.{is_name, is_identifier, kind_in, scope_in, component_in}
+use Rattle.table_words.specs.Words.{is_name, is_identifier, kind_in, whole_scope_in, component_in}
 use Rattle.table_words.specs.Words.{layout_in, layout_from, is_distinct}
 use Rattle.table_words.specs.Words.{limit_in, limit_of}
-use Rattle.table_words.specs.Devices.{short_in, span_in, natural, range_in, range_of, form_in}
+use Rattle.table_words.specs.Devices.{short_in, span_in, natural_of, range_in, range_of, form_in}
 use Rattle.table_words.specs.Devices.{order_in, is_short, is_range}
 use Rattle.bilateral.specs.declared.line.TableLine.{TableLine}
 use Rattle.bilateral.specs.declared.line.TableLine.TheVariants.{Point, Device, Peer, Slots, Sets}
@@ -34,10 +34,10 @@ use Rattle.bilateral.specs.declared.rows.Table.{Table}
 use Rattle.bilateral.specs.declared.rows.TheConstants.{SLOT_LIMIT, SET_LIMIT}
 use Rattle.sbo_device.specs.declared.device.TheConstants.{SPAN_LIMIT}
 use Rattle.bilateral.specs.declared.rows.TheConstants.{PENDING_LEAST, PENDING_LIMIT}
-use Rattle.bilateral.specs.Lines.{line_in, line_of, form_of, named_device, see_with}
+use Rattle.bilateral.specs.Lines.{line_in, table_line_of, form_of, named_device, see_with}
 use Rattle.bilateral.specs.Writing.{spaced, kind_word, component_word, layout_word, title_word}
 use Rattle.bilateral.specs.Writing.{command_words, mode_words, scope_word, tag_words, line_words}
-use Rattle.bilateral.specs.Writing.{line_text, empty_table, IsWritable, AreWritable, lines_text}
+use Rattle.bilateral.specs.Writing.{line_text, empty_table, IsWritableLine, AreWritable, lines_text}
 use Rattle.bilateral.proofs.CleanWords.{IsClean, AreClean, clean, words_of_spaced, clean_name}
 use Rattle.bilateral.proofs.CleanWords.{clean_identifier, clean_number_in, clean_solid}
 use Rattle.bilateral.proofs.CleanWords.{lines_of_spaced}
@@ -45,7 +45,7 @@ use Rattle.bilateral.proofs.TitleWords.{title_read, title_solid}
 
 -- a word that is a number is that integer
 integer_of_number : (word : List ℕ) (n : ℕ) → number_in word ≡ Some n
-    → integer_in word ≡ Some (pos n)
+    → integer_of_word word ≡ Some (pos n)
 integer_of_number [] n is = absurd cc
 integer_of_number (first ∷ more) n is =
     choose (eqb first 45) refl
@@ -61,7 +61,7 @@ integer_of_number (first ∷ more) n is =
     choose true same =
         absurd (no_minus more (ap (λ x. number_in (x ∷ more)) (sym (eqb-true first 45 same)) ∙ is))
 
-short_size : (z : ℤ) → is_short z ≡ true → integer_in (signed_decimal z) ≡ Some z
+short_size : (z : ℤ) → is_short z ≡ true → integer_of_word (signed_decimal z) ≡ Some z
 short_size (pos n) short =
     let parts = and_parts (int_le (negsuc 32767) (pos n)) (int_le (pos n) (pos 32767)) short in
     let small : n ≤ 32767 = leb-true n 32767 parts.1 in
@@ -80,11 +80,11 @@ short_read z short =
 
 span_read : (n : ℕ) → n ≤ SPAN_LIMIT → span_in (decimal n) ≡ Some n
 span_read n small =
-    ap (λ o. option_map natural
+    ap (λ o. option_map natural_of
     (option_and_then
     (if_passes (λ k. int_le (negsuc 2147483647) k && int_le k (pos 2147483647))) o))
     (integer_of_number (decimal n) n (number_in-of_decimal n (omega arith)))
-    ∙ ap (option_map natural) (cond-true (leb n 2147483647) (Some (pos n)) None
+    ∙ ap (option_map natural_of) (cond-true (leb n 2147483647) (Some (pos n)) None
     (le-leb n 2147483647 (omega arith)))
 
 form_read : (kind : CommandKind) (direct : Bool) (checkback : ℤ) (span : ℕ)
@@ -124,8 +124,8 @@ order_read row Command range form = form
 order_read row (Setpoint low high) range form =
     ap (option_and_then (λ kind. form_in kind (mode_words row))) (range_read low high range) ∙ form
 
-device_read : (row : DeviceRow) → IsWritable (Device row)
-    → line_of (line_words (Device row)) ≡ Some (Device row)
+device_read : (row : DeviceRow) → IsWritableLine (Device row)
+    → table_line_of (line_words (Device row)) ≡ Some (Device row)
 device_read row fits =
     cond-true (is_name row.name) _ _ fits.0
     ∙ ap (option_map (λ form. Device (named_device row.name form)))
@@ -139,13 +139,13 @@ kind_read Discrete = refl
 kind_read Real = refl
 
 point_read : (row : PointRow) → IsTrue (is_name row.name)
-    → line_of (line_words (Point row)) ≡ Some (Point row)
+    → table_line_of (line_words (Point row)) ≡ Some (Point row)
 point_read row named =
     cond-true (is_name row.name) _ _ named
     ∙ ap (option_map (λ k. Point (record { name = row.name; kind = k }))) (kind_read row.kind)
 
-peer_read : (table : Table) → IsWritable (Peer table)
-    → line_of (line_words (Peer table)) ≡ Some (Peer table)
+peer_read : (table : Table) → IsWritableLine (Peer table)
+    → table_line_of (line_words (Peer table)) ≡ Some (Peer table)
 peer_read table fits =
     cond-true (is_identifier table.key && is_identifier table.domain && is_identifier table.id) _ _
     (and_from _ _ (and_from _ _ fits.0 fits.1) fits.2)
@@ -207,13 +207,13 @@ layout_read (component ∷ more) some distinct =
     ap layout_from (parts_read component more)
     ∙ cond-true (is_distinct (component ∷ more)) _ _ distinct
 
-scope_read : (vmd : Bool) → scope_in (scope_word vmd) ≡ Some vmd
+scope_read : (vmd : Bool) → whole_scope_in (scope_word vmd) ≡ Some vmd
 scope_read true = refl
 scope_read false = refl
 
 see_read : (name : List ℕ) (vmd : Bool) (layout : Option (List Component))
-    → IsWritable (See name vmd layout)
-    → line_of (line_words (See name vmd layout)) ≡ Some (See name vmd layout)
+    → IsWritableLine (See name vmd layout)
+    → table_line_of (line_words (See name vmd layout)) ≡ Some (See name vmd layout)
 see_read name vmd None fits = absurd fits.1
 see_read name vmd (Some layout) fits =
     cond-true (is_name name) _ _ fits.0
@@ -221,12 +221,12 @@ see_read name vmd (Some layout) fits =
     ∙ ap (see_with name vmd) (layout_read layout fits.1.0 fits.1.1)
 
 control_read : (name : List ℕ) (tag : Bool) → is_name name ≡ true
-    → line_of (line_words (Control name tag)) ≡ Some (Control name tag)
+    → table_line_of (line_words (Control name tag)) ≡ Some (Control name tag)
 control_read name true named = cond-true (is_name name) _ _ named
 control_read name false named = cond-true (is_name name) _ _ named
 
 -- the words of a line are read as the line
-words_read : (line : TableLine) → IsWritable line → line_of (line_words line) ≡ Some line
+words_read : (line : TableLine) → IsWritableLine line → table_line_of (line_words line) ≡ Some line
 words_read (Point row) fits = point_read row fits
 words_read (Device row) fits = device_read row fits
 words_read (Peer table) fits = peer_read table fits
@@ -333,7 +333,7 @@ limit_written line first n small words is told = record {
   told = told;
 }
 
-written : (line : TableLine) → IsWritable line → Written line
+written : (line : TableLine) → IsWritableLine line → Written line
 written (Point row) fits = record {
   first = codes "point";
   more = row.name ∷ kind_word row.kind ∷ [];
@@ -399,17 +399,17 @@ written (Control name tag) fits = record {
 }
 
 -- the written form of a line is read as this line
-pub line_read : (line : TableLine) → IsWritable line → line_in (line_text line) ≡ Some line
+pub line_read : (line : TableLine) → IsWritableLine line → line_in (line_text line) ≡ Some line
 line_read line fits =
     let w = written line fits in
-    ap (λ ws. option_and_then line_of (words_in (spaced ws))) w.words
-    ∙ ap (option_and_then line_of) (words_of_spaced w.first w.more w.is w.are)
-    ∙ ap line_of (sym w.words) ∙ words_read line fits
+    ap (λ ws. option_and_then table_line_of (words_in (spaced ws))) w.words
+    ∙ ap (option_and_then table_line_of) (words_of_spaced w.first w.more w.is w.are)
+    ∙ ap table_line_of (sym w.words) ∙ words_read line fits
 
 abbrev is_told : List ℕ → Bool
 is_told line = not (is_skipped line)
 
-text_lines : (line : TableLine) → IsWritable line → (rest : List ℕ)
+text_lines : (line : TableLine) → IsWritableLine line → (rest : List ℕ)
     → lines (line_text line ++ 10 ∷ rest) ≡ line_text line ∷ lines rest
 text_lines line fits rest =
     let w = written line fits in
@@ -417,7 +417,7 @@ text_lines line fits rest =
     ∙ lines_of_spaced w.first w.more rest w.is w.are
     ∙ ap (λ ws. spaced ws ∷ lines rest) (sym w.words)
 
-text_told : (line : TableLine) → IsWritable line → is_skipped (line_text line) ≡ false
+text_told : (line : TableLine) → IsWritableLine line → is_skipped (line_text line) ≡ false
 text_told line fits =
     let w = written line fits in ap (λ ws. is_skipped (spaced ws)) w.words ∙ w.told
 

@@ -9,7 +9,7 @@ use Rattle.std.proofs.lemmas.List.{append-nil}
 use Rattle.std.proofs.lemmas.List.Elements.{filter_map-append}
 use Rattle.bilateral.specs.declared.line.TableLine.{TableLine}
 use Rattle.bilateral.specs.declared.rows.Table.{Table}
-use Rattle.bilateral.specs.Spelling.{peer_in, own_lines, sections, Section, begun, last_or}
+use Rattle.bilateral.specs.Spelling.{peer_in, own_lines, sections, TableSection, sections_begun, last_or}
 
 -- a change of the last element
 abbrev pub on_last : {A : Type 0} → (A → A) → List A → List A
@@ -18,7 +18,7 @@ on_last f (x ∷ []) = f x ∷ []
 on_last f (x ∷ y ∷ more) = x ∷ on_last f (y ∷ more)
 
 -- a line more in a section
-abbrev pub with_own : TableLine → Section → Section
+abbrev pub with_own : TableLine → TableSection → TableSection
 with_own line part = (part.0, part.1 ++ line ∷ [])
 
 -- a line that is no peer's, where no peer's line follows
@@ -30,15 +30,15 @@ own-push_last line other (x ∷ said) none =
   where
     step : (p : Option Table)
         → (sections said ≡ [] → own_lines (said ++ line ∷ []) ≡ own_lines said ++ line ∷ [])
-        → begun p (own_lines said) (sections said) ≡ []
+        → sections_begun p (own_lines said) (sections said) ≡ []
         → cond (is_some p) [] (x ∷ own_lines (said ++ line ∷ []))
         ≡ cond (is_some p) [] (x ∷ own_lines said) ++ line ∷ []
     step None later none = ap (λ lines. x ∷ lines) (later none)
     step (Some table) later none = absurd cc
 
 -- a line behind a peer's line that follows
-own-push_later : (line : TableLine) → (said : List TableLine) (part : Section)
-    (more : List Section) → sections said ≡ part ∷ more
+own-push_later : (line : TableLine) → (said : List TableLine) (part : TableSection)
+    (more : List TableSection) → sections said ≡ part ∷ more
     → own_lines (said ++ line ∷ []) ≡ own_lines said
 own-push_later line [] part more there = absurd cc
 own-push_later line (x ∷ said) part more there =
@@ -46,7 +46,7 @@ own-push_later line (x ∷ said) part more there =
   where
     step : (p : Option Table)
         → (sections said ≡ part ∷ more → own_lines (said ++ line ∷ []) ≡ own_lines said)
-        → begun p (own_lines said) (sections said) ≡ part ∷ more
+        → sections_begun p (own_lines said) (sections said) ≡ part ∷ more
         → cond (is_some p) [] (x ∷ own_lines (said ++ line ∷ []))
         ≡ cond (is_some p) [] (x ∷ own_lines said)
     step None later there = ap (λ lines. x ∷ lines) (later there)
@@ -55,13 +55,13 @@ own-push_later line (x ∷ said) part more there =
 -- a line that is no peer's stands in the last section
 pub sections-push_line : (line : TableLine) → peer_in line ≡ None → (said : List TableLine)
     → sections (said ++ line ∷ []) ≡ on_last (with_own line) (sections said)
-sections-push_line line other [] = ap (λ p. begun p [] []) other
+sections-push_line line other [] = ap (λ p. sections_begun p [] []) other
 sections-push_line line other (x ∷ said) =
     step (peer_in x) (sections-push_line line other said)
   where
-    first : (table : Table) (parts parts_new : List Section) (own own_new : List TableLine)
+    first : (table : Table) (parts parts_new : List TableSection) (own own_new : List TableLine)
         → (parts ≡ [] → own_new ≡ own ++ line ∷ [])
-        → ((part : Section) (more : List Section) → parts ≡ part ∷ more → own_new ≡ own)
+        → ((part : TableSection) (more : List TableSection) → parts ≡ part ∷ more → own_new ≡ own)
         → parts_new ≡ on_last (with_own line) parts
         → (table, own_new) ∷ parts_new ≡ on_last (with_own line) ((table, own) ∷ parts)
     first table [] parts_new own own_new at_end later same =
@@ -72,8 +72,8 @@ sections-push_line line other (x ∷ said) =
 
     step : (p : Option Table)
         → sections (said ++ line ∷ []) ≡ on_last (with_own line) (sections said)
-        → begun p (own_lines (said ++ line ∷ [])) (sections (said ++ line ∷ []))
-        ≡ on_last (with_own line) (begun p (own_lines said) (sections said))
+        → sections_begun p (own_lines (said ++ line ∷ [])) (sections (said ++ line ∷ []))
+        ≡ on_last (with_own line) (sections_begun p (own_lines said) (sections said))
     step None same = same
     step (Some table) same =
         first table (sections said) (sections (said ++ line ∷ [])) (own_lines said)
@@ -90,16 +90,16 @@ own-push_peer line table is (x ∷ said) =
 -- a new peer's line begins a section
 pub sections-push_peer : (line : TableLine) (table : Table) → peer_in line ≡ Some table
     → (said : List TableLine) → sections (said ++ line ∷ []) ≡ sections said ++ (table, []) ∷ []
-sections-push_peer line table is [] = ap (λ p. begun p [] []) is
+sections-push_peer line table is [] = ap (λ p. sections_begun p [] []) is
 sections-push_peer line table is (x ∷ said) =
-    ap (λ own. begun (peer_in x) own (sections (said ++ line ∷ [])))
+    ap (λ own. sections_begun (peer_in x) own (sections (said ++ line ∷ [])))
     (own-push_peer line table is said)
-    ∙ ap (begun (peer_in x) (own_lines said)) (sections-push_peer line table is said)
+    ∙ ap (sections_begun (peer_in x) (own_lines said)) (sections-push_peer line table is said)
     ∙ joined (peer_in x)
   where
     joined : (p : Option Table)
-        → begun p (own_lines said) (sections said ++ (table, []) ∷ [])
-        ≡ begun p (own_lines said) (sections said) ++ (table, []) ∷ []
+        → sections_begun p (own_lines said) (sections said ++ (table, []) ∷ [])
+        ≡ sections_begun p (own_lines said) (sections said) ++ (table, []) ∷ []
     joined None = refl
     joined (Some other) = refl
 
@@ -124,8 +124,8 @@ last_or-push [] x d = refl
 last_or-push (y ∷ xs) x d = last_or-push xs x y
 
 -- the lines of the last section, with a line more
-pub last_own-push : (line : TableLine) (d : List TableLine) (parts : List Section) (part : Section)
-    (more : List Section) → parts ≡ part ∷ more
+pub last_own-push : (line : TableLine) (d : List TableLine) (parts : List TableSection) (part : TableSection)
+    (more : List TableSection) → parts ≡ part ∷ more
     → last_or d (map (λ p. p.1) (on_last (with_own line) parts))
     ≡ last_or d (map (λ p. p.1) parts) ++ line ∷ []
 last_own-push line d [] part more there = absurd cc

@@ -13,7 +13,7 @@ use Rattle.bilateral.specs.declared.rows.TheConstants.{SEE_LIMIT, DEVICE_LIMIT}
 use Rattle.bilateral.specs.declared.store.Store.{Store}
 use Rattle.tase_points.specs.Layouts.{IsLayout}
 use Rattle.table_words.specs.Words.{is_name}
-use Rattle.bilateral.specs.Lines.{IsLawful}
+use Rattle.bilateral.specs.Lines.{IsLawfulLine}
 use Rattle.bilateral.specs.Rows.{CentreRows, IsCentre, IsTable, IsControlling, place_of_see}
 use Rattle.bilateral.specs.Rows.{place_of_control}
 use Rattle.bilateral.specs.Rows.{table_of, no_table}
@@ -52,7 +52,7 @@ IsStore-with_point old new point name store named taken called pushed noted same
     })
 
 pub IsStore-with_device : (old new : Store) (device : DeviceRow) (name : List ℕ)
-    → IsStore old → IsLawful (Device device) → row_fault (so_far old) (Device device) ≡ None
+    → IsStore old → IsLawfulLine (Device device) → row_fault (so_far old) (Device device) ≡ None
     → name ≡ device.name → new.devices.items ≡ old.devices.items ++ device ∷ []
     → names_in new.device_names ≡ names_in old.device_names ++ name ∷ []
     → new ≡ record old { devices = new.devices; device_names = new.device_names } → IsStore new
@@ -77,7 +77,7 @@ abbrev with_tables : CentreRows → List Table → CentreRows
 with_tables rows tables = record rows { tables = tables }
 
 pub IsStore-with_peer : (old new : Store) (table : Table) (key : List ℕ)
-    → IsStore old → IsLawful (Peer table) → row_fault (so_far old) (Peer table) ≡ None
+    → IsStore old → IsLawfulLine (Peer table) → row_fault (so_far old) (Peer table) ≡ None
     → key ≡ table.key → new.tables.items ≡ old.tables.items ++ table ∷ []
     → names_in new.keys ≡ names_in old.keys ++ key ∷ []
     → new ≡ record old { tables = new.tables; keys = new.keys; given = new.given } → IsStore new

@@ -21,9 +21,9 @@ use Rattle.bilateral.specs.declared.rows.Table.{Table}
 use Rattle.bilateral.specs.Rows.{no_table}
 use Rattle.bilateral.specs.Reading.{SoFar, row_fault, with_row, with_last, with_see, with_control}
 use Rattle.bilateral.specs.Reading.{with_slots, with_sets, with_pending, last_table}
-use Rattle.bilateral.specs.Spelling.{point_in, device_in, peer_in, see_in, control_in, slots_in}
-use Rattle.bilateral.specs.Spelling.{sets_in, pending_in, sections, Section, last_or, filled}
-use Rattle.bilateral.specs.Spelling.{table_in, is_slots, is_sets, is_pending, given_among, told_by}
+use Rattle.bilateral.specs.Spelling.{point_of_line, device_of_line, peer_in, see_in, control_in, slots_in}
+use Rattle.bilateral.specs.Spelling.{sets_in, pending_in, sections, TableSection, last_or, filled}
+use Rattle.bilateral.specs.Spelling.{table_in, is_slots, is_sets, is_pending, given_among, all_told_by}
 use Rattle.bilateral.specs.Spelling.{told}
 use Rattle.bilateral.proofs.Taken.{IsNewPoint-from_no_fault, IsNewDevice-from_no_fault}
 use Rattle.bilateral.proofs.Taken.{IsNewSee-from_no_fault, IsNewControl-from_no_fault, limit_taken}
@@ -76,7 +76,7 @@ same_filled table sees sees_new controls controls_new slots slots_new sets sets_
 
 -- the table of a section with a line more, by what the line gives it
 module _ (points : List PointRow) (devices : List DeviceRow) (line : TableLine)
-    (part : Section) where
+    (part : TableSection) where
   same_sees : see_in points line ≡ None
       → part.0.sees ++ filter_map (see_in points) (part.1 ++ line ∷ [])
       ≡ part.0.sees ++ filter_map (see_in points) part.1
@@ -106,17 +106,17 @@ so_far_by points devices tables given =
     record { rows = record { points = points; devices = devices; tables = tables }; given = given }
 
 -- the lines of a table: the last table changes
-last_changed : (points : List PointRow) (devices : List DeviceRow) (parts : List Section)
+last_changed : (points : List PointRow) (devices : List DeviceRow) (parts : List TableSection)
     (line : TableLine) (g : Table → Table) (given : LimitRows)
     → 0 < length (map (table_in points devices) parts)
-    → ((part : Section)
+    → ((part : TableSection)
     → table_in points devices (with_own line part) ≡ g (table_in points devices part))
     → ((own : List TableLine) → own ≡ last_or [] (map (λ p. p.1) parts)
     → given_among (own ++ line ∷ []) ≡ given)
-    → told_by points devices (on_last (with_own line) parts)
+    → all_told_by points devices (on_last (with_own line) parts)
     ≡ record {
-      rows = with_last (told_by points devices parts).rows
-          (g (last_table (told_by points devices parts).rows));
+      rows = with_last (all_told_by points devices parts).rows
+          (g (last_table (all_told_by points devices parts).rows));
       given = given;
     }
 last_changed points devices [] line g given some same same_given = absurd (omega arith)
@@ -133,17 +133,17 @@ last_changed points devices (part ∷ more) line g given some same same_given =
     ∙ same_given (last_or [] (map (λ p. p.1) parts)) refl)
 
 -- what lines say with one more of a table
-told-push_own : (said : List TableLine) (line : TableLine) → point_in line ≡ None
-    → device_in line ≡ None → peer_in line ≡ None
+told-push_own : (said : List TableLine) (line : TableLine) → point_of_line line ≡ None
+    → device_of_line line ≡ None → peer_in line ≡ None
     → told (said ++ line ∷ [])
-    ≡ told_by (filter_map point_in said) (filter_map device_in said)
+    ≡ all_told_by (filter_map point_of_line said) (filter_map device_of_line said)
     (on_last (with_own line) (sections said))
 told-push_own said line no_point no_device no_peer =
-    ap (λ points. told_by points (filter_map device_in (said ++ line ∷ []))
-    (sections (said ++ line ∷ []))) (filter_map-push_none point_in said line no_point)
-    ∙ ap (λ devices. told_by (filter_map point_in said) devices (sections (said ++ line ∷ [])))
-    (filter_map-push_none device_in said line no_device)
-    ∙ ap (told_by (filter_map point_in said) (filter_map device_in said))
+    ap (λ points. all_told_by points (filter_map device_of_line (said ++ line ∷ []))
+    (sections (said ++ line ∷ []))) (filter_map-push_none point_of_line said line no_point)
+    ∙ ap (λ devices. all_told_by (filter_map point_of_line said) devices (sections (said ++ line ∷ [])))
+    (filter_map-push_none device_of_line said line no_device)
+    ∙ ap (all_told_by (filter_map point_of_line said) (filter_map device_of_line said))
     (sections-push_line line no_peer said)
 
 no_parts : {A B : Type 0} (f : A → B) (xs : List A) → length (map f xs) ≡ 0 → xs ≡ []
@@ -154,35 +154,35 @@ told-push_point : (said : List TableLine) (point : PointRow)
     → row_fault (told said) (Point point) ≡ None
     → told (said ++ Point point ∷ []) ≡ with_row (told said) (Point point)
 told-push_point said point taken =
-    let points = filter_map point_in said in
-    let devices = filter_map device_in said in
+    let points = filter_map point_of_line said in
+    let devices = filter_map device_of_line said in
     let none = no_parts (table_in points devices) (sections said)
     (IsNewPoint-from_no_fault (told said) point taken).no_tables in
-    ap (λ ps. told_by ps (filter_map device_in (said ++ Point point ∷ []))
+    ap (λ ps. all_told_by ps (filter_map device_of_line (said ++ Point point ∷ []))
     (sections (said ++ Point point ∷ [])))
-    (filter_map-push_some point_in said (Point point) point refl)
-    ∙ ap (λ ds. told_by (points ++ point ∷ []) ds (sections (said ++ Point point ∷ [])))
-    (filter_map-push_none device_in said (Point point) refl)
-    ∙ ap (told_by (points ++ point ∷ []) devices)
+    (filter_map-push_some point_of_line said (Point point) point refl)
+    ∙ ap (λ ds. all_told_by (points ++ point ∷ []) ds (sections (said ++ Point point ∷ [])))
+    (filter_map-push_none device_of_line said (Point point) refl)
+    ∙ ap (all_told_by (points ++ point ∷ []) devices)
     (sections-push_line (Point point) refl said ∙ ap (on_last (with_own (Point point))) none)
-    ∙ sym (ap (λ parts. with_row (told_by points devices parts) (Point point)) none)
+    ∙ sym (ap (λ parts. with_row (all_told_by points devices parts) (Point point)) none)
 
 told-push_device : (said : List TableLine) (device : DeviceRow)
     → row_fault (told said) (Device device) ≡ None
     → told (said ++ Device device ∷ []) ≡ with_row (told said) (Device device)
 told-push_device said device taken =
-    let points = filter_map point_in said in
-    let devices = filter_map device_in said in
+    let points = filter_map point_of_line said in
+    let devices = filter_map device_of_line said in
     let none = no_parts (table_in points devices) (sections said)
     (IsNewDevice-from_no_fault (told said) device taken).no_tables in
-    ap (λ ps. told_by ps (filter_map device_in (said ++ Device device ∷ []))
+    ap (λ ps. all_told_by ps (filter_map device_of_line (said ++ Device device ∷ []))
     (sections (said ++ Device device ∷ [])))
-    (filter_map-push_none point_in said (Device device) refl)
-    ∙ ap (λ ds. told_by points ds (sections (said ++ Device device ∷ [])))
-    (filter_map-push_some device_in said (Device device) device refl)
-    ∙ ap (told_by points (devices ++ device ∷ []))
+    (filter_map-push_none point_of_line said (Device device) refl)
+    ∙ ap (λ ds. all_told_by points ds (sections (said ++ Device device ∷ [])))
+    (filter_map-push_some device_of_line said (Device device) device refl)
+    ∙ ap (all_told_by points (devices ++ device ∷ []))
     (sections-push_line (Device device) refl said ∙ ap (on_last (with_own (Device device))) none)
-    ∙ sym (ap (λ parts. with_row (told_by points devices parts) (Device device)) none)
+    ∙ sym (ap (λ parts. with_row (all_told_by points devices parts) (Device device)) none)
 
 new_table : (points : List PointRow) (devices : List DeviceRow) (table : Table)
     → table_in points devices (table, []) ≡ table
@@ -196,23 +196,23 @@ last_or-pushed d x xs = last_or-push xs x d
 told-push_peer : (said : List TableLine) (table : Table)
     → told (said ++ Peer table ∷ []) ≡ with_row (told said) (Peer table)
 told-push_peer said table =
-    let points = filter_map point_in said in
-    let devices = filter_map device_in said in
+    let points = filter_map point_of_line said in
+    let devices = filter_map device_of_line said in
     let parts = sections said in
-    ap (λ ps. told_by ps (filter_map device_in (said ++ Peer table ∷ []))
+    ap (λ ps. all_told_by ps (filter_map device_of_line (said ++ Peer table ∷ []))
     (sections (said ++ Peer table ∷ [])))
-    (filter_map-push_none point_in said (Peer table) refl)
-    ∙ ap (λ ds. told_by points ds (sections (said ++ Peer table ∷ [])))
-    (filter_map-push_none device_in said (Peer table) refl)
-    ∙ ap (told_by points devices) (sections-push_peer (Peer table) table refl said)
+    (filter_map-push_none point_of_line said (Peer table) refl)
+    ∙ ap (λ ds. all_told_by points ds (sections (said ++ Peer table ∷ [])))
+    (filter_map-push_none device_of_line said (Peer table) refl)
+    ∙ ap (all_told_by points devices) (sections-push_peer (Peer table) table refl said)
     ∙ ap (λ ts. so_far_by points devices ts
     (given_among (last_or [] (map (λ p. p.1) (parts ++ (table, []) ∷ [])))))
     (map-append (table_in points devices) parts ((table, []) ∷ [])
     ∙ ap (λ t. map (table_in points devices) parts ++ t ∷ []) (new_table points devices table))
     ∙ ap (λ own. so_far_by points devices (map (table_in points devices) parts ++ table ∷ [])
     (given_among own))
-    (ap (last_or []) (map-append (λ (p : Section). p.1) parts ((table, []) ∷ []))
-    ∙ last_or-pushed [] [] (map (λ (p : Section). p.1) parts))
+    (ap (last_or []) (map-append (λ (p : TableSection). p.1) parts ((table, []) ∷ []))
+    ∙ last_or-pushed [] [] (map (λ (p : TableSection). p.1) parts))
 
 its_number : (number : Option ℕ) (n : ℕ) → number ≡ Some n → number ≡ Some (unwrap_or number 0)
 its_number None n is = absurd cc
@@ -222,8 +222,8 @@ told-push_slots : (said : List TableLine) (number : Option ℕ)
     → row_fault (told said) (Slots number) ≡ None
     → told (said ++ Slots number ∷ []) ≡ with_row (told said) (Slots number)
 told-push_slots said number taken =
-    let points = filter_map point_in said in
-    let devices = filter_map device_in said in
+    let points = filter_map point_of_line said in
+    let devices = filter_map device_of_line said in
     let free = limit_taken (told said).rows (told said).given.slots number taken in
     let is = its_number number free.1 free.2 in
     told-push_own said (Slots number) refl refl refl
@@ -244,8 +244,8 @@ told-push_sets : (said : List TableLine) (number : Option ℕ)
     → row_fault (told said) (Sets number) ≡ None
     → told (said ++ Sets number ∷ []) ≡ with_row (told said) (Sets number)
 told-push_sets said number taken =
-    let points = filter_map point_in said in
-    let devices = filter_map device_in said in
+    let points = filter_map point_of_line said in
+    let devices = filter_map device_of_line said in
     let free = limit_taken (told said).rows (told said).given.sets number taken in
     let is = its_number number free.1 free.2 in
     told-push_own said (Sets number) refl refl refl
@@ -266,8 +266,8 @@ told-push_pending : (said : List TableLine) (number : Option ℕ)
     → row_fault (told said) (Pending number) ≡ None
     → told (said ++ Pending number ∷ []) ≡ with_row (told said) (Pending number)
 told-push_pending said number taken =
-    let points = filter_map point_in said in
-    let devices = filter_map device_in said in
+    let points = filter_map point_of_line said in
+    let devices = filter_map device_of_line said in
     let free = limit_taken (told said).rows (told said).given.pending number taken in
     let is = its_number number free.1 free.2 in
     told-push_own said (Pending number) refl refl refl
@@ -314,8 +314,8 @@ told-push_see : (said : List TableLine) (name : List ℕ) (vmd : Bool)
     (layout : Option (List Component)) → row_fault (told said) (See name vmd layout) ≡ None
     → told (said ++ See name vmd layout ∷ []) ≡ with_row (told said) (See name vmd layout)
 told-push_see said name vmd layout taken =
-    let points = filter_map point_in said in
-    let devices = filter_map device_in said in
+    let points = filter_map point_of_line said in
+    let devices = filter_map device_of_line said in
     let line = See name vmd layout in
     let place = position (λ (row : PointRow). bytes_eq row.name name) points in
     let row = see_of (unwrap_or place 0) vmd (unwrap_or layout []) in
@@ -345,8 +345,8 @@ told-push_control : (said : List TableLine) (name : List ℕ) (tag : Bool)
     → row_fault (told said) (Control name tag) ≡ None
     → told (said ++ Control name tag ∷ []) ≡ with_row (told said) (Control name tag)
 told-push_control said name tag taken =
-    let points = filter_map point_in said in
-    let devices = filter_map device_in said in
+    let points = filter_map point_of_line said in
+    let devices = filter_map device_of_line said in
     let line = Control name tag in
     let place = position (λ (row : DeviceRow). bytes_eq row.name name) devices in
     let row = control_of (unwrap_or place 0) tag in

@@ -16,10 +16,11 @@ use Rattle.bilateral.specs.declared.rows.Table.{Table}
 use Rattle.bilateral.specs.declared.rows.TheConstants.{SLOT_LIMIT, SLOT_DEFAULT, SET_LIMIT}
 use Rattle.bilateral.specs.declared.rows.TheConstants.{SET_DEFAULT, PENDING_LEAST, PENDING_LIMIT}
 use Rattle.bilateral.specs.declared.rows.TheConstants.{PENDING_DEFAULT}
-use Rattle.table_words.specs.Words.{is_name, is_identifier, kind_in, scope_in, layout_in, title_in}
+use Rattle.table_words.specs.Words.{is_name, is_identifier, kind_in, whole_scope_in, layout_in}
+use Rattle.table_words.specs.Words.{title_in}
 use Rattle.table_words.specs.Words.{limit_in, IsTitle}
 use Rattle.tase_points.specs.Layouts.{IsLayout}
-use Rattle.table_words.specs.Devices.{order_in, IsForm}
+use Rattle.table_words.specs.Devices.{order_in, IsDeviceLine}
 
 -- `point NAME KIND`, past its first word
 abbrev pub point_line : List (List ℕ) → Option TableLine
@@ -90,21 +91,21 @@ see_with name vmd (Err Part) = None
 abbrev pub see_line : List (List ℕ) → Option TableLine
 see_line (name ∷ scope ∷ layout ∷ []) =
     if is_name name
-    then option_and_then (λ vmd. see_with name vmd (layout_in layout)) (scope_in scope)
+    then option_and_then (λ vmd. see_with name vmd (layout_in layout)) (whole_scope_in scope)
     else None
 see_line _ = None
 
 -- whether a device's tag may be written: nothing more, or `tag`
-abbrev pub tag_in : List (List ℕ) → Option Bool
-tag_in [] = Some false
-tag_in (word ∷ []) = if bytes_eq word (codes "tag") then Some true else None
-tag_in _ = None
+abbrev pub tag_word_in : List (List ℕ) → Option Bool
+tag_word_in [] = Some false
+tag_word_in (word ∷ []) = if bytes_eq word (codes "tag") then Some true else None
+tag_word_in _ = None
 
 -- `control NAME` and `control NAME tag`
 abbrev pub control_line : List (List ℕ) → Option TableLine
 control_line [] = None
 control_line (name ∷ more) =
-    if is_name name then option_map (λ tag. Control name tag) (tag_in more) else None
+    if is_name name then option_map (λ tag. Control name tag) (tag_word_in more) else None
 
 -- what a line of a table says, by its first word
 abbrev pub table_told_by : List ℕ → List (List ℕ) → Option TableLine
@@ -116,21 +117,21 @@ table_told_by first more =
     else (if bytes_eq first (codes "pending") then pending_line more else None))))
 
 -- what a line says, by its first word
-abbrev pub told_by : List ℕ → List (List ℕ) → Option TableLine
-told_by first more =
+abbrev pub line_told_by : List ℕ → List (List ℕ) → Option TableLine
+line_told_by first more =
     if bytes_eq first (codes "point") then point_line more
     else (if bytes_eq first (codes "device") then device_line more
     else (if bytes_eq first (codes "peer") then peer_line more
     else table_told_by first more))
 
 -- what words say, by the first of them
-abbrev pub line_of : List (List ℕ) → Option TableLine
-line_of [] = None
-line_of (first ∷ more) = told_by first more
+abbrev pub table_line_of : List (List ℕ) → Option TableLine
+table_line_of [] = None
+table_line_of (first ∷ more) = line_told_by first more
 
 -- what a line says, where it is one of the forms
 abbrev pub line_in : List ℕ → Option TableLine
-line_in line = option_and_then line_of (words_in line)
+line_in line = option_and_then table_line_of (words_in line)
 
 -- what a device says beside its name
 abbrev pub form_of : DeviceRow → DeviceForm
@@ -153,14 +154,14 @@ IsLimit least most number = IfSome number (λ n. (least ≤ n) × (n ≤ most))
 
 -- a line's names and identifiers are such, a new table has no rows and a title that a word can
 -- spell, limits are limits and a layout is one
-abbrev pub IsLawful : TableLine → Type 0
-IsLawful (Point point) = IsTrue (is_name point.name)
-IsLawful (Device row) = IsTrue (is_name row.name) × IsForm (form_of row)
-IsLawful (Peer table) =
+abbrev pub IsLawfulLine : TableLine → Type 0
+IsLawfulLine (Point point) = IsTrue (is_name point.name)
+IsLawfulLine (Device row) = IsTrue (is_name row.name) × IsDeviceLine (form_of row)
+IsLawfulLine (Peer table) =
     IsTrue (is_identifier table.key) × IsTrue (is_identifier table.domain)
     × IsTrue (is_identifier table.id) × IsNewTable table × IsTitle table.title
-IsLawful (Slots number) = IsLimit 1 SLOT_LIMIT number
-IsLawful (Sets number) = IsLimit 1 SET_LIMIT number
-IsLawful (Pending number) = IsLimit PENDING_LEAST PENDING_LIMIT number
-IsLawful (See name vmd layout) = IfSome layout IsLayout
-IsLawful (Control name tag) = Unit {0}
+IsLawfulLine (Slots number) = IsLimit 1 SLOT_LIMIT number
+IsLawfulLine (Sets number) = IsLimit 1 SET_LIMIT number
+IsLawfulLine (Pending number) = IsLimit PENDING_LEAST PENDING_LIMIT number
+IsLawfulLine (See name vmd layout) = IfSome layout IsLayout
+IsLawfulLine (Control name tag) = Unit {0}

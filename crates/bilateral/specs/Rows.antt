@@ -16,7 +16,7 @@ use Rattle.bilateral.specs.declared.rows.TheConstants.{PENDING_DEFAULT}
 use Rattle.tase_points.specs.declared.kind.Kind.TheVariants.{State}
 use Rattle.tase_points.specs.Layouts.{IsLayout}
 use Rattle.table_words.specs.Words.{is_name, is_identifier, IsTitle}
-use Rattle.table_words.specs.Devices.{IsForm}
+use Rattle.table_words.specs.Devices.{IsDeviceLine}
 use Rattle.bilateral.specs.Lines.{form_of}
 
 -- the points and devices of a centre and its peers' bilateral tables, each numbered from 0 in the
@@ -53,7 +53,7 @@ place_of_control table device = position (λ control. control.device == device) 
 -- a device: a name, a range in order, and a span unless it is direct
 pub record IsDevice (row : DeviceRow) : Type 0 where
   pub named : IsTrue (is_name row.name)
-  pub form : IsForm (form_of row)
+  pub form : IsDeviceLine (form_of row)
   pub some_span : row.direct ≡ false → 1 ≤ row.span
   pub span : row.span ≤ SPAN_LIMIT
 

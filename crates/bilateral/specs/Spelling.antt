@@ -23,13 +23,13 @@ use Rattle.bilateral.specs.Lines.{line_in}
 use Rattle.bilateral.specs.Reasons.{SoFar, row_fault, line_fault}
 
 -- the point, device or peer that a line gives
-abbrev pub point_in : TableLine → Option PointRow
-point_in (Point point) = Some point
-point_in _ = None
+abbrev pub point_of_line : TableLine → Option PointRow
+point_of_line (Point point) = Some point
+point_of_line _ = None
 
-abbrev pub device_in : TableLine → Option DeviceRow
-device_in (Device device) = Some device
-device_in _ = None
+abbrev pub device_of_line : TableLine → Option DeviceRow
+device_of_line (Device device) = Some device
+device_of_line _ = None
 
 abbrev pub peer_in : TableLine → Option Table
 peer_in (Peer table) = Some table
@@ -68,17 +68,17 @@ own_lines [] = []
 own_lines (line ∷ more) = if is_some (peer_in line) then [] else line ∷ own_lines more
 
 -- a peer's line and the lines of its table
-abbrev pub Section : Type 0
-Section = Table × List TableLine
+abbrev pub TableSection : Type 0
+TableSection = Table × List TableLine
 
-abbrev pub begun : Option Table → List TableLine → List Section → List Section
-begun None own later = later
-begun (Some table) own later = (table, own) ∷ later
+abbrev pub sections_begun : Option Table → List TableLine → List TableSection → List TableSection
+sections_begun None own later = later
+sections_begun (Some table) own later = (table, own) ∷ later
 
 -- each peer's line with the lines up to the next
-abbrev pub sections : List TableLine → List Section
+abbrev pub sections : List TableLine → List TableSection
 sections [] = []
-sections (line ∷ more) = begun (peer_in line) (own_lines more) (sections more)
+sections (line ∷ more) = sections_begun (peer_in line) (own_lines more) (sections more)
 
 -- the last of a list, and a default for none
 abbrev pub last_or : {A : Type 0} → A → List A → A
@@ -101,7 +101,7 @@ filled table sees controls slots sets pending = record {
 
 -- the table of a section, by the points and the devices of the centre: the peer's own, which has no
 -- rows, with those of its lines, and with the limits that these give
-abbrev pub table_in : List PointRow → List DeviceRow → Section → Table
+abbrev pub table_in : List PointRow → List DeviceRow → TableSection → Table
 table_in points devices section =
     filled section.0 (section.0.sees ++ filter_map (see_in points) section.1)
     (section.0.controls ++ filter_map (control_in devices) section.1)
@@ -130,8 +130,8 @@ given_among own = record {
 }
 
 -- what points, devices and sections come to
-abbrev pub told_by : List PointRow → List DeviceRow → List Section → SoFar
-told_by points devices parts = record {
+abbrev pub all_told_by : List PointRow → List DeviceRow → List TableSection → SoFar
+all_told_by points devices parts = record {
   rows = record {
     points = points;
     devices = devices;
@@ -142,7 +142,8 @@ told_by points devices parts = record {
 
 -- what lines say
 abbrev pub told : List TableLine → SoFar
-told said = told_by (filter_map point_in said) (filter_map device_in said) (sections said)
+told said = all_told_by (filter_map point_of_line said) (filter_map device_of_line said)
+    (sections said)
 
 -- each line may stand behind those before it
 abbrev pub AllStand : List TableLine → List TableLine → Type 0

@@ -12,7 +12,7 @@ use Rattle.tase_points.specs.declared.layout.Component.TheVariants.{Value, Time,
 use Rattle.sbo_device.specs.declared.kind.CommandKind.{CommandKind}
 use Rattle.sbo_device.specs.declared.kind.CommandKind.TheVariants.{Command, Setpoint}
 use Rattle.table_words.specs.Words.{is_name, is_identifier, is_distinct, IsTitle}
-use Rattle.table_words.specs.Devices.{IsForm}
+use Rattle.table_words.specs.Devices.{IsDeviceLine}
 use Rattle.bilateral.specs.declared.line.TableLine.{TableLine}
 use Rattle.bilateral.specs.declared.line.TableLine.TheVariants.{Point, Device, Peer, Slots, Sets}
 use Rattle.bilateral.specs.declared.line.TableLine.TheVariants.{Pending, See, Control}
@@ -147,20 +147,20 @@ IsWrittenLayout (Some layout) = (0 < length layout) × IsTrue (is_distinct layou
 
 -- a line that can be written: names, identifiers, numbers and layouts are such, and a title is one
 -- that a word can spell
-abbrev pub IsWritable : TableLine → Type 0
-IsWritable (Point row) = IsTrue (is_name row.name)
-IsWritable (Device row) =
-    IsTrue (is_name row.name) × IsForm (form_of row) × (row.span ≤ SPAN_LIMIT)
-IsWritable (Peer table) =
+abbrev pub IsWritableLine : TableLine → Type 0
+IsWritableLine (Point row) = IsTrue (is_name row.name)
+IsWritableLine (Device row) =
+    IsTrue (is_name row.name) × IsDeviceLine (form_of row) × (row.span ≤ SPAN_LIMIT)
+IsWritableLine (Peer table) =
     IsTrue (is_identifier table.key) × IsTrue (is_identifier table.domain)
     × IsTrue (is_identifier table.id) × (table ≡ empty_table table)
     × IsTitle table.title
-IsWritable (Slots number) = IsWrittenLimit 1 SLOT_LIMIT number
-IsWritable (Sets number) = IsWrittenLimit 1 SET_LIMIT number
-IsWritable (Pending number) = IsWrittenLimit PENDING_LEAST PENDING_LIMIT number
-IsWritable (See name vmd layout) = IsTrue (is_name name) × IsWrittenLayout layout
-IsWritable (Control name tag) = IsTrue (is_name name)
+IsWritableLine (Slots number) = IsWrittenLimit 1 SLOT_LIMIT number
+IsWritableLine (Sets number) = IsWrittenLimit 1 SET_LIMIT number
+IsWritableLine (Pending number) = IsWrittenLimit PENDING_LEAST PENDING_LIMIT number
+IsWritableLine (See name vmd layout) = IsTrue (is_name name) × IsWrittenLayout layout
+IsWritableLine (Control name tag) = IsTrue (is_name name)
 
 abbrev pub AreWritable : List TableLine → Type 0
 AreWritable [] = Unit {0}
-AreWritable (line ∷ more) = IsWritable line × AreWritable more
+AreWritable (line ∷ more) = IsWritableLine line × AreWritable more

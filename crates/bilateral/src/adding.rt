@@ -6,7 +6,7 @@ ghost use Rattle.bilateral.specs.declared.line.TableLine.TheVariants.{See as See
 ghost use Rattle.bilateral.specs.declared.line.TableLine.TheVariants.{Control as ControlLine};
 ghost use Rattle.tase_points.specs.Layouts.{IsLayout};
 ghost use Rattle.bilateral.specs.Rows.{place_of_see, place_of_control};
-ghost use Rattle.bilateral.specs.Lines.{IsLawful};
+ghost use Rattle.bilateral.specs.Lines.{IsLawfulLine};
 ghost use Rattle.bilateral.specs.Reading.{row_fault, last_table, with_row, seen_in_last};
 ghost use Rattle.bilateral.specs.Reading.{controlled_in_last};
 ghost use Rattle.bilateral.specs.Store.{rows_of, so_far, IsStore};
@@ -24,7 +24,7 @@ impl Store {
     /// Takes in what a line says, which nothing stands against.
     pub fn add(&mut self, alloc: Global, line: TableLine) -> Result<(), AllocError>
         requires store { IsStore self.old }
-        requires lawful { IsLawful line }
+        requires lawful { IsLawfulLine line }
         requires taken { row_fault (so_far self.old) line ≡ None }
         ensures rows { OnOk result (so_far self.new ≡ with_row (so_far self.old) line) }
         ensures store { OnOk result (IsStore self.new) }
@@ -52,7 +52,7 @@ impl Store {
 
     fn add_point(&mut self, alloc: Global, point: PointRow) -> Result<(), AllocError>
         requires store { IsStore self.old }
-        requires lawful { IsLawful (Point point) }
+        requires lawful { IsLawfulLine (Point point) }
         requires taken { row_fault (so_far self.old) (Point point) ≡ None }
         ensures rows { OnOk result (so_far self.new ≡ with_row (so_far self.old) (Point point)) }
         ensures store { OnOk result (IsStore self.new) }
@@ -64,7 +64,7 @@ impl Store {
 
     fn add_device(&mut self, alloc: Global, device: DeviceRow) -> Result<(), AllocError>
         requires store { IsStore self.old }
-        requires lawful { IsLawful (Device device) }
+        requires lawful { IsLawfulLine (Device device) }
         requires taken { row_fault (so_far self.old) (Device device) ≡ None }
         ensures rows { OnOk result (so_far self.new ≡ with_row (so_far self.old) (Device device)) }
         ensures store { OnOk result (IsStore self.new) }
@@ -76,7 +76,7 @@ impl Store {
 
     fn add_peer(&mut self, alloc: Global, table: Table) -> Result<(), AllocError>
         requires store { IsStore self.old }
-        requires lawful { IsLawful (Peer table) }
+        requires lawful { IsLawfulLine (Peer table) }
         requires taken { row_fault (so_far self.old) (Peer table) ≡ None }
         ensures rows { OnOk result (so_far self.new ≡ with_row (so_far self.old) (Peer table)) }
         ensures store { OnOk result (IsStore self.new) }
@@ -89,7 +89,7 @@ impl Store {
 
     fn add_slots(&mut self, number: Option<u32>)
         requires store { IsStore self.old }
-        requires lawful { IsLawful (Slots number) }
+        requires lawful { IsLawfulLine (Slots number) }
         requires taken { row_fault (so_far self.old) (Slots number) ≡ None }
         ensures rows { so_far self.new ≡ with_row (so_far self.old) (Slots number) }
         ensures store { IsStore self.new }
@@ -105,7 +105,7 @@ impl Store {
 
     fn add_sets(&mut self, number: Option<u32>)
         requires store { IsStore self.old }
-        requires lawful { IsLawful (Sets number) }
+        requires lawful { IsLawfulLine (Sets number) }
         requires taken { row_fault (so_far self.old) (Sets number) ≡ None }
         ensures rows { so_far self.new ≡ with_row (so_far self.old) (Sets number) }
         ensures store { IsStore self.new }
@@ -121,7 +121,7 @@ impl Store {
 
     fn add_pending(&mut self, number: Option<u64>)
         requires store { IsStore self.old }
-        requires lawful { IsLawful (Pending number) }
+        requires lawful { IsLawfulLine (Pending number) }
         requires taken { row_fault (so_far self.old) (Pending number) ≡ None }
         ensures rows { so_far self.new ≡ with_row (so_far self.old) (Pending number) }
         ensures store { IsStore self.new }
@@ -142,7 +142,7 @@ impl Store {
         layout: Option<Layout>,
     ) -> Result<(), AllocError>
         requires store { IsStore self.old }
-        requires lawful { IsLawful (SeeLine name vmd layout) }
+        requires lawful { IsLawfulLine (SeeLine name vmd layout) }
         requires taken { row_fault (so_far self.old) (SeeLine name vmd layout) ≡ None }
         ensures rows { OnOk result
             (so_far self.new ≡ with_row (so_far self.old) (SeeLine name vmd layout)) }

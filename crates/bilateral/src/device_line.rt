@@ -1,7 +1,7 @@
 //! `device NAME COMMAND ..` and `control NAME`: devices of the centre and of a table.
 ghost use Rattle.std.specs.Prelude.{◌≡◌, IfOk, IfSome};
 ghost use Rattle.plain_text.specs.Words.{words};
-ghost use Rattle.bilateral.specs.Lines.{device_line, control_line, tag_in, IsLawful};
+ghost use Rattle.bilateral.specs.Lines.{device_line, control_line, tag_word_in, IsLawfulLine};
 
 use crate::line::TableLine;
 use crate::rows::DeviceRow;
@@ -12,7 +12,7 @@ use table_words::{is_name, read_device_form, visible_word};
 /// `NAME COMMAND sbo CHECKBACK MS` or `NAME COMMAND direct`.
 pub fn read_device(alloc: Global, text: &[u8]) -> Result<Option<TableLine>, AllocError>
     ensures value { IfOk result (λ said. said ≡ device_line (words text.now)) }
-    ensures lawful { IfOk result (λ said. IfSome said IsLawful) }
+    ensures lawful { IfOk result (λ said. IfSome said IsLawfulLine) }
 {
     let Some((name, more)) = next_word(text) else {
         return Ok(None);
@@ -36,7 +36,7 @@ pub fn read_device(alloc: Global, text: &[u8]) -> Result<Option<TableLine>, Allo
 /// `NAME` or `NAME tag`.
 pub fn read_control(alloc: Global, text: &[u8]) -> Result<Option<TableLine>, AllocError>
     ensures value { IfOk result (λ said. said ≡ control_line (words text.now)) }
-    ensures lawful { IfOk result (λ said. IfSome said IsLawful) }
+    ensures lawful { IfOk result (λ said. IfSome said IsLawfulLine) }
 {
     let Some((name, more)) = next_word(text) else {
         return Ok(None);
@@ -53,7 +53,7 @@ pub fn read_control(alloc: Global, text: &[u8]) -> Result<Option<TableLine>, All
 
 /// Nothing, or `tag`.
 fn read_tag(text: &[u8]) -> Option<bool>
-    ensures { result ≡ tag_in (words text.now) }
+    ensures { result ≡ tag_word_in (words text.now) }
 {
     let Some((word, more)) = next_word(text) else {
         return Some(false);

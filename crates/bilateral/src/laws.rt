@@ -5,7 +5,7 @@ ghost use Rattle.bilateral.specs.Reading.{centre_in};
 ghost use Rattle.bilateral.specs.declared.line.TableLine.{TableLine};
 ghost use Rattle.bilateral.specs.Lines.{line_in};
 ghost use Rattle.bilateral.specs.Spelling.{Spells, HasFault, AllStand, told};
-ghost use Rattle.bilateral.specs.Writing.{IsWritable, AreWritable, line_text, lines_text};
+ghost use Rattle.bilateral.specs.Writing.{IsWritableLine, AreWritable, line_text, lines_text};
 ghost use Rattle.bilateral.specs.Writing.{tables_text};
 
 /// The law of one reading: a text spells exactly one centre, or has exactly one first bad line.
@@ -27,7 +27,7 @@ pub fn one_reading()
 /// with its end, are the text of the centre that they say. The written form of every lawful centre,
 /// which has its points first, then its devices and then its tables, spells this centre.
 pub fn written_tables_are_read()
-    ensures line { (line : TableLine) → IsWritable line
+    ensures line { (line : TableLine) → IsWritableLine line
         → line_in (line_text line) ≡ Some line }
     ensures text { (said : List TableLine) → AreWritable said → AllStand [] said
         → Spells (lines_text said) (told said).rows }

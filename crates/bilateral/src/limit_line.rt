@@ -1,7 +1,7 @@
 //! `slots N`, `sets N`, `pending N`: the limits of a table.
 ghost use Rattle.std.specs.Prelude.{◌≡◌, ◌≢◌, ◌<◌, ◌^◌, [], ◌∷◌, length, IfSome, IfNone};
 ghost use Rattle.plain_text.specs.Words.{words};
-ghost use Rattle.bilateral.specs.Lines.{slots_line, sets_line, pending_line, IsLawful};
+ghost use Rattle.bilateral.specs.Lines.{slots_line, sets_line, pending_line, IsLawfulLine};
 
 use crate::line::TableLine;
 use crate::rows::{PENDING_LEAST, PENDING_LIMIT, SET_LIMIT, SLOT_LIMIT};
@@ -11,7 +11,7 @@ use table_words::read_limit;
 /// `N` of `slots N`.
 pub fn read_slots(text: &[u8]) -> Option<TableLine>
     ensures value { result ≡ slots_line (words text.now) }
-    ensures lawful { IfSome result IsLawful }
+    ensures lawful { IfSome result IsLawfulLine }
 {
     let number = read_limit(only_word(text)?, 1, SLOT_LIMIT)?;
     Some(TableLine::Slots(as_u32(number)))
@@ -20,7 +20,7 @@ pub fn read_slots(text: &[u8]) -> Option<TableLine>
 /// `N` of `sets N`.
 pub fn read_sets(text: &[u8]) -> Option<TableLine>
     ensures value { result ≡ sets_line (words text.now) }
-    ensures lawful { IfSome result IsLawful }
+    ensures lawful { IfSome result IsLawfulLine }
 {
     let number = read_limit(only_word(text)?, 1, SET_LIMIT)?;
     Some(TableLine::Sets(as_u32(number)))
@@ -29,7 +29,7 @@ pub fn read_sets(text: &[u8]) -> Option<TableLine>
 /// `N` of `pending N`.
 pub fn read_pending(text: &[u8]) -> Option<TableLine>
     ensures value { result ≡ pending_line (words text.now) }
-    ensures lawful { IfSome result IsLawful }
+    ensures lawful { IfSome result IsLawfulLine }
 {
     let number = read_limit(only_word(text)?, PENDING_LEAST, PENDING_LIMIT)?;
     Some(TableLine::Pending(number))

@@ -1,6 +1,6 @@
 ghost use Rattle.std.specs.Prelude.{◌≡◌, IfOk, IfSome};
 ghost use Rattle.plain_text.specs.Words.{words};
-ghost use Rattle.bilateral.specs.Lines.{line_in, told_by, point_line, peer_line, IsLawful};
+ghost use Rattle.bilateral.specs.Lines.{line_in, line_told_by, point_line, peer_line, IsLawfulLine};
 ghost use Rattle.bilateral.specs.Lines.{table_told_by};
 
 use crate::device_line::{read_control, read_device};
@@ -47,7 +47,7 @@ pub enum TableLine {
 /// Reads a line, or answers `None` where it is none of the forms.
 pub fn read_line(alloc: Global, line: &[u8]) -> Result<Option<TableLine>, AllocError>
     ensures value { IfOk result (λ said. said ≡ line_in line.now) }
-    ensures lawful { IfOk result (λ said. IfSome said IsLawful) }
+    ensures lawful { IfOk result (λ said. IfSome said IsLawfulLine) }
 {
     if !is_spaced(line) {
         return Ok(None);
@@ -60,8 +60,8 @@ pub fn read_line(alloc: Global, line: &[u8]) -> Result<Option<TableLine>, AllocE
 
 /// A line by its first word.
 fn read_form(alloc: Global, first: &[u8], more: &[u8]) -> Result<Option<TableLine>, AllocError>
-    ensures value { IfOk result (λ said. said ≡ told_by first.now (words more.now)) }
-    ensures lawful { IfOk result (λ said. IfSome said IsLawful) }
+    ensures value { IfOk result (λ said. said ≡ line_told_by first.now (words more.now)) }
+    ensures lawful { IfOk result (λ said. IfSome said IsLawfulLine) }
 {
     if first == b"point".as_slice() {
         read_point(alloc, more)
@@ -81,7 +81,7 @@ fn read_table_form(
     more: &[u8],
 ) -> Result<Option<TableLine>, AllocError>
     ensures value { IfOk result (λ said. said ≡ table_told_by first.now (words more.now)) }
-    ensures lawful { IfOk result (λ said. IfSome said IsLawful) }
+    ensures lawful { IfOk result (λ said. IfSome said IsLawfulLine) }
 {
     if first == b"see".as_slice() {
         read_see(alloc, more)
@@ -101,7 +101,7 @@ fn read_table_form(
 /// `NAME KIND`.
 fn read_point(alloc: Global, text: &[u8]) -> Result<Option<TableLine>, AllocError>
     ensures value { IfOk result (λ said. said ≡ point_line (words text.now)) }
-    ensures lawful { IfOk result (λ said. IfSome said IsLawful) }
+    ensures lawful { IfOk result (λ said. IfSome said IsLawfulLine) }
 {
     let Some((name, kind)) = two_words(text) else {
         return Ok(None);
@@ -119,7 +119,7 @@ fn read_point(alloc: Global, text: &[u8]) -> Result<Option<TableLine>, AllocErro
 /// `KEY TITLE DOMAIN ID`.
 fn read_peer(alloc: Global, text: &[u8]) -> Result<Option<TableLine>, AllocError>
     ensures value { IfOk result (λ said. said ≡ peer_line (words text.now)) }
-    ensures lawful { IfOk result (λ said. IfSome said IsLawful) }
+    ensures lawful { IfOk result (λ said. IfSome said IsLawfulLine) }
 {
     let Some((key, title, domain, id)) = four_words(text) else {
         return Ok(None);

@@ -1,7 +1,7 @@
 //! `see NAME SCOPE LAYOUT`: a row of a table for a point.
 ghost use Rattle.std.specs.Prelude.{◌≡◌, IfOk, IfSome};
 ghost use Rattle.plain_text.specs.Words.{words};
-ghost use Rattle.bilateral.specs.Lines.{see_line, IsLawful};
+ghost use Rattle.bilateral.specs.Lines.{see_line, IsLawfulLine};
 
 use crate::line::TableLine;
 use plain_text::three_words;
@@ -11,7 +11,7 @@ use table_words::{LayoutWhy, is_name, read_layout, read_scope, visible_word};
 /// `NAME SCOPE LAYOUT`.
 pub fn read_see(alloc: Global, text: &[u8]) -> Result<Option<TableLine>, AllocError>
     ensures value { IfOk result (λ said. said ≡ see_line (words text.now)) }
-    ensures lawful { IfOk result (λ said. IfSome said IsLawful) }
+    ensures lawful { IfOk result (λ said. IfSome said IsLawfulLine) }
 {
     let Some((name, scope, layout)) = three_words(text) else {
         return Ok(None);

@@ -20,7 +20,8 @@ HasNoBadLine text = list_any is_bad (lines text) ≡ false
 
 -- the number of the first bad line; it stands still at the end of the count
 abbrev pub bad_line_from : ℕ → List (List ℕ) → Option ℕ
-bad_line_from number lines = option_map (λ n. min n (2 ^ 64 - 1)) (position_from is_bad number lines)
+bad_line_from number lines = option_map (λ n. min n (2 ^ 64 - 1))
+    (position_from is_bad number lines)
 
 -- the octets of what is left of a line, and of the lines behind it
 abbrev pub octets_left : List ℕ → List ℕ → List ℕ

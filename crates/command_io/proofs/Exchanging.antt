@@ -5,7 +5,7 @@ use Rattle.std.proofs.Common.{refl, sym, ◌∙◌, ap, subst, inl, inr}
 use Rattle.std.specs.Prelude.{bytes_eq}
 use Rattle.std.proofs.lemmas.Slice.Eq.{bytes_eq-Decides}
 use Rattle.outside.specs.Faults.{counted}
-use Rattle.outside.specs.Outside.{NameEntry, untold, missing, lent, there, HandsOut, Changes}
+use Rattle.outside.specs.Outside.{NameEntry, untold, missing, lent, there, HandsOutObject, Changes}
 use Rattle.outside.specs.Outside.{lent_from, put_back_at, Acts}
 use Rattle.command_io.specs.OutsideUse.{is_among, StandsAgain, Keeps, FailedAt, FaultyAt, CleanAt}
 use Rattle.command_io.specs.OutsideUse.{AtMost, times}
@@ -46,7 +46,7 @@ module _ {X : Type 0} (name_of : X → List ℕ) (faults_of : X → ℕ) (name :
       ⊎ ((before name ≡ there x) × (after name ≡ there y)
       × ((n : List ℕ) → bytes_eq n name ≡ false → after n ≡ before n))
 
-  pub is_exchanged : (x y : X) → HandsOut name_of faults_of before name (before name) (Some x)
+  pub is_exchanged : (x y : X) → HandsOutObject name_of faults_of before name (before name) (Some x)
       → Changes lent_from before mid name → name_of y ≡ name_of x
       → Changes (λ standing. put_back_at standing y) mid after (name_of y) → IsExchanged x y
   is_exchanged x y hands opens named closes = here (before name) refl hands
@@ -75,7 +75,7 @@ module _ {X : Type 0} (name_of : X → List ℕ) (faults_of : X → ℕ) (name :
           closes n ∙ ap (λ b. cond b (put_back_at (mid n) y) (mid n)) at
           ∙ ap (λ s. put_back_at s y) was ∙ sym was
 
-      here : (s : NameEntry X) → before name ≡ s → HandsOut name_of faults_of before name s (Some x)
+      here : (s : NameEntry X) → before name ≡ s → HandsOutObject name_of faults_of before name s (Some x)
           → IsExchanged x y
       here untold stood hands =
           inl (
@@ -178,7 +178,7 @@ module _ {X : Type 0} (name_of : X → List ℕ) (faults_of : X → ℕ) (name :
         (0, counts ∙ ap (λ b. counted b (faults_of x)) is)
 
   -- nothing was handed out: nothing stood there, or nothing is told
-  pub nothing_opened : HandsOut name_of faults_of before name (before name) None
+  pub nothing_opened : HandsOutObject name_of faults_of before name (before name) None
       → Changes lent_from before mid name
       → ((n : List ℕ) → mid n ≡ before n) × FailedAt faults_of (before name) (mid name)
       × FaultyAt faults_of (before name) (mid name)
@@ -192,7 +192,7 @@ module _ {X : Type 0} (name_of : X → List ℕ) (faults_of : X → ℕ) (name :
           opens n ∙ ap (λ b. cond b (lent_from (before n)) (before n)) at
           ∙ subst (λ m. lent_from (before m) ≡ before m) (sym e) same
 
-      here : (s : NameEntry X) → before name ≡ s → HandsOut name_of faults_of before name s None
+      here : (s : NameEntry X) → before name ≡ s → HandsOutObject name_of faults_of before name s None
           → ((n : List ℕ) → mid n ≡ before n) × FailedAt faults_of (before name) (mid name)
           × FaultyAt faults_of (before name) (mid name)
       here untold stood hands = (

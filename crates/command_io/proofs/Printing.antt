@@ -18,7 +18,7 @@ use Rattle.command_io.specs.declared.input.Refusal.{Refusal}
 use Rattle.command_io.specs.declared.input.Refusal.TheVariants.{Long, BadLine}
 use Rattle.command_io.specs.Saying.{Said, duty_to_say, refusal_text, full_text}
 use Rattle.command_io.specs.Runs.{output_name, taken_of, Took, EachFile, IsSaid, MatchesWords}
-use Rattle.command_io.specs.Runs.{IsThere, IsRun, Tells}
+use Rattle.command_io.specs.Runs.{IsSinkThere, IsRun, TellsSaid}
 use Rattle.command_io.proofs.Leaving.{Asks-none}
 use Rattle.command_io.proofs.Exchanging.{IsExchanged, is_exchanged, Keeps-alike, Keeps-exchanged}
 use Rattle.command_io.proofs.Exchanging.{FailedAt-exchanged, FaultyAt-exchanged}
@@ -45,7 +45,7 @@ full_parts weight limit =
     append_assoc ((codes "full " ++ decimal weight) ++ codes " ") (decimal limit) (10 ∷ [])
 
 -- what telling leaves of the sink
-Tells-answered : (said : Said) (k l : SinkTold) (status : Status) → Tells said k l status
+Tells-answered : (said : Said) (k l : SinkTold) (status : Status) → TellsSaid said k l status
     → OnWhole status (said.status ≡ status)
 Tells-answered said k l Done tells = tells.0
 Tells-answered said k l Usage tells = tells.0
@@ -54,7 +54,7 @@ Tells-answered said k l Full tells = tells.0
 Tells-answered said k l Outside tells = tt
 Tells-answered said k l Memory tells = tt
 
-Tells-took : (said : Said) (k l : SinkTold) (status : Status) → Tells said k l status
+Tells-took : (said : Said) (k l : SinkTold) (status : Status) → TellsSaid said k l status
     → Took status k.taken l.taken said.text
 Tells-took said k l Done tells = tells.1.taken
 Tells-took said k l Usage tells = tells.1.taken
@@ -63,7 +63,7 @@ Tells-took said k l Full tells = tells.1.taken
 Tells-took said k l Outside tells = (tells.0, tells.1.taken)
 Tells-took said k l Memory tells = (tells.0, tells.1.taken)
 
-Tells-faults : (said : Said) (k l : SinkTold) (status : Status) → Tells said k l status
+Tells-faults : (said : Said) (k l : SinkTold) (status : Status) → TellsSaid said k l status
     → l.faults ≡ counted (is_outside status) k.faults
 Tells-faults said k l Done tells = tells.1.faults
 Tells-faults said k l Usage tells = tells.1.faults
@@ -72,7 +72,7 @@ Tells-faults said k l Full tells = tells.1.faults
 Tells-faults said k l Outside tells = tells.1.faults
 Tells-faults said k l Memory tells = tells.1.faults
 
-Tells-name : (said : Said) (k l : SinkTold) (status : Status) → Tells said k l status
+Tells-name : (said : Said) (k l : SinkTold) (status : Status) → TellsSaid said k l status
     → l.name ≡ k.name
 Tells-name said k l Done tells = tells.1.name
 Tells-name said k l Usage tells = tells.1.name
@@ -81,7 +81,7 @@ Tells-name said k l Full tells = tells.1.name
 Tells-name said k l Outside tells = tells.1.name
 Tells-name said k l Memory tells = tells.1.name
 
-Tells-written : (said : Said) (k l : SinkTold) (status : Status) → Tells said k l status
+Tells-written : (said : Said) (k l : SinkTold) (status : Status) → TellsSaid said k l status
     → IsWritten k l
 Tells-written said k l Done tells = (said.text, false, tells.1)
 Tells-written said k l Usage tells = (said.text, false, tells.1)
@@ -108,7 +108,7 @@ module _ (b m a : OutsideTold) (is_command : Bool) (said_now : Said) (alone : sa
   where
     -- standard output is there
     pub IsRun-printed : (k l : SinkTold) (status : Status) → OpensOut b m output_name (Some k)
-        → Tells said_now k l status
+        → TellsSaid said_now k l status
         → ClosesOut m a l → MatchesWords is_command status
         → IsRun (duty_to_say is_command said_now) b a status
     IsRun-printed k l status opens tells closes words = record {
@@ -146,9 +146,9 @@ module _ (b m a : OutsideTold) (is_command : Bool) (said_now : Said) (alone : sa
             (Tells-took said_now k l status tells))
 
         output : IsExchanged (λ sink. sink.name) sink_faults output_name b.sinks m.sinks a.sinks k l
-            → OnWhole status (IsThere (b.sinks output_name))
-        output (inl nothing) = OnWhole-all status (subst (λ s. IsThere s) (sym nothing.0) tt)
-        output (inr stood) = OnWhole-all status (subst (λ s. IsThere s) (sym stood.0) tt)
+            → OnWhole status (IsSinkThere (b.sinks output_name))
+        output (inl nothing) = OnWhole-all status (subst (λ s. IsSinkThere s) (sym nothing.0) tt)
+        output (inr stood) = OnWhole-all status (subst (λ s. IsSinkThere s) (sym stood.0) tt)
 
         said : IsSaid status b.sinks a.sinks said_now
         said = record {

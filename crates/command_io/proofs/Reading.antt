@@ -7,11 +7,11 @@ use Rattle.std.proofs.lemmas.Bool.Decides.{nat_tests}
 use Rattle.std.proofs.lemmas.List.{append-nil}
 use Rattle.outside.specs.declared.text.TextEnd.TheVariants.{Failed, Long}
 use Rattle.outside.specs.Faults.{counted, next_count}
-use Rattle.outside.specs.Octets.{Takes}
+use Rattle.outside.specs.Octets.{TakesOctets}
 use Rattle.outside.specs.Source.{SourceTold}
 use Rattle.outside.specs.Text.{TextResult, IsTextOf, ReadsText, is_failed_text}
 use Rattle.outside.specs.Outside.{NameEntry, untold as untold_name, missing as missing_name, lent}
-use Rattle.outside.specs.Outside.{there, OutsideTold, Asks, Acts, OpensIn, ClosesIn, HandsOut}
+use Rattle.outside.specs.Outside.{there, OutsideTold, Asks, Acts, OpensIn, ClosesIn, HandsOutObject}
 use Rattle.command_io.specs.declared.input.TheConstants.{TEXT_LIMIT}
 use Rattle.command_io.specs.declared.input.InputEnd.TheVariants.{Outside}
 use Rattle.command_io.specs.OutsideUse.{SomeOf, Keeps, Rises, source_faults}
@@ -31,7 +31,7 @@ is_lost-input_of (Err out_of_memory) = refl
 
 -- what is read is what was told to be left
 input_taken : (result : TextResult) (left rest : Option (List ℕ)) (octets : List ℕ)
-    → Takes left rest octets
+    → TakesOctets left rest octets
     → IsTextOf octets rest TEXT_LIMIT result → IsInput (input_of result) (told_by left)
 input_taken result None rest octets took text = tt
 input_taken result (Some all) None octets took text = absurd cc
@@ -48,7 +48,7 @@ input_taken (Err out_of_memory) (Some all) (Some more) octets took text = tt
 
 -- nothing is left of a text that was read
 rest_spent : (result : TextResult) (left rest : Option (List ℕ)) (octets : List ℕ)
-    → Takes left rest octets
+    → TakesOctets left rest octets
     → IsTextOf octets rest TEXT_LIMIT result
     → OnOk (input_of result) (told_by rest ≡ emptied (told_by left))
 rest_spent (Ok (Ok read)) None None octets took text = refl
@@ -240,7 +240,7 @@ module _ (b m a : OutsideTold) (name : List ℕ) where
           source_faults name b.sources m.sources m.sources opens.source opens.sources
 
       read : (s : NameEntry SourceTold) → b.sources name ≡ s
-          → HandsOut (λ source. source.name) source_faults b.sources name s None
+          → HandsOutObject (λ source. source.name) source_faults b.sources name s None
           → Acts (IsReadTo (Err Outside)) s (m.sources name)
       read untold_name at hands = nothing.0 name ∙ at
       read missing_name at hands = nothing.0 name ∙ at
@@ -248,7 +248,7 @@ module _ (b m a : OutsideTold) (name : List ℕ) where
       read (there object) at hands = absurd cc
 
       text : (s : NameEntry SourceTold)
-          → HandsOut (λ source. source.name) source_faults b.sources name s None
+          → HandsOutObject (λ source. source.name) source_faults b.sources name s None
           → IsInput (Err Outside) (text_of s)
       text untold_name hands = tt
       text missing_name hands = refl

@@ -17,7 +17,7 @@ use Rattle.command_io.specs.OutsideUse.{source_faults, sink_faults, FailedAt, Fa
 use Rattle.command_io.specs.OutsideUse.{IsWritten}
 use Rattle.command_io.specs.Saying.{Said, Duty}
 use Rattle.command_io.specs.Runs.{output_name, taken_of, Took, EachFile, IsSaid, MatchesWords}
-use Rattle.command_io.specs.Runs.{IsThere, IsComplete, IsRun}
+use Rattle.command_io.specs.Runs.{IsSinkThere, IsComplete, IsRun}
 use Rattle.command_io.specs.Inputs.{OpensInput}
 use Rattle.command_io.proofs.Leaving.{or-false, is_among-append, SomeOf-left, EachOf-parts}
 use Rattle.command_io.proofs.Leaving.{Asks-none, Asks-append, Acts-wider, Uses-then}
@@ -276,9 +276,9 @@ module _ (duty rest : Duty) (b m a : OutsideTold) (name : List ℕ) (status : St
       words : MatchesWords duty.is_command status
       words = subst (λ c. MatchesWords c status) (rest_command ∙ sym command) run.words
 
-      output : OnWhole status (IsThere (b.sinks output_name))
+      output : OnWhole status (IsSinkThere (b.sinks output_name))
       output =
-          subst (λ (s : List ℕ → NameEntry SinkTold). OnWhole status (IsThere (s output_name)))
+          subst (λ (s : List ℕ → NameEntry SinkTold). OnWhole status (IsSinkThere (s output_name)))
           opens.sinks run.output
 
       printed : OnWhole status (Asks b.written_names a.written_names (output_name ∷ []))

@@ -56,11 +56,11 @@ MatchesWords false status = (status ≡ Usage) ⊎ (status ≡ Outside)
 MatchesWords true status = status ≢ Usage
 
 -- a sink stands under the name, where anything is told of it
-abbrev pub IsThere : NameEntry SinkTold → Type 0
-IsThere untold = Unit {0}
-IsThere missing = ⊥
-IsThere lent = ⊥
-IsThere (there sink) = Unit {0}
+abbrev pub IsSinkThere : NameEntry SinkTold → Type 0
+IsSinkThere untold = Unit {0}
+IsSinkThere missing = ⊥
+IsSinkThere lent = ⊥
+IsSinkThere (there sink) = Unit {0}
 
 -- where nothing outside failed, the status is the one said, but for want of memory
 abbrev pub IsComplete : ℕ → ℕ → Status → Said → Type 0
@@ -74,7 +74,7 @@ pub record IsRun (duty : Duty) (before after : OutsideTold) (status : Status) : 
   -- where the inputs are told, the status and what is printed are those said
   pub said : IfSome duty.says (IsSaid status before.sinks after.sinks)
   -- nothing is called whole where standard output couldn't be opened
-  pub output : OnWhole status (IsThere (before.sinks output_name))
+  pub output : OnWhole status (IsSinkThere (before.sinks output_name))
   -- the inputs and standard output alone are opened, in order, and each is closed again; a fault
   -- outside has its cause and its reason
   pub uses : Uses duty.inputs (output_name ∷ []) (is_outside status) before after
@@ -87,13 +87,13 @@ pub record IsRun (duty : Duty) (before after : OutsideTold) (status : Status) : 
 
 -- what a command does to standard output while that is open: the status and what is taken are those
 -- said, and no write comes after one that failed
-abbrev pub Tells : Said → SinkTold → SinkTold → Status → Type 0
-Tells said before after Done = (said.status ≡ Done) × AppendsAll before after said.text
-Tells said before after Usage = (said.status ≡ Usage) × AppendsAll before after said.text
-Tells said before after Input = (said.status ≡ Input) × AppendsAll before after said.text
-Tells said before after Full = (said.status ≡ Full) × AppendsAll before after said.text
-Tells said before after Outside = AppendsPart before after said.text true
-Tells said before after Memory = AppendsPart before after said.text false
+abbrev pub TellsSaid : Said → SinkTold → SinkTold → Status → Type 0
+TellsSaid said before after Done = (said.status ≡ Done) × AppendsAll before after said.text
+TellsSaid said before after Usage = (said.status ≡ Usage) × AppendsAll before after said.text
+TellsSaid said before after Input = (said.status ≡ Input) × AppendsAll before after said.text
+TellsSaid said before after Full = (said.status ≡ Full) × AppendsAll before after said.text
+TellsSaid said before after Outside = AppendsPart before after said.text true
+TellsSaid said before after Memory = AppendsPart before after said.text false
 
 -- what a command comes to that has no input: a refusal is printed, whether memory is left or not;
 -- each other end is answered as it is

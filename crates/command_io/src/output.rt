@@ -3,7 +3,7 @@ ghost use Rattle.std.specs.Prelude.{◌≡◌, ◌⊎◌, ◌++◌, IsTrue, true
 ghost use Rattle.outside.specs.Sink.{WritesAll};
 ghost use Rattle.command_io.specs.Statuses.{is_whole, is_of_command};
 ghost use Rattle.command_io.specs.Saying.{prints, refusal_text, full_text, duty_to_say};
-ghost use Rattle.command_io.specs.Runs.{IsRun, Tells, EndsUnread};
+ghost use Rattle.command_io.specs.Runs.{IsRun, TellsSaid, EndsUnread};
 
 use crate::input::{InputEnd, Refusal};
 use crate::status::Status;
@@ -16,7 +16,7 @@ pub const OUTPUT: &str = "-";
 /// Writes a text to an open sink, and answers the status that goes with it.
 pub fn tell<K: Sink>(sink: &mut K, status: Status, text: &[u8]) -> Status
     requires { IsTrue (is_whole status) }
-    ensures tells { Tells (prints status text.now) (K.told sink.old) (K.told sink.new) result }
+    ensures tells { TellsSaid (prints status text.now) (K.told sink.old) (K.told sink.new) result }
     ensures answers { (result ≡ status) ⊎ (result ≡ Status.Outside) }
 {
     match write_all(sink, text) {
@@ -70,7 +70,7 @@ fn write_full<K: Sink>(sink: &mut K, weight: u64, limit: u64) -> Result<(), Sink
 
 /// Writes the refusal of an input to an open sink. `input` names the input. It takes no memory.
 pub fn tell_refusal<K: Sink>(sink: &mut K, input: &str, refusal: Refusal) -> Status
-    ensures tells { Tells (prints Status.Input (refusal_text input.now refusal))
+    ensures tells { TellsSaid (prints Status.Input (refusal_text input.now refusal))
         (K.told sink.old) (K.told sink.new) result }
     ensures answers { (result ≡ Status.Input) ⊎ (result ≡ Status.Outside) }
 {
@@ -83,7 +83,7 @@ pub fn tell_refusal<K: Sink>(sink: &mut K, input: &str, refusal: Refusal) -> Sta
 /// Writes to an open sink that the history would weigh so many octets, and may weigh at most
 /// `limit`. It takes no memory.
 pub fn tell_full<K: Sink>(sink: &mut K, weight: u64, limit: u64) -> Status
-    ensures tells { Tells (prints Status.Full (full_text weight limit))
+    ensures tells { TellsSaid (prints Status.Full (full_text weight limit))
         (K.told sink.old) (K.told sink.new) result }
     ensures answers { (result ≡ Status.Full) ⊎ (result ≡ Status.Outside) }
 {

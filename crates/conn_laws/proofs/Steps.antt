@@ -14,7 +14,7 @@ use Rattle.stack_assoc.specs.Arrivals.{Arrival, called, first_in, connect_in}
 use Rattle.stack_assoc.specs.Handing.{answers_to}
 use Rattle.stack_assoc.specs.Expectations.{setup_after}
 use Rattle.stack_assoc.specs.declared.end_state.EndState.{EndState}
-use Rattle.stack_assoc.specs.Courses.{Course, Stands, is_accepted}
+use Rattle.stack_assoc.specs.Courses.{Course, CourseStands, is_accepted}
 use Rattle.bilateral.specs.Rows.{CentreRows}
 use Rattle.sbo_device.specs.declared.key.Key.{Key}
 use Rattle.tase_views.specs.declared.call.CallKind.{CallKind}
@@ -85,7 +85,7 @@ opening_is told offered v text ended x g =
 pub opened_says : (rows : CentreRows) (past : Past) (who : ℕ) (items : List Item)
     (told : List Arrival) (answered : List Turn) (title : Option (List ℕ)) (peer : ℕ)
     (offered : Initiate) (octets : List ℕ) (v : Course)
-    → Stands called (text_of items) told v → is_some (first_in connect_in told) ≡ true
+    → CourseStands called (text_of items) told v → is_some (first_in connect_in told) ≡ true
     → IsGranted told offered → list_any (is_last rows) answered ≡ false
     → asks_behind rows [] answered ≡ [] → octets ≡ answers_to called told
     → SaysOpen rows (with_event who (events.Open peer) past) who items
@@ -138,7 +138,7 @@ reply_is told detail v text ended invoke reply x d =
 
 pub requested_says : (rows : CentreRows) (past : Past) (who : ℕ) (items : List Item)
     (told : List Arrival) (answered : List Turn) (invoke : ℕ) (call : CallKind) (detail : ℤ)
-    (octets : List ℕ) (v : Course) → Stands called (text_of items) told v
+    (octets : List ℕ) (v : Course) → CourseStands called (text_of items) told v
     → is_some (first_in connect_in told) ≡ true → detail ≡ detail_of (first_in connect_in told)
     → (o : SaysOpen rows past who items answered octets)
     → SaysOpen rows (with_event who (events.Request call) past) who items
@@ -220,7 +220,7 @@ turn_kept (causes.Broken fault) rest = refl
 
 pub closed_says : (rows : CentreRows) (past : Past) (who : ℕ) (items : List Item)
     (told : List Arrival) (answered : List Turn) (cause : Cause) (octets : List ℕ) (v : Course)
-    → Stands called (text_of items) told v → is_some (first_in connect_in told) ≡ true
+    → CourseStands called (text_of items) told v → is_some (first_in connect_in told) ≡ true
     → v.standing ≡ served_standing (askeds.Closing cause) None
     → SaysOpen rows past who items answered octets
     → SaysClosed (progress_closed cause) rows (with_event who events.Close past) who items

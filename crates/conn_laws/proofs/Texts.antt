@@ -7,7 +7,7 @@ use Rattle.std.proofs.lemmas.Grind.{flat_map-append}
 use Rattle.stack_assoc.specs.Arrivals.{Arrival, called, first_in, connect_in}
 use Rattle.stack_assoc.specs.Handing.{answer_to, answers_to}
 use Rattle.stack_assoc.specs.Expectations.{setup_after}
-use Rattle.stack_assoc.specs.Courses.{Course, Stands}
+use Rattle.stack_assoc.specs.Courses.{Course, CourseStands}
 use Rattle.tase_map.specs.Inputs.{Item, octets_of, text_of, has_ended, IsInput}
 use Rattle.tase_map.specs.Readings.{Reading, reading_of}
 use Rattle.tase_map.specs.Turns.{Turn, turns_told, turns_of}
@@ -65,7 +65,7 @@ pub record IsFixed (told : List Arrival) (course : Course) (whole : Reading) : T
   pub course_setup : course.setup ≡ setup_after told
 
 pub fixed_over : (items more : List Item) (told : List Arrival) (v : Course)
-    → Stands called (text_of items) told v → is_some (first_in connect_in told) ≡ true
+    → CourseStands called (text_of items) told v → is_some (first_in connect_in told) ≡ true
     → IsFixed told v (reading_of (text_of (items ++ more)))
 fixed_over items more told v s connect =
     let text = text_of (items ++ more) in

@@ -13,7 +13,7 @@ use Rattle.stack_assoc.specs.declared.input.StackIn.{StackIn}
 use Rattle.stack_assoc.specs.declared.input.StackIn.TheVariants as inputs
 use Rattle.stack_assoc.specs.Arrivals.{Arrival, called}
 use Rattle.stack_assoc.specs.Handing.{handed_out}
-use Rattle.stack_assoc.specs.Courses.{Stands}
+use Rattle.stack_assoc.specs.Courses.{CourseStands}
 use Rattle.bilateral.specs.Rows.{CentreRows}
 use Rattle.tase_views.specs.declared.event.EventKind.{EventKind}
 use Rattle.tase_views.specs.declared.event.EventKind.TheVariants as events
@@ -127,7 +127,7 @@ within_done items told seen v w =
 
 -- and it hasn't
 within_more : (items : List Item) (told : List Arrival) (seen : List Turn) (v : Talking)
-    → Stands called (text_of items) told v.course → IsWithin items told seen v
+    → CourseStands called (text_of items) told v.course → IsWithin items told seen v
     → bounds seen + 1 ≤ bounds (turns_of items)
 within_more items told seen v s w =
     let f = told_front (text_of items) told v.course s in

@@ -64,9 +64,9 @@ early-alike : (here there : CentreRows) (text : List ℕ)
     → ((title : Option (List ℕ)) → is_peers here title ≡ is_peers there title)
     → early_octets here text ≡ early_octets there text
 early-alike here there text same =
-    let reading : Reading = reading_of text;
-        refusal : List ℕ = wire (setup_after reading.told).size
-            (refusal_tsdu (setup_after reading.told).acse) in
+    let reading : Reading = reading_of text in
+    let refusal : List ℕ = wire (setup_after reading.told).size
+    (refusal_tsdu (setup_after reading.told).acse) in
     ap (λ (declined : Bool). answers_to called reading.told
     ++ (if declined then refusal else []))
     (declined-alike here there same (turns_told reading))

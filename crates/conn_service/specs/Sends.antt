@@ -81,11 +81,11 @@ pub record IsSaidInPart (setup : Setup) (items : List Item) (octets all : List �
 
 -- how much is said of all that is owed: all of it, but for a link that fails or doesn't take it, and
 -- for want of memory
-abbrev pub IsSaid : Setup → List Item → Option ConnEnd → List ℕ → List ℕ → Type 0
-IsSaid setup items (Some conn_ends.LinkFault) octets all = IsFrontOf octets all
-IsSaid setup items (Some (conn_ends.Overflow pending limit)) octets all = IsFrontOf octets all
-IsSaid setup items (Some conn_ends.Memory) octets all = IsSaidInPart setup items octets all
-IsSaid setup items end octets all = octets ≡ all
+abbrev pub IsSaidByEnd : Setup → List Item → Option ConnEnd → List ℕ → List ℕ → Type 0
+IsSaidByEnd setup items (Some conn_ends.LinkFault) octets all = IsFrontOf octets all
+IsSaidByEnd setup items (Some (conn_ends.Overflow pending limit)) octets all = IsFrontOf octets all
+IsSaidByEnd setup items (Some conn_ends.Memory) octets all = IsSaidInPart setup items octets all
+IsSaidByEnd setup items end octets all = octets ≡ all
 
 -- ---- both
 
@@ -93,4 +93,4 @@ IsSaid setup items end octets all = octets ≡ all
 pub record Sends (setup : Setup) (past : Past) (who : ℕ) (items : List Item)
     (end : Option ConnEnd) (octets : List ℕ) : Type 0 where
   pub events : HasEvents setup past who items end
-  pub said : IsSaid setup items end octets (link_octets setup.centre past who items)
+  pub said : IsSaidByEnd setup items end octets (link_octets setup.centre past who items)

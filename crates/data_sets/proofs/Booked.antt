@@ -15,7 +15,7 @@ use Rattle.std.proofs.lemmas.Slice.Eq.{bytes_eq-Decides}
 use Rattle.data_sets.specs.declared.book.DataSet.{DataSet}
 use Rattle.data_sets.specs.declared.book.SetFault.TheVariants.{Exists, TooMany}
 use Rattle.data_sets.specs.declared.book.TheConstants.{MOST_MEMBERS}
-use Rattle.data_sets.specs.Books.{IsSetBook, is_named, members_in, fault_of}
+use Rattle.data_sets.specs.Books.{IsSetBook, is_set_named, members_in, set_fault_of}
 
 -- where no data set has a name, all have others
 pub others_named : (name : List ℕ) (sets : List DataSet)
@@ -26,7 +26,7 @@ others_named name (set ∷ sets) none =
   where
     by : (c : Bool) → bytes_eq set.name name ≡ c
         → is_some (option_map (λ (s : DataSet). s.members)
-        (if c then Some set else find (is_named name) sets)) ≡ false
+        (if c then Some set else find (is_set_named name) sets)) ≡ false
         → (is_some (members_in sets name) ≡ false → All (λ (s : DataSet). s.name ≢ name) sets)
         → All (λ (s : DataSet). s.name ≢ name) (set ∷ sets)
     by true same n rest = absurd (true≢false n)
@@ -46,7 +46,7 @@ faultless false false false e = (refl, refl, refl)
 -- one data set more
 pub IsSetBook-defined : (limit : ℕ) (sets new : List DataSet) (set : DataSet)
     → 0 < length set.members
-    → fault_of (record { limit = limit; sets = sets }) set.name set.members ≡ None
+    → set_fault_of (record { limit = limit; sets = sets }) set.name set.members ≡ None
     → new ≡ sets ++ set ∷ [] → IsSetBook (record { limit = limit; sets = sets })
     → IsSetBook (record { limit = limit; sets = new })
 IsSetBook-defined limit sets new set some fault is b =
@@ -63,11 +63,11 @@ IsSetBook-defined limit sets new set some fault is b =
 
 -- all but those with a name
 pub IsSetBook-deleted : (limit : ℕ) (sets new : List DataSet) (name : List ℕ)
-    → new ≡ filter (λ set. not (is_named name set)) sets
+    → new ≡ filter (λ set. not (is_set_named name set)) sets
     → IsSetBook (record { limit = limit; sets = sets })
     → IsSetBook (record { limit = limit; sets = new })
 IsSetBook-deleted limit sets new name is b =
-    let kept : DataSet → Bool = λ set. not (is_named name set) in
+    let kept : DataSet → Bool = λ set. not (is_set_named name set) in
     rw is (record {
       few = omega (arith, length-filter_both kept (λ s. not (kept s)) (λ s. refl) sets, b.few);
       once = AllPairs-filter (λ (x y : DataSet). x.name ≢ y.name) kept sets b.once;

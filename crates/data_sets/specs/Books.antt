@@ -22,12 +22,12 @@ pub record IsSetBook (book : Book) : Type 0 where
   pub some : All (λ set. 0 < length set.members) book.sets
   pub short : All (λ set. length set.members ≤ MOST_MEMBERS) book.sets
 
-abbrev pub is_named : List ℕ → DataSet → Bool
-is_named name set = bytes_eq set.name name
+abbrev pub is_set_named : List ℕ → DataSet → Bool
+is_set_named name set = bytes_eq set.name name
 
 -- the members of the data set with a name
 abbrev pub members_in : List DataSet → List ℕ → Option (List ObjectName)
-members_in sets name = option_map (λ set. set.members) (find (is_named name) sets)
+members_in sets name = option_map (λ set. set.members) (find (is_set_named name) sets)
 
 -- why no data set of this name with so many members is defined: one is there; or there are too many
 abbrev pub fault_by : Book → List ℕ → ℕ → Option SetFault
@@ -36,12 +36,12 @@ fault_by book name count =
     else if nat_le book.limit (length book.sets) || nat_lt MOST_MEMBERS count then Some TooMany
     else None
 
-abbrev pub fault_of : Book → List ℕ → List ObjectName → Option SetFault
-fault_of book name members = fault_by book name (length members)
+abbrev pub set_fault_of : Book → List ℕ → List ObjectName → Option SetFault
+set_fault_of book name members = fault_by book name (length members)
 
-abbrev pub answered : Option SetFault → Result Unit SetFault
-answered None = Ok tt
-answered (Some fault) = Err fault
+abbrev pub answered_by_fault : Option SetFault → Result Unit SetFault
+answered_by_fault None = Ok tt
+answered_by_fault (Some fault) = Err fault
 
 -- behind a definition: one data set more, unless it is refused
 abbrev pub with_set : Option SetFault → Book → DataSet → Book
@@ -50,8 +50,8 @@ with_set (Some fault) book set = book
 
 abbrev pub defined : Book → List ℕ → List ObjectName → Book
 defined book name members =
-    with_set (fault_of book name members) book (record { name = name; members = members })
+    with_set (set_fault_of book name members) book (record { name = name; members = members })
 
 -- behind a deletion: all but those with the name
 abbrev pub deleted : Book → List ℕ → Book
-deleted book name = record book { sets = filter (λ set. not (is_named name set)) book.sets }
+deleted book name = record book { sets = filter (λ set. not (is_set_named name set)) book.sets }

@@ -2,7 +2,8 @@
 ghost use Rattle.std.specs.Prelude.{◌≡◌, ◌<◌, [], length, is_some, slice_get};
 ghost use Rattle.std.specs.Prelude.{IfOk, OnOk, OnErr};
 ghost use Rattle.std.specs.Option.{option_copied, option_map};
-ghost use Rattle.data_sets.specs.Books.{IsSetBook, members_in, fault_of, fault_by, answered};
+ghost use Rattle.data_sets.specs.Books.{IsSetBook, members_in, set_fault_of, fault_by};
+ghost use Rattle.data_sets.specs.Books.{answered_by_fault};
 ghost use Rattle.data_sets.specs.Books.{defined, deleted};
 
 use ber_values::Visible;
@@ -72,7 +73,8 @@ impl SetBook {
         members: Members,
     ) -> Result<Result<(), SetFault>, AllocError>
         requires some { 0 < length members }
-        ensures answer { IfOk result (λ answer. answer ≡ answered (fault_of self.old name members)) }
+        ensures answer { IfOk result (λ answer. answer
+            ≡ answered_by_fault (set_fault_of self.old name members)) }
         ensures sets { OnOk result (self.new ≡ defined self.old name members) }
         ensures err { OnErr result (self.new ≡ self.old) }
     {
@@ -123,7 +125,8 @@ impl SetBook {
 
     /// The name of the data set at a place.
     pub fn name(&self, index: usize) -> Option<&Visible>
-        ensures { option_copied result ≡ option_map (λ set. set.name) (slice_get self.now.sets index) }
+        ensures { option_copied result ≡ option_map (λ set. set.name)
+            (slice_get self.now.sets index) }
     {
         let set = self.sets.get(index)?;
         Some(&set.name)

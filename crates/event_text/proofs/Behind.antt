@@ -24,12 +24,12 @@ use Rattle.event_text.specs.CallWords.{call_words, assigned_words, after_words, 
 use Rattle.event_text.specs.CallWords.{SpellsCall, AreCallWords}
 use Rattle.event_text.specs.Breaks.{Breaks}
 use Rattle.event_text.specs.Assigned.{AreAssignments}
-use Rattle.event_text.specs.Verbs.{verb_text, verb_in, set_verb_in, Behind, Each, OneOrMore, AtMostOne}
+use Rattle.event_text.specs.Verbs.{verb_text, verb_in, set_verb_in, Behind, EachWord, OneOrMore, AtMostOne}
 use Rattle.event_text.specs.Verbs.{IsNameWord, IsAssignedWord, IsValueWord, IsAfterWord}
 use Rattle.event_text.specs.Verbs.{IsOddKind}
 use Rattle.event_text.specs.declared.reading.verbs.Verb.{Verb}
 use Rattle.event_text.specs.declared.reading.verbs.Verb.TheVariants as verbs
-use Rattle.event_text.specs.Verbs.{Halts, one_more}
+use Rattle.event_text.specs.Verbs.{HaltsAtWords, one_more}
 use Rattle.event_text.specs.declared.reading.halt.Halt.{Halt}
 use Rattle.event_text.proofs.Breaking.{halts-behind}
 use Rattle.event_text.proofs.WordsRead.{some_same}
@@ -132,7 +132,7 @@ verb_in-found word verb e =
     set_verb_in-found word verb k))))))
 
 -- each name is a word
-names_each : (names : List ObjectName) → All IsName names → Each IsNameWord (map name_text names)
+names_each : (names : List ObjectName) → All IsName names → EachWord IsNameWord (map name_text names)
 names_each [] all = tt
 names_each (name ∷ names) all = (
   record { name = name; spelled = refl; named = All-head IsName name names all },
@@ -146,7 +146,7 @@ names_are (name ∷ names) some all = names_each (name ∷ names) all
 
 -- so is each value
 pub values_each : (values : List Datum) → All IsLawful values → All HasText values
-    → Each IsValueWord (map data_text values)
+    → EachWord IsValueWord (map data_text values)
 values_each [] lawful textual = tt
 values_each (value ∷ values) lawful textual = (
   record {
@@ -169,7 +169,7 @@ name_is name named = record { name = name; spelled = refl; named = named }
 
 -- so is each name with its value
 pub assigned_each : (names : List ObjectName) (values : List Datum) → All IsName names
-    → All IsLawful values → All HasText values → Each IsAssignedWord (assigned_words names values)
+    → All IsLawful values → All HasText values → EachWord IsAssignedWord (assigned_words names values)
 assigned_each [] values all lawful textual = tt
 assigned_each (name ∷ names) [] all lawful textual = tt
 assigned_each (name ∷ names) (value ∷ values) all lawful textual = (
@@ -259,7 +259,7 @@ record AreNames (words : List (List ℕ)) : Type 0 where
   pub spelled : words ≡ map name_text names
   pub named : All IsName names
 
-each-names : (words : List (List ℕ)) → Each IsNameWord words → AreNames words
+each-names : (words : List (List ℕ)) → EachWord IsNameWord words → AreNames words
 each-names [] each = record { names = []; spelled = refl; named = All-nil IsName }
 each-names (word ∷ words) each =
     let w = each.0 in
@@ -276,7 +276,7 @@ record AreAssigned (words : List (List ℕ)) : Type 0 where
   pub values : List Datum
   pub are : AreAssignments words names values
 
-each-assigned : (words : List (List ℕ)) → Each IsAssignedWord words → AreAssigned words
+each-assigned : (words : List (List ℕ)) → EachWord IsAssignedWord words → AreAssigned words
 each-assigned [] each = record {
   names = [];
   values = [];
@@ -303,7 +303,7 @@ each-assigned (word ∷ words) each =
       };
     }
 
-read_words : (echo : Bool) (word : List ℕ) (words : List (List ℕ)) → Each IsNameWord (word ∷ words)
+read_words : (echo : Bool) (word : List ℕ) (words : List (List ℕ)) → EachWord IsNameWord (word ∷ words)
     → (call : CallKind) × SpellsCall (read_verb echo ∷ word ∷ words) call
 read_words echo word words each =
     let first = each.0 in
@@ -323,7 +323,7 @@ record AreValues (words : List (List ℕ)) : Type 0 where
   pub lawful : All IsLawful values
   pub textual : All HasText values
 
-each-values : (words : List (List ℕ)) → Each IsValueWord words → AreValues words
+each-values : (words : List (List ℕ)) → EachWord IsValueWord words → AreValues words
 each-values [] each = record {
   values = [];
   spelled = refl;
@@ -507,8 +507,8 @@ no_verb word words none (call, s) =
 
 -- where the words behind a verb break, those of a call do
 pub verb-halts : (word : List ℕ) (words : List (List ℕ)) (verb : Verb) (halt : Halt)
-    → verb_in word ≡ Some verb → Halts halt (λ count. Breaks (Behind verb) words count)
-    → Halts (one_more halt) (λ count. Breaks AreCallWords (word ∷ words) count)
+    → verb_in word ≡ Some verb → HaltsAtWords halt (λ count. Breaks (Behind verb) words count)
+    → HaltsAtWords (one_more halt) (λ count. Breaks AreCallWords (word ∷ words) count)
 verb-halts word words verb halt e h =
     let same = verb_in-found word verb e in
     halts-behind (Behind verb) AreCallWords word words halt

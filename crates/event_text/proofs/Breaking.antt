@@ -2,7 +2,7 @@
 use Rattle.std.proofs.Common.{◌≡◌, ℕ, zero, suc, ◌<◌, ◌≤◌, List, [], ◌∷◌, ◌++◌, length, take}
 use Rattle.std.proofs.Common.{refl, subst, ap, arith, add-one}
 use Rattle.event_text.specs.Breaks.{Breaks}
-use Rattle.event_text.specs.Verbs.{Each, OneOrMore, Halts, one_more}
+use Rattle.event_text.specs.Verbs.{EachWord, OneOrMore, HaltsAtWords, one_more}
 use Rattle.event_text.specs.declared.reading.halt.Halt.{Halt}
 use Rattle.event_text.specs.declared.reading.halt.Halt.TheVariants as halts
 
@@ -42,21 +42,21 @@ breaks-behind P Q word words count to back b = record {
 
 -- after words that are such one isn't
 breaks-each : (W : List ℕ → Type 0) (before : Words) (word : List ℕ) (words : Words)
-    → Each W before → (W word → ⊥) → Breaks (Each W) (before ++ word ∷ words) (length before)
+    → EachWord W before → (W word → ⊥) → Breaks (EachWord W) (before ++ word ∷ words) (length before)
 breaks-each W [] word words each wrong =
-    breaks-first (Each W) word words [] tt (λ more q. wrong q.0)
+    breaks-first (EachWord W) word words [] tt (λ more q. wrong q.0)
 breaks-each W (first ∷ before) word words each wrong =
-    breaks-behind (Each W) (Each W) first (before ++ word ∷ words) (length before)
+    breaks-behind (EachWord W) (EachWord W) first (before ++ word ∷ words) (length before)
     (λ more q. (each.0, q)) (λ more q. q.1)
     (breaks-each W before word words each.1 wrong)
 
 pub breaks-among : (W : List ℕ → Type 0) (fine : List ℕ) → W fine → (before : Words)
-    (word : List ℕ) (words : Words) → Each W before → (W word → ⊥)
+    (word : List ℕ) (words : Words) → EachWord W before → (W word → ⊥)
     → Breaks (OneOrMore W) (before ++ word ∷ words) (length before)
 breaks-among W fine w [] word words each wrong =
     breaks-first (OneOrMore W) word words (fine ∷ []) (w, tt) (λ more q. wrong q.0)
 breaks-among W fine w (first ∷ before) word words each wrong =
-    breaks-behind (Each W) (OneOrMore W) first (before ++ word ∷ words) (length before)
+    breaks-behind (EachWord W) (OneOrMore W) first (before ++ word ∷ words) (length before)
     (λ more q. (each.0, q)) (λ more q. q.1)
     (breaks-each W before word words each.1 wrong)
 
@@ -90,13 +90,13 @@ one_break P words a b x y = order a b (not_below P words a b x y) (not_below P w
 -- the same for why a reading stopped
 pub halts-behind : (P Q : Words → Type 0) (word : List ℕ) (words : Words) (halt : Halt)
     → ((more : Words) → P more → Q (word ∷ more)) → ((more : Words) → Q (word ∷ more) → P more)
-    → Halts halt (λ count. Breaks P words count)
-    → Halts (one_more halt) (λ count. Breaks Q (word ∷ words) count)
+    → HaltsAtWords halt (λ count. Breaks P words count)
+    → HaltsAtWords (one_more halt) (λ count. Breaks Q (word ∷ words) count)
 halts-behind P Q word words halts.Memory to back b = tt
 halts-behind P Q word words (halts.Bad count) to back b =
     rw add-one (breaks-behind P Q word words count to back b)
 
 pub halts-within : (halt : Halt) (small large : ℕ) → small < large
-    → Halts halt (λ count. count ≤ small) → Halts (one_more halt) (λ count. count ≤ large)
+    → HaltsAtWords halt (λ count. count ≤ small) → HaltsAtWords (one_more halt) (λ count. count ≤ large)
 halts-within halts.Memory small large h k = tt
 halts-within (halts.Bad count) small large h k = omega (arith, h, k)

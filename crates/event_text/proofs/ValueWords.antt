@@ -9,7 +9,7 @@ use Rattle.std.specs.Int.{w32, w64}
 use Rattle.std.specs.Int.RustNames.{FitsSigned}
 use Rattle.std.proofs.lemmas.Bool.{and_parts}
 use Rattle.std.proofs.lemmas.Bool.Decides.{nat_tests}
-use Rattle.plain_text.specs.Numbers.{number_up_to, number_in, integer_in, integer_within, if_passes}
+use Rattle.plain_text.specs.Numbers.{number_up_to, number_in, integer_of_word, integer_word_within, if_passes}
 use Rattle.plain_text.specs.Numbers.{hex_in, hex_octet, hex_octets}
 use Rattle.plain_text.specs.Octets.{hex_text}
 use Rattle.plain_text.specs.Escaped.{is_octet}
@@ -25,7 +25,7 @@ use Rattle.tase_points.specs.Points.{state_of}
 use Rattle.tase_points.specs.Sample.{Sample}
 use Rattle.tase_views.specs.EventTexts.{body_text}
 use Rattle.event_text.specs.Verbs.{class_in}
-use Rattle.event_text.specs.FeedLines.{body_in, flags_in, value_in, IsWordBody, AreValueWords}
+use Rattle.event_text.specs.FeedLines.{body_in, flags_in, sample_in, IsWordBody, AreValueWords}
 use Rattle.event_text.proofs.WordsRead.{class_in-found}
 
 at_most : (n limit : ℕ) → nat_le n limit ≡ true → n ≤ limit
@@ -65,25 +65,25 @@ passing : {A : Type 0} (test : A → Bool) (o : Option A) (x : A) → o ≡ Some
 passing test o x e t = rw (e, t) refl
 
 discrete-found : (word : List ℕ) (z : ℤ)
-    → integer_within (negsuc 2147483647) (pos 2147483647) word ≡ Some z
+    → integer_word_within (negsuc 2147483647) (pos 2147483647) word ≡ Some z
     → (word ≡ signed_decimal z) × FitsSigned w32 z
 discrete-found word z e =
     let p = passes (λ y. int_le (negsuc 2147483647) y && int_le y (pos 2147483647))
-    (integer_in word) z e in
+    (integer_of_word word) z e in
     let n = narrow z p.1 in
     let wide : class_in word ≡ Some z =
-    passing (λ y. int_le (negsuc (2 ^ 63 - 1)) y && int_le y (pos (2 ^ 63 - 1))) (integer_in word) z
+    passing (λ y. int_le (negsuc (2 ^ 63 - 1)) y && int_le y (pos (2 ^ 63 - 1))) (integer_of_word word) z
     p.0 n.0 in
     ((class_in-found word z wide).0, n.1)
 
 discrete-read : (z : ℤ) → FitsSigned w32 z
-    → integer_within (negsuc 2147483647) (pos 2147483647) (signed_decimal z) ≡ Some z
+    → integer_word_within (negsuc 2147483647) (pos 2147483647) (signed_decimal z) ≡ Some z
 discrete-read z f =
     let k = fits z f in
     let p = passes (λ y. int_le (negsuc (2 ^ 63 - 1)) y && int_le y (pos (2 ^ 63 - 1)))
-    (integer_in (signed_decimal z)) z (integer-read z k.1) in
+    (integer_of_word (signed_decimal z)) z (integer-read z k.1) in
     passing (λ y. int_le (negsuc 2147483647) y && int_le y (pos 2147483647))
-    (integer_in (signed_decimal z)) z p.0 k.0
+    (integer_of_word (signed_decimal z)) z p.0 k.0
 
 real-found : (word octets : List ℕ) → hex_octets 4 word ≡ Some octets
     → (word ≡ hex_text octets) × (length octets ≡ 4) × IsTrue (list_all is_octet octets)
@@ -116,7 +116,7 @@ body-found (letter ∷ rest) body e =
     })))
     (λ t k. chosen (IsBody (letter ∷ rest) body) body (letter == 100) _ _
     (λ t k.
-    option_map-found Discrete (integer_within (negsuc 2147483647) (pos 2147483647) rest) body k
+    option_map-found Discrete (integer_word_within (negsuc 2147483647) (pos 2147483647) rest) body k
     (λ z found body_is.
     let p = discrete-found rest z found in
     rw (is_same _ _ t, body_is) (record {
@@ -176,7 +176,7 @@ and_then-found f None y e k = absurd cc
 and_then-found f (Some x) y e k = k x refl e
 
 pub value-found : (body flags seconds millis : List ℕ) (value : Sample)
-    → value_in body flags seconds millis ≡ Some value
+    → sample_in body flags seconds millis ≡ Some value
     → AreValueWords body flags seconds millis value
 value-found body flags seconds millis value e =
     and_then-found _ (body_in body) value e (λ b b_is e.
@@ -203,7 +203,7 @@ value-found body flags seconds millis value e =
 
 pub value-read : (body flags seconds millis : List ℕ) (value : Sample)
     → AreValueWords body flags seconds millis value
-    → value_in body flags seconds millis ≡ Some value
+    → sample_in body flags seconds millis ≡ Some value
 value-read body flags seconds millis value w =
     rw (
       w.body_is,

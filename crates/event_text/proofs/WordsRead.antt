@@ -32,7 +32,7 @@ use Rattle.mms_text.proofs.WordText.{word-found, chosen, is_same}
 use Rattle.mms_text.proofs.TextBreaks.{one_datum}
 use Rattle.event_text.specs.CallWords.{assigned_word}
 use Rattle.event_text.specs.Assigned.{equals_in}
-use Rattle.event_text.specs.Verbs.{class_in, bare_scope_in, scope_in}
+use Rattle.event_text.specs.Verbs.{class_in, bare_scope_in, scope_word_in}
 
 pub some_same : {A : Type 0} (a b : A) → Some a ≡ Some b → a ≡ b
 some_same a b e = cc
@@ -85,7 +85,7 @@ last_split (c ∷ d ∷ more) e =
     (last_split (d ∷ more) (rw (before_last (length more)) at e)))
 
 -- a word that is read as a scope is spelled so
-pub scope_in-found : (word : List ℕ) (scope : Scope) → scope_in word ≡ Some scope
+pub scope_in-found : (word : List ℕ) (scope : Scope) → scope_word_in word ≡ Some scope
     → (word ≡ scope_text scope) × IsScope scope
 scope_in-found word scope e =
     chosen ((word ≡ scope_text scope) × IsScope scope) scope
@@ -102,7 +102,7 @@ scope_in-found word scope e =
     e
 
 domain_read : (escaped domain : List ℕ) → identifier_in escaped ≡ Some domain
-    → scope_in (escaped ++ 47 ∷ []) ≡ Some (Domain domain)
+    → scope_word_in (escaped ++ 47 ∷ []) ≡ Some (Domain domain)
 domain_read escaped domain e =
     let count : length (escaped ++ 47 ∷ []) - 1 ≡ length escaped =
     rw (length-append escaped (47 ∷ [])) (omega arith) in
@@ -114,7 +114,7 @@ domain_read escaped domain e =
     ) refl
 
 -- and a scope's word is read as that scope
-pub scope_in-scope_text : (scope : Scope) → IsScope scope → scope_in (scope_text scope) ≡ Some scope
+pub scope_in-scope_text : (scope : Scope) → IsScope scope → scope_word_in (scope_text scope) ≡ Some scope
 scope_in-scope_text Vmd h = refl
 scope_in-scope_text (Domain domain) h =
     domain_read (escaped_text domain) domain (identifier_in-escaped_text domain h)
@@ -122,7 +122,7 @@ scope_in-scope_text Association h = refl
 
 pub same_scope : (a b : Scope) → IsScope a → IsScope b → scope_text a ≡ scope_text b → a ≡ b
 same_scope a b h k e =
-    some_same a b (sym (scope_in-scope_text a h) ∙ ap scope_in e ∙ scope_in-scope_text b k)
+    some_same a b (sym (scope_in-scope_text a h) ∙ ap scope_word_in e ∙ scope_in-scope_text b k)
 
 -- no equals sign
 abbrev pub HasNoEquals : List ℕ → Type 0

@@ -21,7 +21,7 @@ use Rattle.event_text.specs.Breaks.{Breaks}
 use Rattle.event_text.specs.CallWords.{assigned_word}
 use Rattle.event_text.specs.Verbs.{IsNameWord, IsAssignedWord, IsClassWord, IsScopeWord}
 use Rattle.event_text.specs.Verbs.{IsAfterWord, IsOddKind, IsOddCode, Then, NoWord, AtMostOne}
-use Rattle.event_text.specs.Verbs.{OneOrMore, Each, class_in, scope_in, odd_kind_in, Halts}
+use Rattle.event_text.specs.Verbs.{OneOrMore, EachWord, class_in, scope_word_in, odd_kind_in, HaltsAtWords}
 use Rattle.event_text.specs.Verbs.{one_more}
 use Rattle.event_text.specs.declared.reading.halt.Halt.{Halt}
 use Rattle.event_text.proofs.Breaking.{breaks-none, breaks-first, breaks-behind, breaks-among}
@@ -40,9 +40,9 @@ pub wrong_class : (word : List ℕ) → None ≡ class_in word → IsClassWord w
 wrong_class word e w =
     none_some w.class (e ∙ ap class_in w.spelled ∙ integer-read w.class w.fits)
 
-pub wrong_scope : (word : List ℕ) → None ≡ scope_in word → IsScopeWord word → ⊥
+pub wrong_scope : (word : List ℕ) → None ≡ scope_word_in word → IsScopeWord word → ⊥
 wrong_scope word e w =
-    none_some w.scope (e ∙ ap scope_in w.spelled ∙ scope_in-scope_text w.scope w.named)
+    none_some w.scope (e ∙ ap scope_word_in w.spelled ∙ scope_in-scope_text w.scope w.named)
 
 pub wrong_after : (word : List ℕ) → None ≡ identifier_in word → IsAfterWord word → ⊥
 wrong_after word e w =
@@ -111,7 +111,7 @@ ClassScopeAfter = Then IsClassWord ScopeAfter
 pub no_scope : Breaks ScopeAfter [] 0
 no_scope = breaks-none ScopeAfter (codes "vmd:" ∷ []) (fine_scope, tt) (λ none. none)
 
-pub bad_scope : (word : List ℕ) (words : List (List ℕ)) → None ≡ scope_in word
+pub bad_scope : (word : List ℕ) (words : List (List ℕ)) → None ≡ scope_word_in word
     → Breaks ScopeAfter (word ∷ words) 0
 bad_scope word words e =
     breaks-first ScopeAfter word words (codes "vmd:" ∷ []) (fine_scope, tt)
@@ -173,8 +173,8 @@ bad_kind word words e =
 
 -- a right word in front, and a fault behind it
 pub then-halts : (W : List ℕ → Type 0) (P : List (List ℕ) → Type 0) (word : List ℕ)
-    (words : List (List ℕ)) (halt : Halt) → W word → Halts halt (λ count. Breaks P words count)
-    → Halts (one_more halt) (λ count. Breaks (Then W P) (word ∷ words) count)
+    (words : List (List ℕ)) (halt : Halt) → W word → HaltsAtWords halt (λ count. Breaks P words count)
+    → HaltsAtWords (one_more halt) (λ count. Breaks (Then W P) (word ∷ words) count)
 then-halts W P word words halt w h =
     halts-behind P (Then W P) word words halt (λ more p. (w, p)) (λ more q. q.1) h
 
@@ -192,7 +192,7 @@ names-break whole names word words count parts count_is named none =
     many [] = refl
     many (name ∷ names) = ap suc (many names)
 
-    each : (names : List ObjectName) → All IsName names → Each IsNameWord (map name_text names)
+    each : (names : List ObjectName) → All IsName names → EachWord IsNameWord (map name_text names)
     each [] all = tt
     each (name ∷ names) all = (
       record { name = name; spelled = refl; named = All-head IsName name names all },

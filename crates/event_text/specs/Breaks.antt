@@ -3,13 +3,13 @@ use Rattle.std.specs.Prelude.{ℕ, suc, ◌<◌, ◌≤◌, List, ◌++◌, leng
 use Rattle.std.proofs.Common.{take}
 
 -- words with which such as have the property begin
-abbrev pub Begins : (List (List ℕ) → Type 0) → List (List ℕ) → Type 0
-Begins P words = (more : List (List ℕ)) × P (words ++ more)
+abbrev pub BeginsWords : (List (List ℕ) → Type 0) → List (List ℕ) → Type 0
+BeginsWords P words = (more : List (List ℕ)) × P (words ++ more)
 
 -- words without the property, of which so many are the most with which words begin that have it:
 -- with the next word, where there is one, none begin
 pub record Breaks (P : List (List ℕ) → Type 0) (words : List (List ℕ)) (count : ℕ) : Type 0 where
   pub within : count ≤ length words
-  pub begins : Begins P (take count words)
-  pub breaks : count < length words → Begins P (take (suc count) words) → ⊥
+  pub begins : BeginsWords P (take count words)
+  pub breaks : count < length words → BeginsWords P (take (suc count) words) → ⊥
   pub unspelled : P words → ⊥

@@ -7,7 +7,8 @@ use Rattle.std.specs.Int.RustNames.{FitsSigned}
 use Rattle.std.specs.List.{list_all}
 use Rattle.plain_text.specs.Octets.{hex_text}
 use Rattle.plain_text.specs.Escaped.{is_octet}
-use Rattle.plain_text.specs.Numbers.{if_passes, number_up_to, integer_within, hex_octet, hex_octets}
+use Rattle.plain_text.specs.Numbers.{if_passes, number_up_to, integer_word_within, hex_octet}
+use Rattle.plain_text.specs.Numbers.{hex_octets}
 use Rattle.plain_text.specs.Words.{words_in}
 use Rattle.tase_points.specs.declared.body.Body.{Body}
 use Rattle.tase_points.specs.declared.body.Body.TheVariants.{State, Discrete, Real}
@@ -28,7 +29,7 @@ body_in [] = None
 body_in (letter ∷ rest) =
     if letter == 115 then option_map State (number_up_to STATE_LIMIT rest)
     else (if letter == 100 then
-    option_map Discrete (integer_within (negsuc 2147483647) (pos 2147483647) rest)
+    option_map Discrete (integer_word_within (negsuc 2147483647) (pos 2147483647) rest)
     else (if letter == 114 then option_map Real (hex_octets 4 rest) else None))
 
 -- six bits of flags as two digits
@@ -36,8 +37,8 @@ abbrev pub flags_in : List ℕ → Option ℕ
 flags_in word = option_and_then (if_passes (λ n. nat_le n FLAGS_LIMIT)) (hex_octet word)
 
 -- a value: body, flags, seconds and milliseconds
-abbrev pub value_in : List ℕ → List ℕ → List ℕ → List ℕ → Option Sample
-value_in body flags seconds millis =
+abbrev pub sample_in : List ℕ → List ℕ → List ℕ → List ℕ → Option Sample
+sample_in body flags seconds millis =
     option_and_then (λ b. option_and_then (λ f. option_and_then (λ s. option_map (λ m.
     record { body = b; flags = f; seconds = s; millis = m })
     (number_up_to MILLIS_LIMIT millis)) (number_up_to SECONDS_LIMIT seconds)) (flags_in flags))
@@ -53,7 +54,7 @@ update_of rows point value =
 abbrev pub update_in : CentreRows → List (List ℕ) → Option EventKind
 update_in rows (name ∷ body ∷ flags ∷ seconds ∷ millis ∷ []) =
     option_and_then (λ point. option_and_then (λ value. update_of rows point value)
-    (value_in body flags seconds millis)) (place_of_point rows name)
+    (sample_in body flags seconds millis)) (place_of_point rows name)
 update_in rows words = None
 
 -- nothing behind `stop`

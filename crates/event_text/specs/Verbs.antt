@@ -1,5 +1,6 @@
 -- The first word of a call, and the words that may stand behind it.
-use Rattle.std.specs.Prelude.{◌≡◌, ◌≢◌, ℕ, ◌⊎◌, ◌==◌, ◌+◌, ◌-◌, if◌then◌else◌, List, [], ◌∷◌, length}
+use Rattle.std.specs.Prelude.{◌≡◌, ◌≢◌, ℕ, ◌⊎◌, ◌==◌, ◌+◌, ◌-◌, if◌then◌else◌, List, [], ◌∷◌}
+use Rattle.std.specs.Prelude.{length}
 use Rattle.std.specs.Prelude.{slice_index, not, option_and_then}
 use Rattle.std.specs.Ordering.{int_eq}
 use Rattle.std.specs.Prelude.{Option, Some, None, option_map, IfSome, codes, bytes_eq, ℤ, pos}
@@ -9,7 +10,7 @@ use Rattle.std.specs.Fmt.{signed_decimal}
 use Rattle.std.specs.Int.{w64}
 use Rattle.std.specs.Int.RustNames.{FitsSigned}
 use Rattle.plain_text.specs.Escaped.{escaped_text}
-use Rattle.plain_text.specs.Numbers.{integer_within, if_passes}
+use Rattle.plain_text.specs.Numbers.{integer_word_within, if_passes}
 use Rattle.mms_data.specs.Datum.{Datum}
 use Rattle.mms_data.specs.Lawful.{IsLawful}
 use Rattle.mms_data.specs.ObjectName.{ObjectName, IsName, IsScope, IsIdentifier}
@@ -25,9 +26,9 @@ use Rattle.event_text.specs.declared.reading.halt.Halt.{Halt}
 use Rattle.event_text.specs.declared.reading.halt.Halt.TheVariants as halts
 
 -- a reading stopped because of the words, and so many of them may begin
-abbrev pub Halts : Halt → (ℕ → Type 0) → Type 0
-Halts halts.Memory P = Unit {0}
-Halts (halts.Bad count) P = P count
+abbrev pub HaltsAtWords : Halt → (ℕ → Type 0) → Type 0
+HaltsAtWords halts.Memory P = Unit {0}
+HaltsAtWords (halts.Bad count) P = P count
 
 -- where a reading stopped, counted with one word more in front of what it read
 abbrev pub one_more : Halt → Halt
@@ -133,9 +134,9 @@ NoWord [] = Unit {0}
 NoWord (word ∷ words) = ⊥
 
 -- each word is such
-abbrev pub Each : (List ℕ → Type 0) → List (List ℕ) → Type 0
-Each W [] = Unit {0}
-Each W (word ∷ words) = W word × Each W words
+abbrev pub EachWord : (List ℕ → Type 0) → List (List ℕ) → Type 0
+EachWord W [] = Unit {0}
+EachWord W (word ∷ words) = W word × EachWord W words
 
 -- a word, and others behind it
 abbrev pub Then : (List ℕ → Type 0) → (List (List ℕ) → Type 0) → List (List ℕ) → Type 0
@@ -149,7 +150,7 @@ AtMostOne W (word ∷ words) = W word × NoWord words
 
 -- one word or more
 abbrev pub OneOrMore : (List ℕ → Type 0) → List (List ℕ) → Type 0
-OneOrMore W words = Then W (Each W) words
+OneOrMore W words = Then W (EachWord W) words
 
 -- what may stand behind a verb
 abbrev pub Behind : Verb → List (List ℕ) → Type 0
@@ -169,7 +170,7 @@ Behind verbs.Odd words = Then IsOddKind (Then IsOddCode NoWord) words
 
 -- the class that a word is
 abbrev pub class_in : List ℕ → Option ℤ
-class_in word = integer_within (negsuc (2 ^ 63 - 1)) (pos (2 ^ 63 - 1)) word
+class_in word = integer_word_within (negsuc (2 ^ 63 - 1)) (pos (2 ^ 63 - 1)) word
 
 -- the scope of deletion that a word is
 abbrev pub deletion_in : List ℕ → Option ℤ
@@ -182,8 +183,8 @@ bare_scope_in word =
     else (if bytes_eq word (codes "aa:") then Some scopes.Association else None)
 
 -- the scope that a word is: a domain before a slash, or one of the others
-abbrev pub scope_in : List ℕ → Option Scope
-scope_in word =
+abbrev pub scope_word_in : List ℕ → Option Scope
+scope_word_in word =
     if slice_index word (length word - 1) == 47
     then option_map scopes.Domain (identifier_in (take (length word - 1) word))
     else bare_scope_in word

@@ -8,7 +8,7 @@ ghost use Rattle.tase_views.specs.EventTexts.{call_text};
 ghost use Rattle.event_text.specs.CallWords.{HasWords, SpellsCall, AreCallWords};
 ghost use Rattle.event_text.specs.Breaks.{Breaks};
 ghost use Rattle.event_text.specs.CallTexts.{IsCallText, CallBreaksAt};
-ghost use Rattle.event_text.specs.FeedLines.{value_in, AreValueWords};
+ghost use Rattle.event_text.specs.FeedLines.{sample_in, AreValueWords};
 ghost use Rattle.event_text.specs.WordPlaces.{word_place};
 
 /// The text that is written of a call spells that call, so it is read back, and a text spells one
@@ -35,7 +35,7 @@ pub fn call_words_have_one_reading()
 /// The words of a value in a feed are read as this value exactly where they are its text's.
 pub fn values_are_their_words()
     ensures { (body flags seconds millis : List ℕ) (value : Sample)
-        → (value_in body flags seconds millis ≡ Some value)
+        → (sample_in body flags seconds millis ≡ Some value)
         ↔ AreValueWords body flags seconds millis value }
 {}
 

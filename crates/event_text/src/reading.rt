@@ -6,7 +6,7 @@ ghost use Rattle.tase_views.specs.EventTexts.{read_verb, read_set_verb};
 ghost use Rattle.event_text.specs.CallWords.{SpellsCall, AreCallWords};
 ghost use Rattle.event_text.specs.Breaks.{Breaks};
 ghost use Rattle.event_text.specs.CallTexts.{IsCallText, CallBreaksAt};
-ghost use Rattle.event_text.specs.Verbs.{Halts, Behind, NoWord, Then, OneOrMore, IsNameWord};
+ghost use Rattle.event_text.specs.Verbs.{HaltsAtWords, Behind, NoWord, Then, OneOrMore, IsNameWord};
 ghost use Rattle.event_text.specs.Verbs.{IsAssignedWord, verb_text};
 
 mod halt;
@@ -68,7 +68,7 @@ pub fn read_call_words(alloc: Global, text: &[u8]) -> Result<Result<Call, usize>
 /// The call that the words of a text are.
 fn whole(alloc: Global, text: &[u8]) -> Result<Call, Halt>
     ensures found { IfOk result (λ call. SpellsCall (words text.now) call) }
-    ensures fault { IfErr result (λ halt. Halts halt
+    ensures fault { IfErr result (λ halt. HaltsAtWords halt
         (λ count. Breaks AreCallWords (words text.now) count)) }
 {
     let Some((word, rest)) = next_word(text) else {
@@ -86,9 +86,9 @@ fn whole(alloc: Global, text: &[u8]) -> Result<Call, Halt>
 /// The call of a verb and the words behind it.
 fn behind_verb(alloc: Global, verb: Verb, text: &[u8]) -> Result<Call, Halt>
     ensures found { IfOk result (λ call. SpellsCall (verb_text verb ∷ words text.now) call) }
-    ensures fault { IfErr result (λ halt. Halts halt
+    ensures fault { IfErr result (λ halt. HaltsAtWords halt
         (λ count. Breaks (Behind verb) (words text.now) count)) }
-    ensures within { IfErr result (λ halt. Halts halt (λ count. count ≤ length text.now)) }
+    ensures within { IfErr result (λ halt. HaltsAtWords halt (λ count. count ≤ length text.now)) }
 {
     match verb {
         Verb::Identify => read_identify(text),
@@ -110,9 +110,9 @@ fn behind_verb(alloc: Global, verb: Verb, text: &[u8]) -> Result<Call, Halt>
 /// Nothing behind `identify`.
 fn read_identify(text: &[u8]) -> Result<Call, Halt>
     ensures found { IfOk result (λ call. SpellsCall (codes "identify" ∷ words text.now) call) }
-    ensures fault { IfErr result (λ halt. Halts halt
+    ensures fault { IfErr result (λ halt. HaltsAtWords halt
         (λ count. Breaks NoWord (words text.now) count)) }
-    ensures within { IfErr result (λ halt. Halts halt (λ count. count ≤ length text.now)) }
+    ensures within { IfErr result (λ halt. HaltsAtWords halt (λ count. count ≤ length text.now)) }
 {
     match next_word(text) {
         Some(_) => Err(Halt::Bad(0)),
@@ -123,9 +123,9 @@ fn read_identify(text: &[u8]) -> Result<Call, Halt>
 /// `NAME ..` behind `read` or `read+`.
 fn read_read(alloc: Global, text: &[u8], echo: bool) -> Result<Call, Halt>
     ensures found { IfOk result (λ call. SpellsCall (read_verb echo ∷ words text.now) call) }
-    ensures fault { IfErr result (λ halt. Halts halt
+    ensures fault { IfErr result (λ halt. HaltsAtWords halt
         (λ count. Breaks (OneOrMore IsNameWord) (words text.now) count)) }
-    ensures within { IfErr result (λ halt. Halts halt (λ count. count ≤ length text.now)) }
+    ensures within { IfErr result (λ halt. HaltsAtWords halt (λ count. count ≤ length text.now)) }
 {
     let names = read_names(alloc, text)?;
     Ok(Call::new(CallKind::Read { names, echo }))
@@ -134,9 +134,9 @@ fn read_read(alloc: Global, text: &[u8], echo: bool) -> Result<Call, Halt>
 /// `NAME=DATA ..` behind `write`.
 fn read_write(alloc: Global, text: &[u8]) -> Result<Call, Halt>
     ensures found { IfOk result (λ call. SpellsCall (codes "write" ∷ words text.now) call) }
-    ensures fault { IfErr result (λ halt. Halts halt
+    ensures fault { IfErr result (λ halt. HaltsAtWords halt
         (λ count. Breaks (OneOrMore IsAssignedWord) (words text.now) count)) }
-    ensures within { IfErr result (λ halt. Halts halt (λ count. count ≤ length text.now)) }
+    ensures within { IfErr result (λ halt. HaltsAtWords halt (λ count. count ≤ length text.now)) }
 {
     let read = read_assignments(alloc, text)?;
     Ok(Call::new(CallKind::Write {
@@ -148,9 +148,9 @@ fn read_write(alloc: Global, text: &[u8]) -> Result<Call, Halt>
 /// `NAME` behind `readset` or `readset+`.
 fn read_read_set(alloc: Global, text: &[u8], echo: bool) -> Result<Call, Halt>
     ensures found { IfOk result (λ call. SpellsCall (read_set_verb echo ∷ words text.now) call) }
-    ensures fault { IfErr result (λ halt. Halts halt
+    ensures fault { IfErr result (λ halt. HaltsAtWords halt
         (λ count. Breaks (Then IsNameWord NoWord) (words text.now) count)) }
-    ensures within { IfErr result (λ halt. Halts halt (λ count. count ≤ length text.now)) }
+    ensures within { IfErr result (λ halt. HaltsAtWords halt (λ count. count ≤ length text.now)) }
 {
     let set = read_sole_name(alloc, text)?;
     Ok(Call::new(CallKind::ReadSet { set, echo }))
@@ -159,9 +159,9 @@ fn read_read_set(alloc: Global, text: &[u8], echo: bool) -> Result<Call, Halt>
 /// `NAME` behind `members`.
 fn read_members_of(alloc: Global, text: &[u8]) -> Result<Call, Halt>
     ensures found { IfOk result (λ call. SpellsCall (codes "members" ∷ words text.now) call) }
-    ensures fault { IfErr result (λ halt. Halts halt
+    ensures fault { IfErr result (λ halt. HaltsAtWords halt
         (λ count. Breaks (Then IsNameWord NoWord) (words text.now) count)) }
-    ensures within { IfErr result (λ halt. Halts halt (λ count. count ≤ length text.now)) }
+    ensures within { IfErr result (λ halt. HaltsAtWords halt (λ count. count ≤ length text.now)) }
 {
     let set = read_sole_name(alloc, text)?;
     Ok(Call::new(CallKind::MembersOf { set }))
@@ -170,9 +170,9 @@ fn read_members_of(alloc: Global, text: &[u8]) -> Result<Call, Halt>
 /// `NAME ..` behind `delete`.
 fn read_delete(alloc: Global, text: &[u8]) -> Result<Call, Halt>
     ensures found { IfOk result (λ call. SpellsCall (codes "delete" ∷ words text.now) call) }
-    ensures fault { IfErr result (λ halt. Halts halt
+    ensures fault { IfErr result (λ halt. HaltsAtWords halt
         (λ count. Breaks (OneOrMore IsNameWord) (words text.now) count)) }
-    ensures within { IfErr result (λ halt. Halts halt (λ count. count ≤ length text.now)) }
+    ensures within { IfErr result (λ halt. HaltsAtWords halt (λ count. count ≤ length text.now)) }
 {
     let sets = read_names(alloc, text)?;
     Ok(Call::new(CallKind::Delete { sets }))

@@ -1,8 +1,8 @@
 //! The values of points, read.
 ghost use Rattle.std.specs.Prelude.{◌≡◌, ◌≤◌, pos, negsuc, IfSome};
-ghost use Rattle.plain_text.specs.Numbers.{number_up_to, integer_within};
+ghost use Rattle.plain_text.specs.Numbers.{number_up_to, integer_word_within};
 ghost use Rattle.tase_points.specs.Points.{state_of};
-ghost use Rattle.event_text.specs.FeedLines.{body_in, flags_in, value_in};
+ghost use Rattle.event_text.specs.FeedLines.{body_in, flags_in, sample_in};
 
 use plain_text::{read_hex_four, read_hex_octet, read_integer, read_number};
 use tase_points::{Body, FLAGS_LIMIT, MILLIS_LIMIT, PointValue, SECONDS_LIMIT, STATE_LIMIT};
@@ -31,7 +31,7 @@ fn read_body(word: &[u8]) -> Option<Body>
 
 /// The discrete value that a word is.
 fn read_discrete(word: &[u8]) -> Option<i32>
-    ensures { result ≡ integer_within (negsuc 2147483647) (pos 2147483647) word.now }
+    ensures { result ≡ integer_word_within (negsuc 2147483647) (pos 2147483647) word.now }
 {
     Some(read_integer(word, -2_147_483_648, 2_147_483_647)? as i32)
 }
@@ -56,7 +56,7 @@ pub(crate) fn read_value(
     seconds: &[u8],
     millis: &[u8],
 ) -> Option<PointValue>
-    ensures { result ≡ value_in body.now flags.now seconds.now millis.now }
+    ensures { result ≡ sample_in body.now flags.now seconds.now millis.now }
 {
     let body = read_body(body)?;
     let flags = read_flags(flags)?;

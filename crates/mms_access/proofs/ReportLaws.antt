@@ -6,11 +6,11 @@ use Rattle.ber_values.proofs.Lists.{count_reads, list_reads}
 use Rattle.mms_data.proofs.OutcomeRead.{one_outcome_reads}
 use Rattle.mms_access.specs.declared.spec.Spec.{Spec}
 use Rattle.mms_access.specs.declared.spec.Spec.TheVariants as kinds
-use Rattle.mms_access.specs.Reports.{results_of, report, report_pdu}
+use Rattle.mms_access.specs.Reports.{report_results, report, report_pdu}
 use Rattle.mms_access.proofs.ReadSpecs.{specification_reads}
 
-results_contents : (spec : Spec) → IsContentsGrammar (results_of spec)
-unfolding results_of
+results_contents : (spec : Spec) → IsContentsGrammar (report_results spec)
+unfolding report_results
 results_contents (kinds.List names) =
     count_reads (length names) (length names) _ one_outcome_reads
 results_contents (kinds.Set name) = list_reads 0 _ one_outcome_reads

@@ -13,14 +13,14 @@ use Rattle.mms_access.specs.declared.spec.Spec.TheVariants as kinds
 use Rattle.mms_access.specs.declared.report.ReportPdu.{ReportPdu}
 use Rattle.mms_access.specs.Specifications.{specification, spec_octets}
 use Rattle.mms_access.specs.Reads.{outcomes_octets}
-use Rattle.mms_access.specs.Reports.{reported, results_of, report, report_pdu, report_octets, report_pdu_octets, HasResults, IsReport, IsHeldReport}
+use Rattle.mms_access.specs.Reports.{reported, report_results, report, report_pdu, report_octets, report_pdu_octets, HasResults, IsReport, IsHeldReport}
 use Rattle.ber_values.proofs.Pieces.{contents-few}
 use Rattle.mms_access.proofs.SpecsWritten.{spec-writes}
 use Rattle.mms_access.proofs.ReadWritten.{outcomes-spelled, outcomes-counted}
 
 -- as many outcomes as are wanted
-results-spelled : (at : ℕ) (s : Spec) (os : List Outcome) → HasResults s (length os) → All IsLawfulOutcome os → All IsHeldOutcome os → length (outcomes_octets os) < 2 ^ 32 → (results_of s).spells at os (outcomes_octets os)
-unfolding results_of
+results-spelled : (at : ℕ) (s : Spec) (os : List Outcome) → HasResults s (length os) → All IsLawfulOutcome os → All IsHeldOutcome os → length (outcomes_octets os) < 2 ^ 32 → (report_results s).spells at os (outcomes_octets os)
+unfolding report_results
 results-spelled at (kinds.List names) os count lawful held few = outcomes-counted at (length names) os count lawful held few
 results-spelled at (kinds.Set name) os u lawful held few = outcomes-spelled at os lawful held few
 
@@ -35,11 +35,11 @@ report-spelled at r is held few =
     let small : length two < 2 ^ 32 = omega (arith, few, length-append one two) in
     let inner = contents-few 160 results small in
     all-spelled _ at r (one ++ two)
-    (then-ends specification (λ spec. map_in (reported spec) (part_in 160 (results_of spec))) at r.spec one r two
+    (then-ends specification (λ spec. map_in (reported spec) (part_in 160 (report_results spec))) at r.spec one r two
     (spec-writes at r.spec is.spec held.spec front)
-    (map-ends (reported r.spec) (part_in 160 (results_of r.spec)) next r.results two
-    (ends_of (part_in 160 (results_of r.spec)) next r.results two
-    (part-writes 160 (results_of r.spec) next r.results results inner
+    (map-ends (reported r.spec) (part_in 160 (report_results r.spec)) next r.results two
+    (ends_of (part_in 160 (report_results r.spec)) next r.results two
+    (part-writes 160 (report_results r.spec) next r.results results inner
     (results-spelled _ r.spec r.results is.enough is.lawful held.results inner)))))
 
 -- what is written for a report is the report

@@ -22,7 +22,7 @@ use Rattle.mms_access.specs.declared.report.ReportPdu.{ReportPdu}
 use Rattle.mms_access.specs.Specifications.{sole_name, variables, specification, sole_spec, IsSpec}
 use Rattle.mms_access.specs.Reads.{read_asked, read_answered, echo_in, read_request, read_response, IsSpecIfAny, IsReadRequest, IsReadResponse}
 use Rattle.mms_access.specs.Writes.{write_asked, values_of, write_request, HasValues, IsWriteRequest}
-use Rattle.mms_access.specs.Reports.{reported, results_of, report, report_pdu, HasResults, IsReport}
+use Rattle.mms_access.specs.Reports.{reported, report_results, report, report_pdu, HasResults, IsReport}
 use Rattle.ber_values.proofs.Holding.{part-holds, choose-holds, maybe-holds, map-holds, as-holds, all-holds, list-holds}
 
 -- ---- specifications
@@ -89,20 +89,20 @@ write_request-holds = all-holds IsWriteRequest (then_in specification (λ spec. 
 
 -- ---- reports
 
-results-hold : (s : Spec) (at : ℕ) (rs : List Outcome) (os : List ℕ) → (results_of s).spells at rs os → HasResults s (length rs) × All IsLawfulOutcome rs
-unfolding results_of list_in count_in
+results-hold : (s : Spec) (at : ℕ) (rs : List Outcome) (os : List ℕ) → (report_results s).spells at rs os → HasResults s (length rs) × All IsLawfulOutcome rs
+unfolding report_results list_in count_in
 results-hold (kinds.List names) at rs os h = (omega (arith, h.enough, h.few), list-holds IsLawfulOutcome one_outcome outcome_lawful rs at os h.end _ h.spelled)
 results-hold (kinds.Set name) at rs os h = (tt, list-holds IsLawfulOutcome one_outcome outcome_lawful rs at os h.end _ h.spelled)
 
 report-holds : (at : ℕ) (r : ReportPdu) (os : List ℕ) → report.spells at r os → IsReport r
 unfolding report then_in
-report-holds = all-holds IsReport (then_in specification (λ spec. map_in (reported spec) (part_in 160 (results_of spec)))) each
+report-holds = all-holds IsReport (then_in specification (λ spec. map_in (reported spec) (part_in 160 (report_results spec)))) each
   where
-    each : (at : ℕ) (os : List ℕ) (t : Taken ReportPdu) → (then_in specification (λ spec. map_in (reported spec) (part_in 160 (results_of spec)))).begins at os t → IsReport t.value
+    each : (at : ℕ) (os : List ℕ) (t : Taken ReportPdu) → (then_in specification (λ spec. map_in (reported spec) (part_in 160 (report_results spec)))).begins at os t → IsReport t.value
     each at os t b =
-        map-holds IsReport (reported b.0.value) (part_in 160 (results_of b.0.value)) b.0.next b.0.rest t
+        map-holds IsReport (reported b.0.value) (part_in 160 (report_results b.0.value)) b.0.next b.0.rest t
         (λ u c.
-        let v = part-holds (λ rs. HasResults b.0.value (length rs) × All IsLawfulOutcome rs) 160 (results_of b.0.value) b.0.next b.0.rest u (results-hold b.0.value) c in
+        let v = part-holds (λ rs. HasResults b.0.value (length rs) × All IsLawfulOutcome rs) 160 (report_results b.0.value) b.0.next b.0.rest u (results-hold b.0.value) c in
         record { spec = spec-holds at os b.0 b.1; enough = v.0; lawful = v.1 }) b.2
 
 pub report_pdu-holds : (at : ℕ) (r : ReportPdu) (os : List ℕ) → report_pdu.spells at r os → IsReport r

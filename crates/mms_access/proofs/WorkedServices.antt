@@ -21,7 +21,7 @@ use Rattle.mms_access.specs.Specifications.{specification, sole_spec}
 use Rattle.mms_access.specs.Reads.{read_asked, read_answered, echo_in, read_request, read_response}
 use Rattle.mms_access.specs.Writes.{write_asked, write_answered, values_of, write_request}
 use Rattle.mms_access.specs.Writes.{one_written, write_response}
-use Rattle.mms_access.specs.Reports.{reported, results_of, report, report_pdu}
+use Rattle.mms_access.specs.Reports.{reported, report_results, report, report_pdu}
 use Rattle.ber_values.specs.Heads.{extent_of, extent_within}
 use Rattle.ber_values.specs.Extents.{definite}
 
@@ -115,7 +115,7 @@ told : List ℕ
 told = 160 ∷ 10 ∷ 161 ∷ 3 ∷ 128 ∷ 1 ∷ 83 ∷ 160 ∷ 3 ∷ 133 ∷ 1 ∷ 7 ∷ []
 
 told_read : report_pdu.reading (from 100) told ≡ Ok (reported (kinds.Set (of_device (83 ∷ []))) (Good (Datum.integer (pos 7)) ∷ []))
-unfolding told report_pdu report results_of specification sole_name one_name identifier
+unfolding told report_pdu report report_results specification sole_name one_name identifier
     visible_within text_in one_outcome one_datum datum_within plain_datum integer integer_in list_in
     count_in more_in length_in gives then_in map_in branch_in refused sized_part_in parted_in
     part_in choose_in contents_as all_in extent_of extent_within definite

@@ -17,14 +17,14 @@ abbrev pub reported : Spec → List Outcome → ReportPdu
 reported spec results = record { spec = spec; results = results }
 
 -- an outcome for each variable of a list, any number for a list that is named
-unfoldable pub results_of : Spec → Contents (List Outcome)
-results_of (kinds.List names) = count_in (length names) (length names) one_outcome
-results_of (kinds.Set name) = list_in 0 one_outcome
+unfoldable pub report_results : Spec → Contents (List Outcome)
+report_results (kinds.List names) = count_in (length names) (length names) one_outcome
+report_results (kinds.Set name) = list_in 0 one_outcome
 
 unfoldable pub report : Contents ReportPdu
 report = all_in
     (then_in specification (λ spec.
-    map_in (reported spec) (part_in 160 (results_of spec))))
+    map_in (reported spec) (part_in 160 (report_results spec))))
 
 -- a report, which is the only unconfirmed service
 unfoldable pub report_pdu : Contents ReportPdu

@@ -6,7 +6,7 @@ ghost use Rattle.ber_values.specs.declared.lengths.TheConstants.{MOST_LENGTH};
 ghost use Rattle.ber_values.specs.Lengths.{capped};
 ghost use Rattle.mms_data.specs.OutcomeOctets.{IsLawfulOutcome};
 ghost use Rattle.ber_values.specs.Stops.{Answers};
-ghost use Rattle.mms_access.specs.Reports.{results_of, report, report_pdu};
+ghost use Rattle.mms_access.specs.Reports.{report_results, report, report_pdu};
 ghost use Rattle.mms_access.specs.Reports.{report_octets, report_pdu_octets};
 
 use crate::read::{Outcomes, outcomes_from, outcomes_len, put_outcomes_part};
@@ -50,11 +50,11 @@ fn report_from(alloc: Global, part: &Part<'_>) -> Result<ReportPdu, Stop>
 }
 
 /// The outcomes for these variables that the contents of an element are.
-#[tactic(auto, unfolding(crate::specs::Reports::results_of, ber_values::specs::Lists::list_in, ber_values::specs::Lists::count_in))]
+#[tactic(auto, unfolding(crate::specs::Reports::report_results, ber_values::specs::Lists::list_in, ber_values::specs::Lists::count_in))]
 fn results_from(alloc: Global, part: &Part<'_>, spec: &Spec) -> Result<Outcomes, Stop>
     requires { part.now.head.body + length part.now.contents.now < 2 ^ 64 }
     ensures { Answers (λ os. os) result
-        ((results_of spec.now).reading part.now.head part.now.contents.now) }
+        ((report_results spec.now).reading part.now.head part.now.contents.now) }
 {
     match spec {
         Spec::List(names) => outcomes_from(alloc, part, names.len(), names.len()),

@@ -61,9 +61,9 @@ leaf (inr (inr (inr (inr (inl o))))) = real o
 leaf (inr (inr (inr (inr (inr (inl o)))))) = octets o
 leaf (inr (inr (inr (inr (inr (inr o)))))) = text o
 
-abbrev pub begun : Bool → Data → Datum
-begun true ds = structure ds
-begun false ds = array ds
+abbrev pub composed : Bool → Data → Datum
+composed true ds = structure ds
+composed false ds = array ds
 
 abbrev pub close : Datum → List Data → Frames
 close d [] = (datum d no_data, [])
@@ -71,7 +71,7 @@ close d (ds ∷ outer) = (datum d ds, outer)
 
 abbrev pub step : Mark → Frames → Frames
 step (inl l) f = (datum (leaf l) f.0, f.1)
-step (inr (inl b)) f = close (begun b f.0) f.1
+step (inr (inl b)) f = close (composed b f.0) f.1
 step (inr (inr u)) f = (no_data, f.0 ∷ f.1)
 
 -- marks are read from the last one on

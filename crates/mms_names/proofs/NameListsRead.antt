@@ -8,7 +8,7 @@ use Rattle.ber_values.proofs.Lists.{list_reads}
 use Rattle.ber_values.proofs.Leaves.{integer_contents, boolean_contents, fixed_contents}
 use Rattle.mms_data.proofs.NameRead.{identifier_contents}
 use Rattle.mms_names.specs.NameLists.{object_class, one_scope, object_scope, request_of}
-use Rattle.mms_names.specs.NameLists.{after_name, name_list_request, listed}
+use Rattle.mms_names.specs.NameLists.{after_name, name_list_request, listed_name}
 use Rattle.mms_names.specs.NameLists.{more_names, response_of, name_list_response}
 
 pub object_class_contents : IsContentsGrammar object_class
@@ -37,8 +37,8 @@ name_list_request_contents = all_reads _
     then_reads _ _ (part_reads 161 _ object_scope_contents) (λ scope.
     map_reads (request_of class scope) _ after_name_reads)))
 
-pub listed_reads : IsGrammar listed
-unfolding listed
+pub listed_reads : IsGrammar listed_name
+unfolding listed_name
 listed_reads = part_reads 26 _ identifier_contents
 
 more_names_reads : IsGrammar more_names

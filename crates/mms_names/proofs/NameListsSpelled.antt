@@ -20,7 +20,7 @@ use Rattle.mms_data.specs.declared.object_name.Scope.{Scope}
 use Rattle.mms_data.specs.declared.object_name.Scope.TheVariants.{Vmd, Domain, Association}
 use Rattle.mms_names.specs.declared.name_list.NameListRequest.{NameListRequest}
 use Rattle.mms_names.specs.declared.name_list.NameListResponse.{NameListResponse}
-use Rattle.mms_names.specs.NameLists.{object_class, one_scope, object_scope, after_name, request_of, name_list_request, listed, or_true, more_names, response_of, name_list_response, class_octets, scope_octets, in_scope_octets, after_octets, name_list_request_octets, IsNamedRequest, listed_octets, names_octets, more_octets, list_octets, name_list_response_octets, IsNamedResponse}
+use Rattle.mms_names.specs.NameLists.{object_class, one_scope, object_scope, after_name, request_of, name_list_request, listed_name, or_true, more_names, response_of, name_list_response, class_octets, scope_octets, in_scope_octets, after_octets, name_list_request_octets, IsNamedRequest, listed_octets, names_octets, more_octets, list_octets, name_list_response_octets, IsNamedResponse}
 use Rattle.ber_values.proofs.WrittenParts.{maybe-none, maybe-some}
 use Rattle.ber_values.proofs.Pieces.{contents-few}
 
@@ -98,28 +98,28 @@ name_list_request-spelled at r fits named =
 
 -- ---- responses
 
-listed-writes : (name : List ℕ) → IsIdentifier name → WritesEach listed listed_octets name
-unfolding listed listed_octets
+listed-writes : (name : List ℕ) → IsIdentifier name → WritesEach listed_name listed_octets name
+unfolding listed_name listed_octets
 listed-writes name named = record {
   some = omega arith;
   writes = λ at. part-writes 26 identifier at name name (identifier-few name named) (identifier-spelled _ name named);
 }
 
-names-write : (names : List (List ℕ)) → All IsIdentifier names → WriteAll listed listed_octets names
+names-write : (names : List (List ℕ)) → All IsIdentifier names → WriteAll listed_name listed_octets names
 names-write [] named = tt
 names-write (n ∷ ns) named = (
   listed-writes n (named 0 n (omega arith)),
   names-write ns (λ k d lt. named (suc k) d (omega (arith, lt))),
 )
 
-names-spelled : (at : ℕ) (names : List (List ℕ)) → All IsIdentifier names → (list_in 0 listed).spells at names (names_octets names)
+names-spelled : (at : ℕ) (names : List (List ℕ)) → All IsIdentifier names → (list_in 0 listed_name).spells at names (names_octets names)
 unfolding names_octets
-names-spelled at names named = list-spelled listed listed_octets 0 at names (omega arith) (names-write names named)
+names-spelled at names named = list-spelled listed_name listed_octets 0 at names (omega arith) (names-write names named)
 
-list-writes : (names : List (List ℕ)) (at : ℕ) → All IsIdentifier names → length (list_octets names) < 2 ^ 32 → Writes (part_in 160 (list_in 0 listed)) at names (list_octets names)
+list-writes : (names : List (List ℕ)) (at : ℕ) → All IsIdentifier names → length (list_octets names) < 2 ^ 32 → Writes (part_in 160 (list_in 0 listed_name)) at names (list_octets names)
 unfolding list_octets
 list-writes names at named few =
-    part-writes 160 (list_in 0 listed) at names (names_octets names) (contents-few 160 (names_octets names) few) (names-spelled _ names named)
+    part-writes 160 (list_in 0 listed_name) at names (names_octets names) (contents-few 160 (names_octets names) few) (names-spelled _ names named)
 
 more-ends : (more : Bool) (at : ℕ) → Ends more_names at more (more_octets more)
 unfolding more_names more_octets boolean
@@ -138,6 +138,6 @@ name_list_response-spelled at r named few =
     let next = at + length one in
     let front : length one < 2 ^ 32 = omega (arith, few, length-append one two) in
     all-spelled _ at r (one ++ two)
-    (then-ends (part_in 160 (list_in 0 listed)) (λ names. map_in (response_of names) more_names) at r.names one r two
+    (then-ends (part_in 160 (list_in 0 listed_name)) (λ names. map_in (response_of names) more_names) at r.names one r two
     (list-writes r.names at named front)
     (map-ends (response_of r.names) more_names next r.more two (more-ends r.more next)))

@@ -22,7 +22,7 @@ use Rattle.mms_names.specs.declared.delete.DeleteRequest.{DeleteRequest}
 use Rattle.mms_names.specs.Defines.{define_of, define_request, IsDefine}
 use Rattle.mms_names.specs.MemberLists.{members_listed, members_response, IsMembers}
 use Rattle.mms_names.specs.Deletes.{is_specific, free, set_names, delete_of, delete_request, IsDelete}
-use Rattle.mms_names.specs.NameLists.{one_scope, object_scope, after_name, request_of, name_list_request, listed, more_names, response_of, name_list_response, IsNamedRequest, IsNamedResponse}
+use Rattle.mms_names.specs.NameLists.{one_scope, object_scope, after_name, request_of, name_list_request, listed_name, more_names, response_of, name_list_response, IsNamedRequest, IsNamedResponse}
 
 -- ---- what follows something else
 
@@ -89,16 +89,16 @@ name_list_request-holds = all-holds IsNamedRequest _ (λ at os t b.
       after = after-holds b.2.0.next b.2.0.rest u c;
     }) b.2.2)
 
-listed-holds : (at : ℕ) (os : List ℕ) (t : Taken (List ℕ)) → listed.begins at os t → IsIdentifier t.value
-unfolding listed
+listed-holds : (at : ℕ) (os : List ℕ) (t : Taken (List ℕ)) → listed_name.begins at os t → IsIdentifier t.value
+unfolding listed_name
 listed-holds at os t = part-holds IsIdentifier 26 identifier at os t identifier_named
 
-names-hold : (at : ℕ) (ns : List (List ℕ)) (os : List ℕ) → (list_in 0 listed).spells at ns os → All IsIdentifier ns
+names-hold : (at : ℕ) (ns : List (List ℕ)) (os : List ℕ) → (list_in 0 listed_name).spells at ns os → All IsIdentifier ns
 unfolding list_in
-names-hold at ns os h = list-holds IsIdentifier listed listed-holds ns at os h.end _ h.spelled
+names-hold at ns os h = list-holds IsIdentifier listed_name listed-holds ns at os h.end _ h.spelled
 
 pub name_list_response-holds : (at : ℕ) (r : NameListResponse) (os : List ℕ) → name_list_response.spells at r os → IsNamedResponse r
 unfolding name_list_response then_in
 name_list_response-holds = all-holds IsNamedResponse _ (λ at os t b.
     map-holds IsNamedResponse (response_of b.0.value) more_names b.0.next b.0.rest t
-    (λ u c. part-holds (All IsIdentifier) 160 (list_in 0 listed) at os b.0 names-hold b.1) b.2)
+    (λ u c. part-holds (All IsIdentifier) 160 (list_in 0 listed_name) at os b.0 names-hold b.1) b.2)

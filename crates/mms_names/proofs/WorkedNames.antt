@@ -15,7 +15,7 @@ use Rattle.ber_values.specs.declared.fault.Why.TheVariants as whys
 use Rattle.mms_data.specs.NameOctets.{identifier}
 use Rattle.mms_data.specs.declared.object_name.Scope.TheVariants.{Vmd, Domain}
 use Rattle.mms_names.specs.NameLists.{object_class, one_scope, object_scope, name_list_request}
-use Rattle.mms_names.specs.NameLists.{after_name, listed, more_names, name_list_response}
+use Rattle.mms_names.specs.NameLists.{after_name, listed_name, more_names, name_list_response}
 use Rattle.mms_names.specs.NameLists.{class_octets, in_scope_octets, name_list_request_octets}
 use Rattle.mms_names.specs.NameLists.{listed_octets, names_octets, list_octets, more_octets}
 use Rattle.mms_names.specs.NameLists.{name_list_response_octets}
@@ -56,7 +56,7 @@ names_given = 160 ∷ 6 ∷ 26 ∷ 1 ∷ 65 ∷ 26 ∷ 1 ∷ 66 ∷ []
 
 names_given_read : name_list_response.reading (at_place 7) names_given
     ≡ Ok (record { names = (65 ∷ []) ∷ (66 ∷ []) ∷ []; more = true })
-unfolding at_place names_given name_list_response more_names listed identifier then_in map_in
+unfolding at_place names_given name_list_response more_names listed_name identifier then_in map_in
     branch_in gives maybe_in part_in parted_in sized_part_in length_in all_in list_in more_in
     visible_within text_in extent_of extent_within definite
 names_given_read = refl
@@ -77,7 +77,7 @@ scope_too_long = refl
 
 -- a name has an octet at least
 empty_name : name_list_response.reading (at_place 2) (160 ∷ 2 ∷ 26 ∷ 0 ∷ []) ≡ Err (fault_at 5 whys.Length)
-unfolding at_place name_list_response listed identifier then_in part_in parted_in sized_part_in
+unfolding at_place name_list_response listed_name identifier then_in part_in parted_in sized_part_in
     length_in all_in list_in more_in visible_within text_in extent_of extent_within branch_in
     definite
 empty_name = refl

@@ -44,8 +44,8 @@ name_list_request = all_in
     map_in (request_of class scope) after_name)))
 
 -- one name
-unfoldable pub listed : Grammar (List ℕ)
-listed = part_in 26 identifier
+unfoldable pub listed_name : Grammar (List ℕ)
+listed_name = part_in 26 identifier
 
 -- more names follow where nothing is said of it
 abbrev pub or_true : Option Bool → Bool
@@ -61,7 +61,7 @@ response_of names more = record { names = names; more = more }
 -- the names, and whether more of them follow
 unfoldable pub name_list_response : Contents NameListResponse
 name_list_response = all_in
-    (then_in (part_in 160 (list_in 0 listed)) (λ names.
+    (then_in (part_in 160 (list_in 0 listed_name)) (λ names.
     map_in (response_of names) more_names))
 
 -- ---- the written forms

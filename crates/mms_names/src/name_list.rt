@@ -11,7 +11,7 @@ ghost use Rattle.ber_values.specs.Lists.{list_in};
 ghost use Rattle.ber_values.specs.Readers.{taken_from};
 ghost use Rattle.mms_data.specs.NameOctets.{identifier};
 ghost use Rattle.mms_names.specs.NameLists.{object_class, one_scope, object_scope, after_name};
-ghost use Rattle.mms_names.specs.NameLists.{name_list_request, listed, more_names};
+ghost use Rattle.mms_names.specs.NameLists.{name_list_request, listed_name, more_names};
 ghost use Rattle.mms_names.specs.NameLists.{name_list_response, class_octets, scope_octets};
 ghost use Rattle.mms_names.specs.NameLists.{in_scope_octets, after_octets};
 ghost use Rattle.mms_names.specs.NameLists.{name_list_request_octets, listed_octets};
@@ -279,7 +279,7 @@ pub fn name_list_response_from(alloc: Global, part: &Part<'_>) -> Result<NameLis
 fn names_from(alloc: Global, part: &Part<'_>) -> Result<ItemList<Visible>, Stop>
     requires { part.now.head.body + length part.now.contents.now < 2 ^ 64 }
     ensures { Answers (λ names. names) result
-        ((list_in 0 listed).reading part.now.head part.now.contents.now) }
+        ((list_in 0 listed_name).reading part.now.head part.now.contents.now) }
 {
     let mut names = ItemList::new(alloc);
     let mut at = part.head.body;
@@ -294,10 +294,10 @@ fn names_from(alloc: Global, part: &Part<'_>) -> Result<ItemList<Visible>, Stop>
 }
 
 /// The name at the front of octets, and the place after it.
-#[tactic(auto, unfolding(crate::specs::NameLists::listed, ber_values::specs::Parts::part_in))]
+#[tactic(auto, unfolding(crate::specs::NameLists::listed_name, ber_values::specs::Parts::part_in))]
 fn take_listed(alloc: Global, octets: &[u8], at: usize) -> Result<(Visible, usize), Stop>
     requires { at + length octets.now < 2 ^ 64 }
-    ensures exact { Answers (taken_from at octets.now) result (listed.reading at octets.now) }
+    ensures exact { Answers (taken_from at octets.now) result (listed_name.reading at octets.now) }
     ensures within { IfOk result (λ x. (at < x.1) × (x.1 ≤ at + length octets.now)) }
 {
     let part = take_part(octets, at, VISIBLE_STRING)?;

@@ -27,7 +27,7 @@ use Rattle.mms_services.specs.Requests.{set_request, one_request}
 use Rattle.mms_services.specs.Responses.{set_response, one_response}
 use Rattle.mms_services.specs.Pdus.{requested, responded, invoke_in, confirmed_request, confirmed_response, frame_pdu, one_pdu, pdu}
 use Rattle.mms_services.specs.Lawful.{IsLawfulResponse}
-use Rattle.mms_services.specs.PduOctets.{request_octets, response_octets, invoke_octets, pdu_octets, IsWritableRequest, IsWritable}
+use Rattle.mms_services.specs.PduOctets.{request_octets, response_octets, invoke_octets, pdu_octets, IsWritableRequest, IsWritablePdu}
 use Rattle.mms_services.specs.Held.{IsHeldRequest, IsHeldResponse, IsHeldPdu}
 use Rattle.ber_values.proofs.Pieces.{contents-few}
 use Rattle.mms_services.proofs.ShortSpelled.{initiate-spelled, error_pdu-spelled, reject_pdu-spelled, identify_request-spelled, identify_response-spelled}
@@ -144,7 +144,7 @@ confirmed_response-spelled at invoke r small lawful held few =
 
 -- ---- PDUs
 
-one_pdu-writes : (at : ℕ) (p : MmsPdu) → IsWritable p → IsHeldPdu p
+one_pdu-writes : (at : ℕ) (p : MmsPdu) → IsWritablePdu p → IsHeldPdu p
     → length (pdu_octets p) < 2 ^ 32 → Writes one_pdu at p (pdu_octets p)
 unfolding one_pdu frame_pdu pdu_octets contents_as fixed
 one_pdu-writes at (pdus.Request invoke r) writable held few rest =
@@ -187,7 +187,7 @@ one_pdu-writes at pdus.Concluded writable held few rest =
     choose-other 160 _ _ at _ _ refl (choose-other 161 _ _ at _ _ refl (choose-other 162 _ _ at _ _ refl (choose-other 163 _ _ at _ _ refl (choose-other 164 _ _ at _ _ refl (choose-other 168 _ _ at _ _ refl (choose-other 169 _ _ at _ _ refl (choose-other 170 _ _ at _ _ refl (choose-other 139 _ _ at _ _ refl
     (part-writes 140 _ at pdus.Concluded [] (omega arith) (tt, refl, refl) rest)))))))))
 
-pub pdu_begins : (p : MmsPdu) → IsWritable p → IsHeldPdu p → length (pdu_octets p) < 2 ^ 32
+pub pdu_begins : (p : MmsPdu) → IsWritablePdu p → IsHeldPdu p → length (pdu_octets p) < 2 ^ 32
     → (at : ℕ) → pdu.begins at (pdu_octets p) (taken p (at + length (pdu_octets p)) [])
 unfolding pdu
 pdu_begins p writable held few at =

@@ -33,7 +33,7 @@ use Rattle.mms_access.specs.Specifications.{sole_name, sole_variable, variable, 
 use Rattle.mms_access.specs.Specifications.{specification, sole_spec}
 use Rattle.mms_access.specs.Reads.{echo_in, read_asked, read_answered, read_request}
 use Rattle.mms_access.specs.Reads.{read_response}
-use Rattle.mms_access.specs.Reports.{reported, results_of, report, report_pdu}
+use Rattle.mms_access.specs.Reports.{reported, report_results, report, report_pdu}
 use Rattle.mms_services.specs.Requests.{unknown_request, set_request, one_request}
 use Rattle.mms_services.specs.Responses.{set_response, one_response}
 use Rattle.mms_services.specs.Pdus.{invoke_in, confirmed_request, confirmed_response, frame_pdu}
@@ -132,7 +132,7 @@ worked :
 unfolding pdu one_pdu confirmed_request confirmed_response frame_pdu invoke_in one_request
     set_request unknown_request one_response set_response read_request read_response echo_in
     specification sole_spec sole_variable sole_name variable variables one_name domain_name
-    identifier identify_request identify_response some_syntaxes report report_pdu results_of
+    identifier identify_request identify_response some_syntaxes report report_pdu report_results
     one_outcome one_datum datum_within plain_datum initiate initiate_detail error_pdu service_error
     error_class coded_in by_first reject_pdu length_in tag_in head_in integer_in unsigned_in gives
     then_in map_in branch_in refused skip by_length pass_in sized_part_in parted_in part_in

@@ -6,16 +6,16 @@ use Rattle.ber_values.specs.Leaves.{octet}
 use Rattle.mms_services.specs.declared.coded.Coded.{Coded}
 
 -- the first octet, where there is one
-abbrev pub first_of : List ℕ → ℕ
-first_of [] = 0
-first_of (first ∷ octets) = first
+abbrev pub first_octet_of : List ℕ → ℕ
+first_octet_of [] = 0
+first_octet_of (first ∷ octets) = first
 
 -- a grammar for each first octet
 unfoldable pub by_first : {X : Type 0} → (ℕ → Grammar X) → Grammar X
 by_first g = record {
-  begins = λ at octets. (g (first_of octets)).begins at octets;
-  fault = λ at octets. (g (first_of octets)).fault at octets;
-  reading = λ at octets. (g (first_of octets)).reading at octets;
+  begins = λ at octets. (g (first_octet_of octets)).begins at octets;
+  fault = λ at octets. (g (first_octet_of octets)).fault at octets;
+  reading = λ at octets. (g (first_octet_of octets)).reading at octets;
 }
 
 abbrev pub is_within : ℕ → ℕ → ℕ → Bool

@@ -114,9 +114,9 @@ IsWritableRequest request = IsLawfulRequest request
 
 -- a PDU that may be written: an initiate has version 1 and lacks nothing, a service is known, and
 -- it doesn't say that no association begins
-abbrev pub IsWritable : MmsPdu → Type 0
-IsWritable (pdus.Request invoke request) = IsWritableRequest request
-IsWritable (pdus.Initiate offer) = IsFullInitiate offer
-IsWritable (pdus.Initiated offer) = IsFullInitiate offer
-IsWritable pdus.InitiateError = ⊥
-IsWritable p = IsLawfulPdu p
+abbrev pub IsWritablePdu : MmsPdu → Type 0
+IsWritablePdu (pdus.Request invoke request) = IsWritableRequest request
+IsWritablePdu (pdus.Initiate offer) = IsFullInitiate offer
+IsWritablePdu (pdus.Initiated offer) = IsFullInitiate offer
+IsWritablePdu pdus.InitiateError = ⊥
+IsWritablePdu p = IsLawfulPdu p

@@ -5,7 +5,7 @@ ghost use Rattle.ber_values.specs.Grammars.{taken};
 ghost use Rattle.mms_services.specs.declared.pdu.MmsPdu.{MmsPdu};
 ghost use Rattle.mms_services.specs.OneNumber.{HasOneNumber};
 ghost use Rattle.mms_services.specs.Pdus.{pdu};
-ghost use Rattle.mms_services.specs.PduOctets.{pdu_octets, IsWritable};
+ghost use Rattle.mms_services.specs.PduOctets.{pdu_octets, IsWritablePdu};
 ghost use Rattle.mms_services.specs.Held.{IsHeldPdu};
 
 /// Octets have one reading: exactly one holds, they spell exactly one PDU, or they have exactly one
@@ -22,6 +22,6 @@ pub fn requests_have_one_number()
 
 /// What is written for a PDU is read back as the same PDU.
 pub fn written_pdus_are_read()
-    ensures { (p : MmsPdu) → IsWritable p → IsHeldPdu p → length (pdu_octets p) < 2 ^ 32
+    ensures { (p : MmsPdu) → IsWritablePdu p → IsHeldPdu p → length (pdu_octets p) < 2 ^ 32
         → (at : ℕ) → pdu.begins at (pdu_octets p) (taken p (at + length (pdu_octets p)) []) }
 {}

@@ -7,7 +7,7 @@ ghost use Rattle.ber_values.specs.declared.lengths.TheConstants.{MOST_LENGTH};
 ghost use Rattle.mms_services.specs.Lawful.{IsLawfulRequest, IsLawfulResponse};
 ghost use Rattle.mms_services.specs.PduOctets.{request_octets, response_octets, invoke_octets};
 ghost use Rattle.mms_services.specs.PduOctets.{pdu_tag, pdu_contents, pdu_octets, pdu_len};
-ghost use Rattle.mms_services.specs.PduOctets.{IsWritable};
+ghost use Rattle.mms_services.specs.PduOctets.{IsWritablePdu};
 ghost use Rattle.ber_values.specs.Stops.{Answers};
 ghost use Rattle.ber_values.specs.Readers.{IsReadBy, taken_from, taken_whole};
 ghost use Rattle.mms_services.specs.Pdus.{confirmed_request, confirmed_response, frame_pdu};
@@ -198,7 +198,7 @@ fn confirmed_response_from(alloc: Global, part: &Part<'_>) -> Result<MmsPdu, Sto
 /// How many octets [`write_pdu`] appends, or 4,294,967,295 where they would be as many or more. The
 /// PDU is one that may be written.
 pub fn pdu_len(pdu: &MmsPdu) -> usize
-    requires { IsWritable pdu.now }
+    requires { IsWritablePdu pdu.now }
     ensures { result ≡ pdu_len pdu.now }
 {
     part_len(contents_len(pdu))
@@ -206,7 +206,7 @@ pub fn pdu_len(pdu: &MmsPdu) -> usize
 
 /// How many octets the contents of a PDU have, capped.
 fn contents_len(pdu: &MmsPdu) -> usize
-    requires { IsWritable pdu.now }
+    requires { IsWritablePdu pdu.now }
     ensures value { result ≡ capped (length (pdu_contents pdu.now)) }
     ensures few { result ≤ MOST_LENGTH }
 {
@@ -272,7 +272,7 @@ fn pdu_tag(pdu: &MmsPdu) -> u8
 /// Appends a PDU. An initiate has version 1, its detail and its nesting; a request isn't unknown;
 /// that no association begins isn't written. After want of memory `out` is as before.
 pub fn write_pdu(out: &mut Vec<u8>, pdu: &MmsPdu) -> Result<(), AllocError>
-    requires writable { IsWritable pdu.now }
+    requires writable { IsWritablePdu pdu.now }
     requires bounded { pdu_len pdu.now < MOST_LENGTH }
     ensures ok { OnOk result (out.new.items ≡ out.old.items ++ pdu_octets pdu.now) }
     ensures err { OnErr result (out.new.items ≡ out.old.items) }
@@ -284,7 +284,7 @@ pub fn write_pdu(out: &mut Vec<u8>, pdu: &MmsPdu) -> Result<(), AllocError>
 
 #[tactic(auto, using(ber_values::proofs::Pieces::extended))]
 fn put_pdu(out: &mut Vec<u8>, pdu: &MmsPdu) -> Result<(), AllocError>
-    requires writable { IsWritable pdu.now }
+    requires writable { IsWritablePdu pdu.now }
     requires bounded { pdu_len pdu.now < MOST_LENGTH }
     ensures ok { OnOk result (out.new.items ≡ out.old.items ++ pdu_octets pdu.now) }
     ensures err { OnErr result (Extends out.old.items out.new.items) }
@@ -296,7 +296,7 @@ fn put_pdu(out: &mut Vec<u8>, pdu: &MmsPdu) -> Result<(), AllocError>
 
 /// Appends the contents of a PDU.
 fn put_contents(out: &mut Vec<u8>, pdu: &MmsPdu) -> Result<(), AllocError>
-    requires writable { IsWritable pdu.now }
+    requires writable { IsWritablePdu pdu.now }
     requires bounded { length (pdu_contents pdu.now) < MOST_LENGTH }
     ensures ok { OnOk result (out.new.items ≡ out.old.items ++ pdu_contents pdu.now) }
     ensures err { OnErr result (Extends out.old.items out.new.items) }

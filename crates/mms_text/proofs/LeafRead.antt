@@ -56,7 +56,7 @@ number-read limit n small most =
 
 -- digits are no number behind a minus
 bare : (ds : List ℕ) (n : ℕ) → 0 < length ds → AllDigits 10 ds → number_in ds ≡ Some n
-    → numbers.integer_in ds ≡ Some (pos n)
+    → numbers.integer_of_word ds ≡ Some (pos n)
 bare [] n some digits e = absurd (omega (arith, some))
 bare (c ∷ cs) n some digits e =
     let k = digit_from_value c digits.0 in
@@ -73,7 +73,7 @@ high_enough : (n : ℕ) → n < 2 ^ 63
 high_enough n h = grind (arith, nat_tests)
 
 pub integer-read : (z : ℤ) → FitsSigned w64 z
-    → numbers.integer_within (negsuc (2 ^ 63 - 1)) (pos (2 ^ 63 - 1)) (signed_decimal z) ≡ Some z
+    → numbers.integer_word_within (negsuc (2 ^ 63 - 1)) (pos (2 ^ 63 - 1)) (signed_decimal z) ≡ Some z
 integer-read (pos n) fits =
     let wide : n < 2 ^ 64 = omega (arith, fits) in
     let numeral = decimal_is_IsNumeral n wide in
@@ -98,7 +98,7 @@ fits-test b fits = grind (arith, nat_tests, fits.fitting, fits.padded)
 
 parts-read : (n : ℕ) (os : List ℕ) → n < 2 ^ 64 → AreOctets os
     → own.is_bits (record { count = n; octets = os }) ≡ true
-    → own.bits_in (decimal n ++ 46 ∷ hex_text os) ≡ Some (bits (record { count = n; octets = os }))
+    → own.bits_word_in (decimal n ++ 46 ∷ hex_text os) ≡ Some (bits (record { count = n; octets = os }))
 parts-read n os small e fits =
     rw (
       position-append (λ c. c == 46) (decimal n) 46 (hex_text os)
@@ -113,7 +113,7 @@ parts-read n os small e fits =
 bits-read : (b : Bits) → IsBits b → b.count < 2 ^ 64
     → own.word_value (data_text (bits b)) ≡ Some (bits b)
 bits-read b fits small =
-    ap own.bits_in (append_assoc (decimal b.count) (46 ∷ []) (hex_text b.octets))
+    ap own.bits_word_in (append_assoc (decimal b.count) (46 ∷ []) (hex_text b.octets))
     ∙ parts-read b.count b.octets small fits.in_octets (fits-test b fits)
 
 visible-test : (os : List ℕ) → IsVisible os → own.is_visible os ≡ true

@@ -10,8 +10,8 @@ use Rattle.mms_text.specs.declared.data_text.Halt.TheVariants as halts
 use Rattle.mms_data.specs.Datum.{Datum, boolean, integer, unsigned, bits, real, octets, text}
 use Rattle.mms_data.specs.Datum.{structure, array, Data, no_data, datum, data_of, depth, deepest}
 use Rattle.mms_text.specs.Texts.{data_text, members_text, further_text}
-use Rattle.mms_text.specs.TextRead.{IsEnd, IsTextual, AreTextual, IsClosing, IsWithin}
-use Rattle.mms_text.specs.TextRead.{AreWithin, BeginsDatum, BreaksDatum, BreaksMembers, Halts}
+use Rattle.mms_text.specs.TextRead.{IsEnd, IsTextual, AreTextual, IsClosing, IsTextWithin}
+use Rattle.mms_text.specs.TextRead.{AreWithin, BeginsDatum, BreaksDatum, BreaksMembers, HaltsInText}
 use Rattle.mms_text.specs.TextRead.{begins_with, Shares, BegunDatum, BegunMembers}
 use Rattle.mms_text.proofs.SameParts.{same_datum, datum_opens, Closes, closes, further_ends}
 use Rattle.mms_text.proofs.SameParts.{Brackets, braces, brackets, first_octet, other_octets}
@@ -29,8 +29,8 @@ pub record SoFar (n close : ℕ) (octets : List ℕ) (members : List Datum) (res
   pub opened : members ≡ [] → begins_with close rest ≡ false
   pub shorter : length rest ≤ length octets
 
-pub halts_as : (h : Halt) (P Q : ℕ → Type 0) → ((left : ℕ) → P left → Q left) → Halts h P
-    → Halts h Q
+pub halts_as : (h : Halt) (P Q : ℕ → Type 0) → ((left : ℕ) → P left → Q left) → HaltsInText h P
+    → HaltsInText h Q
 halts_as halts.Memory P Q each k = tt
 halts_as (halts.Bad left) P Q each k = each left k
 
@@ -107,12 +107,12 @@ opens c inner l spelling s =
 
 -- members of a datum whose text begins with an opening bracket
 inner_of : (open_ close : ℕ) (of : Data → Datum) → Brackets open_ close of → (n m : ℕ)
-    → m ≡ n - 1 → (d : Datum) (tail x : List ℕ) → IsWithin n d → data_text d ++ tail ≡ open_ ∷ x
+    → m ≡ n - 1 → (d : Datum) (tail x : List ℕ) → IsTextWithin n d → data_text d ++ tail ≡ open_ ∷ x
     → (ds : Data) × AreWithin m ds × (x ≡ members_text ds ++ close ∷ tail)
 inner_of open_ close of b n m less d tail x w e =
     let found = b.only d x tail w.parts e in
     let ds : Data = found.0 in
-    let within : IsWithin n (of ds) = subst (λ (y : Datum). IsWithin n y) found.1 w in
+    let within : IsTextWithin n (of ds) = subst (λ (y : Datum). IsTextWithin n y) found.1 w in
     let spelled : (open_ ∷ (members_text ds ++ close ∷ [])) ++ tail ≡ open_ ∷ x =
     ap (λ t. t ++ tail) (sym (b.text_is ds) ∙ ap data_text (sym found.1)) ∙ e in
     let same : (members_text ds ++ close ∷ []) ++ tail ≡ x =
@@ -166,7 +166,7 @@ inside_bracket n m os inner some less opened left k =
     (inside 91 93 array brackets n m inner some less left k)
 
 -- one member more is lawful
-pub within_push : (n : ℕ) (ds : List Datum) (d : Datum) → AreWithin n (data_of ds) → IsWithin n d
+pub within_push : (n : ℕ) (ds : List Datum) (d : Datum) → AreWithin n (data_of ds) → IsTextWithin n d
     → AreWithin n (data_of (ds ++ d ∷ []))
 within_push n [] d a w =
     record { shallow = omega (arith, w.shallow); parts = (w.parts, tt) }
@@ -272,7 +272,7 @@ goes_on : (close : ℕ) (ds : Data) (tail : List ℕ) → GoesOn close (further_
 goes_on close no_data tail = (tail, inr refl)
 goes_on close (datum d ds) tail = ((data_text d ++ further_text ds) ++ close ∷ tail, inl refl)
 
-first_within : (n : ℕ) (d : Datum) (ds : Data) → AreWithin n (datum d ds) → IsWithin n d
+first_within : (n : ℕ) (d : Datum) (ds : Data) → AreWithin n (datum d ds) → IsTextWithin n d
 first_within n d ds w = record { shallow = omega (arith, w.shallow); parts = w.parts.0 }
 
 not_first : (c : ℕ) (os t : List ℕ) → begins_with c os ≡ false → os ≡ c ∷ t → ⊥
@@ -283,7 +283,7 @@ not_first c (x ∷ xs) t e k =
 -- no front part is longer, where none of what is still to be read is
 longest_so_far : (n close : ℕ) (os : List ℕ) (before : List Datum) (rest : List ℕ) → Closes close
     → SoFar n close os before rest → (left : ℕ) → left ≤ length rest
-    → ((d : Datum) (behind : List ℕ) → IsWithin n d → GoesOn close behind
+    → ((d : Datum) (behind : List ℕ) → IsTextWithin n d → GoesOn close behind
     → IsEnd behind → (l : ℕ) → Shares rest l (data_text d ++ behind) → left ≤ l)
     → (ds : Data) (tail : List ℕ) → AreWithin n ds → (l : ℕ)
     → Shares os l (members_text ds ++ close ∷ tail) → left ≤ l
@@ -329,7 +329,7 @@ longest_so_far n close os before rest c s left few next ds tail w l share =
 -- and it is no text of members
 unspelled_so_far : (n close : ℕ) (os : List ℕ) (before : List Datum) (rest : List ℕ)
     → Closes close → SoFar n close os before rest
-    → ((d : Datum) (behind : List ℕ) → IsWithin n d → GoesOn close behind → IsEnd behind
+    → ((d : Datum) (behind : List ℕ) → IsTextWithin n d → GoesOn close behind → IsEnd behind
     → rest ≢ data_text d ++ behind)
     → (ds : Data) (tail : List ℕ) → AreWithin n ds → os ≢ members_text ds ++ close ∷ tail
 unspelled_so_far n close os before rest c s next ds tail w e =

@@ -149,7 +149,7 @@ negative-found (suc n) z e long =
     same long) in
     (omega (arith, small), ap signed_decimal same)
 
-signed_in-found : (word : List ℕ) (z : ℤ) → numbers.integer_in word ≡ Some z
+signed_in-found : (word : List ℕ) (z : ℤ) → numbers.integer_of_word word ≡ Some z
     → (int_le (negsuc (2 ^ 63 - 1)) z && int_le z (pos (2 ^ 63 - 1))) ≡ true
     → word ≡ signed_decimal z
 signed_in-found [] z e long = absurd cc
@@ -179,14 +179,14 @@ signed-fits (pos n) e = omega (arith, small_positive n e)
 signed-fits (negsuc n) e = omega (arith, small_negative n e)
 
 signed-found : (word : List ℕ) (z : ℤ)
-    → numbers.integer_within (negsuc (2 ^ 63 - 1)) (pos (2 ^ 63 - 1)) word ≡ Some z
+    → numbers.integer_word_within (negsuc (2 ^ 63 - 1)) (pos (2 ^ 63 - 1)) word ≡ Some z
     → (word ≡ signed_decimal z) × FitsSigned w64 z
 signed-found word z e =
     let p = passes (λ y. int_le (negsuc (2 ^ 63 - 1)) y && int_le y (pos (2 ^ 63 - 1)))
-    (numbers.integer_in word) z e in
+    (numbers.integer_of_word word) z e in
     (signed_in-found word z p.0 p.1, signed-fits z p.1)
 
-boolean-found : (b : Bool) (held : List ℕ) (d : Datum) → own.boolean_in b held ≡ Some d
+boolean-found : (b : Bool) (held : List ℕ) (d : Datum) → own.boolean_word_in b held ≡ Some d
     → (held ≡ []) × (d ≡ boolean b)
 boolean-found b [] d e = (refl, cc)
 boolean-found b (c ∷ cs) d e = absurd cc
@@ -214,11 +214,11 @@ bits_fit count os e octets_are =
     let p = and_parts _ _ e in
     record { fitting = is_same _ _ p.0; in_octets = octets_are; padded = is_same _ _ p.1 }
 
-bits-found : (held : List ℕ) (d : Datum) → own.bits_in held ≡ Some d
+bits-found : (held : List ℕ) (d : Datum) → own.bits_word_in held ≡ Some d
     → IsWord (98 ∷ held) d
 bits-found held d e =
-    option_and_then_some (λ point. own.bits_with (take point held) (drop (point + 1) held))
-    (own.point_in held) d e
+    option_and_then_some (λ point. own.bits_word_with (take point held) (drop (point + 1) held))
+    (own.point_word_in held) d e
     (λ point point_is whole.
     let count = take point held in
     let digits = drop (point + 1) held in
@@ -250,7 +250,7 @@ bits-found held d e =
 visible-fits : (os : List ℕ) → own.is_visible os ≡ true → IsVisible os
 visible-fits os e = let p = and_parts _ _ e in (is_most _ _ p.0, p.1)
 
-text-found : (held : List ℕ) (d : Datum) → own.text_in held ≡ Some d → IsWord (118 ∷ held) d
+text-found : (held : List ℕ) (d : Datum) → own.text_word_in held ≡ Some d → IsWord (118 ∷ held) d
 text-found held d e =
     option_map-found text (option_and_then (if_passes own.is_visible) (unescaped held)) d e
     (λ os os_is d_is.

@@ -41,7 +41,7 @@ abbrev mutual
   AreTextual (datum d ds) = IsTextual d × AreTextual ds
 
 -- at most so many levels, and parts that a text spells
-pub record IsWithin (n : ℕ) (d : Datum) : Type 0 where
+pub record IsTextWithin (n : ℕ) (d : Datum) : Type 0 where
   pub shallow : depth d ≤ n
   pub parts : IsTextual d
 
@@ -52,7 +52,7 @@ pub record AreWithin (n : ℕ) (ds : Data) : Type 0 where
 
 -- a datum that a text spells
 abbrev pub HasText : Datum → Type 0
-HasText d = IsWithin MOST_DEPTH d
+HasText d = IsTextWithin MOST_DEPTH d
 
 -- octets that stand at the front of the text of a datum
 pub record IsFront (front : List ℕ) : Type 0 where
@@ -97,7 +97,7 @@ IsEnd (c ∷ more) = IsTrue (is_mark c)
 pub record BeginsDatum (n : ℕ) (os : List ℕ) (d : Datum) (rest : List ℕ) : Type 0 where
   pub spelled : os ≡ data_text d ++ rest
   pub whole : IsLeaf d → IsEnd rest
-  pub lawful : IsWithin n d
+  pub lawful : IsTextWithin n d
 
 -- whether this octet is the first
 abbrev pub begins_with : ℕ → List ℕ → Bool
@@ -120,7 +120,7 @@ pub record Shares (os : List ℕ) (left : ℕ) (spelling : List ℕ) : Type 0 wh
 -- a datum of at most so many levels, whose text begins with a front part of this one
 pub record BegunDatum (n : ℕ) (os : List ℕ) (left : ℕ) : Type 0 where
   pub value : Datum
-  pub lawful : IsWithin n value
+  pub lawful : IsTextWithin n value
   pub shares : Shares os left (data_text value)
 
 -- a text does not begin with a datum of at most so many levels, and from its first bad place on it
@@ -128,9 +128,9 @@ pub record BegunDatum (n : ℕ) (os : List ℕ) (left : ℕ) : Type 0 where
 pub record BreaksDatum (n : ℕ) (os : List ℕ) (left : ℕ) : Type 0 where
   pub none : n ≡ 0 → left ≡ length os
   pub begins : 0 < n → BegunDatum n os left
-  pub longest : (d : Datum) (tail : List ℕ) → IsWithin n d → IsEnd tail → (l : ℕ)
+  pub longest : (d : Datum) (tail : List ℕ) → IsTextWithin n d → IsEnd tail → (l : ℕ)
       → Shares os l (data_text d ++ tail) → left ≤ l
-  pub unspelled : (d : Datum) (tail : List ℕ) → IsWithin n d → IsEnd tail
+  pub unspelled : (d : Datum) (tail : List ℕ) → IsTextWithin n d → IsEnd tail
       → os ≢ data_text d ++ tail
 
 -- members of at most so many levels, whose text begins with a front part of this one
@@ -153,6 +153,6 @@ abbrev pub BreaksBefore : List ℕ → ℕ → Type 0
 BreaksBefore os left = (place : ℕ) → place + left ≡ length os → BreaksAt os place
 
 -- a reading stopped because of the text, and with so many octets left
-abbrev pub Halts : Halt → (ℕ → Type 0) → Type 0
-Halts halts.Memory P = Unit {0}
-Halts (halts.Bad left) P = P left
+abbrev pub HaltsInText : Halt → (ℕ → Type 0) → Type 0
+HaltsInText halts.Memory P = Unit {0}
+HaltsInText (halts.Bad left) P = P left

@@ -5,7 +5,8 @@ use Rattle.std.specs.Prelude.{if◌then◌else◌, List, [], ◌∷◌, length, 
 use Rattle.std.specs.Prelude.{option_map, option_and_then, negsuc, true, false}
 use Rattle.std.proofs.Common.{take, drop}
 use Rattle.std.specs.List.{list_all, position}
-use Rattle.plain_text.specs.Numbers.{number_up_to, integer_within, hex_in, hex_octets, if_passes}
+use Rattle.plain_text.specs.Numbers.{number_up_to, integer_word_within, hex_in, hex_octets}
+use Rattle.plain_text.specs.Numbers.{if_passes}
 use Rattle.plain_text.specs.Escaped.{unescaped}
 use Rattle.ber_values.specs.Bits.{Bits}
 use Rattle.ber_values.specs.Visible.{is_visible_octet}
@@ -37,9 +38,9 @@ abbrev pub after_word : List ℕ → List ℕ
 after_word os = from (mark_in os) os
 
 -- a truth value, behind which nothing stands
-abbrev pub boolean_in : Bool → List ℕ → Option Datum
-boolean_in b [] = Some (boolean b)
-boolean_in b (first ∷ more) = None
+abbrev pub boolean_word_in : Bool → List ℕ → Option Datum
+boolean_word_in b [] = Some (boolean b)
+boolean_word_in b (first ∷ more) = None
 
 -- the bits fill their octets but for the end of the last one, which is zero
 abbrev pub is_bits : Bits → Bool
@@ -52,52 +53,53 @@ bits_of count held =
     option_map bits (if_passes is_bits (record { count = count; octets = held }))
 
 -- a number of bits, and the octets
-abbrev pub bits_with : List ℕ → List ℕ → Option Datum
-bits_with count digits =
+abbrev pub bits_word_with : List ℕ → List ℕ → Option Datum
+bits_word_with count digits =
     option_and_then
     (λ n. option_and_then (λ held. bits_of n held) (hex_in digits))
     (number_up_to (2 ^ 64 - 1) count)
 
-abbrev pub point_in : List ℕ → Option ℕ
-point_in held = position (λ octet. octet == 46) held
+abbrev pub point_word_in : List ℕ → Option ℕ
+point_word_in held = position (λ octet. octet == 46) held
 
 -- a point stands between them
-abbrev pub bits_in : List ℕ → Option Datum
-bits_in held =
-    option_and_then (λ point. bits_with (take point held) (drop (point + 1) held)) (point_in held)
+abbrev pub bits_word_in : List ℕ → Option Datum
+bits_word_in held =
+    option_and_then (λ point. bits_word_with (take point held) (drop (point + 1) held))
+    (point_word_in held)
 
 -- octets that visible text may have
 abbrev pub is_visible : List ℕ → Bool
 is_visible os = nat_le (length os) VISIBLE_LIMIT && list_all is_visible_octet os
 
 -- the escaped octets of visible text
-abbrev pub text_in : List ℕ → Option Datum
-text_in held = option_map text (option_and_then (if_passes is_visible) (unescaped held))
+abbrev pub text_word_in : List ℕ → Option Datum
+text_word_in held = option_map text (option_and_then (if_passes is_visible) (unescaped held))
 
-abbrev pub integer_in : List ℕ → Option Datum
-integer_in held =
-    option_map integer (integer_within (negsuc (2 ^ 63 - 1)) (pos (2 ^ 63 - 1)) held)
+abbrev pub integer_word_in : List ℕ → Option Datum
+integer_word_in held =
+    option_map integer (integer_word_within (negsuc (2 ^ 63 - 1)) (pos (2 ^ 63 - 1)) held)
 
-abbrev pub unsigned_in : List ℕ → Option Datum
-unsigned_in held = option_map unsigned (number_up_to (2 ^ 63 - 1) held)
+abbrev pub unsigned_word_in : List ℕ → Option Datum
+unsigned_word_in held = option_map unsigned (number_up_to (2 ^ 63 - 1) held)
 
-abbrev pub real_in : List ℕ → Option Datum
-real_in held = option_map real (hex_octets 4 held)
+abbrev pub real_word_in : List ℕ → Option Datum
+real_word_in held = option_map real (hex_octets 4 held)
 
-abbrev pub octets_in : List ℕ → Option Datum
-octets_in held = option_map octets (hex_in held)
+abbrev pub octets_word_in : List ℕ → Option Datum
+octets_word_in held = option_map octets (hex_in held)
 
 -- the value that a letter and what stands behind it are
 abbrev pub value_in : ℕ → List ℕ → Option Datum
 value_in kind held =
-    if kind == 84 then boolean_in true held
-    else (if kind == 70 then boolean_in false held
-    else (if kind == 105 then integer_in held
-    else (if kind == 117 then unsigned_in held
-    else (if kind == 98 then bits_in held
-    else (if kind == 102 then real_in held
-    else (if kind == 111 then octets_in held
-    else (if kind == 118 then text_in held
+    if kind == 84 then boolean_word_in true held
+    else (if kind == 70 then boolean_word_in false held
+    else (if kind == 105 then integer_word_in held
+    else (if kind == 117 then unsigned_word_in held
+    else (if kind == 98 then bits_word_in held
+    else (if kind == 102 then real_word_in held
+    else (if kind == 111 then octets_word_in held
+    else (if kind == 118 then text_word_in held
     else None)))))))
 
 -- the value that a word is

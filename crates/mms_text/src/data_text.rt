@@ -6,7 +6,7 @@ ghost use Rattle.mms_data.specs.Datum.{Datum, data_of};
 ghost use Rattle.mms_data.specs.Lawful.{IsLawful};
 ghost use Rattle.mms_text.specs.Texts.{data_text, members_text};
 ghost use Rattle.mms_text.specs.TextRead.{HasText, BreaksAt, BreaksBefore, BeginsDatum, AreWithin};
-ghost use Rattle.mms_text.specs.TextRead.{BreaksMembers, BreaksDatum, Halts, IsClosing};
+ghost use Rattle.mms_text.specs.TextRead.{BreaksMembers, BreaksDatum, HaltsInText, IsClosing};
 ghost use Rattle.mms_text.specs.TextRead.{begins_with};
 
 use crate::word_front::word_front;
@@ -54,8 +54,8 @@ pub fn read_data_text(alloc: Global, text: &[u8]) -> Result<Result<MmsData, usiz
 /// The value that a text is.
 fn whole(alloc: Global, text: &[u8]) -> Result<MmsData, Halt>
     ensures found { IfOk result (λ d. BeginsDatum MOST_DEPTH text.now d []) }
-    ensures fault { IfErr result (λ halt. Halts halt (λ left. BreaksBefore text.now left)) }
-    ensures within { IfErr result (λ halt. Halts halt (λ left. left ≤ length text.now)) }
+    ensures fault { IfErr result (λ halt. HaltsInText halt (λ left. BreaksBefore text.now left)) }
+    ensures within { IfErr result (λ halt. HaltsInText halt (λ left. left ≤ length text.now)) }
 {
     let (value, rest) = datum_at(alloc, text, MOST_DEPTH)?;
     if rest.is_empty() {
@@ -69,8 +69,9 @@ fn whole(alloc: Global, text: &[u8]) -> Result<MmsData, Halt>
 #[cycle(levels)]
 fn datum_at<'a>(alloc: Global, text: &'a [u8], levels: u8) -> Result<(MmsData, &'a [u8]), Halt>
     ensures found { IfOk result (λ x. BeginsDatum levels text.now x.0 x.1.now) }
-    ensures fault { IfErr result (λ halt. Halts halt (λ left. BreaksDatum levels text.now left)) }
-    ensures within { IfErr result (λ halt. Halts halt (λ left. left ≤ length text.now)) }
+    ensures fault { IfErr result (λ halt. HaltsInText halt
+        (λ left. BreaksDatum levels text.now left)) }
+    ensures within { IfErr result (λ halt. HaltsInText halt (λ left. left ≤ length text.now)) }
 {
     if levels == 0 {
         return Err(Halt::Bad(text.len()));
@@ -98,9 +99,9 @@ fn members_at<'a>(
     ensures found { IfOk result
         (λ x. text.now ≡ members_text (data_of x.0) ++ close ∷ x.1.now) }
     ensures lawful { IfOk result (λ x. AreWithin levels (data_of x.0)) }
-    ensures fault { IfErr result (λ halt. Halts halt
+    ensures fault { IfErr result (λ halt. HaltsInText halt
         (λ left. BreaksMembers levels close text.now left)) }
-    ensures within { IfErr result (λ halt. Halts halt (λ left. left ≤ length text.now)) }
+    ensures within { IfErr result (λ halt. HaltsInText halt (λ left. left ≤ length text.now)) }
 {
     let mut members = DataList::new(alloc);
     if let Some(rest) = behind(text, close) {
@@ -126,8 +127,9 @@ fn word_at<'a>(alloc: Global, text: &'a [u8], levels: u8) -> Result<(MmsData, &'
     requires brace { begins_with 123 text.now ≡ false }
     requires bracket { begins_with 91 text.now ≡ false }
     ensures found { IfOk result (λ x. BeginsDatum levels text.now x.0 x.1.now) }
-    ensures fault { IfErr result (λ halt. Halts halt (λ left. BreaksDatum levels text.now left)) }
-    ensures within { IfErr result (λ halt. Halts halt (λ left. left ≤ length text.now)) }
+    ensures fault { IfErr result (λ halt. HaltsInText halt
+        (λ left. BreaksDatum levels text.now left)) }
+    ensures within { IfErr result (λ halt. HaltsInText halt (λ left. left ≤ length text.now)) }
 {
     let (word, rest) = split_word(text);
     match word_value(alloc, word)? {

@@ -55,7 +55,7 @@ fn value_in(alloc: Global, kind: u8, held: &[u8]) -> Result<Option<MmsData>, All
 }
 
 fn boolean_in(boolean: bool, held: &[u8]) -> Option<MmsData>
-    ensures { result ≡ own.boolean_in boolean held.now }
+    ensures { result ≡ own.boolean_word_in boolean held.now }
 {
     if held.is_empty() {
         Some(MmsData::new(DataKind::Boolean(boolean)))
@@ -65,25 +65,25 @@ fn boolean_in(boolean: bool, held: &[u8]) -> Option<MmsData>
 }
 
 fn integer_in(held: &[u8]) -> Option<MmsData>
-    ensures { result ≡ own.integer_in held.now }
+    ensures { result ≡ own.integer_word_in held.now }
 {
     Some(MmsData::new(DataKind::Integer(read_integer(held, i64::MIN, i64::MAX)?)))
 }
 
 fn unsigned_in(held: &[u8]) -> Option<MmsData>
-    ensures { result ≡ own.unsigned_in held.now }
+    ensures { result ≡ own.unsigned_word_in held.now }
 {
     Some(MmsData::new(DataKind::Unsigned(read_number(held, (1 << 63) - 1)?)))
 }
 
 fn real_in(held: &[u8]) -> Option<MmsData>
-    ensures { result ≡ own.real_in held.now }
+    ensures { result ≡ own.real_word_in held.now }
 {
     Some(MmsData::new(DataKind::Real(read_hex_four(held)?)))
 }
 
 fn octets_in(alloc: Global, held: &[u8]) -> Result<Option<MmsData>, AllocError>
-    ensures { IfOk result (λ value. value ≡ own.octets_in held.now) }
+    ensures { IfOk result (λ value. value ≡ own.octets_word_in held.now) }
 {
     let Some(octets) = read_hex(alloc, held)? else {
         return Ok(None);
@@ -93,7 +93,7 @@ fn octets_in(alloc: Global, held: &[u8]) -> Result<Option<MmsData>, AllocError>
 }
 
 fn text_in(alloc: Global, held: &[u8]) -> Result<Option<MmsData>, AllocError>
-    ensures { IfOk result (λ value. value ≡ own.text_in held.now) }
+    ensures { IfOk result (λ value. value ≡ own.text_word_in held.now) }
 {
     let Some(octets) = read_escaped(alloc, held)? else {
         return Ok(None);
@@ -105,7 +105,7 @@ fn text_in(alloc: Global, held: &[u8]) -> Result<Option<MmsData>, AllocError>
 }
 
 fn bits_in(alloc: Global, held: &[u8]) -> Result<Option<MmsData>, AllocError>
-    ensures { IfOk result (λ value. value ≡ own.bits_in held.now) }
+    ensures { IfOk result (λ value. value ≡ own.bits_word_in held.now) }
 {
     match find_point(held) {
         Some(point) => bits_at(alloc, &held[..point], &held[point + 1..]),
@@ -114,14 +114,14 @@ fn bits_in(alloc: Global, held: &[u8]) -> Result<Option<MmsData>, AllocError>
 }
 
 fn find_point(held: &[u8]) -> Option<usize>
-    ensures { result ≡ own.point_in held.now }
+    ensures { result ≡ own.point_word_in held.now }
 {
     held.iter().position(|octet| *octet == b'.')
 }
 
 /// So many bits in octets.
 fn bits_at(alloc: Global, count: &[u8], digits: &[u8]) -> Result<Option<MmsData>, AllocError>
-    ensures { IfOk result (λ value. value ≡ own.bits_with count.now digits.now) }
+    ensures { IfOk result (λ value. value ≡ own.bits_word_with count.now digits.now) }
 {
     let Some(count) = read_number(count, u64::MAX) else {
         return Ok(None);

@@ -13,7 +13,7 @@ use Rattle.mms_data.specs.Datum.{Datum}
 use Rattle.mms_data.specs.ObjectName.{ObjectName}
 use Rattle.mms_data.specs.declared.outcome.Outcome.TheVariants.{Good}
 use Rattle.point_data.specs.Shown.{shown_as}
-use Rattle.point_db.specs.Updates.{last_value, change_count, kind_of}
+use Rattle.point_db.specs.Updates.{last_value, change_count, kind_at}
 use Rattle.point_db.specs.Stored.{Stored as PointsStored, Keeps as KeepsPoints}
 use Rattle.bilateral.specs.declared.rows.PointRow.{PointRow}
 use Rattle.bilateral.specs.declared.rows.See.{See}
@@ -33,7 +33,7 @@ use Rattle.node_core.proofs.Views.{values_in-view_of}
 
 -- the kind of a point of the centre
 kind_there : (rows : CentreRows) (p : ℕ) → p < length rows.points
-    → kind_of (kinds_of rows) p ≡ (point_of rows p).kind
+    → kind_at (kinds_of rows) p ≡ (point_of rows p).kind
 kind_there rows p there =
     ap (λ o. unwrap_or o State) (slice_get-map (λ (row : PointRow). row.kind) rows.points p
     ∙ ap (option_map (λ (row : PointRow). row.kind))

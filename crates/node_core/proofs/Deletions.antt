@@ -10,7 +10,7 @@ use Rattle.std.proofs.lemmas.Slice.Eq.{bytes_eq-Decides}
 use Rattle.mms_data.specs.declared.object_name.Scope.TheVariants.{Domain}
 use Rattle.mms_data.specs.ObjectName.{ObjectName, same_scope}
 use Rattle.data_sets.specs.declared.book.DataSet.{DataSet}
-use Rattle.data_sets.specs.Books.{Book, is_named, members_in, deleted}
+use Rattle.data_sets.specs.Books.{Book, is_set_named, members_in, deleted}
 use Rattle.tase_views.specs.OwnTable.{OwnTable}
 use Rattle.tase_views.specs.View.{View, own, deletes}
 use Rattle.tase_views.specs.Sets.{Deletion, one_deletion, deletion_of, members_of}
@@ -57,7 +57,7 @@ absent item set (other ∷ sets) same all =
   where
     by : (b : Bool) → bytes_eq other.name item ≡ b → members_in sets item ≡ None
         → option_map (λ (s : DataSet). s.members)
-        (if b then Some other else find (is_named item) sets) ≡ None
+        (if b then Some other else find (is_set_named item) sets) ≡ None
     by true e rest =
         absurd (All-head (Differ set) other sets all
         (same ∙ sym ((bytes_eq-Decides other.name item).0 e)))
@@ -79,8 +79,8 @@ one_more set xs ys false false e = e
 split : (item : List ℕ) (q : DataSet → Bool) (sets : List DataSet) → AllPairs Differ sets
     → length (filter (λ s. bytes_eq item s.name || q s) sets)
     ≡ (if is_some (members_in sets item)
-    then suc (length (filter q (filter (λ s. not (is_named item s)) sets)))
-    else length (filter q (filter (λ s. not (is_named item s)) sets)))
+    then suc (length (filter q (filter (λ s. not (is_set_named item s)) sets)))
+    else length (filter q (filter (λ s. not (is_set_named item s)) sets)))
 split item q [] once = refl
 split item q (set ∷ sets) once =
     by (bytes_eq set.name item) refl (split item q sets (AllPairs-tail Differ set sets once))
@@ -88,17 +88,17 @@ split item q (set ∷ sets) once =
     by : (c : Bool) → bytes_eq set.name item ≡ c
         → length (filter (λ s. bytes_eq item s.name || q s) sets)
         ≡ (if is_some (members_in sets item)
-        then suc (length (filter q (filter (λ s. not (is_named item s)) sets)))
-        else length (filter q (filter (λ s. not (is_named item s)) sets)))
+        then suc (length (filter q (filter (λ s. not (is_set_named item s)) sets)))
+        else length (filter q (filter (λ s. not (is_set_named item s)) sets)))
         → length (if bytes_eq item set.name || q set
         then set ∷ filter (λ s. bytes_eq item s.name || q s) sets
         else filter (λ s. bytes_eq item s.name || q s) sets)
         ≡ (if is_some (option_map (λ (s : DataSet). s.members)
-        (if c then Some set else find (is_named item) sets))
-        then suc (length (filter q (if not c then set ∷ filter (λ s. not (is_named item s)) sets
-        else filter (λ s. not (is_named item s)) sets)))
-        else length (filter q (if not c then set ∷ filter (λ s. not (is_named item s)) sets
-        else filter (λ s. not (is_named item s)) sets)))
+        (if c then Some set else find (is_set_named item) sets))
+        then suc (length (filter q (if not c then set ∷ filter (λ s. not (is_set_named item s)) sets
+        else filter (λ s. not (is_set_named item s)) sets)))
+        else length (filter q (if not c then set ∷ filter (λ s. not (is_set_named item s)) sets
+        else filter (λ s. not (is_set_named item s)) sets)))
     by true e rest =
         let same : set.name ≡ item = (bytes_eq-Decides set.name item).0 e in
         let none : members_in sets item ≡ None =
@@ -107,7 +107,7 @@ split item q (set ∷ sets) once =
     by false e rest =
         rw (turned set.name item false e)
         (one_more set (filter (λ s. bytes_eq item s.name || q s) sets)
-        (filter q (filter (λ s. not (is_named item s)) sets)) (q set)
+        (filter q (filter (λ s. not (is_set_named item s)) sets)) (q set)
         (is_some (members_in sets item)) rest)
 
 -- whether a data set of the domain is among those that are named

@@ -18,7 +18,7 @@ use Rattle.mms_data.specs.ObjectName.{ObjectName, IsIdentifier, same_scope}
 use Rattle.table_words.specs.Words.{is_identifier}
 use Rattle.data_sets.specs.declared.book.DataSet.{DataSet}
 use Rattle.data_sets.specs.declared.book.TheConstants.{MOST_MEMBERS}
-use Rattle.data_sets.specs.Books.{Book, is_named, members_in, defined, deleted}
+use Rattle.data_sets.specs.Books.{Book, is_set_named, members_in, defined, deleted}
 use Rattle.tase_views.specs.declared.reply.TheConstants.{ACCESS_ERRORS, ACCESS_DENIED}
 use Rattle.tase_views.specs.declared.reply.TheConstants.{DEFINITION_ERRORS, UNDEFINED, EXISTS}
 use Rattle.tase_views.specs.declared.reply.TheConstants.{RESOURCE_ERRORS, OTHER}
@@ -47,13 +47,13 @@ found_behind name (set ∷ sets) new b e none =
     by (bytes_eq set.name name) none (found_behind name sets new b e)
   where
     by : (c : Bool)
-        → option_map (λ (s : DataSet). s.members) (if c then Some set else find (is_named name)
+        → option_map (λ (s : DataSet). s.members) (if c then Some set else find (is_set_named name)
         sets)
         ≡ None
         → (members_in sets name ≡ None
         → members_in (sets ++ new ∷ []) name ≡ (if b then Some new.members else None))
         → option_map (λ (s : DataSet). s.members)
-        (if c then Some set else find (is_named name) (sets ++ new ∷ []))
+        (if c then Some set else find (is_set_named name) (sets ++ new ∷ []))
         ≡ (if b then Some new.members else None)
     by true n rest = absurd (none-some set.members (sym n))
     by false n rest = rest n
@@ -67,8 +67,8 @@ found_before name (set ∷ sets) new e =
   where
     by : (c : Bool) → members_in (sets ++ new ∷ []) name ≡ members_in sets name
         → option_map (λ (s : DataSet). s.members)
-        (if c then Some set else find (is_named name) (sets ++ new ∷ []))
-        ≡ option_map (λ (s : DataSet). s.members) (if c then Some set else find (is_named name)
+        (if c then Some set else find (is_set_named name) (sets ++ new ∷ []))
+        ≡ option_map (λ (s : DataSet). s.members) (if c then Some set else find (is_set_named name)
         sets)
     by true rest = refl
     by false rest = rest
@@ -77,7 +77,7 @@ found_before name (set ∷ sets) new e =
 
 found_left : (name : List ℕ) (gone : List ℕ) (sets : List DataSet) (b : Bool)
     → bytes_eq gone name ≡ b
-    → members_in (filter (λ set. not (is_named gone set)) sets) name
+    → members_in (filter (λ set. not (is_set_named gone set)) sets) name
     ≡ (if b then None else members_in sets name)
 found_left name gone [] true e = refl
 found_left name gone [] false e = refl
@@ -93,12 +93,12 @@ found_left name gone (set ∷ sets) b e =
         absurd (false≢true (sym g ∙ (bytes_eq-Decides set.name gone).1 same))
 
     by : (c d : Bool) → bytes_eq set.name gone ≡ c → bytes_eq set.name name ≡ d
-        → members_in (filter (λ s. not (is_named gone s)) sets) name
+        → members_in (filter (λ s. not (is_set_named gone s)) sets) name
         ≡ (if b then None else members_in sets name)
-        → members_in (if not c then set ∷ filter (λ s. not (is_named gone s)) sets
-        else filter (λ s. not (is_named gone s)) sets) name
+        → members_in (if not c then set ∷ filter (λ s. not (is_set_named gone s)) sets
+        else filter (λ s. not (is_set_named gone s)) sets) name
         ≡ (if b then None else option_map (λ (s : DataSet). s.members)
-        (if d then Some set else find (is_named name) sets))
+        (if d then Some set else find (is_set_named name) sets))
     by true true g n rest =
         let same : gone ≡ name =
         sym ((bytes_eq-Decides set.name gone).0 g) ∙ (bytes_eq-Decides set.name name).0 n in
@@ -183,7 +183,7 @@ others_named name (set ∷ sets) none =
     by (bytes_eq set.name name) refl none (others_named name sets)
   where
     by : (c : Bool) → bytes_eq set.name name ≡ c
-        → option_map (λ (s : DataSet). s.members) (if c then Some set else find (is_named name)
+        → option_map (λ (s : DataSet). s.members) (if c then Some set else find (is_set_named name)
         sets)
         ≡ None
         → (members_in sets name ≡ None → All (λ (s : DataSet). s.name ≢ name) sets)
@@ -268,17 +268,17 @@ IsBook-deleted table view book ordinal set scope b = record {
   limit = b.limit;
   few = omega (
     arith,
-    length-filter_both (λ s. not (is_named set.item s)) (λ s. not (not (is_named set.item s)))
+    length-filter_both (λ s. not (is_set_named set.item s)) (λ s. not (not (is_set_named set.item s)))
         (λ s. refl) book.sets,
     b.few,
   );
   members = λ name. found_left name set.item book.sets (bytes_eq set.item name) refl
       ∙ rw scope (by name (bytes_eq set.item name));
   once = AllPairs-filter (λ (x y : DataSet). x.name ≢ y.name)
-      (λ s. not (is_named set.item s)) book.sets b.once;
-  named = All-filter (λ s. not (is_named set.item s)) (λ (s : DataSet). IsIdentifier s.name)
+      (λ s. not (is_set_named set.item s)) book.sets b.once;
+  named = All-filter (λ s. not (is_set_named set.item s)) (λ (s : DataSet). IsIdentifier s.name)
       book.sets b.named;
-  some = All-filter (λ s. not (is_named set.item s)) (λ (s : DataSet). 0 < length s.members)
+  some = All-filter (λ s. not (is_set_named set.item s)) (λ (s : DataSet). 0 < length s.members)
       book.sets b.some;
 }
   where
@@ -327,7 +327,7 @@ found_some name (set ∷ sets) members found all =
     (All-tail (λ (s : DataSet). 0 < length s.members) set sets all))
   where
     by : (c : Bool)
-        → option_map (λ (s : DataSet). s.members) (if c then Some set else find (is_named name)
+        → option_map (λ (s : DataSet). s.members) (if c then Some set else find (is_set_named name)
         sets)
         ≡ Some members
         → (members_in sets name ≡ Some members → 0 < length members) → 0 < length members

@@ -11,7 +11,7 @@ use Rattle.std.proofs.lemmas.List.Elements.{All-head, All-tail}
 use Rattle.std.proofs.lemmas.Slice.Eq.{bytes_eq-Decides}
 use Rattle.mms_data.specs.ObjectName.{ObjectName, same_name}
 use Rattle.data_sets.specs.declared.book.DataSet.{DataSet}
-use Rattle.data_sets.specs.Books.{Book, is_named, members_in}
+use Rattle.data_sets.specs.Books.{Book, is_set_named, members_in}
 use Rattle.tase_views.specs.OwnTable.{OwnTable, domain_name}
 use Rattle.tase_views.specs.NameLists.{with_name, in_order, is_below}
 use Rattle.tase_views.specs.View.{defines, deletes, opens, takes, closes, reads, writes, calls}
@@ -165,7 +165,7 @@ book_count z (set ∷ sets) once =
         → count_of z (book_names sets) ≡ once_if (is_some (members_in sets z))
         → one_if z set.name + count_of z (book_names sets)
         ≡ once_if (is_some (option_map (λ (s : DataSet). s.members)
-        (if b then Some set else find (is_named z) sets)))
+        (if b then Some set else find (is_set_named z) sets)))
     by true e rest =
         let same : set.name ≡ z = (bytes_eq-Decides set.name z).0 e in
         let none : count_of set.name (book_names sets) ≡ 0 =

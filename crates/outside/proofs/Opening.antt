@@ -7,7 +7,7 @@ use Rattle.std.proofs.lemmas.Slice.Eq.{bytes_eq-Decides}
 use Rattle.outside.specs.Faults.{counted}
 use Rattle.outside.specs.Source.{SourceTold}
 use Rattle.outside.specs.Sink.{SinkTold}
-use Rattle.outside.specs.Outside.{OutsideTold, OpensIn, ClosesIn, OpensOut, ClosesOut, NameEntry, untold, missing, lent, there, lent_from, put_back_at, HandsOut, Changes, Acts, Asks}
+use Rattle.outside.specs.Outside.{OutsideTold, OpensIn, ClosesIn, OpensOut, ClosesOut, NameEntry, untold, missing, lent, there, lent_from, put_back_at, HandsOutObject, Changes, Acts, Asks}
 
 pub bytes_are : (xs ys : List ℕ) → bytes_eq xs ys ≡ true → xs ≡ ys
 bytes_are xs ys = (bytes_eq-Decides xs ys).0
@@ -56,12 +56,12 @@ module _ {X : Type 0} where
   -- an open that hands out nothing changes nothing
   pub opened_nothing : (name_of : X → List ℕ) (faults_of : X → ℕ)
       (before after : List ℕ → NameEntry X) (name n : List ℕ)
-      → HandsOut name_of faults_of before name (before name) None
+      → HandsOutObject name_of faults_of before name (before name) None
       → Changes lent_from before after name → after n ≡ before n
   opened_nothing name_of faults_of before after name n handed opened =
       unchanged lent_from before after name n opened (go (before name) handed)
     where
-      go : (stood : NameEntry X) → HandsOut name_of faults_of before name stood None
+      go : (stood : NameEntry X) → HandsOutObject name_of faults_of before name stood None
           → lent_from stood ≡ stood
       go untold h = refl
       go missing h = refl
@@ -70,7 +70,7 @@ module _ {X : Type 0} where
 
   pub exchanges : (name_of : X → List ℕ) (faults_of : X → ℕ)
       (before mid after : List ℕ → NameEntry X) (name : List ℕ) (x y : X)
-      → HandsOut name_of faults_of before name (before name) (Some x)
+      → HandsOutObject name_of faults_of before name (before name) (Some x)
       → Changes lent_from before mid name
       → name_of y ≡ name_of x → Changes (λ s. put_back_at s y) mid after (name_of y)
       → Exchanges before after name x y
@@ -88,7 +88,7 @@ module _ {X : Type 0} where
           (ap (λ s. put_back_at s y) at_y ∙ sym at_y) ∙ mid_as n
 
       go : (stood : NameEntry X) → before name ≡ stood
-          → HandsOut name_of faults_of before name stood (Some x) → Exchanges before after name x y
+          → HandsOutObject name_of faults_of before name stood (Some x) → Exchanges before after name x y
       go untold is h = record {
         object = subst (λ (s : NameEntry X). IsExchanged s (after name) x y) (sym is)
             (untold_there is h.1 name ∙ is);

@@ -9,18 +9,18 @@ use Rattle.outside.specs.declared.source.ReadEnd.TheVariants.{Got, End, Failed}
 use Rattle.outside.specs.declared.text.TextEnd.TheVariants.{Failed as TextFailed, Long}
 use Rattle.outside.specs.declared.text.TheConstants.{PIECE}
 use Rattle.outside.specs.Calls.{called, GoesOn}
-use Rattle.outside.specs.Octets.{Adds, Takes}
-use Rattle.outside.specs.Source.{SourceTold, Reads}
+use Rattle.outside.specs.Octets.{Adds, TakesOctets}
+use Rattle.outside.specs.Source.{SourceTold, ReadsSource}
 use Rattle.outside.specs.Text.{ReadsText}
 use Rattle.outside.proofs.Calling.{called-called, GoesOn-none, GoesOn-then}
 use Rattle.outside.proofs.Writing.{Adds-none, Adds-append}
 
-pub Takes-none : (told : Option (List ℕ)) → Takes told told []
+pub Takes-none : (told : Option (List ℕ)) → TakesOctets told told []
 Takes-none None = refl
 Takes-none (Some octets) = refl
 
 pub Takes-append : (before mid after : Option (List ℕ)) (first next : List ℕ)
-    → Takes before mid first → Takes mid after next → Takes before after (first ++ next)
+    → TakesOctets before mid first → TakesOctets mid after next → TakesOctets before after (first ++ next)
 Takes-append before mid after first next one two =
     one ∙ ap (option_map (λ told. first ++ told)) two ∙ both after
   where
@@ -46,7 +46,7 @@ NotEnded-then before mid after end (inr some) then =
 
 -- these octets were read, and there is more to read
 pub record HasRead (before now : SourceTold) (octets : List ℕ) : Type 0 where
-  pub took : Takes before.left now.left octets
+  pub took : TakesOctets before.left now.left octets
   pub gave : Adds before.given now.given octets
   pub ended : NotEnded before.ended now.ended
   pub calls : GoesOn before.calls now.calls false
@@ -66,7 +66,7 @@ HasRead-none source = record {
 
 -- one more
 pub HasRead-more : (before mid after : SourceTold) (octets buf : List ℕ) (count : ℕ)
-    → HasRead before mid octets → Reads mid after (Got count) buf
+    → HasRead before mid octets → ReadsSource mid after (Got count) buf
     → HasRead before after (octets ++ take count buf)
 HasRead-more before mid after octets buf count so_far read = record {
   took = Takes-append before.left mid.left after.left octets (take count buf) so_far.took read.took;
@@ -79,10 +79,10 @@ HasRead-more before mid after octets buf count so_far read = record {
 }
 
 -- a read that gave nothing
-last_took : (before mid after : Option (List ℕ)) (octets : List ℕ) → Takes before mid octets
-    → Takes mid after [] → Takes before after octets
+last_took : (before mid after : Option (List ℕ)) (octets : List ℕ) → TakesOctets before mid octets
+    → TakesOctets mid after [] → TakesOctets before after octets
 last_took before mid after octets one two =
-    subst (λ (l : List ℕ). Takes before after l) (append-nil octets)
+    subst (λ (l : List ℕ). TakesOctets before after l) (append-nil octets)
     (Takes-append before mid after octets [] one two)
 
 last_gave : (before mid after : Option (List ℕ)) (octets : List ℕ) → Adds before mid octets
@@ -93,7 +93,7 @@ last_gave before mid after octets one two =
 
 -- all octets were read, and the text is within its limit
 pub reads_all : (before mid after : SourceTold) (text : Vec ℕ Global) (buf : List ℕ) (limit : ℕ)
-    → HasRead before mid text.items → Reads mid after End buf → length text.items ≤ limit
+    → HasRead before mid text.items → ReadsSource mid after End buf → length text.items ≤ limit
     → ReadsText before after limit (Ok (Ok text)) text.items
 reads_all before mid after text buf limit so_far read within = record {
   took = last_took before.left mid.left after.left text.items so_far.took read.took;
@@ -108,7 +108,7 @@ reads_all before mid after text buf limit so_far read within = record {
 
 -- reading failed
 pub reads_failed : (before mid after : SourceTold) (octets buf : List ℕ) (limit : ℕ)
-    → HasRead before mid octets → Reads mid after Failed buf → length octets ≤ limit
+    → HasRead before mid octets → ReadsSource mid after Failed buf → length octets ≤ limit
     → ReadsText before after limit (Ok (Err TextFailed)) octets
 reads_failed before mid after octets buf limit so_far read within = record {
   took = last_took before.left mid.left after.left octets so_far.took read.took;
@@ -128,7 +128,7 @@ size octets buf count fits =
 
 -- too many came
 pub reads_long : (before mid after : SourceTold) (octets buf : List ℕ) (count limit : ℕ)
-    → HasRead before mid octets → Reads mid after (Got count) buf → length octets ≤ limit
+    → HasRead before mid octets → ReadsSource mid after (Got count) buf → length octets ≤ limit
     → length buf ≡ PIECE → limit < length octets + count
     → ReadsText before after limit (Ok (Err Long)) (octets ++ take count buf)
 reads_long before mid after octets buf count limit so_far read within piece long =
@@ -154,7 +154,7 @@ reads_long before mid after octets buf count limit so_far read within piece long
 -- memory ran out
 pub reads_no_memory : (before mid after : SourceTold) (octets buf : List ℕ) (count limit : ℕ)
     (error : AllocError)
-    → HasRead before mid octets → Reads mid after (Got count) buf → length octets + count ≤ limit
+    → HasRead before mid octets → ReadsSource mid after (Got count) buf → length octets + count ≤ limit
     → ReadsText before after limit (Err error) (octets ++ take count buf)
 reads_no_memory before mid after octets buf count limit error so_far read within =
     let more = HasRead-more before mid after octets buf count so_far read in

@@ -1,5 +1,6 @@
 -- What a sink with a buffer tells: what the sink behind it took and what is gathered for that.
-use Rattle.std.specs.Prelude.{true, ◌≡◌, ℕ, ◌+◌, List, [], ◌++◌, length, option_map, Result, Ok, Err}
+use Rattle.std.specs.Prelude.{true, ◌≡◌, ℕ, ◌+◌, List, [], ◌++◌, length, option_map, Result, Ok}
+use Rattle.std.specs.Prelude.{Err}
 use Rattle.outside.specs.declared.sink.SinkFailed.{SinkFailed}
 use Rattle.outside.specs.Sink.{SinkTold, Appends, AppendsAll}
 

@@ -9,7 +9,7 @@ pub record AskedState : Type 0 where
   pub room : ℕ
 
 -- one name more: it is told last, if it is within its length and there is room for a name
-abbrev pub asked : AskedState → List ℕ → AskedState
-asked a name = if nat_lt 0 a.room && nat_le (length name) NAME_ROOM
+abbrev pub with_name_asked : AskedState → List ℕ → AskedState
+with_name_asked a name = if nat_lt 0 a.room && nat_le (length name) NAME_ROOM
     then record { names = option_map (λ names. names ++ name ∷ []) a.names; room = a.room - 1 }
     else record { names = None; room = a.room }

@@ -6,5 +6,5 @@ abbrev pub Adds : Option (List ℕ) → Option (List ℕ) → List ℕ → Type 
 Adds before after octets = after ≡ option_map (λ told. told ++ octets) before
 
 -- these octets were taken from the front of those told
-abbrev pub Takes : Option (List ℕ) → Option (List ℕ) → List ℕ → Type 0
-Takes before after octets = before ≡ option_map (λ told. octets ++ told) after
+abbrev pub TakesOctets : Option (List ℕ) → Option (List ℕ) → List ℕ → Type 0
+TakesOctets before after octets = before ≡ option_map (λ told. octets ++ told) after

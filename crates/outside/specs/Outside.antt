@@ -43,13 +43,13 @@ put_back_at {X} (there other) object = there object
 -- what an open hands out: exactly what stands under the name, and it bears that name. Where nothing
 -- is told of the name, a new object, which has no faults, or nothing; of the name that such an
 -- object bears nothing is told either
-abbrev pub HandsOut : {X : Type 0} → (X → List ℕ) → (X → ℕ) → (List ℕ → NameEntry X) → List ℕ
+abbrev pub HandsOutObject : {X : Type 0} → (X → List ℕ) → (X → ℕ) → (List ℕ → NameEntry X) → List ℕ
     → NameEntry X → Option X → Type 0
-HandsOut {X} name_of faults_of before name untold result =
+HandsOutObject {X} name_of faults_of before name untold result =
     IfSome result (λ object. (faults_of object ≡ 0) × (before (name_of object) ≡ untold))
-HandsOut {X} name_of faults_of before name missing result = result ≡ None
-HandsOut {X} name_of faults_of before name lent result = result ≡ None
-HandsOut {X} name_of faults_of before name (there object) result =
+HandsOutObject {X} name_of faults_of before name missing result = result ≡ None
+HandsOutObject {X} name_of faults_of before name lent result = result ≡ None
+HandsOutObject {X} name_of faults_of before name (there object) result =
     (result ≡ Some object) × (name_of object ≡ name)
 
 -- this change at the name; every other name is as before
@@ -75,7 +75,7 @@ Asks (Some before) after names = (after ≡ None) ⊎ (after ≡ Some (before ++
 pub record OpensIn (before after : OutsideTold) (name : List ℕ)
     (result : Option SourceTold) : Type 0 where
   -- it hands out what stood there
-  pub source : HandsOut (λ source. source.name) (λ source. source.faults) before.sources name
+  pub source : HandsOutObject (λ source. source.name) (λ source. source.faults) before.sources name
       (before.sources name) result
   -- which is handed out now
   pub sources : Changes lent_from before.sources after.sources name
@@ -98,7 +98,7 @@ pub record ClosesIn (before after : OutsideTold) (source : SourceTold) : Type 0 
 pub record OpensOut (before after : OutsideTold) (name : List ℕ)
     (result : Option SinkTold) : Type 0 where
   -- it hands out what stood there
-  pub sink : HandsOut (λ sink. sink.name) (λ sink. sink.faults) before.sinks name
+  pub sink : HandsOutObject (λ sink. sink.name) (λ sink. sink.faults) before.sinks name
       (before.sinks name) result
   -- and it holds nothing back
   pub held : IfSome result (λ sink. sink.held ≡ 0)

@@ -1,5 +1,6 @@
 -- What a sink tells, and what writes do to it.
-use Rattle.std.specs.Prelude.{Bool, true, false, ◌≡◌, ℕ, ◌+◌, ◌≤◌, List, [], length, take, Option, Result, Ok, Err}
+use Rattle.std.specs.Prelude.{Bool, true, false, ◌≡◌, ℕ, ◌+◌, ◌≤◌, List, [], length, take, Option}
+use Rattle.std.specs.Prelude.{Result, Ok, Err}
 use Rattle.outside.specs.declared.sink.WriteEnd.{WriteEnd}
 use Rattle.outside.specs.declared.sink.WriteEnd.TheVariants.{Took, Failed}
 use Rattle.outside.specs.declared.sink.SinkFailed.{SinkFailed}

@@ -1,10 +1,11 @@
 -- What a source tells, and what a read does to it.
-use Rattle.std.specs.Prelude.{Bool, true, false, ◌≡◌, ℕ, ◌≤◌, List, [], length, take, Option, option_map, IfSome}
+use Rattle.std.specs.Prelude.{Bool, true, false, ◌≡◌, ℕ, ◌≤◌, List, [], length, take, Option}
+use Rattle.std.specs.Prelude.{option_map, IfSome}
 use Rattle.outside.specs.declared.source.ReadEnd.{ReadEnd}
 use Rattle.outside.specs.declared.source.ReadEnd.TheVariants.{Got, End, Failed}
 use Rattle.outside.specs.Calls.{Calls, called}
 use Rattle.outside.specs.Faults.{counted}
-use Rattle.outside.specs.Octets.{Adds, Takes}
+use Rattle.outside.specs.Octets.{Adds, TakesOctets}
 
 -- what a source tells; a member that is an option may be untold
 pub record SourceTold : Type 0 where
@@ -60,9 +61,9 @@ IsEndTrue (Got count) left = Unit {0}
 IsEndTrue End left = IsSpent left
 IsEndTrue Failed left = Unit {0}
 
-pub record Reads (before after : SourceTold) (end : ReadEnd) (buf : List ℕ) : Type 0 where
+pub record ReadsSource (before after : SourceTold) (end : ReadEnd) (buf : List ℕ) : Type 0 where
   -- its octets came from the front of those left
-  pub took : Takes before.left after.left (octets_read end buf)
+  pub took : TakesOctets before.left after.left (octets_read end buf)
   -- they were added to those given so far
   pub gave : Adds before.given after.given (octets_read end buf)
   -- it gave at least one, and as many as fit at most

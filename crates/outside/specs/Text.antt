@@ -1,5 +1,6 @@
 -- What reading a whole text does to a source.
-use Rattle.std.specs.Prelude.{Bool, true, false, ◌≡◌, ◌⊎◌, ℕ, ◌+◌, ◌<◌, ◌≤◌, List, length, Option, option_map, Result, Ok, Err, Vec}
+use Rattle.std.specs.Prelude.{Bool, true, false, ◌≡◌, ◌⊎◌, ℕ, ◌+◌, ◌<◌, ◌≤◌, List, length, Option}
+use Rattle.std.specs.Prelude.{option_map, Result, Ok, Err, Vec}
 use Rattle.std.specs.declared.alloc.AllocError.{AllocError}
 use Rattle.std.specs.declared.alloc.Global.{Global}
 use Rattle.outside.specs.declared.text.TextEnd.{TextEnd}
@@ -7,7 +8,7 @@ use Rattle.outside.specs.declared.text.TextEnd.TheVariants.{Failed, Long}
 use Rattle.outside.specs.declared.text.TheConstants.{PIECE}
 use Rattle.outside.specs.Calls.{Calls, called, GoesOn}
 use Rattle.outside.specs.Faults.{counted}
-use Rattle.outside.specs.Octets.{Adds, Takes}
+use Rattle.outside.specs.Octets.{Adds, TakesOctets}
 use Rattle.outside.specs.Source.{SourceTold, IsSpent}
 
 -- what reading a text answers
@@ -48,7 +49,7 @@ is_failed_text (Err out_of_memory) = false
 pub record ReadsText (before after : SourceTold) (limit : ℕ) (result : TextResult)
     (octets : List ℕ) : Type 0 where
   -- the octets came from the front of those left
-  pub took : Takes before.left after.left octets
+  pub took : TakesOctets before.left after.left octets
   -- the octets were added to those given so far
   pub gave : Adds before.given after.given octets
   -- the octets are at most the limit and one piece

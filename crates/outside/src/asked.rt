@@ -1,7 +1,7 @@
 //! The names that an outside in memory was asked for.
 ghost use Rattle.std.specs.Prelude.{◌≡◌, ℕ, ◌+◌, ◌≤◌, List, [], Option, Some, None, IfOk};
 ghost use Rattle.std.specs.Prelude.{option_map, length, take, vec_len, vec_capacity, if◌then◌else◌};
-ghost use Rattle.outside.specs.Names.{AskedState, asked};
+ghost use Rattle.outside.specs.Names.{AskedState, with_name_asked};
 ghost use Rattle.outside.specs.declared.asked.TheConstants.{MOST_NAMES, NAME_ROOM};
 
 use std::alloc::{AllocError, Global};
@@ -80,7 +80,7 @@ impl AskedNames {
     }
 
     pub(crate) fn ask(&mut self, name: &str)
-        ensures { self.new ≡ asked self.old name.now }
+        ensures { self.new ≡ with_name_asked self.old name.now }
     {
         if self.room > 0 && name.len() <= NAME_ROOM {
             self.names.push(AskedName::new(name)).unwrap();

@@ -1,5 +1,6 @@
 //! A sink that gathers octets for another.
-ghost use Rattle.std.specs.Prelude.{◌≡◌, ℕ, ◌+◌, ◌<◌, ◌≤◌, List, [], ◌++◌, length, drop, IfOk, IfErr, vec_len, vec_capacity};
+ghost use Rattle.std.specs.Prelude.{◌≡◌, ℕ, ◌+◌, ◌<◌, ◌≤◌, List, [], ◌++◌, length, drop, IfOk};
+ghost use Rattle.std.specs.Prelude.{IfErr, vec_len, vec_capacity};
 ghost use Rattle.outside.specs.declared.buffered.TheConstants.{ROOM};
 ghost use Rattle.outside.specs.Sink.{SinkTold, Writes};
 ghost use Rattle.outside.specs.Buffered.{buffered_told, HandsOn, Finishes};

@@ -1,5 +1,7 @@
 //! A sink of octets in memory, some of whose calls fail.
-ghost use Rattle.std.specs.Prelude.{false, ◌≡◌, ℕ, ◌+◌, ◌-◌, ◌<◌, ◌≤◌, ◌↔◌, ◌⊎◌, List, [], Option, Some, length, min, Contains, IfOk, unwrap_or, option_map, string_bytes, vec_len, vec_capacity};
+ghost use Rattle.std.specs.Prelude.{false, ◌≡◌, ℕ, ◌+◌, ◌-◌, ◌<◌, ◌≤◌, ◌↔◌, ◌⊎◌, List, [], Option};
+ghost use Rattle.std.specs.Prelude.{Some, length, min, Contains, IfOk, unwrap_or, option_map};
+ghost use Rattle.std.specs.Prelude.{string_bytes, vec_len, vec_capacity};
 ghost use Rattle.outside.specs.Faults.{next_count};
 ghost use Rattle.outside.specs.Sink.{SinkTold, Writes};
 ghost use Rattle.outside.specs.States.{ByteState, byte_told};

@@ -1,7 +1,7 @@
 //! An outside in memory.
 ghost use Rattle.std.specs.Prelude.{◌≡◌, ℕ, [], List, Option, OnOk, OnErr, Some, option_copied};
 ghost use Rattle.std.specs.Prelude.{option_map, IfOk};
-ghost use Rattle.outside.specs.Names.{asked};
+ghost use Rattle.outside.specs.Names.{with_name_asked};
 ghost use Rattle.outside.specs.Outside.{OutsideTold, OpensIn, ClosesIn, OpensOut, ClosesOut};
 ghost use Rattle.outside.specs.States.{text_told, byte_told};
 ghost use Rattle.outside.specs.Places.{MemoryState, memory_told, standing, object_there, PutsUnder};
@@ -128,7 +128,7 @@ impl Outside for MemoryOutside {
     fn open_in(&mut self, name: &str) -> Option<TextSource>
         ensures opens { OpensIn (memory_told self.old) (memory_told self.new) name.now
             (option_map text_told result) }
-        ensures asked { self.new.read_names ≡ asked self.old.read_names name.now }
+        ensures asked { self.new.read_names ≡ with_name_asked self.old.read_names name.now }
     {
         self.read_names.ask(name);
         let source = open(&mut self.sources, name);
@@ -144,7 +144,7 @@ impl Outside for MemoryOutside {
     fn open_out(&mut self, name: &str) -> Option<ByteSink>
         ensures opens { OpensOut (memory_told self.old) (memory_told self.new) name.now
             (option_map byte_told result) }
-        ensures asked { self.new.written_names ≡ asked self.old.written_names name.now }
+        ensures asked { self.new.written_names ≡ with_name_asked self.old.written_names name.now }
     {
         self.written_names.ask(name);
         let sink = open(&mut self.sinks, name);

@@ -1,5 +1,6 @@
 //! The places of an outside in memory.
-ghost use Rattle.std.specs.Prelude.{◌≡◌, ℕ, List, Option, OnOk, OnErr, IfSome, Some, None, position, bytes_eq, option_copied, string_bytes};
+ghost use Rattle.std.specs.Prelude.{◌≡◌, ℕ, List, Option, OnOk, OnErr, IfSome, Some, None};
+ghost use Rattle.std.specs.Prelude.{position, bytes_eq, option_copied, string_bytes};
 ghost use Rattle.outside.specs.Outside.{Changes, lent_from, put_back_at};
 ghost use Rattle.outside.specs.Places.{standing, object_there, PutsUnder, AllNamed};
 

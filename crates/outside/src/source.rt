@@ -1,6 +1,6 @@
 //! A source of octets.
 ghost use Rattle.std.specs.Prelude.{◌≡◌, ℕ, ◌<◌, length};
-ghost use Rattle.outside.specs.Source.{SourceTold, Reads};
+ghost use Rattle.outside.specs.Source.{SourceTold, ReadsSource};
 
 /// How a read ended.
 #[derive(Clone, Copy, Debug, PartialEq, Eq)]
@@ -22,7 +22,7 @@ pub trait Source {
     /// Reads at least one octet and at most as many as fit, or says that none are left.
     fn read(&mut self, buf: &mut [u8]) -> ReadEnd
         requires { 0 < length buf.old }
-        ensures { Reads (told self.old) (told self.new) result buf.new };
+        ensures { ReadsSource (told self.old) (told self.new) result buf.new };
 
     /// The number of faults so far. It stands still at the type's end.
     fn faults(&self) -> u64

@@ -1,7 +1,9 @@
 //! A text in memory as a source, some of whose calls fail.
-ghost use Rattle.std.specs.Prelude.{Bool, take, false, ◌≡◌, ℕ, ◌<◌, ◌≤◌, ◌↔◌, List, [], Option, Some, length, min, drop, Contains, unwrap_or, option_map, string_bytes};
+ghost use Rattle.std.specs.Prelude.{Bool, take, false, ◌≡◌, ℕ, ◌<◌, ◌≤◌, ◌↔◌, List, [], Option};
+ghost use Rattle.std.specs.Prelude.{Some, length, min, drop, Contains, unwrap_or, option_map};
+ghost use Rattle.std.specs.Prelude.{string_bytes};
 ghost use Rattle.outside.specs.Faults.{next_count};
-ghost use Rattle.outside.specs.Source.{SourceTold, Reads};
+ghost use Rattle.outside.specs.Source.{SourceTold, ReadsSource};
 ghost use Rattle.outside.specs.States.{TextState, text_told};
 
 use crate::faults::count_fault;
@@ -83,7 +85,7 @@ impl Source for TextSource {
 
     fn read(&mut self, buf: &mut [u8]) -> ReadEnd
         requires { 0 < length buf.old }
-        ensures reads { Reads (text_told self.old) (text_told self.new) result buf.new }
+        ensures reads { ReadsSource (text_told self.old) (text_told self.new) result buf.new }
         ensures fails { (result ≡ ReadEnd.Failed) ↔ Contains self.old.fails self.old.calls }
         ensures fits { (n : ℕ) → result ≡ ReadEnd.Got n
             → n ≡ min (length self.old.left) (length buf.new) }

@@ -1,7 +1,8 @@
 //! Files, standard input and standard output by name.
 ghost use Rattle.std.specs.Prelude.{◌≡◌, ℕ, List, Option, option_map, IfSome, IsSome, IsTrue};
 ghost use Rattle.outside.specs.Outside.{OutsideTold, OpensIn, OpensOut};
-ghost use Rattle.outside_real.specs.Streams.{source_told, sink_told, outside_told, is_standard_stream, is_standard_name};
+ghost use Rattle.outside_real.specs.Streams.{source_told, sink_told, outside_told};
+ghost use Rattle.outside_real.specs.Streams.{is_standard_stream, is_standard_name};
 
 use crate::sink::WriteSink;
 use crate::source::ReadSource;

@@ -1,6 +1,6 @@
 //! Anything that can be read, as a source.
 ghost use Rattle.std.specs.Prelude.{◌≡◌, ℕ, ◌<◌, ◌≤◌, List, Option, IfSome, length};
-ghost use Rattle.outside.specs.Source.{SourceTold, Reads};
+ghost use Rattle.outside.specs.Source.{SourceTold, ReadsSource};
 ghost use Rattle.outside_real.specs.Attempts.{Attempted, ReadAttempted};
 ghost use Rattle.outside_real.specs.Streams.{source_told};
 
@@ -38,7 +38,8 @@ impl<T: ReadAttempt> Source for ReadSource<T> {
 
     fn read(&mut self, buf: &mut [u8]) -> ReadEnd
         requires { 0 < length buf.old }
-        ensures reads { Reads (source_told self.old.1) (source_told self.new.1) result buf.new }
+        ensures reads { ReadsSource (source_told self.old.1)
+            (source_told self.new.1) result buf.new }
         ensures attempts { ReadAttempted T.attempt (self.old.0, buf.old)
             (self.new.0, buf.new) result }
     {

@@ -3,7 +3,7 @@
 ghost use Rattle.std.specs.Prelude.{◌≡◌, true, IfOk};
 ghost use Rattle.mms_services.specs.Initiates.{IsFullInitiate};
 ghost use Rattle.mms_services.specs.Lawful.{IsLawfulPdu, IsLawfulRequest};
-ghost use Rattle.mms_services.specs.PduOctets.{IsWritable, IsWritableRequest};
+ghost use Rattle.mms_services.specs.PduOctets.{IsWritablePdu, IsWritableRequest};
 
 use mms_services::{Initiate, MmsFault, MmsPdu, Request, pdu_len, read_pdu, write_pdu};
 use plain_text::read_hex;
@@ -76,7 +76,7 @@ fn is_known(request: &Request) -> bool
 
 fn may_be_written(pdu: &MmsPdu) -> bool
     requires { IsLawfulPdu pdu.now }
-    ensures { (result ≡ true) → IsWritable pdu.now }
+    ensures { (result ≡ true) → IsWritablePdu pdu.now }
 {
     match pdu {
         MmsPdu::Request { request, .. } => is_known(request),

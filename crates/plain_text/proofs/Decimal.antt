@@ -15,7 +15,7 @@ use Rattle.std.proofs.lemmas.Fmt.{decimal-digits_value, decimal_is_IsNumeral, fi
 use Rattle.std.proofs.lemmas.Fmt.{decimal_digit}
 use Rattle.std.proofs.lemmas.Str.Parse.{IsNumeralModel, numerals_by_value, tells_all_ascii_digits}
 use Rattle.plain_text.specs.Numbers.{is_number, number_in, number_up_to, negative, if_passes}
-use Rattle.plain_text.specs.Numbers.{integer_within}
+use Rattle.plain_text.specs.Numbers.{integer_word_within}
 
 -- further digits make no number smaller
 pub digits_value_after-ge : (n : ℕ) (digits : List ℕ) → n ≤ digits_value_after 10 n digits
@@ -110,7 +110,7 @@ number_in-from_up_to limit n word same = in_from_up_to limit n (number_in word) 
 
 within-minus : (low high : ℤ) (word : List ℕ) (n : ℕ) (z : ℤ) → number_in word ≡ Some n
     → negative n ≡ Some z
-    → integer_within low high (45 ∷ word) ≡ if_passes (λ y. int_le low y && int_le y high) z
+    → integer_word_within low high (45 ∷ word) ≡ if_passes (λ y. int_le low y && int_le y high) z
 within-minus low high word n z number value =
     ap (λ o. option_and_then (if_passes (λ y. int_le low y && int_le y high))
     (option_and_then negative o)) number
@@ -120,9 +120,9 @@ within-minus low high word n z number value =
 pub integer_within-minus : (low high : ℤ) (word digits : List ℕ) (n : ℕ) (z : ℤ) → 1 ≤ length word
     → get_or word 0 0 ≡ 45 → digits ≡ drop 1 word → number_up_to (2 ^ 63) digits ≡ Some n
     → negative n ≡ Some z
-    → integer_within low high word ≡ if_passes (λ y. int_le low y && int_le y high) z
+    → integer_word_within low high word ≡ if_passes (λ y. int_le low y && int_le y high) z
 integer_within-minus low high [] digits n z some first rest size value = absurd (omega arith)
 integer_within-minus low high (c ∷ word) digits n z some first rest size value =
-    ap (λ d. integer_within low high (d ∷ word)) first
+    ap (λ d. integer_word_within low high (d ∷ word)) first
     ∙ within-minus low high word n z
     (number_in-from_up_to (2 ^ 63) n word (ap (number_up_to (2 ^ 63)) (sym rest) ∙ size)) value

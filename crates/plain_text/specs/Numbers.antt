@@ -32,16 +32,16 @@ negative zero = None
 negative (suc n) = Some (negsuc n)
 
 -- the signed number that a word is
-abbrev pub integer_in : List ℕ → Option ℤ
-integer_in [] = None
-integer_in (first ∷ more) =
+abbrev pub integer_of_word : List ℕ → Option ℤ
+integer_of_word [] = None
+integer_of_word (first ∷ more) =
     if first == 45 then option_and_then negative (number_in more)
     else option_map pos (number_in (first ∷ more))
 
 -- the signed number that a word is, where it is from `low` to `high`
-abbrev pub integer_within : ℤ → ℤ → List ℕ → Option ℤ
-integer_within low high word =
-    option_and_then (if_passes (λ z. int_le low z && int_le z high)) (integer_in word)
+abbrev pub integer_word_within : ℤ → ℤ → List ℕ → Option ℤ
+integer_word_within low high word =
+    option_and_then (if_passes (λ z. int_le low z && int_le z high)) (integer_of_word word)
 
 -- the value of a lower-case hexadecimal digit
 abbrev pub hex_value : ℕ → Option ℕ

@@ -1,7 +1,7 @@
 //! Decimal numbers, read and written.
 ghost use Rattle.std.specs.Prelude.{◌≡◌, ◌&&◌, ◌^◌, ◌≤◌, ◌++◌, int_le, OnOk, OnErr, decimal};
 ghost use Rattle.std.specs.Fmt.{signed_decimal};
-ghost use Rattle.plain_text.specs.Numbers.{number_up_to, if_passes, negative, integer_within};
+ghost use Rattle.plain_text.specs.Numbers.{number_up_to, if_passes, negative, integer_word_within};
 
 use std::alloc::AllocError;
 
@@ -51,7 +51,7 @@ fn within(number: i64, low: i64, high: i64) -> Option<i64>
 /// The signed decimal number that a word is, where it is from `low` to `high`.
 /// Leading zeros, a `+` and `-0` are refused.
 pub fn read_integer(word: &[u8], low: i64, high: i64) -> Option<i64>
-    ensures { result ≡ integer_within low high word.now }
+    ensures { result ≡ integer_word_within low high word.now }
 {
     match word {
         [b'-', digits @ ..] => within(negated(read_number(digits, 1 << 63)?)?, low, high),

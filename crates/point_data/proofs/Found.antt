@@ -10,7 +10,7 @@ use Rattle.tase_points.specs.declared.layout.Component.TheVariants.{Value, Time,
 use Rattle.tase_points.specs.Points.{kind_of, zero_body}
 use Rattle.tase_points.specs.Sample.{Sample}
 use Rattle.point_data.specs.Bare.{IsBare}
-use Rattle.point_data.specs.Parts.{Has, CarriesFlags}
+use Rattle.point_data.specs.Parts.{HasComponent, CarriesFlags}
 use Rattle.point_data.specs.Shown.{octet_bits, shown_body, shown_component, shown_as}
 use Rattle.point_data.proofs.Members.{Has-Contains}
 
@@ -21,14 +21,14 @@ same_body (Discrete d) f g same = refl
 same_body (Real r) f g same = refl
 
 same_map : (f g : Component → Datum) (layout : List Component)
-    → ((c : Component) → Has layout c → f c ≡ g c) → map f layout ≡ map g layout
+    → ((c : Component) → HasComponent layout c → f c ≡ g c) → map f layout ≡ map g layout
 same_map f g [] same = refl
 same_map f g (c ∷ more) same =
     let here : f c ≡ g c = same c (zero, refl) in
     let rest : map f more ≡ map g more = same_map f g more (λ d h. same d (suc h.0, h.1)) in cc
 
 same_shown : (a v : Sample) (count cov : ℕ) (layout : List Component)
-    → ((c : Component) → Has layout c → shown_component a count c ≡ shown_component v cov c)
+    → ((c : Component) → HasComponent layout c → shown_component a count c ≡ shown_component v cov c)
     → shown_as a count layout ≡ shown_as v cov layout
 same_shown a v count cov [] same = refl
 same_shown a v count cov (only ∷ []) same = same only (zero, refl)
@@ -37,10 +37,10 @@ same_shown a v count cov (first ∷ next ∷ more) same =
     (same_map (shown_component a count) (shown_component v cov) (first ∷ next ∷ more) same)
 
 component_same : (layout : List Component) (kind : Kind) (a v : Sample) (count cov : ℕ)
-    → kind_of v.body ≡ kind → (Has layout Value → a.body ≡ v.body)
-    → (CarriesFlags layout kind → a.flags ≡ v.flags) → (Has layout Time → a.seconds ≡ v.seconds)
-    → (Has layout Millis → a.millis ≡ v.millis) → (Has layout Cov → count ≡ cov) → (c : Component)
-    → Has layout c → shown_component a count c ≡ shown_component v cov c
+    → kind_of v.body ≡ kind → (HasComponent layout Value → a.body ≡ v.body)
+    → (CarriesFlags layout kind → a.flags ≡ v.flags) → (HasComponent layout Time → a.seconds ≡ v.seconds)
+    → (HasComponent layout Millis → a.millis ≡ v.millis) → (HasComponent layout Cov → count ≡ cov) → (c : Component)
+    → HasComponent layout c → shown_component a count c ≡ shown_component v cov c
 component_same layout kind a v count cov k body flags time millis cov_same Value h =
     ap (λ b. shown_body b a.flags) (body h)
     ∙ same_body v.body a.flags v.flags (λ state. flags (inr (h, sym k ∙ state)))
@@ -56,17 +56,17 @@ component_same layout kind a v count cov k body flags time millis cov_same Cov h
 -- what agrees with a value that is shown, where the layout carries it, is shown alike
 pub shown_as-agreeing : (layout : List Component) (value : Datum) (kind : Kind) (a v : Sample)
     (count cov : ℕ) → shown_as v cov layout ≡ value → kind_of v.body ≡ kind
-    → (Has layout Value → a.body ≡ v.body) → (CarriesFlags layout kind → a.flags ≡ v.flags)
-    → (Has layout Time → a.seconds ≡ v.seconds) → (Has layout Millis → a.millis ≡ v.millis)
-    → (Has layout Cov → count ≡ cov) → shown_as a count layout ≡ value
+    → (HasComponent layout Value → a.body ≡ v.body) → (CarriesFlags layout kind → a.flags ≡ v.flags)
+    → (HasComponent layout Time → a.seconds ≡ v.seconds) → (HasComponent layout Millis → a.millis ≡ v.millis)
+    → (HasComponent layout Cov → count ≡ cov) → shown_as a count layout ≡ value
 shown_as-agreeing layout value kind a v count cov shown k body flags time millis cov_same =
     same_shown a v count cov layout
     (component_same layout kind a v count cov k body flags time millis cov_same) ∙ shown
 
 -- a value that is zero where the layout has nothing of it
 pub IsBare-absent : (layout : List Component) (kind : Kind) (v : Sample) → kind_of v.body ≡ kind
-    → (¬ Has layout Value → v.body ≡ zero_body kind) → (¬ CarriesFlags layout kind → v.flags ≡ 0)
-    → (¬ Has layout Time → v.seconds ≡ 0) → (¬ Has layout Millis → v.millis ≡ 0) → IsBare layout v
+    → (¬ HasComponent layout Value → v.body ≡ zero_body kind) → (¬ CarriesFlags layout kind → v.flags ≡ 0)
+    → (¬ HasComponent layout Time → v.seconds ≡ 0) → (¬ HasComponent layout Millis → v.millis ≡ 0) → IsBare layout v
 IsBare-absent layout kind v k body flags time millis =
     record {
       body = λ no. body (λ h. no (Has-Contains layout Value h)) ∙ ap zero_body (sym k);

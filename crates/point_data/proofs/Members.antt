@@ -9,7 +9,7 @@ use Rattle.std.proofs.lemmas.Option.{slice_get-map, slice_get_within, get_or_fro
 use Rattle.mms_data.specs.Datum.{Datum, structure, data_of}
 use Rattle.tase_points.specs.declared.layout.Component.{Component}
 use Rattle.tase_points.specs.Sample.{Sample}
-use Rattle.point_data.specs.Parts.{Has, list_of, members_in, member_in}
+use Rattle.point_data.specs.Parts.{HasComponent, list_of, structure_members, member_in}
 use Rattle.point_data.specs.Shown.{shown_as, shown_component}
 
 -- data of a list are that list
@@ -20,9 +20,9 @@ list_of-data_of (d ∷ ds) = ap (λ more. d ∷ more) (list_of-data_of ds)
 several : (v : Sample) (cov : ℕ) (layout : List Component) (value : Datum) (i : ℕ)
     (component : Component) → structure (data_of (map (shown_component v cov) layout)) ≡ value
     → slice_get layout i ≡ Some component
-    → slice_get (members_in value) i ≡ Some (shown_component v cov component)
+    → slice_get (structure_members value) i ≡ Some (shown_component v cov component)
 several v cov layout value i component e g =
-    ap (λ d. slice_get (members_in d) i) (sym e)
+    ap (λ d. slice_get (structure_members d) i) (sym e)
     ∙ ap (λ ds. slice_get ds i) (list_of-data_of (map (shown_component v cov) layout))
     ∙ slice_get-map (shown_component v cov) layout i
     ∙ ap (option_map (shown_component v cov)) g
@@ -39,7 +39,7 @@ member_in-shown v cov (first ∷ next ∷ more) value i component e g =
     several v cov (first ∷ next ∷ more) value i component e g
 
 -- what a layout has, it contains
-pub Has-Contains : (layout : List Component) (component : Component) → Has layout component
+pub Has-Contains : (layout : List Component) (component : Component) → HasComponent layout component
     → Contains layout component
 Has-Contains layout component (i, e) =
     (i, slice_get_within layout i component e, get_or_from_slice_get layout i component component e)
@@ -53,7 +53,7 @@ member_in-one (component ∷ next ∷ more) value place e = absurd (omega arith)
 
 -- several are members of a structure
 pub member_in-several : (layout : List Component) (value : Datum) (place : ℕ) → length layout ≢ 1
-    → member_in layout value place ≡ slice_get (members_in value) place
+    → member_in layout value place ≡ slice_get (structure_members value) place
 member_in-several [] value place ne = refl
 member_in-several (component ∷ []) value place ne = absurd (ne refl)
 member_in-several (component ∷ next ∷ more) value place ne = refl
@@ -73,7 +73,7 @@ found (Some d) layout value component i e g =
 pub missed : (o : Option (Bor Datum)) (layout : List Component) (value : Datum)
     (component : Component) (i : ℕ) → option_copied o ≡ member_in layout value i
     → slice_get layout i ≡ Some component
-    → IfNone o ((v : Sample) (cov : ℕ) → shown_as v cov layout ≡ value → ¬ Has layout component)
+    → IfNone o ((v : Sample) (cov : ℕ) → shown_as v cov layout ≡ value → ¬ HasComponent layout component)
 missed None layout value component i e g =
     λ v cov shown h. let m = member_in-shown v cov layout value i component shown g in cc
 missed (Some d) layout value component i e g = tt

@@ -2,8 +2,9 @@
 ghost use Rattle.std.specs.Prelude.{◌≡◌, ℕ, Some, IfSome, IfNone};
 ghost use Rattle.std.specs.List.{slice_get};
 ghost use Rattle.std.specs.Option.{option_copied};
-ghost use Rattle.point_data.specs.Parts.{Has, members_in, member_in, integer_in, unsigned_in};
-ghost use Rattle.point_data.specs.Parts.{real_in, octet_in};
+ghost use Rattle.point_data.specs.Parts.{HasComponent, structure_members, member_in, integer_part};
+ghost use Rattle.point_data.specs.Parts.{unsigned_part};
+ghost use Rattle.point_data.specs.Parts.{real_part, octet_part};
 ghost use Rattle.point_data.specs.Shown.{shown_as, shown_component};
 ghost use Rattle.tase_points.specs.Sample.{Sample};
 
@@ -12,7 +13,7 @@ use tase_points::Component;
 
 /// The number of an integer.
 pub(crate) fn integer_of(datum: &MmsData) -> Option<i64>
-    ensures { result ≡ integer_in datum.now }
+    ensures { result ≡ integer_part datum.now }
 {
     match datum.kind() {
         DataKind::Integer(number) => Some(*number),
@@ -22,7 +23,7 @@ pub(crate) fn integer_of(datum: &MmsData) -> Option<i64>
 
 /// The number of an unsigned integer.
 pub(crate) fn unsigned_of(datum: &MmsData) -> Option<u64>
-    ensures { result ≡ unsigned_in datum.now }
+    ensures { result ≡ unsigned_part datum.now }
 {
     match datum.kind() {
         DataKind::Unsigned(number) => Some(*number),
@@ -32,7 +33,7 @@ pub(crate) fn unsigned_of(datum: &MmsData) -> Option<u64>
 
 /// The octets of a real value.
 pub(crate) fn real_of(datum: &MmsData) -> Option<[u8; 4]>
-    ensures { result ≡ real_in datum.now }
+    ensures { result ≡ real_part datum.now }
 {
     match datum.kind() {
         DataKind::Real(octets) => Some(*octets),
@@ -42,7 +43,7 @@ pub(crate) fn real_of(datum: &MmsData) -> Option<[u8; 4]>
 
 /// The octet of a string of eight bits.
 pub(crate) fn octet_of(datum: &MmsData) -> Option<u8>
-    ensures { result ≡ octet_in datum.now }
+    ensures { result ≡ octet_part datum.now }
 {
     match datum.kind() {
         DataKind::Bits(bits) => match bits.octets() {
@@ -56,7 +57,7 @@ pub(crate) fn octet_of(datum: &MmsData) -> Option<u8>
 /// Where a component stands in a layout.
 fn place_of(layout: &[Component], component: Component) -> Option<usize>
     ensures found { IfSome result (λ i. slice_get layout.now i ≡ Some component) }
-    ensures absent { IfNone result (¬ Has layout.now component) }
+    ensures absent { IfNone result (¬ HasComponent layout.now component) }
 {
     for (place, own) in layout.iter().enumerate() {
         if own.is_same(component) {
@@ -68,7 +69,7 @@ fn place_of(layout: &[Component], component: Component) -> Option<usize>
 
 /// The member of a structure at a place.
 fn member_of(value: &MmsData, place: usize) -> Option<&MmsData>
-    ensures { option_copied result ≡ slice_get (members_in value.now) place }
+    ensures { option_copied result ≡ slice_get (structure_members value.now) place }
 {
     match value.kind() {
         DataKind::Structure(members) => members.get(place),
@@ -98,8 +99,8 @@ pub(crate) fn part<'a>(
         → d.now ≡ shown_component v cov component) }
     ensures missed { IfNone result
         ((v : Sample) (cov : ℕ) → shown_as v cov layout.now ≡ value.now
-        → ¬ Has layout.now component) }
-    ensures carried { IfSome result (λ _. Has layout.now component) }
+        → ¬ HasComponent layout.now component) }
+    ensures carried { IfSome result (λ _. HasComponent layout.now component) }
 {
     member(value, layout, place_of(layout, component)?)
 }

@@ -7,7 +7,7 @@ ghost use Rattle.tase_points.specs.Points.{kind_of, state_of, zero_body};
 ghost use Rattle.tase_points.specs.Sample.{Sample};
 ghost use Rattle.tase_points.specs.Values.{IsSample};
 ghost use Rattle.point_data.specs.Bare.{FitsBody, IsBare};
-ghost use Rattle.point_data.specs.Parts.{Has, CarriesFlags};
+ghost use Rattle.point_data.specs.Parts.{HasComponent, CarriesFlags};
 ghost use Rattle.point_data.specs.Shown.{octet_bits, shown_body, shown_component, shown_as};
 
 use crate::checking::is_shown;
@@ -55,10 +55,11 @@ pub fn from_data(value: &MmsData, kind: Kind, layout: &Layout) -> Option<PointVa
 fn body_in(value: &MmsData, components: &[Component], kind: Kind) -> Body
     ensures kind { kind_of result ≡ kind }
     ensures state { state_of result ≤ STATE_LIMIT }
-    ensures shown { Has components.now Component.Value → (v : Sample) (cov : ℕ) → IsSample v
+    ensures shown { HasComponent components.now Component.Value → (v : Sample) (cov : ℕ)
+        → IsSample v
         → FitsBody v.body → kind_of v.body ≡ kind → shown_as v cov components.now ≡ value.now
         → result ≡ v.body }
-    ensures absent { ¬ Has components.now Component.Value → result ≡ zero_body kind }
+    ensures absent { ¬ HasComponent components.now Component.Value → result ≡ zero_body kind }
 {
     match part(value, components, Component::Value) {
         Some(datum) => body_of(datum, kind),
@@ -130,10 +131,11 @@ fn flags_of(datum: &MmsData) -> u8
 /// A component that is a number, where the layout has it and the datum shows it.
 fn number_in(value: &MmsData, components: &[Component], component: Component, limit: u32) -> u32
     ensures range { result ≤ limit }
-    ensures shown { Has components.now component → (v : Sample) (cov : ℕ) (n : ℕ) → n ≤ limit
+    ensures shown { HasComponent components.now component → (v : Sample) (cov : ℕ) (n : ℕ)
+        → n ≤ limit
         → shown_component v cov component ≡ integer (pos n)
         → shown_as v cov components.now ≡ value.now → result ≡ n }
-    ensures absent { ¬ Has components.now component → result ≡ 0 }
+    ensures absent { ¬ HasComponent components.now component → result ≡ 0 }
 {
     match part(value, components, component) {
         Some(datum) => number_of(datum, limit),
@@ -154,7 +156,7 @@ fn number_of(datum: &MmsData, limit: u32) -> u32
 
 /// The count of changes, where the layout has it and the datum shows it.
 fn count_in(value: &MmsData, components: &[Component]) -> u16
-    ensures { Has components.now Component.Cov → (v : Sample) (cov : ℕ) → cov < COV_MODULUS
+    ensures { HasComponent components.now Component.Cov → (v : Sample) (cov : ℕ) → cov < COV_MODULUS
         → shown_as v cov components.now ≡ value.now → result ≡ cov }
 {
     match part(value, components, Component::Cov) {

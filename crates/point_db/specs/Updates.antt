@@ -18,8 +18,8 @@ abbrev pub Updates : Type 0
 Updates = List Update
 
 -- the kind of the point with a number, among the kinds of all points
-abbrev pub kind_of : List Kind → ℕ → Kind
-kind_of kinds point = unwrap_or (slice_get kinds point) State
+abbrev pub kind_at : List Kind → ℕ → Kind
+kind_at kinds point = unwrap_or (slice_get kinds point) State
 
 -- the values that a point was given, the newest first
 abbrev pub values_given : Updates → ℕ → List Sample
@@ -39,11 +39,11 @@ changes_of kind (value ∷ values) =
 
 -- a point's last value
 abbrev pub last_value : List Kind → Updates → ℕ → Sample
-last_value kinds past point = last_of (kind_of kinds point) (values_given past point)
+last_value kinds past point = last_of (kind_at kinds point) (values_given past point)
 
 -- how often a point has changed
 abbrev pub change_count : List Kind → Updates → ℕ → ℕ
-change_count kinds past point = changes_of (kind_of kinds point) (values_given past point)
+change_count kinds past point = changes_of (kind_at kinds point) (values_given past point)
 
 -- whether an update is a change of its point, from what it had before
 abbrev pub is_change_of : List Kind → Updates → Update → Bool

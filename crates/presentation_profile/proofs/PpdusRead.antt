@@ -15,13 +15,13 @@ use Rattle.ber_values.proofs.Grammars.{gives_reads, then_reads, map_reads, branc
 use Rattle.ber_values.proofs.Lists.{list_reads}
 use Rattle.ber_values.proofs.Leaves.{selector_contents, oid_contents, octet_contents, fixed_contents}
 use Rattle.presentation_profile.specs.Offers.{offers}
-use Rattle.presentation_profile.specs.Others.{others, after_others, before_others, selector_in}
+use Rattle.presentation_profile.specs.Others.{others, after_others, before_others, selector_element}
 use Rattle.ber_values.specs.Externals.{external}
 use Rattle.ber_values.proofs.Externals.{external_contents}
 use Rattle.presentation_profile.specs.declared.expected.Expected.{Expected}
 use Rattle.presentation_profile.specs.Expecting.{connect_id, accept_id, carry_id, are_judged}
 use Rattle.presentation_profile.specs.UserData.{user_data}
-use Rattle.presentation_profile.specs.Results.{result_contents, one_result, may_be, any_results, from_place, first_in, accepting_results, results}
+use Rattle.presentation_profile.specs.Results.{result_contents, one_result, may_be, any_results, from_place, begin_then_in, accepting_results, results}
 use Rattle.presentation_profile.specs.Ppdus.{connect_named, connect_of, connect_selectors, connect, accept_named, accept_of, accept, has_results, parameters, mode, set_up_contents, set_up, carry_of, ppdu}
 use Rattle.presentation_profile.specs.Ppdus.{is_between, HasResultsFirst, come_to_results, case_in}
 use Rattle.presentation_profile.proofs.OffersRead.{offers_read}
@@ -38,8 +38,8 @@ before_read : {X : Type 0} (named : List ℕ) (g : Grammar X) → IsGrammar g �
 unfolding before_others
 before_read named g one = then_reads _ _ one (λ x. map_reads _ _ (others_read named))
 
-selector_reads : (tag : ℕ) → IsGrammar (selector_in tag)
-unfolding selector_in
+selector_reads : (tag : ℕ) → IsGrammar (selector_element tag)
+unfolding selector_element
 selector_reads tag = choose_reads tag selector _ selector_contents (gives_reads _)
 
 pub user_data_reads : (wanted : Option ℕ) → IsGrammar (user_data wanted)
@@ -58,8 +58,8 @@ result_reads accepting =
 any_read : IsContentsGrammar any_results
 any_read = list_reads 0 (one_result false) (result_reads false)
 
-first_reads : {X Y : Type 0} (g : Grammar X) (next : X → Contents Y) → IsGrammar g → ((x : X) → IsContentsGrammar (next x)) → IsContentsGrammar (first_in g next)
-unfolding first_in
+first_reads : {X Y : Type 0} (g : Grammar X) (next : X → Contents Y) → IsGrammar g → ((x : X) → IsContentsGrammar (next x)) → IsContentsGrammar (begin_then_in g next)
+unfolding begin_then_in
 first_reads {X} {Y} g next one two head octets =
     IsReading-then (Taken X) Y (g.begins head.body octets) (g.fault head.body octets) (g.reading head.body octets) (λ t y. (next t.value).spells t.next y t.rest) (λ t f. (next t.value).fault (from_place head t.next) t.rest f) (λ t. (next t.value).reading (from_place head t.next) t.rest)
     (one head.body octets) (λ t s. two t.value (from_place head t.next) t.rest)

@@ -24,11 +24,11 @@ use Rattle.presentation_profile.specs.declared.offers.TheConstants.{MOST_OFFERS}
 use Rattle.presentation_profile.specs.declared.ppdu.Ppdu.{Ppdu}
 use Rattle.presentation_profile.specs.declared.ppdu.Ppdu.TheVariants.{Connect, Accept, Carry}
 use Rattle.presentation_profile.specs.Offers.{offers}
-use Rattle.presentation_profile.specs.Others.{others, after_others, before_others, selector_in}
+use Rattle.presentation_profile.specs.Others.{others, after_others, before_others, selector_element}
 use Rattle.presentation_profile.specs.UserData.{user_data}
 use Rattle.presentation_profile.specs.Results.{results}
 use Rattle.presentation_profile.specs.Ppdus.{connect_named, connect_selectors, connect, accept_named, accept, come_to_results, has_results, accept_or_connect, parameters, mode, set_up_contents, set_up, carry_of, ppdu}
-use Rattle.presentation_profile.specs.Written.{offers_octets, user_octets, results_octets, selector_octets, calling_octets, connect_octets, accept_octets, mode_octets, set_up_octets, ppdu_octets, AreOffers, IsWritable, IsHeld, IsAsExpected, AreAccepting, ppdu_as_written}
+use Rattle.presentation_profile.specs.Written.{offers_octets, user_octets, results_octets, selector_element_octets, calling_octets, connect_ppdu_octets, accept_ppdu_octets, mode_octets, set_up_octets, ppdu_octets, AreOffers, IsWritablePpdu, IsKeptPpdu, IsExpectedPpdu, AreAccepting, ppdu_as_written}
 use Rattle.presentation_profile.proofs.PpdusRead.{results-decided}
 use Rattle.presentation_profile.proofs.OffersWritten.{offers-writes, offers-few}
 use Rattle.presentation_profile.proofs.Sizes.{calling-sized, mode-sized, connect-sized, accept-sized}
@@ -49,30 +49,30 @@ unfolding selector
 selector-spelled at [] is = absurd (omega (arith, is.0))
 selector-spelled at (first ∷ octets) is = ((omega arith, is.1), refl)
 
-selector-writes : (tag at : ℕ) (octets : List ℕ) → IsSelector octets → Writes (selector_in tag) at (Some octets) (written tag octets)
-unfolding selector_in choose_in branch_in
+selector-writes : (tag at : ℕ) (octets : List ℕ) → IsSelector octets → Writes (selector_element tag) at (Some octets) (written tag octets)
+unfolding selector_element choose_in branch_in
 selector-writes tag at octets is rest = inl (eq-eqb tag tag refl, part-writes tag selector at (Some octets) octets (omega (arith, is.1)) (selector-spelled _ octets is) rest)
 
-no_selector : (tag at first : ℕ) (rest : List ℕ) → has_tag tag (first ∷ rest) ≡ false → (selector_in tag).begins at (first ∷ rest) (taken None at (first ∷ rest))
-unfolding selector_in choose_in branch_in gives
+no_selector : (tag at first : ℕ) (rest : List ℕ) → has_tag tag (first ∷ rest) ≡ false → (selector_element tag).begins at (first ∷ rest) (taken None at (first ∷ rest))
+unfolding selector_element choose_in branch_in gives
 no_selector tag at first rest e = inr (e, refl)
 
 -- ---- a connect
 
-calling-writes : (at : ℕ) → Writes (selector_in 129) at (Some (0 ∷ 0 ∷ 0 ∷ 1 ∷ [])) calling_octets
+calling-writes : (at : ℕ) → Writes (selector_element 129) at (Some (0 ∷ 0 ∷ 0 ∷ 1 ∷ [])) calling_octets
 unfolding calling_octets
 calling-writes at = selector-writes 129 at (0 ∷ 0 ∷ 0 ∷ 1 ∷ []) (omega arith, omega arith)
 
 -- the called selector, where offers follow
-called-begins : (called : Option (List ℕ)) (at : ℕ) (after : List ℕ) → HasSelector called → (after_others connect_named (selector_in 130)).begins at (selector_octets 130 called ++ (164 ∷ after)) (taken called (at + length (selector_octets 130 called)) (164 ∷ after))
+called-begins : (called : Option (List ℕ)) (at : ℕ) (after : List ℕ) → HasSelector called → (after_others connect_named (selector_element 130)).begins at (selector_element_octets 130 called ++ (164 ∷ after)) (taken called (at + length (selector_element_octets 130 called)) (164 ∷ after))
 unfolding after_others then_in
-called-begins None at after held = (taken tt at (164 ∷ after), none_other connect_named at 164 after refl, subst (λ (k : ℕ). (selector_in 130).begins at (164 ∷ after) (taken None k (164 ∷ after))) (let none : at ≡ at + 0 = omega arith in none) (no_selector 130 at 164 after refl))
+called-begins None at after held = (taken tt at (164 ∷ after), none_other connect_named at 164 after refl, subst (λ (k : ℕ). (selector_element 130).begins at (164 ∷ after) (taken None k (164 ∷ after))) (let none : at ≡ at + 0 = omega arith in none) (no_selector 130 at 164 after refl))
 called-begins (Some octets) at after held = (taken tt at (written 130 octets ++ (164 ∷ after)), none_other connect_named at 130 _ refl, selector-writes 130 at octets held (164 ∷ after))
 
-selectors-begin : (called : Option (List ℕ)) (at : ℕ) (after : List ℕ) → HasSelector called → connect_selectors.begins at (calling_octets ++ (selector_octets 130 called ++ (164 ∷ after))) (taken called (at + length calling_octets + length (selector_octets 130 called)) (164 ∷ after))
+selectors-begin : (called : Option (List ℕ)) (at : ℕ) (after : List ℕ) → HasSelector called → connect_selectors.begins at (calling_octets ++ (selector_element_octets 130 called ++ (164 ∷ after))) (taken called (at + length calling_octets + length (selector_element_octets 130 called)) (164 ∷ after))
 unfolding connect_selectors after_others then_in calling_octets
 selectors-begin called at after held =
-    let rest = selector_octets 130 called ++ (164 ∷ after) in (
+    let rest = selector_element_octets 130 called ++ (164 ∷ after) in (
       taken tt at (calling_octets ++ rest),
       none_other connect_named at 129 _ refl,
       (
@@ -98,12 +98,12 @@ last-begins wanted named at id body other few size right =
     )
 
 connect-begins : (e : Expected) (called : Option (List ℕ)) (contexts : List Offered) (at id : ℕ) (body : List ℕ) → HasSelector called → AreOffers contexts → All (λ o. IsOid o.abstract_name) contexts → id < 2 ^ 32 → length body ≤ MOST_BODY → is_wanted (connect_id e contexts) id ≡ true
-    → (place : ℕ) → place ≡ at + length calling_octets + length (selector_octets 130 called) + length (offers_octets contexts)
-    → (connect e).begins at (connect_octets called contexts id body) (taken (Connect called contexts id (last_span (place + length (user_octets id body)) body)) (place + length (user_octets id body)) [])
-unfolding connect connect_octets then_in map_in after_others offers_octets
+    → (place : ℕ) → place ≡ at + length calling_octets + length (selector_element_octets 130 called) + length (offers_octets contexts)
+    → (connect e).begins at (connect_ppdu_octets called contexts id body) (taken (Connect called contexts id (last_span (place + length (user_octets id body)) body)) (place + length (user_octets id body)) [])
+unfolding connect connect_ppdu_octets then_in map_in after_others offers_octets
 connect-begins e called contexts at id body held are named few size right place is =
     let user = user_octets id body in
-    let second = at + length calling_octets + length (selector_octets 130 called) in
+    let second = at + length calling_octets + length (selector_element_octets 130 called) in
     let value : External = external_of id (last_span (place + length user) body) in (
       taken called second (offers_octets contexts ++ user),
       selectors-begin called at _ held,
@@ -115,29 +115,29 @@ connect-begins e called contexts at id body held are named few size right place 
     )
 
 connect-ends : (e : Expected) (called : Option (List ℕ)) (contexts : List Offered) (at id : ℕ) (body : List ℕ) → HasSelector called → AreOffers contexts → All (λ o. IsOid o.abstract_name) contexts → id < 2 ^ 32 → length body ≤ MOST_BODY → is_wanted (connect_id e contexts) id ≡ true
-    → Ends (connect e) at (Connect called contexts id (last_span (at + length (connect_octets called contexts id body)) body)) (connect_octets called contexts id body)
+    → Ends (connect e) at (Connect called contexts id (last_span (at + length (connect_ppdu_octets called contexts id body)) body)) (connect_ppdu_octets called contexts id body)
 connect-ends e called contexts at id body held are named few size right =
     let user = user_octets id body in
-    let whole = connect_octets called contexts id body in
-    let place = at + length calling_octets + length (selector_octets 130 called) + length (offers_octets contexts) in
-    let ends : place + length user ≡ at + length whole = omega (arith, connect-sized called contexts id (length (selector_octets 130 called)) (length (offers_octets contexts)) (length user) body refl refl refl, calling-sized) in
+    let whole = connect_ppdu_octets called contexts id body in
+    let place = at + length calling_octets + length (selector_element_octets 130 called) + length (offers_octets contexts) in
+    let ends : place + length user ≡ at + length whole = omega (arith, connect-sized called contexts id (length (selector_element_octets 130 called)) (length (offers_octets contexts)) (length user) body refl refl refl, calling-sized) in
     subst (λ (k : ℕ). (connect e).begins at whole (taken (Connect called contexts id (last_span k body)) k [])) ends
     (connect-begins e called contexts at id body held are named few size right place refl)
 
 -- ---- an accept
 
-responding-begins : (called : Option (List ℕ)) (at : ℕ) (after : List ℕ) → HasSelector called → (after_others accept_named (selector_in 131)).begins at (selector_octets 131 called ++ (165 ∷ after)) (taken called (at + length (selector_octets 131 called)) (165 ∷ after))
+responding-begins : (called : Option (List ℕ)) (at : ℕ) (after : List ℕ) → HasSelector called → (after_others accept_named (selector_element 131)).begins at (selector_element_octets 131 called ++ (165 ∷ after)) (taken called (at + length (selector_element_octets 131 called)) (165 ∷ after))
 unfolding after_others then_in
-responding-begins None at after held = (taken tt at (165 ∷ after), none_other accept_named at 165 after refl, subst (λ (k : ℕ). (selector_in 131).begins at (165 ∷ after) (taken None k (165 ∷ after))) (let none : at ≡ at + 0 = omega arith in none) (no_selector 131 at 165 after refl))
+responding-begins None at after held = (taken tt at (165 ∷ after), none_other accept_named at 165 after refl, subst (λ (k : ℕ). (selector_element 131).begins at (165 ∷ after) (taken None k (165 ∷ after))) (let none : at ≡ at + 0 = omega arith in none) (no_selector 131 at 165 after refl))
 responding-begins (Some octets) at after held = (taken tt at (written 131 octets ++ (165 ∷ after)), none_other accept_named at 131 _ refl, selector-writes 131 at octets held (165 ∷ after))
 
 accept-begins : (e : Expected) (called : Option (List ℕ)) (found : List ℕ) (at id : ℕ) (body : List ℕ) → HasSelector called → length found ≤ MOST_OFFERS → id < 2 ^ 32 → length body ≤ MOST_BODY → is_wanted (accept_id e) id ≡ true → (are_judged e ≡ true → AreAccepting found)
-    → (place : ℕ) → place ≡ at + length (selector_octets 131 called) + length (results_octets found)
-    → (accept e).begins at (accept_octets called found id body) (taken (Accept called found id (last_span (place + length (user_octets id body)) body)) (place + length (user_octets id body)) [])
-unfolding accept accept_octets then_in map_in after_others results_octets
+    → (place : ℕ) → place ≡ at + length (selector_element_octets 131 called) + length (results_octets found)
+    → (accept e).begins at (accept_ppdu_octets called found id body) (taken (Accept called found id (last_span (place + length (user_octets id body)) body)) (place + length (user_octets id body)) [])
+unfolding accept accept_ppdu_octets then_in map_in after_others results_octets
 accept-begins e called found at id body held most few size right ok place is =
     let user = user_octets id body in
-    let second = at + length (selector_octets 131 called) in
+    let second = at + length (selector_element_octets 131 called) in
     let value : External = external_of id (last_span (place + length user) body) in (
       taken called second (results_octets found ++ user),
       responding-begins called at _ held,
@@ -149,12 +149,12 @@ accept-begins e called found at id body held most few size right ok place is =
     )
 
 accept-ends : (e : Expected) (called : Option (List ℕ)) (found : List ℕ) (at id : ℕ) (body : List ℕ) → HasSelector called → length found ≤ MOST_OFFERS → id < 2 ^ 32 → length body ≤ MOST_BODY → is_wanted (accept_id e) id ≡ true → (are_judged e ≡ true → AreAccepting found)
-    → Ends (accept e) at (Accept called found id (last_span (at + length (accept_octets called found id body)) body)) (accept_octets called found id body)
+    → Ends (accept e) at (Accept called found id (last_span (at + length (accept_ppdu_octets called found id body)) body)) (accept_ppdu_octets called found id body)
 accept-ends e called found at id body held most few size right ok =
     let user = user_octets id body in
-    let whole = accept_octets called found id body in
-    let place = at + length (selector_octets 131 called) + length (results_octets found) in
-    let ends : place + length user ≡ at + length whole = omega (arith, accept-sized called found id (length (selector_octets 131 called)) (length (results_octets found)) (length user) body refl refl refl) in
+    let whole = accept_ppdu_octets called found id body in
+    let place = at + length (selector_element_octets 131 called) + length (results_octets found) in
+    let ends : place + length user ≡ at + length whole = omega (arith, accept-sized called found id (length (selector_element_octets 131 called)) (length (results_octets found)) (length user) body refl refl refl) in
     subst (λ (k : ℕ). (accept e).begins at whole (taken (Accept called found id (last_span k body)) k [])) ends
     (accept-begins e called found at id body held most few size right ok place refl)
 
@@ -167,24 +167,24 @@ ahead whole at first after other s =
     ∙ ap (λ (os : List ℕ). has_tag 165 os) (sym s.left)
 
 -- a selector is passed over
-passed-selector : (whole : List ℕ) (tag at : ℕ) (called : Option (List ℕ)) (after : List ℕ) → HasSelector called → tag % 32 ≢ 31 → is_other 128 191 (164 ∷ 165 ∷ []) tag ≡ true → PassedSoFar skip (is_other 128 191 (164 ∷ 165 ∷ [])) 0 whole at (selector_octets tag called ++ after) → (next : ℕ) × PassedSoFar skip (is_other 128 191 (164 ∷ 165 ∷ [])) 0 whole next after
+passed-selector : (whole : List ℕ) (tag at : ℕ) (called : Option (List ℕ)) (after : List ℕ) → HasSelector called → tag % 32 ≢ 31 → is_other 128 191 (164 ∷ 165 ∷ []) tag ≡ true → PassedSoFar skip (is_other 128 191 (164 ∷ 165 ∷ [])) 0 whole at (selector_element_octets tag called ++ after) → (next : ℕ) × PassedSoFar skip (is_other 128 191 (164 ∷ 165 ∷ [])) 0 whole next after
 passed-selector whole tag at None after held single other s = (at, s)
 passed-selector whole tag at (Some octets) after held single other s = (at + length (written tag octets), passed-written (is_other 128 191 (164 ∷ 165 ∷ [])) 0 whole tag at octets after (omega (arith, held.1)) single other s)
 
-connect-first : (called : Option (List ℕ)) (contexts : List Offered) (id : ℕ) (body : List ℕ) → HasSelector called → length (connect_octets called contexts id body) < 2 ^ 32 → has_results (connect_octets called contexts id body) ≡ false
-unfolding connect_octets calling_octets offers_octets
+connect-first : (called : Option (List ℕ)) (contexts : List Offered) (id : ℕ) (body : List ℕ) → HasSelector called → length (connect_ppdu_octets called contexts id body) < 2 ^ 32 → has_results (connect_ppdu_octets called contexts id body) ≡ false
+unfolding connect_ppdu_octets calling_octets offers_octets
 connect-first called contexts id body held few =
-    let whole = connect_octets called contexts id body in
+    let whole = connect_ppdu_octets called contexts id body in
     let rest = offers_octets contexts ++ user_octets id body in
     let test = is_other 128 191 (164 ∷ 165 ∷ []) in
-    let one = passed-written test 0 whole 129 0 (0 ∷ 0 ∷ 0 ∷ 1 ∷ []) (selector_octets 130 called ++ rest) (omega arith) (omega arith) refl (passed-begin skip test 0 whole (omega (arith, few))) in
+    let one = passed-written test 0 whole 129 0 (0 ∷ 0 ∷ 0 ∷ 1 ∷ []) (selector_element_octets 130 called ++ rest) (omega arith) (omega arith) refl (passed-begin skip test 0 whole (omega (arith, few))) in
     let two = passed-selector whole 130 _ called rest held (omega arith) refl one in
     ahead whole two.0 164 _ refl two.1
 
-accept-first : (called : Option (List ℕ)) (found : List ℕ) (id : ℕ) (body : List ℕ) → HasSelector called → length (accept_octets called found id body) < 2 ^ 32 → has_results (accept_octets called found id body) ≡ true
-unfolding accept_octets results_octets
+accept-first : (called : Option (List ℕ)) (found : List ℕ) (id : ℕ) (body : List ℕ) → HasSelector called → length (accept_ppdu_octets called found id body) < 2 ^ 32 → has_results (accept_ppdu_octets called found id body) ≡ true
+unfolding accept_ppdu_octets results_octets
 accept-first called found id body held few =
-    let whole = accept_octets called found id body in
+    let whole = accept_ppdu_octets called found id body in
     let rest = results_octets found ++ user_octets id body in
     let two = passed-selector whole 131 0 called rest held (omega arith) refl (passed-begin skip (is_other 128 191 (164 ∷ 165 ∷ [])) 0 whole (omega (arith, few))) in
     ahead whole two.0 165 _ refl two.1
@@ -239,16 +239,16 @@ is_connect e at contents p first done = inr (λ h. false≢true (sym first ∙ (
 is_accept : (e : Expected) (at : ℕ) (contents : List ℕ) (p : Ppdu) → has_results contents ≡ true → Ends (accept e) at p contents → Ends (accept_or_connect e) at p contents
 is_accept e at contents p first done = inl ((results-decided contents).0 first, done)
 
-selector-few : (tag : ℕ) (called : Option (List ℕ)) → HasSelector called → length (selector_octets tag called) ≤ 34
+selector-few : (tag : ℕ) (called : Option (List ℕ)) → HasSelector called → length (selector_element_octets tag called) ≤ 34
 selector-few tag None held = omega arith
 selector-few tag (Some octets) held = omega (arith, held.1, short-sized tag octets (omega (arith, held.1)))
 
 connect-whole : (e : Expected) (called : Option (List ℕ)) (contexts : List Offered) (at id : ℕ) (body : List ℕ) → HasSelector called → AreOffers contexts → All (λ o. IsOid o.abstract_name) contexts → id < 2 ^ 32 → length body ≤ MOST_BODY → is_wanted (connect_id e contexts) id ≡ true
-    → Ends (ppdu e) at (Connect called contexts id (last_span (at + length (set_up_octets (connect_octets called contexts id body))) body)) (set_up_octets (connect_octets called contexts id body))
+    → Ends (ppdu e) at (Connect called contexts id (last_span (at + length (set_up_octets (connect_ppdu_octets called contexts id body))) body)) (set_up_octets (connect_ppdu_octets called contexts id body))
 connect-whole e called contexts at id body held are named few size right =
-    let contents = connect_octets called contexts id body in
+    let contents = connect_ppdu_octets called contexts id body in
     let place = parameters_place at contents in
-    let sized = connect-sized called contexts id (length (selector_octets 130 called)) (length (offers_octets contexts)) (length (user_octets id body)) body refl refl refl in
+    let sized = connect-sized called contexts id (length (selector_element_octets 130 called)) (length (offers_octets contexts)) (length (user_octets id body)) body refl refl refl in
     let small : length contents < 2 ^ 31 = omega (arith, sized, selector-few 130 called held, offers-few contexts are named, user-few id body few size, size) in
     let first = connect-first called contexts id body held (omega (arith, small)) in
     set_up-ends e at contents (Connect called contexts id (last_span (at + length (set_up_octets contents)) body))
@@ -257,11 +257,11 @@ connect-whole e called contexts at id body held are named few size right =
     (is_connect e place contents (Connect called contexts id (last_span (place + length contents) body)) first (connect-ends e called contexts place id body held are named few size right))))
 
 accept-whole : (e : Expected) (called : Option (List ℕ)) (found : List ℕ) (at id : ℕ) (body : List ℕ) → HasSelector called → length found ≤ MOST_OFFERS → id < 2 ^ 32 → length body ≤ MOST_BODY → is_wanted (accept_id e) id ≡ true → (are_judged e ≡ true → AreAccepting found)
-    → Ends (ppdu e) at (Accept called found id (last_span (at + length (set_up_octets (accept_octets called found id body))) body)) (set_up_octets (accept_octets called found id body))
+    → Ends (ppdu e) at (Accept called found id (last_span (at + length (set_up_octets (accept_ppdu_octets called found id body))) body)) (set_up_octets (accept_ppdu_octets called found id body))
 accept-whole e called found at id body held most few size right ok =
-    let contents = accept_octets called found id body in
+    let contents = accept_ppdu_octets called found id body in
     let place = parameters_place at contents in
-    let sized = accept-sized called found id (length (selector_octets 131 called)) (length (results_octets found)) (length (user_octets id body)) body refl refl refl in
+    let sized = accept-sized called found id (length (selector_element_octets 131 called)) (length (results_octets found)) (length (user_octets id body)) body refl refl refl in
     let small : length contents < 2 ^ 31 = omega (arith, sized, selector-few 131 called held, results-few found most, user-few id body few size, size) in
     let first = accept-first called found id body held (omega (arith, small)) in
     set_up-ends e at contents (Accept called found id (last_span (at + length (set_up_octets contents)) body))
@@ -277,7 +277,7 @@ carry-whole e at id body few size right =
     (inl (refl, map-ends carry_of (user_data (carry_id e)) at user (user_octets id body) (ends_of (user_data (carry_id e)) at user (user_octets id body) (user-writes (carry_id e) at id body few size right))))
 
 -- what is written for a PPDU is one, with the body at its end
-pub ppdu-begins : (e : Expected) (p : Ppdu) (body : List ℕ) (at : ℕ) → IsWritable p → IsHeld p → IsAsExpected e p → length body ≤ MOST_BODY → (ppdu e).begins at (ppdu_octets p body) (taken_whole at (ppdu_octets p body) (ppdu_as_written at p body))
+pub ppdu-begins : (e : Expected) (p : Ppdu) (body : List ℕ) (at : ℕ) → IsWritablePpdu p → IsKeptPpdu p → IsExpectedPpdu e p → length body ≤ MOST_BODY → (ppdu e).begins at (ppdu_octets p body) (taken_whole at (ppdu_octets p body) (ppdu_as_written at p body))
 ppdu-begins e (Connect called contexts id old) body at are held right size = connect-whole e called contexts at id body held.0 are held.1.0 held.1.1 size right
 ppdu-begins e (Accept called found id old) body at most held right size = accept-whole e called found at id body held.0 most held.1 size right.0 right.1
 ppdu-begins e (Carry id old) body at any held right size = carry-whole e at id body held size right

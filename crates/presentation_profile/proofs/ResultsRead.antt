@@ -9,7 +9,7 @@ use Rattle.ber_values.specs.Lists.{more_in, list_in}
 use Rattle.ber_values.specs.Parts.{contents_as}
 use Rattle.ber_values.specs.declared.head.Head.{Head}
 use Rattle.ber_values.proofs.Lists.{MembersSoFar}
-use Rattle.presentation_profile.specs.Results.{one_result, first_in, accepting_results}
+use Rattle.presentation_profile.specs.Results.{one_result, begin_then_in, accepting_results}
 
 -- what a loop over results begins with
 pub results-begin : (found : List ℕ) (at : ℕ) (octets : List ℕ) → at + length octets < 2 ^ 64 → MembersSoFar (one_result false) 0 (length found + length octets) found at octets (more_in (one_result false) 0 (length octets) found at octets)
@@ -33,13 +33,13 @@ more-after {X} g (suc room) before xs at (first ∷ octets) =
 
 -- two that accept, and then any
 pub accepting-reads : (head : Head) (octets : List ℕ) (one at : ℕ) (rest : List ℕ) (two next : ℕ) (last : List ℕ) → (one_result true).reading head.body octets ≡ Ok (taken one at rest) → (one_result true).reading at rest ≡ Ok (taken two next last) → accepting_results.reading head octets ≡ more_in (one_result false) 0 (length last) (one ∷ two ∷ []) next last
-unfolding accepting_results first_in contents_as list_in
+unfolding accepting_results begin_then_in contents_as list_in
 accepting-reads head octets one at rest two next last first second = rw (first, second) (sym (more-after (one_result false) (length last) (one ∷ two ∷ []) [] next last))
 
 pub first-fails : (head : Head) (octets : List ℕ) (f : BerFault) → (one_result true).reading head.body octets ≡ Err f → accepting_results.reading head octets ≡ Err f
-unfolding accepting_results first_in
+unfolding accepting_results begin_then_in
 first-fails head octets f first = rw first refl
 
 pub second-fails : (head : Head) (octets : List ℕ) (one at : ℕ) (rest : List ℕ) (f : BerFault) → (one_result true).reading head.body octets ≡ Ok (taken one at rest) → (one_result true).reading at rest ≡ Err f → accepting_results.reading head octets ≡ Err f
-unfolding accepting_results first_in
+unfolding accepting_results begin_then_in
 second-fails head octets one at rest f first second = rw (first, second) refl

@@ -14,7 +14,7 @@ use Rattle.presentation_profile.specs.declared.offers.TheConstants.{MOST_OFFERS}
 use Rattle.ber_values.specs.Externals.{external_of, is_wanted, external, external_octets}
 use Rattle.ber_values.proofs.Externals.{external-spelled}
 use Rattle.presentation_profile.specs.UserData.{user_data}
-use Rattle.presentation_profile.specs.Results.{may_be, result_contents, one_result, any_results, first_in, accepting_results, results}
+use Rattle.presentation_profile.specs.Results.{may_be, result_contents, one_result, any_results, begin_then_in, accepting_results, results}
 use Rattle.presentation_profile.specs.Written.{AreAccepting, user_octets, accepted_octets, refused_octets, result_octets, results_octets}
 use Rattle.presentation_profile.proofs.OffersWritten.{id-few, oid-spelled, ber_is}
 
@@ -136,7 +136,7 @@ any-spelled at found = list-spelled (one_result false) result_octets 0 at found 
 
 -- two that accept, and others
 accepting-spelled : (at : ℕ) (others : List ℕ) → accepting_results.spells at (0 ∷ 0 ∷ others) (flat_map result_octets (0 ∷ 0 ∷ others))
-unfolding accepting_results first_in contents_as
+unfolding accepting_results begin_then_in contents_as
 accepting-spelled at others =
     let rest = flat_map result_octets others in
     let one = at + length accepted_octets in

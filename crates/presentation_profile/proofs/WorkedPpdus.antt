@@ -14,16 +14,16 @@ use Rattle.ber_values.specs.Leaves as leaves
 use Rattle.presentation_profile.specs.declared.expected.Expected.TheVariants as expects
 use Rattle.presentation_profile.specs.declared.ppdu.Ppdu.TheVariants.{Connect, Accept, Carry}
 use Rattle.presentation_profile.specs.Offers.{transfers, offered, offer_contents, offer, offers}
-use Rattle.presentation_profile.specs.Others.{others, after_others, before_others, selector_in}
+use Rattle.presentation_profile.specs.Others.{others, after_others, before_others, selector_element}
 use Rattle.ber_values.specs.Externals.{external}
 use Rattle.presentation_profile.specs.UserData.{user_data}
-use Rattle.presentation_profile.specs.Results.{result_contents, one_result, first_in, accepting_results, results}
+use Rattle.presentation_profile.specs.Results.{result_contents, one_result, begin_then_in, accepting_results, results}
 use Rattle.presentation_profile.specs.Ppdus.{connect_selectors, connect, accept, parameters, mode, set_up_contents, set_up, ppdu}
 use Rattle.ber_values.specs.Heads.{head_by, element_by, extent_of, extent_within}
 use Rattle.ber_values.specs.Extents.{definite}
 use Rattle.ber_values.specs.Grammars.{passed_within, passed_in}
 use Rattle.ber_values.specs.Tags.{tag_with}
-use Rattle.ber_values.specs.Runs.{AnyElement, IsSound, HasPassingTag}
+use Rattle.ber_values.specs.Runs.{AnyElement, IsSoundElement, HasPassingTag}
 use Rattle.presentation_profile.specs.Ppdus.{is_between, HasResultsFirst}
 use Rattle.presentation_profile.proofs.PpdusRead.{results-decided}
 use Rattle.std.proofs.Common.{arith}
@@ -46,7 +46,7 @@ connect_read : (ppdu expects.Connect).reading 24 connect_octets ≡ Ok (taken
     (Connect (Some (0 ∷ 0 ∷ 0 ∷ 1 ∷ [])) (offered 1 (82 ∷ 1 ∷ 0 ∷ 1 ∷ []) true ∷ offered 3 (40 ∷ 202 ∷ 34 ∷ 2 ∷ 1 ∷ []) true ∷ []) 1 (record { from = 93; to = 170 }))
     170 [])
 unfolding connect_octets ppdu whole_in set_up set_up_contents mode parameters connect
-    connect_selectors after_others before_others others selector_in user_data external offers offer
+    connect_selectors after_others before_others others selector_element user_data external offers offer
     offer_contents transfers part_in parted_in sized_part_in length_in tag_in head_in gives then_in
     map_in branch_in refused skip by_length pass_in choose_in maybe_in contents_as contents_where
     all_in more_in list_in count_in leaves.unsigned_within leaves.unsigned leaves.oid leaves.span
@@ -68,8 +68,8 @@ accept_octets =
 accept_read : (ppdu (expects.Accept (Some 1))).reading 24 accept_octets ≡ Ok (taken
     (Accept (Some (0 ∷ 0 ∷ 0 ∷ 1 ∷ [])) (0 ∷ 0 ∷ []) 1 (record { from = 68; to = 140 })) 140 [])
 unfolding accept_octets ppdu whole_in set_up set_up_contents mode parameters accept results
-    accepting_results first_in one_result result_contents after_others before_others others
-    selector_in user_data external part_in parted_in sized_part_in length_in tag_in head_in gives
+    accepting_results begin_then_in one_result result_contents after_others before_others others
+    selector_element user_data external part_in parted_in sized_part_in length_in tag_in head_in gives
     then_in map_in branch_in refused skip by_length pass_in choose_in maybe_in contents_as
     contents_where all_in more_in list_in count_in leaves.unsigned leaves.oid leaves.octet
     leaves.octet_in leaves.span leaves.selector leaves.selector_in leaves.fixed unsigned_in oid_in
@@ -83,7 +83,7 @@ results_read : ((results true).reading 9 (165 ∷ 10 ∷ 48 ∷ 3 ∷ 128 ∷ 1 
     × ((results true).reading 9 (165 ∷ 0 ∷ []) ≡ Err (fault_at 11 whys.Short))
     × ((results true).reading 9 (165 ∷ 15 ∷ 48 ∷ 3 ∷ 128 ∷ 1 ∷ 0 ∷ 48 ∷ 3 ∷ 128 ∷ 1 ∷ 0 ∷ 48 ∷ 3 ∷ 128 ∷ 1 ∷ 1 ∷ []) ≡ Ok (taken (0 ∷ 0 ∷ 1 ∷ []) 26 []))
     × ((results false).reading 9 (165 ∷ 10 ∷ 48 ∷ 3 ∷ 128 ∷ 1 ∷ 0 ∷ 48 ∷ 3 ∷ 128 ∷ 1 ∷ 1 ∷ []) ≡ Ok (taken (0 ∷ 1 ∷ []) 21 []))
-unfolding results accepting_results first_in one_result result_contents part_in parted_in
+unfolding results accepting_results begin_then_in one_result result_contents part_in parted_in
     sized_part_in length_in tag_in head_in gives then_in map_in branch_in refused skip by_length
     pass_in choose_in maybe_in contents_as contents_where all_in more_in list_in count_in leaves.oid
     leaves.octet leaves.octet_in oid_in extent_of extent_within definite head_by element_by
@@ -108,12 +108,12 @@ results_first =
       contents = 5 ∷ [];
       closing = [];
     } in
-    let sound : IsSound selector =
+    let sound : IsSoundElement selector =
     record { tag = (omega arith, refl); behind = inl (inl (omega arith, refl, refl), refl) } in (
       selector ∷ [],
       0 ∷ [],
       record {
-        sound = All-cons IsSound selector [] sound (All-nil IsSound);
+        sound = All-cons IsSoundElement selector [] sound (All-nil IsSoundElement);
         parts = refl;
         passed = All-cons (HasPassingTag is_between) selector [] refl
             (All-nil (HasPassingTag is_between));

@@ -1,6 +1,7 @@
 -- The contexts that both ends agree on.
 use Rattle.std.specs.Prelude.{◌≡◌, ◌≢◌, ℕ, ◌≤◌, Bool, ◌&&◌, ◌||◌, List, [], ◌∷◌, length, map}
-use Rattle.std.specs.Prelude.{filter, ◌⊎◌, Result, Ok, Err, Option, Some, None, ◌↔◌, ◌==◌, if◌then◌else◌}
+use Rattle.std.specs.Prelude.{filter, ◌⊎◌, Result, Ok, Err, Option, Some, None, ◌↔◌, ◌==◌}
+use Rattle.std.specs.Prelude.{if◌then◌else◌}
 use Rattle.std.specs.Str.{bytes_eq}
 use Rattle.presentation_profile.specs.declared.offers.Offered.{Offered}
 use Rattle.presentation_profile.specs.declared.agreement.Agreed.{Agreed}

@@ -18,5 +18,5 @@ unfoldable pub before_others : {X : Type 0} → List ℕ → Grammar X → Gramm
 before_others named g = then_in g (λ x. map_in (λ u. x) (others named))
 
 -- a selector, if there is one: an empty one is none
-unfoldable pub selector_in : ℕ → Grammar (Option (List ℕ))
-selector_in tag = choose_in tag selector (gives None)
+unfoldable pub selector_element : ℕ → Grammar (Option (List ℕ))
+selector_element tag = choose_in tag selector (gives None)

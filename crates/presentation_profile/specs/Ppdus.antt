@@ -14,7 +14,7 @@ use Rattle.ber_values.specs.declared.external.External.{External}
 use Rattle.presentation_profile.specs.declared.ppdu.Ppdu.{Ppdu}
 use Rattle.presentation_profile.specs.declared.ppdu.Ppdu.TheVariants.{Connect, Accept, Carry}
 use Rattle.presentation_profile.specs.Offers.{offers}
-use Rattle.presentation_profile.specs.Others.{others, after_others, before_others, selector_in}
+use Rattle.presentation_profile.specs.Others.{others, after_others, before_others, selector_element}
 use Rattle.presentation_profile.specs.Results.{results}
 use Rattle.presentation_profile.specs.UserData.{user_data}
 use Rattle.presentation_profile.specs.declared.expected.Expected.{Expected}
@@ -29,8 +29,8 @@ connect_of called contexts user = Connect called contexts user.id user.body
 
 -- the selectors, of which the called one counts
 unfoldable pub connect_selectors : Grammar (Option (List ℕ))
-connect_selectors = after_others connect_named (then_in (selector_in 129) (λ calling.
-    after_others connect_named (selector_in 130)))
+connect_selectors = after_others connect_named (then_in (selector_element 129) (λ calling.
+    after_others connect_named (selector_element 130)))
 
 -- the selectors, the offers and the user data of a connect
 unfoldable pub connect : Expected → Grammar Ppdu
@@ -51,7 +51,7 @@ accept_of called found user = Accept called found user.id user.body
 -- the selector, the results and the user data of an accept
 unfoldable pub accept : Expected → Grammar Ppdu
 accept e =
-    then_in (after_others accept_named (selector_in 131)) (λ called.
+    then_in (after_others accept_named (selector_element 131)) (λ called.
     then_in (after_others accept_named (results (are_judged e))) (λ found.
     map_in (accept_of called found)
     (after_others accept_named (before_others accept_named (user_data (accept_id e))))))

@@ -33,8 +33,8 @@ abbrev pub from_place : Head → ℕ → Head
 from_place head place = record head { body = place }
 
 -- contents that begin with one thing, and go on after it
-unfoldable pub first_in : {X Y : Type 0} → Grammar X → (X → Contents Y) → Contents Y
-first_in {X} {Y} g next = record {
+unfoldable pub begin_then_in : {X Y : Type 0} → Grammar X → (X → Contents Y) → Contents Y
+begin_then_in {X} {Y} g next = record {
   spells = λ at y octets.
       (t : Taken X) × g.begins at octets t × (next t.value).spells t.next y t.rest;
   fault = λ head octets f. g.fault head.body octets f
@@ -47,8 +47,8 @@ first_in {X} {Y} g next = record {
 -- two that accept, and any after them
 unfoldable pub accepting_results : Contents (List ℕ)
 accepting_results =
-    first_in (one_result true) (λ one.
-    first_in (one_result true) (λ two.
+    begin_then_in (one_result true) (λ one.
+    begin_then_in (one_result true) (λ two.
     contents_as (λ others. one ∷ two ∷ others) any_results))
 
 -- results; the first two have to accept, or all may be any

@@ -59,21 +59,21 @@ unfoldable pub results_octets : List ℕ → List ℕ
 results_octets found = written 165 (flat_map result_octets found)
 
 -- a selector of this tag, if there is one
-abbrev pub selector_octets : ℕ → Option (List ℕ) → List ℕ
-selector_octets tag None = []
-selector_octets tag (Some selector) = written tag selector
+abbrev pub selector_element_octets : ℕ → Option (List ℕ) → List ℕ
+selector_element_octets tag None = []
+selector_element_octets tag (Some selector) = written tag selector
 
 -- the calling selector, which is 00 00 00 01
 unfoldable pub calling_octets : List ℕ
 calling_octets = written 129 (0 ∷ 0 ∷ 0 ∷ 1 ∷ [])
 
-unfoldable pub connect_octets : Option (List ℕ) → List Offered → ℕ → List ℕ → List ℕ
-connect_octets called contexts id body = calling_octets
-    ++ (selector_octets 130 called ++ (offers_octets contexts ++ user_octets id body))
+unfoldable pub connect_ppdu_octets : Option (List ℕ) → List Offered → ℕ → List ℕ → List ℕ
+connect_ppdu_octets called contexts id body = calling_octets
+    ++ (selector_element_octets 130 called ++ (offers_octets contexts ++ user_octets id body))
 
-unfoldable pub accept_octets : Option (List ℕ) → List ℕ → ℕ → List ℕ → List ℕ
-accept_octets called found id body =
-    selector_octets 131 called ++ (results_octets found ++ user_octets id body)
+unfoldable pub accept_ppdu_octets : Option (List ℕ) → List ℕ → ℕ → List ℕ → List ℕ
+accept_ppdu_octets called found id body =
+    selector_element_octets 131 called ++ (results_octets found ++ user_octets id body)
 
 -- the normal mode
 unfoldable pub mode_octets : List ℕ
@@ -84,23 +84,23 @@ unfoldable pub set_up_octets : List ℕ → List ℕ
 set_up_octets contents = written 49 (mode_octets ++ written 162 contents)
 
 -- what stands before parameters of so many octets
-unfoldable pub front_octets : ℕ → List ℕ
-front_octets len = head_octets 49 (length mode_octets + part_size len)
+unfoldable pub ppdu_front_octets : ℕ → List ℕ
+ppdu_front_octets len = head_octets 49 (length mode_octets + part_size len)
     ++ (mode_octets ++ head_octets 162 len)
 
 -- a PPDU with these octets as its body
 abbrev pub ppdu_octets : Ppdu → List ℕ → List ℕ
 ppdu_octets (Connect called contexts id _) body =
-    set_up_octets (connect_octets called contexts id body)
+    set_up_octets (connect_ppdu_octets called contexts id body)
 ppdu_octets (Accept called found id _) body =
-    set_up_octets (accept_octets called found id body)
+    set_up_octets (accept_ppdu_octets called found id body)
 ppdu_octets (Carry id _) body = user_octets id body
 
 -- what may be written: lawful offers, and at most 16 results
-abbrev pub IsWritable : Ppdu → Type 0
-IsWritable (Connect called contexts id _) = AreOffers contexts
-IsWritable (Accept called found id _) = length found ≤ MOST_OFFERS
-IsWritable (Carry id _) = Unit {0}
+abbrev pub IsWritablePpdu : Ppdu → Type 0
+IsWritablePpdu (Connect called contexts id _) = AreOffers contexts
+IsWritablePpdu (Accept called found id _) = length found ≤ MOST_OFFERS
+IsWritablePpdu (Carry id _) = Unit {0}
 
 -- the same PPDU, with its body in another place
 abbrev pub ppdu_with_body : Span → Ppdu → Ppdu
@@ -114,19 +114,19 @@ ppdu_as_written at p body =
     ppdu_with_body (last_span (at + length (ppdu_octets p body)) body) p
 
 -- what the types of a PPDU's parts hold
-abbrev pub IsHeld : Ppdu → Type 0
-IsHeld (Connect called contexts id _) = HasSelector called
+abbrev pub IsKeptPpdu : Ppdu → Type 0
+IsKeptPpdu (Connect called contexts id _) = HasSelector called
     × (All (λ o. IsOid o.abstract_name) contexts × (id < 2 ^ 32))
-IsHeld (Accept called found id _) = HasSelector called × (id < 2 ^ 32)
-IsHeld (Carry id _) = id < 2 ^ 32
+IsKeptPpdu (Accept called found id _) = HasSelector called × (id < 2 ^ 32)
+IsKeptPpdu (Carry id _) = id < 2 ^ 32
 
 -- the first two results accept
 abbrev pub AreAccepting : List ℕ → Type 0
 AreAccepting found = (others : List ℕ) × (found ≡ 0 ∷ 0 ∷ others)
 
 -- what is expected of a PPDU of its kind
-abbrev pub IsAsExpected : Expected → Ppdu → Type 0
-IsAsExpected e (Connect called contexts id _) = is_wanted (connect_id e contexts) id ≡ true
-IsAsExpected e (Accept called found id _) =
+abbrev pub IsExpectedPpdu : Expected → Ppdu → Type 0
+IsExpectedPpdu e (Connect called contexts id _) = is_wanted (connect_id e contexts) id ≡ true
+IsExpectedPpdu e (Accept called found id _) =
     (is_wanted (accept_id e) id ≡ true) × (are_judged e ≡ true → AreAccepting found)
-IsAsExpected e (Carry id _) = is_wanted (carry_id e) id ≡ true
+IsExpectedPpdu e (Carry id _) = is_wanted (carry_id e) id ≡ true

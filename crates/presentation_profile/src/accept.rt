@@ -6,11 +6,11 @@ ghost use Rattle.ber_values.specs.declared.lengths.TheConstants.{MOST_BODY};
 ghost use Rattle.ber_values.specs.Stops.{Answers};
 ghost use Rattle.ber_values.specs.Parts.{all_in};
 ghost use Rattle.ber_values.specs.Readers.{taken_from};
-ghost use Rattle.presentation_profile.specs.Others.{after_others, selector_in};
+ghost use Rattle.presentation_profile.specs.Others.{after_others, selector_element};
 ghost use Rattle.presentation_profile.specs.Ppdus.{accept_named, accept};
 ghost use Rattle.presentation_profile.specs.Ppdus.{body_of};
 ghost use Rattle.ber_values.specs.Externals.{IsSpanWithin};
-ghost use Rattle.presentation_profile.specs.Written.{accept_octets};
+ghost use Rattle.presentation_profile.specs.Written.{accept_ppdu_octets};
 
 use crate::expected::{Expected, accept_id, are_judged};
 use crate::offers::MOST_OFFERS;
@@ -62,7 +62,7 @@ fn take_responding(
 ) -> Result<(Option<Selector>, usize), Stop>
     requires { at + length octets.now < 2 ^ 64 }
     ensures exact { Answers (taken_from at octets.now) result
-        ((after_others accept_named (selector_in 131)).reading at octets.now) }
+        ((after_others accept_named (selector_element 131)).reading at octets.now) }
     ensures within { IfOk result (λ x. (at ≤ x.1) × (x.1 ≤ at + length octets.now)) }
 {
     let next = skip_others(octets, at, &NAMED)?;
@@ -79,14 +79,14 @@ pub(crate) fn accept_len(
 ) -> usize
     requires few { length results.now ≤ MOST_OFFERS }
     requires bounded { length body.now ≤ MOST_BODY }
-    ensures value { result ≡ length (accept_octets called.now results.now id body.now) }
+    ensures value { result ≡ length (accept_ppdu_octets called.now results.now id body.now) }
     ensures few { result ≤ 70000 }
 {
     selector_len(called) + results_len(results) + user_len(id, body)
 }
 
 /// Appends the parameters of an accept.
-#[tactic(auto, using(crate::proofs::Sizes::extended), unfolding(crate::specs::Written::accept_octets))]
+#[tactic(auto, using(crate::proofs::Sizes::extended), unfolding(crate::specs::Written::accept_ppdu_octets))]
 pub(crate) fn put_accept(
     out: &mut Vec<u8>,
     called: &Option<Selector>,
@@ -97,7 +97,7 @@ pub(crate) fn put_accept(
     requires few { length results.now ≤ MOST_OFFERS }
     requires bounded { length body.now ≤ MOST_BODY }
     ensures ok { OnOk result
-        (out.new.items ≡ out.old.items ++ accept_octets called.now results.now id body.now) }
+        (out.new.items ≡ out.old.items ++ accept_ppdu_octets called.now results.now id body.now) }
     ensures err { OnErr result (Extends out.old.items out.new.items) }
 {
     put_selector(out, RESPONDING, called)?;

@@ -9,7 +9,8 @@ ghost use Rattle.ber_values.specs.Readers.{taken_from};
 ghost use Rattle.presentation_profile.specs.Ppdus.{connect_selectors, connect};
 ghost use Rattle.presentation_profile.specs.Ppdus.{body_of};
 ghost use Rattle.ber_values.specs.Externals.{IsSpanWithin};
-ghost use Rattle.presentation_profile.specs.Written.{AreOffers, calling_octets, connect_octets};
+ghost use Rattle.presentation_profile.specs.Written.{AreOffers, calling_octets};
+ghost use Rattle.presentation_profile.specs.Written.{connect_ppdu_octets};
 
 use crate::expected::{Expected, connect_id};
 use crate::offers::{OFFERS, Offers, offers_len, put_offers, take_offers};
@@ -86,14 +87,14 @@ pub(crate) fn connect_len(
 ) -> usize
     requires offered { AreOffers contexts.now }
     requires bounded { length body.now ≤ MOST_BODY }
-    ensures value { result ≡ length (connect_octets called.now contexts.now id body.now) }
+    ensures value { result ≡ length (connect_ppdu_octets called.now contexts.now id body.now) }
     ensures few { result ≤ 70000 }
 {
     6 + selector_len(called) + offers_len(contexts) + user_len(id, body)
 }
 
 /// Appends the parameters of a connect.
-#[tactic(auto, using(crate::proofs::Sizes::extended), unfolding(crate::specs::Written::connect_octets))]
+#[tactic(auto, using(crate::proofs::Sizes::extended), unfolding(crate::specs::Written::connect_ppdu_octets))]
 pub(crate) fn put_connect(
     out: &mut Vec<u8>,
     called: &Option<Selector>,
@@ -104,7 +105,7 @@ pub(crate) fn put_connect(
     requires offered { AreOffers contexts.now }
     requires bounded { length body.now ≤ MOST_BODY }
     ensures ok { OnOk result
-        (out.new.items ≡ out.old.items ++ connect_octets called.now contexts.now id body.now) }
+        (out.new.items ≡ out.old.items ++ connect_ppdu_octets called.now contexts.now id body.now) }
     ensures err { OnErr result (Extends out.old.items out.new.items) }
 {
     put_calling(out)?;

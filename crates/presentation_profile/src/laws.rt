@@ -12,7 +12,8 @@ ghost use Rattle.presentation_profile.specs.Offers.{offers};
 ghost use Rattle.ber_values.specs.declared.lengths.TheConstants.{MOST_BODY};
 ghost use Rattle.presentation_profile.specs.Ppdus.{ppdu};
 ghost use Rattle.presentation_profile.specs.Written.{offers_octets, ppdu_octets, ppdu_as_written};
-ghost use Rattle.presentation_profile.specs.Written.{AreOffers, IsWritable, IsHeld, IsAsExpected};
+ghost use Rattle.presentation_profile.specs.Written.{AreOffers, IsWritablePpdu, IsKeptPpdu};
+ghost use Rattle.presentation_profile.specs.Written.{IsExpectedPpdu};
 
 /// Octets have one reading as offers: exactly one holds, they begin with exactly one list of them,
 /// or they have exactly one first fault.
@@ -40,7 +41,7 @@ pub fn written_offers_are_read()
 /// its body where that was written.
 pub fn written_ppdus_are_read()
     ensures { (e : Expected) (p : Ppdu) (body : List ℕ) (at : ℕ)
-        → IsWritable p → IsHeld p → IsAsExpected e p → length body ≤ MOST_BODY
+        → IsWritablePpdu p → IsKeptPpdu p → IsExpectedPpdu e p → length body ≤ MOST_BODY
         → (ppdu e).begins at (ppdu_octets p body)
         (taken_whole at (ppdu_octets p body) (ppdu_as_written at p body)) }
 {}

@@ -8,10 +8,10 @@ ghost use Rattle.ber_values.specs.Stops.{Answers};
 ghost use Rattle.ber_values.specs.Grammars.{taken};
 ghost use Rattle.ber_values.specs.Readers.{taken_from};
 ghost use Rattle.presentation_profile.specs.Others.{others, after_others, before_others};
-ghost use Rattle.presentation_profile.specs.Others.{selector_in};
+ghost use Rattle.presentation_profile.specs.Others.{selector_element};
 ghost use Rattle.ber_values.specs.Externals.{IsSpanWithin};
 ghost use Rattle.presentation_profile.specs.UserData.{user_data};
-ghost use Rattle.presentation_profile.specs.Written.{selector_octets};
+ghost use Rattle.presentation_profile.specs.Written.{selector_element_octets};
 
 use crate::user_data::take_user_data;
 use ber_values::{
@@ -33,7 +33,7 @@ pub(crate) fn skip_others(octets: &[u8], at: usize, named: &[u8]) -> Result<usiz
 }
 
 /// The selector of this tag at the front of octets, if there is one, and the place after it.
-#[tactic(auto, unfolding(crate::specs::Others::selector_in, ber_values::specs::Parts::choose_in, ber_values::specs::Parts::part_in, ber_values::specs::Grammars::branch_in, ber_values::specs::Grammars::gives))]
+#[tactic(auto, unfolding(crate::specs::Others::selector_element, ber_values::specs::Parts::choose_in, ber_values::specs::Parts::part_in, ber_values::specs::Grammars::branch_in, ber_values::specs::Grammars::gives))]
 pub(crate) fn take_selector(
     alloc: Global,
     octets: &[u8],
@@ -43,7 +43,7 @@ pub(crate) fn take_selector(
     requires single { tag % 32 ≢ 31 }
     requires placed { at + length octets.now < 2 ^ 64 }
     ensures exact { Answers (taken_from at octets.now) result
-        ((selector_in tag).reading at octets.now) }
+        ((selector_element tag).reading at octets.now) }
     ensures within { IfOk result (λ x. (at ≤ x.1) × (x.1 ≤ at + length octets.now)) }
 {
     if !has_tag(octets, tag) {
@@ -92,7 +92,7 @@ pub(crate) fn take_last_data(
 
 /// How many octets [`put_selector`] appends.
 pub(crate) fn selector_len(selector: &Option<Selector>) -> usize
-    ensures value { (tag : ℕ) → result ≡ length (selector_octets tag selector.now) }
+    ensures value { (tag : ℕ) → result ≡ length (selector_element_octets tag selector.now) }
     ensures few { result ≤ 34 }
 {
     match selector {
@@ -108,7 +108,8 @@ pub(crate) fn put_selector(
     selector: &Option<Selector>,
 ) -> Result<(), AllocError>
     requires { tag % 32 ≢ 31 }
-    ensures ok { OnOk result (out.new.items ≡ out.old.items ++ selector_octets tag selector.now) }
+    ensures ok { OnOk result (out.new.items ≡ out.old.items ++ selector_element_octets tag
+        selector.now) }
     ensures err { OnErr result (out.new.items ≡ out.old.items) }
 {
     match selector {

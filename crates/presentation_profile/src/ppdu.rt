@@ -11,8 +11,10 @@ ghost use Rattle.ber_values.specs.Readers.{IsReadBy, taken_from, taken_whole};
 ghost use Rattle.presentation_profile.specs.Ppdus.{accept_or_connect, has_results, parameters};
 ghost use Rattle.presentation_profile.specs.Ppdus.{mode, set_up_contents, ppdu, body_of};
 ghost use Rattle.ber_values.specs.Externals.{IsSpanWithin};
-ghost use Rattle.presentation_profile.specs.Written.{AreOffers, IsWritable, connect_octets};
-ghost use Rattle.presentation_profile.specs.Written.{accept_octets, mode_octets, front_octets};
+ghost use Rattle.presentation_profile.specs.Written.{AreOffers, IsWritablePpdu};
+ghost use Rattle.presentation_profile.specs.Written.{connect_ppdu_octets};
+ghost use Rattle.presentation_profile.specs.Written.{accept_ppdu_octets, mode_octets};
+ghost use Rattle.presentation_profile.specs.Written.{ppdu_front_octets};
 ghost use Rattle.presentation_profile.specs.Written.{set_up_octets, ppdu_octets};
 
 use crate::accept::{accept_from, accept_len, put_accept};
@@ -209,7 +211,7 @@ fn has_results(octets: &[u8]) -> bool
 /// which are written with BER alone; an accept has at most 16 results. After want of memory `out`
 /// is as before.
 pub fn write_ppdu(out: &mut Vec<u8>, ppdu: &Ppdu, body: &[u8]) -> Result<(), AllocError>
-    requires writable { IsWritable ppdu.now }
+    requires writable { IsWritablePpdu ppdu.now }
     requires bounded { length body.now ≤ MOST_BODY }
     ensures ok { OnOk result (out.new.items ≡ out.old.items ++ ppdu_octets ppdu.now body.now) }
     ensures err { OnErr result (out.new.items ≡ out.old.items) }
@@ -220,7 +222,7 @@ pub fn write_ppdu(out: &mut Vec<u8>, ppdu: &Ppdu, body: &[u8]) -> Result<(), All
 }
 
 fn put_ppdu(out: &mut Vec<u8>, ppdu: &Ppdu, body: &[u8]) -> Result<(), AllocError>
-    requires writable { IsWritable ppdu.now }
+    requires writable { IsWritablePpdu ppdu.now }
     requires bounded { length body.now ≤ MOST_BODY }
     ensures ok { OnOk result (out.new.items ≡ out.old.items ++ ppdu_octets ppdu.now body.now) }
     ensures err { OnErr result (Extends out.old.items out.new.items) }
@@ -252,7 +254,8 @@ fn put_whole_connect(
     requires offered { AreOffers contexts.now }
     requires bounded { length body.now ≤ MOST_BODY }
     ensures ok { OnOk result (out.new.items
-        ≡ out.old.items ++ set_up_octets (connect_octets called.now contexts.now id body.now)) }
+        ≡ out.old.items
+        ++ set_up_octets (connect_ppdu_octets called.now contexts.now id body.now)) }
     ensures err { OnErr result (Extends out.old.items out.new.items) }
 {
     put_front(out, connect_len(called, contexts, id, body))?;
@@ -270,7 +273,7 @@ fn put_whole_accept(
     requires few { length results.now ≤ MOST_OFFERS }
     requires bounded { length body.now ≤ MOST_BODY }
     ensures ok { OnOk result (out.new.items
-        ≡ out.old.items ++ set_up_octets (accept_octets called.now results.now id body.now)) }
+        ≡ out.old.items ++ set_up_octets (accept_ppdu_octets called.now results.now id body.now)) }
     ensures err { OnErr result (Extends out.old.items out.new.items) }
 {
     put_front(out, accept_len(called, results, id, body))?;
@@ -281,7 +284,7 @@ fn put_whole_accept(
 /// Appends what stands before parameters of so many octets.
 fn put_front(out: &mut Vec<u8>, len: usize) -> Result<(), AllocError>
     requires { len ≤ 70000 }
-    ensures ok { OnOk result (out.new.items ≡ out.old.items ++ front_octets len) }
+    ensures ok { OnOk result (out.new.items ≡ out.old.items ++ ppdu_front_octets len) }
     ensures err { OnErr result (Extends out.old.items out.new.items) }
 {
     write_head(out, SET_UP, 5 + part_len(len))?;

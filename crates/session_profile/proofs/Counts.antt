@@ -2,13 +2,13 @@
 use Rattle.std.proofs.Common.{◌≡◌, ℕ, ◌+◌, ◌≤◌, Bool, true, false, eqb, List, [], ◌∷◌, ◌++◌, Option, Some, None, is_some, refl, sym, subst, ◌∙◌, inl, inr, arith}
 use Rattle.std.proofs.lemmas.Bool.{eqb-true, false≢true}
 use Rattle.ber_values.specs.declared.fault.Span.{Span}
-use Rattle.session_profile.specs.Parameters.{Parameter, BeginsParameters, found, last_of}
+use Rattle.session_profile.specs.Parameters.{Parameter, BeginsParameters, found, last_parameter_of}
 use Rattle.session_profile.specs.Rules.{MayFollow, SpellsAll}
-use Rattle.session_profile.specs.Connections.{Connection, contents_of, span_of, seen_in, may_follow, connection_of, connection}
-use Rattle.session_profile.specs.Counts.{count_of, AreOnce, AreSound}
+use Rattle.session_profile.specs.Connections.{Connection, parameter_contents, span_of, seen_in, may_follow, connection_of, connection}
+use Rattle.session_profile.specs.Counts.{count_of, AreOnce, HaveSoundContents}
 use Rattle.session_profile.proofs.Connections.{found_push, is_false, decide}
 
-some_contents : (o : Option Parameter) → is_some (contents_of o) ≡ is_some o
+some_contents : (o : Option Parameter) → is_some (parameter_contents o) ≡ is_some o
 some_contents None = refl
 some_contents (Some p) = refl
 
@@ -81,7 +81,7 @@ found_counted i (p ∷ ps) e =
           )
     ]
   where
-    skipped : (p : Parameter) (o : Option Parameter) → is_some (last_of false p o) ≡ is_some o
+    skipped : (p : Parameter) (o : Option Parameter) → is_some (last_parameter_of false p o) ≡ is_some o
     skipped p None = refl
     skipped p (Some q) = refl
 
@@ -91,16 +91,16 @@ value_needs true called None c e = absurd cc
 value_needs false called (Some body) c e = absurd cc
 value_needs false called None c e = absurd cc
 
-sounds : (before ps : List Parameter) → MayFollow connection before ps → AreSound ps
+sounds : (before ps : List Parameter) → MayFollow connection before ps → HaveSoundContents ps
 unfolding connection
 sounds before [] kept = tt
 sounds before (p ∷ ps) kept = (kept.1, sounds (before ++ p ∷ []) ps kept.2)
 
-pub once_each : (at : ℕ) (c : Connection) (octets : List ℕ) (s : SpellsAll connection at c octets) → AreOnce s.parameters × AreSound s.parameters
+pub once_each : (at : ℕ) (c : Connection) (octets : List ℕ) (s : SpellsAll connection at c octets) → AreOnce s.parameters × HaveSoundContents s.parameters
 unfolding connection
 once_each at c octets s =
     let ps = s.parameters in
-    let needs = value_needs (is_some (found 5 ps)) (contents_of (found 52 ps)) (span_of (found 193 ps)) c s.is in
+    let needs = value_needs (is_some (found 5 ps)) (parameter_contents (found 52 ps)) (span_of (found 193 ps)) c s.is in
     let item = (counted 5 blocks_item [] ps s.kept).0 in
     let user_data = (counted 193 blocks_user_data [] ps s.kept).0 in (
       record {
@@ -188,16 +188,16 @@ may_now before p ps h =
       ]
     ]
 
-follows : (before ps : List Parameter) → Rest before ps → AreSound ps → MayFollow connection before ps
+follows : (before ps : List Parameter) → Rest before ps → HaveSoundContents ps → MayFollow connection before ps
 unfolding connection
 follows before [] h sound = tt
 follows before (p ∷ ps) h sound = (may_now before p ps h, sound.0, follows (before ++ p ∷ []) ps (next_rest before p ps (not_extended before p ps h) h) sound.1)
 
-here_found : (p : Parameter) (o : Option Parameter) → is_some (last_of true p o) ≡ true
+here_found : (p : Parameter) (o : Option Parameter) → is_some (last_parameter_of true p o) ≡ true
 here_found p None = refl
 here_found p (Some q) = refl
 
-other_found : (p : Parameter) (o : Option Parameter) → is_some (last_of false p o) ≡ is_some o
+other_found : (p : Parameter) (o : Option Parameter) → is_some (last_parameter_of false p o) ≡ is_some o
 other_found p None = refl
 other_found p (Some q) = refl
 
@@ -215,7 +215,7 @@ has_value true called None a b = absurd (false≢true b)
 has_value false called (Some body) a b = absurd (false≢true a)
 has_value false called None a b = absurd (false≢true a)
 
-pub any_order : (at : ℕ) (octets : List ℕ) (ps : List Parameter) (end : ℕ) → BeginsParameters at octets ps end [] → AreOnce ps → AreSound ps → (c : Connection) × SpellsAll connection at c octets
+pub any_order : (at : ℕ) (octets : List ℕ) (ps : List Parameter) (end : ℕ) → BeginsParameters at octets ps end [] → AreOnce ps → HaveSoundContents ps → (c : Connection) × SpellsAll connection at c octets
 unfolding connection
 any_order at octets ps end spelled once sound =
     let nothing : (i : ℕ) → is_some (found i []) ≡ true → count_of i ps ≡ 0 = λ i e. absurd (false≢true e) in
@@ -228,5 +228,5 @@ any_order at octets ps end spelled once sound =
     } in
     let item = counted_found 5 ps (omega (arith, once.item)) in
     let user_data = counted_found 193 ps (omega (arith, once.user_data)) in
-    let value = has_value (is_some (found 5 ps)) (contents_of (found 52 ps)) (span_of (found 193 ps)) item (some_span (found 193 ps) ∙ user_data) in
+    let value = has_value (is_some (found 5 ps)) (parameter_contents (found 52 ps)) (span_of (found 193 ps)) item (some_span (found 193 ps) ∙ user_data) in
     (value.0, record { parameters = ps; end = end; spelled = spelled; kept = follows [] ps rest sound; is = value.1 })

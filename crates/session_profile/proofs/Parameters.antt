@@ -9,8 +9,8 @@ use Rattle.ber_values.specs.Reading.{Taken, Begins, IsReading}
 use Rattle.ber_values.specs.Grammars.{taken}
 use Rattle.ber_values.proofs.Reading.{IsReading-then, IsReading-as}
 use Rattle.ber_values.proofs.Grammars.{IsReading-done, IsReading-failed, IsReading-test}
-use Rattle.session_profile.specs.Lengths.{SpellsLength, LengthFault, length_in}
-use Rattle.session_profile.specs.Parameters.{Parameter, BeginsParameter, ParameterFault, parameter, sized_in, parameter_in}
+use Rattle.session_profile.specs.Lengths.{SpellsSessionLength, SessionLengthFault, session_length_in}
+use Rattle.session_profile.specs.Parameters.{Parameter, BeginsParameter, ParameterFault, parameter, sized_parameter_in, parameter_in}
 use Rattle.session_profile.proofs.Lengths.{length_reads}
 
 abbrev sized : ℕ → ℕ → Taken ℕ → Taken Parameter
@@ -22,7 +22,7 @@ Fits identifier at size t = (size.value ≤ length size.rest) × (t ≡ sized id
 abbrev Passes : ℕ → Taken ℕ → BerFault → Type 0
 Passes at size f = (length size.rest < size.value) × (f ≡ fault_at (at + 1) whys.Length)
 
-fits_reads : (identifier at : ℕ) (size : Taken ℕ) → IsReading (Taken Parameter) (Fits identifier at size) (Passes at size) (sized_in identifier at size)
+fits_reads : (identifier at : ℕ) (size : Taken ℕ) → IsReading (Taken Parameter) (Fits identifier at size) (Passes at size) (sized_parameter_in identifier at size)
 fits_reads identifier at size =
     IsReading-as (Taken Parameter) _ (Fits identifier at size) _ (Passes at size) _
     (λ t h. elim h [ inl a ↦ absurd a.1 | inr b ↦ (ltb-false (length size.rest) size.value b.0, b.1) ])
@@ -38,12 +38,12 @@ taken_is : (t : Taken Parameter) (identifier place body next : ℕ) (contents re
     → t ≡ taken (record { identifier = identifier; place = place; body = body; contents = contents }) next rest
 taken_is t identifier place body next contents rest a b c d e f = rw (sym a, sym b, sym c, sym d, sym e, sym f) refl
 
-begun_from : (identifier at : ℕ) (octets : List ℕ) (size : Taken ℕ) → Begins ℕ SpellsLength (at + 1) octets size → size.value ≤ length size.rest → BeginsParameter at (identifier ∷ octets) (sized identifier at size)
+begun_from : (identifier at : ℕ) (octets : List ℕ) (size : Taken ℕ) → Begins ℕ SpellsSessionLength (at + 1) octets size → size.value ≤ length size.rest → BeginsParameter at (identifier ∷ octets) (sized identifier at size)
 begun_from identifier at octets size b within =
     let len : length (take size.value size.rest) ≡ size.value = omega (arith, length-take size.value size.rest, within) in
     record {
       size = b.spelling;
-      spelled = subst (λ (n : ℕ). SpellsLength n b.spelling) (sym len) b.spelled;
+      spelled = subst (λ (n : ℕ). SpellsSessionLength n b.spelling) (sym len) b.spelled;
       parts = ap (λ (os : List ℕ). identifier ∷ os) (b.parts ∙ ap (λ (os : List ℕ). b.spelling ++ os) (sym (take-append-drop size.value size.rest)));
       place = refl;
       body = b.place;
@@ -51,7 +51,7 @@ begun_from identifier at octets size b within =
     }
 
 sized_to : (identifier at : ℕ) (octets : List ℕ) (t : Taken Parameter) → BeginsParameter at (identifier ∷ octets) t
-    → (size : Taken ℕ) × Begins ℕ SpellsLength (at + 1) octets size × Fits identifier at size t
+    → (size : Taken ℕ) × Begins ℕ SpellsSessionLength (at + 1) octets size × Fits identifier at size t
 sized_to identifier at octets t h =
     let all : List ℕ = t.value.contents ++ t.rest in
     let n : ℕ = length t.value.contents in
@@ -75,7 +75,7 @@ parameter_reads at (identifier ∷ octets) =
     (sized_to identifier at octets)
     (λ f h. elim h [ inl a ↦ inl a | inr b ↦ inr (record { size = b.0; spelled = b.1; past = b.2.0; is = b.2.1 }) ])
     (λ f h. elim h [ inl a ↦ inl a | inr b ↦ inr (b.size, b.spelled, (b.past, b.is)) ])
-    (IsReading-then (Taken ℕ) (Taken Parameter) (Begins ℕ SpellsLength (at + 1) octets) (LengthFault (at + 1) octets) (length_in (at + 1) octets) (Fits identifier at) (Passes at) (sized_in identifier at)
+    (IsReading-then (Taken ℕ) (Taken Parameter) (Begins ℕ SpellsSessionLength (at + 1) octets) (SessionLengthFault (at + 1) octets) (session_length_in (at + 1) octets) (Fits identifier at) (Passes at) (sized_parameter_in identifier at)
     (length_reads (at + 1) octets) (λ size s. fits_reads identifier at size))
 
 -- a parameter takes an identifier and a length at least

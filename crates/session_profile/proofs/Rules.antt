@@ -8,7 +8,7 @@ use Rattle.ber_values.specs.Reading.{Taken, IsReading}
 use Rattle.ber_values.proofs.Reading.{IsReading-then, IsReading-as, bind_ok}
 use Rattle.ber_values.proofs.Grammars.{IsReading-done, IsReading-failed, IsReading-test, IsReading-map}
 use Rattle.session_profile.specs.Parameters.{Parameter, BeginsParameter, ParameterFault, BeginsParameters, parameter_in}
-use Rattle.session_profile.specs.Rules.{Rules, MayFollow, SpellsAll, BreaksAfter, FaultAmong, sound_in, next_in, whole_or_short, more_in, rest_in, all_in}
+use Rattle.session_profile.specs.Rules.{Rules, MayFollow, SpellsAll, BreaksAfter, FaultAmong, sound_in, next_in, whole_or_short, more_parameters_in, rest_in, all_parameters_in}
 use Rattle.session_profile.proofs.Parameters.{parameter_reads, takes_octets, identifier_is, nothing_begun}
 
 -- reading by the rules follows what they say
@@ -152,7 +152,7 @@ more_fault r before at identifier octets f (p ∷ ps) next rest s kept breaks =
       record { after = ps; next = next; rest = rest; spelled = s.3; kept = k.2; breaks = subst (λ (b : List Parameter). BreaksAfter r b next rest f) (sym (append_assoc before (t.value ∷ []) ps)) i },
     )
 
-more_reads : {S V : Type 0} (r : Rules S V) → IsRules r → (room : ℕ) (before : List Parameter) (at : ℕ) (octets : List ℕ) → length octets ≤ room → IsReading V (More r before at octets) (MoreFault r before at octets) (more_in r room (r.seen before) at octets)
+more_reads : {S V : Type 0} (r : Rules S V) → IsRules r → (room : ℕ) (before : List Parameter) (at : ℕ) (octets : List ℕ) → length octets ≤ room → IsReading V (More r before at octets) (MoreFault r before at octets) (more_parameters_in r room (r.seen before) at octets)
 more_reads r rules zero before at [] le = end_reads r before at
 more_reads r rules (suc room) before at [] le = end_reads r before at
 more_reads r rules zero before at (identifier ∷ octets) le = absurd (omega (arith, le))
@@ -160,13 +160,13 @@ more_reads {S} {V} r rules (suc room) before at (identifier ∷ octets) le =
     IsReading-as V (After r before at identifier octets) (More r before at (identifier ∷ octets)) (FaultAfter r before at identifier octets) (MoreFault r before at (identifier ∷ octets)) _
     (λ v h. one_more r before at identifier octets v h) (λ v h. more_one r before at identifier octets v h.parameters h.end h.spelled h.kept h.is)
     (λ f h. fault_more r before at identifier octets f h) (λ f h. more_fault r before at identifier octets f h.after h.next h.rest h.spelled h.kept h.breaks)
-    (IsReading-then (Taken Parameter) V (Next r before at identifier octets) (BreaksAfter r before at (identifier ∷ octets)) (next_in r (r.seen before) at (identifier ∷ octets)) (λ t v. More r (before ++ t.value ∷ []) t.next t.rest v) (λ t f. MoreFault r (before ++ t.value ∷ []) t.next t.rest f) (λ t. more_in r room (r.with_one (r.seen before) t.value) t.next t.rest)
+    (IsReading-then (Taken Parameter) V (Next r before at identifier octets) (BreaksAfter r before at (identifier ∷ octets)) (next_in r (r.seen before) at (identifier ∷ octets)) (λ t v. More r (before ++ t.value ∷ []) t.next t.rest v) (λ t f. MoreFault r (before ++ t.value ∷ []) t.next t.rest f) (λ t. more_parameters_in r room (r.with_one (r.seen before) t.value) t.next t.rest)
     (next_reads r rules before at identifier octets)
-    (λ t h. subst (λ (s : S). IsReading V (More r (before ++ t.value ∷ []) t.next t.rest) (MoreFault r (before ++ t.value ∷ []) t.next t.rest) (more_in r room s t.next t.rest)) (rules.adds before t.value)
+    (λ t h. subst (λ (s : S). IsReading V (More r (before ++ t.value ∷ []) t.next t.rest) (MoreFault r (before ++ t.value ∷ []) t.next t.rest) (more_parameters_in r room s t.next t.rest)) (rules.adds before t.value)
     (more_reads r rules room (before ++ t.value ∷ []) t.next t.rest (omega (arith, le, takes_octets at (identifier ∷ octets) t h.1.0)))))
 
-pub all_reads : {S V : Type 0} (r : Rules S V) → IsRules r → (at : ℕ) (octets : List ℕ) → IsReading V (λ v. SpellsAll r at v octets) (FaultAmong r at octets) (all_in r at octets)
-unfolding all_in rest_in
+pub all_reads : {S V : Type 0} (r : Rules S V) → IsRules r → (at : ℕ) (octets : List ℕ) → IsReading V (λ v. SpellsAll r at v octets) (FaultAmong r at octets) (all_parameters_in r at octets)
+unfolding all_parameters_in rest_in
 all_reads {S} {V} r rules at octets =
     IsReading-as V (More r [] at octets) (λ v. SpellsAll r at v octets) (MoreFault r [] at octets) (FaultAmong r at octets) _
     (λ v h. record { parameters = h.parameters; end = h.end; spelled = h.spelled; kept = h.kept; is = h.is })
@@ -198,7 +198,7 @@ next_takes r s at (identifier ∷ octets) t e =
     taken_of true e = let b = bind_ok (parameter_in at (identifier ∷ octets)) (λ u. r.judged u.value >>= λ x. Ok u) t e in sound_begins (r.judged b.0.value) b.0 t ((parameter_reads at (identifier ∷ octets)).found b.0 b.1) b.2
     taken_of false e = absurd cc
 
-more_room : {S V : Type 0} (r : Rules S V) (n m : ℕ) (s : S) (at : ℕ) (octets : List ℕ) → length octets ≤ n → length octets ≤ m → more_in r n s at octets ≡ more_in r m s at octets
+more_room : {S V : Type 0} (r : Rules S V) (n m : ℕ) (s : S) (at : ℕ) (octets : List ℕ) → length octets ≤ n → length octets ≤ m → more_parameters_in r n s at octets ≡ more_parameters_in r m s at octets
 more_room r zero zero s at [] a b = refl
 more_room r zero (suc m) s at [] a b = refl
 more_room r (suc n) zero s at [] a b = refl
@@ -206,7 +206,7 @@ more_room r (suc n) (suc m) s at [] a b = refl
 more_room r zero m s at (identifier ∷ octets) a b = absurd (omega (arith, a))
 more_room r (suc n) zero s at (identifier ∷ octets) a b = absurd (omega (arith, b))
 more_room r (suc n) (suc m) s at (identifier ∷ octets) a b =
-    bind_same (next_in r s at (identifier ∷ octets)) (λ t. more_in r n (r.with_one s t.value) t.next t.rest) (λ t. more_in r m (r.with_one s t.value) t.next t.rest)
+    bind_same (next_in r s at (identifier ∷ octets)) (λ t. more_parameters_in r n (r.with_one s t.value) t.next t.rest) (λ t. more_parameters_in r m (r.with_one s t.value) t.next t.rest)
     (λ t e. let lt = next_takes r s at (identifier ∷ octets) t e in more_room r n m (r.with_one s t.value) t.next t.rest (omega (arith, a, lt)) (omega (arith, b, lt)))
 
 pub rest_end : {S V : Type 0} (r : Rules S V) (s : S) (at : ℕ) (octets : List ℕ) → length octets ≡ 0 → rest_in r s at octets ≡ whole_or_short (r.value s) at
@@ -217,11 +217,11 @@ rest_end r s at (identifier ∷ octets) e = absurd (omega (arith, e))
 pub rest_fault : {S V : Type 0} (r : Rules S V) (s : S) (at : ℕ) (octets : List ℕ) (f : BerFault) → 0 < length octets → next_in r s at octets ≡ Err f → rest_in r s at octets ≡ Err f
 unfolding rest_in
 rest_fault r s at [] f lt e = absurd (omega (arith, lt))
-rest_fault {S} {V} r s at (identifier ∷ octets) f lt e = ap (λ (read : Result (Taken Parameter) BerFault). read >>= λ t. more_in r (length octets) (r.with_one s t.value) t.next t.rest) e
+rest_fault {S} {V} r s at (identifier ∷ octets) f lt e = ap (λ (read : Result (Taken Parameter) BerFault). read >>= λ t. more_parameters_in r (length octets) (r.with_one s t.value) t.next t.rest) e
 
 pub rest_step : {S V : Type 0} (r : Rules S V) (s : S) (at : ℕ) (octets : List ℕ) (t : Taken Parameter) → 0 < length octets → next_in r s at octets ≡ Ok t → rest_in r s at octets ≡ rest_in r (r.with_one s t.value) t.next t.rest
 unfolding rest_in
 rest_step r s at [] t lt e = absurd (omega (arith, lt))
 rest_step {S} {V} r s at (identifier ∷ octets) t lt e =
-    ap (λ (read : Result (Taken Parameter) BerFault). read >>= λ t. more_in r (length octets) (r.with_one s t.value) t.next t.rest) e
+    ap (λ (read : Result (Taken Parameter) BerFault). read >>= λ t. more_parameters_in r (length octets) (r.with_one s t.value) t.next t.rest) e
     ∙ more_room r (length octets) (length t.rest) (r.with_one s t.value) t.next t.rest (omega (arith, next_takes r s at (identifier ∷ octets) t e)) (omega arith)

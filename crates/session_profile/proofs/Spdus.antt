@@ -10,10 +10,10 @@ use Rattle.ber_values.proofs.Reading.{IsReading-from, IsReading-then, IsReading-
 use Rattle.ber_values.proofs.Grammars.{IsReading-done, IsReading-failed, IsReading-test}
 use Rattle.session_profile.specs.declared.spdu.Spdu.{Spdu}
 use Rattle.session_profile.specs.declared.spdu.Spdu.TheVariants.{Connect, Accept, Refuse, Carry, Finish, Disconnect, Abort, AbortAccept}
-use Rattle.session_profile.specs.Parameters.{Parameter, BeginsParameter, ParameterFault, parameter_in, end_in}
-use Rattle.session_profile.specs.Rules.{SpellsAll, FaultAmong, all_in}
+use Rattle.session_profile.specs.Parameters.{Parameter, BeginsParameter, ParameterFault, parameter_in, spdu_end_in}
+use Rattle.session_profile.specs.Rules.{SpellsAll, FaultAmong, all_parameters_in}
 use Rattle.session_profile.specs.Connections.{Connection, connection}
-use Rattle.session_profile.specs.Spdus.{IsCoded, IsWhole, SpellsSpdu, OctetFault, FrontFault, is_code, CodedFault, WholeFault, SpduFault, octet_in, front_in, carried, connected, accepted, plain_in, coded_in, whole_in, spdu_in}
+use Rattle.session_profile.specs.Spdus.{IsCoded, IsWhole, SpellsSpdu, WantedOctetFault, FrontFault, is_code, CodedFault, WholeFault, SpduFault, wanted_octet_in, fixed_front_in, carried_data, connected, accepted_connection, plain_in, spdu_coded_in, whole_spdu_in, spdu_in}
 use Rattle.session_profile.proofs.Parameters.{parameter_reads, identifier_is}
 use Rattle.session_profile.proofs.Rules.{all_reads}
 use Rattle.session_profile.proofs.Connections.{connection_rules}
@@ -23,7 +23,7 @@ use Rattle.session_profile.proofs.Connections.{connection_rules}
 not_nil : (first : ℕ) (octets : List ℕ) → (first ∷ octets) ≡ [] → ⊥
 not_nil first octets e = cc
 
-end_reads : {X : Type 0} (x : X) (at : ℕ) (octets : List ℕ) → IsReading X (λ y. (octets ≡ []) × (y ≡ x)) (λ f. (octets ≢ []) × (f ≡ fault_at at whys.Tag)) (end_in x at octets)
+end_reads : {X : Type 0} (x : X) (at : ℕ) (octets : List ℕ) → IsReading X (λ y. (octets ≡ []) × (y ≡ x)) (λ f. (octets ≢ []) × (f ≡ fault_at at whys.Tag)) (spdu_end_in x at octets)
 end_reads {X} x at [] = IsReading-as X (λ y. y ≡ x) (λ y. ([] ≡ []) × (y ≡ x)) (λ f. ⊥) (λ f. ([] ≢ []) × (f ≡ fault_at at whys.Tag)) (Ok x) (λ y h. (refl, h)) (λ y h. h.1) (λ f h. absurd h) (λ f h. absurd (h.0 refl)) (IsReading-done X x)
 end_reads {X} x at (first ∷ octets) = IsReading-as X (λ y. ⊥) (λ y. ((first ∷ octets) ≡ []) × (y ≡ x)) (λ f. f ≡ fault_at at whys.Tag) (λ f. ((first ∷ octets) ≢ []) × (f ≡ fault_at at whys.Tag)) (Err (fault_at at whys.Tag)) (λ y h. absurd h) (λ y h. absurd (not_nil first octets h.0)) (λ f h. (not_nil first octets, h)) (λ f h. h.1) (IsReading-failed X (fault_at at whys.Tag))
 
@@ -36,11 +36,11 @@ cons_parts x y xs ys e = (cc, cc)
 cons_same : (x y : ℕ) (xs ys : List ℕ) → x ≡ y → xs ≡ ys → (x ∷ xs) ≡ (y ∷ ys)
 cons_same x y xs ys a b = cc
 
-octet_reads : (at want : ℕ) (octets : List ℕ) → IsReading (List ℕ) (λ rest. octets ≡ want ∷ rest) (OctetFault at want octets) (octet_in at want octets)
+octet_reads : (at want : ℕ) (octets : List ℕ) → IsReading (List ℕ) (λ rest. octets ≡ want ∷ rest) (WantedOctetFault at want octets) (wanted_octet_in at want octets)
 octet_reads at want [] =
-    IsReading-as (List ℕ) (λ rest. ⊥) (λ rest. [] ≡ want ∷ rest) _ (OctetFault at want []) _ (λ rest h. absurd h) (λ rest h. absurd (not_nil want rest (sym h))) (λ f h. h) (λ f h. h) (IsReading-failed (List ℕ) (fault_at at whys.Short))
+    IsReading-as (List ℕ) (λ rest. ⊥) (λ rest. [] ≡ want ∷ rest) _ (WantedOctetFault at want []) _ (λ rest h. absurd h) (λ rest h. absurd (not_nil want rest (sym h))) (λ f h. h) (λ f h. h) (IsReading-failed (List ℕ) (fault_at at whys.Short))
 octet_reads at want (first ∷ octets) =
-    IsReading-as (List ℕ) _ (λ rest. (first ∷ octets) ≡ want ∷ rest) _ (OctetFault at want (first ∷ octets)) _
+    IsReading-as (List ℕ) _ (λ rest. (first ∷ octets) ≡ want ∷ rest) _ (WantedOctetFault at want (first ∷ octets)) _
     (λ rest h. elim h [ inl a ↦ cons_same first want octets rest (eqb-true first want a.0) (sym a.1) | inr b ↦ absurd b.1 ])
     (λ rest h. let p = cons_parts first want octets rest h in inl (eq-eqb first want p.0, sym p.1))
     (λ f h. elim h [ inl a ↦ absurd a.1 | inr b ↦ (eqb-false first want b.0, b.1) ])
@@ -48,14 +48,14 @@ octet_reads at want (first ∷ octets) =
     (IsReading-test (List ℕ) (λ rest. rest ≡ octets) (λ rest. ⊥) (λ f. ⊥) (λ f. f ≡ fault_at at whys.Value) (eqb first want) (Ok octets) (Err (fault_at at whys.Value))
     (λ e. IsReading-done (List ℕ) octets) (λ e. IsReading-failed (List ℕ) (fault_at at whys.Value)))
 
-front_reads : {X : Type 0} (at : ℕ) (wanted octets : List ℕ) (made : List ℕ → X) → IsReading X (Fronted wanted octets made) (FrontFault at wanted octets) (front_in at wanted octets made)
+front_reads : {X : Type 0} (at : ℕ) (wanted octets : List ℕ) (made : List ℕ → X) → IsReading X (Fronted wanted octets made) (FrontFault at wanted octets) (fixed_front_in at wanted octets made)
 front_reads {X} at [] octets made =
     IsReading-as X _ (Fronted [] octets made) (λ f. ⊥) (λ f. ⊥) _ (λ x e. (octets, refl, e)) (λ x h. h.2 ∙ ap made (sym h.1)) (λ f h. h) (λ f h. h) (IsReading-done X (made octets))
 front_reads {X} at (want ∷ wanted) octets made =
     IsReading-as X _ (Fronted (want ∷ wanted) octets made) _ (FrontFault at (want ∷ wanted) octets) _
     (λ x h. (h.2.0, h.1 ∙ ap (λ (os : List ℕ). want ∷ os) h.2.1, h.2.2)) (λ x h. (wanted ++ h.0, h.1, (h.0, refl, h.2)))
     (λ f h. h) (λ f h. h)
-    (IsReading-then (List ℕ) X (λ rest. octets ≡ want ∷ rest) (OctetFault at want octets) (octet_in at want octets) (λ rest. Fronted wanted rest made) (λ rest. FrontFault (at + 1) wanted rest) (λ rest. front_in (at + 1) wanted rest made)
+    (IsReading-then (List ℕ) X (λ rest. octets ≡ want ∷ rest) (WantedOctetFault at want octets) (wanted_octet_in at want octets) (λ rest. Fronted wanted rest made) (λ rest. FrontFault (at + 1) wanted rest) (λ rest. fixed_front_in (at + 1) wanted rest made)
     (octet_reads at want octets) (λ rest s. front_reads (at + 1) wanted rest made))
 
 -- ---- contents by their code
@@ -67,7 +67,7 @@ answers_right : (p : Parameter) (Spelled : Connection → Type 0) (First : BerFa
 answers_right p Spelled First (Ok c) made one good bad = good c (one.found c refl)
 answers_right p Spelled First (Err f) made one good bad = bad f (one.fault f refl)
 
-connection_reads : (p : Parameter) → IsReading Connection (λ c. SpellsAll connection p.body c p.contents) (FaultAmong connection p.body p.contents) (all_in connection p.body p.contents)
+connection_reads : (p : Parameter) → IsReading Connection (λ c. SpellsAll connection p.body c p.contents) (FaultAmong connection p.body p.contents) (all_parameters_in connection p.body p.contents)
 connection_reads p = all_reads connection connection_rules p.body p.contents
 
 plain_right : (p : Parameter) → eqb p.identifier 13 ≡ false → eqb p.identifier 14 ≡ false → is_code p.identifier ≡ true → CodedRight p (plain_in p.identifier)
@@ -80,20 +80,20 @@ plain_right p a b known =
     (λ h. cond_both (eqb i 26) (Ok AbortAccept) (Err (fault_at 0 whys.Tag)) (CodedRight p) (λ e. eqb-true i 26 e)
     (λ j. let unknown : is_code p.identifier ≡ false = rw (a, b, c, d, g, h, j) refl in absurd (false≢true (sym unknown ∙ known)))))))
 
-coded_right : (p : Parameter) → is_code p.identifier ≡ true → CodedRight p (coded_in p)
-unfolding coded_in
+coded_right : (p : Parameter) → is_code p.identifier ≡ true → CodedRight p (spdu_coded_in p)
+unfolding spdu_coded_in
 coded_right p known =
     let i = p.identifier in
-    cond_both (eqb i 13) (all_in connection p.body p.contents >>= λ c. Ok (connected c)) (cond (eqb i 14) (all_in connection p.body p.contents >>= λ c. Ok (accepted c)) (plain_in i)) (CodedRight p)
-    (λ e. answers_right p (λ c. SpellsAll connection p.body c p.contents) (FaultAmong connection p.body p.contents) (all_in connection p.body p.contents) connected (connection_reads p) (λ c s. (eqb-true i 13 e, s)) (λ f h. (inl (eqb-true i 13 e), h)))
-    (λ a. cond_both (eqb i 14) (all_in connection p.body p.contents >>= λ c. Ok (accepted c)) (plain_in i) (CodedRight p)
-    (λ e. answers_right p (λ c. SpellsAll connection p.body c p.contents) (FaultAmong connection p.body p.contents) (all_in connection p.body p.contents) accepted (connection_reads p) (λ c s. (eqb-true i 14 e, s)) (λ f h. (inr (eqb-true i 14 e), h)))
+    cond_both (eqb i 13) (all_parameters_in connection p.body p.contents >>= λ c. Ok (connected c)) (cond (eqb i 14) (all_parameters_in connection p.body p.contents >>= λ c. Ok (accepted_connection c)) (plain_in i)) (CodedRight p)
+    (λ e. answers_right p (λ c. SpellsAll connection p.body c p.contents) (FaultAmong connection p.body p.contents) (all_parameters_in connection p.body p.contents) connected (connection_reads p) (λ c s. (eqb-true i 13 e, s)) (λ f h. (inl (eqb-true i 13 e), h)))
+    (λ a. cond_both (eqb i 14) (all_parameters_in connection p.body p.contents >>= λ c. Ok (accepted_connection c)) (plain_in i) (CodedRight p)
+    (λ e. answers_right p (λ c. SpellsAll connection p.body c p.contents) (FaultAmong connection p.body p.contents) (all_parameters_in connection p.body p.contents) accepted_connection (connection_reads p) (λ c s. (eqb-true i 14 e, s)) (λ f h. (inr (eqb-true i 14 e), h)))
     (λ b. plain_right p a b known))
 
-coded_only : (p : Parameter) (spdu : Spdu) → IsCoded spdu p → coded_in p ≡ Ok spdu
-unfolding coded_in
+coded_only : (p : Parameter) (spdu : Spdu) → IsCoded spdu p → spdu_coded_in p ≡ Ok spdu
+unfolding spdu_coded_in
 coded_only p (Connect called body) h = rw h.0 (ap (λ (read : Result Connection BerFault). read >>= λ c. Ok (connected c)) ((connection_reads p).only (record { called = called; body = body }) h.1))
-coded_only p (Accept called body) h = rw h.0 (ap (λ (read : Result Connection BerFault). read >>= λ c. Ok (accepted c)) ((connection_reads p).only (record { called = called; body = body }) h.1))
+coded_only p (Accept called body) h = rw h.0 (ap (λ (read : Result Connection BerFault). read >>= λ c. Ok (accepted_connection c)) ((connection_reads p).only (record { called = called; body = body }) h.1))
 coded_only p Refuse h = rw h refl
 coded_only p (Carry body) h = absurd h
 coded_only p Finish h = rw h refl
@@ -101,20 +101,20 @@ coded_only p Disconnect h = rw h refl
 coded_only p Abort h = rw h refl
 coded_only p AbortAccept h = rw h refl
 
-coded_first : (p : Parameter) (f : BerFault) → CodedFault p f → coded_in p ≡ Err f
-unfolding coded_in
+coded_first : (p : Parameter) (f : BerFault) → CodedFault p f → spdu_coded_in p ≡ Err f
+unfolding spdu_coded_in
 coded_first p f h = elim h.0 [
   | inl e ↦ rw e (ap (λ (read : Result Connection BerFault). read >>= λ c. Ok (connected c)) ((connection_reads p).first f h.1))
-  | inr e ↦ rw e (ap (λ (read : Result Connection BerFault). read >>= λ c. Ok (accepted c)) ((connection_reads p).first f h.1))
+  | inr e ↦ rw e (ap (λ (read : Result Connection BerFault). read >>= λ c. Ok (accepted_connection c)) ((connection_reads p).first f h.1))
 ]
 
-coded_reads : (p : Parameter) → is_code p.identifier ≡ true → IsReading Spdu (λ spdu. IsCoded spdu p) (CodedFault p) (coded_in p)
-coded_reads p known = IsReading-from Spdu (λ spdu. IsCoded spdu p) (CodedFault p) (coded_in p) (coded_right p known) (coded_only p) (coded_first p)
+coded_reads : (p : Parameter) → is_code p.identifier ≡ true → IsReading Spdu (λ spdu. IsCoded spdu p) (CodedFault p) (spdu_coded_in p)
+coded_reads p known = IsReading-from Spdu (λ spdu. IsCoded spdu p) (CodedFault p) (spdu_coded_in p) (coded_right p known) (coded_only p) (coded_first p)
 
 -- ---- the whole TSDU
 
-whole_reads : (code : ℕ) (octets : List ℕ) → is_code code ≡ true → IsReading Spdu (λ spdu. IsWhole spdu (code ∷ octets)) (WholeFault (code ∷ octets)) (whole_in (code ∷ octets))
-unfolding whole_in
+whole_reads : (code : ℕ) (octets : List ℕ) → is_code code ≡ true → IsReading Spdu (λ spdu. IsWhole spdu (code ∷ octets)) (WholeFault (code ∷ octets)) (whole_spdu_in (code ∷ octets))
+unfolding whole_spdu_in
 whole_reads code octets known =
     let tsdu : List ℕ = code ∷ octets in
     IsReading-as Spdu _ (λ spdu. IsWhole spdu tsdu) _ (WholeFault tsdu) _
@@ -124,9 +124,9 @@ whole_reads code octets known =
     (IsReading-then (Taken Parameter) Spdu (BeginsParameter 0 tsdu) (ParameterFault 0 tsdu) (parameter_in 0 tsdu)
     (λ t y. (spdu : Spdu) × IsCoded spdu t.value × ((t.rest ≡ []) × (y ≡ spdu)))
     (λ t f. CodedFault t.value f ⊎ ((spdu : Spdu) × IsCoded spdu t.value × ((t.rest ≢ []) × (f ≡ fault_at t.next whys.Tag))))
-    (λ t. coded_in t.value >>= λ spdu. end_in spdu t.next t.rest)
+    (λ t. spdu_coded_in t.value >>= λ spdu. spdu_end_in spdu t.next t.rest)
     (parameter_reads 0 tsdu)
-    (λ t s. IsReading-then Spdu Spdu (λ spdu. IsCoded spdu t.value) (CodedFault t.value) (coded_in t.value) (λ spdu y. (t.rest ≡ []) × (y ≡ spdu)) (λ spdu f. (t.rest ≢ []) × (f ≡ fault_at t.next whys.Tag)) (λ spdu. end_in spdu t.next t.rest)
+    (λ t s. IsReading-then Spdu Spdu (λ spdu. IsCoded spdu t.value) (CodedFault t.value) (spdu_coded_in t.value) (λ spdu y. (t.rest ≡ []) × (y ≡ spdu)) (λ spdu f. (t.rest ≢ []) × (f ≡ fault_at t.next whys.Tag)) (λ spdu. spdu_end_in spdu t.next t.rest)
     (coded_reads t.value (subst (λ (i : ℕ). is_code i ≡ true) (sym (identifier_is 0 code octets t s)) known))
     (λ spdu c. end_reads spdu t.next t.rest)))
 
@@ -154,7 +154,7 @@ whole_spelled Abort tsdu h = h
 whole_spelled AbortAccept tsdu h = h
 
 abbrev Known_or_data : ℕ → List ℕ → Spdu → Type 0
-Known_or_data code octets spdu = ((eqb code 1 ≡ true) × Fronted (0 ∷ 1 ∷ 0 ∷ []) octets carried spdu)
+Known_or_data code octets spdu = ((eqb code 1 ≡ true) × Fronted (0 ∷ 1 ∷ 0 ∷ []) octets carried_data spdu)
     ⊎ ((eqb code 1 ≡ false) × (((is_code code ≡ true) × IsWhole spdu (code ∷ octets)) ⊎ ((is_code code ≡ false) × ⊥)))
 
 from_whole : (code : ℕ) (octets : List ℕ) (spdu : Spdu) → IsWhole spdu (code ∷ octets) → Known_or_data code octets spdu
@@ -208,9 +208,9 @@ spdu_reads (code ∷ octets) =
       | inl a ↦ inl (eq-eqb code 1 a.0, a.1)
       | inr b ↦ elim b [ inl a ↦ inr (ne_eqb code 1 a.0, inl (a.1, a.2)) | inr c ↦ inr (ne_eqb code 1 c.0, inr (c.1, c.2)) ]
     ])
-    (IsReading-test Spdu (Fronted (0 ∷ 1 ∷ 0 ∷ []) octets carried) _ (FrontFault 1 (0 ∷ 1 ∷ 0 ∷ []) octets) _ (eqb code 1) (front_in 1 (0 ∷ 1 ∷ 0 ∷ []) octets carried) _
-    (λ e. front_reads 1 (0 ∷ 1 ∷ 0 ∷ []) octets carried)
-    (λ e. IsReading-test Spdu (λ spdu. IsWhole spdu (code ∷ octets)) (λ spdu. ⊥) (WholeFault (code ∷ octets)) (λ f. f ≡ fault_at 0 whys.Tag) (is_code code) (whole_in (code ∷ octets)) (Err (fault_at 0 whys.Tag))
+    (IsReading-test Spdu (Fronted (0 ∷ 1 ∷ 0 ∷ []) octets carried_data) _ (FrontFault 1 (0 ∷ 1 ∷ 0 ∷ []) octets) _ (eqb code 1) (fixed_front_in 1 (0 ∷ 1 ∷ 0 ∷ []) octets carried_data) _
+    (λ e. front_reads 1 (0 ∷ 1 ∷ 0 ∷ []) octets carried_data)
+    (λ e. IsReading-test Spdu (λ spdu. IsWhole spdu (code ∷ octets)) (λ spdu. ⊥) (WholeFault (code ∷ octets)) (λ f. f ≡ fault_at 0 whys.Tag) (is_code code) (whole_spdu_in (code ∷ octets)) (Err (fault_at 0 whys.Tag))
     (λ known. whole_reads code octets known) (λ unknown. IsReading-failed Spdu (fault_at 0 whys.Tag))))
 
 pub spdu_one_reading : (tsdu : List ℕ) → HasOneReading Spdu (λ spdu. SpellsSpdu spdu tsdu) (SpduFault tsdu)

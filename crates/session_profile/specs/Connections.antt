@@ -7,8 +7,8 @@ use Rattle.std.specs.Prelude.{nat_le, ◌==◌, if◌then◌else◌}
 use Rattle.ber_values.specs.declared.fault.BerFault.{BerFault}
 use Rattle.ber_values.specs.declared.fault.Span.{Span}
 use Rattle.ber_values.specs.Leaves.{span_at, selector_of}
-use Rattle.session_profile.specs.Parameters.{Parameter, found, ContentsFault, judged_by}
-use Rattle.session_profile.specs.Rules.{Rules, SpellsAll, FaultAmong, all_in}
+use Rattle.session_profile.specs.Parameters.{Parameter, found, ParameterContentsFault, judged_by}
+use Rattle.session_profile.specs.Rules.{Rules, SpellsAll, FaultAmong, all_parameters_in}
 
 -- the bit whose value is two: version 2, or duplex
 abbrev pub has_second_bit : ℕ → Bool
@@ -21,7 +21,7 @@ abbrev pub IsVersion : Parameter → Type 0
 IsVersion p = (length p.contents ≡ 1) × (has_second_bit (slice_index p.contents 0) ≡ true)
 
 abbrev pub VersionFault : Parameter → BerFault → Type 0
-VersionFault p = ContentsFault (length p.contents ≡ 1)
+VersionFault p = ParameterContentsFault (length p.contents ≡ 1)
     (has_second_bit (slice_index p.contents 0) ≡ false) p
 
 abbrev pub version_in : Parameter → Result (Unit {0}) BerFault
@@ -53,9 +53,9 @@ pub record Seen : Type 0 where
   pub called : Option (List ℕ)
   pub user_data : Option Span
 
-abbrev pub contents_of : Option Parameter → Option (List ℕ)
-contents_of None = None
-contents_of (Some p) = Some p.contents
+abbrev pub parameter_contents : Option Parameter → Option (List ℕ)
+parameter_contents None = None
+parameter_contents (Some p) = Some p.contents
 
 abbrev pub span_of : Option Parameter → Option Span
 span_of None = None
@@ -65,18 +65,18 @@ abbrev pub seen_in : List Parameter → Seen
 seen_in ps = record {
   item = is_some (found 5 ps);
   requirements = is_some (found 20 ps);
-  called = contents_of (found 52 ps);
+  called = parameter_contents (found 52 ps);
   user_data = span_of (found 193 ps);
 }
 
 -- one of the four that stand once at most, and it came before
-abbrev pub is_twice : Seen → ℕ → Bool
-is_twice s identifier = identifier == 5 && s.item || identifier == 20 && s.requirements
+abbrev pub is_parameter_twice : Seen → ℕ → Bool
+is_parameter_twice s identifier = identifier == 5 && s.item || identifier == 20 && s.requirements
     || identifier == 52 && is_some s.called || identifier == 193 && is_some s.user_data
 
 -- none of the four twice, and no extended user data
 abbrev pub may_follow : Seen → ℕ → Bool
-may_follow s identifier = not (is_twice s identifier) && not (identifier == 194)
+may_follow s identifier = not (is_parameter_twice s identifier) && not (identifier == 194)
 
 -- an empty selector is none
 abbrev pub called_of : Option (List ℕ) → Option (List ℕ)
@@ -93,25 +93,25 @@ abbrev pub IsRequirements : Parameter → Type 0
 IsRequirements p = (length p.contents ≡ 2) × (has_second_bit (slice_index p.contents 1) ≡ true)
 
 abbrev pub RequirementsFault : Parameter → BerFault → Type 0
-RequirementsFault p = ContentsFault (length p.contents ≡ 2)
+RequirementsFault p = ParameterContentsFault (length p.contents ≡ 2)
     (has_second_bit (slice_index p.contents 1) ≡ false) p
 
 abbrev pub requirements_in : Parameter → Result (Unit {0}) BerFault
 requirements_in p = judged_by (length p.contents == 2) (has_second_bit (slice_index p.contents 1)) p
 
 -- the rules of contents, each for its identifier
-pub record IsSound (p : Parameter) : Type 0 where
+pub record IsSoundParameter (p : Parameter) : Type 0 where
   pub item_kept : p.identifier ≡ 5 → SpellsAll item p.body tt p.contents
   pub requirements_kept : p.identifier ≡ 20 → IsRequirements p
   pub called_kept : p.identifier ≡ 52 → length p.contents ≤ 32
 
-abbrev pub Breaks : Parameter → BerFault → Type 0
-Breaks p f = ((p.identifier ≡ 5) × FaultAmong item p.body p.contents f)
+abbrev pub BreaksItsRule : Parameter → BerFault → Type 0
+BreaksItsRule p f = ((p.identifier ≡ 5) × FaultAmong item p.body p.contents f)
     ⊎ (((p.identifier ≡ 20) × RequirementsFault p f)
-    ⊎ ((p.identifier ≡ 52) × ContentsFault (length p.contents ≤ 32) ⊥ p f))
+    ⊎ ((p.identifier ≡ 52) × ParameterContentsFault (length p.contents ≤ 32) ⊥ p f))
 
 abbrev pub judged : Parameter → Result (Unit {0}) BerFault
-judged p = if p.identifier == 5 then all_in item p.body p.contents
+judged p = if p.identifier == 5 then all_parameters_in item p.body p.contents
     else (if p.identifier == 20 then requirements_in p
     else (if p.identifier == 52 then judged_by (nat_le (length p.contents) 32) true p else Ok tt))
 
@@ -128,8 +128,8 @@ connection = record {
   seen = seen_in;
   may_follow = may_follow;
   value = λ s. connection_of s.item s.called s.user_data;
-  is_sound = IsSound;
-  breaks = Breaks;
+  is_sound = IsSoundParameter;
+  breaks = BreaksItsRule;
   with_one = with_one;
   judged = judged;
 }

@@ -1,7 +1,7 @@
 -- Parameters of connect and accept, counted.
 use Rattle.std.specs.Prelude.{◌≡◌, ℕ, ◌+◌, ◌≤◌, List, [], ◌∷◌, ◌==◌, if◌then◌else◌}
 use Rattle.session_profile.specs.Parameters.{Parameter}
-use Rattle.session_profile.specs.Connections.{IsSound}
+use Rattle.session_profile.specs.Connections.{IsSoundParameter}
 
 -- how many parameters of an identifier stand
 abbrev pub count_of : ℕ → List Parameter → ℕ
@@ -19,6 +19,6 @@ pub record AreOnce (ps : List Parameter) : Type 0 where
   pub extended : count_of 194 ps ≡ 0
 
 -- the contents of each keep their rules
-abbrev pub AreSound : List Parameter → Type 0
-AreSound [] = Unit {0}
-AreSound (p ∷ ps) = IsSound p × AreSound ps
+abbrev pub HaveSoundContents : List Parameter → Type 0
+HaveSoundContents [] = Unit {0}
+HaveSoundContents (p ∷ ps) = IsSoundParameter p × HaveSoundContents ps

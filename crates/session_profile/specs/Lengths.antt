@@ -9,25 +9,26 @@ use Rattle.ber_values.specs.Reading.{Taken, Begins}
 use Rattle.ber_values.specs.Grammars.{taken}
 
 -- one octet that isn't 255; or 255 and two octets, also for a number that one octet could spell
-abbrev pub SpellsLength : ℕ → List ℕ → Type 0
-SpellsLength n (one ∷ []) = (one ≢ 255) × (n ≡ one)
-SpellsLength n (first ∷ high ∷ low ∷ []) = (first ≡ 255) × (n ≡ high * 256 + low)
-SpellsLength n _ = ⊥
+abbrev pub SpellsSessionLength : ℕ → List ℕ → Type 0
+SpellsSessionLength n (one ∷ []) = (one ≢ 255) × (n ≡ one)
+SpellsSessionLength n (first ∷ high ∷ low ∷ []) = (first ≡ 255) × (n ≡ high * 256 + low)
+SpellsSessionLength n _ = ⊥
 
 -- the octets end before their length does
-abbrev pub IsLengthFront : List ℕ → Type 0
-IsLengthFront [] = Unit {0}
-IsLengthFront (first ∷ []) = first ≡ 255
-IsLengthFront (first ∷ high ∷ []) = first ≡ 255
-IsLengthFront _ = ⊥
+abbrev pub IsSessionLengthFront : List ℕ → Type 0
+IsSessionLengthFront [] = Unit {0}
+IsSessionLengthFront (first ∷ []) = first ≡ 255
+IsSessionLengthFront (first ∷ high ∷ []) = first ≡ 255
+IsSessionLengthFront _ = ⊥
 
-abbrev pub LengthFault : ℕ → List ℕ → BerFault → Type 0
-LengthFault at octets f = IsLengthFront octets × (f ≡ fault_at (at + length octets) whys.Short)
+abbrev pub SessionLengthFault : ℕ → List ℕ → BerFault → Type 0
+SessionLengthFault at octets f = IsSessionLengthFront octets
+    × (f ≡ fault_at (at + length octets) whys.Short)
 
 -- fewer octets follow a length than it says
-pub record IsPastEnd (at : ℕ) (octets : List ℕ) (f : BerFault) : Type 0 where
+pub record IsShortOfLength (at : ℕ) (octets : List ℕ) (f : BerFault) : Type 0 where
   pub size : Taken ℕ
-  pub spelled : Begins ℕ SpellsLength at octets size
+  pub spelled : Begins ℕ SpellsSessionLength at octets size
   pub past : length size.rest < size.value
   pub is : f ≡ fault_at at whys.Length
 
@@ -37,7 +38,7 @@ long_length_in at (high ∷ low ∷ rest) = Ok (taken (high * 256 + low) (at + 2
 long_length_in at octets = Err (fault_at (at + length octets) whys.Short)
 
 -- reading a length from the left
-unfoldable pub length_in : ℕ → List ℕ → Result (Taken ℕ) BerFault
-length_in at [] = Err (fault_at at whys.Short)
-length_in at (first ∷ rest) =
+unfoldable pub session_length_in : ℕ → List ℕ → Result (Taken ℕ) BerFault
+session_length_in at [] = Err (fault_at at whys.Short)
+session_length_in at (first ∷ rest) =
     if first == 255 then long_length_in (at + 1) rest else Ok (taken first (at + 1) rest)

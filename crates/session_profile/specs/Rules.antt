@@ -76,15 +76,15 @@ whole_or_short None at = Err (fault_at at whys.Short)
 whole_or_short (Some v) at = Ok v
 
 -- so many more parameters at most
-abbrev pub more_in : {S V : Type 0} → Rules S V → ℕ → S → ℕ → List ℕ → Result V BerFault
-more_in r room s at [] = whole_or_short (r.value s) at
-more_in r zero s at (identifier ∷ octets) = Err (fault_at at whys.Tag)
-more_in r (suc room) s at (identifier ∷ octets) = next_in r s at (identifier ∷ octets)
-    >>= λ t. more_in r room (r.with_one s t.value) t.next t.rest
+abbrev pub more_parameters_in : {S V : Type 0} → Rules S V → ℕ → S → ℕ → List ℕ → Result V BerFault
+more_parameters_in r room s at [] = whole_or_short (r.value s) at
+more_parameters_in r zero s at (identifier ∷ octets) = Err (fault_at at whys.Tag)
+more_parameters_in r (suc room) s at (identifier ∷ octets) = next_in r s at (identifier ∷ octets)
+    >>= λ t. more_parameters_in r room (r.with_one s t.value) t.next t.rest
 
 -- reading the rest from the left; there are no more parameters than octets
 unfoldable pub rest_in : {S V : Type 0} → Rules S V → S → ℕ → List ℕ → Result V BerFault
-rest_in r s at octets = more_in r (length octets) s at octets
+rest_in r s at octets = more_parameters_in r (length octets) s at octets
 
-unfoldable pub all_in : {S V : Type 0} → Rules S V → ℕ → List ℕ → Result V BerFault
-all_in r at octets = rest_in r (r.seen []) at octets
+unfoldable pub all_parameters_in : {S V : Type 0} → Rules S V → ℕ → List ℕ → Result V BerFault
+all_parameters_in r at octets = rest_in r (r.seen []) at octets

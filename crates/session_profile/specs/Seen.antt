@@ -23,11 +23,11 @@ parameter_of p = record {
   contents = p.contents.now;
 }
 
-abbrev pub taken_of : held.Parameter → Taken Parameter
-taken_of p = taken (parameter_of p) p.next p.rest.now
+abbrev pub taken_parameter_of : held.Parameter → Taken Parameter
+taken_parameter_of p = taken (parameter_of p) p.next p.rest.now
 
 -- the places of a parameter that stood at the front of octets
-pub record IsWithin (at : ℕ) (octets : List ℕ) (p : held.Parameter) : Type 0 where
+pub record IsParameterWithin (at : ℕ) (octets : List ℕ) (p : held.Parameter) : Type 0 where
   pub place : p.place ≡ at
   pub after_length : at + 2 ≤ p.body
   pub next : p.next ≡ p.body + length p.contents.now
@@ -45,21 +45,21 @@ abbrev pub connection_seen : held_connection.Connection → Connection
 connection_seen c = record { called = called_of (option_copied c.called); body = c.body }
 
 -- a fault by the words of the crate below
-abbrev pub fault_of : SessionFault → BerFault
-fault_of f = fault_at f.place f.why
+abbrev pub ber_fault_of : SessionFault → BerFault
+ber_fault_of f = fault_at f.place f.why
 
 -- and back
 abbrev pub session_fault_of : BerFault → SessionFault
 session_fault_of f = record { place = f.place; why = f.why }
 
 -- octets, if there are any, stand between two places
-abbrev pub IsSomeWithin : ℕ → ℕ → Option Span → Type 0
-IsSomeWithin at end None = Unit {0}
-IsSomeWithin at end (Some span) = IsSpanWithin at end span
+abbrev pub IsOptionalSpanWithin : ℕ → ℕ → Option Span → Type 0
+IsOptionalSpanWithin at end None = Unit {0}
+IsOptionalSpanWithin at end (Some span) = IsSpanWithin at end span
 
 -- the body of an SPDU, if it has one, stands in a TSDU of so many octets
-abbrev pub IsBodyWithin : ℕ → Spdu → Type 0
-IsBodyWithin end (spdus.Connect called body) = IsSpanWithin 0 end body
-IsBodyWithin end (spdus.Accept called body) = IsSpanWithin 0 end body
-IsBodyWithin end (spdus.Carry body) = IsSpanWithin 0 end body
-IsBodyWithin end _ = Unit {0}
+abbrev pub IsSpduBodyWithin : ℕ → Spdu → Type 0
+IsSpduBodyWithin end (spdus.Connect called body) = IsSpanWithin 0 end body
+IsSpduBodyWithin end (spdus.Accept called body) = IsSpanWithin 0 end body
+IsSpduBodyWithin end (spdus.Carry body) = IsSpanWithin 0 end body
+IsSpduBodyWithin end _ = Unit {0}

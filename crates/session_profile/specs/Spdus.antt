@@ -13,8 +13,8 @@ use Rattle.session_profile.specs.declared.spdu.Spdu.TheVariants.{Connect, Accept
 use Rattle.session_profile.specs.declared.spdu.Spdu.TheVariants.{Finish, Disconnect, Abort}
 use Rattle.session_profile.specs.declared.spdu.Spdu.TheVariants.{AbortAccept}
 use Rattle.session_profile.specs.Parameters.{Parameter, BeginsParameter, ParameterFault}
-use Rattle.session_profile.specs.Parameters.{parameter_in, end_in}
-use Rattle.session_profile.specs.Rules.{SpellsAll, FaultAmong, all_in}
+use Rattle.session_profile.specs.Parameters.{parameter_in, spdu_end_in}
+use Rattle.session_profile.specs.Rules.{SpellsAll, FaultAmong, all_parameters_in}
 use Rattle.session_profile.specs.Connections.{Connection, connection}
 
 -- the code and the contents of an SPDU that carries no data; those of the last five aren't looked
@@ -49,14 +49,14 @@ SpellsSpdu spdu tsdu = IsWhole spdu tsdu
 -- ---- the first fault
 
 -- no octet is left, or the first one isn't the wanted one
-abbrev pub OctetFault : ℕ → ℕ → List ℕ → BerFault → Type 0
-OctetFault at want [] f = f ≡ fault_at at whys.Short
-OctetFault at want (first ∷ octets) f = (first ≢ want) × (f ≡ fault_at at whys.Value)
+abbrev pub WantedOctetFault : ℕ → ℕ → List ℕ → BerFault → Type 0
+WantedOctetFault at want [] f = f ≡ fault_at at whys.Short
+WantedOctetFault at want (first ∷ octets) f = (first ≢ want) × (f ≡ fault_at at whys.Value)
 
 -- the octets don't begin with these: the first of them breaks, or one after it
 abbrev pub FrontFault : ℕ → List ℕ → List ℕ → BerFault → Type 0
 FrontFault at [] octets f = ⊥
-FrontFault at (want ∷ wanted) octets f = OctetFault at want octets f
+FrontFault at (want ∷ wanted) octets f = WantedOctetFault at want octets f
     ⊎ ((rest : List ℕ) × (octets ≡ want ∷ rest) × FrontFault (at + 1) wanted rest f)
 
 abbrev pub is_code : ℕ → Bool
@@ -82,24 +82,25 @@ SpduFault (code ∷ octets) f = ((code ≡ 1) × FrontFault 1 (0 ∷ 1 ∷ 0 ∷
 
 -- ---- reading from the left
 
-abbrev pub octet_in : ℕ → ℕ → List ℕ → Result (List ℕ) BerFault
-octet_in at want [] = Err (fault_at at whys.Short)
-octet_in at want (first ∷ rest) = if first == want then Ok rest else Err (fault_at at whys.Value)
+abbrev pub wanted_octet_in : ℕ → ℕ → List ℕ → Result (List ℕ) BerFault
+wanted_octet_in at want [] = Err (fault_at at whys.Short)
+wanted_octet_in at want (first ∷ rest) = if first ==
+    want then Ok rest else Err (fault_at at whys.Value)
 
 -- these octets, and a function of those after them
-abbrev pub front_in : {X : Type 0} → ℕ → List ℕ → List ℕ → (List ℕ → X) → Result X BerFault
-front_in at [] octets made = Ok (made octets)
-front_in at (want ∷ wanted) octets made =
-    octet_in at want octets >>= λ rest. front_in (at + 1) wanted rest made
+abbrev pub fixed_front_in : {X : Type 0} → ℕ → List ℕ → List ℕ → (List ℕ → X) → Result X BerFault
+fixed_front_in at [] octets made = Ok (made octets)
+fixed_front_in at (want ∷ wanted) octets made =
+    wanted_octet_in at want octets >>= λ rest. fixed_front_in (at + 1) wanted rest made
 
-abbrev pub carried : List ℕ → Spdu
-carried octets = Carry (span_at 4 octets)
+abbrev pub carried_data : List ℕ → Spdu
+carried_data octets = Carry (span_at 4 octets)
 
 abbrev pub connected : Connection → Spdu
 connected c = Connect c.called c.body
 
-abbrev pub accepted : Connection → Spdu
-accepted c = Accept c.called c.body
+abbrev pub accepted_connection : Connection → Spdu
+accepted_connection c = Accept c.called c.body
 
 -- an SPDU whose contents aren't looked at
 abbrev pub plain_in : ℕ → Result Spdu BerFault
@@ -107,18 +108,18 @@ plain_in code = if code == 12 then Ok Refuse else (if code == 9 then Ok Finish
     else (if code == 10 then Ok Disconnect else (if code == 25 then Ok Abort
     else (if code == 26 then Ok AbortAccept else Err (fault_at 0 whys.Tag)))))
 
-unfoldable pub coded_in : Parameter → Result Spdu BerFault
-coded_in p = if p.identifier == 13
-    then (all_in connection p.body p.contents >>= λ c. Ok (connected c))
+unfoldable pub spdu_coded_in : Parameter → Result Spdu BerFault
+spdu_coded_in p = if p.identifier == 13
+    then (all_parameters_in connection p.body p.contents >>= λ c. Ok (connected c))
     else (if p.identifier == 14
-    then (all_in connection p.body p.contents >>= λ c. Ok (accepted c))
+    then (all_parameters_in connection p.body p.contents >>= λ c. Ok (accepted_connection c))
     else plain_in p.identifier)
 
-unfoldable pub whole_in : List ℕ → Result Spdu BerFault
-whole_in tsdu = parameter_in 0 tsdu
-    >>= λ t. coded_in t.value >>= λ spdu. end_in spdu t.next t.rest
+unfoldable pub whole_spdu_in : List ℕ → Result Spdu BerFault
+whole_spdu_in tsdu = parameter_in 0 tsdu
+    >>= λ t. spdu_coded_in t.value >>= λ spdu. spdu_end_in spdu t.next t.rest
 
 unfoldable pub spdu_in : List ℕ → Result Spdu BerFault
 spdu_in [] = Err (fault_at 0 whys.Short)
-spdu_in (code ∷ octets) = if code == 1 then front_in 1 (0 ∷ 1 ∷ 0 ∷ []) octets carried
-    else (if is_code code then whole_in (code ∷ octets) else Err (fault_at 0 whys.Tag))
+spdu_in (code ∷ octets) = if code == 1 then fixed_front_in 1 (0 ∷ 1 ∷ 0 ∷ []) octets carried_data
+    else (if is_code code then whole_spdu_in (code ∷ octets) else Err (fault_at 0 whys.Tag))

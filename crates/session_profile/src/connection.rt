@@ -3,16 +3,18 @@ ghost use Rattle.std.specs.Prelude.{◌≡◌, ℕ, ◌+◌, ◌-◌, ◌^◌, �
 ghost use Rattle.std.specs.Prelude.{slice_index, IfOk, IfSome, OnOk, OnErr};
 ghost use Rattle.ber_values.specs.Faults.{Gives};
 ghost use Rattle.session_profile.specs.Parameters.{judged_by};
-ghost use Rattle.session_profile.specs.Rules.{all_in, sound_in, next_in, whole_or_short};
+ghost use Rattle.session_profile.specs.Rules.{all_parameters_in, sound_in, next_in, whole_or_short};
 ghost use Rattle.session_profile.specs.Connections.{has_second_bit, version_in, requirements_in};
 ghost use Rattle.session_profile.specs.Connections.{item, judged, may_follow, with_one, connection};
 ghost use Rattle.ber_values.specs.declared.lengths.TheConstants.{MOST_BODY};
 ghost use Rattle.session_profile.specs.Writing.{calling, called_octets, called_and_data};
-ghost use Rattle.session_profile.specs.Writing.{front_octets, connect_octets, accept_octets};
+ghost use Rattle.session_profile.specs.Writing.{spdu_front_octets, connect_spdu_octets};
+ghost use Rattle.session_profile.specs.Writing.{accept_spdu_octets};
 ghost use Rattle.tpkt_cotp.specs.Selectors.{HasSelector};
-ghost use Rattle.session_profile.specs.Seen.{parameter_of, taken_of, seen_of, connection_seen};
+ghost use Rattle.session_profile.specs.Seen.{parameter_of, taken_parameter_of, seen_of};
+ghost use Rattle.session_profile.specs.Seen.{connection_seen};
 ghost use Rattle.ber_values.specs.Externals.{IsSpanWithin};
-ghost use Rattle.session_profile.specs.Seen.{IsWithin, IsSomeWithin};
+ghost use Rattle.session_profile.specs.Seen.{IsParameterWithin, IsOptionalSpanWithin};
 
 use crate::parameter::{Parameter, element_len, put_element, put_head, read_parameter};
 use ber_values::{BerFault, Span, short, surplus};
@@ -86,8 +88,8 @@ fn read_version(parameter: &Parameter<'_>) -> Result<(), BerFault>
 #[tactic(auto, unfolding(crate::specs::Connections::item))]
 fn read_in_item(octets: &[u8], at: usize) -> Result<Parameter<'_>, BerFault>
     requires { at + length octets.now < 2 ^ 64 }
-    ensures exact { Gives taken_of result (sound_in item at octets.now) }
-    ensures within { IfOk result (λ p. IsWithin at octets.now p) }
+    ensures exact { Gives taken_parameter_of result (sound_in item at octets.now) }
+    ensures within { IfOk result (λ p. IsParameterWithin at octets.now p) }
 {
     let parameter = read_parameter(octets, at)?;
     if parameter.identifier == VERSION {
@@ -107,7 +109,7 @@ fn finish_item(versioned: bool, at: usize) -> Result<(), BerFault>
 /// Judges the connect/accept item.
 fn read_item(octets: &[u8], at: usize) -> Result<(), BerFault>
     requires { at + length octets.now < 2 ^ 64 }
-    ensures { result ≡ all_in item at octets.now }
+    ensures { result ≡ all_parameters_in item at octets.now }
 {
     let mut versioned = false;
     let mut place = at;
@@ -141,8 +143,8 @@ fn with_one<'a>(seen: Seen<'a>, parameter: &Parameter<'a>) -> Seen<'a>
     ensures called { IfSome result.called (λ octets. length octets.now ≤ 32) }
     ensures within { (start end : ℕ) → start ≤ parameter.now.body
         → parameter.now.body + length parameter.now.contents.now ≤ end
-        → IsSomeWithin start end seen.entry.user_data
-        → IsSomeWithin start end result.user_data }
+        → IsOptionalSpanWithin start end seen.entry.user_data
+        → IsOptionalSpanWithin start end result.user_data }
 {
     match parameter.identifier {
         ITEM => Seen { item: true, ..seen },
@@ -185,8 +187,9 @@ fn judge(parameter: &Parameter<'_>) -> Result<(), BerFault>
 #[tactic(auto, unfolding(crate::specs::Connections::connection))]
 fn read_next<'a>(seen: &Seen<'_>, octets: &'a [u8], at: usize) -> Result<Parameter<'a>, BerFault>
     requires { at + length octets.now < 2 ^ 64 }
-    ensures exact { Gives taken_of result (next_in connection (seen_of seen.now) at octets.now) }
-    ensures within { IfOk result (λ p. IsWithin at octets.now p) }
+    ensures exact { Gives taken_parameter_of result
+        (next_in connection (seen_of seen.now) at octets.now) }
+    ensures within { IfOk result (λ p. IsParameterWithin at octets.now p) }
     ensures called { IfOk result (λ p. p.identifier ≡ 52 → length p.contents.now ≤ 32) }
 {
     let [identifier, ..] = octets else {
@@ -207,7 +210,7 @@ fn finish<'a>(seen: Seen<'a>, at: usize) -> Result<Connection<'a>, BerFault>
     ensures exact { Gives connection_seen result
         (whole_or_short (connection.value (seen_of seen.entry)) at) }
     ensures called { IfOk result (λ c. IfSome c.called (λ octets. length octets.now ≤ 32)) }
-    ensures within { (start end : ℕ) → IsSomeWithin start end seen.entry.user_data
+    ensures within { (start end : ℕ) → IsOptionalSpanWithin start end seen.entry.user_data
         → IfOk result (λ c. IsSpanWithin start end c.body) }
 {
     match seen.user_data {
@@ -222,7 +225,7 @@ fn finish<'a>(seen: Seen<'a>, at: usize) -> Result<Connection<'a>, BerFault>
 /// The connect or accept with these parameters.
 pub(crate) fn read_connection(octets: &[u8], at: usize) -> Result<Connection<'_>, BerFault>
     requires { at + length octets.now < 2 ^ 64 }
-    ensures exact { Gives connection_seen result (all_in connection at octets.now) }
+    ensures exact { Gives connection_seen result (all_parameters_in connection at octets.now) }
     ensures called { IfOk result (λ c. IfSome c.called (λ octets. length octets.now ≤ 32)) }
     ensures within { IfOk result (λ c. IsSpanWithin at (at + length octets.now) c.body) }
 {
@@ -293,7 +296,7 @@ fn put_selectors_and_data(
 /// follow.
 fn put_front(out: &mut Vec<u8>, code: u8, len: usize) -> Result<(), AllocError>
     requires { len < 2 ^ 16 - 12 }
-    ensures ok { OnOk result (out.new.items ≡ out.old.items ++ front_octets code len) }
+    ensures ok { OnOk result (out.new.items ≡ out.old.items ++ spdu_front_octets code len) }
     ensures err { OnErr result (take (length out.old.items) out.new.items ≡ out.old.items) }
 {
     put_head(out, code, FRONT.len() + len)?;
@@ -307,7 +310,8 @@ pub(crate) fn put_connect(
     body: &[u8],
 ) -> Result<(), AllocError>
     requires { length body.now ≤ MOST_BODY }
-    ensures ok { OnOk result (out.new.items ≡ out.old.items ++ connect_octets called.now body.now) }
+    ensures ok { OnOk result (out.new.items ≡ out.old.items ++ connect_spdu_octets called.now
+        body.now) }
     ensures selector { HasSelector called.now }
     ensures err { OnErr result (take (length out.old.items) out.new.items ≡ out.old.items) }
 {
@@ -323,7 +327,8 @@ pub(crate) fn put_accept(
     body: &[u8],
 ) -> Result<(), AllocError>
     requires { length body.now ≤ MOST_BODY }
-    ensures ok { OnOk result (out.new.items ≡ out.old.items ++ accept_octets called.now body.now) }
+    ensures ok { OnOk result (out.new.items ≡ out.old.items ++ accept_spdu_octets called.now
+        body.now) }
     ensures selector { HasSelector called.now }
     ensures err { OnErr result (take (length out.old.items) out.new.items ≡ out.old.items) }
 {

@@ -4,11 +4,11 @@ ghost use Rattle.ber_values.specs.Reading.{HasOneReading};
 ghost use Rattle.session_profile.specs.declared.spdu.Spdu.{Spdu};
 ghost use Rattle.ber_values.specs.declared.lengths.TheConstants.{MOST_BODY};
 ghost use Rattle.session_profile.specs.Connections.{Connection, connection};
-ghost use Rattle.session_profile.specs.Counts.{AreOnce, AreSound};
+ghost use Rattle.session_profile.specs.Counts.{AreOnce, HaveSoundContents};
 ghost use Rattle.session_profile.specs.Parameters.{Parameter, BeginsParameters};
 ghost use Rattle.session_profile.specs.Rules.{SpellsAll};
 ghost use Rattle.session_profile.specs.Spdus.{SpellsSpdu, SpduFault};
-ghost use Rattle.session_profile.specs.Writing.{written_form, spdu_as_written, IsWritable};
+ghost use Rattle.session_profile.specs.Writing.{written_form, spdu_as_written, IsWritableSpdu};
 
 /// Octets have one reading: exactly one holds, they spell exactly one SPDU, or they have exactly
 /// one first fault.
@@ -21,15 +21,16 @@ pub fn one_reading()
 /// of each keep their rules.
 pub fn parameters_once()
     ensures only { (at : ℕ) (c : Connection) (octets : List ℕ)
-        → (s : SpellsAll connection at c octets) → AreOnce s.parameters × AreSound s.parameters }
+        → (s : SpellsAll connection at c octets) → AreOnce s.parameters
+        × HaveSoundContents s.parameters }
     // Wherever parameters are so, they are those of one.
     ensures any { (at : ℕ) (octets : List ℕ) (ps : List Parameter) (end : ℕ)
-        → BeginsParameters at octets ps end [] → AreOnce ps → AreSound ps
+        → BeginsParameters at octets ps end [] → AreOnce ps → HaveSoundContents ps
         → (c : Connection) × SpellsAll connection at c octets }
 {}
 
 /// What is written is read back as the same SPDU, whose body is the octets that were given.
 pub fn written_is_read()
-    ensures { (spdu : Spdu) (body : List ℕ) → IsWritable spdu → length body ≤ MOST_BODY
+    ensures { (spdu : Spdu) (body : List ℕ) → IsWritableSpdu spdu → length body ≤ MOST_BODY
         → SpellsSpdu (spdu_as_written spdu body) (written_form spdu body) }
 {}

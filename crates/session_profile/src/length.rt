@@ -3,8 +3,8 @@ ghost use Rattle.std.specs.Prelude.{◌≡◌, ◌+◌, ◌^◌, ◌<◌, ◌≤
 ghost use Rattle.ber_values.specs.Faults.{Gives};
 ghost use Rattle.ber_values.specs.Grammars.{taken};
 ghost use Rattle.ber_values.specs.Reading.{IsAfter};
-ghost use Rattle.session_profile.specs.Lengths.{length_in, long_length_in};
-ghost use Rattle.session_profile.specs.Writing.{length_octets};
+ghost use Rattle.session_profile.specs.Lengths.{session_length_in, long_length_in};
+ghost use Rattle.session_profile.specs.Writing.{session_length_octets};
 
 use ber_values::{BerFault, short};
 use std::alloc::AllocError;
@@ -13,10 +13,10 @@ use std::alloc::AllocError;
 const LONG: u8 = 255;
 
 /// The length at the front, the place after it and the octets from there on.
-#[tactic(auto, unfolding(crate::specs::Lengths::length_in))]
+#[tactic(auto, unfolding(crate::specs::Lengths::session_length_in))]
 pub(crate) fn read_length(octets: &[u8], at: usize) -> Result<(usize, usize, &[u8]), BerFault>
     requires { at + length octets.now < 2 ^ 64 }
-    ensures exact { Gives (λ x. taken x.0 x.1 x.2.now) result (length_in at octets.now) }
+    ensures exact { Gives (λ x. taken x.0 x.1 x.2.now) result (session_length_in at octets.now) }
     ensures bounded { IfOk result (λ x. x.0 < 2 ^ 16) }
     ensures places { IfOk result (λ x. IsAfter at octets.now x.1 x.2.now) }
 {
@@ -44,10 +44,10 @@ fn read_long(octets: &[u8], at: usize) -> Result<(usize, usize, &[u8]), BerFault
 }
 
 /// Appends the shortest length.
-#[tactic(auto, unfolding(crate::specs::Writing::length_octets))]
+#[tactic(auto, unfolding(crate::specs::Writing::session_length_octets))]
 pub(crate) fn put_length(out: &mut Vec<u8>, len: usize) -> Result<(), AllocError>
     requires { len < 2 ^ 16 }
-    ensures ok { OnOk result (out.new.items ≡ out.old.items ++ length_octets len) }
+    ensures ok { OnOk result (out.new.items ≡ out.old.items ++ session_length_octets len) }
     ensures err { OnErr result (take (length out.old.items) out.new.items ≡ out.old.items) }
 {
     if len < usize::from(LONG) {

@@ -4,9 +4,10 @@ ghost use Rattle.std.specs.Prelude.{◌≡◌, ◌+◌, ◌^◌, ◌<◌, ◌≤
 ghost use Rattle.std.specs.Prelude.{OnErr};
 ghost use Rattle.ber_values.specs.Faults.{Gives};
 ghost use Rattle.ber_values.specs.Leaves.{span_at};
-ghost use Rattle.session_profile.specs.Parameters.{parameter_in, sized_in, judged_by, end_in};
-ghost use Rattle.session_profile.specs.Seen.{parameter_of, taken_of, IsWithin};
-ghost use Rattle.session_profile.specs.Writing.{length_octets, element};
+ghost use Rattle.session_profile.specs.Parameters.{parameter_in, sized_parameter_in, judged_by};
+ghost use Rattle.session_profile.specs.Parameters.{spdu_end_in};
+ghost use Rattle.session_profile.specs.Seen.{parameter_of, taken_parameter_of, IsParameterWithin};
+ghost use Rattle.session_profile.specs.Writing.{session_length_octets, element};
 
 use crate::length::{put_length, read_length};
 use ber_values::{BerFault, Span, Why, fault_at, short, surplus};
@@ -32,8 +33,8 @@ pub(crate) struct Parameter<'a> {
 #[tactic(auto, unfolding(crate::specs::Parameters::parameter_in))]
 pub(crate) fn read_parameter(octets: &[u8], at: usize) -> Result<Parameter<'_>, BerFault>
     requires { at + length octets.now < 2 ^ 64 }
-    ensures exact { Gives taken_of result (parameter_in at octets.now) }
-    ensures within { IfOk result (λ p. IsWithin at octets.now p) }
+    ensures exact { Gives taken_parameter_of result (parameter_in at octets.now) }
+    ensures within { IfOk result (λ p. IsParameterWithin at octets.now p) }
 {
     let [identifier, rest @ ..] = octets else {
         return Err(short(at));
@@ -82,7 +83,7 @@ impl Parameter<'_> {
 
 /// Nothing may follow.
 pub(crate) fn read_end(octets: &[u8], at: usize) -> Result<(), BerFault>
-    ensures { result ≡ end_in (tt {0}) at octets.now }
+    ensures { result ≡ spdu_end_in (tt {0}) at octets.now }
 {
     match octets {
         [] => Ok(()),
@@ -91,10 +92,10 @@ pub(crate) fn read_end(octets: &[u8], at: usize) -> Result<(), BerFault>
 }
 
 /// How many octets a parameter of so many contents octets has.
-#[tactic(auto, unfolding(crate::specs::Writing::length_octets))]
+#[tactic(auto, unfolding(crate::specs::Writing::session_length_octets))]
 pub(crate) fn element_len(len: usize) -> usize
     requires { len < 2 ^ 16 }
-    ensures exact { result ≡ 1 + length (length_octets len) + len }
+    ensures exact { result ≡ 1 + length (session_length_octets len) + len }
     ensures small { result ≤ len + 4 }
 {
     if len < 255 { len + 2 } else { len + 4 }
@@ -103,7 +104,8 @@ pub(crate) fn element_len(len: usize) -> usize
 /// Appends an identifier or a code, and the shortest length.
 pub(crate) fn put_head(out: &mut Vec<u8>, identifier: u8, len: usize) -> Result<(), AllocError>
     requires { len < 2 ^ 16 }
-    ensures ok { OnOk result (out.new.items ≡ out.old.items ++ identifier ∷ length_octets len) }
+    ensures ok { OnOk result (out.new.items ≡ out.old.items ++ identifier ∷ session_length_octets
+        len) }
     ensures err { OnErr result (take (length out.old.items) out.new.items ≡ out.old.items) }
 {
     out.push(identifier)?;

@@ -8,13 +8,16 @@ ghost use Rattle.ber_values.specs.Stops.{Answers};
 ghost use Rattle.session_profile.specs.declared.fault.SessionFault.{SessionFault};
 ghost use Rattle.session_profile.specs.declared.spdu.Spdu.{Spdu};
 ghost use Rattle.session_profile.specs.Connections.{called_of};
-ghost use Rattle.session_profile.specs.Seen.{parameter_of, fault_of, session_fault_of};
-ghost use Rattle.session_profile.specs.Seen.{IsBodyWithin};
-ghost use Rattle.session_profile.specs.Writing.{released, refuse_octets, release_octets};
+ghost use Rattle.session_profile.specs.Seen.{parameter_of, ber_fault_of, session_fault_of};
+ghost use Rattle.session_profile.specs.Seen.{IsSpduBodyWithin};
+ghost use Rattle.session_profile.specs.Writing.{released_user_data, refuse_octets};
+ghost use Rattle.session_profile.specs.Writing.{release_spdu_octets};
 ghost use Rattle.session_profile.specs.Writing.{abort_octets, carry_octets, written_form};
-ghost use Rattle.session_profile.specs.Writing.{spdu_as_written, IsWritable};
-ghost use Rattle.session_profile.specs.Spdus.{SpellsSpdu, SpduFault, is_code, octet_in, front_in};
-ghost use Rattle.session_profile.specs.Spdus.{carried, plain_in, coded_in, whole_in, spdu_in};
+ghost use Rattle.session_profile.specs.Writing.{spdu_as_written, IsWritableSpdu};
+ghost use Rattle.session_profile.specs.Spdus.{SpellsSpdu, SpduFault, is_code, wanted_octet_in};
+ghost use Rattle.session_profile.specs.Spdus.{fixed_front_in};
+ghost use Rattle.session_profile.specs.Spdus.{carried_data, plain_in, spdu_coded_in, whole_spdu_in};
+ghost use Rattle.session_profile.specs.Spdus.{spdu_in};
 
 use crate::connection::{ACCEPT, CONNECT, USER_DATA, put_accept, put_connect, read_connection};
 use crate::fault::SessionFault;
@@ -69,7 +72,7 @@ pub enum Spdu {
 
 /// The octets after this one, which has the place `at`.
 fn read_octet(octets: &[u8], at: usize, want: u8) -> Result<&[u8], BerFault>
-    ensures exact { Gives (λ rest. rest.now) result (octet_in at want octets.now) }
+    ensures exact { Gives (λ rest. rest.now) result (wanted_octet_in at want octets.now) }
     ensures rest { IfOk result (λ rest. length rest.now < length octets.now) }
 {
     match octets {
@@ -82,8 +85,8 @@ fn read_octet(octets: &[u8], at: usize, want: u8) -> Result<&[u8], BerFault>
 /// The SPDU after the first octet of a data transfer.
 fn read_carry(octets: &[u8]) -> Result<Spdu, BerFault>
     requires { 4 + length octets.now < 2 ^ 64 }
-    ensures exact { result ≡ front_in 1 (0 ∷ 1 ∷ 0 ∷ []) octets.now carried }
-    ensures body { IfOk result (λ spdu. IsBodyWithin (1 + length octets.now) spdu) }
+    ensures exact { result ≡ fixed_front_in 1 (0 ∷ 1 ∷ 0 ∷ []) octets.now carried_data }
+    ensures body { IfOk result (λ spdu. IsSpduBodyWithin (1 + length octets.now) spdu) }
 {
     let rest = read_octet(octets, 1, CARRY[1])?;
     let rest = read_octet(rest, 2, CARRY[2])?;
@@ -112,7 +115,7 @@ fn selector_from(alloc: Global, octets: Option<&[u8]>) -> Result<Option<Selector
 /// The SPDU of a code whose contents aren't looked at.
 fn read_plain(code: u8) -> Result<Spdu, BerFault>
     ensures exact { result ≡ plain_in code }
-    ensures body { (end : ℕ) → IfOk result (λ spdu. IsBodyWithin end spdu) }
+    ensures body { (end : ℕ) → IfOk result (λ spdu. IsSpduBodyWithin end spdu) }
 {
     match code {
         REFUSE => Ok(Spdu::Refuse),
@@ -134,12 +137,12 @@ fn is_code(code: u8) -> bool
 }
 
 /// The SPDU with this code and contents.
-#[tactic(auto, unfolding(crate::specs::Spdus::coded_in))]
+#[tactic(auto, unfolding(crate::specs::Spdus::spdu_coded_in))]
 fn read_coded(alloc: Global, whole: &Parameter<'_>) -> Result<Spdu, Stop>
     requires { whole.now.body + length whole.now.contents.now < 2 ^ 64 }
-    ensures exact { Answers (λ spdu. spdu) result (coded_in (parameter_of whole.now)) }
+    ensures exact { Answers (λ spdu. spdu) result (spdu_coded_in (parameter_of whole.now)) }
     ensures body { IfOk result (λ spdu.
-        IsBodyWithin (whole.now.body + length whole.now.contents.now) spdu) }
+        IsSpduBodyWithin (whole.now.body + length whole.now.contents.now) spdu) }
 {
     match whole.identifier {
         CONNECT => {
@@ -161,11 +164,11 @@ fn read_coded(alloc: Global, whole: &Parameter<'_>) -> Result<Spdu, Stop>
 }
 
 /// An SPDU that fills the TSDU.
-#[tactic(auto, unfolding(crate::specs::Spdus::whole_in))]
+#[tactic(auto, unfolding(crate::specs::Spdus::whole_spdu_in))]
 fn read_whole(alloc: Global, tsdu: &[u8]) -> Result<Spdu, Stop>
     requires { length tsdu.now < 2 ^ 63 }
-    ensures exact { Answers (λ spdu. spdu) result (whole_in tsdu.now) }
-    ensures body { IfOk result (λ spdu. IsBodyWithin (length tsdu.now) spdu) }
+    ensures exact { Answers (λ spdu. spdu) result (whole_spdu_in tsdu.now) }
+    ensures body { IfOk result (λ spdu. IsSpduBodyWithin (length tsdu.now) spdu) }
 {
     let whole = read_parameter(tsdu, 0)?;
     let spdu = read_coded(alloc, &whole)?;
@@ -176,7 +179,7 @@ fn read_whole(alloc: Global, tsdu: &[u8]) -> Result<Spdu, Stop>
 #[tactic(auto, unfolding(crate::specs::Spdus::spdu_in))]
 fn read_any(alloc: Global, tsdu: &[u8]) -> Result<Spdu, Stop>
     ensures exact { Answers (λ spdu. spdu) result (spdu_in tsdu.now) }
-    ensures body { IfOk result (λ spdu. IsBodyWithin (length tsdu.now) spdu) }
+    ensures body { IfOk result (λ spdu. IsSpduBodyWithin (length tsdu.now) spdu) }
 {
     match tsdu {
         [] => Err(Stop::Fault(short(0))),
@@ -188,7 +191,8 @@ fn read_any(alloc: Global, tsdu: &[u8]) -> Result<Spdu, Stop>
 
 fn read_exactly(alloc: Global, tsdu: &[u8]) -> Result<Result<Spdu, BerFault>, AllocError>
     ensures exact { IfOk result (λ read. read ≡ spdu_in tsdu.now) }
-    ensures body { IfOk result (λ read. IfOk read (λ spdu. IsBodyWithin (length tsdu.now) spdu)) }
+    ensures body { IfOk result (λ read.
+        IfOk read (λ spdu. IsSpduBodyWithin (length tsdu.now) spdu)) }
 {
     settle(read_any(alloc, tsdu))
 }
@@ -211,9 +215,10 @@ pub fn read_spdu(alloc: Global, tsdu: &[u8]) -> Result<Result<Spdu, SessionFault
     ensures only { (spdu : Spdu) → SpellsSpdu spdu tsdu.now → IfOk result (λ read. read ≡ Ok spdu) }
     // A fault is the first one from the left.
     ensures fault { (fault : SessionFault) → IfOk result (λ read.
-        (read ≡ Err fault) ↔ SpduFault tsdu.now (fault_of fault)) }
+        (read ≡ Err fault) ↔ SpduFault tsdu.now (ber_fault_of fault)) }
     // A body stands in the TSDU.
-    ensures body { IfOk result (λ read. IfOk read (λ spdu. IsBodyWithin (length tsdu.now) spdu)) }
+    ensures body { IfOk result (λ read.
+        IfOk read (λ spdu. IsSpduBodyWithin (length tsdu.now) spdu)) }
 {
     match read_exactly(alloc, tsdu)? {
         Ok(spdu) => Ok(Ok(spdu)),
@@ -244,7 +249,7 @@ fn put_refuse(out: &mut Vec<u8>, body: &[u8]) -> Result<(), AllocError>
 /// An SPDU of this code, whose contents are the user data.
 fn put_release(out: &mut Vec<u8>, code: u8, body: &[u8]) -> Result<(), AllocError>
     requires { length body.now ≤ MOST_BODY }
-    ensures ok { OnOk result (out.new.items ≡ out.old.items ++ release_octets code body.now) }
+    ensures ok { OnOk result (out.new.items ≡ out.old.items ++ release_spdu_octets code body.now) }
     ensures err { OnErr result (take (length out.old.items) out.new.items ≡ out.old.items) }
 {
     put_head(out, code, element_len(body.len()))?;
@@ -254,7 +259,7 @@ fn put_release(out: &mut Vec<u8>, code: u8, body: &[u8]) -> Result<(), AllocErro
 /// What an abort has: the transport disconnect and the user data.
 fn put_released(out: &mut Vec<u8>, body: &[u8]) -> Result<(), AllocError>
     requires { length body.now ≤ MOST_BODY }
-    ensures ok { OnOk result (out.new.items ≡ out.old.items ++ released body.now) }
+    ensures ok { OnOk result (out.new.items ≡ out.old.items ++ released_user_data body.now) }
     ensures err { OnErr result (take (length out.old.items) out.new.items ≡ out.old.items) }
 {
     out.extend_from_slice(&RELEASED)?;
@@ -281,7 +286,7 @@ fn put_carry(out: &mut Vec<u8>, body: &[u8]) -> Result<(), AllocError>
 fn put_spdu(out: &mut Vec<u8>, spdu: &Spdu, body: &[u8]) -> Result<(), AllocError>
     requires written { spdu.now ≢ Spdu.AbortAccept }
     requires fits { length body.now ≤ MOST_BODY }
-    ensures writable { IsWritable spdu.now }
+    ensures writable { IsWritableSpdu spdu.now }
     ensures ok { OnOk result (out.new.items ≡ out.old.items ++ written_form spdu.now body.now) }
     ensures err { OnErr result (take (length out.old.items) out.new.items ≡ out.old.items) }
 {

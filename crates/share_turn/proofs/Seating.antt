@@ -15,7 +15,7 @@ use Rattle.share_turn.specs.declared.seat_view.Phase.{Phase}
 use Rattle.share_turn.specs.declared.seat_view.Phase.TheVariants.{Idle, Holding}
 use Rattle.share_turn.specs.declared.seat_view.Phase.TheVariants.{AtTurn, Spent}
 use Rattle.share_turn.specs.Entries.{own, Claims, AllDiffer}
-use Rattle.share_turn.specs.Turns.{claims, Stands, Fits, Apart, IsKept}
+use Rattle.share_turn.specs.Turns.{claims, Stands, FitsLog, Apart, IsKept}
 use Rattle.share_turn.specs.Steps.{at_phase, fresh, drawn, spent, longer, joined, drew_number}
 use Rattle.share_turn.proofs.Owned.{each_map, each_append, stands_on, below, fresh_none, none_both}
 use Rattle.share_turn.proofs.Views.{seats, pairs, apart_sym, fits_at, apart_at, place_stays}
@@ -177,7 +177,7 @@ module _ {O E T : Type 0} (setup_of : O → T) (history_of : O → List (ℕ × 
       let away : (j : ℕ) (l : K) → j ≢ id → get_elem? s.views j ≡ some l
       → Apart (at_phase (Holding n) k) l = λ j l ne there. apart_at k l (Holding n) holds
       (r.each_pair id j k l (λ is. ne (sym is)) at there) in
-      let left : Fits setup r.log r.next r.turn r.count w = record {
+      let left : FitsLog setup r.log r.next r.turn r.count w = record {
         setup_is = inr alive;
         rest = f.rest;
         seen = f.seen;
@@ -186,7 +186,7 @@ module _ {O E T : Type 0} (setup_of : O → T) (history_of : O → List (ℕ × 
             f.differ.1;
         in_turn = tt;
       } in
-      let right : Fits setup r.log r.next r.turn r.count v = record {
+      let right : FitsLog setup r.log r.next r.turn r.count v = record {
         setup_is = inr alive;
         rest = f.rest;
         seen = f.seen;
@@ -196,8 +196,8 @@ module _ {O E T : Type 0} (setup_of : O → T) (history_of : O → List (ℕ × 
         in_turn = tt;
       } in
       let each : (j : ℕ) (l : K) → get_elem? vs j ≡ some l
-      → Fits setup r.log r.next r.turn r.count l = seats
-      (Fits setup r.log r.next r.turn r.count) s.views id w left
+      → FitsLog setup r.log r.next r.turn r.count l = seats
+      (FitsLog setup r.log r.next r.turn r.count) s.views id w left
       (λ j l _ there. r.each_seat j l there) in
       let pair : (i j : ℕ) (x y : K) → i ≢ j → get_elem? vs i ≡ some x → get_elem? vs j ≡ some y
       → Apart x y = pairs s.views id w (λ j l ne there. let a = away j l ne there in
@@ -239,7 +239,7 @@ module _ {O E T : Type 0} (setup_of : O → T) (history_of : O → List (ℕ × 
             ))
             (place_stays setup_of history_of setup s r.log id k w s.words at
             (λ t is. absurd (cc (holds, is))) r.place);
-        each_seat = seats_snoc (Fits setup r.log r.next r.turn r.count) vs v right each;
+        each_seat = seats_snoc (FitsLog setup r.log r.next r.turn r.count) vs v right each;
         each_pair = pairs_snoc vs v mine pair;
       } in
       subst (λ (p : Phase). Rule record {
@@ -276,7 +276,7 @@ module _ {O E T : Type 0} (setup_of : O → T) (history_of : O → List (ℕ × 
       let on' : (p : ℕ × List (ℕ × E)) → Stands r.count l.front g.rest p
       → Stands r.count front far.0 p = stands_on r.count r.count
       (le_refl r.count) l.front g.rest theirs.0 front far.0 theirs.1 theirs.2 in
-      let fits : Fits setup r.log r.next r.turn r.count w = record {
+      let fits : FitsLog setup r.log r.next r.turn r.count w = record {
         setup_is = inr alive;
         rest = far.0;
         seen = far.1;
@@ -315,7 +315,7 @@ module _ {O E T : Type 0} (setup_of : O → T) (history_of : O → List (ℕ × 
       (λ (u : Claims (l.ended ++ k.ended) n). ⊎_elim (λ (x : Claims l.ended n). inr (inr x))
       (λ (x : Claims k.ended n). inl (inr x)) (claims_append l.ended k.ended n u)) h) c in
       let vs : List K = set s.views id w in
-      let gone : Fits setup r.log r.next r.turn r.count spent = record
+      let gone : FitsLog setup r.log r.next r.turn r.count spent = record
       { setup_is = inl refl; rest = r.log; seen = refl; stands = tt; differ = tt; in_turn = tt }
       in
       let state : St = record { words = s.words; homes = s.homes; views = vs } in
@@ -353,8 +353,8 @@ module _ {O E T : Type 0} (setup_of : O → T) (history_of : O → List (ℕ × 
             (set_else s.views id other w apart ∙ at_other) (λ t is. absurd (cc (idle', is)))
             (place_stays setup_of history_of setup s r.log id k w s.words at
             (λ t is. absurd (cc (idle, is))) r.place);
-        each_seat = seats (Fits setup r.log r.next r.turn r.count) vs other spent gone
-            (λ j x _ h. seats (Fits setup r.log r.next r.turn r.count) s.views id w fits
+        each_seat = seats (FitsLog setup r.log r.next r.turn r.count) vs other spent gone
+            (λ j x _ h. seats (FitsLog setup r.log r.next r.turn r.count) s.views id w fits
             (λ i y _ q. r.each_seat i y q) j x h);
         each_pair = subst (λ (us : List K). (i j : ℕ) (x y : K) → i ≢ j → get_elem? us i ≡ some x
             → get_elem? us j ≡ some y → Apart x y)

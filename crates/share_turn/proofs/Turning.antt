@@ -18,7 +18,7 @@ use Rattle.share_turn.specs.declared.seat_view.Phase.{Phase}
 use Rattle.share_turn.specs.declared.seat_view.Phase.TheVariants.{Idle, Waiting, Reached}
 use Rattle.share_turn.specs.declared.seat_view.Phase.TheVariants.{AtTurn, Returned, Spent}
 use Rattle.share_turn.specs.Entries.{Each, own, Claims}
-use Rattle.share_turn.specs.Turns.{claims, Stands, HasTicket, Fits, Apart, IsKept}
+use Rattle.share_turn.specs.Turns.{claims, Stands, HasTicket, FitsLog, Apart, IsKept}
 use Rattle.share_turn.specs.Steps.{starting, at_phase, at_front, ClaimsHold, drew_ticket, read_turn}
 use Rattle.share_turn.specs.Steps.{IsOut, took_out, GoesOn, put_back, published}
 use Rattle.share_turn.proofs.Owned.{each_map, each_append, stands_on, stands_log, not_own}
@@ -59,7 +59,7 @@ module _ {O E T : Type 0} (setup_of : O → T) (history_of : O → List (ℕ × 
     order = omega arith;
     logged = tt;
     place = inl (o, refl, empty, is);
-    each_seat = λ j k e. subst (Fits setup [] 0 0 1) (first_only (starting setup) k j e).1 record {
+    each_seat = λ j k e. subst (FitsLog setup [] 0 0 1) (first_only (starting setup) k j e).1 record {
       setup_is = inr refl;
       rest = [];
       seen = refl;
@@ -168,7 +168,7 @@ module _ {O E T : Type 0} (setup_of : O → T) (history_of : O → List (ℕ × 
       let alive : k.setup ≡ setup ∷ [] = ⊎_elim (λ (is : Reached t ≡ Spent). absurd (cc is))
       (λ (is : k.setup ≡ setup ∷ []). is) f.setup_is in
       let quiet : own k.number f.rest ≡ [] = f.stands.0.2 in
-      let fits : Fits setup r.log r.next r.turn r.count w = record {
+      let fits : FitsLog setup r.log r.next r.turn r.count w = record {
         setup_is = inr alive;
         rest = [];
         seen = append-nil (history_of o) ∙ hist;
@@ -195,7 +195,7 @@ module _ {O E T : Type 0} (setup_of : O → T) (history_of : O → List (ℕ × 
           order = r.order;
           logged = r.logged;
           place = inr (refl, (id, w, t, set_here s.views id w (at_lt s.views id k at), refl));
-          each_seat = seats (Fits setup r.log r.next r.turn r.count) s.views id w fits
+          each_seat = seats (FitsLog setup r.log r.next r.turn r.count) s.views id w fits
               (λ j l _ there. r.each_seat j l there);
           each_pair = pairs s.views id w (λ j l ne there.
               let a = apart_at k l (Reached t) reached
@@ -255,7 +255,7 @@ module _ {O E T : Type 0} (setup_of : O → T) (history_of : O → List (ℕ × 
       let wide : Each (Stands r.count k.front (f.rest ++ more)) k.ended = stands_log r.count k.front
       f.rest more k.ended (λ n c. g.2 n (λ is. f.differ.0 (subst (Claims k.ended) (sym is) c)))
       f.stands.1 in
-      let fits : Fits setup (history_of o) r.next r.turn r.count w = record {
+      let fits : FitsLog setup (history_of o) r.next r.turn r.count w = record {
         setup_is = inr alive;
         rest = [];
         seen = append-nil (history_of o);
@@ -272,9 +272,9 @@ module _ {O E T : Type 0} (setup_of : O → T) (history_of : O → List (ℕ × 
         in_turn = (now, f.in_turn.1, refl);
       } in
       let others : (j : ℕ) (l : K) → j ≢ id → get_elem? s.views j ≡ some l
-      → Fits setup (history_of o) r.next r.turn r.count l = λ j l ne there.
+      → FitsLog setup (history_of o) r.next r.turn r.count l = λ j l ne there.
       let a = apart_at k l (AtTurn t) turn (r.each_pair id j k l (λ is. ne (sym is)) at there) in
-      subst (λ (h : List (ℕ × E)). Fits setup h r.next r.turn r.count l) (sym whole)
+      subst (λ (h : List (ℕ × E)). FitsLog setup h r.next r.turn r.count l) (sym whole)
       (fits_log setup r.log more r.next r.turn r.count l
       (λ n c. g.2 n (λ is. a.numbers n (inl is) c)) (λ c. a.tickets r.turn now c)
       (r.each_seat j l there)) in
@@ -295,7 +295,7 @@ module _ {O E T : Type 0} (setup_of : O → T) (history_of : O → List (ℕ × 
             (each_append (λ (e : ℕ × E). e.0 < r.count) r.log more r.logged
             (g.3 r.count f.stands.0.0));
         place = inl (o, is, refl, same_setup);
-        each_seat = seats (Fits setup (history_of o) r.next r.turn r.count) s.views id w fits
+        each_seat = seats (FitsLog setup (history_of o) r.next r.turn r.count) s.views id w fits
             others;
         each_pair = pairs s.views id w (λ j l ne there.
             let a = apart_at k l (AtTurn t) turn
@@ -340,7 +340,7 @@ module _ {O E T : Type 0} (setup_of : O → T) (history_of : O → List (ℕ × 
       let away : (j : ℕ) (l : K) → j ≢ id → get_elem? s.views j ≡ some l
       → Apart (at_phase (Returned t) k) l = λ j l ne there. apart_at k l (Returned t) back
       (r.each_pair id j k l (λ is. ne (sym is)) at there) in
-      let fits : Fits setup r.log r.next (r.turn + 1) r.count w = record {
+      let fits : FitsLog setup r.log r.next (r.turn + 1) r.count w = record {
         setup_is = ⊎_elim (λ (is : Returned t ≡ Spent). absurd (cc is)) inr f.setup_is;
         rest = f.rest;
         seen = f.seen;
@@ -364,7 +364,7 @@ module _ {O E T : Type 0} (setup_of : O → T) (history_of : O → List (ℕ × 
           logged = r.logged;
           place = place_stays setup_of history_of setup s r.log id k w
               (r.next ∷ (t + 1) ∷ r.count ∷ []) at (λ u is. absurd (cc (back, is))) r.place;
-          each_seat = seats (Fits setup r.log r.next (r.turn + 1) r.count) s.views id w fits
+          each_seat = seats (FitsLog setup r.log r.next (r.turn + 1) r.count) s.views id w fits
               (λ j l ne there. fits_turn setup r.log r.next r.turn r.count l
               (λ c. let a = away j l ne there in a.tickets r.turn now c)
               (r.each_seat j l there));

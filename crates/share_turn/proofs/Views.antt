@@ -14,7 +14,7 @@ use Rattle.share_turn.specs.declared.seat_view.Phase.{Phase}
 use Rattle.share_turn.specs.declared.seat_view.Phase.TheVariants.{Idle, Holding, Waiting, Reached}
 use Rattle.share_turn.specs.declared.seat_view.Phase.TheVariants.{AtTurn, Returned, Spent}
 use Rattle.share_turn.specs.Entries.{Each, own, Behind, Keeps, Claims}
-use Rattle.share_turn.specs.Turns.{claims, Stands, InTurn, HasTicket, Fits, Apart, IsPlaced, IsKept}
+use Rattle.share_turn.specs.Turns.{claims, Stands, InTurn, HasTicket, FitsLog, Apart, IsPlaced, IsKept}
 use Rattle.share_turn.specs.Steps.{at_phase, ClaimsHold}
 use Rattle.share_turn.proofs.Owned.{each_keeps, each_map, stands_log, below}
 
@@ -105,8 +105,8 @@ module _ {E T : Type 0} where
       (at_set vs id i w k a)
 
   pub fits_more : (setup : T) (log : List (ℕ × E)) (next next' turn count count' : ℕ)
-      (k : SeatView E T) → next ≤ next' → count ≤ count' → Fits setup log next turn count k
-      → Fits setup log next' turn count' k
+      (k : SeatView E T) → next ≤ next' → count ≤ count' → FitsLog setup log next turn count k
+      → FitsLog setup log next' turn count' k
   fits_more setup log next next' turn count count' k le le' f = record {
     setup_is = f.setup_is;
     rest = f.rest;
@@ -119,7 +119,7 @@ module _ {E T : Type 0} where
 
   pub fits_log : (setup : T) (log more : List (ℕ × E)) (next turn count : ℕ) (k : SeatView E T)
       → ((n : ℕ) → Claims (claims k) n → own n more ≡ []) → (HasTicket k.phase turn → ⊥)
-      → Fits setup log next turn count k → Fits setup (log ++ more) next turn count k
+      → FitsLog setup log next turn count k → FitsLog setup (log ++ more) next turn count k
   fits_log setup log more next turn count k quiet other f = record {
     setup_is = f.setup_is;
     rest = f.rest ++ more;
@@ -130,8 +130,8 @@ module _ {E T : Type 0} where
   }
 
   pub fits_turn : (setup : T) (log : List (ℕ × E)) (next turn count : ℕ) (k : SeatView E T)
-      → (HasTicket k.phase turn → ⊥) → Fits setup log next turn count k
-      → Fits setup log next (turn + 1) count k
+      → (HasTicket k.phase turn → ⊥) → FitsLog setup log next turn count k
+      → FitsLog setup log next (turn + 1) count k
   fits_turn setup log next turn count k other f = record {
     setup_is = f.setup_is;
     rest = f.rest;
@@ -143,16 +143,16 @@ module _ {E T : Type 0} where
 
   -- the view's phase, written out
   pub fits_at : (setup : T) (log : List (ℕ × E)) (next turn count : ℕ) (k : SeatView E T) (p : Phase)
-      → k.phase ≡ p → Fits setup log next turn count k
-      → Fits setup log next turn count (at_phase p k)
+      → k.phase ≡ p → FitsLog setup log next turn count k
+      → FitsLog setup log next turn count (at_phase p k)
   fits_at setup log next turn count k p e f = subst
-      (λ (q : Phase). Fits setup log next turn count (at_phase q k)) e f
+      (λ (q : Phase). FitsLog setup log next turn count (at_phase q k)) e f
 
   pub apart_at : (k l : SeatView E T) (p : Phase) → k.phase ≡ p → Apart k l → Apart (at_phase p k) l
   apart_at k l p e a = subst (λ (q : Phase). Apart (at_phase q k) l) e a
 
   pub told_of : (setup : T) (log : List (ℕ × E)) (next turn count : ℕ) (k : SeatView E T)
-      → (claims k ≡ (k.number, k.before) ∷ k.ended) → Fits setup log next turn count k → ClaimsHold k
+      → (claims k ≡ (k.number, k.before) ∷ k.ended) → FitsLog setup log next turn count k → ClaimsHold k
   told_of setup log next turn count k e f = each_map (Stands count k.front f.rest) (Behind k.front)
       (λ p s. s.1) ((k.number, k.before) ∷ k.ended)
       (subst (λ (ps : List (ℕ × List (ℕ × E))). Each (Stands count k.front f.rest) ps) e f.stands)
@@ -198,7 +198,7 @@ module _ {O E T : Type 0} (setup_of : O → T) (history_of : O → List (ℕ × 
   -- had
   pub changes : (s : St) (r : IsKept setup_of history_of setup s) (id : ℕ) (k w : SeatView E T)
       (next' count' : ℕ) → get_elem? s.views id ≡ some k → r.next ≤ next' → r.count ≤ count'
-      → ((t : ℕ) → k.phase ≡ AtTurn t → ⊥) → Fits setup r.log next' r.turn count' w
+      → ((t : ℕ) → k.phase ≡ AtTurn t → ⊥) → FitsLog setup r.log next' r.turn count' w
       → ((n : ℕ) → Claims (claims w) n → Claims (claims k) n ⊎ (r.count ≤ n))
       → ((n : ℕ) → HasTicket w.phase n → HasTicket k.phase n ⊎ (r.next ≤ n))
       → IsKept setup_of history_of setup record
@@ -213,7 +213,7 @@ module _ {O E T : Type 0} (setup_of : O → T) (history_of : O → List (ℕ × 
     logged = each_map (λ (e : ℕ × E). e.0 < r.count) (λ (e : ℕ × E). e.0 < count')
         (λ e l. omega (arith, l, more')) r.log r.logged;
     place = place_stays s r.log id k w (next' ∷ r.turn ∷ count' ∷ []) at not_at r.place;
-    each_seat = seats (Fits setup r.log next' r.turn count') s.views id w fits
+    each_seat = seats (FitsLog setup r.log next' r.turn count') s.views id w fits
         (λ j l _ there. fits_more setup r.log r.next next' r.turn r.count count' l more more'
         (r.each_seat j l there));
     each_pair = pairs s.views id w (λ j l ne there.

@@ -50,7 +50,7 @@ HasTicket (AtTurn t) n = t ≡ n
 HasTicket (Returned t) n = t ≡ n
 
 -- a live view and the log
-pub record Fits {E T : Type 0} (setup : T) (log : List (ℕ × E)) (next turn count : ℕ)
+pub record FitsLog {E T : Type 0} (setup : T) (log : List (ℕ × E)) (next turn count : ℕ)
     (k : SeatView E T) : Type 0 where
   pub setup_is : (k.phase ≡ Spent) ⊎ (k.setup ≡ setup ∷ [])
   pub rest : List (ℕ × E)
@@ -83,6 +83,6 @@ module _ {O E T : Type 0} (setup_of : O → T) (history_of : O → List (ℕ × 
     pub logged : Each (λ e. e.0 < count) log
     pub place : IsPlaced setup log s
     pub each_seat : (j : ℕ) (k : SeatView E T) → get_elem? s.views j ≡ some k
-        → Fits setup log next turn count k
+        → FitsLog setup log next turn count k
     pub each_pair : (i j : ℕ) (k l : SeatView E T) → i ≢ j
         → get_elem? s.views i ≡ some k → get_elem? s.views j ≡ some l → Apart k l

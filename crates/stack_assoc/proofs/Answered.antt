@@ -19,11 +19,11 @@ use Rattle.stack_assoc.specs.declared.taken.Opening.TheVariants as openings
 use Rattle.stack_assoc.specs.Fronts.{StartsWith}
 use Rattle.stack_assoc.specs.Arrivals.{Arrival, Role, called, calling, side_of, end_of}
 use Rattle.stack_assoc.specs.Expectations.{setup_after}
-use Rattle.stack_assoc.specs.Tellings.{TellsNext, BreaksNext, Tell, Stops}
+use Rattle.stack_assoc.specs.Tellings.{TellsNext, BreaksNext, Tell, StopsTelling}
 use Rattle.stack_assoc.specs.Handing.{answers_to}
 use Rattle.stack_assoc.specs.Knowing.{Knows, known_with, setup_with}
 use Rattle.stack_assoc.specs.Taking.{opening_seen, opening_told, opened, opening_listed, owed_octets}
-use Rattle.stack_assoc.specs.Courses.{Course, listed, taken, title_of, Stands}
+use Rattle.stack_assoc.specs.Courses.{Course, next_listed, messages_taken, role_title_of, CourseStands}
 use Rattle.stack_assoc.proofs.FrontsKept.{stands_front}
 use Rattle.stack_assoc.proofs.KnowingMore.{knows_more, setup_more, since_more}
 use Rattle.stack_assoc.proofs.Openings.{nothing_before}
@@ -58,8 +58,8 @@ abbrev pub answered : Course → Course
 answered v = record v { owed = None }
 
 pub answered_stands : (role : Role) (octets : List ℕ) (told : List Arrival) (v : Course)
-    → v.fault ≡ None → Stands role octets told v
-    → Stands role octets (told ++ opened v.owed) (answered v)
+    → v.fault ≡ None → CourseStands role octets told v
+    → CourseStands role octets (told ++ opened v.owed) (answered v)
 answered_stands role octets told v none s =
     let r = reads_of role octets told v none s in
     let P : List Message → Type 0 = λ ms. lines.Stands (end_of role) octets ms v.line in
@@ -71,7 +71,7 @@ answered_stands role octets told v none s =
       reads = matched_none role octets (told ++ opened v.owed) (answered v) none (record {
         messages = r.messages ++ opening_listed v.owed;
         tell = tell_opened role told r.messages v.owed r.tell;
-        stands = subst P (sym (append_assoc r.messages (opening_listed v.owed) (listed v.held)))
+        stands = subst P (sym (append_assoc r.messages (opening_listed v.owed) (next_listed v.held)))
             r.stands;
       });
     }
@@ -108,21 +108,21 @@ first_size (t ∷ told) o s e is = absurd cc
 owed_size : (role : Role) (octets : List ℕ) (told : List Arrival) (ms : List Message)
     (owed : Option Opening) (held : Option Message) (line : Line) (s : AssociationSetup) (o : Opening)
     → owed ≡ Some o → Tell role told ms
-    → lines.Stands (end_of role) octets (ms ++ (opening_listed owed ++ listed held)) line
+    → lines.Stands (end_of role) octets (ms ++ (opening_listed owed ++ next_listed held)) line
     → s ≡ setup_after (told ++ opened owed) → s.size ≡ cut_size (opening_size o)
 owed_size role octets told ms None held line s o e tell stands is = absurd cc
 owed_size role octets told ms (Some p) held line s o e tell stands is =
     let P : List Message → Type 0 = λ xs. StartsWith (end_of role) octets xs in
-    let starts = stands_front (end_of role) octets (ms ++ (opening_listed (Some p) ++ listed held))
+    let starts = stands_front (end_of role) octets (ms ++ (opening_listed (Some p) ++ next_listed held))
     line stands in
-    let front = front_front (end_of role) octets (ms ++ opening_seen p ∷ []) (listed held)
-    (subst P (sym (append_assoc ms (opening_seen p ∷ []) (listed held))) starts) in
+    let front = front_front (end_of role) octets (ms ++ opening_seen p ∷ []) (next_listed held)
+    (subst P (sym (append_assoc ms (opening_seen p ∷ []) (next_listed held))) starts) in
     let none = nothing_told role told ms (nothing_before (end_of role) octets ms p front) tell in
     let same : p ≡ o = some_is p o e in
     first_size told p s none is ∙ ap (λ (q : Opening). cut_size (opening_size q)) same
 
 answers_by : (role : Role) (owed : Option Opening) (side : Side) (size : ℕ)
-    (title : Option (List ℕ)) → side ≡ side_of role → title ≡ title_of role
+    (title : Option (List ℕ)) → side ≡ side_of role → title ≡ role_title_of role
     → ((o : Opening) → owed ≡ Some o → size ≡ cut_size (opening_size o))
     → owed_octets side owed size title ≡ answers_to role (opened owed)
 answers_by called None side size title e t sized =
@@ -143,7 +143,7 @@ answers_by (calling own said) (Some (openings.Confirm c)) side size title e t si
     ∙ sym (append-nil (wire (cut_size c.parameters.size) (connect_tsdu own)))
 
 pub answers_owed : (role : Role) (octets : List ℕ) (told : List Arrival) (v : Course)
-    → v.fault ≡ None → Stands role octets told v
+    → v.fault ≡ None → CourseStands role octets told v
     → owed_octets v.known.side v.owed v.setup.size v.title ≡ answers_to role (opened v.owed)
 answers_owed role octets told v none s =
     let r = reads_of role octets told v none s in
@@ -164,7 +164,7 @@ some_message : (m n : Message) → some_of m ≡ some_of n → m ≡ n
 some_message m n e = ap (λ (o : Option Message). message_or m o) e
 
 message_placed : (ms : List Message) (held : Option Message) (m : Message) → held ≡ Some m
-    → ms ++ listed held ≡ (ms ++ m ∷ []) ++ []
+    → ms ++ next_listed held ≡ (ms ++ m ∷ []) ++ []
 message_placed ms None m e = absurd cc
 message_placed ms (Some n) m e = ap (λ (x : Message). ms ++ x ∷ []) (some_message n m e)
     ∙ sym (append-nil (ms ++ m ∷ []))
@@ -179,9 +179,9 @@ told_one t standing v = record v {
 }
 
 pub told_stands : (role : Role) (octets : List ℕ) (told : List Arrival) (v : Course) (t : Arrival)
-    (m : Message) (standing : EndState) → v.fault ≡ None → Stands role octets told (answered v)
+    (m : Message) (standing : EndState) → v.fault ≡ None → CourseStands role octets told (answered v)
     → v.held ≡ Some m → TellsNext role told t m
-    → Stands role octets (told ++ t ∷ []) (told_one t standing (answered v))
+    → CourseStands role octets (told ++ t ∷ []) (told_one t standing (answered v))
 told_stands role octets told v t m standing none s is tells =
     let w = told_one t standing (answered v) in
     let r = reads_of role octets told (answered v) none s in
@@ -203,8 +203,8 @@ told_stands role octets told v t m standing none s is tells =
 
 -- a message that breaks a rule
 pub broken_stops : (role : Role) (octets : List ℕ) (told : List Arrival) (v : Course) (m : Message)
-    (f : StackFault) → v.fault ≡ None → Stands role octets told (answered v) → v.held ≡ Some m
-    → BreaksNext role told m f → Stops role octets told f
+    (f : StackFault) → v.fault ≡ None → CourseStands role octets told (answered v) → v.held ≡ Some m
+    → BreaksNext role told m f → StopsTelling role octets told f
 broken_stops role octets told v m f none s is breaks =
     let r = reads_of role octets told (answered v) none s in
     let P : List Message → Type 0 = λ ms. StartsWith (end_of role) octets ms in
@@ -213,16 +213,16 @@ broken_stops role octets told v m f none s is breaks =
       next = m;
       starts = subst P (message_placed r.messages v.held m is
           ∙ append-nil (r.messages ++ m ∷ []))
-          (stands_front (end_of role) octets (r.messages ++ taken (answered v)) v.line r.stands);
+          (stands_front (end_of role) octets (r.messages ++ messages_taken (answered v)) v.line r.stands);
       tell = r.tell;
       breaks = breaks;
     })
 
 -- with a rule broken
 pub stopped_stands : (role : Role) (octets : List ℕ) (told : List Arrival) (v : Course)
-    (held : Option Message) (f : StackFault) → Stands role octets told (answered v)
-    → Stops role octets told f
-    → Stands role octets told (record (answered v) { held = held; fault = Some f })
+    (held : Option Message) (f : StackFault) → CourseStands role octets told (answered v)
+    → StopsTelling role octets told f
+    → CourseStands role octets told (record (answered v) { held = held; fault = Some f })
 stopped_stands role octets told v held f s stops = record {
   title = s.title;
   knows = s.knows;

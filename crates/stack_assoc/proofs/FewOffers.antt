@@ -18,7 +18,7 @@ use Rattle.presentation_profile.specs.declared.offers.TheConstants.{MOST_OFFERS,
 use Rattle.presentation_profile.specs.declared.ppdu.Ppdu.{Ppdu}
 use Rattle.presentation_profile.specs.declared.ppdu.Ppdu.TheVariants as ppdus
 use Rattle.presentation_profile.specs.Offers.{offered, offer_contents, offer, offers, transfers}
-use Rattle.presentation_profile.specs.Others.{after_others, before_others, others, selector_in}
+use Rattle.presentation_profile.specs.Others.{after_others, before_others, others, selector_element}
 use Rattle.presentation_profile.specs.Results.{results}
 use Rattle.presentation_profile.specs.UserData.{user_data}
 use Rattle.presentation_profile.specs.Expecting.{connect_id, accept_id, carry_id, are_judged}
@@ -139,7 +139,7 @@ connect_few e at os t h = then-holds IsFewPpdu connect_selectors (behind e) at o
 accept_few : (e : Expected) (at : ℕ) (os : List ℕ) (t : Taken Ppdu) → (accept e).begins at os t
     → IsFewPpdu t.value
 unfolding accept
-accept_few e at os t h = then-holds IsFewPpdu (after_others accept_named (selector_in 131)) (behind e)
+accept_few e at os t h = then-holds IsFewPpdu (after_others accept_named (selector_element 131)) (behind e)
     at os t (λ called v first rest. then-holds IsFewPpdu (after_others accept_named
     (results (are_judged e))) (last e called.value) called.next called.rest v
     (λ found w second third. map-holds IsFewPpdu (accept_of called.value found.value) (user e)

@@ -26,9 +26,9 @@ use Rattle.ber_values.specs.declared.external.External.{External}
 use Rattle.std.specs.Prelude.{option_map}
 use Rattle.stack_messages.specs.Layers.{octets_at, out_of_order, ppdu_at, apdu_at, pdu_at, spdu_of, in_layer}
 use Rattle.stack_messages.specs.Turns.{spdu_may_come, offered_by}
-use Rattle.stack_messages.specs.Setting.{connect_at, accept_at, offers_in, aarq_in, initiate_in, asked}
-use Rattle.stack_messages.specs.Setting.{connecting, initiate_of, results_in, aare_in, user_in}
-use Rattle.stack_messages.specs.Setting.{initiated_in, accepting, initiated_of, answered}
+use Rattle.stack_messages.specs.Setting.{connect_at, accept_at, offers_in, aarq_in, initiate_in, request_expected}
+use Rattle.stack_messages.specs.Setting.{connecting, initiate_in_pdu, results_in, aare_in, user_in}
+use Rattle.stack_messages.specs.Setting.{initiated_in, accepting, initiated_of, answer_expected}
 use Rattle.stack_messages.specs.Messages.{message, said_by, said_in_turn, carry_at, user_data_in, data_at}
 use Rattle.presentation_profile.specs.Agreements.{acse_name, mms_name, is_of, offers_of, acse_among}
 use Rattle.stack_assoc.specs.Expectations.{id_or}
@@ -73,7 +73,7 @@ aarq-few : (tsdu : List ℕ) (session called : Option (List ℕ)) (contexts : Li
 aarq-few tsdu session called contexts (apdus.Aarq request) h few s =
     inside-few (pdu_at tsdu request.user.body) (initiate_in session called contexts request) h
     (λ pdu says one. initiate-few session called contexts request (out_of_order layers.Mms)
-    (initiate_of pdu) h few one) s
+    (initiate_in_pdu pdu) h few one) s
 aarq-few tsdu session called contexts (apdus.Aare response) h few s =
     nothing-few (out_of_order layers.Acse) h s
 aarq-few tsdu session called contexts apdus.Rlrq h few s = nothing-few (out_of_order layers.Acse) h s
@@ -83,7 +83,7 @@ aarq-few tsdu session called contexts apdus.Abrt h few s = nothing-few (out_of_o
 offers-few : (tsdu : List ℕ) (session : Option (List ℕ)) (p : Ppdu) (h : Heard) → IsFewPpdu p
     → (offers_in tsdu session p).says h → HasFew h
 offers-few tsdu session (ppdus.Connect called contexts id body) h few s =
-    inside-few (apdu_at (asked contexts) tsdu body) (aarq_in tsdu session called contexts) h
+    inside-few (apdu_at (request_expected contexts) tsdu body) (aarq_in tsdu session called contexts) h
     (λ a says one. aarq-few tsdu session called contexts a h few one) s
 offers-few tsdu session (ppdus.Accept called found id body) h few s =
     nothing-few (out_of_order layers.Presentation) h s
@@ -129,7 +129,7 @@ results-few : (e : Expecting) (tsdu : List ℕ) (p : Ppdu) (h : Heard) → (resu
 results-few e tsdu (ppdus.Connect called contexts id body) h s =
     nothing-few (out_of_order layers.Presentation) h s
 results-few e tsdu (ppdus.Accept called found id body) h s =
-    inside-few (apdu_at (answered e) tsdu body) (aare_in tsdu id) h
+    inside-few (apdu_at (answer_expected e) tsdu body) (aare_in tsdu id) h
     (λ a says one. aare-few tsdu id a h one) s
 results-few e tsdu (ppdus.Carry id body) h s = nothing-few (out_of_order layers.Presentation) h s
 

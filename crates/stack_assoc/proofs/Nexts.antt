@@ -21,13 +21,13 @@ use Rattle.stack_assoc.specs.declared.taken.Said.TheVariants as saids
 use Rattle.stack_assoc.specs.Arrivals.{Arrival, heard, Role, called, calling, end_of}
 use Rattle.stack_assoc.specs.Arrivals as tellings
 use Rattle.stack_assoc.specs.Expectations.{expecting_after, setup_after}
-use Rattle.stack_assoc.specs.Tellings.{TellsNext, Tells, Stops}
+use Rattle.stack_assoc.specs.Tellings.{TellsNext, Tells, StopsTelling}
 use Rattle.stack_assoc.specs.Handing.{handed_out, answer_to, answers_to}
 use Rattle.stack_assoc.specs.Knowing.{expecting_by}
-use Rattle.stack_assoc.specs.Taking.{opening_told, opened, opening_listed, owed_octets, Says}
-use Rattle.stack_assoc.specs.Courses.{Course, listed, Reads, Stands, standing_with, standing_behind}
-use Rattle.stack_assoc.specs.Courses.{is_offered, IsSettled, Goes, NothingLeft, IsLast, Answers}
-use Rattle.stack_assoc.specs.Steps.{LeavesOff, Takes, IsThere, told_with, told_answer}
+use Rattle.stack_assoc.specs.Taking.{opening_told, opened, opening_listed, owed_octets, SaysMessage}
+use Rattle.stack_assoc.specs.Courses.{Course, next_listed, ReadsMessages, CourseStands, standing_with, standing_behind}
+use Rattle.stack_assoc.specs.Courses.{is_offered, IsCourseSettled, GoesFurther, NothingLeft, IsLast, IsNextAnswer}
+use Rattle.stack_assoc.specs.Steps.{LeavesOff, TakesNext, IsNextTaken, told_with, told_answer}
 use Rattle.stack_assoc.proofs.KnowingMore.{since_more, expecting_known}
 use Rattle.stack_assoc.proofs.Answered.{tell_opened, answered, answered_stands, answers_owed, told_one}
 use Rattle.stack_assoc.proofs.Answered.{told_stands, broken_stops, stopped_stands}
@@ -36,7 +36,7 @@ use Rattle.stack_assoc.proofs.Answered.{told_stands, broken_stops, stopped_stand
 pub record Before (role : Role) (octets : List ℕ) (told : List Arrival) (old v : Course)
     (out written : List ℕ) : Type 0 where
   pub clear : v.fault ≡ None
-  pub stands : Stands role octets told v
+  pub stands : CourseStands role octets told v
   pub standing : v.standing ≡ old.standing
   pub free : is_offered old.standing ≡ false
   pub answered : written ≡ out ++ owed_octets v.known.side v.owed v.setup.size v.title
@@ -84,7 +84,7 @@ answers_quiet role (Some o) t quiet =
 -- the opening alone
 goes_opened : (role : Role) (octets : List ℕ) (told : List Arrival) (old v : Course)
     (out written : List ℕ) → Before role octets told old v out written
-    → Goes role octets told (opened v.owed) old out (answered v) written
+    → GoesFurther role octets told (opened v.owed) old out (answered v) written
 goes_opened role octets told old v out written b = record {
   stands = answered_stands role octets told v b.clear b.stands;
   standing = b.standing ∙ sym (standing_opened old.standing v.owed);
@@ -97,11 +97,11 @@ goes_one : (role : Role) (octets : List ℕ) (told : List Arrival) (old v : Cour
     (m : Message) (standing : EndState) (out written : List ℕ)
     → Before role octets told old v out written → IsQuiet t → v.held ≡ Some m
     → TellsNext role (told ++ opened v.owed) t m → standing ≡ standing_with v.standing t
-    → Goes role octets told (opened v.owed ++ t ∷ []) old out (told_one t standing (answered v))
+    → GoesFurther role octets told (opened v.owed ++ t ∷ []) old out (told_one t standing (answered v))
     written
 goes_one role octets told old v t m standing out written b quiet is tells stood =
     let w = told_one t standing (answered v) in
-    let P : List Arrival → Type 0 = λ ts. Stands role octets ts w in
+    let P : List Arrival → Type 0 = λ ts. CourseStands role octets ts w in
     record {
       stands = subst P (append_assoc told (opened v.owed) (t ∷ []))
           (told_stands role octets (told ++ opened v.owed) v t m standing b.clear
@@ -116,7 +116,7 @@ goes_one role octets told old v t m standing out written b quiet is tells stood 
 -- what the connect fixed is known behind it
 known_setup : (role : Role) (octets : List ℕ) (told : List Arrival) (v : Course) (t : Arrival)
     (standing : EndState)
-    → Stands role octets (told ++ (opened v.owed ++ t ∷ [])) (told_one t standing (answered v))
+    → CourseStands role octets (told ++ (opened v.owed ++ t ∷ [])) (told_one t standing (answered v))
     → (told_one t standing (answered v)).setup ≡ setup_after (told ++ (opened v.owed ++ t ∷ []))
 known_setup role octets told v t standing s =
     s.setup ∙ ap setup_after (append-nil (told ++ (opened v.owed ++ t ∷ [])))
@@ -143,7 +143,7 @@ expected role octets told old v out written b =
 answers_gone : (role : Role) (octets : List ℕ) (told : List Arrival) (old v : Course)
     (out written : List ℕ) (came : Came) → Before role octets told old v out written
     → v.held ≡ Some gone
-    → Answers role octets told old out (told_answer came saids.Gone)
+    → IsNextAnswer role octets told old out (told_answer came saids.Gone)
     (told_with came saids.Gone (answered v)) written
 answers_gone role octets told old v out written came b is =
     let g = goes_one role octets told old v tellings.gone gone standings.Closed out written b quiet_gone
@@ -159,7 +159,7 @@ answers_heard : (role : Role) (octets : List ℕ) (told : List Arrival) (old v :
     (out written : List ℕ) (came : Came) (h : Heard) (results : List ℕ) (place : ℕ) (os : List ℕ)
     → Before role octets told old v out written → v.held ≡ Some (tsdu place os)
     → (message (expecting_by v.known v.setup.acse v.setup.mms) os).says h
-    → Answers role octets told old out (told_answer came (saids.Heard h results))
+    → IsNextAnswer role octets told old out (told_answer came (saids.Heard h results))
     (told_with came (saids.Heard h results) (answered v)) written
 answers_heard role octets told old v out written came h results place os b is says =
     let P : Expecting → Type 0 = λ e. (message e os).says h in
@@ -177,7 +177,7 @@ answers_broken : (role : Role) (octets : List ℕ) (told : List Arrival) (old v 
     (out written : List ℕ) (came : Came) (f : StackFault) (place : ℕ) (os : List ℕ)
     → Before role octets told old v out written → v.held ≡ Some (tsdu place os)
     → (message (expecting_by v.known v.setup.acse v.setup.mms) os).breaks f
-    → Answers role octets told old out (told_answer came (saids.Broken f))
+    → IsNextAnswer role octets told old out (told_answer came (saids.Broken f))
     (told_with came (saids.Broken f) (answered v)) written
 answers_broken role octets told old v out written came f place os b is breaks =
     let P : Expecting → Type 0 = λ e. (message e os).breaks f in
@@ -196,7 +196,7 @@ answers_broken role octets told old v out written came f place os b is breaks =
 
 -- nothing is left
 held_none : (ms : List Message) (owed : Option Opening) (held : Option Message) → held ≡ None
-    → ms ++ (opening_listed owed ++ listed held) ≡ ms ++ opening_listed owed
+    → ms ++ (opening_listed owed ++ next_listed held) ≡ ms ++ opening_listed owed
 held_none ms owed None e = ap (λ (xs : List Message). ms ++ xs) (append-nil (opening_listed owed))
 held_none ms owed (Some m) e = absurd cc
 
@@ -204,21 +204,21 @@ none_held : (o : Option Message) → o ≡ None → IsSome o → ⊥
 none_held None e s = absurd cc
 none_held (Some m) e s = absurd cc
 
-settled_clear : (v : Course) → v.fault ≡ None → lines.IsSettled v.line → IsSettled v
-settled_clear v none s = subst (λ (o : Option StackFault). MatchOption o (lines.IsSettled v.line)
+settled_clear : (v : Course) → v.fault ≡ None → lines.IsLineSettled v.line → IsCourseSettled v
+settled_clear v none s = subst (λ (o : Option StackFault). MatchOption o (lines.IsLineSettled v.line)
     (λ f. Unit {0})) (sym none) s
 
 left_open : (role : Role) (octets : List ℕ) (told later : List Arrival) (old new : Course)
     → is_offered old.standing ≡ false
-    → ((rest : List ℕ) × Tells role octets (told ++ later) rest) × IsSettled new
+    → ((rest : List ℕ) × Tells role octets (told ++ later) rest) × IsCourseSettled new
     → NothingLeft role octets told later old new
 left_open role octets told later old new free left = subst (λ (x : Bool). MatchBool x (later ≡ [])
-    (((rest : List ℕ) × Tells role octets (told ++ later) rest) × IsSettled new)) (sym free) left
+    (((rest : List ℕ) × Tells role octets (told ++ later) rest) × IsCourseSettled new)) (sym free) left
 
 answers_nothing : (role : Role) (octets : List ℕ) (told : List Arrival) (old v : Course)
     (out written : List ℕ) (came : Came) → Before role octets told old v out written
-    → v.held ≡ None → LeavesOff role octets told came v → IsThere came v
-    → Answers role octets told old out (told_answer came saids.Nothing)
+    → v.held ≡ None → LeavesOff role octets told came v → IsNextTaken came v
+    → IsNextAnswer role octets told old out (told_answer came saids.Nothing)
     (told_with came saids.Nothing (answered v)) written
 answers_nothing role octets told old v out written cames.Message b is leaves there =
     absurd (none_held v.held is there)
@@ -242,7 +242,7 @@ answers_nothing role octets told old v out written cames.Nothing b is l there =
 answers_nothing role octets told old v out written (cames.Fault f) b is l there =
     let P : List Message → Type 0 = λ ms. streams.Stops (end_of role) octets ms l.broken in
     let g = goes_opened role octets told old v out written b in
-    let stops : Stops role octets (told ++ opened v.owed) f = inl (record {
+    let stops : StopsTelling role octets (told ++ opened v.owed) f = inl (record {
       messages = l.messages ++ opening_listed v.owed;
       broken = l.broken;
       stops = subst P (held_none l.messages v.owed v.held is) l.stops;
@@ -259,7 +259,7 @@ answers_nothing role octets told old v out written (cames.Fault f) b is l there 
       stops,
     )
 
-no_nothing : (e : Expecting) (m : Message) → Says e (Some m) saids.Nothing → ⊥
+no_nothing : (e : Expecting) (m : Message) → SaysMessage e (Some m) saids.Nothing → ⊥
 no_nothing e (asks r) s = s
 no_nothing e (confirms c) s = s
 no_nothing e gone s = s
@@ -269,9 +269,9 @@ no_nothing e (tsdu place os) s = s
 by_held : (role : Role) (octets : List ℕ) (told : List Arrival) (old v : Course)
     (out written : List ℕ) (came : Came) (said : Said) (held : Option Message)
     → Before role octets told old v out written → v.held ≡ held
-    → LeavesOff role octets told came v → IsThere came v
-    → Says (expecting_by v.known v.setup.acse v.setup.mms) held said
-    → Answers role octets told old out (told_answer came said) (told_with came said (answered v))
+    → LeavesOff role octets told came v → IsNextTaken came v
+    → SaysMessage (expecting_by v.known v.setup.acse v.setup.mms) held said
+    → IsNextAnswer role octets told old out (told_answer came said) (told_with came said (answered v))
     written
 by_held role octets told old v out written came saids.Nothing None b is leaves there says =
     answers_nothing role octets told old v out written came b is leaves there
@@ -310,10 +310,10 @@ by_held role octets told old v out written came (saids.Broken f) (Some (tsdu pla
 
 pub next_right : (role : Role) (octets : List ℕ) (told : List Arrival) (old v : Course)
     (out written : List ℕ) (came : Came) (said : Said) → v.fault ≡ None → v.standing ≡ old.standing
-    → is_offered old.standing ≡ false → Takes role octets told came v
+    → is_offered old.standing ≡ false → TakesNext role octets told came v
     → written ≡ out ++ owed_octets v.known.side v.owed v.setup.size v.title
-    → Says (expecting_by v.known v.setup.acse v.setup.mms) v.held said
-    → Answers role octets told old out (told_answer came said) (told_with came said (answered v))
+    → SaysMessage (expecting_by v.known v.setup.acse v.setup.mms) v.held said
+    → IsNextAnswer role octets told old out (told_answer came said) (told_with came said (answered v))
     written
 next_right role octets told old v out written came said clear stood free takes wrote says =
     by_held role octets told old v out written came said v.held
@@ -328,9 +328,9 @@ next_right role octets told old v out written came said clear stood free takes w
 -- ---- nothing more is taken
 
 goes_nowhere : (role : Role) (octets : List ℕ) (told : List Arrival) (v : Course) (out : List ℕ)
-    → Stands role octets told v → Goes role octets told [] v out v out
+    → CourseStands role octets told v → GoesFurther role octets told [] v out v out
 goes_nowhere role octets told v out s =
-    let P : List Arrival → Type 0 = λ ts. Stands role octets ts v in
+    let P : List Arrival → Type 0 = λ ts. CourseStands role octets ts v in
     record {
       stands = subst P (sym (append-nil told)) s;
       standing = refl;
@@ -339,12 +339,12 @@ goes_nowhere role octets told v out s =
 
 -- the same fault again
 pub answers_again : (role : Role) (octets : List ℕ) (told : List Arrival) (v : Course)
-    (out : List ℕ) (f : StackFault) → v.fault ≡ Some f → Stands role octets told v
-    → Answers role octets told v out (Err f) v out
+    (out : List ℕ) (f : StackFault) → v.fault ≡ Some f → CourseStands role octets told v
+    → IsNextAnswer role octets told v out (Err f) v out
 answers_again role octets told v out f some s =
-    let stops : Stops role octets told f = subst (λ (o : Option StackFault). MatchOption o
-    (Reads role octets told v) (λ g. Stops role octets told g)) some s.reads in
-    let P : List Arrival → Type 0 = λ ts. Stops role octets ts f in
+    let stops : StopsTelling role octets told f = subst (λ (o : Option StackFault). MatchOption o
+    (ReadsMessages role octets told v) (λ g. StopsTelling role octets told g)) some s.reads in
+    let P : List Arrival → Type 0 = λ ts. StopsTelling role octets ts f in
     ([], goes_nowhere role octets told v out s, refl, subst P (sym (append-nil told)) stops)
 
 abbrev nothing_later : List Arrival
@@ -352,12 +352,12 @@ nothing_later = []
 
 -- an offer stands unanswered
 pub answers_offered : (role : Role) (octets : List ℕ) (told : List Arrival) (v : Course)
-    (out : List ℕ) → is_offered v.standing ≡ true → Stands role octets told v
-    → Answers role octets told v out (Ok None) v out
+    (out : List ℕ) → is_offered v.standing ≡ true → CourseStands role octets told v
+    → IsNextAnswer role octets told v out (Ok None) v out
 answers_offered role octets told v out offered s = (
   [],
   goes_nowhere role octets told v out s,
   refl,
   subst (λ (x : Bool). MatchBool x (nothing_later ≡ [])
-      (((rest : List ℕ) × Tells role octets (told ++ []) rest) × IsSettled v)) (sym offered) refl,
+      (((rest : List ℕ) × Tells role octets (told ++ []) rest) × IsCourseSettled v)) (sym offered) refl,
 )

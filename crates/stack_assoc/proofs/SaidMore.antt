@@ -19,13 +19,13 @@ use Rattle.stack_assoc.specs.declared.input.StackState.TheVariants as states
 use Rattle.stack_assoc.specs.declared.milestones.Milestones.{Milestones}
 use Rattle.stack_assoc.specs.Arrivals.{side_of, end_of}
 use Rattle.stack_assoc.specs.Knowing.{Knows}
-use Rattle.stack_assoc.specs.Courses.{Course, taken, Reads, Stands, state_with}
-use Rattle.stack_assoc.specs.Saying.{known_concluding, known_said, is_conclude, with_said}
+use Rattle.stack_assoc.specs.Courses.{Course, messages_taken, ReadsMessages, CourseStands, state_with}
+use Rattle.stack_assoc.specs.Saying.{known_concluding, known_said, says_conclude, with_said}
 use Rattle.stack_assoc.specs.Saying.{role_concluding, role_by, role_said}
 use Rattle.stack_assoc.specs.Arrivals.{Arrival, asked, confirmed, heard, Role, called, calling, is_concluded}
 use Rattle.stack_assoc.specs.Arrivals as told
 use Rattle.stack_assoc.specs.Expectations.{expecting_after, setup_after, phase_after}
-use Rattle.stack_assoc.specs.Tellings.{TellsNext, Tell, Stops}
+use Rattle.stack_assoc.specs.Tellings.{TellsNext, Tell, StopsTelling}
 
 abbrev awaiting : Option (List ℕ) → List Arrival → Bool → Expecting
 awaiting title before awaited = record {
@@ -84,8 +84,8 @@ tell_said title told ms s = in_turn_said title (length told) [] told ms (omega a
 
 same_reads : (role : Role) (octets : List ℕ) (told : List Arrival) (old : Course)
     (standing : EndState) (fault : Option StackFault) → MatchOption fault
-    (Reads role octets told old) (λ f. Stops role octets told f) → MatchOption fault
-    (Reads role octets told (record old { standing = standing })) (λ f. Stops role octets told f)
+    (ReadsMessages role octets told old) (λ f. StopsTelling role octets told f) → MatchOption fault
+    (ReadsMessages role octets told (record old { standing = standing })) (λ f. StopsTelling role octets told f)
 same_reads role octets told old standing None r =
     record { messages = r.messages; tell = r.tell; stands = r.stands }
 same_reads role octets told old standing (Some f) s = s
@@ -93,10 +93,10 @@ same_reads role octets told old standing (Some f) s = s
 -- ---- the offer and the association don't matter to where an end stands in its stream
 
 pub stands_standing : (role : Role) (octets : List ℕ) (told : List Arrival) (old new : Course)
-    (standing : EndState) → Stands role octets told old → new ≡ record old { standing = standing }
-    → Stands role octets told new
+    (standing : EndState) → CourseStands role octets told old → new ≡ record old { standing = standing }
+    → CourseStands role octets told new
 stands_standing role octets told old new standing s is =
-    let P : Course → Type 0 = λ v. Stands role octets told v in
+    let P : Course → Type 0 = λ v. CourseStands role octets told v in
     subst P (sym is) (record {
       title = s.title;
       knows = s.knows;
@@ -110,10 +110,10 @@ stands_standing role octets told old new standing s is =
 reads_said : (role other : Role) (octets : List ℕ) (told : List Arrival) (old : Course) (k : Milestones)
     (fault : Option StackFault) → fault ≡ None → end_of role ≡ end_of other
     → ((ms : List Message) → Tell role told ms → Tell other told ms) → MatchOption fault
-    (Reads role octets told old) (λ f. Stops role octets told f) → MatchOption fault
-    (Reads other octets told (record old { known = k })) (λ f. Stops other octets told f)
+    (ReadsMessages role octets told old) (λ f. StopsTelling role octets told f) → MatchOption fault
+    (ReadsMessages other octets told (record old { known = k })) (λ f. StopsTelling other octets told f)
 reads_said role other octets told old k None e same to r =
-    let P : transport.Role → Type 0 = λ end. lines.Stands end octets (r.messages ++ taken old) old.line
+    let P : transport.Role → Type 0 = λ end. lines.Stands end octets (r.messages ++ messages_taken old) old.line
     in
     record { messages = r.messages; tell = to r.messages r.tell; stands = subst P same r.stands }
 reads_said role other octets told old k (Some f) e same to s = absurd cc
@@ -138,15 +138,15 @@ knows_concluding title said n told k knows = record {
 }
 
 stands_concluding : (role : Role) (octets : List ℕ) (told : List Arrival) (old : Course) (side : Side)
-    → old.fault ≡ None → Stands role octets told old → side ≡ side_of role
-    → Stands (role_concluding role told) octets told
+    → old.fault ≡ None → CourseStands role octets told old → side ≡ side_of role
+    → CourseStands (role_concluding role told) octets told
     (concluding old (known_concluding side old.known))
 stands_concluding called octets told old side none s e =
-    let P : Side → Type 0 = λ x. Stands called octets told
+    let P : Side → Type 0 = λ x. CourseStands called octets told
     (concluding old (known_concluding x old.known)) in
     subst P (sym e) s
 stands_concluding (calling title None) octets told old side none s e =
-    let P : Side → Type 0 = λ x. Stands (calling title (Some (length told))) octets told
+    let P : Side → Type 0 = λ x. CourseStands (calling title (Some (length told))) octets told
     (concluding old (known_concluding x old.known)) in
     subst P (sym e) (record {
       title = s.title;
@@ -158,7 +158,7 @@ stands_concluding (calling title None) octets told old side none s e =
           s.reads;
     })
 stands_concluding (calling title (Some n)) octets told old side none s e =
-    let P : Side → Type 0 = λ x. Stands (calling title (Some n)) octets told
+    let P : Side → Type 0 = λ x. CourseStands (calling title (Some n)) octets told
     (concluding old (known_concluding x old.known)) in
     subst P (sym e) (record {
       title = s.title;
@@ -170,18 +170,18 @@ stands_concluding (calling title (Some n)) octets told old side none s e =
     })
 
 stands_by : (role : Role) (octets : List ℕ) (told : List Arrival) (old : Course) (b : Bool)
-    → old.fault ≡ None → Stands role octets told old
-    → Stands (role_by b role told) octets told (concluding old (known_said b old.known))
+    → old.fault ≡ None → CourseStands role octets told old
+    → CourseStands (role_by b role told) octets told (concluding old (known_said b old.known))
 stands_by role octets told old true none s =
     stands_concluding role octets told old old.known.side none s s.knows.side
 stands_by role octets told old false none s = s
 
 pub stands_said : (role : Role) (octets : List ℕ) (told : List Arrival) (old new : Course)
-    (pdu : MmsPdu) → old.fault ≡ None → Stands role octets told old → new ≡ with_said pdu old
-    → Stands (role_said role told pdu) octets told new
+    (pdu : MmsPdu) → old.fault ≡ None → CourseStands role octets told old → new ≡ with_said pdu old
+    → CourseStands (role_said role told pdu) octets told new
 stands_said role octets told old new pdu none s is =
-    let P : Course → Type 0 = λ v. Stands (role_said role told pdu) octets told v in
-    subst P (sym is) (stands_by role octets told old (is_conclude pdu) none s)
+    let P : Course → Type 0 = λ v. CourseStands (role_said role told pdu) octets told v in
+    subst P (sym is) (stands_by role octets told old (says_conclude pdu) none s)
 
 -- a state that is Accepted has no fault
 pub accepted_clear : (fault : Option StackFault) (s : EndState)

@@ -7,7 +7,7 @@ use Rattle.stack_assoc.specs.declared.taken.Came.{Came}
 use Rattle.stack_assoc.specs.declared.taken.Came.TheVariants as cames
 use Rattle.stack_assoc.specs.declared.taken.Said.{Said}
 use Rattle.stack_assoc.specs.declared.taken.Said.TheVariants as saids
-use Rattle.stack_assoc.specs.Taking.{Says}
+use Rattle.stack_assoc.specs.Taking.{SaysMessage}
 use Rattle.stack_assoc.specs.Courses.{Course}
 use Rattle.stack_assoc.specs.Steps.{one_if, left_of, FewerLeft, IsEmpty, told_with, told_answer}
 use Rattle.stack_assoc.proofs.Answered.{answered}
@@ -44,7 +44,7 @@ left_nothing old v cames.Nothing = tt
 left_nothing old v (cames.Fault f) = tt
 
 less_held : (old v : Course) (came : Came) (said : Said) (e : Expecting) (held : Option Message)
-    → v.held ≡ held → FewerLeft came old v → IsEmpty came v → Says e held said
+    → v.held ≡ held → FewerLeft came old v → IsEmpty came v → SaysMessage e held said
     → LessLeft old came said v
 less_held old v came saids.Nothing e held is fewer empty says = left_nothing old v came
 less_held old v came (saids.Broken f) e held is fewer empty says = tt
@@ -55,6 +55,6 @@ less_held old v came (saids.Heard h results) e (Some m) is fewer empty says =
     less_by old v came m e is fewer empty
 
 pub less_left : (old v : Course) (came : Came) (said : Said) (e : Expecting)
-    → FewerLeft came old v → IsEmpty came v → Says e v.held said → LessLeft old came said v
+    → FewerLeft came old v → IsEmpty came v → SaysMessage e v.held said → LessLeft old came said v
 less_left old v came said e fewer empty says =
     less_held old v came said e v.held refl fewer empty says

@@ -16,18 +16,18 @@ use Rattle.stack_assoc.specs.declared.taken.Came.TheVariants as cames
 use Rattle.stack_assoc.specs.declared.taken.Said.{Said}
 use Rattle.stack_assoc.specs.declared.taken.Said.TheVariants as saids
 use Rattle.stack_assoc.specs.Handing.{input_heard, is_offer}
-use Rattle.stack_assoc.specs.Courses.{Course, standing_heard, offered_by, StandsBehind}
+use Rattle.stack_assoc.specs.Courses.{Course, standing_heard, standing_offered, EndStandsBehind}
 use Rattle.stack_assoc.specs.Courses.{FollowsAnswer, fault_in, is_offered, state_with}
 use Rattle.stack_assoc.specs.Saying.{left_by}
 use Rattle.stack_assoc.specs.Steps.{told_with, told_answer}
 use Rattle.stack_assoc.proofs.Answered.{answered}
 
 offer_follows : (old : EndState) (title : Option (List ℕ)) (i : Initiate) (b : Bool)
-    → StandsBehind (if b then inputs.Offer title i else inputs.BadOffer) old (offered_by b)
+    → EndStandsBehind (if b then inputs.Offer title i else inputs.BadOffer) old (standing_offered b)
 offer_follows old title i true = refl
 offer_follows old title i false = refl
 
-heard_follows : (s : EndState) (h : Heard) → StandsBehind (input_heard h) s (standing_heard s h)
+heard_follows : (s : EndState) (h : Heard) → EndStandsBehind (input_heard h) s (standing_heard s h)
 heard_follows s (heards.Connect c) = offer_follows s c.title c.initiate (is_offer c)
 heard_follows s (heards.Accept a) = refl
 heard_follows s heards.Refuse = refl
@@ -45,7 +45,7 @@ told_follows s v cames.Nothing saids.Nothing e = e
 told_follows s v (cames.Fault f) saids.Nothing e = e
 told_follows s v came saids.Gone e = refl
 told_follows s v came (saids.Heard h results) e =
-    let P : EndState → Type 0 = λ w. StandsBehind (input_heard h) s (standing_heard w h) in
+    let P : EndState → Type 0 = λ w. EndStandsBehind (input_heard h) s (standing_heard w h) in
     subst P (sym e) (heard_follows s h)
 told_follows s v came (saids.Broken f) e = e
 

@@ -12,8 +12,8 @@ use Rattle.stack_messages.specs.declared.fault.StackFault.{StackFault}
 use Rattle.stack_assoc.specs.Fronts.{StartsWith}
 use Rattle.stack_assoc.specs.Arrivals.{Arrival, Role, end_of}
 use Rattle.stack_assoc.specs.Tellings.{TellsNext, BreaksNext, Tell, Tells, StopsBelow, StopsAbove}
-use Rattle.stack_assoc.specs.Tellings.{Stops, transport_fault}
-use Rattle.stack_assoc.specs.Courses.{Course, Reads}
+use Rattle.stack_assoc.specs.Tellings.{StopsTelling, transport_fault}
+use Rattle.stack_assoc.specs.Courses.{Course, ReadsMessages}
 use Rattle.stack_assoc.proofs.FrontsKept.{front_said, front_stopped, front_more, said_front}
 use Rattle.stack_assoc.proofs.FrontsKept.{stopped_front}
 use Rattle.stack_assoc.proofs.TurnLaws.{spelled_once, spelled_parts, BrokenTurn}
@@ -86,7 +86,7 @@ one_of ms m others = append_assoc ms (m ∷ []) others
 
 abbrev Outcome : Role → List ℕ → Type 0
 Outcome role octets = ((told : List Arrival) × (rest : List ℕ) × Tells role octets told rest)
-    ⊎ ((told : List Arrival) × (fault : StackFault) × Stops role octets told fault)
+    ⊎ ((told : List Arrival) × (fault : StackFault) × StopsTelling role octets told fault)
 
 abbrev Broken : Role → List Message → Type 0
 Broken role ms = BrokenTurn {B = StackFault} (TellsNext role) (BreaksNext role) [] ms
@@ -176,7 +176,7 @@ mixed one role octets told other f g s t =
     s.stops) s.tell t.tell t.breaks
 
 pub stops_once : (one : OneMeaning) (role : Role) (octets : List ℕ) (told other : List Arrival)
-    (f g : StackFault) → Stops role octets told f → Stops role octets other g
+    (f g : StackFault) → StopsTelling role octets told f → StopsTelling role octets other g
     → (told ≡ other) × (f ≡ g)
 stops_once one role octets told other f g (inl s) (inl t) =
     let same = once.stops_once (end_of role) octets s.messages t.messages s.broken t.broken s.stops
@@ -192,7 +192,7 @@ stops_once one role octets told other f g (inr s) (inr t) =
     above_once one role octets told other f g s t
 
 pub never_both : (one : OneMeaning) (role : Role) (octets : List ℕ) (told other : List Arrival)
-    (rest : List ℕ) (f : StackFault) → Tells role octets told rest → Stops role octets other f → ⊥
+    (rest : List ℕ) (f : StackFault) → Tells role octets told rest → StopsTelling role octets other f → ⊥
 never_both one role octets told other rest f s (inl t) =
     once.says_or_stops (end_of role) octets s.messages t.messages rest t.broken s.said t.stops
 never_both one role octets told other rest f s (inr t) =
@@ -266,7 +266,7 @@ above_later one role octets told later ms f s tell t =
 
 pub stopped_stays : (one : OneMeaning) (role : Role) (octets more : List ℕ) (told later : List Arrival)
     (rest : List ℕ) (f : StackFault) → Tells role octets told rest
-    → Stops role (octets ++ more) later f → GoesOn told later
+    → StopsTelling role (octets ++ more) later f → GoesOn told later
 stopped_stays one role octets more told later rest f s (inl t) =
     goes_on one role told later s.messages t.messages
     (front_stopped (end_of role) (octets ++ more) s.messages t.messages t.broken
@@ -276,7 +276,7 @@ stopped_stays one role octets more told later rest f s (inr t) =
     (tells_front role octets rest more told s) s.tell t
 
 pub fault_stays : (role : Role) (octets more : List ℕ) (told : List Arrival) (f : StackFault)
-    → Stops role octets told f → Stops role (octets ++ more) told f
+    → StopsTelling role octets told f → StopsTelling role (octets ++ more) told f
 fault_stays role octets more told f (inl s) = inl (record {
   messages = s.messages;
   broken = s.broken;
@@ -295,8 +295,8 @@ fault_stays role octets more told f (inr s) = inr (record {
 -- ends that have told all of the same octets have told the same
 pub told_alike : (one : OneMeaning) (role : Role) (octets : List ℕ) (told others : List Arrival)
     (f g : Option StackFault) (v w : Course)
-    → MatchOption f (Reads role octets told v) (λ f. Stops role octets told f)
-    → MatchOption g (Reads role octets others w) (λ g. Stops role octets others g)
+    → MatchOption f (ReadsMessages role octets told v) (λ f. StopsTelling role octets told f)
+    → MatchOption g (ReadsMessages role octets others w) (λ g. StopsTelling role octets others g)
     → MatchOption f ((rest : List ℕ) × Tells role octets told rest) (λ f. Unit {0})
     → MatchOption g ((rest : List ℕ) × Tells role octets others rest) (λ g. Unit {0})
     → (told ≡ others) × (f ≡ g)

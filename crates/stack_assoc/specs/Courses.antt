@@ -3,7 +3,7 @@ use Rattle.std.specs.Prelude.{◌≡◌, ℕ, ◌+◌, ◌≤◌, Bool, true, fa
 use Rattle.std.specs.Prelude.{Option, Some, None, MatchOption, Result, Ok, Err}
 use Rattle.std.specs.Prelude.{MatchBool, ◌⊎◌}
 use Rattle.tpkt_cotp.specs.Streams.{Message, tsdu}
-use Rattle.tpkt_cotp.specs.Sound.{IsSound}
+use Rattle.tpkt_cotp.specs.Sound.{IsSoundMessage}
 use Rattle.tpkt_cotp.specs.Lines.{Line}
 use Rattle.tpkt_cotp.specs.Lines as transport
 use Rattle.stack_messages.specs.declared.fault.StackFault.{StackFault}
@@ -22,7 +22,7 @@ use Rattle.stack_assoc.specs.Arrivals.{Arrival, asked, confirmed, heard, Role, c
 use Rattle.stack_assoc.specs.Arrivals.{end_of}
 use Rattle.stack_assoc.specs.Arrivals as told
 use Rattle.stack_assoc.specs.Expectations.{setup_after}
-use Rattle.stack_assoc.specs.Tellings.{Tell, Tells, Stops}
+use Rattle.stack_assoc.specs.Tellings.{Tell, Tells, StopsTelling}
 use Rattle.stack_assoc.specs.Handing.{is_offer, handed_out, answers_to}
 use Rattle.stack_assoc.specs.Knowing.{Knows}
 use Rattle.stack_assoc.specs.Taking.{opened, opening_listed}
@@ -45,24 +45,25 @@ pub record Course : Type 0 where
   -- the rule that was broken
   pub fault : Option StackFault
 
-abbrev pub listed : Option Message → List Message
-listed None = []
-listed (Some m) = m ∷ []
+abbrev pub next_listed : Option Message → List Message
+next_listed None = []
+next_listed (Some m) = m ∷ []
 
-abbrev pub taken : Course → List Message
-taken v = opening_listed v.owed ++ listed v.held
+abbrev pub messages_taken : Course → List Message
+messages_taken v = opening_listed v.owed ++ next_listed v.held
 
 -- ---- where it stands in its stream
 
 -- the messages of the transport tell these; then come those that aren't told yet
-pub record Reads (role : Role) (octets : List ℕ) (told : List Arrival) (v : Course) : Type 0 where
+pub record ReadsMessages (role : Role) (octets : List ℕ) (told : List Arrival)
+    (v : Course) : Type 0 where
   pub messages : List Message
   pub tell : Tell role told messages
-  pub stands : transport.Stands (end_of role) octets (messages ++ taken v) v.line
+  pub stands : transport.Stands (end_of role) octets (messages ++ messages_taken v) v.line
 
-abbrev pub title_of : Role → Option (List ℕ)
-title_of called = None
-title_of (calling title said) = title
+abbrev pub role_title_of : Role → Option (List ℕ)
+role_title_of called = None
+role_title_of (calling title said) = title
 
 -- conclude was said after so many of these messages
 abbrev pub IsSince : Role → List Arrival → Type 0
@@ -71,47 +72,49 @@ IsSince (calling title None) told = Unit {0}
 IsSince (calling title (Some n)) told = n ≤ length told
 
 -- fed these octets, and these messages told; what is owed an answer counts as come already
-pub record Stands (role : Role) (octets : List ℕ) (told : List Arrival) (v : Course) : Type 0 where
-  pub title : v.title ≡ title_of role
+pub record CourseStands (role : Role) (octets : List ℕ) (told : List Arrival)
+    (v : Course) : Type 0 where
+  pub title : v.title ≡ role_title_of role
   pub knows : Knows role (told ++ opened v.owed) v.known
   pub since : IsSince role told
   pub setup : v.setup ≡ setup_after (told ++ opened v.owed)
-  pub reads : MatchOption v.fault (Reads role octets told v) (λ f. Stops role octets told f)
+  pub reads : MatchOption v.fault (ReadsMessages role octets told v)
+      (λ f. StopsTelling role octets told f)
 
 -- all that the octets tell was told: they leave a rest, or break a rule behind it
 pub record HasToldAll (role : Role) (octets : List ℕ) (told : List Arrival) (v : Course) :
     Type 0 where
-  pub stands : Stands role octets told v
+  pub stands : CourseStands role octets told v
   pub all : MatchOption v.fault ((rest : List ℕ) × Tells role octets told rest) (λ f. Unit {0})
 
 -- ---- what it holds
 
 -- the octets of a message
-abbrev pub octets_in : Option Message → List ℕ
-octets_in (Some (tsdu place octets)) = octets
-octets_in _ = []
+abbrev pub message_octets_in : Option Message → List ℕ
+message_octets_in (Some (tsdu place octets)) = octets
+message_octets_in _ = []
 
 -- so many octets of the stream are held
 abbrev pub count_held : Course → ℕ
-count_held v = length (octets_in v.held) + (length v.line.held + length v.line.unread)
+count_held v = length (message_octets_in v.held) + (length v.line.held + length v.line.unread)
 
 -- a message that is held is within the limit, and beside it nothing is held of another one
 abbrev pub IsAlone : Option Message → Line → Type 0
 IsAlone None line = Unit {0}
-IsAlone (Some m) line = IsSound m × (line.held ≡ [])
+IsAlone (Some m) line = IsSoundMessage m × (line.held ≡ [])
 
 -- ---- the offer and the association
 
-abbrev pub offered_by : Bool → EndState
-offered_by true = standings.Offered
-offered_by false = standings.BadlyOffered
+abbrev pub standing_offered : Bool → EndState
+standing_offered true = standings.Offered
+standing_offered false = standings.BadlyOffered
 
 abbrev pub finishing : EndState → EndState
 finishing standings.Accepted = standings.Finishing
 finishing s = s
 
 abbrev pub standing_heard : EndState → Heard → EndState
-standing_heard s (heards.Connect c) = offered_by (is_offer c)
+standing_heard s (heards.Connect c) = standing_offered (is_offer c)
 standing_heard s (heards.Accept a) = standings.Accepted
 standing_heard s heards.Refuse = standings.Closed
 standing_heard s heards.Finish = finishing s
@@ -156,19 +159,19 @@ abbrev pub state_with : Option StackFault → EndState → StackState
 state_with None s = state_by s
 state_with (Some f) s = states.Ended
 
-abbrev pub state_of : Course → StackState
-state_of v = state_with v.fault v.standing
+abbrev pub stack_state_of : Course → StackState
+stack_state_of v = state_with v.fault v.standing
 
 -- ---- what is taken next
 
 -- no whole message is left unread, or the stream has stopped
-abbrev pub IsSettled : Course → Type 0
-IsSettled v = MatchOption v.fault (transport.IsSettled v.line) (λ f. Unit {0})
+abbrev pub IsCourseSettled : Course → Type 0
+IsCourseSettled v = MatchOption v.fault (transport.IsLineSettled v.line) (λ f. Unit {0})
 
 -- these messages more were taken, and answered
-pub record Goes (role : Role) (octets : List ℕ) (told later : List Arrival) (old : Course)
+pub record GoesFurther (role : Role) (octets : List ℕ) (told later : List Arrival) (old : Course)
     (out : List ℕ) (new : Course) (written : List ℕ) : Type 0 where
-  pub stands : Stands role octets (told ++ later) new
+  pub stands : CourseStands role octets (told ++ later) new
   pub standing : new.standing ≡ standing_behind old.standing later
   pub answered : written ≡ out ++ answers_to role later
 
@@ -177,7 +180,7 @@ pub record Goes (role : Role) (octets : List ℕ) (told later : List Arrival) (o
 abbrev pub NothingLeft : Role → List ℕ → List Arrival → List Arrival → Course → Course → Type 0
 NothingLeft role octets told later old new =
     MatchBool (is_offered old.standing) (later ≡ [])
-    (((rest : List ℕ) × Tells role octets (told ++ later) rest) × IsSettled new)
+    (((rest : List ℕ) × Tells role octets (told ++ later) rest) × IsCourseSettled new)
 
 -- the message that hands something out is the last of those that were taken, and what the connect
 -- fixed is known
@@ -189,35 +192,35 @@ pub record IsLast (told later : List Arrival) (new : Course) : Type 0 where
   pub setup : new.setup ≡ setup_after (told ++ later)
 
 -- an answer is right: what the next message hands out; or none; or the rule that is broken
-abbrev pub Answers : Role → List ℕ → List Arrival → Course → List ℕ
+abbrev pub IsNextAnswer : Role → List ℕ → List Arrival → Course → List ℕ
     → Result (Option StackIn) StackFault → Course → List ℕ → Type 0
-Answers role octets told old out (Ok (Some input)) new written = (later : List Arrival)
-    × Goes role octets told later old out new written × (handed_out later ≡ input ∷ [])
+IsNextAnswer role octets told old out (Ok (Some input)) new written = (later : List Arrival)
+    × GoesFurther role octets told later old out new written × (handed_out later ≡ input ∷ [])
     × IsLast told later new
-Answers role octets told old out (Ok None) new written = (later : List Arrival)
-    × Goes role octets told later old out new written × (handed_out later ≡ [])
+IsNextAnswer role octets told old out (Ok None) new written = (later : List Arrival)
+    × GoesFurther role octets told later old out new written × (handed_out later ≡ [])
     × NothingLeft role octets told later old new
-Answers role octets told old out (Err f) new written = (later : List Arrival)
-    × Goes role octets told later old out new written × (handed_out later ≡ [])
-    × Stops role octets (told ++ later) f
+IsNextAnswer role octets told old out (Err f) new written = (later : List Arrival)
+    × GoesFurther role octets told later old out new written × (handed_out later ≡ [])
+    × StopsTelling role octets (told ++ later) f
 
 -- ---- behind an answer
 
 -- how an end stands behind what was handed out
-abbrev pub StandsBehind : StackIn → EndState → EndState → Type 0
-StandsBehind (inputs.Offer title initiate) old new = new ≡ standings.Offered
-StandsBehind inputs.BadOffer old new = new ≡ standings.BadlyOffered
-StandsBehind (inputs.Accepted initiate) old new = new ≡ standings.Accepted
-StandsBehind (inputs.Pdu pdu) old new = new ≡ old
-StandsBehind (inputs.BadRequest invoke) old new = new ≡ old
-StandsBehind inputs.Released old new = (new ≡ finishing old) ⊎ (new ≡ standings.Closed)
-StandsBehind inputs.Aborted old new = new ≡ standings.Closed
-StandsBehind inputs.Refused old new = new ≡ standings.Closed
+abbrev pub EndStandsBehind : StackIn → EndState → EndState → Type 0
+EndStandsBehind (inputs.Offer title initiate) old new = new ≡ standings.Offered
+EndStandsBehind inputs.BadOffer old new = new ≡ standings.BadlyOffered
+EndStandsBehind (inputs.Accepted initiate) old new = new ≡ standings.Accepted
+EndStandsBehind (inputs.Pdu pdu) old new = new ≡ old
+EndStandsBehind (inputs.BadRequest invoke) old new = new ≡ old
+EndStandsBehind inputs.Released old new = (new ≡ finishing old) ⊎ (new ≡ standings.Closed)
+EndStandsBehind inputs.Aborted old new = new ≡ standings.Closed
+EndStandsBehind inputs.Refused old new = new ≡ standings.Closed
 
 -- how an end stands behind an answer: by what was handed out; where nothing was, as before the
 -- answer
 abbrev pub FollowsAnswer : Result (Option StackIn) StackFault → EndState → EndState → Type 0
-FollowsAnswer (Ok (Some input)) old new = StandsBehind input old new
+FollowsAnswer (Ok (Some input)) old new = EndStandsBehind input old new
 FollowsAnswer (Ok None) old new = new ≡ old
 FollowsAnswer (Err f) old new = new ≡ old
 

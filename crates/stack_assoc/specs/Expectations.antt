@@ -63,14 +63,14 @@ setup_after told = setup_by (size_by (first_in size_in told)) (first_in connect_
 
 -- a conclude response is awaited where conclude was said before so many messages came, and none has
 -- come
-abbrev pub said_by : Option ℕ → ℕ → Bool
-said_by None count = false
-said_by (Some n) count = nat_le n count
+abbrev pub is_concluding : Option ℕ → ℕ → Bool
+is_concluding None count = false
+is_concluding (Some n) count = nat_le n count
 
 abbrev pub awaited_after : Role → List Arrival → Bool
 awaited_after called told = false
 awaited_after (calling title said) told =
-    said_by said (length told) && not (list_any is_concluded told)
+    is_concluding said (length told) && not (list_any is_concluded told)
 
 -- what is expected behind these messages
 abbrev pub expecting_after : Role → List Arrival → Expecting

@@ -18,13 +18,13 @@ use Rattle.stack_assoc.specs.Arrivals.{Arrival, asked, confirmed, gone, heard, R
 use Rattle.stack_assoc.specs.Arrivals.{called, calling}
 
 -- too little is offered of one of the parameters, so that nothing can be granted
-abbrev pub is_below : ℤ → Option ℤ → Bool
-is_below least None = false
-is_below least (Some number) = int_lt number least
+abbrev pub is_offered_below : ℤ → Option ℤ → Bool
+is_offered_below least None = false
+is_offered_below least (Some number) = int_lt number least
 
 abbrev pub is_too_little : Initiate → Bool
 is_too_little i = int_lt i.version (pos 1) || (int_lt i.calling (pos 1) || (int_lt i.called (pos 1)
-    || (is_below LEAST_DETAIL i.detail || is_below (pos 1) i.nesting)))
+    || (is_offered_below LEAST_DETAIL i.detail || is_offered_below (pos 1) i.nesting)))
 
 -- a connect that may be accepted: its offers agree, it is of MMS, and enough is offered
 abbrev pub is_offer : Connecting → Bool

@@ -23,11 +23,11 @@ abbrev pub known_said : Bool → Milestones → Milestones
 known_said true k = known_concluding k.side k
 known_said false k = k
 
-abbrev pub is_conclude : MmsPdu → Bool
-is_conclude pdu = is_conclude_pdu (Some pdu)
+abbrev pub says_conclude : MmsPdu → Bool
+says_conclude pdu = is_conclude_pdu (Some pdu)
 
 abbrev pub with_said : MmsPdu → Course → Course
-with_said pdu v = record v { known = known_said (is_conclude pdu) v.known }
+with_said pdu v = record v { known = known_said (says_conclude pdu) v.known }
 
 -- the first conclude of the calling end was said after so many messages
 abbrev pub role_concluding : Role → List Arrival → Role
@@ -39,7 +39,7 @@ role_by true role told = role_concluding role told
 role_by false role told = role
 
 abbrev pub role_said : Role → List Arrival → MmsPdu → Role
-role_said role told pdu = role_by (is_conclude pdu) role told
+role_said role told pdu = role_by (says_conclude pdu) role told
 
 -- the calling end may ask for the release; the called end may answer once that was read
 abbrev pub may_leave : Side → EndState → Option StackFault → Bool
@@ -54,12 +54,12 @@ abbrev pub left_by : Side → EndState → EndState
 left_by sides.Called s = standings.Closed
 left_by _ s = s
 
-abbrev pub released : Course → Course
-released v = record v { standing = left_by v.known.side v.standing }
+abbrev pub course_released : Course → Course
+course_released v = record v { standing = left_by v.known.side v.standing }
 
 abbrev pub leaving : Side → ℕ → List ℕ
 leaving sides.Called acse = release_tsdu acse
 leaving _ acse = finish_tsdu acse
 
-abbrev pub release_octets : Course → List ℕ
-release_octets v = leaving v.known.side v.setup.acse
+abbrev pub release_said : Course → List ℕ
+release_said v = leaving v.known.side v.setup.acse

@@ -26,13 +26,13 @@ use Rattle.stack_assoc.specs.Tellings.{Tell, transport_fault}
 use Rattle.stack_assoc.specs.Handing.{input_heard}
 use Rattle.stack_assoc.specs.Knowing.{nothing_known, known_with, setup_with}
 use Rattle.stack_assoc.specs.Taking.{opening_told, results_heard}
-use Rattle.stack_assoc.specs.Courses.{Course, taken, Stands, standing_with}
+use Rattle.stack_assoc.specs.Courses.{Course, messages_taken, CourseStands, standing_with}
 
 -- at the start of a stream
 pub record IsNew (side : Side) (end : tpkt.Role) (own : Option (List ℕ)) (v : Course) : Type 0 where
   pub title : v.title ≡ own
   pub line : lines.Stands end [] [] v.line
-  pub settled : lines.IsSettled v.line
+  pub settled : lines.IsLineSettled v.line
   pub owed : v.owed ≡ None
   pub held : v.held ≡ None
   pub known : v.known ≡ nothing_known side
@@ -78,8 +78,8 @@ pub record HasRest (role : Role) (octets : List ℕ) (told : List Arrival) (v : 
   pub messages : List Message
   pub rest : List ℕ
   pub tell : Tell role told messages
-  pub says : transport.Says (end_of role) octets (messages ++ taken v) rest
-  pub settled : lines.IsSettled v.line
+  pub says : transport.Says (end_of role) octets (messages ++ messages_taken v) rest
+  pub settled : lines.IsLineSettled v.line
 
 -- all messages so far were taken, and then this rule is broken
 pub record HasBroken (role : Role) (octets : List ℕ) (told : List Arrival) (fault : StackFault)
@@ -87,7 +87,7 @@ pub record HasBroken (role : Role) (octets : List ℕ) (told : List Arrival) (fa
   pub messages : List Message
   pub broken : CotpFault
   pub tell : Tell role told messages
-  pub stops : transport.Stops (end_of role) octets (messages ++ taken v) broken
+  pub stops : transport.Stops (end_of role) octets (messages ++ messages_taken v) broken
   pub is : fault ≡ transport_fault broken
 
 abbrev pub LeavesOff : Role → List ℕ → List Arrival → Came → Course → Type 0
@@ -102,7 +102,7 @@ IsTaken old _ new = Unit {0}
 
 pub record TakesOne (role : Role) (octets : List ℕ) (told : List Arrival) (old : Course)
     (came : Came) (new : Course) : Type 0 where
-  pub stands : Stands role octets told new
+  pub stands : CourseStands role octets told new
   pub leaves : LeavesOff role octets told came new
   pub taken : IsTaken old came new
 
@@ -111,15 +111,15 @@ abbrev pub IsBegun : Course → Type 0
 IsBegun v = IsSome v.held ⊎ IsSome v.owed
 
 -- the next message to be read was taken
-abbrev pub IsThere : Came → Course → Type 0
-IsThere cames.Message v = IsSome v.held
-IsThere _ v = v.held ≡ None
+abbrev pub IsNextTaken : Came → Course → Type 0
+IsNextTaken cames.Message v = IsSome v.held
+IsNextTaken _ v = v.held ≡ None
 
-pub record Takes (role : Role) (octets : List ℕ) (told : List Arrival) (came : Came)
+pub record TakesNext (role : Role) (octets : List ℕ) (told : List Arrival) (came : Came)
     (new : Course) : Type 0 where
-  pub stands : Stands role octets told new
+  pub stands : CourseStands role octets told new
   pub leaves : LeavesOff role octets told came new
-  pub there : IsThere came new
+  pub there : IsNextTaken came new
 
 -- ---- telling
 

@@ -53,11 +53,11 @@ SaysOf m (saids.Broken f) = m.breaks f
 SaysOf m _ = ⊥
 
 -- what a message says
-abbrev pub Says : Expecting → Option Message → Said → Type 0
-Says e None saids.Nothing = Unit {0}
-Says e (Some transport.gone) saids.Gone = Unit {0}
-Says e (Some (tsdu place octets)) said = SaysOf (message e octets) said
-Says e _ _ = ⊥
+abbrev pub SaysMessage : Expecting → Option Message → Said → Type 0
+SaysMessage e None saids.Nothing = Unit {0}
+SaysMessage e (Some transport.gone) saids.Gone = Unit {0}
+SaysMessage e (Some (tsdu place octets)) said = SaysOf (message e octets) said
+SaysMessage e _ _ = ⊥
 
 -- the octets that answer an opening
 abbrev pub owed_octets : Side → Option Opening → ℕ → Option (List ℕ) → List ℕ

@@ -60,5 +60,6 @@ pub record StopsAbove (role : Role) (octets : List ℕ) (told : List Arrival) (f
   pub breaks : BreaksNext role told next fault
 
 -- the octets so far tell these messages, and then break a rule
-abbrev pub Stops : Role → List ℕ → List Arrival → StackFault → Type 0
-Stops role octets told fault = StopsBelow role octets told fault ⊎ StopsAbove role octets told fault
+abbrev pub StopsTelling : Role → List ℕ → List Arrival → StackFault → Type 0
+StopsTelling role octets told fault = StopsBelow role octets told fault
+    ⊎ StopsAbove role octets told fault

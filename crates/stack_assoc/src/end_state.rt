@@ -1,7 +1,7 @@
 //! How an end stands to the offer and the association.
 ghost use Rattle.std.specs.Prelude.{◌≡◌};
 ghost use Rattle.stack_assoc.specs.Courses.{standing_with, state_by, is_offered, finishing};
-ghost use Rattle.stack_assoc.specs.Courses.{offered_by};
+ghost use Rattle.stack_assoc.specs.Courses.{standing_offered};
 ghost use Rattle.stack_assoc.specs.Handing.{is_offer};
 ghost use Rattle.stack_assoc.specs.Arrivals.{heard};
 
@@ -74,7 +74,7 @@ impl EndState {
 }
 
 fn offered(may_be_accepted: bool) -> EndState
-    ensures { result ≡ offered_by may_be_accepted }
+    ensures { result ≡ standing_offered may_be_accepted }
 {
     if may_be_accepted {
         EndState::Offered

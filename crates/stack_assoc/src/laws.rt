@@ -2,11 +2,11 @@
 ghost use Rattle.std.specs.Prelude.{◌≡◌, ℕ, List, ◌++◌, ◌⊎◌};
 ghost use Rattle.stack_messages.specs.declared.fault.StackFault.{StackFault};
 ghost use Rattle.stack_assoc.specs.Arrivals.{Arrival, Role};
-ghost use Rattle.stack_assoc.specs.Tellings.{Tells, Stops};
+ghost use Rattle.stack_assoc.specs.Tellings.{Tells, StopsTelling};
 ghost use Rattle.mms_services.specs.declared.pdu.MmsPdu.{MmsPdu};
 ghost use Rattle.stack_assoc.specs.declared.input.StackState.TheVariants as states;
 ghost use Rattle.stack_assoc.specs.declared.end_state.EndState.{EndState};
-ghost use Rattle.stack_assoc.specs.Courses.{Course, Stands, HasToldAll, state_of};
+ghost use Rattle.stack_assoc.specs.Courses.{Course, CourseStands, HasToldAll, stack_state_of};
 ghost use Rattle.stack_assoc.specs.Saying.{with_standing, with_said, role_said};
 
 use stack_messages::messages_have_one_reading;
@@ -15,14 +15,16 @@ use stack_messages::messages_have_one_reading;
 pub fn one_reading()
     ensures always { (role : Role) (octets : List ℕ)
         → ((told : List Arrival) × (rest : List ℕ) × Tells role octets told rest)
-        ⊎ ((told : List Arrival) × (fault : StackFault) × Stops role octets told fault) }
+        ⊎ ((told : List Arrival) × (fault : StackFault) × StopsTelling role octets told fault) }
     ensures tells { (role : Role) (octets : List ℕ) (told others : List Arrival)
         (rest other : List ℕ) → Tells role octets told rest → Tells role octets others other
         → (told ≡ others) × (rest ≡ other) }
     ensures stops { (role : Role) (octets : List ℕ) (told others : List Arrival) (f g : StackFault)
-        → Stops role octets told f → Stops role octets others g → (told ≡ others) × (f ≡ g) }
+        → StopsTelling role octets told f → StopsTelling role octets others g → (told ≡ others)
+        × (f ≡ g) }
     ensures never_both { (role : Role) (octets : List ℕ) (told others : List Arrival)
-        (rest : List ℕ) (f : StackFault) → Tells role octets told rest → Stops role octets others f
+        (rest : List ℕ) (f : StackFault) → Tells role octets told rest
+        → StopsTelling role octets others f
         → ⊥ }
 {
     messages_have_one_reading();
@@ -36,9 +38,10 @@ pub fn what_was_told_stays()
         → (others : List Arrival) × (later ≡ told ++ others) }
     ensures stopped { (role : Role) (octets more : List ℕ) (told later : List Arrival)
         (rest : List ℕ) (f : StackFault) → Tells role octets told rest
-        → Stops role (octets ++ more) later f → (others : List Arrival) × (later ≡ told ++ others) }
+        → StopsTelling role (octets ++ more) later f → (others : List Arrival)
+        × (later ≡ told ++ others) }
     ensures broken { (role : Role) (octets more : List ℕ) (told : List Arrival) (f : StackFault)
-        → Stops role octets told f → Stops role (octets ++ more) told f }
+        → StopsTelling role octets told f → StopsTelling role (octets ++ more) told f }
 {
     messages_have_one_reading();
 }
@@ -47,11 +50,11 @@ pub fn what_was_told_stays()
 /// conclude, its response is awaited.
 pub fn saying_takes_nothing()
     ensures standing { (role : Role) (octets : List ℕ) (told : List Arrival) (v : Course)
-        (standing : EndState) → Stands role octets told v
-        → Stands role octets told (with_standing standing v) }
+        (standing : EndState) → CourseStands role octets told v
+        → CourseStands role octets told (with_standing standing v) }
     ensures said { (role : Role) (octets : List ℕ) (told : List Arrival) (v : Course) (pdu : MmsPdu)
-        → state_of v ≡ states.Accepted → Stands role octets told v
-        → Stands (role_said role told pdu) octets told (with_said pdu v) }
+        → stack_state_of v ≡ states.Accepted → CourseStands role octets told v
+        → CourseStands (role_said role told pdu) octets told (with_said pdu v) }
 {}
 
 /// It doesn't matter where a stream is cut: ends that were fed the same octets, in whatever pieces,

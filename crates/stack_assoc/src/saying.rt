@@ -2,13 +2,13 @@
 ghost use Rattle.std.specs.Prelude.{◌≡◌, ◌+◌, ◌≤◌, ◌++◌, true, OnOk, OnErr, vec_len, vec_capacity};
 ghost use Rattle.tpkt_cotp.specs.Written.{wire};
 ghost use Rattle.mms_services.specs.Initiates.{IsFullInitiate};
-ghost use Rattle.mms_services.specs.PduOctets.{pdu_len, IsWritable};
+ghost use Rattle.mms_services.specs.PduOctets.{pdu_len, IsWritablePdu};
 ghost use Rattle.stack_wire.specs.Tsdus.{accept_tsdu, refusal_tsdu, data_tsdu, abort_tsdu};
 ghost use Rattle.stack_assoc.specs.declared.input.StackState.TheVariants as states;
 ghost use Rattle.stack_assoc.specs.declared.end_state.EndState.TheVariants as standings;
-ghost use Rattle.stack_assoc.specs.Courses.{is_offered, is_accepted, state_of};
+ghost use Rattle.stack_assoc.specs.Courses.{is_offered, is_accepted, stack_state_of};
 ghost use Rattle.stack_assoc.specs.Saying.{with_standing, with_said, may_release};
-ghost use Rattle.stack_assoc.specs.Saying.{released, release_octets};
+ghost use Rattle.stack_assoc.specs.Saying.{course_released, release_said};
 
 use crate::end_state::EndState;
 use crate::stack::Stack;
@@ -54,8 +54,8 @@ impl Stack {
     /// Says a PDU over the association. After conclude of the calling end its response is awaited.
     /// After want of memory the stack and `out` are as before.
     pub fn say(&mut self, pdu: &MmsPdu, out: &mut Vec<u8>) -> Result<(), AllocError>
-        requires accepted { state_of self.old ≡ states.Accepted }
-        requires writable { IsWritable pdu.now }
+        requires accepted { stack_state_of self.old ≡ states.Accepted }
+        requires writable { IsWritablePdu pdu.now }
         requires few { pdu_len pdu.now ≤ 65000 }
         ensures ok { OnOk result (self.new ≡ with_said pdu.now self.old) }
         ensures out { OnOk result (out.new.items ≡ out.old.items
@@ -102,9 +102,9 @@ impl Stack {
     /// has read that it is asked for. After want of memory the stack and `out` are as before.
     pub fn release(&mut self, out: &mut Vec<u8>) -> Result<(), AllocError>
         requires { may_release self.old ≡ true }
-        ensures ok { OnOk result (self.new ≡ released self.old) }
+        ensures ok { OnOk result (self.new ≡ course_released self.old) }
         ensures out { OnOk result (out.new.items ≡ out.old.items
-            ++ wire self.old.setup.size (release_octets self.old)) }
+            ++ wire self.old.setup.size (release_said self.old)) }
         ensures err { OnErr result (self.new ≡ self.old) }
         ensures same { OnErr result (out.new.items ≡ out.old.items) }
     {

@@ -4,12 +4,13 @@ ghost use Rattle.std.specs.Prelude.{IfOk, OnOk, OnErr, OnSome, Ok, Err, false, o
 ghost use Rattle.stack_messages.specs.declared.fault.StackFault.{StackFault};
 ghost use Rattle.tpkt_cotp.specs.declared.limits.TheConstants.{PIECE_LIMIT};
 ghost use Rattle.tpkt_cotp.specs.declared.limits.TheConstants.{TPKT_LIMIT, TSDU_LIMIT};
-ghost use Rattle.tpkt_cotp.specs.Written.{request_octets};
+ghost use Rattle.tpkt_cotp.specs.Written.{connection_request_octets};
 ghost use Rattle.stack_assoc.specs.declared.input.StackState.TheVariants as states;
 ghost use Rattle.stack_assoc.specs.Arrivals.{Arrival, Role, called, calling};
 ghost use Rattle.stack_assoc.specs.Expectations.{setup_by};
-ghost use Rattle.stack_assoc.specs.Courses.{Stands, IsSettled, is_offered, Answers, state_of};
-ghost use Rattle.stack_assoc.specs.Courses.{FollowsAnswer, fault_in, octets_in, count_held};
+ghost use Rattle.stack_assoc.specs.Courses.{CourseStands, IsCourseSettled, is_offered};
+ghost use Rattle.stack_assoc.specs.Courses.{IsNextAnswer, stack_state_of};
+ghost use Rattle.stack_assoc.specs.Courses.{FollowsAnswer, fault_in, message_octets_in, count_held};
 ghost use Rattle.stack_assoc.specs.Taking.{following_seen};
 ghost use Rattle.stack_assoc.specs.Steps.{IsNew, left_of};
 
@@ -96,8 +97,8 @@ impl Stack {
 
     /// The called end, at the start of a stream.
     pub fn called(alloc: Global) -> Result<Stack, AllocError>
-        ensures { IfOk result (λ stack. Stands called [] [] stack × IsSettled stack
-            × (state_of stack ≡ states.Waiting) × (is_offered stack.standing ≡ false)) }
+        ensures { IfOk result (λ stack. CourseStands called [] [] stack × IsCourseSettled stack
+            × (stack_state_of stack ≡ states.Waiting) × (is_offered stack.standing ≡ false)) }
     {
         Ok(Stack::new(alloc, tpkt_cotp::Role::Called, Side::Called, None))
     }
@@ -109,10 +110,10 @@ impl Stack {
         title: Option<Oid>,
         out: &mut Vec<u8>,
     ) -> Result<Stack, AllocError>
-        ensures ok { IfOk result (λ stack. Stands (calling title None) [] [] stack
-            × IsSettled stack × (state_of stack ≡ states.Waiting)
+        ensures ok { IfOk result (λ stack. CourseStands (calling title None) [] [] stack
+            × IsCourseSettled stack × (stack_state_of stack ≡ states.Waiting)
             × (is_offered stack.standing ≡ false)) }
-        ensures out { OnOk result (out.new.items ≡ out.old.items ++ request_octets 1) }
+        ensures out { OnOk result (out.new.items ≡ out.old.items ++ connection_request_octets 1) }
         ensures err { OnErr result (out.new.items ≡ out.old.items) }
     {
         write_cr(out, 1)?;
@@ -121,7 +122,7 @@ impl Stack {
 
     /// How far the association has come.
     pub fn state(&self) -> StackState
-        ensures { result ≡ state_of self.now }
+        ensures { result ≡ stack_state_of self.now }
     {
         match self.fault {
             None => self.standing.state(),
@@ -134,16 +135,16 @@ impl Stack {
     /// are dropped. After want of memory the stack is as before.
     pub fn feed(&mut self, piece: &[u8]) -> Result<(), AllocError>
         requires small { length piece.now ≤ PIECE_LIMIT }
-        requires settled { IsSettled self.old }
+        requires settled { IsCourseSettled self.old }
         requires answered { is_offered self.old.standing ≡ false }
         // The stream goes on by the piece.
         ensures ok { (role : Role) (octets : List ℕ) (told : List Arrival)
-            → Stands role octets told self.old
-            → OnOk result (Stands role (octets ++ piece.now) told self.new) }
+            → CourseStands role octets told self.old
+            → OnOk result (CourseStands role (octets ++ piece.now) told self.new) }
         // Behind a fault the octets are dropped.
         ensures dropped { (fault : StackFault) → self.old.fault ≡ Some fault
             → OnOk result (self.new ≡ self.old) }
-        ensures state { OnOk result (state_of self.new ≡ state_of self.old) }
+        ensures state { OnOk result (stack_state_of self.new ≡ stack_state_of self.old) }
         ensures standing { OnOk result (self.new.standing ≡ self.old.standing) }
         ensures err { OnErr result (self.new ≡ self.old) }
     {
@@ -163,8 +164,8 @@ impl Stack {
         out: &mut Vec<u8>,
     ) -> Result<Result<Option<StackIn>, StackFault>, AllocError>
         ensures ok { (role : Role) (octets : List ℕ) (told : List Arrival)
-            → Stands role octets told self.old
-            → IfOk result (λ answer. Answers role octets told self.old out.old.items answer
+            → CourseStands role octets told self.old
+            → IfOk result (λ answer. IsNextAnswer role octets told self.old out.old.items answer
             self.new out.new.items) }
         ensures shorter { IfOk result (λ answer. IfOk answer (λ input. OnSome input
             (left_of self.new < left_of self.old))) }
@@ -175,8 +176,9 @@ impl Stack {
         ensures again { (fault : StackFault) → self.old.fault ≡ Some fault
             → result ≡ Ok (Err fault) }
         ensures kept { (role : Role) (octets : List ℕ) (told : List Arrival)
-            → Stands role octets told self.old → OnErr result (Stands role octets told self.new) }
-        ensures state { OnErr result (state_of self.new ≡ state_of self.old) }
+            → CourseStands role octets told self.old
+            → OnErr result (CourseStands role octets told self.new) }
+        ensures state { OnErr result (stack_state_of self.new ≡ stack_state_of self.old) }
         ensures stays { OnErr result (self.new.standing ≡ self.old.standing) }
         ensures out { OnErr result (out.new.items ≡ out.old.items) }
     {
@@ -205,7 +207,7 @@ impl Stack {
 
 /// The octets of a TSDU, where one is held.
 fn held_octets(held: &Option<Following>) -> usize
-    ensures { result ≡ length (octets_in (option_map following_seen held.now)) }
+    ensures { result ≡ length (message_octets_in (option_map following_seen held.now)) }
 {
     match held {
         None | Some(Following::Gone) => 0,

@@ -1,6 +1,6 @@
 //! What the transport gave that isn't told yet.
 ghost use Rattle.std.specs.Prelude.{◌≡◌, IfOk, Some};
-ghost use Rattle.tpkt_cotp.specs.Sound.{IsSound, IsSize};
+ghost use Rattle.tpkt_cotp.specs.Sound.{IsSoundMessage, IsSize};
 ghost use Rattle.stack_assoc.specs.Arrivals.{size_in};
 ghost use Rattle.stack_assoc.specs.Taking.{results_heard, opening_seen, opening_told};
 
@@ -58,7 +58,7 @@ pub(crate) fn results_heard(alloc: Global, heard: &Heard) -> Result<Results, All
 impl Opening {
     /// The size of TPDUs that it names, as a power of two.
     pub(crate) fn size(&self) -> Option<u8>
-        requires { IsSound (opening_seen self.now) }
+        requires { IsSoundMessage (opening_seen self.now) }
         ensures value { size_in (opening_told self.now) ≡ Some result }
         ensures sized { IsSize result }
     {

@@ -1,13 +1,13 @@
 //! What an end takes from its transport, and what it reads of that.
 ghost use Rattle.std.specs.Prelude.{◌≡◌, ℕ, List, ◌++◌, None, IfOk, OnOk, OnErr};
-ghost use Rattle.tpkt_cotp.specs.Sound.{IsSound};
+ghost use Rattle.tpkt_cotp.specs.Sound.{IsSoundMessage};
 ghost use Rattle.stack_assoc.specs.Arrivals.{Arrival, Role};
 ghost use Rattle.stack_assoc.specs.Tellings.{transport_fault};
 ghost use Rattle.stack_assoc.specs.Knowing.{expecting_by};
 ghost use Rattle.stack_messages.specs.Messages.{message};
-ghost use Rattle.stack_assoc.specs.Taking.{opening_seen, owed_octets, Says, SaysOf};
-ghost use Rattle.stack_assoc.specs.Courses.{Stands};
-ghost use Rattle.stack_assoc.specs.Steps.{opened_with, TakesOne, Takes, IsTellable};
+ghost use Rattle.stack_assoc.specs.Taking.{opening_seen, owed_octets, SaysMessage, SaysOf};
+ghost use Rattle.stack_assoc.specs.Courses.{CourseStands};
+ghost use Rattle.stack_assoc.specs.Steps.{opened_with, TakesOne, TakesNext, IsTellable};
 ghost use Rattle.stack_assoc.specs.Steps.{Untold, FewerLeft, IsEmpty};
 ghost use Rattle.stack_assoc.specs.Steps.{IsBegun};
 
@@ -31,7 +31,7 @@ fn of_transport(fault: CotpFault) -> StackFault
 impl Stack {
     /// Keeps what begins a connection of the transport.
     fn open(&mut self, opening: Opening)
-        requires { IsSound (opening_seen opening) }
+        requires { IsSoundMessage (opening_seen opening) }
         ensures { self.new ≡ opened_with opening self.old }
     {
         if !self.known.begun {
@@ -45,7 +45,7 @@ impl Stack {
     fn take_one(&mut self) -> Result<Came, AllocError>
         requires { self.old.held ≡ None }
         ensures ok { (role : Role) (octets : List ℕ) (told : List Arrival)
-            → Stands role octets told self.old → self.old.fault ≡ None
+            → CourseStands role octets told self.old → self.old.fault ≡ None
             → IfOk result (λ came. TakesOne role octets told self.old came self.new) }
         ensures untold { Untold self.old self.new }
         ensures fewer { IfOk result (λ came. FewerLeft came self.old self.new) }
@@ -78,10 +78,11 @@ impl Stack {
     pub(crate) fn take(&mut self) -> Result<Came, AllocError>
         requires { self.old.fault ≡ None }
         ensures ok { (role : Role) (octets : List ℕ) (told : List Arrival)
-            → Stands role octets told self.old
-            → IfOk result (λ came. Takes role octets told came self.new) }
+            → CourseStands role octets told self.old
+            → IfOk result (λ came. TakesNext role octets told came self.new) }
         ensures kept { (role : Role) (octets : List ℕ) (told : List Arrival)
-            → Stands role octets told self.old → OnErr result (Stands role octets told self.new) }
+            → CourseStands role octets told self.old
+            → OnErr result (CourseStands role octets told self.new) }
         ensures untold { Untold self.old self.new }
         ensures fewer { IfOk result (λ came. FewerLeft came self.old self.new) }
         ensures empty { IfOk result (λ came. IsEmpty came self.new) }
@@ -99,8 +100,8 @@ impl Stack {
     fn take_behind(&mut self) -> Result<Came, AllocError>
         requires { self.old.fault ≡ None }
         ensures ok { (role : Role) (octets : List ℕ) (told : List Arrival)
-            → Stands role octets told self.old → IsBegun self.old
-            → IfOk result (λ came. Takes role octets told came self.new) }
+            → CourseStands role octets told self.old → IsBegun self.old
+            → IfOk result (λ came. TakesNext role octets told came self.new) }
         ensures untold { Untold self.old self.new }
         ensures fewer { IfOk result (λ came. FewerLeft came self.old self.new) }
         ensures empty { IfOk result (λ came. IsEmpty came self.new) }
@@ -114,7 +115,8 @@ impl Stack {
 
     /// Reads the next message.
     pub(crate) fn read(&self) -> Result<Said, AllocError>
-        ensures says { IfOk result (λ said. Says (expecting_by self.now.known self.now.setup.acse
+        ensures says { IfOk result (λ said. SaysMessage
+            (expecting_by self.now.known self.now.setup.acse
             self.now.setup.mms) self.now.held said) }
         ensures tellable { IfOk result IsTellable }
     {

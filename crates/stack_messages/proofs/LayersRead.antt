@@ -61,17 +61,17 @@ err_is f g e = cc
 not_ok : (s : Spdu) (f : SessionFault) → spdu_done s ≡ spdu_failed f → ⊥
 not_ok s f e = cc
 
-pub spdu-read : (tsdu : List ℕ) (s : Spdu) (r : Result Spdu SessionFault) → r ≡ Ok s → IfOk r (λ t. SpellsSpdu t tsdu) → ((t : Spdu) → SpellsSpdu t tsdu → r ≡ Ok t) → ((f : SessionFault) → (r ≡ Err f) ↔ SpduFault tsdu (session.fault_of f)) → IsReadAs (spdu_of tsdu) (Ok s)
+pub spdu-read : (tsdu : List ℕ) (s : Spdu) (r : Result Spdu SessionFault) → r ≡ Ok s → IfOk r (λ t. SpellsSpdu t tsdu) → ((t : Spdu) → SpellsSpdu t tsdu → r ≡ Ok t) → ((f : SessionFault) → (r ≡ Err f) ↔ SpduFault tsdu (session.ber_fault_of f)) → IsReadAs (spdu_of tsdu) (Ok s)
 unfolding spdu_of
 spdu-read tsdu s r is found only fault =
     read-ok (spdu_of tsdu) s (subst (λ (q : Result Spdu SessionFault). IfOk q (λ t. SpellsSpdu t tsdu)) is found)
     (λ t h. ok_is s t (sym is ∙ only t h))
     (λ f h. not_ok s (session.session_fault_of h.0) (sym is ∙ (fault (session.session_fault_of h.0)).1 h.1))
 
-pub spdu-broken : (tsdu : List ℕ) (b : SessionFault) (r : Result Spdu SessionFault) → r ≡ Err b → ((t : Spdu) → SpellsSpdu t tsdu → r ≡ Ok t) → ((f : SessionFault) → (r ≡ Err f) ↔ SpduFault tsdu (session.fault_of f)) → (g : StackFault) → g ≡ fault_of layers.Session b.place b.why → IsReadAs (spdu_of tsdu) (Err g)
+pub spdu-broken : (tsdu : List ℕ) (b : SessionFault) (r : Result Spdu SessionFault) → r ≡ Err b → ((t : Spdu) → SpellsSpdu t tsdu → r ≡ Ok t) → ((f : SessionFault) → (r ≡ Err f) ↔ SpduFault tsdu (session.ber_fault_of f)) → (g : StackFault) → g ≡ fault_of layers.Session b.place b.why → IsReadAs (spdu_of tsdu) (Err g)
 unfolding spdu_of
 spdu-broken tsdu b r is only fault g so =
-    read-err (spdu_of tsdu) g (session.fault_of b, (fault b).0 is, so)
+    read-err (spdu_of tsdu) g (session.ber_fault_of b, (fault b).0 is, so)
     (λ f h. so ∙ ap (λ (d : SessionFault). fault_of layers.Session d.place d.why) (err_is b (session.session_fault_of h.0) (sym is ∙ (fault (session.session_fault_of h.0)).1 h.1)) ∙ sym h.2)
     (λ t h. not_ok t b (sym (only t h) ∙ is))
 

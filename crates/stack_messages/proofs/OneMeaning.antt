@@ -31,7 +31,7 @@ use Rattle.stack_messages.specs.declared.heard.Heard.TheVariants as heard
 use Rattle.stack_messages.specs.Meanings.{Meaning, says_just, says_nothing, says_some, inside, where_allowed, HasOneMeaning}
 use Rattle.stack_messages.specs.Turns.{spdu_may_come, pdu_may_come, may_ask, offered_by}
 use Rattle.stack_messages.specs.Layers.{fault_of, out_of_order, octets_at, place_after, in_layer, spdu_of, ppdu_at, apdu_at, pdu_at}
-use Rattle.stack_messages.specs.Setting.{connecting, initiate_of, initiate_in, aarq_in, asked, offers_in, connect_at, accepting, initiated_of, initiated_in, user_in, aare_in, answered, results_in, accept_at}
+use Rattle.stack_messages.specs.Setting.{connecting, initiate_in_pdu, initiate_in, aarq_in, request_expected, offers_in, connect_at, accepting, initiated_of, initiated_in, user_in, aare_in, answer_expected, results_in, accept_at}
 use Rattle.stack_messages.specs.Messages.{IsBadRequest, data_at, user_data_in, carry_at, said_by, said_in_turn, message}
 
 pub just-one : {X : Type 0} (x : X) → HasOneMeaning (says_just x)
@@ -116,12 +116,12 @@ mms-one laws tsdu body = layer-one layers.Mms (place_after body.from) pdu 0 (oct
 aarq-one : Laws → (tsdu : List ℕ) (session called : Option (List ℕ)) (contexts : List Offered) (a : Apdu) → HasOneMeaning (aarq_in tsdu session called contexts a)
 aarq-one laws tsdu session called contexts (apdus.Aarq request) =
     inside-one (pdu_at tsdu request.user.body) (initiate_in session called contexts request) (mms-one laws tsdu request.user.body)
-    (λ p. some-one (out_of_order layers.Mms) (option_map (connecting session called contexts request) (initiate_of p)))
+    (λ p. some-one (out_of_order layers.Mms) (option_map (connecting session called contexts request) (initiate_in_pdu p)))
 aarq-one laws tsdu session called contexts _ = nothing-one (out_of_order layers.Acse)
 
 offers-one : Laws → (tsdu : List ℕ) (session : Option (List ℕ)) (p : Ppdu) → HasOneMeaning (offers_in tsdu session p)
 offers-one laws tsdu session (ppdus.Connect called contexts id body) =
-    inside-one (apdu_at (asked contexts) tsdu body) (aarq_in tsdu session called contexts) (apdu-one laws (asked contexts) tsdu body) (aarq-one laws tsdu session called contexts)
+    inside-one (apdu_at (request_expected contexts) tsdu body) (aarq_in tsdu session called contexts) (apdu-one laws (request_expected contexts) tsdu body) (aarq-one laws tsdu session called contexts)
 offers-one laws tsdu session _ = nothing-one (out_of_order layers.Presentation)
 
 connect-one : Laws → (tsdu : List ℕ) (session : Option (List ℕ)) (body : Span) → HasOneMeaning (connect_at tsdu session body)
@@ -142,7 +142,7 @@ aare-one laws tsdu acse _ = nothing-one (out_of_order layers.Acse)
 
 results-one : Laws → (e : Expecting) (tsdu : List ℕ) (p : Ppdu) → HasOneMeaning (results_in e tsdu p)
 results-one laws e tsdu (ppdus.Accept called results id body) =
-    inside-one (apdu_at (answered e) tsdu body) (aare_in tsdu id) (apdu-one laws (answered e) tsdu body) (aare-one laws tsdu id)
+    inside-one (apdu_at (answer_expected e) tsdu body) (aare_in tsdu id) (apdu-one laws (answer_expected e) tsdu body) (aare-one laws tsdu id)
 results-one laws e tsdu _ = nothing-one (out_of_order layers.Presentation)
 
 accept-one : Laws → (e : Expecting) (tsdu : List ℕ) (body : Span) → HasOneMeaning (accept_at e tsdu body)

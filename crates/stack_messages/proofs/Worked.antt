@@ -27,7 +27,7 @@ use Rattle.presentation_profile.specs.declared.expected.Expected.TheVariants as 
 use Rattle.presentation_profile.specs.declared.ppdu.Ppdu.TheVariants as ppdus
 use Rattle.presentation_profile.specs.declared.offers.Offered.{Offered}
 use Rattle.presentation_profile.specs.Offers.{transfers, offered, offer_contents, offer, offers}
-use Rattle.presentation_profile.specs.Others.{others, after_others, before_others, selector_in}
+use Rattle.presentation_profile.specs.Others.{others, after_others, before_others, selector_element}
 use Rattle.presentation_profile.specs.UserData.{user_data}
 use Rattle.presentation_profile.specs.Results as outcomes
 use Rattle.presentation_profile.specs.Ppdus.{connect_selectors, connect, accept, parameters, mode, set_up_contents, set_up, ppdu}
@@ -59,7 +59,7 @@ use Rattle.stack_messages.specs.declared.heard.Connecting.{Connecting}
 use Rattle.stack_messages.specs.declared.heard.Heard.TheVariants as heard
 use Rattle.stack_messages.specs.Meanings.{says_just, inside}
 use Rattle.stack_messages.specs.Layers.{fault_of, octets_at, in_layer, spdu_of, ppdu_at, apdu_at, pdu_at}
-use Rattle.stack_messages.specs.Setting.{asked, answered, connect_at, accept_at}
+use Rattle.stack_messages.specs.Setting.{request_expected, answer_expected, connect_at, accept_at}
 use Rattle.stack_messages.specs.Messages.{data_at, carry_at, message}
 use Rattle.ber_values.specs.Heads.{head_by, element_by, extent_of, extent_within}
 use Rattle.ber_values.specs.Extents.{definite}
@@ -157,7 +157,7 @@ spdu_rows : (session.spdu_in connecting_octets ≡ Ok (spdus.Connect (Some (0 �
     × (session.spdu_in identify_octets ≡ Ok (spdus.Carry (span 4 20)))
     × (session.spdu_in identified_octets ≡ Ok (spdus.Carry (span 4 38)))
     × (session.spdu_in short_octets ≡ Ok (spdus.Carry (span 4 19)))
-unfolding connecting_octets accepting_octets identify_octets identified_octets short_octets session.spdu_in session.whole_in session.coded_in rules.all_in rules.rest_in connection item parameter_in lengths.length_in
+unfolding connecting_octets accepting_octets identify_octets identified_octets short_octets session.spdu_in session.whole_spdu_in session.spdu_coded_in rules.all_parameters_in rules.rest_in connection item parameter_in lengths.session_length_in
 spdu_rows = (refl, refl, refl, refl, refl)
 
 ppdu_rows : ((ppdu expects.Connect).reading 24 (octets_at connecting_octets (span 24 170)) ≡ Ok (taken (ppdus.Connect (Some (0 ∷ 0 ∷ 0 ∷ 1 ∷ [])) on_offer 1 (span 93 170)) 170 []))
@@ -166,8 +166,8 @@ ppdu_rows : ((ppdu expects.Connect).reading 24 (octets_at connecting_octets (spa
     × ((ppdu (expects.Carry 3)).reading 4 (octets_at identified_octets (span 4 38)) ≡ Ok (taken (ppdus.Carry 3 (span 13 38)) 38 []))
     × ((ppdu (expects.Carry 3)).reading 4 (octets_at short_octets (span 4 19)) ≡ Err (fault_at 5 whys.Length))
 unfolding connecting_octets accepting_octets identify_octets identified_octets short_octets ppdu set_up set_up_contents mode parameters connect connect_selectors
-    accept outcomes.results outcomes.accepting_results outcomes.first_in outcomes.one_result
-    outcomes.result_contents after_others before_others others selector_in user_data external offers
+    accept outcomes.results outcomes.accepting_results outcomes.begin_then_in outcomes.one_result
+    outcomes.result_contents after_others before_others others selector_element user_data external offers
     offer offer_contents transfers length_in tag_in head_in integer_in unsigned_in oid_in gives
     then_in map_in branch_in refused skip by_length pass_in sized_part_in parted_in part_in
     choose_in maybe_in contents_as contents_where all_in whole_in more_in list_in count_in
@@ -176,10 +176,10 @@ unfolding connecting_octets accepting_octets identify_octets identified_octets s
     extent_of extent_within definite head_by element_by passed_within passed_in
 ppdu_rows = (refl, refl, refl, refl, refl)
 
-apdu_rows : ((apdu (asked on_offer)).reading 93 (octets_at connecting_octets (span 93 170)) ≡ Ok (taken (apdus.Aarq (record { context = 40 ∷ 202 ∷ 34 ∷ 2 ∷ 3 ∷ []; title = Some (41 ∷ 135 ∷ 103 ∷ 1 ∷ []); user = external_of 3 (span 130 170) })) 170 []))
-    × ((apdu (answered calling)).reading 64 (octets_at accepting_octets (span 64 136)) ≡ Ok (taken (apdus.Aare (record { result = 0; user = Some (external_of 3 (span 96 136)) })) 136 []))
+apdu_rows : ((apdu (request_expected on_offer)).reading 93 (octets_at connecting_octets (span 93 170)) ≡ Ok (taken (apdus.Aarq (record { context = 40 ∷ 202 ∷ 34 ∷ 2 ∷ 3 ∷ []; title = Some (41 ∷ 135 ∷ 103 ∷ 1 ∷ []); user = external_of 3 (span 130 170) })) 170 []))
+    × ((apdu (answer_expected calling)).reading 64 (octets_at accepting_octets (span 64 136)) ≡ Ok (taken (apdus.Aare (record { result = 0; user = Some (external_of 3 (span 96 136)) })) 136 []))
 unfolding connecting_octets accepting_octets apdu one_apdu request one_oid context_name calling_title user_last
-    responses.response responses.context_passed responses.one_result responses.result_next
+    responses.response responses.context_passed responses.result_number responses.result_next
     responses.user_of_result responses.some_user_last external user_information by_tag rising_within
     rising_in named_in perhaps_in attempt length_in tag_in head_in integer_in unsigned_in oid_in gives
     then_in map_in branch_in refused skip by_length pass_in sized_part_in parted_in part_in
@@ -217,7 +217,7 @@ connect_heard = (
     layer-says layers.Presentation (λ n. n) (ppdu expects.Connect) 24 _ _ (ppdu_reads expects.Connect) ppdu_rows.0,
     (
       _,
-      layer-says layers.Acse (λ n. n) (apdu (asked on_offer)) 93 _ _ (apdu_reads (asked on_offer)) apdu_rows.0,
+      layer-says layers.Acse (λ n. n) (apdu (request_expected on_offer)) 93 _ _ (apdu_reads (request_expected on_offer)) apdu_rows.0,
       (_, layer-says layers.Mms _ pdu 0 _ _ pdu_reads pdu_rows.0, refl),
     ),
   ),
@@ -234,7 +234,7 @@ accept_heard = (
     layer-says layers.Presentation (λ n. n) (ppdu (expects.Accept (Some 1))) 20 _ _ (ppdu_reads (expects.Accept (Some 1))) ppdu_rows.1,
     (
       _,
-      layer-says layers.Acse (λ n. n) (apdu (answered calling)) 64 _ _ (apdu_reads (answered calling)) apdu_rows.1,
+      layer-says layers.Acse (λ n. n) (apdu (answer_expected calling)) 64 _ _ (apdu_reads (answer_expected calling)) apdu_rows.1,
       (_, layer-says layers.Mms _ pdu 0 _ _ pdu_reads pdu_rows.1, refl),
     ),
   ),

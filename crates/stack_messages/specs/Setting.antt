@@ -37,15 +37,15 @@ connecting session called contexts request initiate = heard.Connect (record {
 })
 
 -- the initiate that a PDU is
-abbrev pub initiate_of : MmsPdu → Option Initiate
-initiate_of (pdus.Initiate initiate) = Some initiate
-initiate_of _ = None
+abbrev pub initiate_in_pdu : MmsPdu → Option Initiate
+initiate_in_pdu (pdus.Initiate initiate) = Some initiate
+initiate_in_pdu _ = None
 
 -- an initiate in an AARQ
 abbrev pub initiate_in : Option (List ℕ) → Option (List ℕ) → List Offered → AssociateRequest
     → MmsPdu → Meaning Heard
 initiate_in session called contexts request pdu = says_some (out_of_order layers.Mms)
-    (option_map (connecting session called contexts request) (initiate_of pdu))
+    (option_map (connecting session called contexts request) (initiate_in_pdu pdu))
 
 -- an AARQ in a connect
 abbrev pub aarq_in : List ℕ → Option (List ℕ) → Option (List ℕ) → List Offered → Apdu
@@ -56,14 +56,14 @@ aarq_in tsdu session called contexts _ = says_nothing (out_of_order layers.Acse)
 
 -- the user information of an AARQ is of MMS's context, where the offers agree; another APDU is
 -- out of order, whatever its id
-abbrev pub asked : List Offered → Expected
-asked contexts =
+abbrev pub request_expected : List Offered → Expected
+request_expected contexts =
     record { request_id = mms_of contexts; response_id = None; accepted = false }
 
 -- a connect in a connect of the session
 abbrev pub offers_in : List ℕ → Option (List ℕ) → Ppdu → Meaning Heard
 offers_in tsdu session (ppdus.Connect called contexts id body) =
-    inside (apdu_at (asked contexts) tsdu body) (aarq_in tsdu session called contexts)
+    inside (apdu_at (request_expected contexts) tsdu body) (aarq_in tsdu session called contexts)
 offers_in tsdu session _ = says_nothing (out_of_order layers.Presentation)
 
 unfoldable pub connect_at : List ℕ → Option (List ℕ) → Span → Meaning Heard
@@ -99,14 +99,14 @@ aare_in tsdu acse _ = says_nothing (out_of_order layers.Acse)
 
 -- an AARE accepts; its user information is of MMS's context, where this end offered it; another
 -- APDU is out of order, whatever its id
-abbrev pub answered : Expecting → Expected
-answered e =
+abbrev pub answer_expected : Expecting → Expected
+answer_expected e =
     record { request_id = None; response_id = offered_by e.side e.mms; accepted = true }
 
 -- an accept in an accept of the session
 abbrev pub results_in : Expecting → List ℕ → Ppdu → Meaning Heard
 results_in e tsdu (ppdus.Accept called results id body) =
-    inside (apdu_at (answered e) tsdu body) (aare_in tsdu id)
+    inside (apdu_at (answer_expected e) tsdu body) (aare_in tsdu id)
 results_in e tsdu _ = says_nothing (out_of_order layers.Presentation)
 
 unfoldable pub accept_at : Expecting → List ℕ → Span → Meaning Heard

@@ -1,7 +1,7 @@
 //! Reads what stands in one layer of a message.
 ghost use Rattle.std.specs.Prelude.{◌≡◌, length, IfOk};
 ghost use Rattle.ber_values.specs.Externals.{IsSpanWithin};
-ghost use Rattle.session_profile.specs.Seen.{IsBodyWithin};
+ghost use Rattle.session_profile.specs.Seen.{IsSpduBodyWithin};
 ghost use Rattle.presentation_profile.specs.Ppdus.{body_of};
 ghost use Rattle.acse_assoc.specs.Seen as acse;
 ghost use Rattle.stack_messages.specs.Meanings.{IsReadAs};
@@ -47,7 +47,8 @@ pub(crate) fn read_session(
     tsdu: &[u8],
 ) -> Result<Result<Spdu, StackFault>, AllocError>
     ensures exact { IfOk result (λ read. IsReadAs (spdu_of tsdu.now) read) }
-    ensures body { IfOk result (λ read. IfOk read (λ spdu. IsBodyWithin (length tsdu.now) spdu)) }
+    ensures body { IfOk result (λ read.
+        IfOk read (λ spdu. IsSpduBodyWithin (length tsdu.now) spdu)) }
 {
     match read_spdu(alloc, tsdu)? {
         Ok(spdu) => Ok(Ok(spdu)),
@@ -83,7 +84,7 @@ pub(crate) fn read_acse(
     requires { IsSpanWithin 0 (length tsdu.now) span }
     ensures exact { IfOk result (λ read. IsReadAs (apdu_at expected tsdu.now span) read) }
     ensures body { IfOk result (λ read. IfOk read
-        (λ a. acse.IsBodyWithin 0 (length tsdu.now) a)) }
+        (λ a. acse.IsApduBodyWithin 0 (length tsdu.now) a)) }
 {
     match read_apdu(alloc, tsdu, span.from, span.to, expected)? {
         Ok(apdu) => Ok(Ok(apdu)),

@@ -1,6 +1,6 @@
 //! Reads a message, layer by layer.
 ghost use Rattle.std.specs.Prelude.{length, IfOk};
-ghost use Rattle.session_profile.specs.Seen.{IsBodyWithin};
+ghost use Rattle.session_profile.specs.Seen.{IsSpduBodyWithin};
 ghost use Rattle.stack_messages.specs.Meanings.{IsReadAs};
 ghost use Rattle.stack_messages.specs.Messages.{message, said_by, said_in_turn};
 
@@ -36,7 +36,7 @@ fn read_in_turn(
     spdu: Spdu,
     expecting: Expecting,
 ) -> Result<Result<Heard, StackFault>, AllocError>
-    requires { IsBodyWithin (length tsdu.now) spdu }
+    requires { IsSpduBodyWithin (length tsdu.now) spdu }
     ensures { IfOk result (λ read. IsReadAs (said_in_turn expecting tsdu.now spdu) read) }
 {
     if spdu_may_come(expecting.side, expecting.phase, &spdu) {
@@ -53,7 +53,7 @@ fn read_inside(
     spdu: Spdu,
     expecting: Expecting,
 ) -> Result<Result<Heard, StackFault>, AllocError>
-    requires { IsBodyWithin (length tsdu.now) spdu }
+    requires { IsSpduBodyWithin (length tsdu.now) spdu }
     ensures { IfOk result (λ read. IsReadAs (said_by expecting tsdu.now spdu) read) }
 {
     match spdu {

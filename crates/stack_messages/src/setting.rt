@@ -2,13 +2,13 @@
 ghost use Rattle.std.specs.Prelude.{◌≡◌, length, IfOk};
 ghost use Rattle.ber_values.specs.Externals.{IsSpanWithin};
 ghost use Rattle.presentation_profile.specs.Ppdus.{body_of};
-ghost use Rattle.acse_assoc.specs.Seen.{IsBodyWithin, IsSomeWithin};
+ghost use Rattle.acse_assoc.specs.Seen.{IsApduBodyWithin, IsUserBodyWithin};
 ghost use Rattle.stack_messages.specs.Meanings.{IsReadAs, inside};
 ghost use Rattle.stack_messages.specs.Layers.{apdu_at, pdu_at};
-ghost use Rattle.stack_messages.specs.Setting.{initiate_of, initiated_of};
+ghost use Rattle.stack_messages.specs.Setting.{initiate_in_pdu, initiated_of};
 ghost use Rattle.stack_messages.specs.Setting.{initiate_in, aarq_in, offers_in, connect_at};
 ghost use Rattle.stack_messages.specs.Setting.{initiated_in, user_in, aare_in, results_in};
-ghost use Rattle.stack_messages.specs.Setting.{accept_at, asked, answered};
+ghost use Rattle.stack_messages.specs.Setting.{accept_at, request_expected, answer_expected};
 
 use crate::expecting::Expecting;
 use crate::fault::{Layer, StackFault};
@@ -72,7 +72,8 @@ fn read_request(
 ) -> Result<Result<Heard, StackFault>, AllocError>
     requires { IsSpanWithin 0 (length tsdu.now) body }
     ensures { IfOk result (λ read. IsReadAs
-        (inside (apdu_at (asked contexts) tsdu.now body) (aarq_in tsdu.now session called contexts))
+        (inside (apdu_at (request_expected contexts) tsdu.now body)
+        (aarq_in tsdu.now session called contexts))
         read) }
 {
     let expected = acse_assoc::Expected {
@@ -95,7 +96,7 @@ fn read_aarq(
     contexts: Offers,
     apdu: Apdu,
 ) -> Result<Result<Heard, StackFault>, AllocError>
-    requires { IsBodyWithin 0 (length tsdu.now) apdu }
+    requires { IsApduBodyWithin 0 (length tsdu.now) apdu }
     ensures { IfOk result (λ read. IsReadAs (aarq_in tsdu.now session called contexts apdu) read) }
 {
     match apdu {
@@ -152,7 +153,7 @@ fn connecting(
 
 /// The initiate that a PDU is.
 fn initiate_of(pdu: MmsPdu) -> Option<Initiate>
-    ensures { result ≡ initiate_of pdu }
+    ensures { result ≡ initiate_in_pdu pdu }
 {
     match pdu {
         MmsPdu::Initiate(initiate) => Some(initiate),
@@ -206,7 +207,7 @@ fn read_response(
 ) -> Result<Result<Heard, StackFault>, AllocError>
     requires { IsSpanWithin 0 (length tsdu.now) body }
     ensures { IfOk result (λ read. IsReadAs
-        (inside (apdu_at (answered expecting) tsdu.now body) (aare_in tsdu.now acse)) read) }
+        (inside (apdu_at (answer_expected expecting) tsdu.now body) (aare_in tsdu.now acse)) read) }
 {
     let expected = acse_assoc::Expected {
         request_id: None,
@@ -226,7 +227,7 @@ fn read_aare(
     acse: u32,
     apdu: Apdu,
 ) -> Result<Result<Heard, StackFault>, AllocError>
-    requires { IsBodyWithin 0 (length tsdu.now) apdu }
+    requires { IsApduBodyWithin 0 (length tsdu.now) apdu }
     ensures { IfOk result (λ read. IsReadAs (aare_in tsdu.now acse apdu) read) }
 {
     match apdu {
@@ -245,7 +246,7 @@ fn read_user(
     acse: u32,
     user: Option<External>,
 ) -> Result<Result<Heard, StackFault>, AllocError>
-    requires { IsSomeWithin 0 (length tsdu.now) user }
+    requires { IsUserBodyWithin 0 (length tsdu.now) user }
     ensures { IfOk result (λ read. IsReadAs (user_in tsdu.now acse user) read) }
 {
     match user {

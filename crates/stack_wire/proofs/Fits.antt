@@ -10,16 +10,16 @@ use Rattle.presentation_profile.specs.Written.{ppdu_octets}
 use Rattle.tpkt_cotp.specs.Selectors.{HasSelector}
 use Rattle.acse_assoc.specs.declared.apdu.Apdu.{Apdu}
 use Rattle.acse_assoc.specs.declared.apdu.Apdu.TheVariants as apdus
-use Rattle.acse_assoc.specs.Writing.{apdu_octets, IsTitle}
+use Rattle.acse_assoc.specs.Writing.{apdu_octets, IsKeptTitle}
 use Rattle.mms_services.specs.declared.initiate.Initiate.{Initiate}
 use Rattle.mms_services.specs.declared.pdu.MmsPdu.{MmsPdu}
 use Rattle.mms_services.specs.declared.pdu.MmsPdu.TheVariants as pdus
 use Rattle.mms_services.specs.PduOctets.{pdu_octets, pdu_len}
 use Rattle.stack_wire.specs.declared.setup.AssociationSetup.{AssociationSetup}
-use Rattle.stack_wire.specs.Said.{IsTsdu, IsSaid}
+use Rattle.stack_wire.specs.Said.{IsTsdu, IsWiredMessage}
 use Rattle.stack_wire.specs.Setups.{IsSetup}
 use Rattle.stack_wire.specs.Tsdus.{nowhere, own_parameters, own_request, own_offers, accepted}
-use Rattle.stack_wire.specs.Tsdus.{refused}
+use Rattle.stack_wire.specs.Tsdus.{refused_apdu}
 use Rattle.stack_wire.specs.Tsdus.{called_session, called_presentation, carried, connect_tsdu}
 use Rattle.stack_wire.specs.Tsdus.{accept_tsdu, refusal_tsdu, finish_tsdu, release_tsdu, abort_tsdu}
 use Rattle.stack_wire.specs.Tsdus.{data_tsdu}
@@ -27,7 +27,7 @@ use Rattle.stack_wire.proofs.Sizes.{initiate-most, request-most, response-most, 
 use Rattle.stack_wire.proofs.Sizes.{connect-most, accept-most, session_connect-most, written-most}
 use Rattle.stack_wire.proofs.Sizes.{session_accept-most, refuse-most, release-most, abort-most}
 
-pub said_of : (octets : List ℕ) → IsTsdu octets → IsSaid octets
+pub said_of : (octets : List ℕ) → IsTsdu octets → IsWiredMessage octets
 said_of octets fits = record {
   fits = fits;
   said = λ size at least. written_said size at octets (wire size octets)
@@ -40,7 +40,7 @@ pub initiate_pdu-most : (offer : Initiate) → length (pdu_octets (pdus.Initiate
 unfolding pdu_octets
 initiate_pdu-most offer = initiate-most 168 offer
 
-pub own_apdu-most : (title : Option (List ℕ)) → IsTitle title
+pub own_apdu-most : (title : Option (List ℕ)) → IsKeptTitle title
     → length (apdu_octets (own_request title) (pdu_octets (pdus.Initiate own_parameters))) ≤ 177
 own_apdu-most title titled = omega (
   arith,
@@ -52,7 +52,7 @@ abbrev pub own_ppdu : Option (List ℕ) → List ℕ
 own_ppdu title = ppdu_octets (ppdus.Connect (Some called_presentation) own_offers 1 nowhere)
     (apdu_octets (own_request title) (pdu_octets (pdus.Initiate own_parameters)))
 
-pub own_ppdu-most : (title : Option (List ℕ)) → IsTitle title → length (own_ppdu title) ≤ 307
+pub own_ppdu-most : (title : Option (List ℕ)) → IsKeptTitle title → length (own_ppdu title) ≤ 307
 own_ppdu-most title titled = omega (
   arith,
   connect-most (Some called_presentation) 1
@@ -61,7 +61,7 @@ own_ppdu-most title titled = omega (
   own_apdu-most title titled,
 )
 
-pub connect-fits : (title : Option (List ℕ)) → IsTitle title → IsTsdu (connect_tsdu title)
+pub connect-fits : (title : Option (List ℕ)) → IsKeptTitle title → IsTsdu (connect_tsdu title)
 unfolding connect_tsdu
 connect-fits title titled = (
   omega arith,
@@ -115,7 +115,7 @@ accept-fits setup answer is spoken has = (
 
 -- ---- short answers
 
-pub refused-sized : length (apdu_octets refused []) ≡ 23
+pub refused-sized : length (apdu_octets refused_apdu []) ≡ 23
 unfolding ber.length_octets ber.integer_octets
 refused-sized = refl
 
@@ -129,9 +129,9 @@ refusal-fits acse = (
   omega arith,
   omega (
     arith,
-    refuse-most (written 48 (carried acse refused)),
-    written-most 48 (carried acse refused),
-    carried-most acse refused (omega (arith, refused-sized)),
+    refuse-most (written 48 (carried acse refused_apdu)),
+    written-most 48 (carried acse refused_apdu),
+    carried-most acse refused_apdu (omega (arith, refused-sized)),
   ),
 )
 

@@ -13,7 +13,7 @@ use Rattle.presentation_profile.specs.Written.{user_octets}
 use Rattle.acse_assoc.specs.Writing.{apdu_octets, short_octets}
 use Rattle.stack_wire.specs.Layouts.{id_octets, release_layout, abort_layout, refusal_layout}
 use Rattle.stack_wire.specs.Layouts.{abort_packet, AreLaidOut}
-use Rattle.stack_wire.specs.Tsdus.{refused, refusal_tsdu, finish_tsdu, release_tsdu, abort_tsdu}
+use Rattle.stack_wire.specs.Tsdus.{refused_apdu, refusal_tsdu, finish_tsdu, release_tsdu, abort_tsdu}
 
 -- an APDU as data of the context whose id has these contents octets
 abbrev data_of : List ℕ → List ℕ → List ℕ
@@ -23,14 +23,14 @@ record Laid (i : List ℕ) : Type 0 where
   finish : written_form spdus.Finish (data_of i (short_octets 98)) ≡ release_layout 9 98 i
   release : written_form spdus.Disconnect (data_of i (short_octets 99)) ≡ release_layout 10 99 i
   abort : written_form spdus.Abort (written 160 (data_of i (short_octets 100))) ≡ abort_layout i
-  refusal : written_form spdus.Refuse (written 48 (data_of i (apdu_octets refused [])))
+  refusal : written_form spdus.Refuse (written 48 (data_of i (apdu_octets refused_apdu [])))
       ≡ refusal_layout i
   packet : part_octets true (abort_layout i) ≡ abort_packet i
   some : 0 < length (abort_layout i)
   few : length (abort_layout i) ≤ 125
 
 laid_one : (a : ℕ) → Laid (a ∷ [])
-unfolding session.length_octets ber.length_octets ber.integer_octets
+unfolding session.session_length_octets ber.length_octets ber.integer_octets
 laid_one a = record {
   finish = refl;
   release = refl;
@@ -42,7 +42,7 @@ laid_one a = record {
 }
 
 laid_two : (a b : ℕ) → Laid (a ∷ b ∷ [])
-unfolding session.length_octets ber.length_octets ber.integer_octets
+unfolding session.session_length_octets ber.length_octets ber.integer_octets
 laid_two a b = record {
   finish = refl;
   release = refl;
@@ -54,7 +54,7 @@ laid_two a b = record {
 }
 
 laid_three : (a b c : ℕ) → Laid (a ∷ b ∷ c ∷ [])
-unfolding session.length_octets ber.length_octets ber.integer_octets
+unfolding session.session_length_octets ber.length_octets ber.integer_octets
 laid_three a b c = record {
   finish = refl;
   release = refl;
@@ -134,7 +134,7 @@ laid_out id le =
       abort = ap (λ (os : List ℕ). written_form spdus.Abort
           (written 160 (data_of os (short_octets 100)))) i ∙ l.abort;
       refusal = ap (λ (os : List ℕ). written_form spdus.Refuse
-          (written 48 (data_of os (apdu_octets refused [])))) i ∙ l.refusal;
+          (written 48 (data_of os (apdu_octets refused_apdu [])))) i ∙ l.refusal;
     }
 
 -- a TSDU of few octets goes out in one TPKT

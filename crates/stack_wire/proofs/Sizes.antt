@@ -9,7 +9,7 @@ use Rattle.ber_values.specs.Writing.{written, integer_octets, number_size}
 use Rattle.ber_values.proofs.Capped.{length-written, part_size-most}
 use Rattle.ber_values.proofs.Written.{length-integer_octets}
 use Rattle.acse_assoc.specs.Writing as acse
-use Rattle.acse_assoc.specs.Writing.{IsTitle, mms_context}
+use Rattle.acse_assoc.specs.Writing.{IsKeptTitle, mms_context}
 use Rattle.acse_assoc.proofs.Sizes.{context_len}
 use Rattle.mms_services.specs.declared.initiate.Initiate.{Initiate}
 use Rattle.mms_services.specs.Initiates.{initiate_octets, later_octets, last_octets}
@@ -88,7 +88,7 @@ initiate-most tag offer = omega (
 
 -- ---- ACSE
 
-user-most : (id : ℕ) (body : List ℕ) → length (acse.user_octets id body) ≤ length body + 32
+user-most : (id : ℕ) (body : List ℕ) → length (acse.user_information_octets id body) ≤ length body + 32
 user-most id body = omega (
   arith,
   written-most 190 (written 40 (external_octets id body)),
@@ -96,7 +96,7 @@ user-most id body = omega (
   external-most id body,
 )
 
-title-most : (title : Option (List ℕ)) → IsTitle title → length (acse.title_octets title) ≤ 44
+title-most : (title : Option (List ℕ)) → IsKeptTitle title → length (acse.title_octets title) ≤ 44
 title-most None titled = omega arith
 title-most (Some title) titled = omega (
   arith,
@@ -106,16 +106,16 @@ title-most (Some title) titled = omega (
 )
 
 -- a request in the application context of MMS
-pub request-most : (title : Option (List ℕ)) (id : ℕ) (body : List ℕ) → IsTitle title
+pub request-most : (title : Option (List ℕ)) (id : ℕ) (body : List ℕ) → IsKeptTitle title
     → length (written 96 (written 161 (written 6 mms_context)
-    ++ (acse.title_octets title ++ acse.user_octets id body))) ≤ length body + 91
+    ++ (acse.title_octets title ++ acse.user_information_octets id body))) ≤ length body + 91
 request-most title id body titled = omega (
   arith,
   written-most 96 (written 161 (written 6 mms_context)
-      ++ (acse.title_octets title ++ acse.user_octets id body)),
+      ++ (acse.title_octets title ++ acse.user_information_octets id body)),
   length-append (written 161 (written 6 mms_context))
-      (acse.title_octets title ++ acse.user_octets id body),
-  length-append (acse.title_octets title) (acse.user_octets id body),
+      (acse.title_octets title ++ acse.user_information_octets id body),
+  length-append (acse.title_octets title) (acse.user_information_octets id body),
   context_len,
   title-most title titled,
   user-most id body,
@@ -124,16 +124,16 @@ request-most title id body titled = omega (
 -- a response with user information
 pub response-most : (result id : ℕ) (body : List ℕ)
     → length (written 97 (written 161 (written 6 mms_context)
-    ++ (acse.result_octets result ++ (acse.diagnostic result ++ acse.user_octets id body))))
+    ++ (acse.aare_result_octets result ++ (acse.diagnostic result ++ acse.user_information_octets id body))))
     ≤ length body + 74
 response-most result id body = omega (
   arith,
   written-most 97 (written 161 (written 6 mms_context)
-      ++ (acse.result_octets result ++ (acse.diagnostic result ++ acse.user_octets id body))),
+      ++ (acse.aare_result_octets result ++ (acse.diagnostic result ++ acse.user_information_octets id body))),
   length-append (written 161 (written 6 mms_context))
-      (acse.result_octets result ++ (acse.diagnostic result ++ acse.user_octets id body)),
-  length-append (acse.result_octets result) (acse.diagnostic result ++ acse.user_octets id body),
-  length-append (acse.diagnostic result) (acse.user_octets id body),
+      (acse.aare_result_octets result ++ (acse.diagnostic result ++ acse.user_information_octets id body)),
+  length-append (acse.aare_result_octets result) (acse.diagnostic result ++ acse.user_information_octets id body),
+  length-append (acse.diagnostic result) (acse.user_information_octets id body),
   context_len,
   written-most 162 (written 2 (integer_octets (pos result))),
   number-most 2 (pos result),
@@ -164,7 +164,7 @@ set_up-most contents = omega (
 )
 
 selector-most : (tag : ℕ) (selector : Option (List ℕ)) → HasSelector selector
-    → length (presentation.selector_octets tag selector) ≤ 38
+    → length (presentation.selector_element_octets tag selector) ≤ 38
 selector-most tag None has = omega arith
 selector-most tag (Some selector) has = omega (arith, written-most tag selector, has.1)
 
@@ -199,15 +199,15 @@ each-most (result ∷ found) = omega (
 -- a connect with the calling end's offers
 pub connect-most : (called : Option (List ℕ)) (id : ℕ) (body : List ℕ)
     → HasSelector called
-    → length (presentation.set_up_octets (presentation.connect_octets called own_offers id body))
+    → length (presentation.set_up_octets (presentation.connect_ppdu_octets called own_offers id body))
     ≤ length body + 130
-unfolding presentation.connect_octets
+unfolding presentation.connect_ppdu_octets
 connect-most called id body has = omega (
   arith,
-  set_up-most (presentation.connect_octets called own_offers id body),
-  length-append presentation.calling_octets (presentation.selector_octets 130 called
+  set_up-most (presentation.connect_ppdu_octets called own_offers id body),
+  length-append presentation.calling_octets (presentation.selector_element_octets 130 called
       ++ (presentation.offers_octets own_offers ++ presentation.user_octets id body)),
-  length-append (presentation.selector_octets 130 called)
+  length-append (presentation.selector_element_octets 130 called)
       (presentation.offers_octets own_offers ++ presentation.user_octets id body),
   length-append (presentation.offers_octets own_offers) (presentation.user_octets id body),
   calling-sized,
@@ -219,13 +219,13 @@ connect-most called id body has = omega (
 -- an accept with at most 16 results
 pub accept-most : (called : Option (List ℕ)) (found : List ℕ) (id : ℕ) (body : List ℕ)
     → HasSelector called → length found ≤ 16
-    → length (presentation.set_up_octets (presentation.accept_octets called found id body))
+    → length (presentation.set_up_octets (presentation.accept_ppdu_octets called found id body))
     ≤ length body + 237
-unfolding presentation.accept_octets presentation.results_octets
+unfolding presentation.accept_ppdu_octets presentation.results_octets
 accept-most called found id body has few = omega (
   arith,
-  set_up-most (presentation.accept_octets called found id body),
-  length-append (presentation.selector_octets 131 called)
+  set_up-most (presentation.accept_ppdu_octets called found id body),
+  length-append (presentation.selector_element_octets 131 called)
       (presentation.results_octets found ++ presentation.user_octets id body),
   length-append (presentation.results_octets found) (presentation.user_octets id body),
   selector-most 131 called has,
@@ -248,21 +248,21 @@ called-most None has = omega arith
 called-most (Some selector) has = omega (arith, element-most 52 selector, has.1)
 
 pub session_connect-most : (called : Option (List ℕ)) (body : List ℕ) → HasSelector called
-    → length (session.connect_octets called body) ≤ length body + 60
+    → length (session.connect_spdu_octets called body) ≤ length body + 60
 session_connect-most called body has = omega (
   arith,
   element-most 13 (session.front ++ (session.calling ++ session.called_and_data called body)),
-  length-append (session.called_octets called) (session.user_data body),
+  length-append (session.called_octets called) (session.user_data_octets body),
   called-most called has,
   element-most 193 body,
 )
 
 pub session_accept-most : (called : Option (List ℕ)) (body : List ℕ) → HasSelector called
-    → length (session.accept_octets called body) ≤ length body + 56
+    → length (session.accept_spdu_octets called body) ≤ length body + 56
 session_accept-most called body has = omega (
   arith,
   element-most 14 (session.front ++ session.called_and_data called body),
-  length-append (session.called_octets called) (session.user_data body),
+  length-append (session.called_octets called) (session.user_data_octets body),
   called-most called has,
   element-most 193 body,
 )
@@ -275,9 +275,9 @@ refuse-most body = omega (
 )
 
 pub release-most : (code : ℕ) (body : List ℕ)
-    → length (session.release_octets code body) ≤ length body + 8
+    → length (session.release_spdu_octets code body) ≤ length body + 8
 release-most code body =
-    omega (arith, element-most code (session.user_data body), element-most 193 body)
+    omega (arith, element-most code (session.user_data_octets body), element-most 193 body)
 
 pub abort-most : (body : List ℕ) → length (session.abort_octets body) ≤ length body + 11
-abort-most body = omega (arith, element-most 25 (session.released body), element-most 193 body)
+abort-most body = omega (arith, element-most 25 (session.released_user_data body), element-most 193 body)

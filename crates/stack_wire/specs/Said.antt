@@ -10,7 +10,7 @@ abbrev pub IsTsdu : List ℕ → Type 0
 IsTsdu octets = (1 ≤ length octets) × (length octets ≤ TSDU_LIMIT)
 
 -- octets are a TSDU that, cut into TPDUs of any size, spells the one message of it, at any place
-pub record IsSaid (octets : List ℕ) : Type 0 where
+pub record IsWiredMessage (octets : List ℕ) : Type 0 where
   pub fits : IsTsdu octets
   pub said : (size at : ℕ) → 128 ≤ size
       → SpellsMessage Transfer at (tsdu (stream_place at) octets) (wire size octets)

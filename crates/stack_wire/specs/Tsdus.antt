@@ -71,15 +71,15 @@ accept_tsdu setup answer = written_form (spdus.Accept setup.session nowhere)
     (apdu_octets (accepted setup.mms) (pdu_octets (pdus.Initiated answer))))
 
 -- the association is refused for good
-abbrev pub refused : Apdu
-refused = apdus.Aare (record { result = 1; user = None })
+abbrev pub refused_apdu : Apdu
+refused_apdu = apdus.Aare (record { result = 1; user = None })
 
 -- an APDU without a body, as data of the context with this id
 abbrev pub carried : ℕ → Apdu → List ℕ
 carried acse apdu = ppdu_octets (ppdus.Carry acse nowhere) (apdu_octets apdu [])
 
 unfoldable pub refusal_tsdu : ℕ → List ℕ
-refusal_tsdu acse = written_form spdus.Refuse (written 48 (carried acse refused))
+refusal_tsdu acse = written_form spdus.Refuse (written 48 (carried acse refused_apdu))
 
 -- ---- either end, over an association
 

@@ -5,10 +5,11 @@ ghost use Rattle.presentation_profile.specs.declared.ppdu.Ppdu.{Ppdu};
 ghost use Rattle.session_profile.specs.declared.spdu.Spdu.{Spdu};
 ghost use Rattle.tpkt_cotp.specs.Written.{wire};
 ghost use Rattle.mms_services.specs.Initiates.{IsFullInitiate};
-ghost use Rattle.mms_services.specs.PduOctets.{pdu_len, IsWritable};
+ghost use Rattle.mms_services.specs.PduOctets.{pdu_len, IsWritablePdu};
 ghost use Rattle.stack_wire.specs.Said.{IsTsdu};
 ghost use Rattle.stack_wire.specs.Setups.{IsSetup};
-ghost use Rattle.stack_wire.specs.Tsdus.{nowhere, accepted, refused, accept_tsdu, refusal_tsdu};
+ghost use Rattle.stack_wire.specs.Tsdus.{nowhere, accepted, refused_apdu, accept_tsdu};
+ghost use Rattle.stack_wire.specs.Tsdus.{refusal_tsdu};
 ghost use Rattle.stack_wire.specs.Tsdus.{finish_tsdu, release_tsdu, data_tsdu};
 
 use crate::layers::{NOWHERE, apdu_octets, carried, pdu_octets, ppdu_octets, spdu_octets, wrapped};
@@ -50,7 +51,7 @@ fn accepted(setup: &AssociationSetup) -> Apdu
 
 /// The association is refused for good.
 fn refused() -> Apdu
-    ensures { result ≡ refused }
+    ensures { result ≡ refused_apdu }
 {
     Apdu::Aare(AssociateResponse {
         result: 1,
@@ -140,7 +141,7 @@ fn release_tsdu(alloc: Global, acse: u32) -> Result<Vec<u8>, AllocError>
 
 /// The TSDU of a PDU as data.
 fn data_tsdu(alloc: Global, mms: u32, pdu: &MmsPdu) -> Result<Vec<u8>, AllocError>
-    requires writable { IsWritable pdu.now }
+    requires writable { IsWritablePdu pdu.now }
     requires bounded { pdu_len pdu.now ≤ 65000 }
     ensures value { IfOk result (λ octets. octets.items ≡ data_tsdu mms pdu.now) }
     ensures fits { IfOk result (λ octets. IsTsdu octets.items) }
@@ -232,7 +233,7 @@ pub fn write_data(
     pdu: &MmsPdu,
 ) -> Result<(), AllocError>
     requires sized { (128 ≤ size) × (size ≤ 1024) }
-    requires writable { IsWritable pdu.now }
+    requires writable { IsWritablePdu pdu.now }
     requires bounded { pdu_len pdu.now ≤ 65000 }
     ensures ok { OnOk result (out.new.items ≡ out.old.items ++ wire size (data_tsdu mms pdu.now)) }
     ensures err { OnErr result (out.new.items ≡ out.old.items) }

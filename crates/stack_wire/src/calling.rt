@@ -3,7 +3,7 @@ ghost use Rattle.std.specs.Prelude.{◌≡◌, ◌≤◌, ◌++◌, Some, IfOk, 
 ghost use Rattle.tpkt_cotp.specs.Selectors.{IsSelector};
 ghost use Rattle.tpkt_cotp.specs.Written.{wire};
 ghost use Rattle.ber_values.specs.Oid.{IsOid};
-ghost use Rattle.acse_assoc.specs.Writing.{IsTitle};
+ghost use Rattle.acse_assoc.specs.Writing.{IsKeptTitle};
 ghost use Rattle.presentation_profile.specs.declared.ppdu.Ppdu.{Ppdu};
 ghost use Rattle.session_profile.specs.declared.spdu.Spdu.{Spdu};
 ghost use Rattle.stack_wire.specs.Said.{IsTsdu};
@@ -79,7 +79,7 @@ fn own_offers(alloc: Global) -> Result<Offers, AllocError>
 
 fn own_title(alloc: Global, title: &Option<Oid>) -> Result<Option<Oid>, AllocError>
     ensures value { IfOk result (λ own. own ≡ title.now) }
-    ensures titled { IsTitle title.now }
+    ensures titled { IsKeptTitle title.now }
 {
     match title {
         None => Ok(None),
@@ -90,7 +90,7 @@ fn own_title(alloc: Global, title: &Option<Oid>) -> Result<Option<Oid>, AllocErr
 /// The request of the calling end, with this title, if it has one.
 fn own_request(alloc: Global, title: &Option<Oid>) -> Result<Apdu, AllocError>
     ensures value { IfOk result (λ request. request ≡ own_request title.now) }
-    ensures titled { IfOk result (λ request. IsTitle title.now) }
+    ensures titled { IfOk result (λ request. IsKeptTitle title.now) }
 {
     let title = own_title(alloc, title)?;
     let context = Oid::new(Vec::from_slice(alloc, &MMS_CONTEXT)?);

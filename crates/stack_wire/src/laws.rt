@@ -1,7 +1,7 @@
 //! What holds of all that is written.
 ghost use Rattle.std.specs.Prelude.{ℕ, ◌≤◌, ◌<◌, Option, List, length};
 ghost use Rattle.ber_values.specs.Oid.{IsOid};
-ghost use Rattle.acse_assoc.specs.Writing.{IsTitle};
+ghost use Rattle.acse_assoc.specs.Writing.{IsKeptTitle};
 ghost use Rattle.mms_services.specs.declared.initiate.Initiate.{Initiate};
 ghost use Rattle.mms_services.specs.declared.pdu.MmsPdu.{MmsPdu};
 ghost use Rattle.mms_services.specs.PduOctets.{pdu_len};
@@ -9,7 +9,7 @@ ghost use Rattle.tpkt_cotp.specs.Selectors.{HasSelector};
 ghost use Rattle.stack_wire.specs.declared.setup.AssociationSetup.{AssociationSetup};
 ghost use Rattle.stack_wire.specs.Layouts.{AreLaidOut};
 ghost use Rattle.stack_wire.specs.Setups.{IsSetup};
-ghost use Rattle.stack_wire.specs.Said.{IsSaid};
+ghost use Rattle.stack_wire.specs.Said.{IsWiredMessage};
 ghost use Rattle.stack_wire.specs.Tsdus.{connect_tsdu, accept_tsdu, refusal_tsdu, finish_tsdu};
 ghost use Rattle.stack_wire.specs.Tsdus.{release_tsdu, abort_tsdu, data_tsdu};
 
@@ -22,13 +22,15 @@ pub fn answers_are_laid_out()
 /// The TPKTs in which something goes out say exactly its TSDU, wherever they stand after the first
 /// TPDU.
 pub fn what_is_written_is_said()
-    ensures connect { (title : Option (List ℕ)) → IsTitle title → IsSaid (connect_tsdu title) }
+    ensures connect { (title : Option (List ℕ)) → IsKeptTitle title
+        → IsWiredMessage (connect_tsdu title) }
     ensures accept { (setup : AssociationSetup) (answer : Initiate) → IsSetup setup
         → HasSelector setup.session → HasSelector setup.presentation
-        → IsSaid (accept_tsdu setup answer) }
-    ensures refusal { (acse : ℕ) → IsSaid (refusal_tsdu acse) }
-    ensures finish { (acse : ℕ) → IsSaid (finish_tsdu acse) }
-    ensures release { (acse : ℕ) → IsSaid (release_tsdu acse) }
-    ensures abort { (acse : ℕ) → IsSaid (abort_tsdu acse) }
-    ensures pdu { (mms : ℕ) (pdu : MmsPdu) → pdu_len pdu ≤ 65000 → IsSaid (data_tsdu mms pdu) }
+        → IsWiredMessage (accept_tsdu setup answer) }
+    ensures refusal { (acse : ℕ) → IsWiredMessage (refusal_tsdu acse) }
+    ensures finish { (acse : ℕ) → IsWiredMessage (finish_tsdu acse) }
+    ensures release { (acse : ℕ) → IsWiredMessage (release_tsdu acse) }
+    ensures abort { (acse : ℕ) → IsWiredMessage (abort_tsdu acse) }
+    ensures pdu { (mms : ℕ) (pdu : MmsPdu) → pdu_len pdu ≤ 65000
+        → IsWiredMessage (data_tsdu mms pdu) }
 {}

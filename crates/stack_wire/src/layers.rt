@@ -21,7 +21,7 @@ pub(crate) const NOWHERE: Span = Span { from: 0, to: 0 };
 
 /// The octets of a PDU.
 pub(crate) fn pdu_octets(alloc: Global, pdu: &MmsPdu) -> Result<Vec<u8>, AllocError>
-    requires writable { mms.IsWritable pdu.now }
+    requires writable { mms.IsWritablePdu pdu.now }
     requires bounded { mms.pdu_len pdu.now < MOST_LENGTH }
     ensures { IfOk result (λ octets. octets.items ≡ mms.pdu_octets pdu.now) }
 {
@@ -32,7 +32,7 @@ pub(crate) fn pdu_octets(alloc: Global, pdu: &MmsPdu) -> Result<Vec<u8>, AllocEr
 
 /// The octets of an APDU with this body.
 pub(crate) fn apdu_octets(alloc: Global, apdu: &Apdu, body: &[u8]) -> Result<Vec<u8>, AllocError>
-    requires writable { association.IsWritable apdu.now }
+    requires writable { association.IsWritableApdu apdu.now }
     requires bounded { length body.now ≤ 65400 }
     ensures { IfOk result (λ octets. octets.items ≡ association.apdu_octets apdu.now body.now) }
 {
@@ -43,7 +43,7 @@ pub(crate) fn apdu_octets(alloc: Global, apdu: &Apdu, body: &[u8]) -> Result<Vec
 
 /// The octets of a PPDU with this body.
 pub(crate) fn ppdu_octets(alloc: Global, ppdu: &Ppdu, body: &[u8]) -> Result<Vec<u8>, AllocError>
-    requires writable { presentation.IsWritable ppdu.now }
+    requires writable { presentation.IsWritablePpdu ppdu.now }
     requires bounded { length body.now ≤ 65400 }
     ensures { IfOk result (λ octets. octets.items ≡ presentation.ppdu_octets ppdu.now body.now) }
 {
@@ -65,7 +65,7 @@ pub(crate) fn spdu_octets(alloc: Global, spdu: &Spdu, body: &[u8]) -> Result<Vec
 
 /// The octets of an APDU without a body, as data of the context with this id.
 pub(crate) fn carried(alloc: Global, acse: u32, apdu: &Apdu) -> Result<Vec<u8>, AllocError>
-    requires writable { association.IsWritable apdu.now }
+    requires writable { association.IsWritableApdu apdu.now }
     requires short { length (association.apdu_octets apdu.now []) ≤ 200 }
     ensures value { IfOk result (λ octets. octets.items ≡ carried acse apdu.now) }
     ensures short { IfOk result (λ octets. length octets.items ≤ 232) }

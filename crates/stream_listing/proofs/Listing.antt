@@ -12,19 +12,19 @@ use Rattle.tpkt_cotp.specs.Goings.{stream_of, HandsOut}
 use Rattle.stack_messages.specs.declared.fault.StackFault.{StackFault}
 use Rattle.stream_listing.specs.declared.hearing.ListedMessage.{ListedMessage}
 use Rattle.stream_listing.specs.Lines.{at_line, rest_line, fault_line}
-use Rattle.stream_listing.specs.Hearing.{told_in, first_of, context_told, context_of}
-use Rattle.stream_listing.specs.Listings.{Listing, with_text, broken_by, transport_fault}
+use Rattle.stream_listing.specs.Hearing.{told_in, either_of, context_told, context_of}
+use Rattle.stream_listing.specs.Listings.{Listing, with_text, broken_by, listed_transport_fault}
 use Rattle.stream_listing.specs.Listings.{end_listing, listed_before, list_after, listing_of, State}
-use Rattle.stream_listing.specs.Listings.{list_from, yet_listed, Lists, ListsPiece, Finishes, state}
+use Rattle.stream_listing.specs.Listings.{list_from, yet_listed, Lists, ListsPiece, FinishesListing, state}
 use Rattle.stream_listing.specs.Listings.{IsAtRest, IsListed}
 
 -- the id that counts after one message more
 context_of-push : (before : List Message) (m : Message)
     → context_of (before ++ m ∷ [])
-    ≡ first_of (context_of before) (context_told (told_in (context_of before) m))
+    ≡ either_of (context_of before) (context_told (told_in (context_of before) m))
 context_of-push [] m = here (context_told (told_in None m))
   where
-    here : (told : Option ℕ) → first_of told None ≡ told
+    here : (told : Option ℕ) → either_of told None ≡ told
     here (Some c) = refl
     here None = refl
 context_of-push (b ∷ before) m =
@@ -32,10 +32,10 @@ context_of-push (b ∷ before) m =
   where
     here : (told : Option ℕ)
         → context_of (before ++ m ∷ [])
-        ≡ first_of (context_of before) (context_told (told_in (context_of before) m))
-        → first_of told (context_of (before ++ m ∷ []))
-        ≡ first_of (first_of told (context_of before))
-        (context_told (told_in (first_of told (context_of before)) m))
+        ≡ either_of (context_of before) (context_told (told_in (context_of before) m))
+        → either_of told (context_of (before ++ m ∷ []))
+        ≡ either_of (either_of told (context_of before))
+        (context_told (told_in (either_of told (context_of before)) m))
     here (Some c) others = refl
     here None others = others
 
@@ -108,9 +108,9 @@ lists_message t u m context now size before after broken hands sized listed =
           ap (of_stream context) (hands more)
           ∙ ap (λ (r : Result ListedMessage StackFault). listed_before (record
           { message = message_seen m; place = t.start; next = u.start }) r
-          (of_stream (first_of context (context_told r)) (stream_of (fed u more)))) at
+          (of_stream (either_of context (context_told r)) (stream_of (fed u more)))) at
           ∙ ap (λ (n : ℕ). with_text (at_line t.start told.name n)
-          (of_stream (first_of context told.context) (stream_of (fed u more)))) (sym sized)
+          (of_stream (either_of context told.context) (stream_of (fed u more)))) (sym sized)
           ∙ ap (λ (c : Option ℕ). with_text (at_line t.start told.name size)
           (of_stream c (stream_of (fed u more)))) (sym is.1)
           ∙ ap (λ (b : Bool). with_text (at_line t.start told.name size)
@@ -123,7 +123,7 @@ lists_message t u m context now size before after broken hands sized listed =
           ap (of_stream context) (hands more)
           ∙ ap (λ (r : Result ListedMessage StackFault). listed_before (record
           { message = message_seen m; place = t.start; next = u.start }) r
-          (of_stream (first_of context (context_told r)) (stream_of (fed u more)))) at
+          (of_stream (either_of context (context_told r)) (stream_of (fed u more)))) at
           ∙ broken_alone f
           ∙ ap (λ (b : Bool). with_text (fault_line f) (yet_listed (state u now b) more))
           (sym is.0);
@@ -143,12 +143,12 @@ rest_at t u hands = record { settled = hands.2; rest = hands.1 }
 
 -- a fault of the transport
 pub lists_fault : (t u : Line) (f : CotpFault) (context : Option ℕ) (before after : List ℕ)
-    → HandsOut t (Err f) u → after ≡ before ++ fault_line (transport_fault f)
+    → HandsOut t (Err f) u → after ≡ before ++ fault_line (listed_transport_fault f)
     → Lists (state t context false) (state u context true) before after
 lists_fault t u f context before after hands is = record {
-  added = fault_line (transport_fault f);
+  added = fault_line (listed_transport_fault f);
   is = is;
-  goes = λ more. ap (of_stream context) (hands more).0 ∙ broken_alone (transport_fault f);
+  goes = λ more. ap (of_stream context) (hands more).0 ∙ broken_alone (listed_transport_fault f);
 }
 
 fed_to-twice : (fault : Option CotpFault) (unread piece more : List ℕ)
@@ -202,7 +202,7 @@ ended_piece s piece x is = record {
     nothing s octets is = ap (λ (b : Bool). cond b (listing_with true [])
         (of_stream s.context (stream_of (fed s.line octets)))) is
 
-pub ended_finish : (s : State) (x : List ℕ) → s.ended ≡ true → Finishes s x x true
+pub ended_finish : (s : State) (x : List ℕ) → s.ended ≡ true → FinishesListing s x x true
 ended_finish s x is = record {
   added = [];
   is = sym (append-nil x);
@@ -211,7 +211,7 @@ ended_finish s x is = record {
 }
 
 pub broken_finish : (s : State) (u : Line) (now : Option ℕ) (before after : List ℕ)
-    → Lists s (state u now true) before after → Finishes s before after true
+    → Lists s (state u now true) before after → FinishesListing s before after true
 broken_finish s u now before after lists = record {
   added = lists.added;
   is = lists.is;
@@ -221,7 +221,7 @@ broken_finish s u now before after lists = record {
 pub rest_finish : (s : State) (u : Line) (now : Option ℕ) (count : ℕ)
     (before mid after : List ℕ) → Lists s (state u now false) before mid → IsAtRest u
     → count ≡ stream_place (u.place + length u.unread) - u.start → after ≡ mid ++ rest_line count
-    → Finishes s before after false
+    → FinishesListing s before after false
 rest_finish s u now count before mid after lists rest counted is = record {
   added = lists.added ++ rest_line count;
   is = is ∙ ap (λ (os : List ℕ). os ++ rest_line count) lists.is

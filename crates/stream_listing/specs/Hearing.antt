@@ -1,5 +1,6 @@
 -- What is told of the messages of a captured stream.
-use Rattle.std.specs.Prelude.{ℕ, false, List, [], ◌∷◌, Option, Some, None, unwrap_or, Result, Ok, Err}
+use Rattle.std.specs.Prelude.{ℕ, false, List, [], ◌∷◌, Option, Some, None, unwrap_or, Result, Ok}
+use Rattle.std.specs.Prelude.{Err}
 use Rattle.std.specs.Prelude.{◌⊎◌}
 use Rattle.std.proofs.Common.{inl, inr}
 use Rattle.tpkt_cotp.specs.Streams.{Message, asks, confirms, gone, tsdu}
@@ -18,7 +19,8 @@ use Rattle.stream_listing.specs.Names.{heard_name}
 use Rattle.stack_messages.proofs.OneMessage.{one_message}
 
 -- the one thing that octets say, or their first fault
-abbrev pub the_one : {X : Type 0} (meaning : Meaning X) → HasOneMeaning meaning → Result X StackFault
+abbrev pub the_one : {X : Type 0} (meaning : Meaning X) → HasOneMeaning meaning
+    → Result X StackFault
 the_one meaning (inl says) = Ok says.0.0
 the_one meaning (inr breaks) = Err breaks.1.0
 
@@ -50,26 +52,26 @@ context_in heard.AbortAccept = None
 context_in (heard.Pdu pdu) = None
 context_in (heard.BadRequest invoke) = None
 
-abbrev pub told_by : Result Heard StackFault → Result ListedMessage StackFault
-told_by (Ok h) = Ok (record { name = heard_name h; context = context_in h })
-told_by (Err f) = Err f
+abbrev pub listing_told_by : Result Heard StackFault → Result ListedMessage StackFault
+listing_told_by (Ok h) = Ok (record { name = heard_name h; context = context_in h })
+listing_told_by (Err f) = Err f
 
 -- what is told of a message, where this id counts
 abbrev pub told_in : Option ℕ → Message → Result ListedMessage StackFault
 told_in context (asks request) = Ok (record { name = names.Cr; context = None })
 told_in context (confirms confirm) = Ok (record { name = names.Cc; context = None })
 told_in context gone = Ok (record { name = names.Dr; context = None })
-told_in context (tsdu place octets) = told_by (message_in (expecting context) octets)
+told_in context (tsdu place octets) = listing_told_by (message_in (expecting context) octets)
 
 abbrev pub context_told : Result ListedMessage StackFault → Option ℕ
 context_told (Ok told) = told.context
 context_told (Err f) = None
 
-abbrev pub first_of : Option ℕ → Option ℕ → Option ℕ
-first_of (Some context) other = Some context
-first_of None other = other
+abbrev pub either_of : Option ℕ → Option ℕ → Option ℕ
+either_of (Some context) other = Some context
+either_of None other = other
 
 -- the id that counts after some messages: the one that the first message tells that tells one
 abbrev pub context_of : List Message → Option ℕ
 context_of [] = None
-context_of (m ∷ ms) = first_of (context_told (told_in None m)) (context_of ms)
+context_of (m ∷ ms) = either_of (context_told (told_in None m)) (context_of ms)

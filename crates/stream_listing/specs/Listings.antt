@@ -1,17 +1,18 @@
 -- The listing of a captured stream.
-use Rattle.std.specs.Prelude.{◌≡◌, ℕ, ◌+◌, ◌-◌, length, Bool, true, false, if◌then◌else◌, List, [], ◌∷◌, ◌++◌}
+use Rattle.std.specs.Prelude.{◌≡◌, ℕ, ◌+◌, ◌-◌, length, Bool, true, false, if◌then◌else◌, List, []}
+use Rattle.std.specs.Prelude.{◌∷◌, ◌++◌}
 use Rattle.std.specs.Prelude.{Option, Some, None, Result, Ok, Err}
 use Rattle.tpkt_cotp.specs.declared.turn.Role.TheVariants.{Either}
 use Rattle.tpkt_cotp.specs.declared.fault.CotpFault.{CotpFault}
 use Rattle.tpkt_cotp.specs.Streams.{Message, stream_place}
-use Rattle.tpkt_cotp.specs.Lines.{Line, IsSettled, fed}
+use Rattle.tpkt_cotp.specs.Lines.{Line, IsLineSettled, fed}
 use Rattle.tpkt_cotp.specs.Places.{Placed, End, left, stopped, ended, stream_in}
 use Rattle.tpkt_cotp.specs.Goings.{stream_of}
 use Rattle.stack_messages.specs.declared.fault.Layer.TheVariants as layers
 use Rattle.stack_messages.specs.declared.fault.StackFault.{StackFault}
 use Rattle.stream_listing.specs.declared.hearing.ListedMessage.{ListedMessage}
 use Rattle.stream_listing.specs.Lines.{at_line, rest_line, fault_line}
-use Rattle.stream_listing.specs.Hearing.{told_in, first_of, context_told, context_of}
+use Rattle.stream_listing.specs.Hearing.{told_in, either_of, context_told, context_of}
 
 -- the lines, and whether the last one tells a fault
 pub record Listing : Type 0 where
@@ -27,13 +28,13 @@ abbrev pub broken_by : StackFault → Listing
 broken_by f = record { text = fault_line f; broken = true }
 
 -- a fault of the transport
-abbrev pub transport_fault : CotpFault → StackFault
-transport_fault f = record { layer = layers.Transport; place = f.place; why = f.why }
+abbrev pub listed_transport_fault : CotpFault → StackFault
+listed_transport_fault f = record { layer = layers.Transport; place = f.place; why = f.why }
 
 -- behind the last message
 abbrev pub end_listing : End → Listing
 end_listing (left count) = record { text = rest_line count; broken = false }
-end_listing (stopped f) = broken_by (transport_fault f)
+end_listing (stopped f) = broken_by (listed_transport_fault f)
 
 -- a message with what is told of it, and what is listed behind it
 abbrev pub listed_before : Placed → Result ListedMessage StackFault → Listing → Listing
@@ -64,7 +65,7 @@ pub record State : Type 0 where
 abbrev pub list_from : Option ℕ → List Placed → End → Listing
 list_from context [] end = end_listing end
 list_from context (p ∷ ps) end = listed_before p (told_in context p.message)
-    (list_from (first_of context (context_told (told_in context p.message))) ps end)
+    (list_from (either_of context (context_told (told_in context p.message))) ps end)
 
 -- what is yet to be listed, where these octets are still to come
 abbrev pub yet_listed : State → List ℕ → Listing
@@ -85,7 +86,7 @@ pub record ListsPiece (old new : State) (piece before after : List ℕ) : Type 0
       → yet_listed old (piece ++ more) ≡ with_text added (yet_listed new more)
 
 -- where nothing more comes, what was yet to be listed is added
-pub record Finishes (old : State) (before after : List ℕ) (broken : Bool) : Type 0 where
+pub record FinishesListing (old : State) (before after : List ℕ) (broken : Bool) : Type 0 where
   pub added : List ℕ
   pub is : after ≡ before ++ added
   pub ends : yet_listed old [] ≡ record { text = added; broken = broken }
@@ -95,13 +96,13 @@ state line context ended = record { line = line; context = context; ended = ende
 
 -- no message is left in a transport, and it may be fed
 pub record IsAtRest (t : Line) : Type 0 where
-  pub settled : IsSettled t
+  pub settled : IsLineSettled t
   pub rest : stream_of t ≡ ended (left (stream_place (t.place + length t.unread) - t.start))
 
 -- what was added for a message, of which this is told, and the id that counts after it
 abbrev pub IsListed : Result ListedMessage StackFault → ℕ → ℕ → Option ℕ → Option ℕ → List ℕ
     → List ℕ → Bool → Type 0
 IsListed (Ok told) place size context now before after broken = (broken ≡ false)
-    × (now ≡ first_of context told.context) × (after ≡ before ++ at_line place told.name size)
+    × (now ≡ either_of context told.context) × (after ≡ before ++ at_line place told.name size)
 IsListed (Err f) place size context now before after broken = (broken ≡ true)
     × (after ≡ before ++ fault_line f)

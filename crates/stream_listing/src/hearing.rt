@@ -63,7 +63,7 @@ fn tell_tsdu(
     tsdu: &[u8],
 ) -> Result<Result<ListedMessage, StackFault>, AllocError>
     ensures { IfOk result (λ told.
-        told ≡ spec.told_by (spec.message_in (spec.expecting context) tsdu.now)) }
+        told ≡ spec.listing_told_by (spec.message_in (spec.expecting context) tsdu.now)) }
 {
     match hear(alloc, context, tsdu)? {
         Ok(heard) => Ok(Ok(ListedMessage {

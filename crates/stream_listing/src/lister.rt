@@ -7,7 +7,7 @@ ghost use Rattle.stream_listing.specs.Hearing as spec;
 ghost use Rattle.stream_listing.specs.Hearing.{told_in};
 ghost use Rattle.stream_listing.specs.Listings as listings;
 ghost use Rattle.stream_listing.specs.Listings.{State, listing_of, state, yet_listed, Lists};
-ghost use Rattle.stream_listing.specs.Listings.{ListsPiece, Finishes, IsListed, IsAtRest};
+ghost use Rattle.stream_listing.specs.Listings.{ListsPiece, FinishesListing, IsListed, IsAtRest};
 
 use crate::hearing::tell;
 use crate::lines::{put_fault, put_message, put_rest};
@@ -28,7 +28,7 @@ pub struct Lister {
 
 impl Model for Lister {
     ghost use Rattle.std.specs.Prelude.{◌≡◌, false};
-    ghost use Rattle.tpkt_cotp.specs.Lines.{IsSettled};
+    ghost use Rattle.tpkt_cotp.specs.Lines.{IsLineSettled};
     ghost use Rattle.stream_listing.specs.Listings.{State};
 
     ghost Value = { State };
@@ -39,7 +39,7 @@ impl Model for Lister {
       ended = l.ended;
     } };
 
-    ghost invariant = { λ l. l.ended ≡ false → IsSettled l.transport };
+    ghost invariant = { λ l. l.ended ≡ false → IsLineSettled l.transport };
 }
 
 impl Lister {
@@ -95,7 +95,7 @@ impl Lister {
     /// as after a piece.
     pub fn finish(self, out: &mut Vec<u8>) -> Result<bool, AllocError>
         ensures finishes { IfOk result (λ broken.
-            Finishes self out.old.items out.new.items broken) }
+            FinishesListing self out.old.items out.new.items broken) }
         ensures cut { OnErr result ((now : State) × Lists self now out.old.items out.new.items) }
     {
         let Lister {
@@ -174,7 +174,7 @@ fn list_message(
 }
 
 fn first_of(context: Option<u32>, other: Option<u32>) -> Option<u32>
-    ensures { result ≡ spec.first_of context other }
+    ensures { result ≡ spec.either_of context other }
 {
     match context {
         Some(context) => Some(context),
@@ -184,7 +184,7 @@ fn first_of(context: Option<u32>, other: Option<u32>) -> Option<u32>
 
 /// A fault of the transport.
 fn transport_fault(fault: CotpFault) -> StackFault
-    ensures { result ≡ listings.transport_fault fault }
+    ensures { result ≡ listings.listed_transport_fault fault }
 {
     StackFault {
         layer: Layer::Transport,

@@ -44,7 +44,7 @@ pub enum MessageName {
 impl MessageName {
     /// As it is printed.
     pub fn as_str(self) -> &'static str
-        ensures { result.now ≡ spec.name_text self }
+        ensures { result.now ≡ spec.message_name_text self }
     {
         match self {
             MessageName::Cr => "cr",

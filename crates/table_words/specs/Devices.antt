@@ -3,23 +3,23 @@ use Rattle.std.specs.Prelude.{◌≡◌, ℕ, Bool, true, false, IsTrue, ◌&&�
 use Rattle.std.specs.Prelude.{◌∷◌, Option, Some, None, ℤ, pos, negsuc, int_le, option_and_then}
 use Rattle.std.specs.Prelude.{bytes_eq, codes}
 use Rattle.std.specs.Option.{option_map}
-use Rattle.plain_text.specs.Numbers.{integer_within}
+use Rattle.plain_text.specs.Numbers.{integer_word_within}
 use Rattle.sbo_device.specs.declared.kind.CommandKind.{CommandKind}
 use Rattle.sbo_device.specs.declared.kind.CommandKind.TheVariants.{Command, Setpoint}
 use Rattle.table_words.specs.declared.device_form.DeviceForm.{DeviceForm}
 
 -- the signed number of 16 bits that a word is
 abbrev pub short_in : List ℕ → Option ℤ
-short_in word = integer_within (negsuc 32767) (pos 32767) word
+short_in word = integer_word_within (negsuc 32767) (pos 32767) word
 
 -- a number, and 0 for one below
-abbrev pub natural : ℤ → ℕ
-natural (pos n) = n
-natural (negsuc n) = 0
+abbrev pub natural_of : ℤ → ℕ
+natural_of (pos n) = n
+natural_of (negsuc n) = 0
 
 -- the span that a word is: a signed number of 32 bits, which below 0 counts as 0
 abbrev pub span_in : List ℕ → Option ℕ
-span_in word = option_map natural (integer_within (negsuc 2147483647) (pos 2147483647) word)
+span_in word = option_map natural_of (integer_word_within (negsuc 2147483647) (pos 2147483647) word)
 
 -- a setpoint's range, if its lowest value isn't above its highest
 abbrev pub range_of : ℤ → ℤ → Option CommandKind
@@ -75,7 +75,7 @@ abbrev pub IsRange : CommandKind → Type 0
 IsRange kind = IsTrue (is_range kind)
 
 -- what a line of a device keeps
-pub record IsForm (form : DeviceForm) : Type 0 where
+pub record IsDeviceLine (form : DeviceForm) : Type 0 where
   pub range : IsRange form.kind
   pub short : IsTrue (is_short form.checkback)
   pub no_checkback : IsTrue form.direct → form.checkback ≡ pos 0

@@ -63,8 +63,8 @@ kind_in word =
     else (if bytes_eq word (codes "real") then Some Real else None))
 
 -- whether a scope is the whole device; otherwise it is the table's domain
-abbrev pub scope_in : List ℕ → Option Bool
-scope_in word =
+abbrev pub whole_scope_in : List ℕ → Option Bool
+whole_scope_in word =
     if bytes_eq word (codes "vmd") then Some true
     else (if bytes_eq word (codes "domain") then Some false else None)
 

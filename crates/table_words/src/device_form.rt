@@ -2,7 +2,7 @@
 ghost use Rattle.std.specs.Prelude.{◌≡◌, IfSome};
 ghost use Rattle.plain_text.specs.Words.{words};
 ghost use Rattle.table_words.specs.Devices.{form_in, sbo_form, direct_form, order_in, range_in};
-ghost use Rattle.table_words.specs.Devices.{natural, short_in, span_in, IsRange, IsForm};
+ghost use Rattle.table_words.specs.Devices.{natural_of, short_in, span_in, IsRange, IsDeviceLine};
 
 use plain_text::{next_word, read_integer, two_words};
 use sbo_device::CommandKind;
@@ -20,7 +20,7 @@ pub struct DeviceForm {
 /// `setpoint LOW HIGH`.
 pub fn read_device_form(text: &[u8]) -> Option<DeviceForm>
     ensures value { result ≡ order_in (words text.now) }
-    ensures lawful { IfSome result IsForm }
+    ensures lawful { IfSome result IsDeviceLine }
 {
     let (command, more) = next_word(text)?;
     if command == b"command".as_slice() {
@@ -59,7 +59,7 @@ fn read_short(word: &[u8]) -> Option<i16>
 fn read_form(kind: CommandKind, text: &[u8]) -> Option<DeviceForm>
     requires { IsRange kind }
     ensures value { result ≡ form_in kind (words text.now) }
-    ensures lawful { IfSome result IsForm }
+    ensures lawful { IfSome result IsDeviceLine }
 {
     let (mode, more) = next_word(text)?;
     if mode == b"sbo".as_slice() {
@@ -75,7 +75,7 @@ fn read_form(kind: CommandKind, text: &[u8]) -> Option<DeviceForm>
 fn read_sbo(kind: CommandKind, text: &[u8]) -> Option<DeviceForm>
     requires { IsRange kind }
     ensures value { result ≡ sbo_form kind (words text.now) }
-    ensures lawful { IfSome result IsForm }
+    ensures lawful { IfSome result IsDeviceLine }
 {
     let (checkback, span) = two_words(text)?;
     let checkback = read_short(checkback)?;
@@ -92,7 +92,7 @@ fn read_sbo(kind: CommandKind, text: &[u8]) -> Option<DeviceForm>
 fn read_direct(kind: CommandKind, text: &[u8]) -> Option<DeviceForm>
     requires { IsRange kind }
     ensures value { result ≡ direct_form kind (words text.now) }
-    ensures lawful { IfSome result IsForm }
+    ensures lawful { IfSome result IsDeviceLine }
 {
     match next_word(text) {
         Some(_) => None,
@@ -113,7 +113,7 @@ fn read_span(word: &[u8]) -> Option<u64>
 }
 
 fn not_below_zero(number: i64) -> u64
-    ensures { result ≡ natural number }
+    ensures { result ≡ natural_of number }
 {
     if number < 0 { 0 } else { number as u64 }
 }

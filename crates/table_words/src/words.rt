@@ -106,7 +106,7 @@ pub fn read_kind(word: &[u8]) -> Option<Kind>
 
 /// Whether a scope is the whole device; otherwise it is the table's domain.
 pub fn read_scope(word: &[u8]) -> Option<bool>
-    ensures { result ≡ own.scope_in word.now }
+    ensures { result ≡ own.whole_scope_in word.now }
 {
     if word == b"vmd".as_slice() {
         Some(true)

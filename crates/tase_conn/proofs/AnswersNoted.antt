@@ -27,9 +27,9 @@ use Rattle.stack_assoc.specs.declared.input.StackState.TheVariants as states
 use Rattle.stack_assoc.specs.declared.end_state.EndState.{EndState}
 use Rattle.stack_assoc.specs.declared.end_state.EndState.TheVariants as standings
 use Rattle.stack_assoc.specs.Arrivals.{Arrival, Role, called, first_in, connect_in}
-use Rattle.stack_assoc.specs.Tellings.{Stops}
-use Rattle.stack_assoc.specs.Courses.{Course, Stands, Reads, state_of, state_with, state_by}
-use Rattle.stack_assoc.specs.Saying.{with_standing, with_said, role_by, is_conclude, may_leave}
+use Rattle.stack_assoc.specs.Tellings.{StopsTelling}
+use Rattle.stack_assoc.specs.Courses.{Course, CourseStands, ReadsMessages, stack_state_of, state_with, state_by}
+use Rattle.stack_assoc.specs.Saying.{with_standing, with_said, role_by, says_conclude, may_leave}
 use Rattle.stack_assoc.specs.Saying.{leaving}
 use Rattle.stack_assoc.proofs.SaidMore.{stands_standing, stands_said}
 use Rattle.tase_views.specs.declared.reply.Answer.{Answer}
@@ -135,7 +135,7 @@ accepted_so invoke (stages.Closed peer) held s f w e g = absurd w
 
 -- the association stands while a request waits
 pub requesting_accepted : (invoke : ℕ) (v : Talking) → Waits (askeds.Requesting invoke) v
-    → state_of v.course ≡ states.Accepted
+    → stack_state_of v.course ≡ states.Accepted
 requesting_accepted invoke v w = accepted_so invoke v.stage v.held v.course.standing v.course.fault
     w.4.waits w.4.standing w.4.fault
 
@@ -253,11 +253,11 @@ role_called false told = refl
 
 -- the called end has said it, and stands where it stood
 pub said_stands : (octets : List ℕ) (told : List Arrival) (course : Course) (pdu : MmsPdu)
-    → course.fault ≡ None → Stands called octets told course
-    → Stands called octets told (with_said pdu course)
+    → course.fault ≡ None → CourseStands called octets told course
+    → CourseStands called octets told (with_said pdu course)
 said_stands octets told course pdu clear s =
-    subst (λ (role : Role). Stands role octets told (with_said pdu course))
-    (role_called (is_conclude pdu) told)
+    subst (λ (role : Role). CourseStands role octets told (with_said pdu course))
+    (role_called (says_conclude pdu) told)
     (stands_said called octets told course (with_said pdu course) pdu clear s refl)
 
 requesting_noted : (rows : CentreRows) (items : List Item) (told : List Arrival) (turns : List Turn)
@@ -363,8 +363,8 @@ whole_for rows items turns cause e w b =
     ∙ up_to_whole rows turns b.0 (turn_for cause) w (last_for rows cause e)
 
 broken_so : (items : List Item) (told : List Arrival) (course : Course) (f : Option StackFault)
-    (fault : StackFault) → f ≡ Some fault → MatchOption f (Reads called (text_of items) told course)
-    (λ g. Stops called (text_of items) told g)
+    (fault : StackFault) → f ≡ Some fault → MatchOption f (ReadsMessages called (text_of items) told course)
+    (λ g. StopsTelling called (text_of items) told g)
     → (reading_of (text_of items)).broken ≡ Some fault
 broken_so items told course None fault e r = absurd cc
 broken_so items told course (Some g) fault e r =

@@ -18,10 +18,10 @@ use Rattle.stack_messages.specs.declared.fault.StackFault.{StackFault}
 use Rattle.stack_wire.specs.declared.setup.AssociationSetup.{AssociationSetup}
 use Rattle.stack_assoc.specs.declared.input.StackIn.TheVariants as inputs
 use Rattle.stack_assoc.specs.Arrivals.{Arrival, called}
-use Rattle.stack_assoc.specs.Courses.{Stands, is_accepted}
+use Rattle.stack_assoc.specs.Courses.{CourseStands, is_accepted}
 use Rattle.stack_assoc.specs.Courses as courses
-use Rattle.stack_assoc.specs.Tellings.{Stops}
-use Rattle.stack_assoc.specs.Handing.{is_below, is_too_little}
+use Rattle.stack_assoc.specs.Tellings.{StopsTelling}
+use Rattle.stack_assoc.specs.Handing.{is_offered_below, is_too_little}
 use Rattle.stack_assoc.specs.Expectations.{setup_after}
 use Rattle.tase_views.specs.declared.event.EventKind.TheVariants as events
 use Rattle.tase_map.specs.Asked.{call_in, invalid}
@@ -86,7 +86,7 @@ asks_open rows told turns title initiate offered peer (stages.Closed p) due plac
 no_less : (a b : ℤ) → int_lt a b ≡ false → a <ℤ b → ⊥
 no_less a b e h = omega (arith, ints)
 
-no_below : (least : ℤ) (number : Option ℤ) → is_below least number ≡ false
+no_below : (least : ℤ) (number : Option ℤ) → is_offered_below least number ≡ false
     → IsBelow least number → ⊥
 no_below least None e h = h
 no_below least (Some number) e h = no_less number least e h
@@ -111,10 +111,10 @@ is_enough i e h = elim h [
     called = int_lt i.called (pos 1)
 
     detail : Bool
-    detail = is_below LEAST_DETAIL i.detail
+    detail = is_offered_below LEAST_DETAIL i.detail
 
     nesting : Bool
-    nesting = is_below (pos 1) i.nesting
+    nesting = is_offered_below (pos 1) i.nesting
 
     rest : Bool
     rest = detail || nesting
@@ -391,13 +391,13 @@ ends_linked rows items told turns e all = record {
 
 -- the rule that was broken is the one that the octets break
 pub broken_is : (items : List Item) (told : List Arrival) (fault : StackFault) (v : Talking)
-    → Stands called (text_of items) told v.course → v.course.fault ≡ Some fault
+    → CourseStands called (text_of items) told v.course → v.course.fault ≡ Some fault
     → (reading_of (text_of items)).broken ≡ Some fault
 broken_is items told fault v s e =
     ap (λ r. r.broken) (reading_only (text_of items) told (Some fault)
     (subst (λ (f : Option StackFault). MatchOption f
-    (courses.Reads called (text_of items) told v.course)
-    (λ g. Stops called (text_of items) told g)) e s.reads))
+    (courses.ReadsMessages called (text_of items) told v.course)
+    (λ g. StopsTelling called (text_of items) told g)) e s.reads))
 
 pub ends_broken : (rows : CentreRows) (items : List Item) (told : List Arrival)
     (turns : List Turn) (fault : StackFault) (setup : AssociationSetup) (b : Bool)

@@ -15,10 +15,10 @@ use Rattle.stack_messages.specs.declared.heard.Connecting.{Connecting}
 use Rattle.stack_assoc.specs.declared.input.StackIn.{StackIn}
 use Rattle.stack_assoc.specs.declared.end_state.EndState.{EndState}
 use Rattle.stack_assoc.specs.Arrivals.{Arrival, asked, confirmed, gone, heard, called, connect_in}
-use Rattle.stack_assoc.specs.Tellings.{Tells, Stops}
+use Rattle.stack_assoc.specs.Tellings.{Tells, StopsTelling}
 use Rattle.stack_assoc.specs.Handing.{stack_in, handed_out, answers_to}
-use Rattle.stack_assoc.specs.Courses.{Course, Stands, IsSettled, Goes, NothingLeft, IsLast, Answers}
-use Rattle.stack_assoc.specs.Courses.{is_offered, standing_with, standing_behind, state_of}
+use Rattle.stack_assoc.specs.Courses.{Course, CourseStands, IsCourseSettled, GoesFurther, NothingLeft, IsLast, IsNextAnswer}
+use Rattle.stack_assoc.specs.Courses.{is_offered, standing_with, standing_behind, stack_state_of}
 use Rattle.stack_assoc.specs.Courses.{state_with, fault_in}
 use Rattle.stack_assoc.specs.Steps.{left_of}
 use Rattle.tase_map.specs.Inputs.{Item, text_of}
@@ -57,7 +57,7 @@ use Rattle.tase_conn.proofs.Noted.{quiet_unconnected, some-append, IsNext, IsNot
 -- it reads on within an item, and no event waits
 pub record ReadsOn (rows : CentreRows) (items : List Item) (told : List Arrival) (turns : List Turn)
     (v : Talking) : Type 0 where
-  pub stands : Stands called (text_of items) told v.course
+  pub stands : CourseStands called (text_of items) told v.course
   pub fault : v.course.fault ≡ None
   pub within : IsWithin items told turns v
   pub begun : list_any (begins rows) turns ≡ has_begun v.stage askeds.Nothing
@@ -117,7 +117,7 @@ fetched course out coming behind old = record old {
 -- it stands so with more messages told, where this comes next
 pub record IsHeld (items : List Item) (told later : List Arrival) (turns : List Turn)
     (coming : Coming) (stage : Stage) (new : Talking) : Type 0 where
-  pub stands : Stands called (text_of items) (told ++ later) new.course
+  pub stands : CourseStands called (text_of items) (told ++ later) new.course
   pub fault : new.course.fault ≡ fault_held (Some coming)
   pub reads : HasRead items (told ++ later) (turns ++ turns_held (Some coming)) new
   pub due : IsDue (told ++ later) stage coming
@@ -240,12 +240,12 @@ quiet_connected told later e =
 
 next_of_told : (rows : CentreRows) (items : List Item) (told later : List Arrival)
     (turns : List Turn) (old : Talking) (course : Course) → ReadsOn rows items told turns old
-    → Stands called (text_of items) (told ++ later) course → (l : IsLast told later course)
+    → CourseStands called (text_of items) (told ++ later) course → (l : IsLast told later course)
     → IsNext (told ++ l.passed) l.last old.stage
 next_of_told rows items told later turns old course r s l =
     let front = told ++ l.passed in
-    let there : Stands called (text_of items) (front ++ l.last ∷ []) course =
-    subst (λ (ts : List Arrival). Stands called (text_of items) ts course)
+    let there : CourseStands called (text_of items) (front ++ l.last ∷ []) course =
+    subst (λ (ts : List Arrival). CourseStands called (text_of items) ts course)
     (ap (λ (ts : List Arrival). told ++ ts) l.is ∙ sym (append_assoc told l.passed (l.last ∷ []))) s
     in
     record {
@@ -258,7 +258,7 @@ next_of_told rows items told later turns old course r s l =
 held_input : (rows : CentreRows) (items : List Item) (told later : List Arrival)
     (turns : List Turn) (input : StackIn) (old : Talking) (course : Course)
     (out written : List ℕ) → ReadsOn rows items told turns old → course.fault ≡ None
-    → Goes called (text_of items) told later old.course old.out course written
+    → GoesFurther called (text_of items) told later old.course old.out course written
     → handed_out later ≡ input ∷ [] → IsLast told later course
     → IsHeld items told later turns (comings.Input input) old.stage
     (fetched course out (comings.Input input) old.behind old)
@@ -340,7 +340,7 @@ held_other : (rows : CentreRows) (items : List Item) (told later : List Arrival)
     (turns : List Turn) (coming : Coming) (old : Talking) (course : Course)
     (out written : List ℕ) → ReadsOn rows items told turns old
     → course.fault ≡ fault_held (Some coming)
-    → Goes called (text_of items) told later old.course old.out course written
+    → GoesFurther called (text_of items) told later old.course old.out course written
     → handed_out later ≡ [] → NoInput coming
     → HasRead items (told ++ later) (turns ++ turns_held (Some coming))
     (fetched course out coming behinds.Nothing old)
@@ -381,7 +381,7 @@ behind_turns behind given.ended e = ap (λ (b : Behind). turns_held (Some (comin
 -- all of the items is read
 done_behind : (items : List Item) (told later : List Arrival) (turns : List Turn) (old new : Talking)
     (rest : List ℕ) → IsWithin items told turns old → handed_out later ≡ []
-    → Tells called (text_of items) (told ++ later) rest → IsSettled new.course
+    → Tells called (text_of items) (told ++ later) rest → IsCourseSettled new.course
     → IsDone items (told ++ later) (turns ++ turns_held (Some (coming_behind old.behind))) new
 done_behind items told later turns old new rest w handed t settled =
     let e : reading_of (text_of items) ≡ reading (told ++ later) None =
@@ -412,15 +412,15 @@ unoffered (stages.Closed peer) = refl
 
 left_nothing : (b : Bool) (octets : List ℕ) (told later : List Arrival) (new : Course)
     → b ≡ false → MatchBool b (later ≡ [])
-    (((rest : List ℕ) × Tells called octets (told ++ later) rest) × IsSettled new)
-    → ((rest : List ℕ) × Tells called octets (told ++ later) rest) × IsSettled new
+    (((rest : List ℕ) × Tells called octets (told ++ later) rest) × IsCourseSettled new)
+    → ((rest : List ℕ) × Tells called octets (told ++ later) rest) × IsCourseSettled new
 left_nothing true octets told later new e n = absurd (false≢true (sym e))
 left_nothing false octets told later new e n = n
 
 held_behind : (rows : CentreRows) (items : List Item) (told later : List Arrival)
     (turns : List Turn) (old : Talking) (course : Course) (out written : List ℕ)
     → ReadsOn rows items told turns old → course.fault ≡ None
-    → Goes called (text_of items) told later old.course old.out course written
+    → GoesFurther called (text_of items) told later old.course old.out course written
     → handed_out later ≡ []
     → NothingLeft called (text_of items) told later old.course course
     → IsHeld items told later turns (coming_behind old.behind) old.stage
@@ -437,7 +437,7 @@ held_behind rows items told later turns old course out written r fault g handed 
 
 broken_begins : (items : List Item) (told later : List Arrival) (turns : List Turn) (old : Talking)
     (f : StackFault) → IsWithin items told turns old → handed_out later ≡ []
-    → Stops called (text_of items) (told ++ later) f
+    → StopsTelling called (text_of items) (told ++ later) f
     → Begins (turns ++ breaks ∷ []) (turns_of items)
 broken_begins items told later turns old f w handed stops =
     let e : reading_of (text_of items) ≡ reading (told ++ later) (Some f) =
@@ -450,8 +450,8 @@ broken_begins items told later turns old f w handed stops =
 held_fault : (rows : CentreRows) (items : List Item) (told later : List Arrival)
     (turns : List Turn) (f : StackFault) (old : Talking) (course : Course)
     (out written : List ℕ) → ReadsOn rows items told turns old → course.fault ≡ Some f
-    → Goes called (text_of items) told later old.course old.out course written
-    → handed_out later ≡ [] → Stops called (text_of items) (told ++ later) f
+    → GoesFurther called (text_of items) told later old.course old.out course written
+    → handed_out later ≡ [] → StopsTelling called (text_of items) (told ++ later) f
     → IsHeld items told later turns (comings.Fault f) old.stage
     (fetched course out (comings.Fault f) behinds.Nothing old)
 held_fault rows items told later turns f old course out written r fault g handed stops =
@@ -538,7 +538,7 @@ pub passes_input : (rows : CentreRows) (items : List Item) (told : List Arrival)
     (turns : List Turn) (input : StackIn) (old : Talking) (course : Course) (out : List ℕ)
     → IsIdle old.progress → old.held ≡ None → has_more old ≡ true
     → StandsAt rows items told turns old → course.fault ≡ None
-    → Answers called (text_of items) told old.course old.out (Ok (Some input)) course out
+    → IsNextAnswer called (text_of items) told old.course old.out (Ok (Some input)) course out
     → Passes rows items told turns old (fetched course out (comings.Input input) old.behind old)
 passes_input rows items told turns input old course out idle empty more s fault a =
     let r = started rows items told turns old idle empty more s in
@@ -551,7 +551,7 @@ pub passes_behind : (rows : CentreRows) (items : List Item) (told : List Arrival
     (turns : List Turn) (old : Talking) (course : Course) (out : List ℕ)
     → IsIdle old.progress → old.held ≡ None → has_more old ≡ true
     → StandsAt rows items told turns old → course.fault ≡ None
-    → Answers called (text_of items) told old.course old.out (Ok None) course out
+    → IsNextAnswer called (text_of items) told old.course old.out (Ok None) course out
     → Passes rows items told turns old
     (fetched course out (coming_behind old.behind) behinds.Nothing old)
 passes_behind rows items told turns old course out idle empty more s fault a =
@@ -565,7 +565,7 @@ pub passes_fault : (rows : CentreRows) (items : List Item) (told : List Arrival)
     (turns : List Turn) (f : StackFault) (old : Talking) (course : Course) (out : List ℕ)
     → IsIdle old.progress → old.held ≡ None → has_more old ≡ true
     → StandsAt rows items told turns old → course.fault ≡ Some f
-    → Answers called (text_of items) told old.course old.out (Err f) course out
+    → IsNextAnswer called (text_of items) told old.course old.out (Err f) course out
     → Passes rows items told turns old
     (fetched course out (comings.Fault f) behinds.Nothing old)
 passes_fault rows items told turns f old course out idle empty more s fault a =
@@ -603,8 +603,8 @@ with_course course v = record v { course = course }
 stands_kept : (rows : CentreRows) (items : List Item) (told : List Arrival)
     (turns : List Turn) (old : Talking) (course : Course) → IsIdle old.progress
     → old.held ≡ None → has_more old ≡ true → StandsAt rows items told turns old
-    → Stands called (text_of items) told course → course.standing ≡ old.course.standing
-    → state_of course ≡ state_of old.course
+    → CourseStands called (text_of items) told course → course.standing ≡ old.course.standing
+    → stack_state_of course ≡ stack_state_of old.course
     → StandsAt rows items told turns (with_course course old)
 stands_kept rows items told turns old course idle empty more s there standing state =
     let new = with_course course old in
@@ -643,20 +643,20 @@ pub stands_again : (rows : CentreRows) (items : List Item) (told : List Arrival)
     (turns : List Turn) (view old new : Talking) (course : Course) → view ≡ old
     → IsIdle old.progress → old.held ≡ None → has_more old ≡ true
     → StandsAt rows items told turns old
-    → (Stands called (text_of items) told view.course → Stands called (text_of items) told course)
-    → course.standing ≡ view.course.standing → state_of course ≡ state_of view.course
+    → (CourseStands called (text_of items) told view.course → CourseStands called (text_of items) told course)
+    → course.standing ≡ view.course.standing → stack_state_of course ≡ stack_state_of view.course
     → new ≡ record view { course = course } → StandsAt rows items told turns new
 stands_again rows items told turns view old new course seen idle empty more s kept standing state
     is =
-    let there : Stands called (text_of items) told course =
-    kept (subst (λ (v : Talking). Stands called (text_of items) told v.course) (sym seen)
+    let there : CourseStands called (text_of items) told course =
+    kept (subst (λ (v : Talking). CourseStands called (text_of items) told v.course) (sym seen)
     (idle_runs rows items told turns old idle s).stands) in
     let now : with_course course old ≡ new =
     sym (is ∙ ap (λ (v : Talking). with_course course v) seen) in
     subst (λ (v : Talking). StandsAt rows items told turns v) now
     (stands_kept rows items told turns old course idle empty more s there
     (standing ∙ ap (λ (v : Talking). v.course.standing) seen)
-    (state ∙ ap (λ (v : Talking). state_of v.course) seen))
+    (state ∙ ap (λ (v : Talking). stack_state_of v.course) seen))
 
 -- ---- how much is left
 
@@ -704,7 +704,7 @@ passes_by : (rows : CentreRows) (items : List Item) (told : List Arrival) (turns
     (answer : Result (Option StackIn) StackFault) (old : Talking) (course : Course)
     (out : List ℕ) → IsIdle old.progress → old.held ≡ None → has_more old ≡ true
     → StandsAt rows items told turns old → course.fault ≡ fault_in answer
-    → Answers called (text_of items) told old.course old.out answer course out
+    → IsNextAnswer called (text_of items) told old.course old.out answer course out
     → Passes rows items told turns old (fetched_by answer course out old)
 passes_by rows items told turns (Ok (Some input)) old course out idle empty more s fault a =
     passes_input rows items told turns input old course out idle empty more s fault a
@@ -718,16 +718,16 @@ pub passes_fetched : (rows : CentreRows) (items : List Item) (told : List Arriva
     (turns : List Turn) (answer : Result (Option StackIn) StackFault) (view old new : Talking)
     (course : Course) (out : List ℕ) → view ≡ old → IsIdle old.progress → old.held ≡ None
     → has_more old ≡ true → StandsAt rows items told turns old → course.fault ≡ fault_in answer
-    → (Stands called (text_of items) told view.course
-    → Answers called (text_of items) told view.course view.out answer course out)
+    → (CourseStands called (text_of items) told view.course
+    → IsNextAnswer called (text_of items) told view.course view.out answer course out)
     → new ≡ fetched_by answer course out view → Passes rows items told turns old new
 passes_fetched rows items told turns answer view old new course out seen idle empty more s fault a
     is =
-    let stands : Stands called (text_of items) told old.course =
+    let stands : CourseStands called (text_of items) told old.course =
     (idle_runs rows items told turns old idle s).stands in
-    let answers : Answers called (text_of items) told old.course old.out answer course out =
-    subst (λ (v : Talking). Answers called (text_of items) told v.course v.out answer course out)
-    seen (a (subst (λ (v : Talking). Stands called (text_of items) told v.course) (sym seen)
+    let answers : IsNextAnswer called (text_of items) told old.course old.out answer course out =
+    subst (λ (v : Talking). IsNextAnswer called (text_of items) told v.course v.out answer course out)
+    seen (a (subst (λ (v : Talking). CourseStands called (text_of items) told v.course) (sym seen)
     stands)) in
     subst (λ (v : Talking). Passes rows items told turns old v)
     (sym (is ∙ ap (λ (v : Talking). fetched_by answer course out v) seen))

@@ -21,7 +21,7 @@ use Rattle.stack_assoc.specs.declared.end_state.EndState.TheVariants as standing
 use Rattle.stack_assoc.specs.Arrivals.{Arrival, asked, confirmed, gone, heard, or_else, first_in}
 use Rattle.stack_assoc.specs.Arrivals.{connect_in, is_conclude}
 use Rattle.stack_assoc.specs.Handing.{is_offer, is_too_little, input_heard, stack_in, handed_out}
-use Rattle.stack_assoc.specs.Courses.{offered_by, standing_with, standing_behind}
+use Rattle.stack_assoc.specs.Courses.{standing_offered, standing_with, standing_behind}
 use Rattle.tase_map.specs.LawfulTold.{IsLawfulTold}
 use Rattle.tase_map.specs.Turns.{turn_of_pdu}
 use Rattle.tase_map.proofs.MessageOrder.{HasBegun, PduComes, HeardComes, Comes}
@@ -134,7 +134,7 @@ enough false b c e = absurd (false≢true e)
 
 early_connect : (b : Bool) (front : List Arrival) (c : Connecting) → connected front ≡ false
     → (b ≡ true → is_too_little c.initiate ≡ false)
-    → standing_with standings.Waiting (heard (heards.Connect c)) ≡ offered_by b
+    → standing_with standings.Waiting (heard (heards.Connect c)) ≡ standing_offered b
     → IsNoted front (heard (heards.Connect c)) stages.Early
     (if b then inputs.Offer c.title c.initiate else inputs.BadOffer)
 early_connect true front c e offer is = record {

@@ -11,8 +11,8 @@ use Rattle.stack_assoc.specs.declared.input.StackState.TheVariants as states
 use Rattle.stack_assoc.specs.declared.end_state.EndState.{EndState}
 use Rattle.stack_assoc.specs.declared.end_state.EndState.TheVariants as standings
 use Rattle.stack_assoc.specs.Arrivals.{Arrival, called}
-use Rattle.stack_assoc.specs.Courses.{Course, Stands, IsSettled, is_offered, state_by, state_with}
-use Rattle.stack_assoc.specs.Courses.{state_of}
+use Rattle.stack_assoc.specs.Courses.{Course, CourseStands, IsCourseSettled, is_offered, state_by, state_with}
+use Rattle.stack_assoc.specs.Courses.{stack_state_of}
 use Rattle.tase_map.specs.Inputs.{Item, piece, idle, ended, octets_of, text_of}
 use Rattle.tase_map.specs.Readings.{Reading, reading_of}
 use Rattle.tase_map.specs.Turns.{Turn, turns_of}
@@ -66,7 +66,7 @@ clear_match A B (Some f) e a = absurd cc
 -- ---- what was read was read, whatever else changes
 
 reads_by_moved : (b : Behind) (items : List Item) (told : List Arrival) (seen : List Turn)
-    (old new : Talking) → (IsSettled old.course → IsSettled new.course) → new.behind ≡ old.behind
+    (old new : Talking) → (IsCourseSettled old.course → IsCourseSettled new.course) → new.behind ≡ old.behind
     → ReadsBy b items told seen old → ReadsBy b items told seen new
 reads_by_moved behinds.Nothing items told seen old new settled behind r = record {
   told_is = r.told_is;
@@ -96,7 +96,7 @@ reads_by_moved behinds.End items told seen old new settled behind r = record {
 }
 
 pub reads_moved : (f : Option StackFault) (b : Behind) (items : List Item) (told : List Arrival)
-    (seen : List Turn) (old new : Talking) → (IsSettled old.course → IsSettled new.course)
+    (seen : List Turn) (old new : Talking) → (IsCourseSettled old.course → IsCourseSettled new.course)
     → new.behind ≡ old.behind
     → MatchOption f (ReadsBy b items told seen old) (λ fault. Begins seen (turns_of items))
     → MatchOption f (ReadsBy b items told seen new) (λ fault. Begins seen (turns_of items))
@@ -126,7 +126,7 @@ starting rows course out farewell =
     farewell
 
 pub started : (rows : CentreRows) (course : Course) (out : List ℕ) (farewell : Vec ℕ Global)
-    → Stands called [] [] course → IsSettled course → state_of course ≡ states.Waiting
+    → CourseStands called [] [] course → IsCourseSettled course → stack_state_of course ≡ states.Waiting
     → vec_len farewell + 64 ≤ vec_capacity farewell → farewell.items ≡ []
     → StandsAt rows [] [] [] (starting rows course out farewell)
 started rows course out farewell stands settled waiting room empty =
@@ -209,14 +209,14 @@ not_offered s (inr e) = ap is_offered e
 -- what feeding ensures
 pub record Fed (items : List Item) (item : Item) (told : List Arrival) (old new : Course) :
     Type 0 where
-  pub stands : Stands called (text_of items) told old
-      → Stands called (text_of items ++ octets_of item) told new
+  pub stands : CourseStands called (text_of items) told old
+      → CourseStands called (text_of items ++ octets_of item) told new
   pub standing : new.standing ≡ old.standing
-  pub state : state_of new ≡ state_of old
+  pub state : stack_state_of new ≡ stack_state_of old
 
 rests_clear : (stage : Stage) (old new : Course) → old.fault ≡ None
     → old.standing ≡ standing_by stage askeds.Nothing None → new.standing ≡ old.standing
-    → state_of new ≡ state_of old → new.fault ≡ None
+    → stack_state_of new ≡ stack_state_of old → new.fault ≡ None
 rests_clear stage old new clear is standing state =
     still_clear new.fault new.standing (resting_so stage new.standing (standing ∙ is))
     (state ∙ ap (λ (f : Option StackFault). state_with f old.standing) clear
@@ -242,7 +242,7 @@ runs_taken rows items told turns item centre course None behinds.Nothing stage p
     (λ fault. Begins (turns ++ []) (turns_of items)) course.fault r.fault r.reads in
     let clear = rests_clear stage course fed r.fault r.standing f.standing f.state in
     record {
-      stands = subst (λ (os : List ℕ). Stands called os told fed) (sym (text_on items item))
+      stands = subst (λ (os : List ℕ). CourseStands called os told fed) (sym (text_on items item))
           (f.stands r.stands);
       fault = clear;
       reads = clear_match (ReadsBy (behind_of item) (items ++ item ∷ []) told (turns ++ []) new)
@@ -339,7 +339,7 @@ dropped rows items told turns item v e s = record {
 no_octets : (items : List Item) (item : Item) (told : List Arrival) (course : Course)
     → octets_of item ≡ [] → Fed items item told course course
 no_octets items item told course e = record {
-  stands = λ s. subst (λ (os : List ℕ). Stands called os told course)
+  stands = λ s. subst (λ (os : List ℕ). CourseStands called os told course)
       (sym (append-nil (text_of items)) ∙ ap (λ (os : List ℕ). text_of items ++ os) (sym e)) s;
   standing = refl;
   state = refl;
@@ -360,7 +360,7 @@ settled_so : (rows : CentreRows) (items : List Item) (told : List Arrival) (turn
     (stage : Stage) (progress : Progress) (out : List ℕ) (farewell : Vec ℕ Global)
     → behind ≡ behinds.Nothing → held ≡ None → Runs rows items told turns askeds.Nothing
     (talking centre course held behind stage progress out farewell)
-    → IsSettled course × (is_offered course.standing ≡ false)
+    → IsCourseSettled course × (is_offered course.standing ≡ false)
 settled_so rows items told turns centre course None behinds.Nothing stage progress out farewell
     b h r =
     let v : Talking =
@@ -378,7 +378,7 @@ settled_so rows items told turns centre course None behinds.End stage progress o
 settled_by : (progress : Progress) (rows : CentreRows) (items : List Item) (told : List Arrival)
     (turns : List Turn) (v : Talking) → IsFree progress → is_running progress ≡ true
     → v.behind ≡ behinds.Nothing → v.held ≡ None → GoesBy progress rows items told turns v
-    → IsSettled v.course × (is_offered v.course.standing ≡ false)
+    → IsCourseSettled v.course × (is_offered v.course.standing ≡ false)
 settled_by (progresses.Running askeds.Nothing) rows items told turns v f run b h g =
     settled_so rows items told turns v.rows v.course v.held v.behind v.stage v.progress v.out
     v.farewell b h g
@@ -396,7 +396,7 @@ settled_by (progresses.Cut end) rows items told turns v f run b h g = absurd cc
 
 -- where it rests and reads on, its end may be fed
 pub may_feed : (v : Talking) → IsResting v → is_running v.progress ≡ true → IsPlaced v
-    → IsSettled v.course × (is_offered v.course.standing ≡ false)
+    → IsCourseSettled v.course × (is_offered v.course.standing ≡ false)
 may_feed v rest run p = settled_by v.progress p.rows p.items p.told p.turns v rest.free run
     rest.read rest.acted p.stands.goes
 

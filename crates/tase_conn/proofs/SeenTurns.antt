@@ -5,7 +5,7 @@ use Rattle.std.proofs.lemmas.List.{append-nil}
 use Rattle.bilateral.specs.Rows.{CentreRows}
 use Rattle.stack_messages.specs.declared.fault.StackFault.{StackFault}
 use Rattle.stack_assoc.specs.Arrivals.{Arrival, called}
-use Rattle.stack_assoc.specs.Courses.{Stands}
+use Rattle.stack_assoc.specs.Courses.{CourseStands}
 use Rattle.tase_map.specs.Inputs.{Item, text_of}
 use Rattle.tase_map.specs.Readings.{reading_of}
 use Rattle.tase_map.specs.Turns.{Turn, fault_turns, turns_behind_octets, turns_of}
@@ -46,7 +46,7 @@ within_turns items told seen v w others e =
     ++ (fault_turns (reading_of (text_of is)).broken ++ behind))) (sym w.is) found
 
 seen_within : (items : List Item) (told : List Arrival) (seen : List Turn) (v : Talking)
-    → Stands called (text_of items) told v.course → IsWithin items told seen v
+    → CourseStands called (text_of items) told v.course → IsWithin items told seen v
     → Begins seen (turns_of items)
 seen_within items told seen v s w =
     let f = told_front (text_of items) told v.course s in (
@@ -56,14 +56,14 @@ seen_within items told seen v s w =
     )
 
 seen_read : (items : List Item) (told : List Arrival) (seen : List Turn) (v : Talking)
-    (behind : Behind) → Stands called (text_of items) told v.course
+    (behind : Behind) → CourseStands called (text_of items) told v.course
     → ReadsBy behind items told seen v → Begins seen (turns_of items)
 seen_read items told seen v behinds.Nothing s d = ([], sym d.seen_is ∙ sym (append-nil seen))
 seen_read items told seen v behinds.Pause s w = seen_within items told seen v s w
 seen_read items told seen v behinds.End s w = seen_within items told seen v s w
 
 seen_by : (items : List Item) (told : List Arrival) (seen : List Turn) (v : Talking)
-    (fault : Option StackFault) → Stands called (text_of items) told v.course
+    (fault : Option StackFault) → CourseStands called (text_of items) told v.course
     → MatchOption fault (ReadsBy v.behind items told seen v) (λ f. Begins seen (turns_of items))
     → Begins seen (turns_of items)
 seen_by items told seen v None s r = seen_read items told seen v v.behind s r

@@ -5,10 +5,10 @@ use Rattle.std.specs.Prelude.{is_some}
 use Rattle.bilateral.specs.Rows.{CentreRows}
 use Rattle.stack_messages.specs.declared.fault.StackFault.{StackFault}
 use Rattle.stack_assoc.specs.Arrivals.{Arrival, called, first_in, connect_in}
-use Rattle.stack_assoc.specs.Tellings.{Stops}
+use Rattle.stack_assoc.specs.Tellings.{StopsTelling}
 use Rattle.stack_assoc.specs.Handing.{answers_to}
 use Rattle.stack_assoc.specs.Expectations.{setup_after}
-use Rattle.stack_assoc.specs.Courses.{Course, Stands}
+use Rattle.stack_assoc.specs.Courses.{Course, CourseStands}
 use Rattle.stack_assoc.specs.Courses as courses
 use Rattle.tase_map.specs.Inputs.{Item, text_of}
 use Rattle.tase_map.specs.Readings.{Reading, reading_of}
@@ -31,7 +31,7 @@ use Rattle.tase_conn.proofs.Acted.{HasToldAll}
 
 -- behind the first message nothing more is answered at once
 answered_by : (items : List Item) (told : List Arrival) (course : Course)
-    → Stands called (text_of items) told course → 1 ≤ length told
+    → CourseStands called (text_of items) told course → 1 ≤ length told
     → answers_to called told ≡ answers_to called (reading_of (text_of items)).told
 answered_by items told course s some =
     let f = told_front (text_of items) told course s in
@@ -72,7 +72,7 @@ all_open rows items told turns v end r is =
 
 -- at an abort
 pub all_some : (items : List Item) (told : List Arrival) (course : Course) (end : ConnEnd)
-    → Stands called (text_of items) told course → 1 ≤ length told
+    → CourseStands called (text_of items) told course → 1 ≤ length told
     → (end ≡ conn_ends.Declined → ⊥) → HasToldAll items told end
 all_some items told course end s some other = record {
   answered = answered_by items told course s some;
@@ -90,14 +90,14 @@ all_read items told end e other = record {
 
 -- at a rule that is broken
 pub all_broken : (items : List Item) (told : List Arrival) (fault : StackFault) (course : Course)
-    (end : ConnEnd) → Stands called (text_of items) told course → course.fault ≡ Some fault
+    (end : ConnEnd) → CourseStands called (text_of items) told course → course.fault ≡ Some fault
     → (end ≡ conn_ends.Declined → ⊥) → HasToldAll items told end
 all_broken items told fault course end s e other =
     all_read items told end
     (sym (ap (λ (r : Reading). r.told) (reading_only (text_of items) told (Some fault)
     (subst (λ (f : Option StackFault). MatchOption f
-    (courses.Reads called (text_of items) told course)
-    (λ g. Stops called (text_of items) told g)) e s.reads)))) other
+    (courses.ReadsMessages called (text_of items) told course)
+    (λ g. StopsTelling called (text_of items) told g)) e s.reads)))) other
 
 -- at the link's end
 pub all_ended : (rows : CentreRows) (items : List Item) (told : List Arrival) (turns : List Turn)

@@ -3,7 +3,7 @@ use Rattle.std.specs.Prelude.{◌≡◌, ◌++◌, ℕ, List, Bool, true, false,
 use Rattle.mms_services.specs.declared.pdu.MmsPdu.TheVariants as pdus
 use Rattle.stack_messages.specs.declared.expecting.Side.TheVariants as sides
 use Rattle.stack_assoc.specs.declared.input.StackState.TheVariants as states
-use Rattle.stack_assoc.specs.Courses.{Course, state_of}
+use Rattle.stack_assoc.specs.Courses.{Course, stack_state_of}
 use Rattle.stack_assoc.specs.Saying.{with_said, may_release}
 use Rattle.tase_map.specs.Out.{said, release_octets}
 use Rattle.tase_conn.specs.declared.stage.Cause.{Cause}
@@ -42,7 +42,7 @@ IsLeft end old new = MatchBool (is_open_stage old.stage)
 
 -- conclude and release are answered over an association that stands
 abbrev pub MayAnswer : Cause → Course → Type 0
-MayAnswer causes.Concluded course = state_of course ≡ states.Accepted
+MayAnswer causes.Concluded course = stack_state_of course ≡ states.Accepted
 MayAnswer causes.Released course =
     (course.known.side ≡ sides.Called) × (may_release course ≡ true)
 MayAnswer _ course = Unit {0}

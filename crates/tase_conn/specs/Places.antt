@@ -18,7 +18,7 @@ use Rattle.stack_assoc.specs.declared.end_state.EndState.TheVariants as standing
 use Rattle.stack_assoc.specs.Arrivals.{Arrival, called, first_in, connect_in, is_conclude}
 use Rattle.stack_assoc.specs.Expectations.{setup_after}
 use Rattle.stack_assoc.specs.Handing.{answers_to, handed_out, is_too_little}
-use Rattle.stack_assoc.specs.Courses.{Stands, IsSettled}
+use Rattle.stack_assoc.specs.Courses.{CourseStands, IsCourseSettled}
 use Rattle.tase_views.specs.declared.call.CallKind.{CallKind}
 use Rattle.tase_map.specs.Inputs.{Item, piece, idle, ended, text_of}
 use Rattle.tase_map.specs.Readings.{reading_of}
@@ -69,7 +69,7 @@ pub record IsDone (items : List Item) (told : List Arrival) (seen : List Turn) (
   pub told_is : told ≡ (reading_of (text_of items)).told
   pub unbroken : (reading_of (text_of items)).broken ≡ None
   pub seen_is : seen ≡ turns_of items
-  pub settled : IsSettled v.course
+  pub settled : IsCourseSettled v.course
 
 -- what comes behind the messages of an item
 abbrev pub behind_of : Item → Behind
@@ -254,7 +254,7 @@ IsAskedBy rows turns (askeds.Closing cause) =
 -- it reads on: what was read, and how that and its association stand
 pub record Runs (rows : CentreRows) (items : List Item) (told : List Arrival) (turns : List Turn)
     (asked : Asked) (v : Talking) : Type 0 where
-  pub stands : Stands called (text_of items) told v.course
+  pub stands : CourseStands called (text_of items) told v.course
   pub fault : v.course.fault ≡ fault_seen v.held asked
   pub reads : HasRead items told (turns ++ turns_held v.held) v
   pub due : IfSome v.held (IsDue told v.stage)

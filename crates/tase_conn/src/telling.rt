@@ -1,11 +1,11 @@
 //! What a connection says of the node's answers.
 ghost use Rattle.std.specs.Prelude.{◌≡◌, ◌++◌, ◌≤◌, ◌≤ℤ◌, List, Ok, Err, OnOk, OnErr, IsOk};
 ghost use Rattle.mms_services.specs.Initiates.{IsFullInitiate};
-ghost use Rattle.mms_services.specs.PduOctets.{IsWritable, pdu_len};
+ghost use Rattle.mms_services.specs.PduOctets.{IsWritablePdu, pdu_len};
 ghost use Rattle.mms_services.specs.declared.initiate.TheConstants.{MOST_DETAIL};
 ghost use Rattle.stack_assoc.specs.declared.input.StackState.TheVariants as states;
 ghost use Rattle.stack_assoc.specs.declared.end_state.EndState.TheVariants as standings;
-ghost use Rattle.stack_assoc.specs.Courses.{state_of};
+ghost use Rattle.stack_assoc.specs.Courses.{stack_state_of};
 ghost use Rattle.stack_assoc.specs.Arrivals.{Arrival};
 ghost use Rattle.bilateral.specs.Rows.{CentreRows};
 ghost use Rattle.tase_map.specs.Inputs.{Item};
@@ -52,10 +52,10 @@ fn detail_of(granted: &Initiate) -> i64
 
 /// A PDU, or, where it has more octets than that, the error that answers in its place.
 fn within(detail: i64, invoke: u32, pdu: MmsPdu) -> MmsPdu
-    requires writable { IsWritable pdu }
+    requires writable { IsWritablePdu pdu }
     requires detail { detail ≤ℤ MOST_DETAIL }
     ensures value { result ≡ within detail invoke pdu }
-    ensures writable { IsWritable result }
+    ensures writable { IsWritablePdu result }
     ensures few { pdu_len result ≤ 65000 }
 {
     if pdu_len(&pdu) as i64 > detail {
@@ -67,7 +67,7 @@ fn within(detail: i64, invoke: u32, pdu: MmsPdu) -> MmsPdu
 
 fn too_long(invoke: u32) -> MmsPdu
     ensures value { result ≡ too_long invoke }
-    ensures writable { IsWritable result }
+    ensures writable { IsWritablePdu result }
     ensures few { pdu_len result ≤ 65000 }
 {
     MmsPdu::Error(ErrorPdu {
@@ -210,7 +210,7 @@ impl Conn {
 
     fn note_reply(&mut self, invoke: u32, answer: &Answer) -> Result<(), AllocError>
         requires right { IsAnswerTo (askeds.Requesting invoke) (Ok answer.now) }
-        requires accepted { state_of self.old.course ≡ states.Accepted }
+        requires accepted { stack_state_of self.old.course ≡ states.Accepted }
         requires detail { detail_at self.old.stage ≤ℤ MOST_DETAIL }
         ensures ok { OnOk result
             (NotesAsked (askeds.Requesting invoke) answer.now self.old self.new) }
@@ -224,7 +224,7 @@ impl Conn {
     }
 
     fn reply(&mut self, invoke: u32, reply: &Reply) -> Result<(), AllocError>
-        requires accepted { state_of self.old.course ≡ states.Accepted }
+        requires accepted { stack_state_of self.old.course ≡ states.Accepted }
         requires detail { detail_at self.old.stage ≤ℤ MOST_DETAIL }
         ensures ok { OnOk result (self.new ≡ answered
             (within (detail_at self.old.stage) invoke (pdu_in invoke reply.now)) self.old) }
@@ -238,8 +238,8 @@ impl Conn {
 
     /// Says a PDU that answers, and nothing waits any more.
     fn answer(&mut self, pdu: &MmsPdu) -> Result<(), AllocError>
-        requires accepted { state_of self.old.course ≡ states.Accepted }
-        requires writable { IsWritable pdu.now }
+        requires accepted { stack_state_of self.old.course ≡ states.Accepted }
+        requires writable { IsWritablePdu pdu.now }
         requires few { pdu_len pdu.now ≤ 65000 }
         ensures ok { OnOk result (self.new ≡ answered pdu.now self.old) }
         ensures stage { self.new.stage ≡ self.old.stage }

@@ -31,9 +31,9 @@ use Rattle.stack_assoc.specs.Fronts.{StartsWith}
 use Rattle.stack_assoc.specs.InTurn.{SpellInTurn}
 use Rattle.stack_assoc.specs.Handing.{answer_to, answers_to}
 use Rattle.stack_assoc.specs.Expectations.{setup_by, size_by, setup_after}
-use Rattle.stack_assoc.specs.Tellings.{TellsNext, Tell, Tells, Stops}
+use Rattle.stack_assoc.specs.Tellings.{TellsNext, Tell, Tells, StopsTelling}
 use Rattle.stack_assoc.specs.Taking.{opened}
-use Rattle.stack_assoc.specs.Courses.{Course, taken, Stands}
+use Rattle.stack_assoc.specs.Courses.{Course, messages_taken, CourseStands}
 use Rattle.stack_assoc.specs.Courses as courses
 use Rattle.stack_assoc.proofs.FrontsKept.{front_more, said_front, stopped_front, stands_front}
 use Rattle.stack_assoc.proofs.StreamLaws.{front_front, GoesOn, told_stays, stopped_stays}
@@ -52,12 +52,12 @@ pub record HasFront (octets : List ℕ) (told : List Arrival) : Type 0 where
   pub tell : Tell called told messages
 
 front_by : (octets : List ℕ) (told : List Arrival) (v : Course) (fault : Option StackFault)
-    → MatchOption fault (courses.Reads called octets told v) (λ f. Stops called octets told f)
+    → MatchOption fault (courses.ReadsMessages called octets told v) (λ f. StopsTelling called octets told f)
     → HasFront octets told
 front_by octets told v None r = record {
   messages = r.messages;
-  starts = front_front ends.Called octets r.messages (taken v)
-      (stands_front ends.Called octets (r.messages ++ taken v) v.line r.stands);
+  starts = front_front ends.Called octets r.messages (messages_taken v)
+      (stands_front ends.Called octets (r.messages ++ messages_taken v) v.line r.stands);
   tell = r.tell;
 }
 front_by octets told v (Some fault) (inl s) = record {
@@ -72,7 +72,7 @@ front_by octets told v (Some fault) (inr s) = record {
 }
 
 -- what was told is told by messages that the octets begin with
-pub has_front : (octets : List ℕ) (told : List Arrival) (v : Course) → Stands called octets told v
+pub has_front : (octets : List ℕ) (told : List Arrival) (v : Course) → CourseStands called octets told v
     → HasFront octets told
 has_front octets told v s = front_by octets told v v.fault s.reads
 
@@ -149,7 +149,7 @@ front_read octets told f =
     (reading_found text))
 
 -- all that a text tells begins with what was told of it
-pub told_front : (octets : List ℕ) (told : List Arrival) (v : Course) → Stands called octets told v
+pub told_front : (octets : List ℕ) (told : List Arrival) (v : Course) → CourseStands called octets told v
     → (others : List Arrival) × ((reading_of octets).told ≡ told ++ others)
 told_front octets told v s = front_read octets told (has_front octets told v s)
 
@@ -165,7 +165,7 @@ come_at before (x ∷ front) t others a =
 
 -- the message that was told last may come behind those before it
 pub last_comes : (octets : List ℕ) (front : List Arrival) (t : Arrival) (v : Course)
-    → Stands called octets (front ++ t ∷ []) v → Comes front t
+    → CourseStands called octets (front ++ t ∷ []) v → Comes front t
 last_comes octets front t v s =
     let f = told_front octets (front ++ t ∷ []) v s in
     let r = reading_of octets in
@@ -175,7 +175,7 @@ last_comes octets front t v s =
 
 -- and has lawful parts
 pub last_lawful : (octets : List ℕ) (front : List Arrival) (t : Arrival) (v : Course)
-    → Stands called octets (front ++ t ∷ []) v → IsLawfulTold t
+    → CourseStands called octets (front ++ t ∷ []) v → IsLawfulTold t
 last_lawful octets front t v s =
     let told = front ++ t ∷ [] in
     let f = has_front octets told v s in
@@ -236,7 +236,7 @@ setup_kept told others size connect =
 
 -- once a connect has come, nothing more changes what it fixed
 pub setup_fixed : (octets : List ℕ) (told : List Arrival) (v : Course)
-    → Stands called octets told v → is_some (first_in connect_in told) ≡ true
+    → CourseStands called octets told v → is_some (first_in connect_in told) ≡ true
     → (v.setup ≡ setup_after told)
     × ((others : List Arrival) → setup_after (told ++ others) ≡ setup_after told)
 setup_fixed octets told v s connect =

@@ -26,7 +26,7 @@ use Rattle.stack_messages.specs.declared.heard.Heard.{Heard}
 use Rattle.stack_messages.specs.declared.heard.Heard.TheVariants as heards
 use Rattle.stack_messages.specs.Meanings.{Meaning, says_just, says_nothing, says_some, inside}
 use Rattle.stack_messages.specs.Meanings.{where_allowed}
-use Rattle.stack_messages.specs.Setting.{initiate_of, initiated_of, connecting, accepting, aarq_in}
+use Rattle.stack_messages.specs.Setting.{initiate_in_pdu, initiated_of, connecting, accepting, aarq_in}
 use Rattle.stack_messages.specs.Setting.{offers_in, connect_at, aare_in, user_in, results_in}
 use Rattle.stack_messages.specs.Setting.{accept_at}
 use Rattle.stack_messages.specs.Messages.{data_at, user_data_in, carry_at, said_in_turn, message}
@@ -83,7 +83,7 @@ aarq_kind : (octets : List ℕ) (session presented : Option (List ℕ)) (context
     → kind_of h ≡ 0
 aarq_kind octets session presented contexts (apdus.Aarq request) h s =
     let i = inside_says _ _ h s in
-    some_kind _ (initiate_of i.0) (connecting session presented contexts request) 0 (λ x. refl) h
+    some_kind _ (initiate_in_pdu i.0) (connecting session presented contexts request) 0 (λ x. refl) h
     i.2
 aarq_kind octets session presented contexts (apdus.Aare response) h s = absurd (no_says _ h s)
 aarq_kind octets session presented contexts apdus.Rlrq h s = absurd (no_says _ h s)

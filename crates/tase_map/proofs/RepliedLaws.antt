@@ -12,7 +12,7 @@ use Rattle.mms_services.specs.declared.pdu.MmsPdu.{MmsPdu}
 use Rattle.mms_services.specs.declared.pdu.MmsPdu.TheVariants as pdus
 use Rattle.mms_access.specs.Reads.{IsSpecIfAny}
 use Rattle.mms_services.specs.Lawful.{IsLawfulPdu, IsLawfulResponse}
-use Rattle.mms_services.specs.PduOctets.{IsWritable}
+use Rattle.mms_services.specs.PduOctets.{IsWritablePdu}
 use Rattle.tase_views.specs.declared.reply.ReadSpec.{ReadSpec}
 use Rattle.tase_views.specs.declared.reply.ReadSpec.TheVariants as named
 use Rattle.tase_views.specs.declared.reply.ReplyKind.{ReplyKind}
@@ -29,7 +29,7 @@ spec_writable None i = tt
 spec_writable (Some (named.List names)) i = i
 spec_writable (Some (named.Set name)) i = tt
 
-pdu_writable : (invoke : ℕ) (reply : ReplyKind) → IsReply reply → IsWritable (pdu_in invoke reply)
+pdu_writable : (invoke : ℕ) (reply : ReplyKind) → IsReply reply → IsWritablePdu (pdu_in invoke reply)
 pdu_writable invoke replies.Identified i = tt
 pdu_writable invoke (replies.Results spec results) i =
     record { spec = spec_writable spec i.0; lawful = i.1 }
@@ -43,8 +43,8 @@ pdu_writable invoke (replies.Reject kind code) i = i
 
 -- the PDU of a reply may be written
 pub writable_pdu : (invoke : ℕ) (reply : ReplyKind) (pdu : MmsPdu) → IsReply reply
-    → pdu ≡ pdu_in invoke reply → IsWritable pdu
-writable_pdu invoke reply pdu i e = subst IsWritable (sym e) (pdu_writable invoke reply i)
+    → pdu ≡ pdu_in invoke reply → IsWritablePdu pdu
+writable_pdu invoke reply pdu i e = subst IsWritablePdu (sym e) (pdu_writable invoke reply i)
 
 -- what a reply keeps, where there is one
 abbrev IsReplyIfAny : Option ReplyKind → Type 0

@@ -181,24 +181,24 @@ abbrev sent : List Arrival → View → List ℕ
 sent told view = octets_in (own_table rows 0) 0 (talk_of (reading told) false) view
 
 opened_sent : sent first_two (own 0 opens ∷ []) ≡ confirm_octets ++ accept_octets
-unfolding wire session.length_octets ber.length_octets ber.integer_octets presentation.user_octets accept_tsdu presentation.set_up_octets presentation.mode_octets presentation.accept_octets presentation.results_octets presentation.accepted_octets pdu_octets initiate_octets later_octets last_octets initiate_detail_octets
+unfolding wire session.session_length_octets ber.length_octets ber.integer_octets presentation.user_octets accept_tsdu presentation.set_up_octets presentation.mode_octets presentation.accept_ppdu_octets presentation.results_octets presentation.accepted_octets pdu_octets initiate_octets later_octets last_octets initiate_detail_octets
 opened_sent = refl
 
 identified_sent : sent (first_two ++ request ∷ []) still_open
     ≡ confirm_octets ++ accept_octets ++ identified_octets
-unfolding wire session.length_octets ber.length_octets ber.integer_octets presentation.user_octets accept_tsdu data_tsdu presentation.set_up_octets presentation.mode_octets presentation.accept_octets presentation.results_octets presentation.accepted_octets pdu_octets initiate_octets later_octets last_octets initiate_detail_octets response_octets invoke_octets identify_response_octets
+unfolding wire session.session_length_octets ber.length_octets ber.integer_octets presentation.user_octets accept_tsdu data_tsdu presentation.set_up_octets presentation.mode_octets presentation.accept_ppdu_octets presentation.results_octets presentation.accepted_octets pdu_octets initiate_octets later_octets last_octets initiate_detail_octets response_octets invoke_octets identify_response_octets
 identified_sent = refl
 
 concluded_sent : sent (first_two ++ request ∷ conclude ∷ heard heards.Finish ∷ [])
     (own 0 closes ∷ still_open)
     ≡ confirm_octets ++ accept_octets ++ identified_octets ++ concluded_octets ++ released_octets
-unfolding wire session.length_octets ber.length_octets ber.integer_octets presentation.user_octets accept_tsdu data_tsdu release_tsdu presentation.set_up_octets presentation.mode_octets presentation.accept_octets presentation.results_octets presentation.accepted_octets pdu_octets initiate_octets later_octets last_octets initiate_detail_octets response_octets invoke_octets identify_response_octets
+unfolding wire session.session_length_octets ber.length_octets ber.integer_octets presentation.user_octets accept_tsdu data_tsdu release_tsdu presentation.set_up_octets presentation.mode_octets presentation.accept_ppdu_octets presentation.results_octets presentation.accepted_octets pdu_octets initiate_octets later_octets last_octets initiate_detail_octets response_octets invoke_octets identify_response_octets
 concluded_sent = refl
 
 -- a close for which the text has no cause, behind a stop: the request that it has more was refused
 stopped_sent : sent (first_two ++ request ∷ []) (own 0 closes ∷ stopped ∷ own 0 takes ∷ own 0 opens ∷ [])
     ≡ confirm_octets ++ accept_octets ++ aborted_octets
-unfolding wire session.length_octets ber.length_octets ber.integer_octets presentation.user_octets accept_tsdu abort_tsdu presentation.set_up_octets presentation.mode_octets presentation.accept_octets presentation.results_octets presentation.accepted_octets pdu_octets initiate_octets later_octets last_octets initiate_detail_octets
+unfolding wire session.session_length_octets ber.length_octets ber.integer_octets presentation.user_octets accept_tsdu abort_tsdu presentation.set_up_octets presentation.mode_octets presentation.accept_ppdu_octets presentation.results_octets presentation.accepted_octets pdu_octets initiate_octets later_octets last_octets initiate_detail_octets
 stopped_sent = refl
 
 -- a reply longer than was agreed on
@@ -214,7 +214,7 @@ refused_early : refusal_octets no_peers (reading first_two)
     ≡ 3 ∷ 0 ∷ 0 ∷ 46 ∷ 2 ∷ 240 ∷ 128 ∷ 12 ∷ 37 ∷ 50 ∷ 35 ∷ 2 ∷ 48 ∷ 32 ∷ 97 ∷ 30 ∷ 48 ∷ 28 ∷ 2 ∷ 1 ∷ 1
     ∷ 160 ∷ 23 ∷ 97 ∷ 21 ∷ 161 ∷ 7 ∷ 6 ∷ 5 ∷ 40 ∷ 202 ∷ 34 ∷ 2 ∷ 3 ∷ 162 ∷ 3 ∷ 2 ∷ 1 ∷ 1 ∷ 163 ∷ 5
     ∷ 161 ∷ 3 ∷ 2 ∷ 1 ∷ 1 ∷ []
-unfolding wire session.length_octets ber.length_octets ber.integer_octets presentation.user_octets refusal_tsdu
+unfolding wire session.session_length_octets ber.length_octets ber.integer_octets presentation.user_octets refusal_tsdu
 refused_early = refl
 
 not_refused : refusal_octets rows (reading first_two) ≡ []
@@ -229,38 +229,38 @@ abbrev closing : List Turn → List ℕ
 closing turns = close_octets (talk_of (reading first_two) false).setup turns
 
 release_alone : closing (releases ∷ []) ≡ released_octets
-unfolding wire session.length_octets ber.length_octets ber.integer_octets presentation.user_octets release_tsdu
+unfolding wire session.session_length_octets ber.length_octets ber.integer_octets presentation.user_octets release_tsdu
 release_alone = refl
 
 abort_of_the_peer : closing (aborts ∷ []) ≡ []
 abort_of_the_peer = refl
 
 fault_alone : closing (breaks ∷ []) ≡ aborted_octets
-unfolding wire session.length_octets ber.length_octets ber.integer_octets presentation.user_octets abort_tsdu
+unfolding wire session.session_length_octets ber.length_octets ber.integer_octets presentation.user_octets abort_tsdu
 fault_alone = refl
 
 conclude_alone : closing (concludes ∷ []) ≡ concluded_octets
-unfolding wire session.length_octets ber.length_octets ber.integer_octets presentation.user_octets data_tsdu pdu_octets
+unfolding wire session.session_length_octets ber.length_octets ber.integer_octets presentation.user_octets data_tsdu pdu_octets
 conclude_alone = refl
 
 conclude_and_fault : closing (concludes ∷ breaks ∷ []) ≡ concluded_octets ++ aborted_octets
-unfolding wire session.length_octets ber.length_octets ber.integer_octets presentation.user_octets data_tsdu abort_tsdu pdu_octets
+unfolding wire session.session_length_octets ber.length_octets ber.integer_octets presentation.user_octets data_tsdu abort_tsdu pdu_octets
 conclude_and_fault = refl
 
 conclude_and_abort : closing (concludes ∷ aborts ∷ []) ≡ concluded_octets
-unfolding wire session.length_octets ber.length_octets ber.integer_octets presentation.user_octets data_tsdu pdu_octets
+unfolding wire session.session_length_octets ber.length_octets ber.integer_octets presentation.user_octets data_tsdu pdu_octets
 conclude_and_abort = refl
 
 end_alone : closing (ends ∷ []) ≡ []
 end_alone = refl
 
 close_before_a_request : closing (asks 2 Identify ∷ []) ≡ aborted_octets
-unfolding wire session.length_octets ber.length_octets ber.integer_octets presentation.user_octets abort_tsdu
+unfolding wire session.session_length_octets ber.length_octets ber.integer_octets presentation.user_octets abort_tsdu
 close_before_a_request = refl
 
 -- what is sent in its place: the error 3 0 with the number of the request
 error_sent : wire 1024 (data_tsdu 3 (too_long 1))
     ≡ 3 ∷ 0 ∷ 0 ∷ 32 ∷ 2 ∷ 240 ∷ 128 ∷ 1 ∷ 0 ∷ 1 ∷ 0 ∷ 97 ∷ 19 ∷ 48 ∷ 17 ∷ 2 ∷ 1 ∷ 3 ∷ 160 ∷ 12
     ∷ 162 ∷ 10 ∷ 128 ∷ 1 ∷ 1 ∷ 162 ∷ 5 ∷ 160 ∷ 3 ∷ 131 ∷ 1 ∷ 0 ∷ []
-unfolding wire session.length_octets ber.length_octets ber.integer_octets presentation.user_octets data_tsdu pdu_octets error_pdu_octets service_error_octets
+unfolding wire session.session_length_octets ber.length_octets ber.integer_octets presentation.user_octets data_tsdu pdu_octets error_pdu_octets service_error_octets
 error_sent = refl

@@ -220,7 +220,7 @@ unfolding pdu one_pdu confirmed_request confirmed_response frame_pdu invoke_in o
     sized_part_in parted_in part_in choose_in maybe_in contents_as contents_where all_in whole_in
     more_in list_in count_in leaves.visible leaves.visible_within leaves.text_in leaves.integer
     leaves.unsigned leaves.octet leaves.octet_in leaves.boolean leaves.raw leaves.fixed visible_in
-    boolean_in wire session.length_octets ber.length_octets ber.integer_octets
+    boolean_in wire session.session_length_octets ber.length_octets ber.integer_octets
     presentation.user_octets data_tsdu pdu_octets response_octets invoke_octets echoed_octets
     outcomes_octets read_response_octets spec_octets variable_octets variables_octets
     deletable_octets members_response_octets delete_response_octets listed_octets names_octets

@@ -68,17 +68,17 @@ unfoldable pub third : List ℕ
 third = 3 ∷ 0 ∷ 0 ∷ 27 ∷ 2 ∷ 240 ∷ 128 ∷ identify_octets
 
 said_first : (rest : List ℕ) × Says roles.Called first (asks opener ∷ []) rest
-unfolding first streams.stream_from tpkts.tpkt_in tpkts.sized_in tpkts.tpdu_in tpkts.body_in tpkts.connect_in tpkts.disconnect_in tpkts.part_in tpkts.marked_in tpkts.parameters_in
+unfolding first streams.stream_from tpkts.tpkt_in tpkts.sized_in tpkts.tpdu_in tpkts.tpdu_body_in tpkts.connection_request_in tpkts.disconnect_in tpkts.data_part_in tpkts.marked_in tpkts.parameters_in
 said_first = left_says roles.Called first 0 refl
 
 said_second : (rest : List ℕ)
     × Says roles.Called (first ++ second) (asks opener ∷ tsdu 22 connecting_octets ∷ []) rest
-unfolding first second connecting_octets streams.stream_from tpkts.tpkt_in tpkts.sized_in tpkts.tpdu_in tpkts.body_in tpkts.connect_in tpkts.disconnect_in tpkts.part_in tpkts.marked_in tpkts.parameters_in
+unfolding first second connecting_octets streams.stream_from tpkts.tpkt_in tpkts.sized_in tpkts.tpdu_in tpkts.tpdu_body_in tpkts.connection_request_in tpkts.disconnect_in tpkts.data_part_in tpkts.marked_in tpkts.parameters_in
 said_second = left_says roles.Called (first ++ second) 0 refl
 
 said_third : (rest : List ℕ) × Says roles.Called (first ++ second ++ third)
     (asks opener ∷ tsdu 22 connecting_octets ∷ tsdu 199 identify_octets ∷ []) rest
-unfolding first second third connecting_octets identify_octets streams.stream_from tpkts.tpkt_in tpkts.sized_in tpkts.tpdu_in tpkts.body_in tpkts.connect_in tpkts.disconnect_in tpkts.part_in tpkts.marked_in tpkts.parameters_in
+unfolding first second third connecting_octets identify_octets streams.stream_from tpkts.tpkt_in tpkts.sized_in tpkts.tpdu_in tpkts.tpdu_body_in tpkts.connection_request_in tpkts.disconnect_in tpkts.data_part_in tpkts.marked_in tpkts.parameters_in
 said_third = left_says roles.Called (first ++ second ++ third) 0 refl
 
 -- ---- what the octets so far tell
@@ -175,7 +175,7 @@ early_sent =
 -- had ended: the confirm of the transport, the accept, the response, and nothing for the close
 ended_sent : octets_out (own_table rows 0) (own 0 closes ∷ still_open) 0 (first ++ second ++ third) true
     ≡ confirm_octets ++ accept_octets ++ identified_octets
-unfolding wanted wire session_octets.length_octets ber.length_octets ber.integer_octets presentation_octets.user_octets accept_tsdu data_tsdu presentation_octets.set_up_octets presentation_octets.mode_octets presentation_octets.accept_octets presentation_octets.results_octets presentation_octets.accepted_octets pdu_octets initiate_octets later_octets last_octets initiate_detail_octets response_octets invoke_octets identify_response_octets
+unfolding wanted wire session_octets.session_length_octets ber.length_octets ber.integer_octets presentation_octets.user_octets accept_tsdu data_tsdu presentation_octets.set_up_octets presentation_octets.mode_octets presentation_octets.accept_ppdu_octets presentation_octets.results_octets presentation_octets.accepted_octets pdu_octets initiate_octets later_octets last_octets initiate_detail_octets response_octets invoke_octets identify_response_octets
 ended_sent =
     ap (λ (r : Reading). octets_in (own_table rows 0) 0 (talk_of r true) (own 0 closes ∷ still_open))
     read_third
@@ -184,7 +184,7 @@ ended_sent =
 unexplained_sent : octets_out (own_table rows 0) (own 0 closes ∷ still_open) 0
     (first ++ second ++ third) false
     ≡ confirm_octets ++ accept_octets ++ identified_octets ++ aborted_octets
-unfolding wanted wire session_octets.length_octets ber.length_octets ber.integer_octets presentation_octets.user_octets accept_tsdu data_tsdu abort_tsdu presentation_octets.set_up_octets presentation_octets.mode_octets presentation_octets.accept_octets presentation_octets.results_octets presentation_octets.accepted_octets pdu_octets initiate_octets later_octets last_octets initiate_detail_octets response_octets invoke_octets identify_response_octets
+unfolding wanted wire session_octets.session_length_octets ber.length_octets ber.integer_octets presentation_octets.user_octets accept_tsdu data_tsdu abort_tsdu presentation_octets.set_up_octets presentation_octets.mode_octets presentation_octets.accept_ppdu_octets presentation_octets.results_octets presentation_octets.accepted_octets pdu_octets initiate_octets later_octets last_octets initiate_detail_octets response_octets invoke_octets identify_response_octets
 unexplained_sent =
     ap (λ (r : Reading). octets_in (own_table rows 0) 0 (talk_of r false) (own 0 closes ∷ still_open))
     read_third

@@ -1,6 +1,7 @@
 -- The octets that a peer is sent.
 use Rattle.std.specs.Prelude.{ℕ, ℤ, pos, ◌-◌, ◌==◌, nat_lt, int_lt, Bool, true, false, not}
-use Rattle.std.specs.Prelude.{if◌then◌else◌, List, [], ◌∷◌, ◌++◌, length, filter, Option, Some, None}
+use Rattle.std.specs.Prelude.{if◌then◌else◌, List, [], ◌∷◌, ◌++◌, length, filter, Option, Some}
+use Rattle.std.specs.Prelude.{None}
 use Rattle.tpkt_cotp.specs.Written.{wire}
 use Rattle.mms_services.specs.declared.initiate.TheConstants.{MOST_DETAIL}
 use Rattle.mms_services.specs.declared.pdu.MmsPdu.{MmsPdu}
@@ -21,7 +22,8 @@ use Rattle.tase_views.specs.View as acts
 use Rattle.tase_views.specs.Answers.{reply_to}
 use Rattle.tase_map.specs.Replied.{pdu_in}
 use Rattle.tase_map.specs.Readings.{Reading, reading_of}
-use Rattle.tase_map.specs.Turns.{Turn, offers, offers_badly, asks, concludes, releases, aborts, breaks, ends}
+use Rattle.tase_map.specs.Turns.{Turn, offers, offers_badly, asks, concludes, releases, aborts}
+use Rattle.tase_map.specs.Turns.{breaks, ends}
 use Rattle.tase_map.specs.Turns.{turns_told}
 use Rattle.tase_map.specs.Asks.{is_peers}
 

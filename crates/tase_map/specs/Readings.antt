@@ -5,7 +5,7 @@ use Rattle.std.proofs.Common.{inl, inr}
 use Rattle.stack_messages.specs.declared.fault.StackFault.{StackFault}
 use Rattle.stack_messages.proofs.OneMessage.{one_message}
 use Rattle.stack_assoc.specs.Arrivals.{Arrival, called}
-use Rattle.stack_assoc.specs.Tellings.{Tells, Stops}
+use Rattle.stack_assoc.specs.Tellings.{Tells, StopsTelling}
 use Rattle.stack_assoc.proofs.StreamLaws.{always}
 
 pub record Reading : Type 0 where
@@ -15,7 +15,7 @@ pub record Reading : Type 0 where
 -- octets that tell messages and a rest, or messages and a fault
 abbrev pub TellsOrStops : List ℕ → Type 0
 TellsOrStops octets = ((told : List Arrival) × (rest : List ℕ) × Tells called octets told rest)
-    ⊎ ((told : List Arrival) × (fault : StackFault) × Stops called octets told fault)
+    ⊎ ((told : List Arrival) × (fault : StackFault) × StopsTelling called octets told fault)
 
 abbrev pub the_reading : (octets : List ℕ) → TellsOrStops octets → Reading
 the_reading octets (inl tells) = record { told = tells.0; broken = None }
@@ -28,4 +28,4 @@ reading_of octets = the_reading octets (always one_message called octets)
 -- octets tell this
 abbrev pub Reads : List ℕ → List Arrival → Option StackFault → Type 0
 Reads octets told None = (rest : List ℕ) × Tells called octets told rest
-Reads octets told (Some fault) = Stops called octets told fault
+Reads octets told (Some fault) = StopsTelling called octets told fault

@@ -1,7 +1,7 @@
 //! Replies of the node as PDUs of MMS, and PDUs as replies.
 ghost use Rattle.std.specs.Prelude.{◌≡◌, Some, IfOk, option_map};
 ghost use Rattle.mms_services.specs.Lawful.{IsLawfulPdu, IsLawfulResponse};
-ghost use Rattle.mms_services.specs.PduOctets.{IsWritable};
+ghost use Rattle.mms_services.specs.PduOctets.{IsWritablePdu};
 ghost use Rattle.tase_views.specs.declared.reply.ReplyKind.TheVariants as replies;
 ghost use Rattle.tase_map.specs.Replied.{pdu_in, spec_in, reply_in, reply_in_response, results_in};
 
@@ -17,7 +17,7 @@ use tase_views::{ObjectNames, ReadSpec, Reply, ReplyKind, Results, WriteResults}
 #[tactic(auto, using(crate::proofs::RepliedLaws::writable_pdu))]
 pub fn pdu_of(alloc: Global, invoke: u32, reply: &Reply) -> Result<MmsPdu, AllocError>
     ensures exact { IfOk result (λ pdu. pdu ≡ pdu_in invoke reply.now) }
-    ensures writable { IfOk result IsWritable }
+    ensures writable { IfOk result IsWritablePdu }
 {
     match reply.kind() {
         ReplyKind::Identified => Ok(identified(invoke)),

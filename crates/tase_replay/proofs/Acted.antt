@@ -17,7 +17,7 @@ use Rattle.conn_laws.specs.Serving.{AreOthers, with_event}
 use Rattle.conn_laws.proofs.Seats.{at_seat, event_here, others_none, others_seat}
 use Rattle.conn_service.specs.Attending.{HasTaken, IsRefused, with_closed}
 use Rattle.conn_service.specs.Linked.{peer_end}
-use Rattle.conn_service.specs.Sends.{HasEvents, close_of, IsSaid, IsFrontOf}
+use Rattle.conn_service.specs.Sends.{HasEvents, close_of, IsSaidByEnd, IsFrontOf}
 use Rattle.conn_service.proofs.Attended.{events_taken}
 
 -- all that its link asks
@@ -59,19 +59,23 @@ pub acted_stopped : (setup : Setup) (past : Past) (who : ℕ) (items : List Item
     → HasEvents setup after who items (Some conn_ends.Stopped)
 acted_stopped setup past who items place between after r closed =
     let s = shut_by between who (association_in between who) refl in
-    inr (conn_ends.Stopped, refl, record {
-      next = r.event;
-      others = r.later;
-      later = s.later;
-      before = between;
-      past_is = closed ∙ s.is;
-      asks_are = r.has.asks_are
-          ∙ ap (λ (es : List EventKind). es ++ r.event ∷ r.later)
-          (sym (events_taken setup who past r.has.taken between r.has.takes));
-      cause = (place, r.refused);
-      closed = s.closed;
-      none_open = ap (λ (p : Past). association_in p who) closed ∙ s.none_open;
-    })
+    inr (
+      conn_ends.Stopped,
+      refl,
+      record {
+        next = r.event;
+        others = r.later;
+        later = s.later;
+        before = between;
+        past_is = closed ∙ s.is;
+        asks_are = r.has.asks_are
+            ∙ ap (λ (es : List EventKind). es ++ r.event ∷ r.later)
+            (sym (events_taken setup who past r.has.taken between r.has.takes));
+        cause = (place, r.refused);
+        closed = s.closed;
+        none_open = ap (λ (p : Past). association_in p who) closed ∙ s.none_open;
+      },
+    )
 
 -- entries of other seats change none of that
 pub acted_still : (setup : Setup) (who : ℕ) (others past : Past) (items : List Item)
@@ -83,22 +87,26 @@ acted_still setup who others past items end a (inl all) = inl (record {
 })
 acted_still setup who others past items end a (inr cut) =
     let c = cut.2 in
-    inr (cut.0, cut.1, record {
-      next = c.next;
-      others = c.others;
-      later = others ++ c.later;
-      before = c.before;
-      past_is = ap (λ (p : Past). others ++ p) c.past_is
-          ∙ sym (append_assoc others c.later c.before);
-      asks_are = c.asks_are;
-      cause = c.cause;
-      closed = others_none who others c.later a ∙ c.closed;
-      none_open = others_seat who others past a ∙ c.none_open;
-    })
+    inr (
+      cut.0,
+      cut.1,
+      record {
+        next = c.next;
+        others = c.others;
+        later = others ++ c.later;
+        before = c.before;
+        past_is = ap (λ (p : Past). others ++ p) c.past_is
+            ∙ sym (append_assoc others c.later c.before);
+        asks_are = c.asks_are;
+        cause = c.cause;
+        closed = others_none who others c.later a ∙ c.closed;
+        none_open = others_seat who others past a ∙ c.none_open;
+      },
+    )
 
 -- what is said whole is as much as is owed, however the connection has ended
 pub said_whole : (setup : Setup) (items : List Item) (end : Option ConnEnd) (octets : List ℕ)
-    → IsSaid setup items end octets octets
+    → IsSaidByEnd setup items end octets octets
 said_whole setup items None octets = refl
 said_whole setup items (Some conn_ends.Finished) octets = refl
 said_whole setup items (Some conn_ends.PeerEnd) octets = refl

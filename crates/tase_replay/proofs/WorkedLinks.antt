@@ -39,9 +39,9 @@ use Rattle.tase_replay.proofs.WorkedReadings.{offered_read, asked_read, broken_r
 
 -- what is written
 writes : Unit {0}
-unfolding digits octets_of wanted wire session.length_octets ber.length_octets ber.integer_octets
+unfolding digits octets_of wanted wire session.session_length_octets ber.length_octets ber.integer_octets
     presentation.user_octets accept_tsdu refusal_tsdu data_tsdu abort_tsdu
-    presentation.set_up_octets presentation.mode_octets presentation.accept_octets
+    presentation.set_up_octets presentation.mode_octets presentation.accept_ppdu_octets
     presentation.results_octets presentation.accepted_octets pdu_octets initiate_octets later_octets
     last_octets initiate_detail_octets response_octets invoke_octets identify_response_octets
 writes = tt

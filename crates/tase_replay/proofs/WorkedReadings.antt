@@ -116,8 +116,8 @@ asked_read = read_third
 -- ---- less than a message
 
 reads_transport : Unit {0}
-unfolding streams.stream_from tpkts.tpkt_in tpkts.sized_in tpkts.tpdu_in tpkts.body_in
-    tpkts.connect_in tpkts.disconnect_in tpkts.part_in tpkts.marked_in tpkts.parameters_in
+unfolding streams.stream_from tpkts.tpkt_in tpkts.sized_in tpkts.tpdu_in tpkts.tpdu_body_in
+    tpkts.connection_request_in tpkts.disconnect_in tpkts.data_part_in tpkts.marked_in tpkts.parameters_in
 reads_transport = tt
 
 abbrev pub front : List ℕ

@@ -5,7 +5,7 @@ use Rattle.std.specs.Prelude.{option_map, option_and_then, codes, bytes_eq}
 use Rattle.std.proofs.Common.{take, drop, inl, inr}
 use Rattle.std.specs.List.{position}
 use Rattle.std.specs.Ordering.{int_eq}
-use Rattle.plain_text.specs.Numbers.{integer_within}
+use Rattle.plain_text.specs.Numbers.{integer_word_within}
 use Rattle.plain_text.specs.Words.{each_in}
 use Rattle.mms_data.specs.Datum.{Datum}
 use Rattle.mms_data.specs.ObjectName.{ObjectName}
@@ -58,7 +58,7 @@ write_in words =
 
 -- a number of 64 bits
 abbrev pub class_in : List ℕ → Option ℤ
-class_in word = integer_within (negsuc (2 ^ 63 - 1)) (pos (2 ^ 63 - 1)) word
+class_in word = integer_word_within (negsuc (2 ^ 63 - 1)) (pos (2 ^ 63 - 1)) word
 
 -- a scope that ends with the separator at a place
 abbrev pub scope_at : List ℕ → ℕ → Option Scope

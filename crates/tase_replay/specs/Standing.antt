@@ -1,5 +1,6 @@
 -- Where the seats of a scenario stand between two lines.
-use Rattle.std.specs.Prelude.{◌≡◌, ℕ, Bool, true, false, List, [], ◌∷◌, ◌++◌, length, Option, Some, None, is_some, nat_eq}
+use Rattle.std.specs.Prelude.{◌≡◌, ℕ, Bool, true, false, List, [], ◌∷◌, ◌++◌, length, Option, Some}
+use Rattle.std.specs.Prelude.{None, is_some, nat_eq}
 use Rattle.std.specs.Prelude.{slice_get, ◌==◌, ◌⊎◌, reverse, if◌then◌else◌}
 use Rattle.std.specs.List.{list_any}
 use Rattle.std.specs.HashMap.{get}

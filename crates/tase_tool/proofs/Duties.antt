@@ -24,7 +24,7 @@ use Rattle.bilateral.specs.Rows.{CentreRows}
 use Rattle.bilateral.specs.Reading.{centre_in}
 use Rattle.bilateral.specs.declared.fault.TableFault.{TableFault}
 use Rattle.tase_tool.specs.Words.{replays}
-use Rattle.tase_tool.specs.Saying.{refused, centre_or_refusal, tables_read, within_limit, said_of}
+use Rattle.tase_tool.specs.Saying.{refused_said, centre_or_refusal, tables_read, within_limit, said_of}
 use Rattle.tase_tool.specs.Saying.{text_duty, scenario_said, scenario_duty, duty_over, duty_after}
 use Rattle.tase_tool.specs.Saying.{opening, second_text, duty_of}
 use Rattle.tase_tool.specs.Tables.{centre_or_end, IsCentreFrom, IsRead, IsTables, ReadsTables}
@@ -59,12 +59,12 @@ tables_past octets h =
 said_within : (input : List ℕ) (say : List ℕ → Said) (octets : List ℕ)
     → length octets ≤ TEXT_LIMIT → within_limit input say octets ≡ say octets
 said_within input say octets h =
-    ap (λ b. cond b (refused input Long) (say octets)) (is_within TEXT_LIMIT (length octets) h)
+    ap (λ b. cond b (refused_said input Long) (say octets)) (is_within TEXT_LIMIT (length octets) h)
 
 said_past : (input : List ℕ) (say : List ℕ → Said) (octets : List ℕ)
-    → TEXT_LIMIT < length octets → within_limit input say octets ≡ refused input Long
+    → TEXT_LIMIT < length octets → within_limit input say octets ≡ refused_said input Long
 said_past input say octets h =
-    ap (λ b. cond b (refused input Long) (say octets)) (is_less TEXT_LIMIT (length octets) h)
+    ap (λ b. cond b (refused_said input Long) (say octets)) (is_less TEXT_LIMIT (length octets) h)
 
 bad_centre : (read : Result CentreRows TableFault) (line : ℕ)
     → IsCentreFrom (Err (Refused (BadLine line))) read → centre_or_refusal read ≡ Err (BadLine line)
@@ -258,11 +258,11 @@ module _ (b m a : OutsideTold) (tables scenario : List ℕ) (limit : ℕ) where
   -- with refused tables
   IsRun-refused : (refusal : Refusal) (status : Status)
       → ReadsTables b m tables (Err (Refused refusal))
-      → IsRun (duty_to_say true (refused (codes "tables") refusal)) m a status
+      → IsRun (duty_to_say true (refused_said (codes "tables") refusal)) m a status
       → IsRun (duty_of (Some (replays tables scenario limit)) (texts_of b)) b a status
   IsRun-refused refusal status reads run =
       IsRun-then (duty_of (Some (replays tables scenario limit)) (texts_of b))
-      (duty_to_say true (refused (codes "tables") refusal)) b m a tables status
+      (duty_to_say true (refused_said (codes "tables") refusal)) b m a tables status
       (after_is_command (texts_of b tables) limit scenario
       (second_text (texts_of b) tables scenario))
       refl (follows (texts_of b tables) reads.tables) reads.opens run
@@ -270,13 +270,13 @@ module _ (b m a : OutsideTold) (tables scenario : List ℕ) (limit : ℕ) where
       follows : (t : Text) → IsTables (Err (Refused refusal)) t
           → Follows
           (opening tables (duty_after t limit scenario (second_text (texts_of b) tables scenario)))
-          tables (duty_to_say true (refused (codes "tables") refusal))
+          tables (duty_to_say true (refused_said (codes "tables") refusal))
       follows untold told_tables = nothing_told (scenario ∷ []) refl refl
       follows missing told_tables = absurd cc
       follows (told octets) told_tables =
           subst (λ r. Follows
           (opening tables (duty_over r limit scenario (second_text (texts_of b) tables scenario)))
-          tables (duty_to_say true (refused (codes "tables") refusal)))
+          tables (duty_to_say true (refused_said (codes "tables") refusal)))
           (sym told_tables) (same_said refl refl)
 
   -- and without tables
@@ -347,15 +347,15 @@ module _ (b m a : OutsideTold) (input : List ℕ) (say : List ℕ → Said) (nam
   -- over a refused one
   IsRun-refused_text : (refusal : Refusal) (status : Status)
       → ReadsInput b m name (Err (Refused refusal))
-      → IsRun (duty_to_say true (refused input refusal)) m a status
+      → IsRun (duty_to_say true (refused_said input refusal)) m a status
       → IsRun (text_duty input say name (texts_of b name)) b a status
   IsRun-refused_text refusal status reads run =
       IsRun-then (text_duty input say name (texts_of b name))
-      (duty_to_say true (refused input refusal)) b m a name status
+      (duty_to_say true (refused_said input refusal)) b m a name status
       refl refl (follows refusal (texts_of b name) reads.text) reads.opens run
     where
       follows : (r : Refusal) (t : Text) → IsInput (Err (Refused r)) t
-          → Follows (text_duty input say name t) name (duty_to_say true (refused input r))
+          → Follows (text_duty input say name t) name (duty_to_say true (refused_said input r))
       follows r untold is = nothing_told [] refl refl
       follows r missing is = absurd cc
       follows Long (told octets) is = same_said (ap Some (said_past input say octets is)) refl

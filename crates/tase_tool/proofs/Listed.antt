@@ -8,14 +8,14 @@ use Rattle.command_io.specs.declared.status.Status.{Status}
 use Rattle.command_io.specs.declared.status.Status.TheVariants.{Done, Usage, Input, Outside, Full}
 use Rattle.command_io.specs.declared.status.Status.TheVariants.{Memory}
 use Rattle.command_io.specs.Saying.{prints}
-use Rattle.command_io.specs.Runs.{Tells}
+use Rattle.command_io.specs.Runs.{TellsSaid}
 use Rattle.stream_listing.specs.Listings.{Listing, State, listing_of, yet_listed, with_text, ListsPiece}
 use Rattle.stream_listing.proofs.Listing.{with_text-twice}
 use Rattle.tase_tool.specs.Listing.{status_of, listing_said, ListsOn}
 
 -- a listing is no answer to words that are no command
 pub lists_command : (listing : Listing) (k l : SinkTold) (status : Status)
-    → Tells (listing_said listing) k l status → status ≢ Usage
+    → TellsSaid (listing_said listing) k l status → status ≢ Usage
 lists_command listing k l Done tells = λ same. absurd cc
 lists_command listing k l Usage tells = absurd (no_usage listing.broken tells.0)
   where
@@ -29,8 +29,8 @@ lists_command listing k l Memory tells = λ same. absurd cc
 
 -- a text that was printed, and then the rest of a listing
 pub Tells-behind : (k m l : SinkTold) (text : List ℕ) (listing : Listing) (status : Status)
-    → AppendsAll k m text → Tells (listing_said listing) m l status
-    → Tells (listing_said (with_text text listing)) k l status
+    → AppendsAll k m text → TellsSaid (listing_said listing) m l status
+    → TellsSaid (listing_said (with_text text listing)) k l status
 Tells-behind k m l text listing Done all tells =
     (tells.0, Appends-append k m l text listing.text false all tells.1)
 Tells-behind k m l text listing Usage all tells =
@@ -53,10 +53,10 @@ pub record Stands (octets : List ℕ) (lister : State) (left : List ℕ) (k m : 
 -- it ends
 pub Stands-end : (octets : List ℕ) (lister : State) (left : List ℕ) (k m l : SinkTold)
     (status : Status) → Stands octets lister left k m
-    → Tells (listing_said (yet_listed lister left)) m l status
-    → Tells (listing_said (listing_of octets)) k l status
+    → TellsSaid (listing_said (yet_listed lister left)) m l status
+    → TellsSaid (listing_said (listing_of octets)) k l status
 Stands-end octets lister left k m l status s tells =
-    subst (λ (listing : Listing). Tells (listing_said listing) k l status) (sym s.goes)
+    subst (λ (listing : Listing). TellsSaid (listing_said listing) k l status) (sym s.goes)
     (Tells-behind k m l s.printed (yet_listed lister left) status s.all tells)
 
 -- it goes on behind a piece
@@ -75,16 +75,16 @@ Stands-next octets lister next piece rest left k m l s is on = record {
 -- it stops at a piece
 pub Stands-stop : (octets : List ℕ) (lister : State) (piece rest left : List ℕ)
     (k m l : SinkTold) (status : Status) → Stands octets lister left k m → left ≡ piece ++ rest
-    → ListsOn lister piece m l (Err status) → Tells (listing_said (listing_of octets)) k l status
+    → ListsOn lister piece m l (Err status) → TellsSaid (listing_said (listing_of octets)) k l status
 Stands-stop octets lister piece rest left k m l status s is on =
     Stands-end octets lister left k m l status s
-    (subst (λ (os : List ℕ). Tells (listing_said (yet_listed lister os)) m l status) (sym is)
+    (subst (λ (os : List ℕ). TellsSaid (listing_said (yet_listed lister os)) m l status) (sym is)
     (on rest))
 
 -- a write of the lines of a piece that fails
 pub stopped_piece : (old next : State) (piece before text : List ℕ) (k l : SinkTold)
     → ListsPiece old next piece before text → before ≡ [] → AppendsPart k l text true
-    → (more : List ℕ) → Tells (listing_said (yet_listed old (piece ++ more))) k l Outside
+    → (more : List ℕ) → TellsSaid (listing_said (yet_listed old (piece ++ more))) k l Outside
 stopped_piece old next piece before text k l lists none part more =
     subst (λ (listing : Listing). AppendsPart k l listing.text true) (sym (lists.goes more))
     (AppendsPart-front k l lists.added (yet_listed next more).text true

@@ -15,7 +15,7 @@ use Rattle.command_io.specs.declared.status.Status.TheVariants.{Done, Usage, Inp
 use Rattle.command_io.specs.declared.status.Status.TheVariants.{Memory}
 use Rattle.command_io.specs.declared.input.Refusal.TheVariants.{BadLine}
 use Rattle.command_io.specs.Saying.{Said, prints, refusal_text, full_text}
-use Rattle.command_io.specs.Runs.{Tells}
+use Rattle.command_io.specs.Runs.{TellsSaid}
 use Rattle.tase_replay.specs.Play.{Step, Played, End, done, bad_line, history_full, printed_in}
 use Rattle.tase_replay.specs.Play.{shown_of, steps_of}
 use Rattle.tase_replay.specs.Ends.{IsPlayed}
@@ -33,7 +33,7 @@ plays_alone shown (history_full weight limit) = refl
 
 -- a play is no answer to words that are no command
 pub plays_command : (shown : List ℕ) (end : End) (k l : SinkTold) (status : Status)
-    → Tells (said_at shown end) k l status → status ≢ Usage
+    → TellsSaid (said_at shown end) k l status → status ≢ Usage
 plays_command shown done k l Done tells = λ same. absurd cc
 plays_command shown done k l Usage tells = absurd (let e = tells.0 in cc)
 plays_command shown done k l Input tells = λ same. absurd cc
@@ -56,7 +56,7 @@ plays_command shown (history_full weight limit) k l Memory tells = λ same. absu
 -- a refusal after what was shown
 Tells-after : (answer : Status) (k m l : SinkTold) (shown refusal : List ℕ) (status : Status)
     → AppendsAll k m shown
-    → Tells (prints answer refusal) m l status → Tells (prints answer (shown ++ refusal)) k l status
+    → TellsSaid (prints answer refusal) m l status → TellsSaid (prints answer (shown ++ refusal)) k l status
 Tells-after answer k m l shown refusal Done all tells =
     (tells.0, Appends-append k m l shown refusal false all tells.1)
 Tells-after answer k m l shown refusal Usage all tells =
@@ -99,24 +99,24 @@ AppendsPart-played k l played count failed part =
 -- how a play ended is told behind what its lines show
 pub Tells-played : (played : Played) (history now : List Entry) (k m l : SinkTold)
     (end : ReplayEnd) (status : Status) → IsPlayed played history now k m end
-    → EndsPlay end m l status → Tells (played_said played) k l status
+    → EndsPlay end m l status → TellsSaid (played_said played) k l status
 Tells-played played history now k m l plays.Done status went ends =
-    subst (λ e. Tells (said_at (shown_of played) e) k l status) (sym went.0)
-    (subst (λ s. Tells (prints Done (shown_of played)) k l s) (sym ends.0)
+    subst (λ e. TellsSaid (said_at (shown_of played) e) k l status) (sym went.0)
+    (subst (λ s. TellsSaid (prints Done (shown_of played)) k l s) (sym ends.0)
     (refl, subst (λ x. AppendsAll k x (shown_of played)) (sym ends.1) went.1.shown))
 Tells-played played history now k m l (plays.BadLine line) status went ends =
-    subst (λ e. Tells (said_at (shown_of played) e) k l status) (sym went.0)
+    subst (λ e. TellsSaid (said_at (shown_of played) e) k l status) (sym went.0)
     (Tells-after Input k m l (shown_of played) (refusal_text (codes "scenario") (BadLine line))
     status went.1.shown ends.0)
 Tells-played played history now k m l (plays.Full weight limit) status went ends =
-    subst (λ e. Tells (said_at (shown_of played) e) k l status) (sym went.0)
+    subst (λ e. TellsSaid (said_at (shown_of played) e) k l status) (sym went.0)
     (Tells-after Full k m l (shown_of played) (full_text weight limit) status went.1.shown ends.0)
 Tells-played played history now k m l plays.SinkFault status went ends =
-    subst (λ s. Tells (played_said played) k l s) (sym ends.0)
+    subst (λ s. TellsSaid (played_said played) k l s) (sym ends.0)
     (subst (λ x. AppendsPart k x (played_said played).text true) (sym ends.1)
     (AppendsPart-played k m played went.count true went.shown))
 Tells-played played history now k m l plays.Memory status went ends =
-    subst (λ s. Tells (played_said played) k l s) (sym ends.0)
+    subst (λ s. TellsSaid (played_said played) k l s) (sym ends.0)
     (subst (λ x. AppendsPart k x (played_said played).text false) (sym ends.1)
     (AppendsPart-played k m played went.count false went.shown))
 
@@ -137,8 +137,8 @@ module _ (k m l : SinkTold) (gathered : List ℕ) (held : k.held ≡ 0) where
 
   -- what was gathered is handed on
   pub Tells-handed : (said : Said) (status : Status) → status ≢ Outside
-      → Tells said (buffered_told k []) (buffered_told m gathered) status
-      → Finishes m l gathered (Ok tt) → Tells said k l status
+      → TellsSaid said (buffered_told k []) (buffered_told m gathered) status
+      → Finishes m l gathered (Ok tt) → TellsSaid said k l status
   Tells-handed said Done other tells handed = (
     tells.0,
     handed_all k m l gathered handed.0 said.text tt (from_sink said.text false tells.1)
@@ -168,8 +168,8 @@ module _ (k m l : SinkTold) (gathered : List ℕ) (held : k.held ≡ 0) where
 
   -- not all of it
   pub Tells-unhanded : (said : Said) (status : Status) (failed : SinkFailed) → status ≢ Outside
-      → Tells said (buffered_told k []) (buffered_told m gathered) status
-      → Finishes m l gathered (Err failed) → Tells said k l Outside
+      → TellsSaid said (buffered_told k []) (buffered_told m gathered) status
+      → Finishes m l gathered (Err failed) → TellsSaid said k l Outside
   Tells-unhanded said Done failed other tells handed =
       handed_part k m l gathered handed.0 said.text failed held (from_sink said.text false tells.1)
       handed.1
@@ -189,7 +189,7 @@ module _ (k m l : SinkTold) (gathered : List ℕ) (held : k.held ≡ 0) where
 
   -- a write failed before, and none comes after it
   pub Tells-failed : (said : Said)
-      → Tells said (buffered_told k []) (buffered_told m gathered) Outside → Tells said k m Outside
+      → TellsSaid said (buffered_told k []) (buffered_told m gathered) Outside → TellsSaid said k m Outside
   Tells-failed said tells = front_of_front k m tells.0 said.text true
       (unbuffered k m gathered (take tells.0 said.text) true held
       (from_sink (take tells.0 said.text) true tells.1))

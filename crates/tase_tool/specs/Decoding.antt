@@ -11,20 +11,20 @@ use Rattle.ber_values.specs.declared.fault.BerFault.{BerFault}
 use Rattle.ber_values.specs.Reading.{Taken}
 use Rattle.mms_services.specs.declared.pdu.MmsPdu.{MmsPdu}
 use Rattle.mms_services.specs.Pdus.{pdu}
-use Rattle.stream_listing.specs.Names.{name_text, pdu_name, why_name}
+use Rattle.stream_listing.specs.Names.{message_name_text, pdu_name, why_name}
 
 -- `pdu NAME LENGTH`
 abbrev pub pdu_line : List ℕ → ℕ → List ℕ
 pdu_line name len = codes "pdu " ++ name ++ codes " " ++ decimal len ++ 10 ∷ []
 
 -- `fault mms PLACE WHY`
-abbrev pub fault_line : ℕ → List ℕ → List ℕ
-fault_line place why = codes "fault mms " ++ decimal place ++ codes " " ++ why ++ 10 ∷ []
+abbrev pub pdu_fault_line : ℕ → List ℕ → List ℕ
+pdu_fault_line place why = codes "fault mms " ++ decimal place ++ codes " " ++ why ++ 10 ∷ []
 
 -- what is said of octets, of which so many were read to a PDU, or to their first fault
 abbrev pub read_said : ℕ → Result (Taken MmsPdu) BerFault → Said
-read_said len (Ok taken) = prints Done (pdu_line (name_text (pdu_name taken.value)) len)
-read_said len (Err fault) = prints Input (fault_line fault.place (why_name fault.why))
+read_said len (Ok taken) = prints Done (pdu_line (message_name_text (pdu_name taken.value)) len)
+read_said len (Err fault) = prints Input (pdu_fault_line fault.place (why_name fault.why))
 
 -- the PDU that all octets are, or the first rule that they break
 abbrev pub pdu_said : List ℕ → Said

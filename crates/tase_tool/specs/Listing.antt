@@ -5,7 +5,7 @@ use Rattle.command_io.specs.declared.status.Status.{Status}
 use Rattle.command_io.specs.declared.status.Status.TheVariants.{Done, Input}
 use Rattle.command_io.specs.declared.input.Refusal.TheVariants.{BadLine}
 use Rattle.command_io.specs.Saying.{Said, prints, refusal_text}
-use Rattle.command_io.specs.Runs.{Tells}
+use Rattle.command_io.specs.Runs.{TellsSaid}
 use Rattle.stream_listing.specs.Listings.{Listing, listing_of, State, yet_listed, with_text}
 
 -- a fault refuses the input
@@ -27,4 +27,4 @@ abbrev pub ListsOn : State → List ℕ → SinkTold → SinkTold → Result Sta
 ListsOn old piece before after (Ok new) = (added : List ℕ) × AppendsAll before after added
     × ((more : List ℕ) → yet_listed old (piece ++ more) ≡ with_text added (yet_listed new more))
 ListsOn old piece before after (Err status) = (more : List ℕ)
-    → Tells (listing_said (yet_listed old (piece ++ more))) before after status
+    → TellsSaid (listing_said (yet_listed old (piece ++ more))) before after status

@@ -5,7 +5,7 @@ use Rattle.command_io.specs.declared.status.Status.{Status}
 use Rattle.command_io.specs.declared.status.Status.TheVariants as statuses
 use Rattle.command_io.specs.declared.input.Refusal.TheVariants as refusals
 use Rattle.command_io.specs.Saying.{prints, refusal_text, full_text}
-use Rattle.command_io.specs.Runs.{Tells}
+use Rattle.command_io.specs.Runs.{TellsSaid}
 use Rattle.tase_replay.specs.declared.playing.ReplayEnd.{ReplayEnd}
 use Rattle.tase_replay.specs.declared.playing.ReplayEnd.TheVariants.{Done, BadLine, Full, SinkFault}
 use Rattle.tase_replay.specs.declared.playing.ReplayEnd.TheVariants.{Memory}
@@ -15,10 +15,10 @@ use Rattle.tase_replay.specs.declared.playing.ReplayEnd.TheVariants.{Memory}
 abbrev pub EndsPlay : ReplayEnd → SinkTold → SinkTold → Status → Type 0
 EndsPlay Done before after status = (status ≡ statuses.Done) × (after ≡ before)
 EndsPlay (BadLine line) before after status =
-    Tells (prints statuses.Input (refusal_text (codes "scenario") (refusals.BadLine line)))
+    TellsSaid (prints statuses.Input (refusal_text (codes "scenario") (refusals.BadLine line)))
     before after status × ((status ≡ statuses.Input) ⊎ (status ≡ statuses.Outside))
 EndsPlay (Full weight limit) before after status =
-    Tells (prints statuses.Full (full_text weight limit)) before after status
+    TellsSaid (prints statuses.Full (full_text weight limit)) before after status
     × ((status ≡ statuses.Full) ⊎ (status ≡ statuses.Outside))
 EndsPlay SinkFault before after status = (status ≡ statuses.Outside) × (after ≡ before)
 EndsPlay Memory before after status = (status ≡ statuses.Memory) × (after ≡ before)

@@ -23,8 +23,8 @@ abbrev pub usage : Said
 usage = prints Usage (codes "usage" ++ 10 ∷ [])
 
 -- what is said of a refused input
-abbrev pub refused : List ℕ → Refusal → Said
-refused input refusal = prints Input (refusal_text input refusal)
+abbrev pub refused_said : List ℕ → Refusal → Said
+refused_said input refusal = prints Input (refusal_text input refusal)
 
 -- the centre that a text of tables spells, or why it is refused
 abbrev pub centre_or_refusal : Result CentreRows TableFault → Result CentreRows Refusal
@@ -56,7 +56,7 @@ scenario_said rows limit text = played_said (scenario_of (setup_of rows limit) t
 -- what is said of an input's text, which has at most so many octets
 abbrev pub within_limit : List ℕ → (List ℕ → Said) → List ℕ → Said
 within_limit input say text =
-    if nat_lt TEXT_LIMIT (length text) then refused input Long else say text
+    if nat_lt TEXT_LIMIT (length text) then refused_said input Long else say text
 
 -- what is said of an input's octets, where they are told; without the input a fault outside, and
 -- nothing is printed
@@ -82,7 +82,7 @@ scenario_duty rows limit name text =
 abbrev pub duty_over : Result CentreRows Refusal → ℕ → List ℕ → Text → Duty
 duty_over (Ok rows) limit name text = scenario_duty rows limit name text
 duty_over (Err refusal) limit name text =
-    record { is_command = true; says = Some (refused (codes "tables") refusal); inputs = [] }
+    record { is_command = true; says = Some (refused_said (codes "tables") refusal); inputs = [] }
 
 -- the duty to read tables and then to play the text under a name; where nothing is told of the
 -- tables, nothing is said of the rest

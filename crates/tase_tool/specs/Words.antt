@@ -30,9 +30,9 @@ IsLimited (Decode capture) = Unit {0}
 IsLimited (DecodePdu capture) = Unit {0}
 
 -- a name of a file: not empty, and beginning with `-` only where it is `-`, which is standard input
-abbrev pub is_name : List ℕ → Bool
-is_name [] = false
-is_name (first ∷ more) = not (first == 45) || bytes_eq more []
+abbrev pub is_file_name : List ℕ → Bool
+is_file_name [] = false
+is_file_name (first ∷ more) = not (first == 45) || bytes_eq more []
 
 -- `replay TABLES SCENARIO`
 abbrev pub is_replay : List ℕ → List ℕ → List ℕ → Bool
@@ -40,8 +40,8 @@ is_replay verb tables scenario =
     bytes_eq verb (codes "replay") && is_name tables && is_name scenario
 
 -- `--limit N`: from 1 to 268,435,456
-abbrev pub limit_in : List ℕ → List ℕ → Option ℕ
-limit_in option word = if bytes_eq option (codes "--limit")
+abbrev pub limit_word_in : List ℕ → List ℕ → Option ℕ
+limit_word_in option word = if bytes_eq option (codes "--limit")
     then option_and_then (if_passes (λ limit. nat_le 1 limit)) (number_up_to MOST_LIMIT word)
     else None
 
@@ -63,5 +63,5 @@ task_in (first ∷ second ∷ third ∷ []) =
     else (if is_decode_pdu first second third then Some (decodes_pdu third) else None)
 task_in (first ∷ second ∷ third ∷ option ∷ word ∷ []) =
     if is_replay first second third
-    then option_map (λ limit. replays second third limit) (limit_in option word) else None
+    then option_map (λ limit. replays second third limit) (limit_word_in option word) else None
 task_in words = None

@@ -6,7 +6,7 @@ ghost use Rattle.capture_text.specs.Captures.{capture_in};
 ghost use Rattle.tase_tool.specs.Decoding.{capture_said, pdu_said};
 ghost use Rattle.tase_tool.specs.Decoding as own;
 ghost use Rattle.tase_tool.specs.Saying.{decode_duty};
-ghost use Rattle.stream_listing.specs.Names.{name_text, pdu_name, why_name};
+ghost use Rattle.stream_listing.specs.Names.{message_name_text, pdu_name, why_name};
 
 use ber_values::Why;
 use capture_text::read_capture;
@@ -91,7 +91,8 @@ fn decode_pdu<O: Outside>(alloc: Global, outside: &mut O, octets: &[u8]) -> Stat
 // Prints the name of a PDU and the number of its octets.
 fn tell_pdu<O: Outside>(alloc: Global, outside: &mut O, pdu: &MmsPdu, len: usize) -> Status
     ensures { IsRun
-        (duty_to_say true (prints Status.Done (own.pdu_line (name_text (pdu_name pdu.now)) len)))
+        (duty_to_say true (prints Status.Done (own.pdu_line
+        (message_name_text (pdu_name pdu.now)) len)))
         (O.told outside.old) (O.told outside.new) result }
 {
     match pdu_line(alloc, name_of_pdu(pdu).as_str(), len) {
@@ -103,7 +104,7 @@ fn tell_pdu<O: Outside>(alloc: Global, outside: &mut O, pdu: &MmsPdu, len: usize
 // Prints the first rule that octets break, and where.
 fn tell_fault<O: Outside>(alloc: Global, outside: &mut O, place: usize, why: Why) -> Status
     ensures { IsRun
-        (duty_to_say true (prints Status.Input (own.fault_line place (why_name why))))
+        (duty_to_say true (prints Status.Input (own.pdu_fault_line place (why_name why))))
         (O.told outside.old) (O.told outside.new) result }
 {
     match fault_line(alloc, place, why_name(why)) {
@@ -121,7 +122,7 @@ fn pdu_line(alloc: Global, name: &str, len: usize) -> Result<String, AllocError>
 
 // `fault mms PLACE WHY`.
 fn fault_line(alloc: Global, place: usize, why: &str) -> Result<String, AllocError>
-    ensures { IfOk result (λ text. string_bytes text ≡ own.fault_line place why.now) }
+    ensures { IfOk result (λ text. string_bytes text ≡ own.pdu_fault_line place why.now) }
 {
     format!(in alloc; "fault mms {place} {why}\n")
 }

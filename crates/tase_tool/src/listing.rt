@@ -1,7 +1,7 @@
 //! The command `decode`: the messages of a captured stream.
 ghost use Rattle.std.specs.Prelude.{◌≡◌, ◌≤◌, ◌⊎◌, [], length, true, codes, IsErr};
 ghost use Rattle.command_io.specs.Saying.{texts_of, duty_to_say};
-ghost use Rattle.command_io.specs.Runs.{IsRun, EndsRead, Tells};
+ghost use Rattle.command_io.specs.Runs.{IsRun, EndsRead, TellsSaid};
 ghost use Rattle.capture_text.specs.Captures.{capture_in};
 ghost use Rattle.tpkt_cotp.specs.declared.limits.TheConstants.{PIECE_LIMIT};
 ghost use Rattle.stream_listing.specs.Listings.{listing_of, yet_listed};
@@ -66,7 +66,7 @@ fn list_on_output<O: Outside>(alloc: Global, outside: &mut O, pieces: Pieces<'_>
 // Lists a stream; the lines are gathered, and go out in large pieces.
 fn list_gathered<K: Sink + Drop>(alloc: Global, pieces: Pieces<'_>, sink: K) -> (K, Status)
     requires { (K.told sink).held ≡ 0 }
-    ensures { Tells (listing_said (listing_of pieces.entry)) (K.told sink)
+    ensures { TellsSaid (listing_said (listing_of pieces.entry)) (K.told sink)
         (K.told result.0) result.1 }
 {
     let mut gathering = match BufferedSink::new(alloc, sink) {
@@ -86,7 +86,7 @@ fn list_gathered<K: Sink + Drop>(alloc: Global, pieces: Pieces<'_>, sink: K) -> 
 // bad input where the last line tells a fault. It holds a piece, the lines of one, and what a
 // lister holds.
 fn print_listing<K: Sink>(alloc: Global, pieces: Pieces<'_>, sink: &mut K) -> Status
-    ensures { Tells (listing_said (listing_of pieces.entry)) (K.told sink.old)
+    ensures { TellsSaid (listing_said (listing_of pieces.entry)) (K.told sink.old)
         (K.told sink.new) result }
 {
     match vec![in alloc; 0u8; PIECE_LIMIT] {
@@ -98,7 +98,7 @@ fn print_listing<K: Sink>(alloc: Global, pieces: Pieces<'_>, sink: &mut K) -> St
 // Prints the listing of the stream that a capture holds, each piece of which is put into this room.
 fn list_pieces<K: Sink>(alloc: Global, pieces: Pieces<'_>, room: &mut [u8], sink: &mut K) -> Status
     requires { length room.old ≡ PIECE_LIMIT }
-    ensures { Tells (listing_said (listing_of pieces.entry)) (K.told sink.old)
+    ensures { TellsSaid (listing_said (listing_of pieces.entry)) (K.told sink.old)
         (K.told sink.new) result }
 {
     let mut pieces = pieces;
@@ -139,7 +139,7 @@ fn list_piece<K: Sink>(
 
 // Prints what is listed at the end of the stream.
 fn finish_list<K: Sink>(lister: Lister, text: &mut Vec<u8>, sink: &mut K) -> Status
-    ensures { Tells (listing_said (yet_listed lister [])) (K.told sink.old) (K.told sink.new)
+    ensures { TellsSaid (listing_said (yet_listed lister [])) (K.told sink.old) (K.told sink.new)
         result }
 {
     text.clear();

@@ -1,7 +1,7 @@
 //! The commands.
 ghost use Rattle.std.specs.Prelude.{◌≡◌, ◌≤◌, ◌^◌, map, string_bytes, Some, IfOk, true, codes};
 ghost use Rattle.command_io.specs.Saying.{texts_of, duty_to_say};
-ghost use Rattle.command_io.specs.Runs.{IsRun, EndsRead, Tells};
+ghost use Rattle.command_io.specs.Runs.{IsRun, EndsRead, TellsSaid};
 ghost use Rattle.tase_tool.specs.Words.{task_in, replays};
 ghost use Rattle.tase_tool.specs.Saying.{scenario_said, scenario_duty, duty_of, played_said};
 ghost use Rattle.tase_tool.specs.Tables.{RunsOver};
@@ -184,7 +184,7 @@ fn play_on_output<O: Outside>(alloc: Global, outside: &mut O, node: Node, scenar
 // Plays a scenario on a node; what it shows is gathered, and goes out in large pieces.
 fn play_gathered<K: Sink + Drop>(alloc: Global, node: Node, scenario: &[u8], sink: K) -> (K, Status)
     requires { (K.told sink).held ≡ 0 }
-    ensures tells { Tells (played_said (played_on node scenario.now))
+    ensures tells { TellsSaid (played_said (played_on node scenario.now))
         (K.told sink) (K.told result.0) result.1 }
     ensures sent { is_told result.1 ≡ true → SendsAll node scenario.now }
 {
@@ -204,7 +204,7 @@ fn play_gathered<K: Sink + Drop>(alloc: Global, node: Node, scenario: &[u8], sin
 // Plays a scenario on a node, and prints the refusal of a bad line, or of an event for which the
 // history has no room, after what the lines before it show.
 fn play_on<K: Sink>(alloc: Global, node: Node, scenario: &[u8], sink: &mut K) -> Status
-    ensures tells { Tells (played_said (played_on node scenario.now))
+    ensures tells { TellsSaid (played_said (played_on node scenario.now))
         (K.told sink.old) (K.told sink.new) result }
     ensures sent { is_told result ≡ true → SendsAll node scenario.now }
 {

@@ -39,7 +39,7 @@ pub(crate) enum Command<'a> {
 
 // Whether a word is the name of a file: not empty, and beginning with `-` only where it is `-`.
 fn is_name(word: &str) -> bool
-    ensures { result ≡ own.is_name word.now }
+    ensures { result ≡ own.is_file_name word.now }
 {
     let octets = word.as_bytes();
     !octets.is_empty() && (octets[0] != b'-' || octets.len() == 1)
@@ -98,7 +98,7 @@ fn of_three<'a>(first: &'a str, second: &'a str, third: &'a str) -> Option<Comma
 
 // The limit that two words give.
 fn read_limit(option: &str, word: &str) -> Option<u64>
-    ensures value { result ≡ own.limit_in option.now word.now }
+    ensures value { result ≡ own.limit_word_in option.now word.now }
     ensures most { IfSome result (λ limit. limit ≤ MOST_LIMIT) }
 {
     if option != "--limit" {

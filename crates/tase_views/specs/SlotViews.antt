@@ -15,7 +15,7 @@ use Rattle.transfer_sets.specs.declared.wish.WishFault.{WishFault}
 use Rattle.transfer_sets.specs.declared.wish.WishFault.TheVariants.{Form, Range}
 use Rattle.transfer_sets.specs.declared.wish.TheConstants.{INTEGRITY, OPERATOR}
 use Rattle.transfer_sets.specs.Wishes.{has, may_enable}
-use Rattle.transfer_sets.specs.Components.{wish_in, boolean_in}
+use Rattle.transfer_sets.specs.Components.{wish_in, boolean_part}
 use Rattle.transfer_sets.specs.SlotState.{SlotState, with_status}
 use Rattle.transfer_sets.specs.SlotMoves.{SlotMove, handed_out, wishes, changes, reports, owner_in}
 use Rattle.transfer_sets.specs.SlotMoves.{last_wish, slot_in}
@@ -57,7 +57,7 @@ is_next_slot _ = false
 -- stands with another status; or why the value is none
 abbrev pub wish_asked : Wish → Option Object → Datum → Result Wish WishFault
 wish_asked wish (Some (transfer_set_status s)) value =
-    option_map_or (λ b. Ok (with_status b wish)) (boolean_in value) (Err Form)
+    option_map_or (λ b. Ok (with_status b wish)) (boolean_part value) (Err Form)
 wish_asked wish _ value = wish_in value
 
 -- whether conditions are none but interval and change

@@ -16,8 +16,7 @@ pub use fault::StepFault;
 pub use laws::{
     devices_are_held_once, devices_are_seen_as_they_are, due_conditions_are_those,
     others_are_unseen, refusals_are_of_the_seat, seats_are_unseen, two_worlds,
-    two_worlds_answer_alike,
-    unseen_moves_change_nothing, views_are_of_entries,
+    two_worlds_answer_alike, unseen_moves_change_nothing, views_are_of_entries,
 };
 pub use reply::{
     ACCESS_DENIED, ACCESS_ERRORS, Answer, DEFINITION_ERRORS, EXISTS, NAMES_LIMIT, NON_EXISTENT,

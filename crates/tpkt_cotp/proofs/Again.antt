@@ -9,14 +9,14 @@ use Rattle.tpkt_cotp.specs.declared.tpdu.Parameters.{Parameters}
 use Rattle.tpkt_cotp.specs.declared.turn.Turn.{Turn}
 use Rattle.tpkt_cotp.specs.declared.turn.Kind.{Kind}
 use Rattle.tpkt_cotp.specs.declared.turn.Kind.TheVariants as kinds
-use Rattle.tpkt_cotp.specs.Turns.{kind_of, may_come, is_count}
-use Rattle.tpkt_cotp.specs.Tpdus.{Tpdu, request, confirm, disconnect, part, Parameter}
+use Rattle.tpkt_cotp.specs.Turns.{tpdu_kind_of, may_come, is_count}
+use Rattle.tpkt_cotp.specs.Tpdus.{Tpdu, request, confirm, disconnect, part, TpduParameter}
 use Rattle.tpkt_cotp.specs.Tpdus.{parameter_octets, parameters_octets, AddUp, is_twice}
 use Rattle.tpkt_cotp.specs.Tpdus.{is_length_of, is_value_of, with_value, no_parameters, SpellsTpkt}
 use Rattle.tpkt_cotp.specs.Tpdus.{SpellsConnect}
-use Rattle.tpkt_cotp.specs.Readings.{Read, Taken, tpkt_of, parameter_in, parameters_in}
-use Rattle.tpkt_cotp.specs.Readings.{connect_with, marked_in, part_in, disconnect_in, connect_in}
-use Rattle.tpkt_cotp.specs.Readings.{body_in, known_in, tpdu_in, sized_in, tpkt_in}
+use Rattle.tpkt_cotp.specs.Readings.{Read, TakenParameter, tpkt_of, tpdu_parameter_in, parameters_in}
+use Rattle.tpkt_cotp.specs.Readings.{connect_with, marked_in, data_part_in, disconnect_in, connection_request_in}
+use Rattle.tpkt_cotp.specs.Readings.{tpdu_body_in, known_in, tpdu_in, sized_in, tpkt_in}
 use Rattle.tpkt_cotp.specs.Streams.{Comes}
 use Rattle.tpkt_cotp.proofs.Exact.{headed}
 use Rattle.tpkt_cotp.proofs.Passing.{parameters_in-done, parameters_in-passed, parameters_in-one}
@@ -24,9 +24,9 @@ use Rattle.tpkt_cotp.proofs.Passing.{bind_some, after}
 
 -- a head without a fault
 pub head_again : (turn : Turn) (total reserved high low count code : ℕ) (k : Kind)
-    (octets : List ℕ) → 7 ≤ high * 256 + low → kind_of code ≡ Some k
+    (octets : List ℕ) → 7 ≤ high * 256 + low → tpdu_kind_of code ≡ Some k
     → is_count k (high * 256 + low) count ≡ true → may_come turn k ≡ true
-    → tpkt_in turn total (headed reserved high low count code octets) ≡ body_in k total
+    → tpkt_in turn total (headed reserved high low count code octets) ≡ tpdu_body_in k total
     (high * 256 + low) octets
 unfolding tpkt_in sized_in tpdu_in
 head_again turn total reserved high low count code k octets long is counted order =
@@ -42,9 +42,9 @@ sum_again sum false some = refl
 
 part_again : (total size mark : ℕ) (held rest : List ℕ) → size ≡ 7 + length held
     → total + length held ≤ TSDU_LIMIT → (leb 128 mark ≡ true → 0 < total + length held)
-    → body_in kinds.Part total size (mark ∷ (held ++ rest)) ≡ tpkt_of size
+    → tpdu_body_in kinds.Part total size (mark ∷ (held ++ rest)) ≡ tpkt_of size
     (part (leb 128 mark) held)
-unfolding body_in part_in marked_in
+unfolding tpdu_body_in data_part_in marked_in
 part_again total size mark held rest is within some =
     let n : size - 7 ≡ length held = omega arith in
     let len = length-append held rest in
@@ -55,18 +55,18 @@ part_again total size mark held rest is within some =
     (rw (take_at held rest (length held) refl) refl))))
 
 disconnect_again : (total size : ℕ) (more rest : List ℕ) → size ≡ 6 + length more
-    → body_in kinds.Disconnect total size (more ++ rest) ≡ tpkt_of size disconnect
-unfolding body_in disconnect_in
+    → tpdu_body_in kinds.Disconnect total size (more ++ rest) ≡ tpkt_of size disconnect
+unfolding tpdu_body_in disconnect_in
 disconnect_again total size more rest is =
     let len = length-append more rest in
     let enough : size ≤ length (more ++ rest) + 6 = omega (arith, len) in
     rw (le-ltb (length (more ++ rest) + 6) size enough) refl
 
 -- one parameter, whatever follows
-pub parameter_again : (seen : Parameters) (at room : ℕ) (p : Parameter) (rest : List ℕ)
+pub parameter_again : (seen : Parameters) (at room : ℕ) (p : TpduParameter) (rest : List ℕ)
     → is_twice seen p.code ≡ false → is_length_of p.code (length p.value) ≡ true
     → is_value_of p.code (slice_index p.value 0) ≡ true → length p.value + 2 ≤ room
-    → parameter_in seen at room p.code (length p.value ∷ (p.value ++ rest)) ≡ Ok
+    → tpdu_parameter_in seen at room p.code (length p.value ∷ (p.value ++ rest)) ≡ Ok
     (Some (record { seen = with_value seen p.code p.value; count = length p.value }))
 parameter_again seen at room p rest new counted sound fits =
     let n = length p.value in
@@ -80,7 +80,7 @@ parameter_again seen at room p rest new counted sound fits =
 some_read : Parameters → Read Parameters
 some_read s = Ok (Some s)
 
-parameters_again : (seen : Parameters) (at room : ℕ) (ps : List Parameter) (all : Parameters)
+parameters_again : (seen : Parameters) (at room : ℕ) (ps : List TpduParameter) (all : Parameters)
     (rest : List ℕ) → AddUp seen ps all → room ≡ length (parameters_octets ps)
     → parameters_in seen at room 0 (parameters_octets ps ++ rest) ≡ Ok (Some all)
 unfolding some_read
@@ -94,26 +94,26 @@ parameters_again seen at room (p ∷ ps) all rest adds is =
     let room_is : room ≡ n + 2 + length (parameters_octets ps) = omega (arith, len) in
     let ne : room ≢ 0 = omega arith in
     let fits : n + 2 ≤ room = omega arith in
-    let t : Taken = record { seen = with_value seen p.code p.value; count = n } in
+    let t : TakenParameter = record { seen = with_value seen p.code p.value; count = n } in
     let long : n + 1 ≤ length octets = let l = length-append p.value tail in omega (arith, l) in
     let front : length (n ∷ p.value) ≡ n + 1 = omega arith in
     let left : room - 1 - (n + 1) ≡ length (parameters_octets ps) = omega arith in
     ap (λ (os : List ℕ). parameters_in seen at room 0 (p.code ∷ n ∷ os))
     (append_assoc p.value (parameters_octets ps) rest)
     ∙ parameters_in-one seen at room p.code octets ne
-    ∙ bind_some (parameter_in seen at room p.code octets) (after at room octets) t
+    ∙ bind_some (tpdu_parameter_in seen at room p.code octets) (after at room octets) t
     (parameter_again seen at room p tail adds.0 adds.1 adds.2 fits)
     ∙ parameters_in-passed t.seen (at + 1) (room - 1) (n + 1) octets long
     ∙ ap (λ (os : List ℕ). parameters_in t.seen (at + 1 + (n + 1)) (room - 1 - (n + 1)) 0 os)
     (drop_at (n ∷ p.value) tail (n + 1) front)
     ∙ parameters_again t.seen (at + 1 + (n + 1)) (room - 1 - (n + 1)) ps all rest adds.3 left
 
-connect_again : (r : Bool) (size th tl sh sl class : ℕ) (ps : List Parameter) (all : Parameters)
+connect_again : (r : Bool) (size th tl sh sl class : ℕ) (ps : List TpduParameter) (all : Parameters)
     (rest : List ℕ) → size ≡ 11 + length (parameters_octets ps) → class < 16
     → AddUp no_parameters ps all
-    → connect_in r size (th ∷ tl ∷ sh ∷ sl ∷ class ∷ (parameters_octets ps ++ rest)) ≡ connect_with
+    → connection_request_in r size (th ∷ tl ∷ sh ∷ sl ∷ class ∷ (parameters_octets ps ++ rest)) ≡ connect_with
     r size (th * 256 + tl) (sh * 256 + sl) (some_read all)
-unfolding connect_in some_read
+unfolding connection_request_in some_read
 connect_again r size th tl sh sl class ps all rest is zero_class adds =
     let long : 11 ≤ size = omega arith in
     let room : size - 11 ≡ length (parameters_octets ps) = omega arith in
@@ -125,7 +125,7 @@ request_again : (turn : Turn) (total target source : ℕ) (all : Parameters) (sp
     → may_come turn kinds.Request ≡ true → SpellsConnect 224 target source all spelling
     → tpkt_in turn total (spelling ++ rest) ≡ tpkt_of (length spelling)
     (request (record { source = source; parameters = all }))
-unfolding body_in some_read
+unfolding tpdu_body_in some_read
 request_again turn total target source all spelling rest order s =
     let size = s.high * 256 + s.low in
     let is : spelling ≡ headed s.reserved s.high s.low s.count 224
@@ -148,7 +148,7 @@ confirm_again : (turn : Turn) (total target source : ℕ) (all : Parameters) (sp
     → may_come turn kinds.Confirm ≡ true → SpellsConnect 208 target source all spelling
     → tpkt_in turn total (spelling ++ rest) ≡ tpkt_of (length spelling)
     (confirm (record { target = target; source = source; parameters = all }))
-unfolding body_in some_read
+unfolding tpdu_body_in some_read
 confirm_again turn total target source all spelling rest order s =
     let size = s.high * 256 + s.low in
     let is : spelling ≡ headed s.reserved s.high s.low s.count 208

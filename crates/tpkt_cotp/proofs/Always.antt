@@ -10,10 +10,10 @@ use Rattle.tpkt_cotp.specs.declared.turn.Turn.{Turn}
 use Rattle.tpkt_cotp.specs.declared.turn.Turn.TheVariants as turns
 use Rattle.tpkt_cotp.specs.Tpdus.{Tpdu, part, Tpkt, SpellsTpkt, request, confirm, disconnect}
 use Rattle.tpkt_cotp.specs.Readings.{Read, tpkt_in}
-use Rattle.tpkt_cotp.specs.Streams.{Message, tsdu, Section, IsSection, stream_place, held_of, octets_of}
+use Rattle.tpkt_cotp.specs.Streams.{Message, tsdu, Section, IsSection, stream_place, held_of, section_octets_of}
 use Rattle.tpkt_cotp.specs.Streams.{Opens, Comes, message_of, SpellsMessage, SpellsMessages}
 use Rattle.tpkt_cotp.specs.Streams.{BreaksRule, IsRest, turn_after, Says, Stops}
-use Rattle.tpkt_cotp.specs.Written.{part_octets, parts_octets, joined, IsCut}
+use Rattle.tpkt_cotp.specs.Written.{part_octets, parts_octets, joined_parts, IsCut}
 use Rattle.tpkt_cotp.proofs.Exact.{Begins}
 use Rattle.tpkt_cotp.proofs.ExactTpkt.{tpkt_found}
 use Rattle.tpkt_cotp.proofs.FaultReading.{fault_found}
@@ -61,8 +61,8 @@ opens_part turn sections octets rest p more o b is =
       order = λ some. part_turn turn comes.order;
       within = let l = ap length held in let m = length-append (held_of sections) more in omega
           (arith, l, m, comes.fits.0);
-      is = o.is ∙ ap (λ (os : List ℕ). octets_of sections ++ os) b.is
-          ∙ sym (append_assoc (octets_of sections) b.spelling b.rest)
+      is = o.is ∙ ap (λ (os : List ℕ). section_octets_of sections ++ os) b.is
+          ∙ sym (append_assoc (section_octets_of sections) b.spelling b.rest)
           ∙ ap (λ (os : List ℕ). os ++ b.rest) (sym (octets_push sections s));
     }
 
@@ -137,7 +137,7 @@ reading (suc n) turn at sections octets rest o few =
             let fewer : length b.rest < n = omega (arith, l, m) in
             elim (ends_or_part at (held_of sections) found.0.tpdu) [
               | inl ends ↦
-                  let first : List ℕ = octets_of sections ++ b.spelling in
+                  let first : List ℕ = section_octets_of sections ++ b.spelling in
                   let one : SpellsMessage turn at ends.0 first = record {
                     sections = sections;
                     last = b.spelling;
@@ -153,8 +153,8 @@ reading (suc n) turn at sections octets rest o few =
                     ends = ends.1;
                   } in
                   one_then turn at octets first b.rest ends.0
-                  (o.is ∙ ap (λ (os : List ℕ). octets_of sections ++ os) b.is
-                  ∙ sym (append_assoc (octets_of sections) b.spelling b.rest)) one
+                  (o.is ∙ ap (λ (os : List ℕ). section_octets_of sections ++ os) b.is
+                  ∙ sym (append_assoc (section_octets_of sections) b.spelling b.rest)) one
                   (reading n turns.Transfer (at + length first) [] b.rest b.rest
                   (record {
                     each = tt;
@@ -235,11 +235,11 @@ sections_spelled : (ps : List (List ℕ)) → AllByRecursion IsSection (map sect
 sections_spelled [] = tt
 sections_spelled (p ∷ ps) = (part_spelled false p, sections_spelled ps)
 
-held_map : (ps : List (List ℕ)) → held_of (map section_of ps) ≡ joined ps
+held_map : (ps : List (List ℕ)) → held_of (map section_of ps) ≡ joined_parts ps
 held_map [] = refl
 held_map (p ∷ ps) = ap (λ (os : List ℕ). p ++ os) (held_map ps)
 
-octets_map : (ps : List (List ℕ)) → octets_of (map section_of ps) ≡ parts_octets ps
+octets_map : (ps : List (List ℕ)) → section_octets_of (map section_of ps) ≡ parts_octets ps
 octets_map [] = refl
 octets_map (p ∷ ps) = ap (λ (os : List ℕ). part_octets false p ++ os) (octets_map ps)
 
@@ -249,7 +249,7 @@ written_said size at octets written c few =
     let held = held_map c.parts in
     let h = ap length held in
     let l = ap length c.are in
-    let m = length-append (joined c.parts) c.last in
+    let m = length-append (joined_parts c.parts) c.last in
     record {
       sections = map section_of c.parts;
       last = part_octets true c.last;

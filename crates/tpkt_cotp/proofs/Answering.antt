@@ -11,11 +11,11 @@ use Rattle.tpkt_cotp.specs.declared.turn.Turn.{Turn}
 use Rattle.tpkt_cotp.specs.declared.turn.Turn.TheVariants as turns
 use Rattle.tpkt_cotp.specs.Tpdus.{Tpdu, request, confirm, disconnect, part, Tpkt, SpellsTpkt}
 use Rattle.tpkt_cotp.specs.Readings.{tpkt_in}
-use Rattle.tpkt_cotp.specs.Streams.{Message, Section, held_of, octets_of, Opens, BreaksRule}
-use Rattle.tpkt_cotp.specs.Streams.{turn_after, Stops, part_after, IsPartial, message_of, Fits}
-use Rattle.tpkt_cotp.specs.Sound.{IsSoundTpdu, IsSound}
+use Rattle.tpkt_cotp.specs.Streams.{Message, Section, held_of, section_octets_of, Opens, BreaksRule}
+use Rattle.tpkt_cotp.specs.Streams.{turn_after, Stops, part_after, IsPartial, message_of, MayComeAfter}
+use Rattle.tpkt_cotp.specs.Sound.{IsSoundTpdu, IsSoundMessage}
 use Rattle.tpkt_cotp.specs.Seen.{message_seen}
-use Rattle.tpkt_cotp.specs.Lines.{Line, Reads, Stands, IsSettled, Answers, fed}
+use Rattle.tpkt_cotp.specs.Lines.{Line, Reads, Stands, IsLineSettled, IsTransportAnswer, fed}
 use Rattle.tpkt_cotp.specs.Steps.{StepsPart, StepsMessage, StepsNowhere, StepsBroken}
 use Rattle.tpkt_cotp.proofs.Exact.{Begins}
 use Rattle.tpkt_cotp.proofs.ExactTpkt.{tpkt_found}
@@ -35,7 +35,7 @@ opens_more turn octets rest more sections o = record {
   order = o.order;
   within = o.within;
   is = ap (λ (os : List ℕ). os ++ more) o.is
-      ∙ append_assoc (octets_of sections) rest more;
+      ∙ append_assoc (section_octets_of sections) rest more;
 }
 
 -- a broken rule stays broken, whatever follows
@@ -105,13 +105,13 @@ reads_of role heard given t none s = subst
 
 pub answers_message : (role : Role) (heard : List ℕ) (given : List Message) (old new : Line)
     (m : TransportIn) → old.fault ≡ None → Reads role heard given old
-    → StepsMessage old (message_seen m) new → Answers role heard given (Ok (Some m)) new
+    → StepsMessage old (message_seen m) new → IsTransportAnswer role heard given (Ok (Some m)) new
 answers_message role heard given old new m none r s = stands_of role heard
     (given ++ message_seen m ∷ []) new (ap (λ (l : Line). l.fault) s.is ∙ none)
     (stands_message role heard given old new (message_seen m) r s)
 
 pub settled_of : (t : Line) → t.fault ≡ None → length t.unread ≤ 65534
-    → tpkt_in t.turn (length t.held) t.unread ≡ Ok None → IsSettled t
+    → tpkt_in t.turn (length t.held) t.unread ≡ Ok None → IsLineSettled t
 settled_of t none few read = (
   few,
   subst (λ (o : Option CotpFault). MatchOption o
@@ -119,7 +119,7 @@ settled_of t none few read = (
       (partial_from t.turn (length t.held) t.unread read),
 )
 
-stopped_of : (t : Line) (f : CotpFault) → t.fault ≡ Some f → t.unread ≡ [] → IsSettled t
+stopped_of : (t : Line) (f : CotpFault) → t.fault ≡ Some f → t.unread ≡ [] → IsLineSettled t
 stopped_of t f some none = (
   let l = ap length none in omega (arith, l),
   subst (λ (o : Option CotpFault). MatchOption o
@@ -128,9 +128,9 @@ stopped_of t f some none = (
 
 pub answers_rest : (role : Role) (heard : List ℕ) (given : List Message) (old new : Line)
     → old.fault ≡ None → Reads role heard given old → StepsNowhere old new
-    → Answers role heard given (Ok None) new
+    → IsTransportAnswer role heard given (Ok None) new
 answers_rest role heard given old new none r s =
-    let P : Line → Type 0 = Answers role heard given (Ok None) in
+    let P : Line → Type 0 = IsTransportAnswer role heard given (Ok None) in
     let turn = turn_after (turns.Opening role) given in
     let read : tpkt_in turn (length (held_of r.sections)) old.unread ≡ Ok None = ap
     (λ (t : Turn). tpkt_in t (length (held_of r.sections)) old.unread) (sym r.turn_is)
@@ -151,7 +151,7 @@ answers_rest role heard given old new none r s =
 
 pub answers_stopped : (role : Role) (heard : List ℕ) (given : List Message) (t : Line)
     (f : CotpFault) → t.fault ≡ Some f → t.unread ≡ [] → Stops role heard given f
-    → Answers role heard given (Err f) t
+    → IsTransportAnswer role heard given (Err f) t
 answers_stopped role heard given t f some none stops = (
   subst (λ (o : Option CotpFault). MatchOption o (Reads role heard given t)
       (λ f. Stops role heard given f × (t.unread ≡ []))) (sym some) (stops, none),
@@ -161,7 +161,7 @@ answers_stopped role heard given t f some none stops = (
 
 pub answers_broken : (role : Role) (heard : List ℕ) (given : List Message) (old new : Line)
     (f : CotpFault) → Reads role heard given old → StepsBroken old f new
-    → Answers role heard given (Err f) new
+    → IsTransportAnswer role heard given (Err f) new
 answers_broken role heard given old new f r s = answers_stopped role heard given new f
     (ap (λ (l : Line). l.fault) s.is) (ap (λ (l : Line). l.unread) s.is)
     (stands_broken role heard given old new f r s)
@@ -169,7 +169,7 @@ answers_broken role heard given old new f r s = answers_stopped role heard given
 -- the same fault again
 pub answers_again : (role : Role) (heard : List ℕ) (given : List Message) (t : Line)
     (f : CotpFault) → t.fault ≡ Some f → Stands role heard given t
-    → Answers role heard given (Err f) t
+    → IsTransportAnswer role heard given (Err f) t
 answers_again role heard given t f some s =
     let both : Stops role heard given f × (t.unread ≡ []) = subst
     (λ (o : Option CotpFault). MatchOption o (Reads role heard given t)
@@ -177,7 +177,7 @@ answers_again role heard given t f some s =
     answers_stopped role heard given t f some both.1 both.0
 
 abbrev IsSoundAnswer : Option Message → Type 0
-IsSoundAnswer (Some m) = IsSound m
+IsSoundAnswer (Some m) = IsSoundMessage m
 IsSoundAnswer None = Unit {0}
 
 -- each TPKT has octets
@@ -211,7 +211,7 @@ message_shorter old new m s = unread_shorter old s.tpkt new.unread
 
 -- what is handed out may be answered, and a TSDU is within the limit
 sound_end : (at : ℕ) (held : List ℕ) (tpdu : Tpdu) (m : Message) → IsSoundTpdu tpdu
-    → Fits (length held) tpdu → message_of at held tpdu ≡ Some m → IsSound m
+    → MayComeAfter (length held) tpdu → message_of at held tpdu ≡ Some m → IsSoundMessage m
 sound_end at held (request r) m sound fits is = subst IsSoundAnswer is sound
 sound_end at held (confirm c) m sound fits is = subst IsSoundAnswer is sound
 sound_end at held disconnect m sound fits is = subst IsSoundAnswer is tt
@@ -221,7 +221,7 @@ sound_end at held (part true more) m sound fits is =
     subst IsSoundAnswer is few
 sound_end at held (part false more) m sound fits is = absurd cc
 
-pub message_sound : (old new : Line) (m : Message) → StepsMessage old m new → IsSound m
+pub message_sound : (old new : Line) (m : Message) → StepsMessage old m new → IsSoundMessage m
 message_sound old new m s =
     let b = tpkt_found old.turn (length old.held) old.unread s.tpkt s.read in
     sound_end old.start old.held s.tpkt.tpdu m (sound_of s.tpkt.tpdu b.spelling b.spelled)

@@ -10,14 +10,14 @@ use Rattle.tpkt_cotp.specs.declared.tpdu.Parameters.{Parameters}
 use Rattle.tpkt_cotp.specs.declared.turn.Turn.{Turn}
 use Rattle.tpkt_cotp.specs.declared.turn.Kind.{Kind}
 use Rattle.tpkt_cotp.specs.declared.turn.Kind.TheVariants as kinds
-use Rattle.tpkt_cotp.specs.Turns.{kind_of, may_come, is_count}
-use Rattle.tpkt_cotp.specs.Tpdus.{Tpdu, request, confirm, disconnect, part, Tpkt, Parameter, AddUp}
+use Rattle.tpkt_cotp.specs.Turns.{tpdu_kind_of, may_come, is_count}
+use Rattle.tpkt_cotp.specs.Tpdus.{Tpdu, request, confirm, disconnect, part, Tpkt, TpduParameter, AddUp}
 use Rattle.tpkt_cotp.specs.Tpdus.{is_twice, is_length_of, is_value_of, with_value, no_parameters}
 use Rattle.tpkt_cotp.specs.Tpdus.{SpellsTpkt}
-use Rattle.tpkt_cotp.specs.Sound.{AreSound, IsSoundTpdu}
-use Rattle.tpkt_cotp.specs.Readings.{Read, Taken, broken, ◌>>=◌, tpkt_of, value_in, parameter_in}
-use Rattle.tpkt_cotp.specs.Readings.{parameters_in, connect_with, marked_in, part_in, disconnect_in}
-use Rattle.tpkt_cotp.specs.Readings.{connect_in, body_in, known_in, tpdu_in, sized_in, tpkt_in}
+use Rattle.tpkt_cotp.specs.Sound.{AreSoundParameters, IsSoundTpdu}
+use Rattle.tpkt_cotp.specs.Readings.{Read, TakenParameter, broken, ◌>>=◌, tpkt_of, parameter_value_in, tpdu_parameter_in}
+use Rattle.tpkt_cotp.specs.Readings.{parameters_in, connect_with, marked_in, data_part_in, disconnect_in}
+use Rattle.tpkt_cotp.specs.Readings.{connection_request_in, tpdu_body_in, known_in, tpdu_in, sized_in, tpkt_in}
 use Rattle.tpkt_cotp.proofs.Exact.{Right}
 use Rattle.tpkt_cotp.proofs.ExactConnect.{ParameterFound, parameter_right}
 
@@ -38,15 +38,15 @@ cut_bind P Q (Ok None) f right c then = c
 cut_bind P Q (Err e) f right c then = tt
 
 value_cut : (seen : Parameters) (at room code : ℕ) (octets : List ℕ) → room ≢ 0 → room ≢ 1
-    → Cut (length octets + 1 < room) (value_in seen at room code octets)
+    → Cut (length octets + 1 < room) (parameter_value_in seen at room code octets)
 value_cut seen at room code [] some more = omega arith
 value_cut seen at room code (count ∷ octets) some more =
-    let whole : Read Taken = Ok (Some (record
+    let whole : Read TakenParameter = Ok (Some (record
     { seen = with_value seen code (take count octets); count = count })) in
-    let valued : Read Taken = cond (is_value_of code (get_or (take count octets) 0 0)) whole
+    let valued : Read TakenParameter = cond (is_value_of code (get_or (take count octets) 0 0)) whole
     (broken (at + 2) whys.Value) in
-    let there : Read Taken = cond (ltb (length octets) count) (Ok None) valued in
-    let P : Read Taken → Type 0 = Cut (length (count ∷ octets) + 1 < room) in
+    let there : Read TakenParameter = cond (ltb (length octets) count) (Ok None) valued in
+    let P : Read TakenParameter → Type 0 = Cut (length (count ∷ octets) + 1 < room) in
     cond_both (not (is_length_of code count && leb (count + 2) room)) (broken (at + 1) whys.Length)
     there P (λ e. tt)
     (λ sound.
@@ -63,13 +63,13 @@ value_cut seen at room code (count ∷ octets) some more =
     unnot false e = absurd cc
 
 parameter_cut : (seen : Parameters) (at room code : ℕ) (octets : List ℕ) → room ≢ 0
-    → Cut (length octets + 1 < room) (parameter_in seen at room code octets)
+    → Cut (length octets + 1 < room) (tpdu_parameter_in seen at room code octets)
 parameter_cut seen at room code octets some =
-    let P : Read Taken → Type 0 = Cut (length octets + 1 < room) in
-    let rest : Read Taken = cond (eqb room 1) (broken (at + 1) whys.Short)
-    (value_in seen at room code octets) in
+    let P : Read TakenParameter → Type 0 = Cut (length octets + 1 < room) in
+    let rest : Read TakenParameter = cond (eqb room 1) (broken (at + 1) whys.Short)
+    (parameter_value_in seen at room code octets) in
     cond_both (is_twice seen code) (broken at whys.Tag) rest P (λ e. tt)
-    (λ new. cond_both (eqb room 1) (broken (at + 1) whys.Short) (value_in seen at room code octets)
+    (λ new. cond_both (eqb room 1) (broken (at + 1) whys.Short) (parameter_value_in seen at room code octets)
     P (λ e. tt)
     (λ more. value_cut seen at room code octets some (eqb-false room 1 more)))
 
@@ -84,15 +84,15 @@ parameters_cut seen at room (suc passed) (o ∷ octets) le = cut_as (length octe
     (length (o ∷ octets) < room) (parameters_in seen (at + 1) (room - 1) passed octets)
     (λ few. omega arith) (parameters_cut seen (at + 1) (room - 1) passed octets (omega arith))
 parameters_cut seen at room zero (code ∷ octets) le =
-    let then : Taken → Read Parameters = λ p. parameters_in p.seen (at + 1) (room - 1)
+    let then : TakenParameter → Read Parameters = λ p. parameters_in p.seen (at + 1) (room - 1)
     (p.count + 1) octets in
-    cond_both (eqb room 0) (Ok (Some seen)) (parameter_in seen at room code octets >>= then)
+    cond_both (eqb room 0) (Ok (Some seen)) (tpdu_parameter_in seen at room code octets >>= then)
     (Cut (length (code ∷ octets) < room)) (λ e. tt)
     (λ e. let ne : room ≢ 0 = eqb-false room 0 e in
     cut_bind (ParameterFound seen room code octets) (length (code ∷ octets) < room)
-    (parameter_in seen at room code octets) then (parameter_right seen at room code octets)
+    (tpdu_parameter_in seen at room code octets) then (parameter_right seen at room code octets)
     (cut_as (length octets + 1 < room) (length (code ∷ octets) < room)
-    (parameter_in seen at room code octets) (λ few. omega arith)
+    (tpdu_parameter_in seen at room code octets) (λ few. omega arith)
     (parameter_cut seen at room code octets ne))
     (λ t one. let fits : t.count + 2 ≤ room = one.value.fits in
     cut_as (length octets < room - 1) (length (code ∷ octets) < room) (then t) (λ few. omega arith)
@@ -115,8 +115,8 @@ connect_with_cut false Q size target source (Ok None) c = c
 connect_with_cut false Q size target source (Err f) c = tt
 
 connect_cut : (r : Bool) (size : ℕ) (octets : List ℕ)
-    → Cut (length octets + 6 < size) (connect_in r size octets)
-unfolding connect_in
+    → Cut (length octets + 6 < size) (connection_request_in r size octets)
+unfolding connection_request_in
 connect_cut r size [] = few_cut size []
 connect_cut r size (a ∷ []) = few_cut size (a ∷ [])
 connect_cut r size (a ∷ b ∷ []) = few_cut size (a ∷ b ∷ [])
@@ -142,8 +142,8 @@ disconnect_cut size octets = cond_both (ltb (length octets + 6) size) (Ok None)
     (λ e. ltb-true (length octets + 6) size e) (λ e. tt)
 
 part_cut : (total size : ℕ) (octets : List ℕ) → 7 ≤ size
-    → Cut (length octets + 6 < size) (part_in total size octets)
-unfolding part_in marked_in
+    → Cut (length octets + 6 < size) (data_part_in total size octets)
+unfolding data_part_in marked_in
 part_cut total size [] long = cond_both (ltb TSDU_LIMIT (total + (size - 7))) (broken 2 whys.Long)
     (Ok None) (Cut (6 < size)) (λ e. tt) (λ e. omega arith)
 part_cut total size (mark ∷ octets) long =
@@ -160,8 +160,8 @@ part_cut total size (mark ∷ octets) long =
     (λ e. let few : length octets < n = ltb-true (length octets) n e in omega arith) (λ e. tt)))
 
 body_cut : (k : Kind) (total size : ℕ) (octets : List ℕ) → 7 ≤ size
-    → Cut (length octets + 6 < size) (body_in k total size octets)
-unfolding body_in
+    → Cut (length octets + 6 < size) (tpdu_body_in k total size octets)
+unfolding tpdu_body_in
 body_cut kinds.Request total size octets long = connect_cut true size octets
 body_cut kinds.Confirm total size octets long = connect_cut false size octets
 body_cut kinds.Disconnect total size octets long = disconnect_cut size octets
@@ -171,11 +171,11 @@ known_cut : (turn : Turn) (total size count : ℕ) (o : Option Kind) (octets : L
     → Cut (length octets + 6 < size) (known_in turn total size count o octets)
 known_cut turn total size count None octets long = tt
 known_cut turn total size count (Some k) octets long =
-    let ordered : Read Tpkt = cond (may_come turn k) (body_in k total size octets)
+    let ordered : Read Tpkt = cond (may_come turn k) (tpdu_body_in k total size octets)
     (broken 0 whys.Order) in
     let P : Read Tpkt → Type 0 = Cut (length octets + 6 < size) in
     cond_both (is_count k size count) ordered (broken 4 whys.Length) P
-    (λ counted. cond_both (may_come turn k) (body_in k total size octets) (broken 0 whys.Order) P
+    (λ counted. cond_both (may_come turn k) (tpdu_body_in k total size octets) (broken 0 whys.Order) P
     (λ order. body_cut k total size octets long) (λ e. tt))
     (λ e. tt)
 
@@ -186,8 +186,8 @@ tpdu_cut turn total size [] long = omega arith
 tpdu_cut turn total size (count ∷ []) long = omega arith
 tpdu_cut turn total size (count ∷ code ∷ octets) long = cut_as (length octets + 6 < size)
     (length (count ∷ code ∷ octets) + 4 < size)
-    (known_in turn total size count (kind_of code) octets) (λ few. omega arith)
-    (known_cut turn total size count (kind_of code) octets long)
+    (known_in turn total size count (tpdu_kind_of code) octets) (λ few. omega arith)
+    (known_cut turn total size count (tpdu_kind_of code) octets long)
 
 sized_cut : (turn : Turn) (total : ℕ) (octets : List ℕ) → get_or octets 1 0 < 256
     → get_or octets 2 0 < 256 → Cut (length octets + 1 ≤ 65534) (sized_in turn total octets)
@@ -246,12 +246,12 @@ size_value : (size : ℕ) → (not (eqb 192 192) || leb 7 size && leb size 13) �
 size_value size e = let both = and_parts (leb 7 size) (leb size 13) e in
     (leb-true 7 size both.0, leb-true size 13 both.1)
 
-parameters_add : (before : Parameters) (ps : List Parameter) (all : Parameters)
-    → AreSound before → AddUp before ps all → AreSound all
-parameters_add before [] all sound adds = subst AreSound (sym adds) sound
+parameters_add : (before : Parameters) (ps : List TpduParameter) (all : Parameters)
+    → AreSoundParameters before → AddUp before ps all → AreSoundParameters all
+parameters_add before [] all sound adds = subst AreSoundParameters (sym adds) sound
 parameters_add before (p ∷ ps) all sound adds =
     parameters_add (with_value before p.code p.value) ps all
-    (code_cases AreSound before p.code p.value
+    (code_cases AreSoundParameters before p.code p.value
     (λ is. (
       sound.0,
       size_value (get_or p.value 0 0)

@@ -10,7 +10,7 @@ use Rattle.tpkt_cotp.specs.declared.turn.Turn.{Turn}
 use Rattle.tpkt_cotp.specs.declared.turn.Kind.TheVariants as kinds
 use Rattle.tpkt_cotp.specs.Turns.{may_come}
 use Rattle.tpkt_cotp.specs.Tpdus.{disconnect, part, Tpkt, SpellsTpkt}
-use Rattle.tpkt_cotp.specs.Readings.{Read, broken, tpkt_of, marked_in, part_in, disconnect_in}
+use Rattle.tpkt_cotp.specs.Readings.{Read, broken, tpkt_of, marked_in, data_part_in, disconnect_in}
 use Rattle.tpkt_cotp.specs.Streams.{Comes}
 
 -- the octets begin with a TPKT that may come
@@ -80,8 +80,8 @@ marked_right turn total reserved high low mark octets order long within some eno
 pub part_right : (turn : Turn) (total reserved high low : ℕ) (octets : List ℕ)
     → may_come turn kinds.Part ≡ true → 7 ≤ high * 256 + low
     → Right (Begins turn total (headed reserved high low 2 240 octets))
-    (part_in total (high * 256 + low) octets)
-unfolding part_in marked_in
+    (data_part_in total (high * 256 + low) octets)
+unfolding data_part_in marked_in
 part_right turn total reserved high low [] order long =
     let n = high * 256 + low - 7 in
     cond_both (ltb TSDU_LIMIT (total + n)) (broken 2 whys.Long) (Ok None)

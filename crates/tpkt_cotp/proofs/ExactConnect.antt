@@ -12,11 +12,11 @@ use Rattle.tpkt_cotp.specs.declared.turn.Turn.{Turn}
 use Rattle.tpkt_cotp.specs.declared.turn.Kind.{Kind}
 use Rattle.tpkt_cotp.specs.declared.turn.Kind.TheVariants as kinds
 use Rattle.tpkt_cotp.specs.Turns.{may_come}
-use Rattle.tpkt_cotp.specs.Tpdus.{request, confirm, Tpkt, Parameter, parameter_octets}
+use Rattle.tpkt_cotp.specs.Tpdus.{request, confirm, Tpkt, TpduParameter, parameter_octets}
 use Rattle.tpkt_cotp.specs.Tpdus.{parameters_octets, AddUp, is_twice, is_length_of, is_value_of}
 use Rattle.tpkt_cotp.specs.Tpdus.{with_value, no_parameters, SpellsConnect}
-use Rattle.tpkt_cotp.specs.Readings.{Read, Taken, broken, ◌>>=◌, tpkt_of, value_in, parameter_in}
-use Rattle.tpkt_cotp.specs.Readings.{parameters_in, connect_with, connect_in}
+use Rattle.tpkt_cotp.specs.Readings.{Read, TakenParameter, broken, ◌>>=◌, tpkt_of, parameter_value_in, tpdu_parameter_in}
+use Rattle.tpkt_cotp.specs.Readings.{parameters_in, connect_with, connection_request_in}
 use Rattle.tpkt_cotp.proofs.Exact.{Right, Begins, headed}
 
 pub right_bind : {X Y : Type 0} (P : X → Type 0) (Q : Y → Type 0) (read : Read X) (f : X → Read Y)
@@ -32,7 +32,7 @@ right_as P Q (Ok None) to right = tt
 right_as P Q (Err e) to right = tt
 
 -- what stands behind the code of a parameter
-pub record ValueFound (seen : Parameters) (room code : ℕ) (octets : List ℕ) (t : Taken) : Type 0
+pub record ValueFound (seen : Parameters) (room code : ℕ) (octets : List ℕ) (t : TakenParameter) : Type 0
   where
     pub values : List ℕ
     pub is : octets ≡ t.count ∷ values
@@ -43,15 +43,15 @@ pub record ValueFound (seen : Parameters) (room code : ℕ) (octets : List ℕ) 
     pub long : t.count ≤ length values
 
 value_right : (seen : Parameters) (at room code : ℕ) (octets : List ℕ)
-    → Right (ValueFound seen room code octets) (value_in seen at room code octets)
+    → Right (ValueFound seen room code octets) (parameter_value_in seen at room code octets)
 value_right seen at room code [] = tt
 value_right seen at room code (count ∷ octets) =
-    let P : Read Taken → Type 0 = Right (ValueFound seen room code (count ∷ octets)) in
-    let whole : Read Taken = Ok (Some (record
+    let P : Read TakenParameter → Type 0 = Right (ValueFound seen room code (count ∷ octets)) in
+    let whole : Read TakenParameter = Ok (Some (record
     { seen = with_value seen code (take count octets); count = count })) in
-    let valued : Read Taken = cond (is_value_of code (get_or (take count octets) 0 0)) whole
+    let valued : Read TakenParameter = cond (is_value_of code (get_or (take count octets) 0 0)) whole
     (broken (at + 2) whys.Value) in
-    let there : Read Taken = cond (ltb (length octets) count) (Ok None) valued in
+    let there : Read TakenParameter = cond (ltb (length octets) count) (Ok None) valued in
     cond_both (not (is_length_of code count && leb (count + 2) room)) (broken (at + 1) whys.Length)
     there P (λ e. tt)
     (λ sound. cond_both (ltb (length octets) count) (Ok None) valued P (λ e. tt)
@@ -71,29 +71,29 @@ value_right seen at room code (count ∷ octets) =
     })
     (λ e. tt)))
 
-pub record ParameterFound (seen : Parameters) (room code : ℕ) (octets : List ℕ) (t : Taken) : Type
+pub record ParameterFound (seen : Parameters) (room code : ℕ) (octets : List ℕ) (t : TakenParameter) : Type
     0 where
   pub new : is_twice seen code ≡ false
   pub value : ValueFound seen room code octets t
 
 pub parameter_right : (seen : Parameters) (at room code : ℕ) (octets : List ℕ)
-    → Right (ParameterFound seen room code octets) (parameter_in seen at room code octets)
+    → Right (ParameterFound seen room code octets) (tpdu_parameter_in seen at room code octets)
 parameter_right seen at room code octets =
-    let P : Read Taken → Type 0 = Right (ParameterFound seen room code octets) in
-    let rest : Read Taken = cond (eqb room 1) (broken (at + 1) whys.Short)
-    (value_in seen at room code octets) in
+    let P : Read TakenParameter → Type 0 = Right (ParameterFound seen room code octets) in
+    let rest : Read TakenParameter = cond (eqb room 1) (broken (at + 1) whys.Short)
+    (parameter_value_in seen at room code octets) in
     cond_both (is_twice seen code) (broken at whys.Tag) rest P (λ e. tt)
-    (λ new. cond_both (eqb room 1) (broken (at + 1) whys.Short) (value_in seen at room code octets)
+    (λ new. cond_both (eqb room 1) (broken (at + 1) whys.Short) (parameter_value_in seen at room code octets)
     P (λ e. tt)
     (λ more. right_as (ValueFound seen room code octets) (ParameterFound seen room code octets)
-    (value_in seen at room code octets) (λ t value. record { new = new; value = value })
+    (parameter_value_in seen at room code octets) (λ t value. record { new = new; value = value })
     (value_right seen at room code octets)))
 
 -- so many octets are passed over, then parameters fill the room
 pub record ParametersFound (seen : Parameters) (room passed : ℕ) (octets : List ℕ)
     (all : Parameters) : Type 0 where
   pub front : List ℕ
-  pub parameters : List Parameter
+  pub parameters : List TpduParameter
   pub rest : List ℕ
   pub is : octets ≡ front ++ (parameters_octets parameters ++ rest)
   pub passed_is : length front ≡ passed
@@ -137,14 +137,14 @@ same_front count values (f ∷ front) more e len =
     ∙ take_at front more count few in
     ap (λ (n : ℕ). n ∷ front) (sym first) ∙ ap (λ (os : List ℕ). count ∷ os) (sym value)
 
-joined : (seen : Parameters) (room code : ℕ) (octets : List ℕ) (t : Taken) (all : Parameters)
+joined : (seen : Parameters) (room code : ℕ) (octets : List ℕ) (t : TakenParameter) (all : Parameters)
     → room ≢ 0 → ParameterFound seen room code octets t
     → ParametersFound t.seen (room - 1) (t.count + 1) octets all
     → ParametersFound seen room 0 (code ∷ octets) all
 joined seen room code octets t all some one more =
     let v = one.value in
     let value : List ℕ = take t.count v.values in
-    let p : Parameter = record { code = code; value = value } in
+    let p : TpduParameter = record { code = code; value = value } in
     let len : length value ≡ t.count = length-take-le t.count v.values v.long in
     let front : more.front ≡ t.count ∷ value = same_front t.count v.values more.front
     (parameters_octets more.parameters ++ more.rest) (sym v.is ∙ more.is) more.passed_is in
@@ -187,13 +187,13 @@ parameters_right seen at room (suc passed) (o ∷ octets) le =
     (λ all found. one_more seen room passed o octets all le found)
     (parameters_right seen (at + 1) (room - 1) passed octets (omega arith))
 parameters_right seen at room zero (code ∷ octets) le =
-    let then : Taken → Read Parameters = λ p. parameters_in p.seen (at + 1) (room - 1)
+    let then : TakenParameter → Read Parameters = λ p. parameters_in p.seen (at + 1) (room - 1)
     (p.count + 1) octets in
     let Q : Read Parameters → Type 0 = Right (ParametersFound seen room 0 (code ∷ octets)) in
-    cond_both (eqb room 0) (Ok (Some seen)) (parameter_in seen at room code octets >>= then) Q
+    cond_both (eqb room 0) (Ok (Some seen)) (tpdu_parameter_in seen at room code octets >>= then) Q
     (λ e. all_found seen room (code ∷ octets) (eqb-true room 0 e))
     (λ e. right_bind (ParameterFound seen room code octets)
-    (ParametersFound seen room 0 (code ∷ octets)) (parameter_in seen at room code octets) then
+    (ParametersFound seen room 0 (code ∷ octets)) (tpdu_parameter_in seen at room code octets) then
     (parameter_right seen at room code octets)
     (λ t one. let fits : t.count + 2 ≤ room = one.value.fits in
     right_as (ParametersFound t.seen (room - 1) (t.count + 1) octets)
@@ -312,8 +312,8 @@ pub connect_right : (turn : Turn) (total high low reserved count : ℕ) (octets 
     (is_request : Bool) → may_come turn (connect_kind is_request) ≡ true
     → count + 5 ≡ high * 256 + low
     → Right (Begins turn total (headed reserved high low count (connect_code is_request) octets))
-    (connect_in is_request (high * 256 + low) octets)
-unfolding connect_in
+    (connection_request_in is_request (high * 256 + low) octets)
+unfolding connection_request_in
 connect_right turn total high low reserved count [] r order counted = few_right _
     (high * 256 + low) []
 connect_right turn total high low reserved count (a ∷ []) r order counted = few_right _

@@ -6,9 +6,9 @@ use Rattle.ber_values.specs.declared.fault.Why.TheVariants as whys
 use Rattle.tpkt_cotp.specs.declared.turn.Turn.{Turn}
 use Rattle.tpkt_cotp.specs.declared.turn.Kind.{Kind}
 use Rattle.tpkt_cotp.specs.declared.turn.Kind.TheVariants as kinds
-use Rattle.tpkt_cotp.specs.Turns.{kind_of, may_come, is_count}
+use Rattle.tpkt_cotp.specs.Turns.{tpdu_kind_of, may_come, is_count}
 use Rattle.tpkt_cotp.specs.Tpdus.{Tpkt}
-use Rattle.tpkt_cotp.specs.Readings.{Read, broken, body_in, known_in, tpdu_in, sized_in, tpkt_in}
+use Rattle.tpkt_cotp.specs.Readings.{Read, broken, tpdu_body_in, known_in, tpdu_in, sized_in, tpkt_in}
 use Rattle.tpkt_cotp.proofs.Exact.{Right, Begins, headed, part_right, disconnect_right}
 use Rattle.tpkt_cotp.proofs.ExactConnect.{connect_right}
 
@@ -22,7 +22,7 @@ abbrev some_kind : Kind → Option Kind
 some_kind k = Some k
 
 -- a kind has one code
-pub code_is : (code : ℕ) (k : Kind) → kind_of code ≡ Some k → code ≡ code_of k
+pub code_is : (code : ℕ) (k : Kind) → tpdu_kind_of code ≡ Some k → code ≡ code_of k
 code_is code k is =
     let P : Option Kind → Type 0 = λ o. o ≡ Some k → code ≡ code_of k in
     cond_both (eqb code 224) (Some kinds.Request)
@@ -46,8 +46,8 @@ code_is code k is =
 body_right : (turn : Turn) (total high low reserved count : ℕ) (k : Kind) (octets : List ℕ)
     → may_come turn k ≡ true → is_count k (high * 256 + low) count ≡ true → 7 ≤ high * 256 + low
     → Right (Begins turn total (headed reserved high low count (code_of k) octets))
-    (body_in k total (high * 256 + low) octets)
-unfolding body_in
+    (tpdu_body_in k total (high * 256 + low) octets)
+unfolding tpdu_body_in
 body_right turn total high low reserved count kinds.Request octets order counted long =
     connect_right turn total high low reserved count octets true order
     (eqb-true (count + 5) (high * 256 + low) counted)
@@ -58,12 +58,12 @@ body_right turn total high low reserved count kinds.Disconnect octets order coun
     disconnect_right turn total reserved high low count octets order long
 body_right turn total high low reserved count kinds.Part octets order counted long =
     let P : ℕ → Type 0 = λ c. Right (Begins turn total (headed reserved high low c 240 octets))
-    (body_in kinds.Part total (high * 256 + low) octets) in
+    (tpdu_body_in kinds.Part total (high * 256 + low) octets) in
     subst P (sym (eqb-true count 2 counted)) (part_right turn total reserved high low octets order
     long)
 
 known_right : (turn : Turn) (total high low reserved count code : ℕ) (o : Option Kind)
-    (octets : List ℕ) → kind_of code ≡ o → 7 ≤ high * 256 + low
+    (octets : List ℕ) → tpdu_kind_of code ≡ o → 7 ≤ high * 256 + low
     → Right (Begins turn total (headed reserved high low count code octets))
     (known_in turn total (high * 256 + low) count o octets)
 known_right turn total high low reserved count code None octets is long = tt
@@ -72,11 +72,11 @@ known_right turn total high low reserved count code (Some k) octets is long =
     let P : Read Tpkt → Type 0 = Right (Begins turn total
     (headed reserved high low count code octets)) in
     let Q : ℕ → Type 0 = λ c. Right (Begins turn total (headed reserved high low count c octets))
-    (body_in k total size octets) in
-    let ordered : Read Tpkt = cond (may_come turn k) (body_in k total size octets)
+    (tpdu_body_in k total size octets) in
+    let ordered : Read Tpkt = cond (may_come turn k) (tpdu_body_in k total size octets)
     (broken 0 whys.Order) in
     cond_both (is_count k size count) ordered (broken 4 whys.Length) P
-    (λ counted. cond_both (may_come turn k) (body_in k total size octets) (broken 0 whys.Order) P
+    (λ counted. cond_both (may_come turn k) (tpdu_body_in k total size octets) (broken 0 whys.Order) P
     (λ order. subst Q (sym (code_is code k is))
     (body_right turn total high low reserved count k octets order counted long))
     (λ e. tt))
@@ -89,7 +89,7 @@ unfolding tpdu_in
 tpdu_right turn total high low reserved [] long = tt
 tpdu_right turn total high low reserved (count ∷ []) long = tt
 tpdu_right turn total high low reserved (count ∷ code ∷ octets) long = known_right turn total high
-    low reserved count code (kind_of code) octets refl long
+    low reserved count code (tpdu_kind_of code) octets refl long
 
 sized_right : (turn : Turn) (total : ℕ) (octets : List ℕ)
     → Right (Begins turn total (3 ∷ octets)) (sized_in turn total octets)

@@ -13,15 +13,15 @@ use Rattle.tpkt_cotp.specs.declared.tpdu.Parameters.{Parameters}
 use Rattle.tpkt_cotp.specs.declared.turn.Turn.{Turn}
 use Rattle.tpkt_cotp.specs.declared.turn.Kind.{Kind}
 use Rattle.tpkt_cotp.specs.declared.turn.Kind.TheVariants as kinds
-use Rattle.tpkt_cotp.specs.Turns.{kind_of, may_come, is_count}
-use Rattle.tpkt_cotp.specs.Tpdus.{disconnect, part, Tpkt, Parameter, parameter_octets}
+use Rattle.tpkt_cotp.specs.Turns.{tpdu_kind_of, may_come, is_count}
+use Rattle.tpkt_cotp.specs.Tpdus.{disconnect, part, Tpkt, TpduParameter, parameter_octets}
 use Rattle.tpkt_cotp.specs.Tpdus.{parameters_octets, AddUp, is_twice, is_length_of, is_value_of}
 use Rattle.tpkt_cotp.specs.Tpdus.{with_value, no_parameters}
-use Rattle.tpkt_cotp.specs.Readings.{Read, Taken, broken, ◌>>=◌, tpkt_of, value_in, parameter_in}
-use Rattle.tpkt_cotp.specs.Readings.{parameters_in, connect_with, marked_in, part_in, disconnect_in}
-use Rattle.tpkt_cotp.specs.Readings.{connect_in, body_in, known_in, tpdu_in, sized_in, tpkt_in}
-use Rattle.tpkt_cotp.specs.Faults.{WrongLength, WrongValue, ParameterFault, ParametersFault}
-use Rattle.tpkt_cotp.specs.Faults.{ConnectFault, PartFault, BodyFault, KindFault, CodeFault}
+use Rattle.tpkt_cotp.specs.Readings.{Read, TakenParameter, broken, ◌>>=◌, tpkt_of, parameter_value_in, tpdu_parameter_in}
+use Rattle.tpkt_cotp.specs.Readings.{parameters_in, connect_with, marked_in, data_part_in, disconnect_in}
+use Rattle.tpkt_cotp.specs.Readings.{connection_request_in, tpdu_body_in, known_in, tpdu_in, sized_in, tpkt_in}
+use Rattle.tpkt_cotp.specs.Faults.{WrongLength, WrongValue, TpduParameterFault, ParametersFault}
+use Rattle.tpkt_cotp.specs.Faults.{ConnectFault, DataPartFault, BodyFault, KindFault, CodeFault}
 use Rattle.tpkt_cotp.specs.Faults.{TpktFault}
 use Rattle.tpkt_cotp.proofs.Exact.{Right}
 use Rattle.tpkt_cotp.proofs.ExactConnect.{ParameterFound, parameter_right, same_front}
@@ -55,16 +55,16 @@ undo_not false e = refl
 
 value_wrong : (seen : Parameters) (at room code : ℕ) (octets : List ℕ)
     → Wrong (λ f. WrongLength at room code octets f ⊎ WrongValue at room code octets f)
-    (value_in seen at room code octets)
+    (parameter_value_in seen at room code octets)
 value_wrong seen at room code [] = tt
 value_wrong seen at room code (count ∷ octets) =
     let sound : Bool = is_length_of code count && leb (count + 2) room in
-    let whole : Read Taken = Ok (Some (record
+    let whole : Read TakenParameter = Ok (Some (record
     { seen = with_value seen code (take count octets); count = count })) in
-    let valued : Read Taken = cond (is_value_of code (get_or (take count octets) 0 0)) whole
+    let valued : Read TakenParameter = cond (is_value_of code (get_or (take count octets) 0 0)) whole
     (broken (at + 2) whys.Value) in
-    let there : Read Taken = cond (ltb (length octets) count) (Ok None) valued in
-    let P : Read Taken → Type 0 = Wrong (λ f. WrongLength at room code (count ∷ octets) f
+    let there : Read TakenParameter = cond (ltb (length octets) count) (Ok None) valued in
+    let P : Read TakenParameter → Type 0 = Wrong (λ f. WrongLength at room code (count ∷ octets) f
     ⊎ WrongValue at room code (count ∷ octets) f) in
     cond_both (not sound) (broken (at + 1) whys.Length) there P
     (λ e. inl (record {
@@ -88,23 +88,23 @@ value_wrong seen at room code (count ∷ octets) =
     }))))
 
 parameter_wrong : (seen : Parameters) (at room code : ℕ) (octets : List ℕ)
-    → Wrong (ParameterFault seen at room code octets) (parameter_in seen at room code octets)
+    → Wrong (TpduParameterFault seen at room code octets) (tpdu_parameter_in seen at room code octets)
 parameter_wrong seen at room code octets =
-    let P : Read Taken → Type 0 = Wrong (ParameterFault seen at room code octets) in
-    let rest : Read Taken = cond (eqb room 1) (broken (at + 1) whys.Short)
-    (value_in seen at room code octets) in
+    let P : Read TakenParameter → Type 0 = Wrong (TpduParameterFault seen at room code octets) in
+    let rest : Read TakenParameter = cond (eqb room 1) (broken (at + 1) whys.Short)
+    (parameter_value_in seen at room code octets) in
     cond_both (is_twice seen code) (broken at whys.Tag) rest P (λ e. inl (e, refl))
-    (λ new. cond_both (eqb room 1) (broken (at + 1) whys.Short) (value_in seen at room code octets)
+    (λ new. cond_both (eqb room 1) (broken (at + 1) whys.Short) (parameter_value_in seen at room code octets)
     P (λ e. inr (new, inl (eqb-true room 1 e, refl)))
     (λ more. wrong_as (λ f. WrongLength at room code octets f ⊎ WrongValue at room code octets f)
-    (ParameterFault seen at room code octets) (value_in seen at room code octets)
+    (TpduParameterFault seen at room code octets) (parameter_value_in seen at room code octets)
     (λ f w. inr (new, inr (eqb-false room 1 more, w))) (value_wrong seen at room code octets)))
 
 -- so many octets are passed over, some parameters are spelled, and the next one breaks a rule
 record PassedFault (seen : Parameters) (at room passed : ℕ) (octets : List ℕ) (f : CotpFault) :
     Type 0 where
   pub front : List ℕ
-  pub parameters : List Parameter
+  pub parameters : List TpduParameter
   pub before : Parameters
   pub code : ℕ
   pub rest : List ℕ
@@ -112,15 +112,15 @@ record PassedFault (seen : Parameters) (at room passed : ℕ) (octets : List ℕ
   pub passed_is : length front ≡ passed
   pub adds_up : AddUp seen parameters before
   pub within : passed + length (parameters_octets parameters) < room
-  pub breaks : ParameterFault before (at + passed + length (parameters_octets parameters))
+  pub breaks : TpduParameterFault before (at + passed + length (parameters_octets parameters))
       (room - (passed + length (parameters_octets parameters))) code rest f
 
 pub moved : (seen : Parameters) (at at' room room' code : ℕ) (octets : List ℕ) (f : CotpFault)
-    → at ≡ at' → room ≡ room' → ParameterFault seen at room code octets f
-    → ParameterFault seen at' room' code octets f
+    → at ≡ at' → room ≡ room' → TpduParameterFault seen at room code octets f
+    → TpduParameterFault seen at' room' code octets f
 moved seen at at' room room' code octets f a r w =
-    let P : ℕ → Type 0 = λ n. ParameterFault seen n room code octets f in
-    let Q : ℕ → Type 0 = λ n. ParameterFault seen at' n code octets f in
+    let P : ℕ → Type 0 = λ n. TpduParameterFault seen n room code octets f in
+    let Q : ℕ → Type 0 = λ n. TpduParameterFault seen at' n code octets f in
     subst Q r (subst P a w)
 
 one_passed : (seen : Parameters) (at room passed o : ℕ) (octets : List ℕ) (f : CotpFault)
@@ -143,7 +143,7 @@ one_passed seen at room passed o octets f le w =
     }
 
 at_front : (seen : Parameters) (at room code : ℕ) (octets : List ℕ) (f : CotpFault) → room ≢ 0
-    → ParameterFault seen at room code octets f → PassedFault seen at room 0 (code ∷ octets) f
+    → TpduParameterFault seen at room code octets f → PassedFault seen at room 0 (code ∷ octets) f
 at_front seen at room code octets f some w = record {
   front = [];
   parameters = [];
@@ -158,13 +158,13 @@ at_front seen at room code octets f some w = record {
       (omega arith) w;
 }
 
-behind_one : (seen : Parameters) (at room code : ℕ) (octets : List ℕ) (t : Taken) (f : CotpFault)
+behind_one : (seen : Parameters) (at room code : ℕ) (octets : List ℕ) (t : TakenParameter) (f : CotpFault)
     → ParameterFound seen room code octets t → PassedFault t.seen (at + 1) (room - 1) (t.count + 1)
     octets f → PassedFault seen at room 0 (code ∷ octets) f
 behind_one seen at room code octets t f one w =
     let v = one.value in
     let value : List ℕ = take t.count v.values in
-    let p : Parameter = record { code = code; value = value } in
+    let p : TpduParameter = record { code = code; value = value } in
     let len : length value ≡ t.count = length-take-le t.count v.values v.long in
     let tail : List ℕ = parameters_octets w.parameters ++ w.code ∷ w.rest in
     let front : w.front ≡ t.count ∷ value = same_front t.count v.values w.front tail
@@ -210,14 +210,14 @@ passed_wrong seen at room (suc passed) (o ∷ octets) le = wrong_as
     (λ f w. one_passed seen at room passed o octets f le w)
     (passed_wrong seen (at + 1) (room - 1) passed octets (omega arith))
 passed_wrong seen at room zero (code ∷ octets) le =
-    let then : Taken → Read Parameters = λ p. parameters_in p.seen (at + 1) (room - 1)
+    let then : TakenParameter → Read Parameters = λ p. parameters_in p.seen (at + 1) (room - 1)
     (p.count + 1) octets in
     let Q : CotpFault → Type 0 = PassedFault seen at room 0 (code ∷ octets) in
-    cond_both (eqb room 0) (Ok (Some seen)) (parameter_in seen at room code octets >>= then)
+    cond_both (eqb room 0) (Ok (Some seen)) (tpdu_parameter_in seen at room code octets >>= then)
     (Wrong Q) (λ e. tt)
     (λ e. wrong_bind (ParameterFound seen room code octets) Q
-    (parameter_in seen at room code octets) then (parameter_right seen at room code octets)
-    (wrong_as (ParameterFault seen at room code octets) Q (parameter_in seen at room code octets)
+    (tpdu_parameter_in seen at room code octets) then (parameter_right seen at room code octets)
+    (wrong_as (TpduParameterFault seen at room code octets) Q (tpdu_parameter_in seen at room code octets)
     (λ f w. at_front seen at room code octets f (eqb-false room 0 e) w)
     (parameter_wrong seen at room code octets))
     (λ t one. let fits : t.count + 2 ≤ room = one.value.fits in
@@ -268,8 +268,8 @@ few_wrong size octets few = cond_both (leb size (length octets + 6)) (broken siz
     (record { short = omega arith; whole = le; fault = refl })) (λ e. tt)
 
 connect_wrong : (r : Bool) (size : ℕ) (octets : List ℕ)
-    → Wrong (ConnectFault size octets) (connect_in r size octets)
-unfolding connect_in
+    → Wrong (ConnectFault size octets) (connection_request_in r size octets)
+unfolding connection_request_in
 connect_wrong r size [] = few_wrong size [] (omega arith)
 connect_wrong r size (a ∷ []) = few_wrong size (a ∷ []) (omega arith)
 connect_wrong r size (a ∷ b ∷ []) = few_wrong size (a ∷ b ∷ []) (omega arith)
@@ -312,15 +312,15 @@ connect_wrong r size (a ∷ b ∷ c ∷ d ∷ class ∷ octets) =
     })))
 
 part_wrong : (total size : ℕ) (octets : List ℕ)
-    → Wrong (PartFault (total + (size - 7)) size octets) (part_in total size octets)
-unfolding part_in marked_in
+    → Wrong (DataPartFault (total + (size - 7)) size octets) (data_part_in total size octets)
+unfolding data_part_in marked_in
 part_wrong total size [] =
     let sum = total + (size - 7) in
-    cond_both (ltb TSDU_LIMIT sum) (broken 2 whys.Long) (Ok None) (Wrong (PartFault sum size []))
+    cond_both (ltb TSDU_LIMIT sum) (broken 2 whys.Long) (Ok None) (Wrong (DataPartFault sum size []))
     (λ e. inl (ltb-true TSDU_LIMIT sum e, refl)) (λ e. tt)
 part_wrong total size (mark ∷ octets) =
     let sum = total + (size - 7) in
-    let Q : CotpFault → Type 0 = PartFault sum size (mark ∷ octets) in
+    let Q : CotpFault → Type 0 = DataPartFault sum size (mark ∷ octets) in
     let whole : Read Tpkt = tpkt_of size (part (leb 128 mark) (take (size - 7) octets)) in
     let there : Read Tpkt = cond (ltb (length octets) (size - 7)) (Ok None) whole in
     cond_both (ltb TSDU_LIMIT sum) (broken 2 whys.Long)
@@ -342,8 +342,8 @@ part_wrong total size (mark ∷ octets) =
     (λ s. tt)))
 
 body_wrong : (k : Kind) (total size : ℕ) (octets : List ℕ)
-    → Wrong (BodyFault k total size octets) (body_in k total size octets)
-unfolding body_in disconnect_in
+    → Wrong (BodyFault k total size octets) (tpdu_body_in k total size octets)
+unfolding tpdu_body_in disconnect_in
 body_wrong kinds.Request total size octets = connect_wrong true size octets
 body_wrong kinds.Confirm total size octets = connect_wrong false size octets
 body_wrong kinds.Disconnect total size octets = cond_both (ltb (length octets + 6) size) (Ok None)
@@ -355,12 +355,12 @@ known_wrong : (turn : Turn) (total size count : ℕ) (o : Option Kind) (octets :
 known_wrong turn total size count None octets = refl
 known_wrong turn total size count (Some k) octets =
     let Q : CotpFault → Type 0 = KindFault turn total size count k octets in
-    let ordered : Read Tpkt = cond (may_come turn k) (body_in k total size octets)
+    let ordered : Read Tpkt = cond (may_come turn k) (tpdu_body_in k total size octets)
     (broken 0 whys.Order) in
     cond_both (is_count k size count) ordered (broken 4 whys.Length) (Wrong Q)
-    (λ counted. cond_both (may_come turn k) (body_in k total size octets) (broken 0 whys.Order)
+    (λ counted. cond_both (may_come turn k) (tpdu_body_in k total size octets) (broken 0 whys.Order)
     (Wrong Q)
-    (λ order. wrong_as (BodyFault k total size octets) Q (body_in k total size octets)
+    (λ order. wrong_as (BodyFault k total size octets) Q (tpdu_body_in k total size octets)
     (λ f w. inr (counted, inr (order, w))) (body_wrong k total size octets))
     (λ e. inr (counted, inl (e, refl))))
     (λ e. inl (e, refl))
@@ -372,9 +372,9 @@ unfolding tpdu_in
 tpdu_wrong turn total reserved high low [] long = tt
 tpdu_wrong turn total reserved high low (count ∷ []) long = tt
 tpdu_wrong turn total reserved high low (count ∷ code ∷ octets) long =
-    wrong_as (CodeFault turn total (high * 256 + low) count (kind_of code) octets)
+    wrong_as (CodeFault turn total (high * 256 + low) count (tpdu_kind_of code) octets)
     (TpktFault turn total (3 ∷ reserved ∷ high ∷ low ∷ count ∷ code ∷ octets))
-    (known_in turn total (high * 256 + low) count (kind_of code) octets)
+    (known_in turn total (high * 256 + low) count (tpdu_kind_of code) octets)
     (λ f w. inr (inr (record {
       reserved = reserved;
       high = high;
@@ -386,7 +386,7 @@ tpdu_wrong turn total reserved high low (count ∷ code ∷ octets) long =
       long = long;
       breaks = w;
     })))
-    (known_wrong turn total (high * 256 + low) count (kind_of code) octets)
+    (known_wrong turn total (high * 256 + low) count (tpdu_kind_of code) octets)
 
 sized_wrong : (turn : Turn) (total : ℕ) (octets : List ℕ)
     → Wrong (TpktFault turn total (3 ∷ octets)) (sized_in turn total octets)

@@ -14,7 +14,7 @@ use Rattle.tpkt_cotp.specs.Seen.{message_seen}
 use Rattle.tpkt_cotp.specs.Lines.{Line, fed_to, fed}
 use Rattle.tpkt_cotp.specs.Steps.{behind_part, behind_message, StepsPart, StepsMessage}
 use Rattle.tpkt_cotp.specs.Steps.{StepsNowhere, StepsBroken}
-use Rattle.tpkt_cotp.specs.Places.{stopped, ended, with_message, Goes, behind_tpkt}
+use Rattle.tpkt_cotp.specs.Places.{stopped, ended, with_message, GoesBehind, behind_tpkt}
 use Rattle.tpkt_cotp.specs.Places.{by_tpkt, stream_from}
 use Rattle.tpkt_cotp.specs.Goings.{unless_stopped, stream_of, HandsOut}
 use Rattle.tpkt_cotp.proofs.Exact.{Begins}
@@ -35,11 +35,11 @@ stream_from-passed turn start place held (suc passed) (o ∷ octets) =
     stream_from-passed turn start place held passed octets
 
 -- how a stream goes on behind a TPKT, by the octets behind it
-abbrev pub goes_behind : List ℕ → Tpkt → Goes
+abbrev pub goes_behind : List ℕ → Tpkt → GoesBehind
 goes_behind octets p = λ start next held. stream_from turns.Transfer start next held 0
     (drop p.size octets)
 
-behind_same : (start next : ℕ) (held : List ℕ) (g h : Goes)
+behind_same : (start next : ℕ) (held : List ℕ) (g h : GoesBehind)
     → ((s n : ℕ) (l : List ℕ) → g s n l ≡ h s n l) → (m : Option Message)
     → behind_tpkt start next held g m ≡ behind_tpkt start next held h m
 behind_same start next held g h same None = same start next held
@@ -70,7 +70,7 @@ stream_from-read turn start place held [] =
 stream_from-read turn start place held (o ∷ octets) =
     here (tpkt_in turn (length held) (o ∷ octets)) refl
   where
-    goes : Tpkt → Goes
+    goes : Tpkt → GoesBehind
     goes p start next held = stream_from turns.Transfer start next held (p.size - 1) octets
 
     here : (r : Read Tpkt) → tpkt_in turn (length held) (o ∷ octets) ≡ r

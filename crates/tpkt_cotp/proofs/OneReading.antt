@@ -11,7 +11,7 @@ use Rattle.tpkt_cotp.specs.declared.turn.Kind.TheVariants as kinds
 use Rattle.tpkt_cotp.specs.Turns.{may_come}
 use Rattle.tpkt_cotp.specs.Tpdus.{Tpdu, request, confirm, disconnect, part, Tpkt}
 use Rattle.tpkt_cotp.specs.Readings.{Read, tpkt_of, tpkt_in}
-use Rattle.tpkt_cotp.specs.Streams.{Message, Section, IsSection, held_of, octets_of, Opens, Comes}
+use Rattle.tpkt_cotp.specs.Streams.{Message, Section, IsSection, held_of, section_octets_of, Opens, Comes}
 use Rattle.tpkt_cotp.specs.Streams.{message_of, SpellsMessage, BreaksRule, IsPartial, IsRest}
 use Rattle.tpkt_cotp.proofs.Again.{tpkt_again}
 use Rattle.tpkt_cotp.proofs.FaultFirst.{fault_first}
@@ -81,14 +81,14 @@ same_front turn total s t more rest one two transfer small little is =
 
 pub record SameParts (a b : List Section) (r q : List ℕ) : Type 0 where
   pub held : held_of a ≡ held_of b
-  pub octets : octets_of a ≡ octets_of b
+  pub octets : section_octets_of a ≡ section_octets_of b
   pub rest : r ≡ q
 
 same_parts : (turn : Turn) (total : ℕ) (a b : List Section) (r q : List ℕ)
     → AllByRecursion IsSection a → AllByRecursion IsSection b
     → (0 < length a → turn ≡ turns.Transfer) → (0 < length b → turn ≡ turns.Transfer)
     → total + length (held_of a) ≤ TSDU_LIMIT → total + length (held_of b) ≤ TSDU_LIMIT
-    → octets_of a ++ r ≡ octets_of b ++ q → IsEnd (tpkt_in turn (total + length (held_of a)) r)
+    → section_octets_of a ++ r ≡ section_octets_of b ++ q → IsEnd (tpkt_in turn (total + length (held_of a)) r)
     → IsEnd (tpkt_in turn (total + length (held_of b)) q) → SameParts a b r q
 same_parts turn total [] [] r q one two order other small little is end last = record
     { held = refl; octets = refl; rest = is }
@@ -99,8 +99,8 @@ same_parts turn total [] (t ∷ b) r q one two order other small little is end l
     let e : total + 0 ≡ total = omega arith in
     absurd (part_is_no_end (length t.octets) t.held (tpkt_in turn (total + 0) r)
     (ap (λ (n : ℕ). tpkt_in turn n r) e ∙ ap (λ (os : List ℕ). tpkt_in turn total os)
-    (is ∙ append_assoc t.octets (octets_of b) q)
-    ∙ front_read turn total t (octets_of b ++ q) two.0 transfer within) end)
+    (is ∙ append_assoc t.octets (section_octets_of b) q)
+    ∙ front_read turn total t (section_octets_of b ++ q) two.0 transfer within) end)
 same_parts turn total (s ∷ a) [] r q one two order other small little is end last =
     let transfer : turn ≡ turns.Transfer = order (omega arith) in
     let l = length-append s.held (held_of a) in
@@ -108,15 +108,15 @@ same_parts turn total (s ∷ a) [] r q one two order other small little is end l
     let e : total + 0 ≡ total = omega arith in
     absurd (part_is_no_end (length s.octets) s.held (tpkt_in turn (total + 0) q)
     (ap (λ (n : ℕ). tpkt_in turn n q) e ∙ ap (λ (os : List ℕ). tpkt_in turn total os)
-    (sym is ∙ append_assoc s.octets (octets_of a) r)
-    ∙ front_read turn total s (octets_of a ++ r) one.0 transfer within) last)
+    (sym is ∙ append_assoc s.octets (section_octets_of a) r)
+    ∙ front_read turn total s (section_octets_of a ++ r) one.0 transfer within) last)
 same_parts turn total (s ∷ a) (t ∷ b) r q one two order other small little is end last =
     let transfer : turn ≡ turns.Transfer = order (omega arith) in
     let l = length-append s.held (held_of a) in
     let m = length-append t.held (held_of b) in
-    let front = same_front turn total s t (octets_of a ++ r) (octets_of b ++ q) one.0 two.0
+    let front = same_front turn total s t (section_octets_of a ++ r) (section_octets_of b ++ q) one.0 two.0
     transfer (omega (arith, l)) (omega (arith, m))
-    (sym (append_assoc s.octets (octets_of a) r) ∙ is ∙ append_assoc t.octets (octets_of b) q) in
+    (sym (append_assoc s.octets (section_octets_of a) r) ∙ is ∙ append_assoc t.octets (section_octets_of b) q) in
     let E : List ℕ → ℕ → Type 0 = λ os n. IsEnd (tpkt_in turn n os) in
     let n : total + length (s.held ++ held_of a) ≡ total + length s.held + length (held_of a) =
     omega (arith, l) in
@@ -129,7 +129,7 @@ same_parts turn total (s ∷ a) (t ∷ b) r q one two order other small little i
     record {
       held = ap (λ (os : List ℕ). os ++ held_of a) front.held
           ∙ ap (λ (os : List ℕ). t.held ++ os) others.held;
-      octets = ap (λ (os : List ℕ). os ++ octets_of a) front.octets
+      octets = ap (λ (os : List ℕ). os ++ section_octets_of a) front.octets
           ∙ ap (λ (os : List ℕ). t.octets ++ os) others.octets;
       rest = others.rest;
     }
@@ -170,7 +170,7 @@ message_ends turn at octets first more m is s = record {
     within = s.opens.within;
     is = is
         ∙ ap (λ (os : List ℕ). os ++ more) s.opens.is
-        ∙ append_assoc (octets_of s.sections) s.last more;
+        ∙ append_assoc (section_octets_of s.sections) s.last more;
   };
   read = tpkt_again turn (length (held_of s.sections)) s.tpdu s.last more s.spelled s.comes;
   end = λ held is_part. no_part at (held_of s.sections) s.tpdu held m is_part s.ends;

@@ -8,7 +8,7 @@ use Rattle.tpkt_cotp.specs.declared.turn.Turn.{Turn}
 use Rattle.tpkt_cotp.specs.declared.turn.Turn.TheVariants as turns
 use Rattle.tpkt_cotp.specs.Tpdus.{Tpdu, Tpkt, disconnect}
 use Rattle.tpkt_cotp.specs.Readings.{Read, tpkt_of}
-use Rattle.tpkt_cotp.specs.Streams.{Message, stream_place, held_of, octets_of, message_of, SpellsMessage}
+use Rattle.tpkt_cotp.specs.Streams.{Message, stream_place, held_of, section_octets_of, message_of, SpellsMessage}
 use Rattle.tpkt_cotp.specs.Streams.{SpellsMessages, BreaksRule, turn_after, Says, Stops}
 use Rattle.tpkt_cotp.proofs.Standing.{later}
 use Rattle.tpkt_cotp.proofs.OneReading.{one_end, message_ends, fault_ends, size_of}
@@ -37,7 +37,7 @@ one_message turn at m n a b x y s t is =
     ∙ ap (λ (os : List ℕ). take (length s.last) os) same.0.rest
     ∙ take_at t.last y (length s.last) (sym size) in (
       s.opens.is ∙ ap (λ (os : List ℕ). os ++ s.last) same.0.octets
-          ∙ ap (λ (os : List ℕ). octets_of t.sections ++ os) last ∙ sym t.opens.is,
+          ∙ ap (λ (os : List ℕ). section_octets_of t.sections ++ os) last ∙ sym t.opens.is,
       some_is m n (sym s.ends ∙ ap (λ (h : List ℕ). message_of at h s.tpdu) same.0.held
           ∙ ap (λ (p : Tpdu). message_of at (held_of t.sections) p) tpdu ∙ t.ends),
     )
@@ -72,7 +72,7 @@ one_fault turn at octets f g b c =
     (Err c.broken) (fault_ends turn at octets f b) (fault_ends turn at octets g c) in
     let broken : b.broken ≡ c.broken = err_is b.broken c.broken same.1 in
     b.is ∙ ap (λ (os : List ℕ). faulted (at + length os) b.broken) same.0.octets
-    ∙ ap (λ (h : CotpFault). faulted (at + length (octets_of c.sections)) h) broken ∙ sym c.is
+    ∙ ap (λ (h : CotpFault). faulted (at + length (section_octets_of c.sections)) h) broken ∙ sym c.is
 
 pub record SameStream (ms ns : List Message) (w v r q : List ℕ) : Type 0 where
   pub messages : ms ≡ ns

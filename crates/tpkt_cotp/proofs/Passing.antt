@@ -5,7 +5,7 @@ use Rattle.std.proofs.Common.{subst, false, ◌==◌, ne_eqb}
 use Rattle.std.proofs.Math.Seq.{take-length}
 use Rattle.tpkt_cotp.specs.declared.tpdu.Parameters.{Parameters}
 use Rattle.tpkt_cotp.specs.declared.fault.CotpFault.{CotpFault}
-use Rattle.tpkt_cotp.specs.Readings.{Read, ◌>>=◌, Taken, parameter_in, parameters_in}
+use Rattle.tpkt_cotp.specs.Readings.{Read, ◌>>=◌, TakenParameter, tpdu_parameter_in, parameters_in}
 
 pub parameters_in-passed : (seen : Parameters) (at room passed : ℕ) (octets : List ℕ)
     → passed ≤ length octets → parameters_in seen at room passed octets ≡ parameters_in seen
@@ -36,12 +36,12 @@ parameters_in-cut seen at room [] some none = let e : (room == 0) ≡ false = ne
 parameters_in-cut seen at room (code ∷ octets) some none = absurd (omega arith)
 
 -- one parameter, and those behind it
-abbrev pub after : (at room : ℕ) (octets : List ℕ) → Taken → Read Parameters
+abbrev pub after : (at room : ℕ) (octets : List ℕ) → TakenParameter → Read Parameters
 after at room octets p = parameters_in p.seen (at + 1) (room - 1) (p.count + 1) octets
 
 pub parameters_in-one : (seen : Parameters) (at room code : ℕ) (octets : List ℕ) → room ≢ 0
     → parameters_in seen at room 0 (code ∷ octets) ≡
-    (parameter_in seen at room code octets >>= after at room octets)
+    (tpdu_parameter_in seen at room code octets >>= after at room octets)
 unfolding parameters_in
 parameters_in-one seen at room code octets some = let e : (room == 0) ≡ false = ne_eqb room 0 some
     in rw e refl
@@ -59,15 +59,15 @@ behind-cons code octets =
     let n : length (code ∷ octets) - 1 ≡ length octets = omega arith in
     rw n (take-length octets)
 
-pub parameters_in-some : (seen : Parameters) (at room : ℕ) (octets : List ℕ) (p : Taken) → room ≢ 0
-    → 1 ≤ length octets → parameter_in seen at room (get_or octets 0 0) (behind octets) ≡ Ok
+pub parameters_in-some : (seen : Parameters) (at room : ℕ) (octets : List ℕ) (p : TakenParameter) → room ≢ 0
+    → 1 ≤ length octets → tpdu_parameter_in seen at room (get_or octets 0 0) (behind octets) ≡ Ok
     (Some p) → p.count + 1 ≤ length (behind octets)
     → parameters_in seen at room 0 octets ≡ parameters_in p.seen (at + 2 + p.count)
     (room - 2 - p.count) 0 (drop (p.count + 1) (behind octets))
 parameters_in-some seen at room [] p some long read fits = absurd (omega arith)
 parameters_in-some seen at room (code ∷ octets) p some long read fits =
     let e = behind-cons code octets in
-    let P : List ℕ → Type 0 = λ os. parameter_in seen at room code os ≡ Ok (Some p) in
+    let P : List ℕ → Type 0 = λ os. tpdu_parameter_in seen at room code os ≡ Ok (Some p) in
     let F : List ℕ → Type 0 = λ os. p.count + 1 ≤ length os in
     let G : List ℕ → Type 0 = λ os. parameters_in seen at room 0 (code ∷ octets) ≡ parameters_in
     p.seen (at + 2 + p.count) (room - 2 - p.count) 0 (drop (p.count + 1) os) in
@@ -75,26 +75,26 @@ parameters_in-some seen at room (code ∷ octets) p some long read fits =
     let r : room - 1 - (p.count + 1) ≡ room - 2 - p.count = omega arith in
     subst G (sym e)
     (parameters_in-one seen at room code octets some
-    ∙ bind_some (parameter_in seen at room code octets) (after at room octets) p (subst P e read)
+    ∙ bind_some (tpdu_parameter_in seen at room code octets) (after at room octets) p (subst P e read)
     ∙ parameters_in-passed p.seen (at + 1) (room - 1) (p.count + 1) octets (subst F e fits)
     ∙ rw (a, r) refl)
 
 pub parameters_in-none : (seen : Parameters) (at room : ℕ) (octets : List ℕ) → room ≢ 0
-    → 1 ≤ length octets → parameter_in seen at room (get_or octets 0 0) (behind octets) ≡ Ok None
+    → 1 ≤ length octets → tpdu_parameter_in seen at room (get_or octets 0 0) (behind octets) ≡ Ok None
     → parameters_in seen at room 0 octets ≡ Ok None
 parameters_in-none seen at room [] some long read = absurd (omega arith)
 parameters_in-none seen at room (code ∷ octets) some long read =
-    let P : List ℕ → Type 0 = λ os. parameter_in seen at room code os ≡ Ok None in
+    let P : List ℕ → Type 0 = λ os. tpdu_parameter_in seen at room code os ≡ Ok None in
     parameters_in-one seen at room code octets some
-    ∙ ap (λ (r : Read Taken). r >>= after at room octets)
+    ∙ ap (λ (r : Read TakenParameter). r >>= after at room octets)
     (subst P (behind-cons code octets) read)
 
 pub parameters_in-err : (seen : Parameters) (at room : ℕ) (octets : List ℕ) (f : CotpFault)
-    → room ≢ 0 → 1 ≤ length octets → parameter_in seen at room (get_or octets 0 0) (behind octets)
+    → room ≢ 0 → 1 ≤ length octets → tpdu_parameter_in seen at room (get_or octets 0 0) (behind octets)
     ≡ Err f → parameters_in seen at room 0 octets ≡ Err f
 parameters_in-err seen at room [] f some long read = absurd (omega arith)
 parameters_in-err seen at room (code ∷ octets) f some long read =
-    let P : List ℕ → Type 0 = λ os. parameter_in seen at room code os ≡ Err f in
+    let P : List ℕ → Type 0 = λ os. tpdu_parameter_in seen at room code os ≡ Err f in
     parameters_in-one seen at room code octets some
-    ∙ ap (λ (r : Read Taken). r >>= after at room octets)
+    ∙ ap (λ (r : Read TakenParameter). r >>= after at room octets)
     (subst P (behind-cons code octets) read)

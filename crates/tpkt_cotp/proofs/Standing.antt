@@ -13,7 +13,7 @@ use Rattle.tpkt_cotp.specs.declared.turn.Kind.TheVariants as kinds
 use Rattle.tpkt_cotp.specs.Turns.{may_come}
 use Rattle.tpkt_cotp.specs.Tpdus.{Tpdu, request, confirm, disconnect, part, SpellsTpkt}
 use Rattle.tpkt_cotp.specs.Readings.{tpkt_in}
-use Rattle.tpkt_cotp.specs.Streams.{Message, tsdu, stream_place, Section, IsSection, held_of, octets_of}
+use Rattle.tpkt_cotp.specs.Streams.{Message, tsdu, stream_place, Section, IsSection, held_of, section_octets_of}
 use Rattle.tpkt_cotp.specs.Streams.{Comes, message_of, part_after, SpellsMessage, SpellsMessages}
 use Rattle.tpkt_cotp.specs.Streams.{turn_after, Stops}
 use Rattle.tpkt_cotp.specs.Lines.{Line, Reads}
@@ -100,9 +100,9 @@ held_push sections s = flat_map-append (λ (t : Section). t.held) sections (s �
     ∙ ap (λ (os : List ℕ). held_of sections ++ os) (append-nil s.held)
 
 pub octets_push : (sections : List Section) (s : Section)
-    → octets_of (sections ++ s ∷ []) ≡ octets_of sections ++ s.octets
+    → section_octets_of (sections ++ s ∷ []) ≡ section_octets_of sections ++ s.octets
 octets_push sections s = flat_map-append (λ (t : Section). t.octets) sections (s ∷ [])
-    ∙ ap (λ (os : List ℕ). octets_of sections ++ os) (append-nil s.octets)
+    ∙ ap (λ (os : List ℕ). section_octets_of sections ++ os) (append-nil s.octets)
 
 -- what is left behind a TPKT
 left : (octets spelling rest : List ℕ) (size : ℕ) → octets ≡ spelling ++ rest
@@ -124,7 +124,7 @@ stands_part role heard given old new r s =
     let transfer : old.turn ≡ turns.Transfer = part_turn old.turn comes.order in
     let held : held_of (r.sections ++ section ∷ []) ≡ held_of r.sections ++ more = held_push
     r.sections section in
-    let octets : octets_of (r.sections ++ section ∷ []) ≡ octets_of r.sections ++ b.spelling =
+    let octets : section_octets_of (r.sections ++ section ∷ []) ≡ section_octets_of r.sections ++ b.spelling =
     octets_push r.sections section in
     let turn : turn_after (turns.Opening role) given ≡ turns.Transfer = sym r.turn_is ∙ transfer in
     let after : part_after old.held s.tpkt.tpdu ≡ old.held ++ more = ap
@@ -142,9 +142,9 @@ stands_part role heard given old new r s =
         order = λ some. turn;
         within = let l = ap length held in let m = length-append (held_of r.sections) more in let n
             = ap length r.held_is in omega (arith, l, m, n, comes.fits.0);
-        is = r.opens.is ∙ ap (λ (os : List ℕ). octets_of r.sections ++ os)
+        is = r.opens.is ∙ ap (λ (os : List ℕ). section_octets_of r.sections ++ os)
             (b.is ∙ ap (λ (os : List ℕ). b.spelling ++ os) (sym unread))
-            ∙ sym (append_assoc (octets_of r.sections) b.spelling new.unread)
+            ∙ sym (append_assoc (section_octets_of r.sections) b.spelling new.unread)
             ∙ ap (λ (os : List ℕ). os ++ new.unread) (sym octets);
       };
       turn_is = ap (λ (l : Line). l.turn) s.is ∙ sym turn;
@@ -153,12 +153,12 @@ stands_part role heard given old new r s =
       start_is = ap (λ (l : Line). l.start) s.is ∙ r.start_is;
       place_is =
           let at : stream_place (old.place + s.tpkt.size) ≡ stream_place
-          (length r.whole + length (octets_of r.sections) + s.tpkt.size) = ap
+          (length r.whole + length (section_octets_of r.sections) + s.tpkt.size) = ap
           (λ (n : ℕ). stream_place (n + s.tpkt.size)) r.place_is
-          ∙ stream_place-add (length r.whole + length (octets_of r.sections)) s.tpkt.size in
-          let e : length r.whole + length (octets_of r.sections) + s.tpkt.size ≡ length r.whole +
-          length (octets_of (r.sections ++ section ∷ [])) = let l = ap length octets in let m =
-          length-append (octets_of r.sections) b.spelling in omega (arith, l, m, b.size) in
+          ∙ stream_place-add (length r.whole + length (section_octets_of r.sections)) s.tpkt.size in
+          let e : length r.whole + length (section_octets_of r.sections) + s.tpkt.size ≡ length r.whole +
+          length (section_octets_of (r.sections ++ section ∷ [])) = let l = ap length octets in let m =
+          length-append (section_octets_of r.sections) b.spelling in omega (arith, l, m, b.size) in
           ap (λ (l : Line). l.place) s.is ∙ at ∙ ap stream_place e;
     }
 
@@ -169,7 +169,7 @@ stands_message role heard given old new m r s =
     let b : Begins old.turn (length old.held) old.unread s.tpkt = tpkt_found old.turn
     (length old.held) old.unread s.tpkt s.read in
     let turn = turn_after (turns.Opening role) given in
-    let first : List ℕ = octets_of r.sections ++ b.spelling in
+    let first : List ℕ = section_octets_of r.sections ++ b.spelling in
     let unread : new.unread ≡ b.rest = ap (λ (l : Line). l.unread) s.is
     ∙ left old.unread b.spelling b.rest s.tpkt.size b.is b.size in
     let comes : Comes turn (length (held_of r.sections)) s.tpkt.tpdu = subst
@@ -195,14 +195,14 @@ stands_message role heard given old new m r s =
       ends = ends;
     } in
     let pending : r.pending ≡ first ++ b.rest = r.opens.is
-    ∙ ap (λ (os : List ℕ). octets_of r.sections ++ os) b.is
-    ∙ sym (append_assoc (octets_of r.sections) b.spelling b.rest) in
-    let size : length (r.whole ++ first) ≡ length r.whole + length (octets_of r.sections) +
+    ∙ ap (λ (os : List ℕ). section_octets_of r.sections ++ os) b.is
+    ∙ sym (append_assoc (section_octets_of r.sections) b.spelling b.rest) in
+    let size : length (r.whole ++ first) ≡ length r.whole + length (section_octets_of r.sections) +
     s.tpkt.size = let l = length-append r.whole first in let n = length-append
-    (octets_of r.sections) b.spelling in omega (arith, l, n, b.size) in
+    (section_octets_of r.sections) b.spelling in omega (arith, l, n, b.size) in
     let at : stream_place (old.place + s.tpkt.size) ≡ stream_place (length (r.whole ++ first)) = ap
     (λ (n : ℕ). stream_place (n + s.tpkt.size)) r.place_is
-    ∙ stream_place-add (length r.whole + length (octets_of r.sections)) s.tpkt.size
+    ∙ stream_place-add (length r.whole + length (section_octets_of r.sections)) s.tpkt.size
     ∙ ap stream_place (sym size) in
     record {
       whole = r.whole ++ first;
@@ -248,6 +248,6 @@ stands_broken role heard given old new f r s =
             ∙ ap (λ (h : List ℕ). tpkt_in old.turn (length h) old.unread) (sym r.held_is) ∙ s.read);
         is = s.fault ∙ ap (λ (n : ℕ). faulted n s.broken)
             (ap (λ (n : ℕ). stream_place (n + s.broken.place)) r.place_is
-            ∙ stream_place-add (length r.whole + length (octets_of r.sections)) s.broken.place);
+            ∙ stream_place-add (length r.whole + length (section_octets_of r.sections)) s.broken.place);
       };
     }

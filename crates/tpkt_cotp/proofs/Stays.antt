@@ -11,12 +11,12 @@ use Rattle.tpkt_cotp.specs.declared.tpdu.Parameters.{Parameters}
 use Rattle.tpkt_cotp.specs.declared.turn.Turn.{Turn}
 use Rattle.tpkt_cotp.specs.declared.turn.Kind.{Kind}
 use Rattle.tpkt_cotp.specs.declared.turn.Kind.TheVariants as kinds
-use Rattle.tpkt_cotp.specs.Turns.{kind_of, may_come, is_count}
+use Rattle.tpkt_cotp.specs.Turns.{tpdu_kind_of, may_come, is_count}
 use Rattle.tpkt_cotp.specs.Tpdus.{disconnect, Tpkt, is_twice, is_length_of, is_value_of, with_value}
 use Rattle.tpkt_cotp.specs.Tpdus.{no_parameters}
-use Rattle.tpkt_cotp.specs.Readings.{Read, Taken, broken, ◌>>=◌, tpkt_of, value_in, parameter_in}
-use Rattle.tpkt_cotp.specs.Readings.{parameters_in, connect_with, marked_in, part_in, disconnect_in}
-use Rattle.tpkt_cotp.specs.Readings.{connect_in, body_in, known_in, tpdu_in, sized_in, tpkt_in}
+use Rattle.tpkt_cotp.specs.Readings.{Read, TakenParameter, broken, ◌>>=◌, tpkt_of, parameter_value_in, tpdu_parameter_in}
+use Rattle.tpkt_cotp.specs.Readings.{parameters_in, connect_with, marked_in, data_part_in, disconnect_in}
+use Rattle.tpkt_cotp.specs.Readings.{connection_request_in, tpdu_body_in, known_in, tpdu_in, sized_in, tpkt_in}
 use Rattle.tpkt_cotp.proofs.Exact.{Right}
 use Rattle.tpkt_cotp.proofs.ExactConnect.{ParameterFound, parameter_right}
 use Rattle.tpkt_cotp.proofs.Passing.{parameters_in-done}
@@ -56,13 +56,13 @@ enough {X = X} octets more n y y' then =
     let still : n ≤ length (octets ++ more) = omega (arith, l) in
     rw (le-ltb (length (octets ++ more)) n still) (then le))
 
-abbrev valued : Parameters → ℕ → ℕ → ℕ → List ℕ → Read Taken
+abbrev valued : Parameters → ℕ → ℕ → ℕ → List ℕ → Read TakenParameter
 valued seen at code count value = cond (is_value_of code (get_or value 0 0))
     (Ok (Some (record { seen = with_value seen code value; count = count })))
     (broken (at + 2) whys.Value)
 
 value_stays : (seen : Parameters) (at room code : ℕ) (octets more : List ℕ)
-    → Stays (value_in seen at room code octets) (value_in seen at room code (octets ++ more))
+    → Stays (parameter_value_in seen at room code octets) (parameter_value_in seen at room code (octets ++ more))
 value_stays seen at room code [] more = tt
 value_stays seen at room code (count ∷ octets) more =
     branch (not (is_length_of code count && leb (count + 2) room)) _ _ _ _ (λ e. refl)
@@ -70,8 +70,8 @@ value_stays seen at room code (count ∷ octets) more =
     (same (valued seen at code count (take count octets)))))
 
 parameter_stays : (seen : Parameters) (at room code : ℕ) (octets more : List ℕ)
-    → Stays (parameter_in seen at room code octets)
-    (parameter_in seen at room code (octets ++ more))
+    → Stays (tpdu_parameter_in seen at room code octets)
+    (tpdu_parameter_in seen at room code (octets ++ more))
 parameter_stays seen at room code octets more =
     branch (is_twice seen code) _ _ _ _ (λ e. refl)
     (λ e. branch (eqb room 1) _ _ _ _ (λ e. refl)
@@ -93,8 +93,8 @@ parameters_stays seen at room (suc passed) (o ∷ octets) more le = parameters_s
     (room - 1) passed octets more (omega arith)
 parameters_stays seen at room zero (code ∷ octets) more le =
     branch (eqb room 0) _ _ _ _ (λ e. refl)
-    (λ e. bind (ParameterFound seen room code octets) (parameter_in seen at room code octets)
-    (parameter_in seen at room code (octets ++ more)) _ _
+    (λ e. bind (ParameterFound seen room code octets) (tpdu_parameter_in seen at room code octets)
+    (tpdu_parameter_in seen at room code (octets ++ more)) _ _
     (parameter_right seen at room code octets) (parameter_stays seen at room code octets more)
     (λ t one. let fits : t.count + 2 ≤ room = one.value.fits in parameters_stays t.seen (at + 1)
     (room - 1) (t.count + 1) octets more (omega arith)))
@@ -111,8 +111,8 @@ connect_with_stays r size target source (Err f) read' s = rw s
 
 -- fewer than five octets behind the code
 pub short_connect : (r : Bool) (size : ℕ) (octets : List ℕ) → size < 11 → size ≤ length octets + 6
-    → connect_in r size octets ≡ broken size whys.Short
-unfolding connect_in
+    → connection_request_in r size octets ≡ broken size whys.Short
+unfolding connection_request_in
 short_connect r size [] small le = rw (le-leb size 6 le) refl
 short_connect r size (a ∷ []) small le = rw (le-leb size 7 le) refl
 short_connect r size (a ∷ b ∷ []) small le = rw (le-leb size 8 le) refl
@@ -122,10 +122,10 @@ short_connect r size (a ∷ b ∷ c ∷ d ∷ class ∷ octets) small le = rw (l
 
 few_stays : (r : Bool) (size : ℕ) (octets more : List ℕ) → length octets < 5
     → Stays (cond (leb size (length octets + 6)) (broken size whys.Short) (Ok None))
-    (connect_in r size (octets ++ more))
+    (connection_request_in r size (octets ++ more))
 few_stays r size octets more few =
     cond_both (leb size (length octets + 6)) (broken size whys.Short) (Ok None)
-    (λ q. Stays q (connect_in r size (octets ++ more)))
+    (λ q. Stays q (connection_request_in r size (octets ++ more)))
     (λ e.
     let le : size ≤ length octets + 6 = leb-true size (length octets + 6) e in
     let l = length-append octets more in
@@ -135,8 +135,8 @@ few_stays r size octets more few =
     (λ e. tt)
 
 connect_stays : (r : Bool) (size : ℕ) (octets more : List ℕ)
-    → Stays (connect_in r size octets) (connect_in r size (octets ++ more))
-unfolding connect_in
+    → Stays (connection_request_in r size octets) (connection_request_in r size (octets ++ more))
+unfolding connection_request_in
 connect_stays r size (a ∷ b ∷ c ∷ d ∷ class ∷ octets) more =
     branch (ltb size 11) _ _ _ _ (λ e. refl)
     (λ long. branch (ltb class 16) _ _ _ _ (λ e. connect_with_stays r size (a * 256 + b)
@@ -161,8 +161,8 @@ disconnect_stays size octets more =
     (arith, l) in rw (le-ltb (length (octets ++ more) + 6) size still) refl)
 
 part_stays : (total size : ℕ) (octets more : List ℕ)
-    → Stays (part_in total size octets) (part_in total size (octets ++ more))
-unfolding part_in marked_in
+    → Stays (data_part_in total size octets) (data_part_in total size (octets ++ more))
+unfolding data_part_in marked_in
 part_stays total size [] more = branch (ltb TSDU_LIMIT (total + (size - 7))) _ _ _ _ (λ e. refl)
     (λ e. tt)
 part_stays total size (mark ∷ octets) more =
@@ -172,8 +172,8 @@ part_stays total size (mark ∷ octets) more =
     refl)))
 
 body_stays : (k : Kind) (total size : ℕ) (octets more : List ℕ)
-    → Stays (body_in k total size octets) (body_in k total size (octets ++ more))
-unfolding body_in
+    → Stays (tpdu_body_in k total size octets) (tpdu_body_in k total size (octets ++ more))
+unfolding tpdu_body_in
 body_stays kinds.Request total size octets more = connect_stays true size octets more
 body_stays kinds.Confirm total size octets more = connect_stays false size octets more
 body_stays kinds.Disconnect total size octets more = disconnect_stays size octets more
@@ -193,7 +193,7 @@ unfolding tpdu_in
 tpdu_stays turn total size [] more = tt
 tpdu_stays turn total size (count ∷ []) more = tt
 tpdu_stays turn total size (count ∷ code ∷ octets) more = known_stays turn total size count
-    (kind_of code) octets more
+    (tpdu_kind_of code) octets more
 
 sized_stays : (turn : Turn) (total : ℕ) (octets more : List ℕ)
     → Stays (sized_in turn total octets) (sized_in turn total (octets ++ more))

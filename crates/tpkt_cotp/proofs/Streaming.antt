@@ -9,7 +9,7 @@ use Rattle.tpkt_cotp.specs.declared.turn.Turn.{Turn}
 use Rattle.tpkt_cotp.specs.declared.turn.Turn.TheVariants as turns
 use Rattle.tpkt_cotp.specs.Tpdus.{Tpkt}
 use Rattle.tpkt_cotp.specs.Readings.{Read, tpkt_in}
-use Rattle.tpkt_cotp.specs.Streams.{Message, Section, stream_place, held_of, octets_of, Opens, message_of}
+use Rattle.tpkt_cotp.specs.Streams.{Message, Section, stream_place, held_of, section_octets_of, Opens, message_of}
 use Rattle.tpkt_cotp.specs.Streams.{part_after, SpellsMessage, SpellsMessages}
 use Rattle.tpkt_cotp.specs.Streams.{turn_after, Says, Stops}
 use Rattle.tpkt_cotp.specs.Places.{Placed, End, left, stopped, Stream, messages_of, SpellsPlaced}
@@ -78,7 +78,7 @@ tells_then turn at octets first rest p s is one place next t =
 -- a stream from where it stands behind parts of a TSDU
 abbrev from_parts : Turn → ℕ → List Section → List ℕ → Stream
 from_parts turn at sections rest = stream_from turn (stream_place at)
-    (stream_place (at + length (octets_of sections))) (held_of sections) 0 rest
+    (stream_place (at + length (section_octets_of sections))) (held_of sections) 0 rest
 
 -- with shorter octets done
 abbrev Done : ℕ → Type 0
@@ -97,13 +97,13 @@ nothing_opened turn octets = record {
 module _ (n : ℕ) (done : Done n) (turn : Turn) (at : ℕ) (sections : List Section)
     (octets rest : List ℕ) (o : Opens turn sections octets rest) (few : length rest < suc n) where
   behind_place : (p : Tpkt) (b : Begins turn (length (held_of sections)) rest p)
-      → stream_place (stream_place (at + length (octets_of sections)) + p.size)
-      ≡ stream_place (at + length (octets_of sections ++ b.spelling))
+      → stream_place (stream_place (at + length (section_octets_of sections)) + p.size)
+      ≡ stream_place (at + length (section_octets_of sections ++ b.spelling))
   behind_place p b =
-      let l = length-append (octets_of sections) b.spelling in
-      let e : at + length (octets_of sections) + p.size
-      ≡ at + length (octets_of sections ++ b.spelling) = omega (arith, l, b.size) in
-      stream_place-add (at + length (octets_of sections)) p.size ∙ ap stream_place e
+      let l = length-append (section_octets_of sections) b.spelling in
+      let e : at + length (section_octets_of sections) + p.size
+      ≡ at + length (section_octets_of sections ++ b.spelling) = omega (arith, l, b.size) in
+      stream_place-add (at + length (section_octets_of sections)) p.size ∙ ap stream_place e
 
   fewer : (p : Tpkt) (b : Begins turn (length (held_of sections)) rest p) → length b.rest < n
   fewer p b =
@@ -119,7 +119,7 @@ module _ (n : ℕ) (done : Done n) (turn : Turn) (at : ℕ) (sections : List Sec
   by_part : (p : Tpkt) (b : Begins turn (length (held_of sections)) rest p)
       → message_of (stream_place at) (held_of sections) p.tpdu ≡ None
       → Tells turn at octets (goes_behind rest p (stream_place at)
-      (stream_place (stream_place (at + length (octets_of sections)) + p.size))
+      (stream_place (stream_place (at + length (section_octets_of sections)) + p.size))
       (part_after (held_of sections) p.tpdu))
   by_part p b ends =
       let more = no_end (stream_place at) (held_of sections) p.tpdu ends in
@@ -130,22 +130,22 @@ module _ (n : ℕ) (done : Done n) (turn : Turn) (at : ℕ) (sections : List Sec
       (section ∷ []) in omega (arith, l)) in
       let there : Tells turn at octets (from_parts turn at (sections ++ section ∷ []) b.rest) =
       done turn at (sections ++ section ∷ []) octets b.rest opens (fewer p b) in
-      let place : stream_place (at + length (octets_of (sections ++ section ∷ [])))
-      ≡ stream_place (stream_place (at + length (octets_of sections)) + p.size) =
+      let place : stream_place (at + length (section_octets_of (sections ++ section ∷ [])))
+      ≡ stream_place (stream_place (at + length (section_octets_of sections)) + p.size) =
       ap (λ (os : List ℕ). stream_place (at + length os)) (octets_push sections section)
       ∙ sym (behind_place p b) in
       let held : held_of (sections ++ section ∷ []) ≡ part_after (held_of sections) p.tpdu =
       held_push sections section
       ∙ ap (part_after (held_of sections)) (sym more.1) in
       subst (λ (os : List ℕ). Tells turn at octets (stream_from turns.Transfer (stream_place at)
-      (stream_place (stream_place (at + length (octets_of sections)) + p.size))
+      (stream_place (stream_place (at + length (section_octets_of sections)) + p.size))
       (part_after (held_of sections) p.tpdu) 0 os)) (sym (behind_rest p b))
       (subst (λ (h : List ℕ). Tells turn at octets (stream_from turns.Transfer (stream_place at)
-      (stream_place (stream_place (at + length (octets_of sections)) + p.size)) h 0 b.rest)) held
+      (stream_place (stream_place (at + length (section_octets_of sections)) + p.size)) h 0 b.rest)) held
       (subst (λ (k : ℕ). Tells turn at octets (stream_from turns.Transfer (stream_place at) k
       (held_of (sections ++ section ∷ [])) 0 b.rest)) place
       (subst (λ (t : Turn). Tells turn at octets (stream_from t (stream_place at)
-      (stream_place (at + length (octets_of (sections ++ section ∷ []))))
+      (stream_place (at + length (section_octets_of (sections ++ section ∷ []))))
       (held_of (sections ++ section ∷ [])) 0 b.rest)) transfer there)))
 
   by_message : (p : Tpkt) (b : Begins turn (length (held_of sections)) rest p) (m : Message)
@@ -153,11 +153,11 @@ module _ (n : ℕ) (done : Done n) (turn : Turn) (at : ℕ) (sections : List Sec
       → Tells turn at octets (with_message (record {
         message = m;
         place = stream_place at;
-        next = stream_place (stream_place (at + length (octets_of sections)) + p.size);
-      }) (goes_behind rest p (stream_place (stream_place (at + length (octets_of sections)) + p.size))
-      (stream_place (stream_place (at + length (octets_of sections)) + p.size)) []))
+        next = stream_place (stream_place (at + length (section_octets_of sections)) + p.size);
+      }) (goes_behind rest p (stream_place (stream_place (at + length (section_octets_of sections)) + p.size))
+      (stream_place (stream_place (at + length (section_octets_of sections)) + p.size)) []))
   by_message p b m ends =
-      let first : List ℕ = octets_of sections ++ b.spelling in
+      let first : List ℕ = section_octets_of sections ++ b.spelling in
       let one : SpellsMessage turn at m first = record {
         sections = sections;
         last = b.spelling;
@@ -173,44 +173,44 @@ module _ (n : ℕ) (done : Done n) (turn : Turn) (at : ℕ) (sections : List Sec
       done turns.Transfer (at + length first) [] b.rest b.rest
       (nothing_opened turns.Transfer b.rest) (fewer p b) in
       let here : Tells turns.Transfer (at + length first) b.rest
-      (goes_behind rest p (stream_place (stream_place (at + length (octets_of sections)) + p.size))
-      (stream_place (stream_place (at + length (octets_of sections)) + p.size)) []) =
+      (goes_behind rest p (stream_place (stream_place (at + length (section_octets_of sections)) + p.size))
+      (stream_place (stream_place (at + length (section_octets_of sections)) + p.size)) []) =
       subst (λ (os : List ℕ). Tells turns.Transfer (at + length first) b.rest
       (stream_from turns.Transfer
-      (stream_place (stream_place (at + length (octets_of sections)) + p.size))
-      (stream_place (stream_place (at + length (octets_of sections)) + p.size)) [] 0 os))
+      (stream_place (stream_place (at + length (section_octets_of sections)) + p.size))
+      (stream_place (stream_place (at + length (section_octets_of sections)) + p.size)) [] 0 os))
       (sym (behind_rest p b))
       (subst (λ (k : ℕ). Tells turns.Transfer (at + length first) b.rest
       (stream_from turns.Transfer k k [] 0 b.rest)) (sym (behind_place p b))
       (subst (λ (k : ℕ). Tells turns.Transfer (at + length first) b.rest
       (stream_from turns.Transfer (stream_place (at + length first)) (stream_place k) [] 0 b.rest)) e there)) in
       tells_then turn at octets first b.rest _ _
-      (o.is ∙ ap (λ (os : List ℕ). octets_of sections ++ os) b.is
-      ∙ sym (append_assoc (octets_of sections) b.spelling b.rest)) one refl
+      (o.is ∙ ap (λ (os : List ℕ). section_octets_of sections ++ os) b.is
+      ∙ sym (append_assoc (section_octets_of sections) b.spelling b.rest)) one refl
       (behind_place p b) here
 
   by_end : (p : Tpkt) (b : Begins turn (length (held_of sections)) rest p)
       (m : Option Message) → message_of (stream_place at) (held_of sections) p.tpdu ≡ m
       → Tells turn at octets (behind_tpkt (stream_place at)
-      (stream_place (stream_place (at + length (octets_of sections)) + p.size))
+      (stream_place (stream_place (at + length (section_octets_of sections)) + p.size))
       (part_after (held_of sections) p.tpdu) (goes_behind rest p) m)
   by_end p b None ends = by_part p b ends
   by_end p b (Some m) ends = by_message p b m ends
 
   by_read : (r : Read Tpkt) → tpkt_in turn (length (held_of sections)) rest ≡ r
-      → Tells turn at octets (by_tpkt (stream_place at) (stream_place (at + length (octets_of sections)))
+      → Tells turn at octets (by_tpkt (stream_place at) (stream_place (at + length (section_octets_of sections)))
       (held_of sections) rest (goes_behind rest) r)
   by_read (Ok (Some p)) read =
       by_end p (tpkt_found turn (length (held_of sections)) rest p read)
       (message_of (stream_place at) (held_of sections) p.tpdu) refl
   by_read (Ok None) read =
       let l = ap length o.is in
-      let m = length-append (octets_of sections) rest in
-      let e : at + length (octets_of sections) + length rest ≡ at + length octets =
+      let m = length-append (section_octets_of sections) rest in
+      let e : at + length (section_octets_of sections) + length rest ≡ at + length octets =
       omega (arith, l, m) in
       tells_none turn at octets _ (
         rest_from turn at octets sections rest o read,
-        ap (λ (k : ℕ). k - stream_place at) (stream_place-add (at + length (octets_of sections)) (length rest)
+        ap (λ (k : ℕ). k - stream_place at) (stream_place-add (at + length (section_octets_of sections)) (length rest)
             ∙ ap stream_place e),
       )
   by_read (Err f) read =
@@ -220,14 +220,14 @@ module _ (n : ℕ) (done : Done n) (turn : Turn) (at : ℕ) (sections : List Sec
         opens = o;
         broken = f;
         breaks = fault_found turn (length (held_of sections)) rest f read;
-        is = ap (λ (k : ℕ). faulted k f) (stream_place-add (at + length (octets_of sections)) f.place);
+        is = ap (λ (k : ℕ). faulted k f) (stream_place-add (at + length (section_octets_of sections)) f.place);
       })
 
 tells : (n : ℕ) → Done n
 tells zero turn at sections octets rest o few = absurd (omega arith)
 tells (suc n) turn at sections octets rest o few =
     subst (Tells turn at octets)
-    (sym (stream_from-read turn (stream_place at) (stream_place (at + length (octets_of sections)))
+    (sym (stream_from-read turn (stream_place at) (stream_place (at + length (section_octets_of sections)))
     (held_of sections) rest))
     (by_read n (tells n) turn at sections octets rest o few
     (tpkt_in turn (length (held_of sections)) rest) refl)

@@ -9,18 +9,18 @@ use Rattle.tpkt_cotp.specs.declared.tpdu.Parameters.{Parameters}
 use Rattle.tpkt_cotp.specs.declared.tpdu.ConnectRequest.{ConnectRequest}
 use Rattle.tpkt_cotp.specs.Selectors.{IsSelector}
 use Rattle.tpkt_cotp.specs.Sound.{AreSelectors}
-use Rattle.tpkt_cotp.specs.Tpdus.{request, confirm, SpellsTpkt, Parameter}
+use Rattle.tpkt_cotp.specs.Tpdus.{request, confirm, SpellsTpkt, TpduParameter}
 use Rattle.tpkt_cotp.specs.Tpdus.{parameter_octets, parameters_octets, AddUp, no_parameters}
-use Rattle.tpkt_cotp.specs.Written.{request_octets, size_octets, selector_octets, answer_octets}
-use Rattle.tpkt_cotp.specs.Written.{confirm_head, confirm_octets, written_request, answered}
+use Rattle.tpkt_cotp.specs.Written.{connection_request_octets, size_octets, selector_octets, answer_octets}
+use Rattle.tpkt_cotp.specs.Written.{confirm_head, confirm_octets, written_request, answered_parameters}
 use Rattle.tpkt_cotp.specs.Written.{IsOffer}
 
 pub request_spelled : (calling : ℕ) → SpellsTpkt (request (written_request calling))
-    (request_octets calling)
+    (connection_request_octets calling)
 request_spelled calling =
-    let size : Parameter = record { code = 192; value = 10 ∷ [] } in
-    let caller : Parameter = record { code = 193; value = calling / 256 ∷ calling % 256 ∷ [] } in
-    let called : Parameter = record { code = 194; value = 0 ∷ 1 ∷ [] } in (
+    let size : TpduParameter = record { code = 192; value = 10 ∷ [] } in
+    let caller : TpduParameter = record { code = 193; value = calling / 256 ∷ calling % 256 ∷ [] } in
+    let called : TpduParameter = record { code = 194; value = 0 ∷ 1 ∷ [] } in (
       0,
       record {
         reserved = 0;
@@ -44,11 +44,11 @@ request_spelled calling =
     )
 
 -- the parameters of an answer
-size_list : Option ℕ → List Parameter
+size_list : Option ℕ → List TpduParameter
 size_list None = []
 size_list (Some s) = record { code = 192; value = min s 10 ∷ [] } ∷ []
 
-selector_list : ℕ → Option (List ℕ) → List Parameter
+selector_list : ℕ → Option (List ℕ) → List TpduParameter
 selector_list code None = []
 selector_list code (Some os) = record { code = code; value = os } ∷ []
 
@@ -63,7 +63,7 @@ unfolding selector_list
 selector_written code None = refl
 selector_written code (Some os) = append-nil (code ∷ length os ∷ os)
 
-answer_list : Parameters → List Parameter
+answer_list : Parameters → List TpduParameter
 answer_list p = size_list p.size ++ selector_list 193 p.calling ++ selector_list 194 p.called
 
 answer_written : (p : Parameters) → parameters_octets (answer_list p) ≡ answer_octets p
@@ -92,7 +92,7 @@ answer_adds : (size : Option ℕ) (calling called : Option (List ℕ))
     → IfSome size (λ s. (7 ≤ s) × (s ≤ 13))
     → IfSome calling IsSelector → IfSome called IsSelector
     → AddUp no_parameters (answer_list (record { size = size; calling = calling; called = called }))
-    (answered (record { size = size; calling = calling; called = called }))
+    (answered_parameters (record { size = size; calling = calling; called = called }))
 unfolding answer_list size_list selector_list
 answer_adds None None None s a b = refl
 answer_adds None None (Some y) s a b = (refl, selects y b, refl, refl)
@@ -114,7 +114,7 @@ pub confirm_spelled : (offer : ConnectRequest) → IsOffer offer → AreSelector
     → SpellsTpkt (confirm (record {
       target = offer.source;
       source = 1;
-      parameters = answered offer.parameters;
+      parameters = answered_parameters offer.parameters;
     }))
     (confirm_octets offer)
 confirm_spelled offer sound selectors =

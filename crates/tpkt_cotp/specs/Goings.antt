@@ -4,7 +4,7 @@ use Rattle.tpkt_cotp.specs.declared.fault.CotpFault.{CotpFault}
 use Rattle.tpkt_cotp.specs.declared.message.TransportIn.{TransportIn}
 use Rattle.tpkt_cotp.specs.Streams.{stream_place}
 use Rattle.tpkt_cotp.specs.Seen.{message_seen}
-use Rattle.tpkt_cotp.specs.Lines.{Line, IsSettled, fed}
+use Rattle.tpkt_cotp.specs.Lines.{Line, IsLineSettled, fed}
 use Rattle.tpkt_cotp.specs.Places.{Stream, left, stopped, ended, with_message, stream_from}
 
 abbrev pub unless_stopped : Option CotpFault → Stream → Stream
@@ -29,6 +29,6 @@ HandsOut old (Ok (Some m)) new = (more : List ℕ) → stream_of (fed old more)
     (stream_of (fed new more))
 HandsOut old (Ok None) new = ((more : List ℕ) → stream_of (fed old more) ≡ stream_of (fed new more))
     × (stream_of new ≡ ended (left (stream_place (new.place + length new.unread) - new.start)))
-    × IsSettled new
+    × IsLineSettled new
 HandsOut old (Err f) new = (more : List ℕ) → (stream_of (fed old more) ≡ ended (stopped f))
     × (stream_of (fed new more) ≡ ended (stopped f))

@@ -9,7 +9,8 @@ use Rattle.tpkt_cotp.specs.declared.turn.Role.{Role}
 use Rattle.tpkt_cotp.specs.declared.turn.Turn.{Turn}
 use Rattle.tpkt_cotp.specs.declared.turn.Turn.TheVariants as turns
 use Rattle.tpkt_cotp.specs.declared.walk.Walk.{Walk}
-use Rattle.tpkt_cotp.specs.Streams.{Message, stream_place, Section, held_of, octets_of, Opens}
+use Rattle.tpkt_cotp.specs.Streams.{Message, stream_place, Section, held_of, section_octets_of}
+use Rattle.tpkt_cotp.specs.Streams.{Opens}
 use Rattle.tpkt_cotp.specs.Streams.{IsPartial, SpellsMessages, turn_after, Says, Stops}
 use Rattle.tpkt_cotp.specs.Seen.{message_seen}
 
@@ -38,16 +39,16 @@ line_of w held octets = record {
 }
 
 -- it stands within the octets, and so much of a TSDU has come at most
-abbrev pub IsWithin : Walk → List ℕ → List ℕ → Type 0
-IsWithin w held octets = (w.passed ≤ length octets) × (length held ≤ TSDU_LIMIT)
+abbrev pub IsWalkWithin : Walk → List ℕ → List ℕ → Type 0
+IsWalkWithin w held octets = (w.passed ≤ length octets) × (length held ≤ TSDU_LIMIT)
 
 -- so many octets of a TSDU at most, and so many unread: less than a TPKT, and a piece
 abbrev pub HoldsFew : Line → Type 0
 HoldsFew t = (length t.held ≤ TSDU_LIMIT) × (length t.unread ≤ TPKT_LIMIT - 1 + PIECE_LIMIT)
 
 -- no whole TPKT is unread, or the stream has stopped
-abbrev pub IsSettled : Line → Type 0
-IsSettled t = (length t.unread ≤ TPKT_LIMIT - 1) × MatchOption t.fault
+abbrev pub IsLineSettled : Line → Type 0
+IsLineSettled t = (length t.unread ≤ TPKT_LIMIT - 1) × MatchOption t.fault
     (IsPartial t.turn (length t.held) t.unread) (λ _. t.unread ≡ [])
 
 -- these octets were fed, these messages handed out, and the next one has come so far
@@ -61,7 +62,7 @@ pub record Reads (role : Role) (heard : List ℕ) (given : List Message) (t : Li
   pub turn_is : t.turn ≡ turn_after (turns.Opening role) given
   pub held_is : t.held ≡ held_of sections
   pub start_is : t.start ≡ stream_place (length whole)
-  pub place_is : t.place ≡ stream_place (length whole + length (octets_of sections))
+  pub place_is : t.place ≡ stream_place (length whole + length (section_octets_of sections))
 
 -- fed these octets, and with these messages handed out
 abbrev pub Stands : Role → List ℕ → List Message → Line → Type 0
@@ -77,10 +78,12 @@ abbrev pub fed : Line → List ℕ → Line
 fed t piece = record t { unread = fed_to t.fault t.unread piece }
 
 -- an answer is right: the next message; or none, where a rest is left; or the fault
-abbrev pub Answers : Role → List ℕ → List Message → Result (Option TransportIn) CotpFault → Line
+abbrev pub IsTransportAnswer : Role → List ℕ → List Message → Result (Option TransportIn) CotpFault
+    → Line
     → Type 0
-Answers role heard given (Ok (Some m)) t = Stands role heard (given ++ message_seen m ∷ []) t
-Answers role heard given (Ok None) t = Stands role heard given t
-    × ((rest : List ℕ) × Says role heard given rest) × IsSettled t
-Answers role heard given (Err f) t = Stands role heard given t × Stops role heard given f
-    × IsSettled t
+IsTransportAnswer role heard given (Ok (Some m)) t =
+    Stands role heard (given ++ message_seen m ∷ []) t
+IsTransportAnswer role heard given (Ok None) t = Stands role heard given t
+    × ((rest : List ℕ) × Says role heard given rest) × IsLineSettled t
+IsTransportAnswer role heard given (Err f) t = Stands role heard given t × Stops role heard given f
+    × IsLineSettled t

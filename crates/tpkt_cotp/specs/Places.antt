@@ -62,17 +62,17 @@ with_message p s = record s { messages = p ∷ s.messages }
 
 -- how a stream goes on behind a TPKT: from where its message begins, where the next TPKT begins,
 -- and with what is held of a TSDU
-abbrev pub Goes : Type 0
-Goes = ℕ → ℕ → List ℕ → Stream
+abbrev pub GoesBehind : Type 0
+GoesBehind = ℕ → ℕ → List ℕ → Stream
 
 -- the TPKT ends a message, or it doesn't
-abbrev pub behind_tpkt : ℕ → ℕ → List ℕ → Goes → Option Message → Stream
+abbrev pub behind_tpkt : ℕ → ℕ → List ℕ → GoesBehind → Option Message → Stream
 behind_tpkt start next held goes None = goes start next held
 behind_tpkt start next held goes (Some m) =
     with_message (record { message = m; place = start; next = next }) (goes next next [])
 
 -- by what stands at a place: a TPKT, none that is whole, or a fault
-abbrev pub by_tpkt : ℕ → ℕ → List ℕ → List ℕ → (Tpkt → Goes) → Read Tpkt → Stream
+abbrev pub by_tpkt : ℕ → ℕ → List ℕ → List ℕ → (Tpkt → GoesBehind) → Read Tpkt → Stream
 by_tpkt start place held octets goes (Ok (Some p)) =
     behind_tpkt start (stream_place (place + p.size)) (part_after held p.tpdu) (goes p)
     (message_of start held p.tpdu)

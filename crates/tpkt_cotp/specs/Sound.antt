@@ -13,18 +13,18 @@ AreSelectors p = IfSome p.calling IsSelector × IfSome p.called IsSelector
 abbrev pub IsSize : Option ℕ → Type 0
 IsSize size = IfSome size (λ n. (7 ≤ n) × (n ≤ 13))
 
-abbrev pub AreSound : Parameters → Type 0
-AreSound p = AreSelectors p × IsSize p.size
+abbrev pub AreSoundParameters : Parameters → Type 0
+AreSoundParameters p = AreSelectors p × IsSize p.size
 
 abbrev pub IsSoundTpdu : Tpdu → Type 0
-IsSoundTpdu (request r) = AreSound r.parameters
-IsSoundTpdu (confirm c) = AreSound c.parameters
+IsSoundTpdu (request r) = AreSoundParameters r.parameters
+IsSoundTpdu (confirm c) = AreSoundParameters c.parameters
 IsSoundTpdu disconnect = Unit {0}
 IsSoundTpdu (part _ _) = Unit {0}
 
 -- what is handed out may be answered, and a TSDU is within the limit
-abbrev pub IsSound : Message → Type 0
-IsSound (asks r) = AreSound r.parameters
-IsSound (confirms c) = AreSound c.parameters
-IsSound gone = Unit {0}
-IsSound (tsdu _ octets) = length octets ≤ TSDU_LIMIT
+abbrev pub IsSoundMessage : Message → Type 0
+IsSoundMessage (asks r) = AreSoundParameters r.parameters
+IsSoundMessage (confirms c) = AreSoundParameters c.parameters
+IsSoundMessage gone = Unit {0}
+IsSoundMessage (tsdu _ octets) = length octets ≤ TSDU_LIMIT

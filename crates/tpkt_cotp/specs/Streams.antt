@@ -35,8 +35,8 @@ IsSection s = SpellsTpkt (part false s.held) s.octets
 abbrev pub held_of : List Section → List ℕ
 held_of sections = flat_map (λ s. s.held) sections
 
-abbrev pub octets_of : List Section → List ℕ
-octets_of sections = flat_map (λ s. s.octets) sections
+abbrev pub section_octets_of : List Section → List ℕ
+section_octets_of sections = flat_map (λ s. s.octets) sections
 
 -- the octets begin with parts of one TSDU, if any, and go on
 pub record Opens (turn : Turn) (sections : List Section) (octets rest : List ℕ) : Type 0 where
@@ -44,18 +44,18 @@ pub record Opens (turn : Turn) (sections : List Section) (octets rest : List ℕ
   -- no part comes first
   pub order : 0 < length sections → turn ≡ turns.Transfer
   pub within : length (held_of sections) ≤ TSDU_LIMIT
-  pub is : octets ≡ octets_of sections ++ rest
+  pub is : octets ≡ section_octets_of sections ++ rest
 
 -- a TPDU may come after so many octets of a TSDU: a part may not pass the limit, nor end an empty
 -- TSDU
-abbrev pub Fits : ℕ → Tpdu → Type 0
-Fits total (part last held) = (total + length held ≤ TSDU_LIMIT)
+abbrev pub MayComeAfter : ℕ → Tpdu → Type 0
+MayComeAfter total (part last held) = (total + length held ≤ TSDU_LIMIT)
     × (last ≡ true → 0 < total + length held)
-Fits total _ = Unit {0}
+MayComeAfter total _ = Unit {0}
 
 pub record Comes (turn : Turn) (total : ℕ) (tpdu : Tpdu) : Type 0 where
   pub order : may_come turn (kind tpdu) ≡ true
-  pub fits : Fits total tpdu
+  pub fits : MayComeAfter total tpdu
 
 -- the message that a TPDU ends, behind parts of a TSDU: DR drops them
 abbrev pub message_of : ℕ → List ℕ → Tpdu → Option Message
@@ -88,7 +88,7 @@ pub record BreaksRule (turn : Turn) (at : ℕ) (octets : List ℕ) (f : CotpFaul
   pub broken : CotpFault
   pub breaks : TpktFault turn (length (held_of sections)) rest broken
   pub is : f ≡ record {
-    place = stream_place (at + length (octets_of sections) + broken.place);
+    place = stream_place (at + length (section_octets_of sections) + broken.place);
     why = broken.why;
   }
 

@@ -50,18 +50,18 @@ abbrev pub no_parameters : Parameters
 no_parameters = record { size = None; calling = None; called = None }
 
 -- a parameter: its code and its value
-pub record Parameter : Type 0 where
+pub record TpduParameter : Type 0 where
   pub code : ℕ
   pub value : List ℕ
 
-abbrev pub parameter_octets : Parameter → List ℕ
+abbrev pub parameter_octets : TpduParameter → List ℕ
 parameter_octets p = p.code ∷ length p.value ∷ p.value
 
-abbrev pub parameters_octets : List Parameter → List ℕ
+abbrev pub parameters_octets : List TpduParameter → List ℕ
 parameters_octets ps = flat_map parameter_octets ps
 
 -- these parameters in this order, none of the three twice, add to the ones before them
-abbrev pub AddUp : Parameters → List Parameter → Parameters → Type 0
+abbrev pub AddUp : Parameters → List TpduParameter → Parameters → Type 0
 AddUp before [] all = all ≡ before
 AddUp before (p ∷ ps) all = (is_twice before p.code ≡ false)
     × (is_length_of p.code (length p.value) ≡ true)
@@ -81,7 +81,7 @@ pub record SpellsConnect (code target source : ℕ) (all : Parameters) (octets :
     pub source_high : ℕ
     pub source_low : ℕ
     pub class : ℕ
-    pub parameters : List Parameter
+    pub parameters : List TpduParameter
     pub is : octets ≡ 3 ∷ reserved ∷ high ∷ low ∷ count ∷ code ∷ target_high ∷ target_low
         ∷ source_high ∷ source_low ∷ class ∷ parameters_octets parameters
     pub size : high * 256 + low ≡ 11 + length (parameters_octets parameters)

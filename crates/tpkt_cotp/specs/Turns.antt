@@ -7,8 +7,8 @@ use Rattle.tpkt_cotp.specs.declared.turn.Kind.{Kind}
 use Rattle.tpkt_cotp.specs.declared.turn.Kind.TheVariants as kinds
 
 -- E0 CR, D0 CC, 80 DR, F0 DT
-abbrev pub kind_of : ℕ → Option Kind
-kind_of code = if code == 224 then Some kinds.Request else
+abbrev pub tpdu_kind_of : ℕ → Option Kind
+tpdu_kind_of code = if code == 224 then Some kinds.Request else
     (if code == 208 then Some kinds.Confirm else
     (if code == 128 then Some kinds.Disconnect else
     (if code == 240 then Some kinds.Part else None)))

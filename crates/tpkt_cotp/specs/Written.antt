@@ -7,8 +7,9 @@ use Rattle.tpkt_cotp.specs.declared.tpdu.Parameters.{Parameters}
 use Rattle.tpkt_cotp.specs.declared.tpdu.ConnectRequest.{ConnectRequest}
 
 -- TPDUs of 1,024 octets, this calling selector, and the called selector 00 01
-abbrev pub request_octets : ℕ → List ℕ
-request_octets calling = 3 ∷ 0 ∷ 0 ∷ 22 ∷ 17 ∷ 224 ∷ 0 ∷ 0 ∷ 0 ∷ 1 ∷ 0 ∷ 192 ∷ 1 ∷ 10 ∷ 193 ∷ 2
+abbrev pub connection_request_octets : ℕ → List ℕ
+connection_request_octets calling = 3 ∷ 0 ∷ 0 ∷ 22 ∷ 17 ∷ 224 ∷ 0 ∷ 0 ∷ 0 ∷ 1 ∷ 0 ∷ 192 ∷ 1 ∷ 10 ∷
+    193 ∷ 2
     ∷ calling / 256 ∷ calling % 256 ∷ 194 ∷ 2 ∷ 0 ∷ 1 ∷ []
 
 -- TPDUs of at most 1,024 octets
@@ -44,8 +45,8 @@ part_octets last held = part_head last (7 + length held) ++ held
 abbrev pub parts_octets : List (List ℕ) → List ℕ
 parts_octets parts = flat_map (λ p. part_octets false p) parts
 
-abbrev pub joined : List (List ℕ) → List ℕ
-joined parts = flat_map (λ p. p) parts
+abbrev pub joined_parts : List (List ℕ) → List ℕ
+joined_parts parts = flat_map (λ p. p) parts
 
 -- a TSDU cut at a size of TPDUs: all parts but the last are full
 pub record IsCut (size : ℕ) (octets written : List ℕ) : Type 0 where
@@ -54,13 +55,14 @@ pub record IsCut (size : ℕ) (octets written : List ℕ) : Type 0 where
   pub full : AllByRecursion (λ p. length p ≡ size - 3) parts
   pub some : 0 < length last
   pub fits : length last ≤ size - 3
-  pub are : octets ≡ joined parts ++ last
+  pub are : octets ≡ joined_parts parts ++ last
   pub written_is : written ≡ parts_octets parts ++ part_octets true last
 
 -- so many parts of this length, from the front
-abbrev pub parts_of : ℕ → ℕ → List ℕ → List (List ℕ)
-parts_of zero full octets = []
-parts_of (suc count) full octets = take full octets ∷ parts_of count full (drop full octets)
+abbrev pub front_parts_of : ℕ → ℕ → List ℕ → List (List ℕ)
+front_parts_of zero full octets = []
+front_parts_of (suc count) full octets = take full octets ∷ front_parts_of count full
+    (drop full octets)
 
 -- how many full parts come before the last one, which isn't empty
 abbrev pub count_before : ℕ → ℕ → ℕ
@@ -68,7 +70,8 @@ count_before full len = (len - 1) / full
 
 -- the octets of the TPKTs in which a TSDU goes out, where TPDUs have at most so many octets
 unfoldable pub wire : ℕ → List ℕ → List ℕ
-wire size tsdu = parts_octets (parts_of (count_before (size - 3) (length tsdu)) (size - 3) tsdu)
+wire size tsdu = parts_octets (front_parts_of (count_before (size - 3) (length tsdu))
+    (size - 3) tsdu)
     ++ part_octets true (drop (count_before (size - 3) (length tsdu) * (size - 3)) tsdu)
 
 -- the request that is written
@@ -83,8 +86,8 @@ written_request calling = record {
 }
 
 -- an offer's parameters, as they are answered
-abbrev pub answered : Parameters → Parameters
-answered p = record p { size = option_map (λ size. min size 10) p.size }
+abbrev pub answered_parameters : Parameters → Parameters
+answered_parameters p = record p { size = option_map (λ size. min size 10) p.size }
 
 -- the size of an offer is 7 to 13, where it is there
 abbrev pub IsOffer : ConnectRequest → Type 0

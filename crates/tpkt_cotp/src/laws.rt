@@ -8,8 +8,9 @@ ghost use Rattle.tpkt_cotp.specs.declared.turn.Turn.TheVariants.{Transfer};
 ghost use Rattle.tpkt_cotp.specs.declared.tpdu.ConnectRequest.{ConnectRequest};
 ghost use Rattle.tpkt_cotp.specs.Streams.{Message, tsdu, stream_place, SpellsMessage, Says, Stops};
 ghost use Rattle.tpkt_cotp.specs.Places.{Stream, left, stopped, messages_of, IsStream, stream_in};
-ghost use Rattle.tpkt_cotp.specs.Written.{IsCut, IsOffer, request_octets, written_request, wire};
-ghost use Rattle.tpkt_cotp.specs.Written.{confirm_octets, answered};
+ghost use Rattle.tpkt_cotp.specs.Written.{IsCut, IsOffer, connection_request_octets};
+ghost use Rattle.tpkt_cotp.specs.Written.{written_request, wire};
+ghost use Rattle.tpkt_cotp.specs.Written.{confirm_octets, answered_parameters};
 ghost use Rattle.tpkt_cotp.specs.Sound.{AreSelectors};
 ghost use Rattle.tpkt_cotp.specs.Tpdus.{request, confirm, SpellsTpkt};
 
@@ -93,12 +94,12 @@ pub fn written_is_said()
 /// What is written for a request and for the answer to an offer is spelled so.
 pub fn written_is_spelled()
     ensures request { (calling : ℕ) → SpellsTpkt (request (written_request calling))
-        (request_octets calling) }
+        (connection_request_octets calling) }
     ensures confirm { (offer : ConnectRequest) → IsOffer offer → AreSelectors offer.parameters
         → SpellsTpkt (confirm (record {
           target = offer.source;
           source = 1;
-          parameters = answered offer.parameters;
+          parameters = answered_parameters offer.parameters;
         }))
         (confirm_octets offer) }
 {}

@@ -1,7 +1,7 @@
 //! Whole messages of the transport, as they come out of a stream.
 ghost use Rattle.std.specs.Prelude.{◌≡◌, IfOk, IfSome, OnOk, OnErr, option_copied, option_map};
 ghost use Rattle.tpkt_cotp.specs.Selectors.{IsSelector};
-ghost use Rattle.tpkt_cotp.specs.Sound.{AreSound, IsSoundTpdu};
+ghost use Rattle.tpkt_cotp.specs.Sound.{AreSoundParameters, IsSoundTpdu};
 ghost use Rattle.tpkt_cotp.specs.Found.{parameters_of, tpdu_seen};
 ghost use Rattle.tpkt_cotp.specs.Streams.{message_of, part_after};
 ghost use Rattle.tpkt_cotp.specs.Seen.{message_seen};
@@ -38,7 +38,7 @@ fn selector_from(alloc: Global, found: Option<&[u8]>) -> Result<Option<Selector>
 }
 
 fn parameters_from(alloc: Global, found: Found) -> Result<Parameters, AllocError>
-    requires { AreSound (parameters_of found) }
+    requires { AreSoundParameters (parameters_of found) }
     ensures { IfOk result (λ parameters. parameters ≡ parameters_of found.entry) }
 {
     Ok(Parameters {

@@ -1,7 +1,7 @@
 //! The parameters of connect requests and confirms (ISO 8073, 13.3.4 and 13.4.4).
 ghost use Rattle.std.specs.Prelude.{◌≡◌, ◌+◌, ◌<◌, ◌≤◌, ◌^◌, length, drop, IfOk, IfSome};
 ghost use Rattle.std.specs.Prelude.{slice_index};
-ghost use Rattle.tpkt_cotp.specs.Readings.{Gives, parameters_in, parameter_in};
+ghost use Rattle.tpkt_cotp.specs.Readings.{GivesReading, parameters_in, tpdu_parameter_in};
 ghost use Rattle.tpkt_cotp.specs.Tpdus.{is_twice, is_length_of, is_value_of, with_value};
 ghost use Rattle.tpkt_cotp.specs.Found.{parameters_of};
 
@@ -88,8 +88,8 @@ fn read_parameter<'a>(
     octets: &'a [u8],
 ) -> Result<Option<(Found<'a>, usize, &'a [u8])>, CotpFault>
     requires { at + room < 2 ^ 32 }
-    ensures exact { Gives (λ x. record { seen = parameters_of x.0; count = x.1 }) result
-        (parameter_in (parameters_of seen.entry) at room code octets.now) }
+    ensures exact { GivesReading (λ x. record { seen = parameters_of x.0; count = x.1 }) result
+        (tpdu_parameter_in (parameters_of seen.entry) at room code octets.now) }
     ensures rest { IfOk result (λ found. IfSome found
         (λ x. (length octets.now ≡ x.1 + 1 + length x.2.now)
         × (x.2.now ≡ drop (x.1 + 1) octets.now) × (x.1 + 2 ≤ room))) }
@@ -125,7 +125,7 @@ pub(crate) fn read_parameters<'a>(
     octets: &'a [u8],
 ) -> Result<Option<Found<'a>>, CotpFault>
     requires { at + room < 2 ^ 32 }
-    ensures { Gives parameters_of result (parameters_in (parameters_of seen.entry) at room 0
+    ensures { GivesReading parameters_of result (parameters_in (parameters_of seen.entry) at room 0
         octets.now) }
 {
     if room == 0 {

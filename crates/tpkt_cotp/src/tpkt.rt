@@ -1,12 +1,13 @@
 //! A TPKT and its TPDU at the front of the octets (RFC 1006, section 6; ISO 8073, 13).
 ghost use Rattle.std.specs.Prelude.{◌≡◌, ◌+◌, ◌-◌, ◌<◌, ◌≤◌, ◌^◌, length, IfOk, IfSome, IfNone};
 ghost use Rattle.tpkt_cotp.specs.declared.limits.TheConstants.{TPKT_LIMIT};
-ghost use Rattle.tpkt_cotp.specs.Readings.{Gives, tpkt_in, sized_in, tpdu_in, body_in, connect_in};
-ghost use Rattle.tpkt_cotp.specs.Readings.{part_in, disconnect_in, marked_in, connect_with};
+ghost use Rattle.tpkt_cotp.specs.Readings.{GivesReading, tpkt_in, sized_in, tpdu_in, tpdu_body_in};
+ghost use Rattle.tpkt_cotp.specs.Readings.{connection_request_in};
+ghost use Rattle.tpkt_cotp.specs.Readings.{data_part_in, disconnect_in, marked_in, connect_with};
 ghost use Rattle.tpkt_cotp.specs.Readings.{parameters_in, known_in};
 ghost use Rattle.tpkt_cotp.specs.Tpdus.{no_parameters};
 ghost use Rattle.tpkt_cotp.specs.Sound.{IsSoundTpdu};
-ghost use Rattle.tpkt_cotp.specs.Streams.{Fits};
+ghost use Rattle.tpkt_cotp.specs.Streams.{MayComeAfter};
 ghost use Rattle.tpkt_cotp.specs.Found.{tpkt_seen, tpdu_seen};
 
 use crate::fault::{CotpFault, fault_at};
@@ -51,7 +52,7 @@ fn connect_with<'a>(
     octets: &'a [u8],
 ) -> Result<Option<Tpkt<'a>>, CotpFault>
     requires { (11 ≤ size) × (size < 2 ^ 16) }
-    ensures { Gives tpkt_seen result (connect_with is_request size target source
+    ensures { GivesReading tpkt_seen result (connect_with is_request size target source
         (parameters_in no_parameters 11 (size - 11) 0 octets.now)) }
 {
     match read_parameters(NONE, 11, size - 11, octets) {
@@ -73,14 +74,14 @@ fn connect_with<'a>(
 }
 
 /// What stands behind the code of a connect request or confirm.
-#[tactic(auto, unfolding(crate::specs::Readings::connect_in))]
+#[tactic(auto, unfolding(crate::specs::Readings::connection_request_in))]
 fn read_connect<'a>(
     is_request: bool,
     size: usize,
     octets: &'a [u8],
 ) -> Result<Option<Tpkt<'a>>, CotpFault>
     requires { size < 2 ^ 16 }
-    ensures { Gives tpkt_seen result (connect_in is_request size octets.now) }
+    ensures { GivesReading tpkt_seen result (connection_request_in is_request size octets.now) }
 {
     let [high, low, upper, lower, class, rest @ ..] = octets else {
         if size <= octets.len() + 6 {
@@ -102,7 +103,7 @@ fn read_connect<'a>(
 #[tactic(auto, unfolding(crate::specs::Readings::marked_in))]
 fn read_marked<'a>(sum: usize, size: usize, octets: &'a [u8]) -> Result<Option<Tpkt<'a>>, CotpFault>
     requires { (7 ≤ size) × (size < 2 ^ 16) }
-    ensures { Gives tpkt_seen result (marked_in sum size octets.now) }
+    ensures { GivesReading tpkt_seen result (marked_in sum size octets.now) }
 {
     let [mark, octets @ ..] = octets else {
         return Ok(None);
@@ -121,11 +122,11 @@ fn read_marked<'a>(sum: usize, size: usize, octets: &'a [u8]) -> Result<Option<T
     }))
 }
 
-#[tactic(auto, unfolding(crate::specs::Readings::part_in))]
+#[tactic(auto, unfolding(crate::specs::Readings::data_part_in))]
 fn read_part<'a>(total: usize, size: usize, octets: &'a [u8]) -> Result<Option<Tpkt<'a>>, CotpFault>
     requires sized { (7 ≤ size) × (size < 2 ^ 16) }
     requires within { total ≤ TSDU_LIMIT }
-    ensures { Gives tpkt_seen result (part_in total size octets.now) }
+    ensures { GivesReading tpkt_seen result (data_part_in total size octets.now) }
 {
     let sum = total + (size - 7);
     if sum > TSDU_LIMIT {
@@ -137,7 +138,7 @@ fn read_part<'a>(total: usize, size: usize, octets: &'a [u8]) -> Result<Option<T
 #[tactic(auto, unfolding(crate::specs::Readings::disconnect_in))]
 fn read_disconnect<'a>(size: usize, octets: &'a [u8]) -> Result<Option<Tpkt<'a>>, CotpFault>
     requires { size < 2 ^ 16 }
-    ensures { Gives tpkt_seen result (disconnect_in size octets.now) }
+    ensures { GivesReading tpkt_seen result (disconnect_in size octets.now) }
 {
     if octets.len() + 6 < size {
         return Ok(None);
@@ -148,7 +149,7 @@ fn read_disconnect<'a>(size: usize, octets: &'a [u8]) -> Result<Option<Tpkt<'a>>
     }))
 }
 
-#[tactic(auto, unfolding(crate::specs::Readings::body_in))]
+#[tactic(auto, unfolding(crate::specs::Readings::tpdu_body_in))]
 fn read_body<'a>(
     kind: Kind,
     total: usize,
@@ -157,7 +158,7 @@ fn read_body<'a>(
 ) -> Result<Option<Tpkt<'a>>, CotpFault>
     requires sized { (7 ≤ size) × (size < 2 ^ 16) }
     requires within { total ≤ TSDU_LIMIT }
-    ensures { Gives tpkt_seen result (body_in kind total size octets.now) }
+    ensures { GivesReading tpkt_seen result (tpdu_body_in kind total size octets.now) }
 {
     match kind {
         Kind::Request => read_connect(true, size, octets),
@@ -178,7 +179,8 @@ fn read_known<'a>(
 ) -> Result<Option<Tpkt<'a>>, CotpFault>
     requires sized { (7 ≤ size) × (size < 2 ^ 16) }
     requires within { total ≤ TSDU_LIMIT }
-    ensures { Gives tpkt_seen result (known_in turn total size count (Some kind) octets.now) }
+    ensures { GivesReading tpkt_seen result
+        (known_in turn total size count (Some kind) octets.now) }
 {
     if !kind.may_count(size, count) {
         return Err(fault_at(4, Why::Length));
@@ -199,7 +201,7 @@ fn read_tpdu<'a>(
 ) -> Result<Option<Tpkt<'a>>, CotpFault>
     requires sized { (7 ≤ size) × (size < 2 ^ 16) }
     requires within { total ≤ TSDU_LIMIT }
-    ensures { Gives tpkt_seen result (tpdu_in turn total size octets.now) }
+    ensures { GivesReading tpkt_seen result (tpdu_in turn total size octets.now) }
 {
     let [count, code, octets @ ..] = octets else {
         return Ok(None);
@@ -214,7 +216,7 @@ fn read_tpdu<'a>(
 #[tactic(auto, unfolding(crate::specs::Readings::sized_in))]
 fn read_sized<'a>(turn: Turn, total: usize, octets: &'a [u8]) -> Result<Option<Tpkt<'a>>, CotpFault>
     requires { total ≤ TSDU_LIMIT }
-    ensures { Gives tpkt_seen result (sized_in turn total octets.now) }
+    ensures { GivesReading tpkt_seen result (sized_in turn total octets.now) }
 {
     let [_, high, low, octets @ ..] = octets else {
         return Ok(None);
@@ -233,11 +235,12 @@ pub(crate) fn read_tpkt<'a>(
     octets: &'a [u8],
 ) -> Result<Option<Tpkt<'a>>, CotpFault>
     requires { total ≤ TSDU_LIMIT }
-    ensures exact { Gives tpkt_seen result (tpkt_in turn total octets.now) }
+    ensures exact { GivesReading tpkt_seen result (tpkt_in turn total octets.now) }
     ensures within { IfOk result (λ found. IfSome found (λ tpkt. tpkt.size ≤ length octets.now)) }
     ensures sound { IfOk result
         (λ found. IfSome found (λ tpkt. IsSoundTpdu (tpdu_seen tpkt.tpdu))) }
-    ensures fits { IfOk result (λ found. IfSome found (λ tpkt. Fits total (tpdu_seen tpkt.tpdu))) }
+    ensures fits { IfOk result (λ found. IfSome found
+        (λ tpkt. MayComeAfter total (tpdu_seen tpkt.tpdu))) }
     ensures cut { IfOk result (λ found. IfNone found (length octets.now ≤ TPKT_LIMIT - 1)) }
 {
     read_front(turn, total, octets)
@@ -246,7 +249,7 @@ pub(crate) fn read_tpkt<'a>(
 #[tactic(auto, unfolding(crate::specs::Readings::tpkt_in))]
 fn read_front<'a>(turn: Turn, total: usize, octets: &'a [u8]) -> Result<Option<Tpkt<'a>>, CotpFault>
     requires { total ≤ TSDU_LIMIT }
-    ensures { Gives tpkt_seen result (tpkt_in turn total octets.now) }
+    ensures { GivesReading tpkt_seen result (tpkt_in turn total octets.now) }
 {
     match octets {
         [] => Ok(None),

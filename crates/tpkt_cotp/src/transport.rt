@@ -4,8 +4,9 @@ ghost use Rattle.std.specs.Prelude.{OnErr, OnSome, IfSome};
 ghost use Rattle.tpkt_cotp.specs.declared.turn.Role.{Role};
 ghost use Rattle.tpkt_cotp.specs.Streams.{Message};
 ghost use Rattle.tpkt_cotp.specs.Seen.{message_seen};
-ghost use Rattle.tpkt_cotp.specs.Sound.{IsSound};
-ghost use Rattle.tpkt_cotp.specs.Lines.{Line, IsSettled, HoldsFew, Stands, Answers, fed};
+ghost use Rattle.tpkt_cotp.specs.Sound.{IsSoundMessage};
+ghost use Rattle.tpkt_cotp.specs.Lines.{Line, IsLineSettled, HoldsFew, Stands, IsTransportAnswer};
+ghost use Rattle.tpkt_cotp.specs.Lines.{fed};
 ghost use Rattle.tpkt_cotp.specs.Streams.{stream_place};
 ghost use Rattle.tpkt_cotp.specs.Places.{stream_in};
 ghost use Rattle.tpkt_cotp.specs.Goings.{stream_of, HandsOut, KeepsStart};
@@ -56,7 +57,7 @@ impl Transport {
     /// A reader at the start of a stream.
     pub fn new(alloc: Global, role: Role) -> Transport
         ensures stands { Stands role [] [] result }
-        ensures settled { IsSettled result }
+        ensures settled { IsLineSettled result }
         ensures few { HoldsFew result }
         // All that it will hand out is what the stream says.
         ensures hands_out { (octets : List ℕ) → stream_of (fed result octets)
@@ -90,7 +91,7 @@ impl Transport {
     /// memory the reader is as before.
     pub fn feed(&mut self, piece: &[u8]) -> Result<(), AllocError>
         requires small { length piece.now ≤ PIECE_LIMIT }
-        requires settled { IsSettled self.old }
+        requires settled { IsLineSettled self.old }
         // The stream goes on by the piece.
         ensures ok { (role : Role) (heard : List ℕ) (given : List Message)
             → Stands role heard given self.old
@@ -107,7 +108,7 @@ impl Transport {
     pub fn next(&mut self) -> Result<Result<Option<TransportIn>, CotpFault>, AllocError>
         ensures ok { (role : Role) (heard : List ℕ) (given : List Message)
             → Stands role heard given self.old
-            → IfOk result (λ answer. Answers role heard given answer self.new) }
+            → IfOk result (λ answer. IsTransportAnswer role heard given answer self.new) }
         // It is the first of what was to be handed out, and stands where `start` says.
         ensures hands_out { IfOk result (λ answer. HandsOut self.old answer self.new) }
         // Where none is handed out, a fault or not, `start` stays.
@@ -120,7 +121,7 @@ impl Transport {
         // A connect request or confirm that is handed out may be answered, and a TSDU is within
         // its limit.
         ensures sound { IfOk result (λ answer. IfOk answer (λ message. IfSome message
-            (λ m. IsSound (message_seen m)))) }
+            (λ m. IsSoundMessage (message_seen m)))) }
         ensures err { OnErr result (self.new ≡ self.old) }
     {
         if let Some(fault) = self.fault {

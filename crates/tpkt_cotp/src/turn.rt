@@ -1,6 +1,6 @@
 //! Which TPDU may come when (ISO 8073, class 0).
 ghost use Rattle.std.specs.Prelude.{◌≡◌, ◌<◌, ◌^◌};
-ghost use Rattle.tpkt_cotp.specs.Turns.{may_come, kind_of, is_count};
+ghost use Rattle.tpkt_cotp.specs.Turns.{may_come, tpdu_kind_of, is_count};
 
 /// Which end of a connection reads the stream.
 #[derive(Clone, Copy, Debug, PartialEq, Eq)]
@@ -33,7 +33,7 @@ pub(crate) enum Kind {
 impl Kind {
     /// The kind of TPDU with this code.
     pub(crate) fn from_code(code: u8) -> Option<Kind>
-        ensures { result ≡ kind_of code }
+        ensures { result ≡ tpdu_kind_of code }
     {
         match code {
             0xE0 => Some(Kind::Request),

@@ -3,11 +3,11 @@ ghost use Rattle.std.specs.Prelude.{◌≡◌, ℕ, ◌+◌, ◌<◌, List, leng
 ghost use Rattle.std.specs.Prelude.{OnSome, IfSome, None, []};
 ghost use Rattle.tpkt_cotp.specs.declared.turn.Role.{Role};
 ghost use Rattle.tpkt_cotp.specs.Streams.{Message, stream_place};
-ghost use Rattle.tpkt_cotp.specs.Lines.{Line, IsWithin, line_of, Stands, Answers};
+ghost use Rattle.tpkt_cotp.specs.Lines.{Line, IsWalkWithin, line_of, Stands, IsTransportAnswer};
 ghost use Rattle.tpkt_cotp.specs.Steps.{Steps};
 ghost use Rattle.tpkt_cotp.specs.Goings.{HandsOut, KeepsStart};
 ghost use Rattle.tpkt_cotp.specs.Seen.{message_seen};
-ghost use Rattle.tpkt_cotp.specs.Sound.{IsSound};
+ghost use Rattle.tpkt_cotp.specs.Sound.{IsSoundMessage};
 
 use crate::fault::CotpFault;
 use crate::message::{TransportIn, take_tpdu};
@@ -48,10 +48,10 @@ fn shifted(place: u64, by: u64) -> u64
 impl Walk {
     /// Looks at the TPKT where it stands. `part` is what has come of a TSDU.
     fn step(&mut self, alloc: Global, part: &mut Vec<u8>, octets: &[u8]) -> Result<Step, AllocError>
-        requires { IsWithin self.old part.old.items octets.now }
+        requires { IsWalkWithin self.old part.old.items octets.now }
         ensures ok { IfOk result (λ step. Steps (line_of self.old part.old.items octets.now) step
             (line_of self.new part.new.items octets.now)) }
-        ensures within { IsWithin self.new part.new.items octets.now }
+        ensures within { IsWalkWithin self.new part.new.items octets.now }
         ensures err { OnErr result (part.new.items ≡ part.old.items) }
     {
         let total = part.as_slice().len();
@@ -88,11 +88,11 @@ impl Walk {
         part: &mut Vec<u8>,
         octets: &[u8],
     ) -> Result<Result<Option<TransportIn>, CotpFault>, AllocError>
-        requires within { IsWithin self.old part.old.items octets.now }
+        requires within { IsWalkWithin self.old part.old.items octets.now }
         requires clear { self.old.fault ≡ None }
         ensures ok { (role : Role) (heard : List ℕ) (given : List Message)
             → Stands role heard given (line_of self.old part.old.items octets.now)
-            → IfOk result (λ answer. Answers role heard given answer
+            → IfOk result (λ answer. IsTransportAnswer role heard given answer
             (line_of self.new part.new.items octets.now)) }
         ensures hands_out { IfOk result (λ answer.
             HandsOut (line_of self.old part.old.items octets.now) answer
@@ -105,8 +105,8 @@ impl Walk {
         ensures shorter { IfOk result (λ answer. IfOk answer (λ message. OnSome message
             (self.old.passed < self.new.passed))) }
         ensures sound { IfOk result (λ answer. IfOk answer (λ message. IfSome message
-            (λ m. IsSound (message_seen m)))) }
-        ensures within { IsWithin self.new part.new.items octets.now }
+            (λ m. IsSoundMessage (message_seen m)))) }
+        ensures within { IsWalkWithin self.new part.new.items octets.now }
         ensures err { OnErr result (take (length part.old.items) part.new.items ≡ part.old.items) }
     {
         loop {

@@ -3,7 +3,7 @@ ghost use Rattle.std.specs.Prelude.{◌≡◌, ℕ, ◌+◌, ◌-◌, ◌<◌, �
 ghost use Rattle.std.specs.Prelude.{OnOk, OnErr, option_copied};
 ghost use Rattle.tpkt_cotp.specs.declared.limits.TheConstants.{SELECTOR_LIMIT, TSDU_LIMIT};
 ghost use Rattle.tpkt_cotp.specs.Selectors.{IsSelector};
-ghost use Rattle.tpkt_cotp.specs.Written.{request_octets, size_octets, selector_octets};
+ghost use Rattle.tpkt_cotp.specs.Written.{connection_request_octets, size_octets, selector_octets};
 ghost use Rattle.tpkt_cotp.specs.Written.{answer_octets, confirm_head, confirm_octets, part_octets};
 ghost use Rattle.tpkt_cotp.specs.Written.{IsCut, wire};
 
@@ -15,7 +15,7 @@ use std::alloc::AllocError;
 /// Appends the connect request with this calling selector: TPDUs of 1,024 octets, and the called
 /// selector 00 01.
 pub fn write_cr(out: &mut Vec<u8>, calling: u16) -> Result<(), AllocError>
-    ensures ok { OnOk result (out.new.items ≡ out.old.items ++ request_octets calling) }
+    ensures ok { OnOk result (out.new.items ≡ out.old.items ++ connection_request_octets calling) }
     ensures err { OnErr result (out.new.items ≡ out.old.items) }
 {
     let high = (calling / 256) as u8;

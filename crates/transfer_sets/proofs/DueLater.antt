@@ -2,7 +2,7 @@
 use Rattle.std.proofs.Common.{◌≡◌, ◌↔◌, ℕ, ◌+◌, ◌*◌, ◌<◌, ◌≤◌, true, false, Option, sym, ◌∙◌}
 use Rattle.std.proofs.Common.{arith, ⊎_elim}
 use Rattle.std.proofs.lemmas.Bool.{cases_lt, false≢true}
-use Rattle.transfer_sets.specs.Wishes.{Has}
+use Rattle.transfer_sets.specs.Wishes.{HasCondition}
 use Rattle.transfer_sets.specs.SlotState.{SlotState}
 use Rattle.transfer_sets.specs.Due.{PassesMultiple, HasWaited, AreDue, HasConditions, IsNextDue}
 use Rattle.transfer_sets.specs.Due.{milliseconds, conditions_due}
@@ -54,13 +54,13 @@ due_later s from to later a b le x y = record {
       y.change.1 (p.0, p.1, waited s.noted (milliseconds s.wish.buffer) to later le p.2);
 }
 
-none_128 : Has 0 128 → ⊥
+none_128 : HasCondition 0 128 → ⊥
 none_128 h = absurd (omega arith)
 
-none_64 : Has 0 64 → ⊥
+none_64 : HasCondition 0 64 → ⊥
 none_64 h = absurd (omega arith)
 
-none_32 : Has 0 32 → ⊥
+none_32 : HasCondition 0 32 → ⊥
 none_32 h = absurd (omega arith)
 
 neither : (H P G : Type 0) → (H → ⊥) → (P → G) → (G → H) → H ↔ P
@@ -109,12 +109,12 @@ module _ (s : SlotState) (from between to : ℕ) (le : from ≤ between)
   abbrev Passes : ℕ → ℕ → Type 0
   Passes start period = PassesMultiple s.base (milliseconds period) start to
 
-  cut_interval : s.wish.status ≡ true → Has s.wish.conditions 128
+  cut_interval : s.wish.status ≡ true → HasCondition s.wish.conditions 128
       → Passes from s.wish.interval → Passes between s.wish.interval
   cut_interval on wished p = cut s.base (milliseconds s.wish.interval) from between to
       (λ m. none_128 (none.interval.1 (on, wished, m))) p
 
-  cut_integrity : s.wish.status ≡ true → Has s.wish.conditions 64
+  cut_integrity : s.wish.status ≡ true → HasCondition s.wish.conditions 64
       → Passes from s.wish.integrity → Passes between s.wish.integrity
   cut_integrity on wished p = cut s.base (milliseconds s.wish.integrity) from between to
       (λ m. none_64 (none.integrity.1 (on, wished, m))) p

@@ -5,7 +5,7 @@ use Rattle.std.proofs.Common.{refl, sym, subst, arith}
 use Rattle.std.proofs.Math.Nat.{le-div_iff_mul-le}
 use Rattle.std.proofs.lemmas.Bool.Decides.{Decides-eqb, Decides-and}
 use Rattle.std.proofs.lemmas.Bool.Decides.{nat_tests}
-use Rattle.transfer_sets.specs.Wishes.{Has, has}
+use Rattle.transfer_sets.specs.Wishes.{HasCondition, has}
 use Rattle.transfer_sets.specs.SlotState.{SlotState}
 use Rattle.transfer_sets.specs.Due.{PassesMultiple, HasWaited, AreDue, passes_multiple, has_waited}
 use Rattle.transfer_sets.specs.Due.{milliseconds, sum_of, conditions_due}
@@ -14,9 +14,9 @@ same_bit : (a b : ℕ) → (a % 2 ≡ 1 → b % 2 ≡ 1) → (b % 2 ≡ 1 → a 
 same_bit a b f g = grind arith
 
 -- what two numbers that have the same conditions are
-same_conditions : (a b : ℕ) → (Has a 128 → Has b 128) → (Has b 128 → Has a 128)
-    → (Has a 64 → Has b 64) → (Has b 64 → Has a 64) → (Has a 32 → Has b 32)
-    → (Has b 32 → Has a 32) → a % 32 ≡ 0 → b % 32 ≡ 0 → a < 256 → b < 256 → a ≡ b
+same_conditions : (a b : ℕ) → (HasCondition a 128 → HasCondition b 128) → (HasCondition b 128 → HasCondition a 128)
+    → (HasCondition a 64 → HasCondition b 64) → (HasCondition b 64 → HasCondition a 64) → (HasCondition a 32 → HasCondition b 32)
+    → (HasCondition b 32 → HasCondition a 32) → a % 32 ≡ 0 → b % 32 ≡ 0 → a < 256 → b < 256 → a ≡ b
 same_conditions a b f g h i j k p q r s =
     let x = same_bit (a / 128) (b / 128) f g in
     let y = same_bit (a / 64) (b / 64) h i in
@@ -106,7 +106,7 @@ waited-Decides (Some first) buffer to = (
     in_test first other buffer to same h = grind (arith, nat_tests)
 
 -- a sum of conditions has those that hold
-sum_interval : (x y z : Bool) → Has (sum_of x y z) 128 ↔ (x ≡ true)
+sum_interval : (x y z : Bool) → HasCondition (sum_of x y z) 128 ↔ (x ≡ true)
 sum_interval true true true = (λ h. refl, λ e. refl)
 sum_interval true true false = (λ h. refl, λ e. refl)
 sum_interval true false true = (λ h. refl, λ e. refl)
@@ -116,7 +116,7 @@ sum_interval false true false = (λ h. absurd (omega arith), λ e. absurd cc)
 sum_interval false false true = (λ h. absurd (omega arith), λ e. absurd cc)
 sum_interval false false false = (λ h. absurd (omega arith), λ e. absurd cc)
 
-sum_integrity : (x y z : Bool) → Has (sum_of x y z) 64 ↔ (y ≡ true)
+sum_integrity : (x y z : Bool) → HasCondition (sum_of x y z) 64 ↔ (y ≡ true)
 sum_integrity true true true = (λ h. refl, λ e. refl)
 sum_integrity true true false = (λ h. refl, λ e. refl)
 sum_integrity true false true = (λ h. absurd (omega arith), λ e. absurd cc)
@@ -126,7 +126,7 @@ sum_integrity false true false = (λ h. refl, λ e. refl)
 sum_integrity false false true = (λ h. absurd (omega arith), λ e. absurd cc)
 sum_integrity false false false = (λ h. absurd (omega arith), λ e. absurd cc)
 
-sum_change : (x y z : Bool) → Has (sum_of x y z) 32 ↔ (z ≡ true)
+sum_change : (x y z : Bool) → HasCondition (sum_of x y z) 32 ↔ (z ≡ true)
 sum_change true true true = (λ h. refl, λ e. refl)
 sum_change true true false = (λ h. absurd (omega arith), λ e. absurd cc)
 sum_change true false true = (λ h. refl, λ e. refl)
@@ -149,7 +149,7 @@ sum_small false false false = (refl, omega arith)
 -- a condition holds where the slot is enabled, wishes it, and the time brings it about
 holds : (status : Bool) (conditions condition : ℕ) (test : Bool) (P H : Type 0) → Decides test P
     → (H ↔ ((status && has conditions condition && test) ≡ true))
-    → H ↔ ((status ≡ true) × Has conditions condition × P)
+    → H ↔ ((status ≡ true) × HasCondition conditions condition × P)
 holds status conditions condition test P H d tells =
     let all = Decides-and _ _
     (Decides-and _ _ (true-Decides status) (Decides-eqb (conditions / condition % 2) 1)) d in (

@@ -12,7 +12,7 @@ use Rattle.ber_values.specs.Bits.{Bits}
 use Rattle.mms_data.specs.Datum.{Datum, boolean, integer, unsigned, bits, real, octets, text}
 use Rattle.mms_data.specs.Lawful.{IsLawful}
 use Rattle.mms_data.specs.Datum.{structure, array, Data, no_data, datum, data_of}
-use Rattle.point_data.specs.Parts.{list_of, members_in, integer_in}
+use Rattle.point_data.specs.Parts.{list_of, structure_members, integer_part}
 use Rattle.transfer_sets.specs.declared.parts.Numbers.{Numbers}
 use Rattle.transfer_sets.specs.declared.parts.Ranged.{Ranged}
 use Rattle.transfer_sets.specs.declared.parts.Switches.{Switches}
@@ -20,13 +20,13 @@ use Rattle.transfer_sets.specs.declared.wish.Wish.{Wish}
 use Rattle.transfer_sets.specs.declared.wish.WishFault.{WishFault}
 use Rattle.transfer_sets.specs.declared.wish.WishFault.TheVariants.{Form, Range}
 use Rattle.transfer_sets.specs.Wishes.{IsWish}
-use Rattle.transfer_sets.specs.Components.{is_scope, text_in, boolean_in, five_of, conditions_in}
+use Rattle.transfer_sets.specs.Components.{is_scope, text_part, boolean_part, five_of, conditions_in}
 use Rattle.transfer_sets.specs.Components.{is_scope_at, set_in}
 use Rattle.transfer_sets.specs.Components.{numbers_from, switches_from}
 use Rattle.transfer_sets.specs.Components.{ranged_number, ranged_code}
 use Rattle.transfer_sets.specs.Components.{ranged_in, wish_if, wish_from, is_shaped}
 use Rattle.transfer_sets.specs.Components.{wish_of_members, wish_in}
-use Rattle.transfer_sets.specs.WishData.{WishParts, components, IsAnyNumber, IsForm, IsRanged}
+use Rattle.transfer_sets.specs.WishData.{WishParts, components, IsAnyNumber, IsWishForm, IsRanged}
 use Rattle.transfer_sets.specs.WishData.{AreRanged, first_five, wish_of, parts_of, shown_wish}
 
 -- bits of which five are there
@@ -66,7 +66,7 @@ read_with scope p number five =
         (ranged_in p.numbers)
     with_five scope p number five = rw (number, five) refl
 
-pub form_read : (d : Datum) (p : WishParts) → IsForm d p
+pub form_read : (d : Datum) (p : WishParts) → IsWishForm d p
     → wish_in d
     ≡ wish_if p.set_domain p.set_name (first_five p.conditions) p.switches (ranged_in p.numbers)
 form_read d p form =
@@ -74,7 +74,7 @@ form_read d p form =
     ∙ read_with form.scope p form.number (five_there p.conditions form.five form.held)
 
 -- what stands behind a getter that found something
-text_found : (d : Datum) (o : List ℕ) → text_in d ≡ Some o → d ≡ text o
+text_found : (d : Datum) (o : List ℕ) → text_part d ≡ Some o → d ≡ text o
 text_found (boolean b) o e = cc
 text_found (integer z) o e = cc
 text_found (unsigned n) o e = cc
@@ -85,7 +85,7 @@ text_found (text r) o e = cc
 text_found (structure ds) o e = cc
 text_found (array ds) o e = cc
 
-integer_found : (d : Datum) (z : ℤ) → integer_in d ≡ Some z → d ≡ integer z
+integer_found : (d : Datum) (z : ℤ) → integer_part d ≡ Some z → d ≡ integer z
 integer_found (boolean b) o e = cc
 integer_found (integer z) o e = cc
 integer_found (unsigned n) o e = cc
@@ -96,7 +96,7 @@ integer_found (text r) o e = cc
 integer_found (structure ds) o e = cc
 integer_found (array ds) o e = cc
 
-boolean_found : (d : Datum) (b : Bool) → boolean_in d ≡ Some b → d ≡ boolean b
+boolean_found : (d : Datum) (b : Bool) → boolean_part d ≡ Some b → d ≡ boolean b
 boolean_found (boolean b) o e = cc
 boolean_found (integer z) o e = cc
 boolean_found (unsigned n) o e = cc
@@ -150,7 +150,7 @@ data_of-list_of no_data = refl
 data_of-list_of (datum d ds) = ap (datum d) (data_of-list_of ds)
 
 -- a datum with members is a structure of them
-structure_found : (d x : Datum) (xs : List Datum) → members_in d ≡ x ∷ xs
+structure_found : (d x : Datum) (xs : List Datum) → structure_members d ≡ x ∷ xs
     → d ≡ structure (data_of (x ∷ xs))
 structure_found (boolean b) x xs e = absurd cc
 structure_found (integer z) x xs e = absurd cc
@@ -296,15 +296,15 @@ switches_found (Some a) (Some b) (Some c) (Some d) (Some e) n is =
 switches_found _ _ _ _ _ n is = absurd cc
 
 -- members at their places are the components
-form_of_members : (d : Datum) (t : Thirteen (members_in d)) (s : Three (members_in t.a))
+form_of_members : (d : Datum) (t : Thirteen (structure_members d)) (s : Three (structure_members t.a))
     → is_scope s.a ≡ true
-    → Found (text_in s.b) (text_in s.c)
-    (numbers_from (integer_in t.b) (integer_in t.c) (integer_in t.d) (integer_in t.e)
-    (integer_in t.f) (integer_in t.m))
+    → Found (text_part s.b) (text_part s.c)
+    (numbers_from (integer_part t.b) (integer_part t.c) (integer_part t.d) (integer_part t.e)
+    (integer_part t.f) (integer_part t.m))
     (conditions_in t.g)
-    (switches_from (boolean_in t.h) (boolean_in t.i) (boolean_in t.j) (boolean_in t.k)
-    (boolean_in t.l))
-    → (p : WishParts) × IsForm d p
+    (switches_from (boolean_part t.h) (boolean_part t.i) (boolean_part t.j) (boolean_part t.k)
+    (boolean_part t.l))
+    → (p : WishParts) × IsWishForm d p
 form_of_members d t s number found =
     let n = found.the_numbers in
     let w = found.the_switches in
@@ -351,42 +351,42 @@ both false b e = absurd cc
 number_is : (n m : ℕ) → (n == m) ≡ true → n ≡ m
 number_is n m e = grind (arith, nat_tests)
 
-read_members : (d : Datum) (t : Thirteen (members_in d)) (s : Three (members_in t.a))
-    → is_scope s.a ≡ true → wish_in d ≡ wish_from (text_in s.b) (text_in s.c)
-    (numbers_from (integer_in t.b) (integer_in t.c) (integer_in t.d) (integer_in t.e)
-    (integer_in t.f) (integer_in t.m))
+read_members : (d : Datum) (t : Thirteen (structure_members d)) (s : Three (structure_members t.a))
+    → is_scope s.a ≡ true → wish_in d ≡ wish_from (text_part s.b) (text_part s.c)
+    (numbers_from (integer_part t.b) (integer_part t.c) (integer_part t.d) (integer_part t.e)
+    (integer_part t.f) (integer_part t.m))
     (conditions_in t.g)
-    (switches_from (boolean_in t.h) (boolean_in t.i) (boolean_in t.j) (boolean_in t.k)
-    (boolean_in t.l))
+    (switches_from (boolean_part t.h) (boolean_part t.i) (boolean_part t.j) (boolean_part t.k)
+    (boolean_part t.l))
 read_members d t s number = ap wish_of_members t.are ∙ rw (s.are, number) refl
 
-shaped_or_none : (d : Datum) → is_shaped (members_in d) ≡ true
-    → ((p : WishParts) × IsForm d p) ⊎ (wish_in d ≡ Err Form)
+shaped_or_none : (d : Datum) → is_shaped (structure_members d) ≡ true
+    → ((p : WishParts) × IsWishForm d p) ⊎ (wish_in d ≡ Err Form)
 shaped_or_none d shaped =
     let outer = both _ _ shaped in
     let inner = both _ _ outer.0 in
-    let t = thirteen (members_in d) (number_is _ _ inner.0) in
-    let set : set_in (members_in d) ≡ members_in t.a = ap set_in t.are in
-    let s = three (members_in t.a) (ap length (sym set) ∙ number_is _ _ inner.1) in
+    let t = thirteen (structure_members d) (number_is _ _ inner.0) in
+    let set : set_in (structure_members d) ≡ structure_members t.a = ap set_in t.are in
+    let s = three (structure_members t.a) (ap length (sym set) ∙ number_is _ _ inner.1) in
     let number : is_scope s.a ≡ true =
     ap (λ ds. is_scope_at ds 0) (sym s.are) ∙ ap (λ ds. is_scope_at ds 0) (sym set) ∙ outer.1 in
     let read = read_members d t s number in
-    elim (found_or_none (text_in s.b) (text_in s.c)
-    (numbers_from (integer_in t.b) (integer_in t.c) (integer_in t.d) (integer_in t.e)
-    (integer_in t.f) (integer_in t.m))
+    elim (found_or_none (text_part s.b) (text_part s.c)
+    (numbers_from (integer_part t.b) (integer_part t.c) (integer_part t.d) (integer_part t.e)
+    (integer_part t.f) (integer_part t.m))
     (conditions_in t.g)
-    (switches_from (boolean_in t.h) (boolean_in t.i) (boolean_in t.j) (boolean_in t.k)
-    (boolean_in t.l))) [
+    (switches_from (boolean_part t.h) (boolean_part t.i) (boolean_part t.j) (boolean_part t.k)
+    (boolean_part t.l))) [
       | inl found ↦ inl (form_of_members d t s number found)
       | inr none ↦ inr (read ∙ none)
     ]
 
 -- a datum has the form of a wish, or is none for its form
-pub form_or_none : (d : Datum) → ((p : WishParts) × IsForm d p) ⊎ (wish_in d ≡ Err Form)
-form_or_none d = by (is_shaped (members_in d)) refl
+pub form_or_none : (d : Datum) → ((p : WishParts) × IsWishForm d p) ⊎ (wish_in d ≡ Err Form)
+form_or_none d = by (is_shaped (structure_members d)) refl
   where
-    by : (b : Bool) → is_shaped (members_in d) ≡ b
-        → ((p : WishParts) × IsForm d p) ⊎ (wish_in d ≡ Err Form)
+    by : (b : Bool) → is_shaped (structure_members d) ≡ b
+        → ((p : WishParts) × IsWishForm d p) ⊎ (wish_in d ≡ Err Form)
     by true e = shaped_or_none d e
     by false e = inr (rw e refl)
 
@@ -482,7 +482,7 @@ ranged_or_none n =
     ]
 
 -- a form with numbers in their ranges is its wish, one with others has its fault
-pub ranged_read : (d : Datum) (p : WishParts) → IsForm d p → AreRanged p.numbers
+pub ranged_read : (d : Datum) (p : WishParts) → IsWishForm d p → AreRanged p.numbers
     → wish_in d ≡ Ok (wish_of p)
 ranged_read d p form ranged =
     elim (ranged_or_none p.numbers) [
@@ -491,7 +491,7 @@ ranged_read d p form ranged =
       | inr r ↦ absurd (r.0 ranged)
     ]
 
-pub unranged_read : (d : Datum) (p : WishParts) → IsForm d p → (AreRanged p.numbers → ⊥)
+pub unranged_read : (d : Datum) (p : WishParts) → IsWishForm d p → (AreRanged p.numbers → ⊥)
     → wish_in d ≡ Err Range
 unranged_read d p form unranged =
     elim (ranged_or_none p.numbers) [
@@ -503,8 +503,8 @@ unranged_read d p form unranged =
 -- what every datum is
 abbrev Outcome : Datum → Type 0
 Outcome d =
-    ((p : WishParts) × IsForm d p × AreRanged p.numbers × (wish_in d ≡ Ok (wish_of p)))
-    ⊎ (((p : WishParts) × IsForm d p × (AreRanged p.numbers → ⊥) × (wish_in d ≡ Err Range))
+    ((p : WishParts) × IsWishForm d p × AreRanged p.numbers × (wish_in d ≡ Ok (wish_of p)))
+    ⊎ (((p : WishParts) × IsWishForm d p × (AreRanged p.numbers → ⊥) × (wish_in d ≡ Err Range))
     ⊎ (wish_in d ≡ Err Form))
 
 outcome : (d : Datum) → Outcome d
@@ -518,7 +518,7 @@ outcome d =
     ]
 
 pub wish_exactly : (d : Datum) (w : Wish) → (wish_in d ≡ Ok w)
-    ↔ ((p : WishParts) × IsForm d p × AreRanged p.numbers × (w ≡ wish_of p))
+    ↔ ((p : WishParts) × IsWishForm d p × AreRanged p.numbers × (w ≡ wish_of p))
 wish_exactly d w = (
   λ e. elim (outcome d) [
     | inl some ↦ (some.0, some.1, some.2, (let own = some.3 in cc))
@@ -531,7 +531,7 @@ wish_exactly d w = (
 )
 
 pub form_exactly : (d : Datum) → (wish_in d ≡ Err Form)
-    ↔ ((p : WishParts) → IsForm d p → ⊥)
+    ↔ ((p : WishParts) → IsWishForm d p → ⊥)
 form_exactly d = (
   λ e p form. elim (ranged_or_none p.numbers) [
     | inl r ↦ (let read = ranged_read d p form r.0 in absurd cc)
@@ -544,7 +544,7 @@ form_exactly d = (
 )
 
 pub range_exactly : (d : Datum) → (wish_in d ≡ Err Range)
-    ↔ ((p : WishParts) × IsForm d p × (AreRanged p.numbers → ⊥))
+    ↔ ((p : WishParts) × IsWishForm d p × (AreRanged p.numbers → ⊥))
 range_exactly d = (
   λ e. elim (outcome d) [
     | inl some ↦ (let own = some.3 in absurd cc)
@@ -557,7 +557,7 @@ range_exactly d = (
 )
 
 -- a wish that is shown has its form
-shown_form : (w : Wish) → IsForm (shown_wish w) (parts_of w)
+shown_form : (w : Wish) → IsWishForm (shown_wish w) (parts_of w)
 shown_form w = record {
   scope = integer (pos 1);
   number = inl (pos 1, refl);

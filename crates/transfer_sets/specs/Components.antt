@@ -6,7 +6,7 @@ use Rattle.std.specs.Option.{option_map_or}
 use Rattle.std.specs.List.{slice_get}
 use Rattle.mms_data.specs.Datum.{Datum, boolean, integer, unsigned, bits, real, octets, text}
 use Rattle.mms_data.specs.Datum.{structure, array}
-use Rattle.point_data.specs.Parts.{members_in, integer_in}
+use Rattle.point_data.specs.Parts.{structure_members, integer_part}
 use Rattle.transfer_sets.specs.declared.parts.Numbers.{Numbers}
 use Rattle.transfer_sets.specs.declared.parts.Ranged.{Ranged}
 use Rattle.transfer_sets.specs.declared.parts.Switches.{Switches}
@@ -27,27 +27,27 @@ is_scope (text o) = false
 is_scope (structure ds) = false
 is_scope (array ds) = false
 
-abbrev pub text_in : Datum → Option (List ℕ)
-text_in (boolean b) = None
-text_in (integer z) = None
-text_in (unsigned n) = None
-text_in (bits b) = None
-text_in (real o) = None
-text_in (octets o) = None
-text_in (text o) = Some o
-text_in (structure ds) = None
-text_in (array ds) = None
+abbrev pub text_part : Datum → Option (List ℕ)
+text_part (boolean b) = None
+text_part (integer z) = None
+text_part (unsigned n) = None
+text_part (bits b) = None
+text_part (real o) = None
+text_part (octets o) = None
+text_part (text o) = Some o
+text_part (structure ds) = None
+text_part (array ds) = None
 
-abbrev pub boolean_in : Datum → Option Bool
-boolean_in (boolean b) = Some b
-boolean_in (integer z) = None
-boolean_in (unsigned n) = None
-boolean_in (bits b) = None
-boolean_in (real o) = None
-boolean_in (octets o) = None
-boolean_in (text o) = None
-boolean_in (structure ds) = None
-boolean_in (array ds) = None
+abbrev pub boolean_part : Datum → Option Bool
+boolean_part (boolean b) = Some b
+boolean_part (integer z) = None
+boolean_part (unsigned n) = None
+boolean_part (bits b) = None
+boolean_part (real o) = None
+boolean_part (octets o) = None
+boolean_part (text o) = None
+boolean_part (structure ds) = None
+boolean_part (array ds) = None
 
 -- the first five of at least five bits, as the sum of the conditions
 abbrev pub five_of : ℕ → List ℕ → Option ℕ
@@ -70,20 +70,20 @@ abbrev pub is_scope_at : List Datum → ℕ → Bool
 is_scope_at ds place = option_map_or is_scope (slice_get ds place) false
 
 abbrev pub text_at : List Datum → ℕ → Option (List ℕ)
-text_at ds place = option_and_then text_in (slice_get ds place)
+text_at ds place = option_and_then text_part (slice_get ds place)
 
 abbrev pub integer_at : List Datum → ℕ → Option ℤ
-integer_at ds place = option_and_then integer_in (slice_get ds place)
+integer_at ds place = option_and_then integer_part (slice_get ds place)
 
 abbrev pub boolean_at : List Datum → ℕ → Option Bool
-boolean_at ds place = option_and_then boolean_in (slice_get ds place)
+boolean_at ds place = option_and_then boolean_part (slice_get ds place)
 
 abbrev pub conditions_at : List Datum → ℕ → Option ℕ
 conditions_at ds place = option_and_then conditions_in (slice_get ds place)
 
 -- the members of the first member
 abbrev pub set_in : List Datum → List Datum
-set_in ds = option_map_or members_in (slice_get ds 0) []
+set_in ds = option_map_or structure_members (slice_get ds 0) []
 
 -- six integers, where all are there
 abbrev pub numbers_from :
@@ -194,4 +194,4 @@ wish_of_members ds =
 
 -- what is wished by a datum, or why nothing is
 abbrev pub wish_in : Datum → Result Wish WishFault
-wish_in d = wish_of_members (members_in d)
+wish_in d = wish_of_members (structure_members d)

@@ -2,7 +2,7 @@
 use Rattle.std.specs.Prelude.{◌≡◌, ◌↔◌, ℕ, ◌+◌, ◌-◌, ◌*◌, ◌/◌, ◌%◌, ◌<◌, ◌≤◌, ◌==◌, nat_lt, nat_le}
 use Rattle.std.specs.Prelude.{Bool, true, false, ◌&&◌, if◌then◌else◌, Option, Some, None}
 use Rattle.transfer_sets.specs.declared.wish.TheConstants.{INTERVAL, INTEGRITY, CHANGE}
-use Rattle.transfer_sets.specs.Wishes.{Has, has}
+use Rattle.transfer_sets.specs.Wishes.{HasCondition, has}
 use Rattle.transfer_sets.specs.SlotState.{SlotState}
 
 -- a time of seconds in milliseconds
@@ -22,22 +22,22 @@ HasWaited noted buffer to = (first : ℕ) × (noted ≡ Some first) × (first + 
 -- The conditions, as their sum, that are due where the clock goes on from a moment to another:
 -- those of a slot that is enabled which its wish has, and which the time brings about.
 pub record AreDue (s : SlotState) (from to conditions : ℕ) : Type 0 where
-  pub interval : Has conditions INTERVAL
-      ↔ ((s.wish.status ≡ true) × Has s.wish.conditions INTERVAL
+  pub interval : HasCondition conditions INTERVAL
+      ↔ ((s.wish.status ≡ true) × HasCondition s.wish.conditions INTERVAL
       × PassesMultiple s.base (milliseconds s.wish.interval) from to)
-  pub integrity : Has conditions INTEGRITY
-      ↔ ((s.wish.status ≡ true) × Has s.wish.conditions INTEGRITY
+  pub integrity : HasCondition conditions INTEGRITY
+      ↔ ((s.wish.status ≡ true) × HasCondition s.wish.conditions INTEGRITY
       × PassesMultiple s.base (milliseconds s.wish.integrity) from to)
-  pub change : Has conditions CHANGE
-      ↔ ((s.wish.status ≡ true) × Has s.wish.conditions CHANGE
+  pub change : HasCondition conditions CHANGE
+      ↔ ((s.wish.status ≡ true) × HasCondition s.wish.conditions CHANGE
       × HasWaited s.noted (milliseconds s.wish.buffer) to)
   pub no_others : (conditions % CHANGE ≡ 0) × (conditions < 256)
 
 -- what the first conditions have, the second have too
 pub record HasConditions (conditions more : ℕ) : Type 0 where
-  pub interval : Has conditions INTERVAL → Has more INTERVAL
-  pub integrity : Has conditions INTEGRITY → Has more INTEGRITY
-  pub change : Has conditions CHANGE → Has more CHANGE
+  pub interval : HasCondition conditions INTERVAL → HasCondition more INTERVAL
+  pub integrity : HasCondition conditions INTEGRITY → HasCondition more INTEGRITY
+  pub change : HasCondition conditions CHANGE → HasCondition more CHANGE
 
 -- the next moment after another at which something is due, and at none between
 pub record IsNextDue (s : SlotState) (from to : ℕ) : Type 0 where

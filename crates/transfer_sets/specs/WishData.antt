@@ -33,7 +33,7 @@ abbrev pub IsAnyNumber : Datum → Type 0
 IsAnyNumber d = ((z : ℤ) × (d ≡ integer z)) ⊎ ((n : ℕ) × (d ≡ unsigned n))
 
 -- A datum has the form of a wish with these components.
-pub record IsForm (d : Datum) (p : WishParts) : Type 0 where
+pub record IsWishForm (d : Datum) (p : WishParts) : Type 0 where
   pub scope : Datum
   pub number : IsAnyNumber scope
   pub spelled : d ≡ structure (data_of (components scope p))

@@ -5,8 +5,8 @@ use Rattle.transfer_sets.specs.declared.wish.Wish.{Wish}
 use Rattle.transfer_sets.specs.declared.wish.TheConstants.{INTERVAL, INTEGRITY, NUMBER_LIMIT}
 
 -- conditions are a sum of powers of two, and have this one
-abbrev pub Has : ℕ → ℕ → Type 0
-Has conditions condition = conditions / condition % 2 ≡ 1
+abbrev pub HasCondition : ℕ → ℕ → Type 0
+HasCondition conditions condition = conditions / condition % 2 ≡ 1
 
 abbrev pub has : ℕ → ℕ → Bool
 has conditions condition = conditions / condition % 2 == 1

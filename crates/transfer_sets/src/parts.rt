@@ -1,7 +1,7 @@
 //! The components of a wish as data.
 ghost use Rattle.std.specs.Prelude.{◌≡◌};
 ghost use Rattle.std.specs.Option.{option_copied};
-ghost use Rattle.point_data.specs.Parts.{members_in};
+ghost use Rattle.point_data.specs.Parts.{structure_members};
 ghost use Rattle.transfer_sets.specs.Components.{integer_at, boolean_at, conditions_at, text_at};
 ghost use Rattle.transfer_sets.specs.Components.{is_scope_at, set_in, numbers_in, switches_in};
 ghost use Rattle.transfer_sets.specs.Components.{is_shaped};
@@ -45,7 +45,7 @@ pub struct Switches {
 
 /// The members of a structure; none of other data.
 pub(crate) fn members_of(value: &MmsData) -> &[MmsData]
-    ensures { result.now ≡ members_in value.now }
+    ensures { result.now ≡ structure_members value.now }
 {
     match value.kind() {
         DataKind::Structure(members) => members.as_slice(),

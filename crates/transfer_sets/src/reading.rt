@@ -3,7 +3,7 @@ ghost use Rattle.std.specs.Prelude.{◌≡◌, ◌↔◌, Ok, Err, IfOk};
 ghost use Rattle.transfer_sets.specs.declared.wish.Wish.{Wish as WishSeen};
 ghost use Rattle.transfer_sets.specs.declared.wish.WishFault.TheVariants as faults;
 ghost use Rattle.transfer_sets.specs.Wishes.{IsWish};
-ghost use Rattle.transfer_sets.specs.WishData.{WishParts, IsForm, AreRanged, wish_of};
+ghost use Rattle.transfer_sets.specs.WishData.{WishParts, IsWishForm, AreRanged, wish_of};
 ghost use Rattle.transfer_sets.specs.Components.{wish_in};
 
 use crate::parts::{
@@ -17,11 +17,11 @@ use std::alloc::AllocError;
 /// integer, and of the conditions the first five bits count.
 pub fn read_wish(value: &MmsData) -> Result<Result<Wish, WishFault>, AllocError>
     ensures wish { (w : WishSeen) → IfOk result (λ read. (read ≡ Ok w)
-        ↔ ((p : WishParts) × IsForm value.now p × AreRanged p.numbers × (w ≡ wish_of p))) }
+        ↔ ((p : WishParts) × IsWishForm value.now p × AreRanged p.numbers × (w ≡ wish_of p))) }
     ensures form { IfOk result (λ read. (read ≡ Err faults.Form)
-        ↔ ((p : WishParts) → ¬ IsForm value.now p)) }
+        ↔ ((p : WishParts) → ¬ IsWishForm value.now p)) }
     ensures range { IfOk result (λ read. (read ≡ Err faults.Range)
-        ↔ ((p : WishParts) × IsForm value.now p × ¬ AreRanged p.numbers)) }
+        ↔ ((p : WishParts) × IsWishForm value.now p × ¬ AreRanged p.numbers)) }
     ensures lawful { IfOk result (λ read. IfOk read (λ w. IsWish w)) }
     ensures exact { IfOk result (λ read. read ≡ wish_in value.now) }
 {

@@ -5,7 +5,7 @@ ghost use Rattle.transfer_sets.specs.SlotState.{new_slot, with_status, enabled_b
 ghost use Rattle.transfer_sets.specs.SlotMoves.{SlotMove, handed_out, wishes, changes, reports};
 ghost use Rattle.transfer_sets.specs.SlotMoves.{last_wish, slot_in, FollowsMoves};
 ghost use Rattle.transfer_sets.specs.Due.{PassesMultiple, HasWaited, AreDue};
-ghost use Rattle.transfer_sets.specs.Wishes.{Has};
+ghost use Rattle.transfer_sets.specs.Wishes.{HasCondition};
 
 use crate::wish::{CHANGE, INTEGRITY, INTERVAL, Wish, base_of, has};
 use ber_values::Visible;
@@ -182,9 +182,9 @@ fn has_waited(noted: Option<u64>, buffer: u64, to: u64) -> bool
 
 /// The sum of the conditions that hold.
 fn sum_of(interval: bool, integrity: bool, change: bool) -> u8
-    ensures interval { Has result INTERVAL ↔ IsTrue interval }
-    ensures integrity { Has result INTEGRITY ↔ IsTrue integrity }
-    ensures change { Has result CHANGE ↔ IsTrue change }
+    ensures interval { HasCondition result INTERVAL ↔ IsTrue interval }
+    ensures integrity { HasCondition result INTEGRITY ↔ IsTrue integrity }
+    ensures change { HasCondition result CHANGE ↔ IsTrue change }
     ensures no_others { (result % CHANGE ≡ 0) × (result < 256) }
 {
     let first = if interval { INTERVAL } else { 0 };

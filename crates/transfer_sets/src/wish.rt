@@ -1,6 +1,6 @@
 //! What a peer wishes of a transfer set.
 ghost use Rattle.std.specs.Prelude.{◌≡◌, ◌<◌, ◌↔◌, IsTrue};
-ghost use Rattle.transfer_sets.specs.Wishes.{Has, may_enable, base_of};
+ghost use Rattle.transfer_sets.specs.Wishes.{HasCondition, may_enable, base_of};
 
 use ber_values::Visible;
 use std::alloc::AllocError;
@@ -94,7 +94,7 @@ impl Clone for Wish {
 /// Whether conditions have this one, which is one of the five.
 pub(crate) fn has(conditions: u8, condition: u8) -> bool
     requires { 0 < condition }
-    ensures { IsTrue result ↔ Has conditions condition }
+    ensures { IsTrue result ↔ HasCondition conditions condition }
 {
     conditions / condition % 2 == 1
 }

@@ -6,8 +6,10 @@ ghost use Rattle.mms_data.specs.ObjectName.{IsScope, IsIdentifier};
 ghost use Rattle.mms_text.specs.NameIn.{identifier_in};
 ghost use Rattle.event_text.specs.CallWords.{SpellsCall, after_words};
 ghost use Rattle.event_text.specs.Breaks.{Breaks};
-ghost use Rattle.event_text.specs.Verbs.{Halts, Then, NoWord, AtMostOne, IsClassWord, IsScopeWord};
-ghost use Rattle.event_text.specs.Verbs.{IsAfterWord, IsOddKind, IsOddCode, class_in, scope_in};
+ghost use Rattle.event_text.specs.Verbs.{HaltsAtWords, Then, NoWord, AtMostOne, IsClassWord};
+ghost use Rattle.event_text.specs.Verbs.{IsScopeWord};
+ghost use Rattle.event_text.specs.Verbs.{IsAfterWord, IsOddKind, IsOddCode, class_in};
+ghost use Rattle.event_text.specs.Verbs.{scope_word_in};
 ghost use Rattle.event_text.specs.Verbs.{bare_scope_in, odd_kind_in, IsScopeAfter};
 ghost use Rattle.event_text.specs.Verbs as own;
 
@@ -21,9 +23,9 @@ use tase_views::{Call, CallKind};
 /// `CLASS SCOPE` or `CLASS SCOPE AFTER` behind `names`.
 pub(crate) fn read_name_list(alloc: Global, text: &[u8]) -> Result<Call, Halt>
     ensures found { IfOk result (λ call. SpellsCall (codes "names" ∷ words text.now) call) }
-    ensures fault { IfErr result (λ halt. Halts halt (λ count. Breaks
+    ensures fault { IfErr result (λ halt. HaltsAtWords halt (λ count. Breaks
         (Then IsClassWord (Then IsScopeWord (AtMostOne IsAfterWord))) (words text.now) count)) }
-    ensures within { IfErr result (λ halt. Halts halt (λ count. count ≤ length text.now)) }
+    ensures within { IfErr result (λ halt. HaltsAtWords halt (λ count. count ≤ length text.now)) }
 {
     let Some((word, rest)) = next_word(text) else {
         return Err(Halt::Bad(0));
@@ -43,7 +45,7 @@ pub(crate) fn read_name_list(alloc: Global, text: &[u8]) -> Result<Call, Halt>
 
 /// The same fault one word further on.
 pub(crate) fn one_more(halt: Halt, text: &[u8]) -> Halt
-    requires { Halts halt (λ count. count ≤ length text.now) }
+    requires { HaltsAtWords halt (λ count. count ≤ length text.now) }
     ensures { result ≡ own.one_more halt }
 {
     match halt {
@@ -62,9 +64,9 @@ fn read_class(word: &[u8]) -> Option<i64>
 /// `SCOPE` or `SCOPE AFTER`.
 fn read_scope_after(alloc: Global, text: &[u8]) -> Result<(Scope, Option<Visible>), Halt>
     ensures found { IfOk result (λ x. IsScopeAfter (words text.now) x.0 x.1) }
-    ensures fault { IfErr result (λ halt. Halts halt (λ count. Breaks
+    ensures fault { IfErr result (λ halt. HaltsAtWords halt (λ count. Breaks
         (Then IsScopeWord (AtMostOne IsAfterWord)) (words text.now) count)) }
-    ensures within { IfErr result (λ halt. Halts halt (λ count. count ≤ length text.now)) }
+    ensures within { IfErr result (λ halt. HaltsAtWords halt (λ count. count ≤ length text.now)) }
 {
     let Some((word, rest)) = next_word(text) else {
         return Err(Halt::Bad(0));
@@ -82,9 +84,9 @@ fn read_scope_after(alloc: Global, text: &[u8]) -> Result<(Scope, Option<Visible
 fn read_after(alloc: Global, text: &[u8]) -> Result<Option<Visible>, Halt>
     ensures found { IfOk result (λ after. words text.now ≡ after_words after) }
     ensures named { IfOk result (λ after. IfSome after IsIdentifier) }
-    ensures fault { IfErr result (λ halt. Halts halt
+    ensures fault { IfErr result (λ halt. HaltsAtWords halt
         (λ count. Breaks (AtMostOne IsAfterWord) (words text.now) count)) }
-    ensures within { IfErr result (λ halt. Halts halt (λ count. count ≤ length text.now)) }
+    ensures within { IfErr result (λ halt. HaltsAtWords halt (λ count. count ≤ length text.now)) }
 {
     let Some((word, rest)) = next_word(text) else {
         return Ok(None);
@@ -100,7 +102,7 @@ fn read_after(alloc: Global, text: &[u8]) -> Result<Option<Visible>, Halt>
 
 /// The scope that a word is.
 fn read_scope(alloc: Global, word: &[u8]) -> Result<Option<Scope>, AllocError>
-    ensures exact { IfOk result (λ scope. scope ≡ scope_in word.now) }
+    ensures exact { IfOk result (λ scope. scope ≡ scope_word_in word.now) }
     ensures named { IfOk result (λ scope. IfSome scope IsScope) }
 {
     match word {
@@ -140,9 +142,9 @@ fn read_identifier(alloc: Global, word: &[u8]) -> Result<Option<Visible>, AllocE
 /// `KIND CODE` behind `odd`: `1 1` or `5 1`.
 pub(crate) fn read_odd(text: &[u8]) -> Result<Call, Halt>
     ensures found { IfOk result (λ call. SpellsCall (codes "odd" ∷ words text.now) call) }
-    ensures fault { IfErr result (λ halt. Halts halt
+    ensures fault { IfErr result (λ halt. HaltsAtWords halt
         (λ count. Breaks (Then IsOddKind (Then IsOddCode NoWord)) (words text.now) count)) }
-    ensures within { IfErr result (λ halt. Halts halt (λ count. count ≤ length text.now)) }
+    ensures within { IfErr result (λ halt. HaltsAtWords halt (λ count. count ≤ length text.now)) }
 {
     let Some((word, rest)) = next_word(text) else {
         return Err(Halt::Bad(0));
@@ -172,9 +174,9 @@ fn read_kind(word: &[u8]) -> Option<u8>
 /// `1`, and nothing behind it.
 fn read_code(text: &[u8]) -> Result<(), Halt>
     ensures found { OnOk result (words text.now ≡ codes "1" ∷ []) }
-    ensures fault { IfErr result (λ halt. Halts halt
+    ensures fault { IfErr result (λ halt. HaltsAtWords halt
         (λ count. Breaks (Then IsOddCode NoWord) (words text.now) count)) }
-    ensures within { IfErr result (λ halt. Halts halt (λ count. count ≤ length text.now)) }
+    ensures within { IfErr result (λ halt. HaltsAtWords halt (λ count. count ≤ length text.now)) }
 {
     let Some((word, rest)) = next_word(text) else {
         return Err(Halt::Bad(0));

@@ -8,7 +8,7 @@ ghost use Rattle.mms_data.specs.Datum.{Datum};
 ghost use Rattle.mms_data.specs.ObjectName.{ObjectName, IsName};
 ghost use Rattle.mms_text.specs.Texts.{name_text};
 ghost use Rattle.event_text.specs.Breaks.{Breaks};
-ghost use Rattle.event_text.specs.Verbs.{Halts, OneOrMore, IsNameWord, IsAssignedWord};
+ghost use Rattle.event_text.specs.Verbs.{HaltsAtWords, OneOrMore, IsNameWord, IsAssignedWord};
 ghost use Rattle.event_text.specs.Assigned.{equals_in, IsAssignment, AreAssignments, AreParts};
 
 use crate::reading::halt::Halt;
@@ -23,9 +23,9 @@ pub(crate) fn read_names(alloc: Global, text: &[u8]) -> Result<Names, Halt>
     ensures found { IfOk result (λ names. (words text.now ≡ map name_text names)
         × All IsName names) }
     ensures some { IfOk result (λ names. 0 < length names) }
-    ensures fault { IfErr result (λ halt. Halts halt
+    ensures fault { IfErr result (λ halt. HaltsAtWords halt
         (λ count. Breaks (OneOrMore IsNameWord) (words text.now) count)) }
-    ensures within { IfErr result (λ halt. Halts halt (λ count. count ≤ length text.now)) }
+    ensures within { IfErr result (λ halt. HaltsAtWords halt (λ count. count ≤ length text.now)) }
 {
     let mut names = Names::new(alloc);
     let mut rest = text;
@@ -60,9 +60,9 @@ pub(crate) struct Assignments {
 pub(crate) fn read_assignments(alloc: Global, text: &[u8]) -> Result<Assignments, Halt>
     ensures found { IfOk result (λ a. AreAssignments (words text.now) a.names a.values) }
     ensures some { IfOk result (λ a. 0 < length a.names) }
-    ensures fault { IfErr result (λ halt. Halts halt
+    ensures fault { IfErr result (λ halt. HaltsAtWords halt
         (λ count. Breaks (OneOrMore IsAssignedWord) (words text.now) count)) }
-    ensures within { IfErr result (λ halt. Halts halt (λ count. count ≤ length text.now)) }
+    ensures within { IfErr result (λ halt. HaltsAtWords halt (λ count. count ≤ length text.now)) }
 {
     let mut names = Names::new(alloc);
     let mut values = Values::new(alloc);

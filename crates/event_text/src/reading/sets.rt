@@ -1,5 +1,6 @@
 //! The parts of calls of data sets.
-ghost use Rattle.std.specs.Prelude.{◌≡◌, ◌∷◌, ◌<◌, ◌≤◌, [], length, map, codes, IfOk, IfErr, IfSome};
+ghost use Rattle.std.specs.Prelude.{◌≡◌, ◌∷◌, ◌<◌, ◌≤◌, [], length, map, codes, IfOk, IfErr};
+ghost use Rattle.std.specs.Prelude.{IfSome};
 ghost use Rattle.std.specs.Prelude.{IsTrue, is_some};
 ghost use Rattle.std.specs.List.{All};
 ghost use Rattle.plain_text.specs.Words.{words};
@@ -11,7 +12,8 @@ ghost use Rattle.mms_text.specs.TextRead.{HasText};
 ghost use Rattle.event_text.specs.Assigned.{IsValue};
 ghost use Rattle.event_text.specs.CallWords.{SpellsCall};
 ghost use Rattle.event_text.specs.Breaks.{Breaks};
-ghost use Rattle.event_text.specs.Verbs.{Halts, Then, NoWord, OneOrMore, IsNameWord, IsValueWord};
+ghost use Rattle.event_text.specs.Verbs.{HaltsAtWords, Then, NoWord, OneOrMore, IsNameWord};
+ghost use Rattle.event_text.specs.Verbs.{IsValueWord};
 ghost use Rattle.event_text.specs.Verbs.{IsDeletionWord, deletion_in};
 
 use crate::reading::halt::Halt;
@@ -27,9 +29,9 @@ use tase_views::{Call, CallKind, Values};
 pub(crate) fn read_sole_name(alloc: Global, text: &[u8]) -> Result<Name, Halt>
     ensures found { IfOk result (λ name. words text.now ≡ name_text name ∷ []) }
     ensures named { IfOk result IsName }
-    ensures fault { IfErr result (λ halt. Halts halt
+    ensures fault { IfErr result (λ halt. HaltsAtWords halt
         (λ count. Breaks (Then IsNameWord NoWord) (words text.now) count)) }
-    ensures within { IfErr result (λ halt. Halts halt (λ count. count ≤ length text.now)) }
+    ensures within { IfErr result (λ halt. HaltsAtWords halt (λ count. count ≤ length text.now)) }
 {
     let Some((word, rest)) = next_word(text) else {
         return Err(Halt::Bad(0));
@@ -46,9 +48,9 @@ pub(crate) fn read_sole_name(alloc: Global, text: &[u8]) -> Result<Name, Halt>
 /// `NAME MEMBER ..` behind `define`.
 pub(crate) fn read_define(alloc: Global, text: &[u8]) -> Result<Call, Halt>
     ensures found { IfOk result (λ call. SpellsCall (codes "define" ∷ words text.now) call) }
-    ensures fault { IfErr result (λ halt. Halts halt
+    ensures fault { IfErr result (λ halt. HaltsAtWords halt
         (λ count. Breaks (Then IsNameWord (OneOrMore IsNameWord)) (words text.now) count)) }
-    ensures within { IfErr result (λ halt. Halts halt (λ count. count ≤ length text.now)) }
+    ensures within { IfErr result (λ halt. HaltsAtWords halt (λ count. count ≤ length text.now)) }
 {
     let Some((word, rest)) = next_word(text) else {
         return Err(Halt::Bad(0));
@@ -65,9 +67,9 @@ pub(crate) fn read_define(alloc: Global, text: &[u8]) -> Result<Call, Halt>
 /// `NAME DATA ..` behind `writeset`.
 pub(crate) fn read_write_set(alloc: Global, text: &[u8]) -> Result<Call, Halt>
     ensures found { IfOk result (λ call. SpellsCall (codes "writeset" ∷ words text.now) call) }
-    ensures fault { IfErr result (λ halt. Halts halt
+    ensures fault { IfErr result (λ halt. HaltsAtWords halt
         (λ count. Breaks (Then IsNameWord (OneOrMore IsValueWord)) (words text.now) count)) }
-    ensures within { IfErr result (λ halt. Halts halt (λ count. count ≤ length text.now)) }
+    ensures within { IfErr result (λ halt. HaltsAtWords halt (λ count. count ≤ length text.now)) }
 {
     let Some((word, rest)) = next_word(text) else {
         return Err(Halt::Bad(0));
@@ -87,9 +89,9 @@ fn read_values(alloc: Global, text: &[u8]) -> Result<Values, Halt>
     ensures lawful { IfOk result (All IsLawful) }
     ensures textual { IfOk result (All HasText) }
     ensures some { IfOk result (λ values. 0 < length values) }
-    ensures fault { IfErr result (λ halt. Halts halt
+    ensures fault { IfErr result (λ halt. HaltsAtWords halt
         (λ count. Breaks (OneOrMore IsValueWord) (words text.now) count)) }
-    ensures within { IfErr result (λ halt. Halts halt (λ count. count ≤ length text.now)) }
+    ensures within { IfErr result (λ halt. HaltsAtWords halt (λ count. count ≤ length text.now)) }
 {
     let mut values = Values::new(alloc);
     let mut rest = text;
@@ -121,9 +123,9 @@ fn read_datum(alloc: Global, word: &[u8]) -> Result<Option<MmsData>, AllocError>
 /// `SCOPE` behind `deletescope`.
 pub(crate) fn read_delete_scope(text: &[u8]) -> Result<Call, Halt>
     ensures found { IfOk result (λ call. SpellsCall (codes "deletescope" ∷ words text.now) call) }
-    ensures fault { IfErr result (λ halt. Halts halt
+    ensures fault { IfErr result (λ halt. HaltsAtWords halt
         (λ count. Breaks (Then IsDeletionWord NoWord) (words text.now) count)) }
-    ensures within { IfErr result (λ halt. Halts halt (λ count. count ≤ length text.now)) }
+    ensures within { IfErr result (λ halt. HaltsAtWords halt (λ count. count ≤ length text.now)) }
 {
     let Some((word, rest)) = next_word(text) else {
         return Err(Halt::Bad(0));

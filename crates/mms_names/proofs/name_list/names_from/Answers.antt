@@ -2,12 +2,12 @@ use Rattle.std.proofs.Common.{arith}
 use Rattle.std.proofs.lemmas.Result.{err_from_is_err_and}
 use Rattle.ber_values.proofs.Lists.{some_left, none_left, members-begin, members-more}
 use Rattle.ber_values.proofs.Lists.{members-stop, members-end}
-use Rattle.mms_names.specs.NameLists.{listed}
+use Rattle.mms_names.specs.NameLists.{listed_name}
 use Rattle.mms_names.proofs.name_list.names_from.Goals as goal
 
 pub loop-rest-init : goal.loop-rest-init
 loop-rest-init c = rw c.new-names.ensures
-    (members-begin listed 0 c.args.part.now.head
+    (members-begin listed_name 0 c.args.part.now.head
     c.args.part.now.contents.now c.requires)
 
 pub returns-in_err-one : goal.returns-in_err-one

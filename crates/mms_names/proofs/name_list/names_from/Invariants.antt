@@ -2,12 +2,12 @@
 use Rattle.std.proofs.Common.{length}
 use Rattle.ber_values.specs.Lists.{list_in}
 use Rattle.ber_values.proofs.Lists.{MembersSoFar}
-use Rattle.mms_names.specs.NameLists.{listed}
+use Rattle.mms_names.specs.NameLists.{listed_name}
 use Rattle.mms_names.proofs.name_list.names_from.Given as goal
 
 abbrev pub invariant-loop-rest : goal.invariant-loop-rest
-invariant-loop-rest l = MembersSoFar listed 0 (length l.part.contents.now) l.names l.at l.rest
-    ((list_in 0 listed).reading l.part.head l.part.contents.now)
+invariant-loop-rest l = MembersSoFar listed_name 0 (length l.part.contents.now) l.names l.at l.rest
+    ((list_in 0 listed_name).reading l.part.head l.part.contents.now)
 
 abbrev pub decreases-loop-rest : goal.decreases-loop-rest
 decreases-loop-rest l = length l.rest

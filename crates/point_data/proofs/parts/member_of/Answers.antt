@@ -1,7 +1,7 @@
 use Rattle.std.proofs.Common.{◌∙◌, sym, ap}
 use Rattle.std.specs.List.{slice_get}
 use Rattle.mms_data.specs.DatumOf.{datum_of}
-use Rattle.point_data.specs.Parts.{members_in}
+use Rattle.point_data.specs.Parts.{structure_members}
 use Rattle.point_data.proofs.Members.{list_of-data_of}
 use Rattle.point_data.proofs.parts.member_of.Goals as goal
 
@@ -9,5 +9,5 @@ pub returns-in-Structure : goal.returns-in-Structure
 returns-in-Structure c =
     c.get.ensures
     ∙ ap (λ ds. slice_get ds c.args.place)
-    (sym (ap members_in (c.kind.ensures ∙ ap datum_of c.in-Structure.is)
+    (sym (ap structure_members (c.kind.ensures ∙ ap datum_of c.in-Structure.is)
     ∙ list_of-data_of c.in-Structure.members))

@@ -3,7 +3,7 @@ use Rattle.ber_values.specs.Lengths.{part_size}
 use Rattle.ber_values.specs.Writing.{head_octets}
 use Rattle.ber_values.proofs.Capped.{element-few, part_size-most}
 use Rattle.presentation_profile.proofs.Sizes.{mode-sized}
-use Rattle.presentation_profile.specs.Written.{mode_octets, front_octets}
+use Rattle.presentation_profile.specs.Written.{mode_octets, ppdu_front_octets}
 use Rattle.presentation_profile.proofs.ppdu.put_front.Goals as goal
 
 pub write_head-requires-clause-bounded : goal.write_head-requires-clause-bounded
@@ -11,7 +11,7 @@ write_head-requires-clause-bounded c =
     omega (arith, element-few c.args.len c.part_len.result c.part_len.ensures, c.requires)
 
 pub returns-clause-ok : goal.returns-clause-ok
-unfolding front_octets
+unfolding ppdu_front_octets
 returns-clause-ok c =
     let old = c.args.out.now.items in
     let head = head_octets 49 (length mode_octets + part_size c.args.len) in

@@ -1,9 +1,9 @@
 use Rattle.presentation_profile.proofs.Sizes.{set_up-written}
-use Rattle.presentation_profile.specs.Written.{connect_octets}
+use Rattle.presentation_profile.specs.Written.{connect_ppdu_octets}
 use Rattle.presentation_profile.proofs.ppdu.put_whole_connect.Goals as goal
 
 pub returns-clause-ok : goal.returns-clause-ok
 returns-clause-ok c =
     set_up-written c.connect_len.result c.args.out.now.items c.put_front.new.out.items
-    c.put_connect.new.out.items (connect_octets c.args.called.now c.args.contexts.now c.args.id c.args.body.now)
+    c.put_connect.new.out.items (connect_ppdu_octets c.args.called.now c.args.contexts.now c.args.id c.args.body.now)
     c.connect_len.ensures.value c.in_ok-put_front.ensures.ok c.in_ok-put_connect.ensures.ok

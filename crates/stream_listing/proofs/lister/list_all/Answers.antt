@@ -7,7 +7,7 @@ use Rattle.tpkt_cotp.specs.Goings.{HandsOut}
 use Rattle.stack_messages.specs.declared.fault.StackFault.{StackFault}
 use Rattle.stream_listing.specs.Lines.{fault_line}
 use Rattle.stream_listing.specs.Hearing.{told_in}
-use Rattle.stream_listing.specs.Listings.{state, transport_fault, IsListed}
+use Rattle.stream_listing.specs.Listings.{state, listed_transport_fault, IsListed}
 use Rattle.stream_listing.proofs.Listing.{lists_then, lists_message, lists_fault}
 use Rattle.stream_listing.proofs.lister.list_all.Goals as goal
 

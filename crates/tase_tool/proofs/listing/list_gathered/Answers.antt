@@ -2,7 +2,7 @@ use Rattle.std.proofs.Common.{false, sym, subst}
 use Rattle.outside.specs.Sink.{AppendsPart}
 use Rattle.outside.specs.Buffered.{buffered_told, Finishes}
 use Rattle.outside.proofs.Writing.{AppendsPart-none}
-use Rattle.command_io.specs.Runs.{Tells}
+use Rattle.command_io.specs.Runs.{TellsSaid}
 use Rattle.command_io.specs.declared.status.Status.TheVariants.{Outside}
 use Rattle.stream_listing.specs.Listings.{listing_of}
 use Rattle.tase_tool.specs.Listing.{listing_said}
@@ -19,11 +19,11 @@ returns-in-Err g c =
 pub returns-in-Outside : goal.returns-in-Outside
 returns-in-Outside g c =
     let said = listing_said (listing_of c.args.pieces) in
-    subst (λ s. Tells said (g.K.Sink.told c.args.sink) (g.K.Sink.told s) Outside)
+    subst (λ s. TellsSaid said (g.K.Sink.told c.args.sink) (g.K.Sink.told s) Outside)
     (sym c.into_sink.ensures)
     (Tells-failed (g.K.Sink.told c.args.sink) (g.K.Sink.told c.print_listing.new.sink.0)
     (g.K.Sink.told c.print_listing.new.sink.0) c.print_listing.new.sink.1 c.requires said
-    (subst (λ s. Tells said (buffered_told (g.K.Sink.told s.0) s.1)
+    (subst (λ s. TellsSaid said (buffered_told (g.K.Sink.told s.0) s.1)
     (buffered_told (g.K.Sink.told c.print_listing.new.sink.0) c.print_listing.new.sink.1) Outside)
     c.in-Ok.ensures.ok c.in-Outside.ensures))
 
@@ -33,7 +33,7 @@ returns-in_default-Ok g c =
     Tells-handed (g.K.Sink.told c.args.sink) (g.K.Sink.told c.print_listing.new.sink.0)
     (g.K.Sink.told c.finish.result.0) c.print_listing.new.sink.1 c.requires
     said c.print_listing.result c.in_default.not-Outside
-    (subst (λ s. Tells said (buffered_told (g.K.Sink.told s.0) s.1)
+    (subst (λ s. TellsSaid said (buffered_told (g.K.Sink.told s.0) s.1)
     (buffered_told (g.K.Sink.told c.print_listing.new.sink.0) c.print_listing.new.sink.1)
     c.print_listing.result)
     c.in-Ok.ensures.ok c.print_listing.ensures)
@@ -47,7 +47,7 @@ returns-in_default-Err g c =
     Tells-unhanded (g.K.Sink.told c.args.sink) (g.K.Sink.told c.print_listing.new.sink.0)
     (g.K.Sink.told c.finish.result.0) c.print_listing.new.sink.1 c.requires
     said c.print_listing.result c.in_default-Err.field-0-1 c.in_default.not-Outside
-    (subst (λ s. Tells said (buffered_told (g.K.Sink.told s.0) s.1)
+    (subst (λ s. TellsSaid said (buffered_told (g.K.Sink.told s.0) s.1)
     (buffered_told (g.K.Sink.told c.print_listing.new.sink.0) c.print_listing.new.sink.1)
     c.print_listing.result)
     c.in-Ok.ensures.ok c.print_listing.ensures)

@@ -1,6 +1,6 @@
 use Rattle.std.proofs.Common.{◌≤◌, length, arith}
 use Rattle.tpkt_cotp.specs.Sound.{IsSoundTpdu}
-use Rattle.tpkt_cotp.specs.Streams.{Fits}
+use Rattle.tpkt_cotp.specs.Streams.{MayComeAfter}
 use Rattle.tpkt_cotp.specs.Tpdus.{Tpkt}
 use Rattle.tpkt_cotp.proofs.Cuts.{sound_of}
 use Rattle.tpkt_cotp.proofs.ReadTpkt.{whole_of, cut_of, within_of}
@@ -17,7 +17,7 @@ returns-clause-sound c = whole_of (λ (p : Tpkt). IsSoundTpdu p.tpdu) c.read_fro
     (λ p b. sound_of p.tpdu b.spelling b.spelled)
 
 pub returns-clause-fits : goal.returns-clause-fits
-returns-clause-fits c = whole_of (λ (p : Tpkt). Fits c.args.total p.tpdu) c.read_front.result
+returns-clause-fits c = whole_of (λ (p : Tpkt). MayComeAfter c.args.total p.tpdu) c.read_front.result
     c.args.turn c.args.total c.args.octets.now c.read_front.ensures (λ p b. b.comes.fits)
 
 pub returns-clause-cut : goal.returns-clause-cut

@@ -4,7 +4,7 @@ use Rattle.std.proofs.lemmas.Result.{err_from_is_err_and}
 use Rattle.stack_messages.specs.declared.fault.StackFault.{StackFault}
 use Rattle.stack_assoc.specs.Knowing.{expecting_by}
 use Rattle.stack_assoc.specs.Taking.{owed_octets}
-use Rattle.stack_assoc.specs.Courses.{Course, Stands, Answers, is_offered, state_of}
+use Rattle.stack_assoc.specs.Courses.{Course, CourseStands, IsNextAnswer, is_offered, stack_state_of}
 use Rattle.stack_assoc.specs.Courses.{FollowsAnswer, fault_in}
 use Rattle.stack_assoc.specs.Steps.{left_of, told_with, told_answer}
 use Rattle.stack_assoc.proofs.Answered.{answered}
@@ -38,7 +38,7 @@ returns-clause-ok c = λ role octets told s.
     let came = c.in_ok-came.came in
     let said = c.in_ok-said.said in
     let right = c.args.out.now.items ++ owed_octets v.known.side v.owed v.setup.size v.title in
-    told_done (λ answer new written. Answers role octets told c.args.self.now
+    told_done (λ answer new written. IsNextAnswer role octets told c.args.self.now
     c.args.out.now.items answer new written) c.answer-done.result c.tell_once.result
     (told_answer came said) (answered v) c.answer-done.new.self c.tell_once.new.self (told_with came said)
     c.answer-done.new.out.items right c.answer-done.ensures.ok c.answer-done.ensures.out
@@ -66,14 +66,14 @@ returns-clause-shorter c =
 
 pub returns-clause-kept : goal.returns-clause-kept
 returns-clause-kept c = λ role octets told s.
-    kept_done (λ v. Stands role octets told v) c.answer-done.result c.tell_once.result
+    kept_done (λ v. CourseStands role octets told v) c.answer-done.result c.tell_once.result
     (told_answer c.in_ok-came.came c.in_ok-said.said) c.take.new.self c.answer-done.new.self
     c.tell_once.new.self c.tell_once.ensures.answer c.answer-done.ensures.err c.tell_once.ensures.same
     (c.in_ok-came.ensures.ok role octets told s).stands
 
 pub returns-clause-state : goal.returns-clause-state
 returns-clause-state c =
-    kept_done (λ v. state_of v ≡ state_of c.args.self.now) c.answer-done.result c.tell_once.result
+    kept_done (λ v. stack_state_of v ≡ stack_state_of c.args.self.now) c.answer-done.result c.tell_once.result
     (told_answer c.in_ok-came.came c.in_ok-said.said) c.take.new.self c.answer-done.new.self
     c.tell_once.new.self c.tell_once.ensures.answer c.answer-done.ensures.err c.tell_once.ensures.same
     (untold_state c.args.self.now c.take.new.self c.in_ok-came.ensures.untold)

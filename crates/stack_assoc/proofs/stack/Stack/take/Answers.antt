@@ -1,6 +1,6 @@
 use Rattle.std.proofs.Common.{sym, subst}
 use Rattle.std.proofs.lemmas.Result.{on_err_weaker}
-use Rattle.stack_assoc.specs.Courses.{Course, Stands}
+use Rattle.stack_assoc.specs.Courses.{Course, CourseStands}
 use Rattle.stack_assoc.proofs.Results.{if_ok_weaker}
 use Rattle.stack_assoc.proofs.StepsTaken.{begun, untold_then, fewer_then}
 use Rattle.stack_assoc.proofs.stack.Stack.take.Goals as goal
@@ -13,7 +13,7 @@ returns-in-Message-clause-ok c = λ role octets told s.
 pub returns-in-Message-clause-kept : goal.returns-in-Message-clause-kept
 returns-in-Message-clause-kept c = λ role octets told s.
     let t = rw c.in-Message.is at c.in_ok-came.ensures.ok role octets told s c.requires in
-    let P : Course → Type 0 = λ v. Stands role octets told v in
+    let P : Course → Type 0 = λ v. CourseStands role octets told v in
     on_err_weaker c.take_behind.result (λ same. subst P (sym same) t.stands) c.take_behind.ensures.err
 
 pub returns-in-Message-clause-untold : goal.returns-in-Message-clause-untold

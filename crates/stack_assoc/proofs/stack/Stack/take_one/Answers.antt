@@ -20,7 +20,7 @@ returns-in-Ok-Some-Connect-clause-ok c = λ role octets told s none.
     (λ given st.
     let P : Line → Type 0 = λ t. lines.Stands (end_of role) octets given t in
     let Q : Result (Option TransportIn) CotpFault → Type 0 = λ r.
-    lines.Answers (end_of role) octets given r c.next.new.self in
+    lines.IsTransportAnswer (end_of role) octets given r c.next.new.self in
     subst Q is (c.in_ok-fault.ensures.ok (end_of role) octets given
     (subst P (ap (λ (v : Course). v.line) (sym c.self.view_is)) st)))
     (c.open.ensures ∙ ap (λ (v : Course). opened_with
@@ -37,7 +37,7 @@ returns-in-Ok-Some-Connected-clause-ok c = λ role octets told s none.
     (λ given st.
     let P : Line → Type 0 = λ t. lines.Stands (end_of role) octets given t in
     let Q : Result (Option TransportIn) CotpFault → Type 0 = λ r.
-    lines.Answers (end_of role) octets given r c.next.new.self in
+    lines.IsTransportAnswer (end_of role) octets given r c.next.new.self in
     subst Q is (c.in_ok-fault.ensures.ok (end_of role) octets given
     (subst P (ap (λ (v : Course). v.line) (sym c.self.view_is)) st)))
     (c.open-in-Ok-Some-Connected.ensures ∙ ap (λ (v : Course). opened_with

@@ -1,7 +1,7 @@
 use Rattle.std.proofs.Common.{◌≡◌, ◌-◌, ◌≤◌, ℕ, List, None, length, take}
 use Rattle.tpkt_cotp.specs.declared.turn.Role.{Role}
 use Rattle.tpkt_cotp.specs.Streams.{Message}
-use Rattle.tpkt_cotp.specs.Lines.{Line, IsWithin, line_of, Reads, Stands, fed}
+use Rattle.tpkt_cotp.specs.Lines.{Line, IsWalkWithin, line_of, Reads, Stands, fed}
 use Rattle.tpkt_cotp.specs.Goings.{stream_of}
 use Rattle.tpkt_cotp.proofs.walk.Walk.next.Given as goal
 
@@ -16,7 +16,7 @@ pub record Keeps (old t : Line) : Type 0 where
 
 abbrev pub invariant-loop-message : goal.invariant-loop-message
 invariant-loop-message l = Keeps (line_of l.fn.self l.fn.part.items l.octets)
-    (line_of l.self l.part.items l.octets) × IsWithin l.self l.part.items l.octets
+    (line_of l.self l.part.items l.octets) × IsWalkWithin l.self l.part.items l.octets
     × (l.fn.self.passed ≤ l.self.passed)
 
 abbrev pub decreases-loop-message : goal.decreases-loop-message
