@@ -16,9 +16,9 @@ use Rattle.tase_map.specs.Readings.{Reading, reading_of}
 use Rattle.tase_map.specs.Turns.{Turn, offers, offers_badly, asks, concludes, releases, aborts}
 use Rattle.tase_map.specs.Turns.{breaks, ends, pauses, turns_told}
 use Rattle.tase_map.specs.Asks.{is_peers}
-use Rattle.tase_map.specs.Out.{octets_out, is_declined, early_octets, refusal_octets}
+use Rattle.tase_map.specs.Out.{octets_out, is_declined, early_octets}
 use Rattle.tase_map.specs.Sent.{sent}
-use Rattle.conn_service.specs.Linked.{opened_in, octets_by, link_octets}
+use Rattle.conn_service.specs.Linked.{opened_in, link_octets}
 
 -- an association is sent the same over the same own table and the same view
 sent-alike : (here there : CentreRows) (past other_past : Past) (key other : Key) (text : List ℕ)

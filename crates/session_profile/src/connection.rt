@@ -2,9 +2,8 @@
 ghost use Rattle.std.specs.Prelude.{◌≡◌, ℕ, ◌+◌, ◌-◌, ◌^◌, ◌<◌, ◌≤◌, ◌++◌, length, take};
 ghost use Rattle.std.specs.Prelude.{slice_index, IfOk, IfSome, OnOk, OnErr};
 ghost use Rattle.ber_values.specs.Faults.{Gives};
-ghost use Rattle.session_profile.specs.Parameters.{judged_by};
 ghost use Rattle.session_profile.specs.Rules.{all_parameters_in, sound_in, next_in, whole_or_short};
-ghost use Rattle.session_profile.specs.Connections.{has_second_bit, version_in, requirements_in};
+ghost use Rattle.session_profile.specs.Connections.{has_second_bit, version_in};
 ghost use Rattle.session_profile.specs.Connections.{item, judged, may_follow, with_one, connection};
 ghost use Rattle.ber_values.specs.declared.lengths.TheConstants.{MOST_BODY};
 ghost use Rattle.session_profile.specs.Writing.{calling, called_octets, called_and_data};

@@ -1,5 +1,5 @@
 //! Lengths (ISO 8327-1, length indicator).
-ghost use Rattle.std.specs.Prelude.{◌≡◌, ◌+◌, ◌^◌, ◌<◌, ◌≤◌, ◌++◌, length, take, IfOk, OnOk, OnErr};
+ghost use Rattle.std.specs.Prelude.{◌≡◌, ◌+◌, ◌^◌, ◌<◌, ◌++◌, length, take, IfOk, OnOk, OnErr};
 ghost use Rattle.ber_values.specs.Faults.{Gives};
 ghost use Rattle.ber_values.specs.Grammars.{taken};
 ghost use Rattle.ber_values.specs.Reading.{IsAfter};

@@ -4,7 +4,7 @@ ghost use Rattle.std.specs.Prelude.{◌≡◌, ◌+◌, ◌^◌, ◌<◌, ◌≤
 ghost use Rattle.std.specs.Prelude.{OnErr};
 ghost use Rattle.ber_values.specs.Faults.{Gives};
 ghost use Rattle.ber_values.specs.Leaves.{span_at};
-ghost use Rattle.session_profile.specs.Parameters.{parameter_in, sized_parameter_in, judged_by};
+ghost use Rattle.session_profile.specs.Parameters.{parameter_in, judged_by};
 ghost use Rattle.session_profile.specs.Parameters.{spdu_end_in};
 ghost use Rattle.session_profile.specs.Seen.{parameter_of, taken_parameter_of, IsParameterWithin};
 ghost use Rattle.session_profile.specs.Writing.{session_length_octets, element};

@@ -3,7 +3,6 @@ ghost use Rattle.std.specs.Prelude.{◌≡◌, ◌≢◌, ◌+◌, ◌^◌, ◌<
 ghost use Rattle.std.specs.Prelude.{ℕ, length, take, option_copied, IfOk, OnOk, OnErr, IfSome};
 ghost use Rattle.ber_values.specs.declared.lengths.TheConstants.{MOST_BODY};
 ghost use Rattle.ber_values.specs.Faults.{fault_at, Gives};
-ghost use Rattle.ber_values.specs.Leaves.{span_at};
 ghost use Rattle.ber_values.specs.Stops.{Answers};
 ghost use Rattle.session_profile.specs.declared.fault.SessionFault.{SessionFault};
 ghost use Rattle.session_profile.specs.declared.spdu.Spdu.{Spdu};

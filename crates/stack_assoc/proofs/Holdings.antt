@@ -1,5 +1,5 @@
 -- What an end holds of its stream.
-use Rattle.std.proofs.Common.{◌≡◌, ℕ, ◌+◌, ◌-◌, ◌≤◌, length, Option, Some, None, ap, arith}
+use Rattle.std.proofs.Common.{◌+◌, ◌-◌, ◌≤◌, length, Option, Some, None, ap, arith}
 use Rattle.tpkt_cotp.specs.declared.limits.TheConstants.{TSDU_LIMIT, TPKT_LIMIT, PIECE_LIMIT}
 use Rattle.tpkt_cotp.specs.Streams.{Message, asks, confirms, gone, tsdu}
 use Rattle.tpkt_cotp.specs.Lines.{Line, HoldsFew}

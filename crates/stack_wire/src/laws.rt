@@ -1,6 +1,5 @@
 //! What holds of all that is written.
-ghost use Rattle.std.specs.Prelude.{ℕ, ◌≤◌, ◌<◌, Option, List, length};
-ghost use Rattle.ber_values.specs.Oid.{IsOid};
+ghost use Rattle.std.specs.Prelude.{ℕ, ◌≤◌, Option, List};
 ghost use Rattle.acse_assoc.specs.Writing.{IsKeptTitle};
 ghost use Rattle.mms_services.specs.declared.initiate.Initiate.{Initiate};
 ghost use Rattle.mms_services.specs.declared.pdu.MmsPdu.{MmsPdu};

@@ -7,14 +7,14 @@ use Rattle.tpkt_cotp.specs.declared.message.TransportIn.{TransportIn}
 use Rattle.tpkt_cotp.specs.Streams.{Message, stream_place}
 use Rattle.tpkt_cotp.specs.Seen.{message_seen}
 use Rattle.tpkt_cotp.specs.Lines.{Line, fed_to, fed}
-use Rattle.tpkt_cotp.specs.Places.{Placed, End, Stream, stopped, left}
+use Rattle.tpkt_cotp.specs.Places.{Placed, End, Stream, left}
 use Rattle.tpkt_cotp.specs.Goings.{stream_of, HandsOut}
 use Rattle.stack_messages.specs.declared.fault.StackFault.{StackFault}
 use Rattle.stream_listing.specs.declared.hearing.ListedMessage.{ListedMessage}
 use Rattle.stream_listing.specs.Lines.{at_line, rest_line, fault_line}
 use Rattle.stream_listing.specs.Hearing.{told_in, either_of, context_told, context_of}
 use Rattle.stream_listing.specs.Listings.{Listing, with_text, broken_by, listed_transport_fault}
-use Rattle.stream_listing.specs.Listings.{end_listing, listed_before, list_after, listing_of, State}
+use Rattle.stream_listing.specs.Listings.{listed_before, list_after, State}
 use Rattle.stream_listing.specs.Listings.{list_from, yet_listed, Lists, ListsPiece, FinishesListing, state}
 use Rattle.stream_listing.specs.Listings.{IsAtRest, IsListed}
 

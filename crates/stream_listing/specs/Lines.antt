@@ -2,7 +2,7 @@
 use Rattle.std.specs.Prelude.{ℕ, List, [], ◌∷◌, ◌++◌, codes, decimal, ◌==◌, if◌then◌else◌}
 use Rattle.stack_messages.specs.declared.fault.StackFault.{StackFault}
 use Rattle.stream_listing.specs.declared.names.MessageName.{MessageName}
-use Rattle.stream_listing.specs.Names.{message_name_text, layer_name, why_name}
+use Rattle.stream_listing.specs.Names.{layer_name, why_name}
 
 -- `at PLACE NAME LENGTH`
 abbrev pub at_line : ℕ → MessageName → ℕ → List ℕ

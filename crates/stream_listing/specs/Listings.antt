@@ -1,7 +1,7 @@
 -- The listing of a captured stream.
 use Rattle.std.specs.Prelude.{◌≡◌, ℕ, ◌+◌, ◌-◌, length, Bool, true, false, if◌then◌else◌, List, []}
 use Rattle.std.specs.Prelude.{◌∷◌, ◌++◌}
-use Rattle.std.specs.Prelude.{Option, Some, None, Result, Ok, Err}
+use Rattle.std.specs.Prelude.{Option, Result, Ok, Err}
 use Rattle.tpkt_cotp.specs.declared.turn.Role.TheVariants.{Either}
 use Rattle.tpkt_cotp.specs.declared.fault.CotpFault.{CotpFault}
 use Rattle.tpkt_cotp.specs.Streams.{Message, stream_place}

@@ -17,7 +17,7 @@ use Rattle.conn_laws.specs.Serving.{AreOthers, with_event}
 use Rattle.conn_laws.proofs.Seats.{at_seat, event_here, others_none, others_seat}
 use Rattle.conn_service.specs.Attending.{HasTaken, IsRefused, with_closed}
 use Rattle.conn_service.specs.Linked.{peer_end}
-use Rattle.conn_service.specs.Sends.{HasEvents, close_of, IsSaidByEnd, IsFrontOf}
+use Rattle.conn_service.specs.Sends.{HasEvents, close_of, IsSaidByEnd}
 use Rattle.conn_service.proofs.Attended.{events_taken}
 
 -- all that its link asks

@@ -5,7 +5,6 @@ use Rattle.std.specs.Prelude.{if◌then◌else◌, ◌||◌}
 use Rattle.std.specs.List.{list_any}
 use Rattle.std.proofs.lemmas.Bool.{eq-eqb, eqb-true, false≢true}
 use Rattle.std.proofs.lemmas.List.{append-nil, reverse-reverse}
-use Rattle.std.proofs.lemmas.List.Folds.{list_any-append}
 use Rattle.plain_text.specs.Lines.{is_skipped}
 use Rattle.bilateral.specs.Rows.{CentreRows}
 use Rattle.tase_views.specs.Setup.{Setup}
@@ -28,7 +27,7 @@ use Rattle.tase_replay.specs.Play.{Step, Scene, Meaning, bad, with_taken, step_o
 use Rattle.tase_replay.specs.Play.{accepted, is_linked, is_unfit, received, behind_link, link_step}
 use Rattle.tase_replay.specs.Play.{scene_by, steps_by, means, scene_behind, steps_behind, has_ended}
 use Rattle.tase_replay.specs.Play.{ended_by}
-use Rattle.tase_replay.specs.AllSent.{Printed, octet, over, printed_end, printed_all, printed_to}
+use Rattle.tase_replay.specs.AllSent.{Printed, over, printed_all, printed_to}
 use Rattle.tase_replay.specs.AllSent.{SentBy, IsSentAll}
 use Rattle.tase_replay.specs.Standing.{GoesOn, is_over, AreSentIn, StaySent}
 use Rattle.tase_replay.proofs.Acted.{acted_still, said_whole}

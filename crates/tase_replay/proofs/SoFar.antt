@@ -21,13 +21,13 @@ use Rattle.tase_replay.specs.declared.playing.ReplayEnd.TheVariants.{Done, BadLi
 use Rattle.tase_replay.specs.declared.playing.ReplayEnd.TheVariants.{SinkFault, Memory}
 use Rattle.tase_replay.specs.Links.{Given, Asking, an_event, an_item, asking_in, items_of}
 use Rattle.tase_replay.specs.Play.{Step, Scene, Meaning, bad, gives, too_heavy, Played, done}
-use Rattle.tase_replay.specs.Play.{bad_line, history_full, Taken, steps_in, entries_in}
+use Rattle.tase_replay.specs.Play.{bad_line, history_full, Taken, steps_in}
 use Rattle.tase_replay.specs.Play.{Halt, through, stopped, full, refused}
 use Rattle.tase_replay.specs.Play.{Served, step_of, with_taken, meaning_of, is_linked}
 use Rattle.tase_replay.specs.Play.{is_unfit, served_item, linked_by, means, line_in}
 use Rattle.tase_replay.specs.Play.{play_line, ends_there, scene_by, steps_by, first_scene}
 use Rattle.tase_replay.specs.AllSent.{given_asked, given_by_line, given_by_lines, AreSentTo}
-use Rattle.tase_replay.specs.AllSent.{AreSentOver, AreSentSoFar, is_played_out}
+use Rattle.tase_replay.specs.AllSent.{AreSentSoFar, is_played_out}
 use Rattle.tase_replay.specs.Standing.{AreSentIn, StaySent}
 use Rattle.tase_replay.specs.Ends.{IsPlayed}
 use Rattle.tase_replay.proofs.Reached.{Reached, Reached-taken}

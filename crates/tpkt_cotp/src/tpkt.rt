@@ -1,5 +1,5 @@
 //! A TPKT and its TPDU at the front of the octets (RFC 1006, section 6; ISO 8073, 13).
-ghost use Rattle.std.specs.Prelude.{◌≡◌, ◌+◌, ◌-◌, ◌<◌, ◌≤◌, ◌^◌, length, IfOk, IfSome, IfNone};
+ghost use Rattle.std.specs.Prelude.{◌+◌, ◌-◌, ◌<◌, ◌≤◌, ◌^◌, length, IfOk, IfSome, IfNone};
 ghost use Rattle.tpkt_cotp.specs.declared.limits.TheConstants.{TPKT_LIMIT};
 ghost use Rattle.tpkt_cotp.specs.Readings.{GivesReading, tpkt_in, sized_in, tpdu_in, tpdu_body_in};
 ghost use Rattle.tpkt_cotp.specs.Readings.{connection_request_in};

@@ -1,9 +1,9 @@
 //! One TPKT after another over octets that have come, up to the end of a message.
-ghost use Rattle.std.specs.Prelude.{◌≡◌, ℕ, ◌+◌, ◌<◌, List, length, take, drop, IfOk, OnOk, OnErr};
+ghost use Rattle.std.specs.Prelude.{◌≡◌, ℕ, ◌+◌, ◌<◌, List, length, take, IfOk, OnErr};
 ghost use Rattle.std.specs.Prelude.{OnSome, IfSome, None, []};
 ghost use Rattle.tpkt_cotp.specs.declared.turn.Role.{Role};
 ghost use Rattle.tpkt_cotp.specs.Streams.{Message, stream_place};
-ghost use Rattle.tpkt_cotp.specs.Lines.{Line, IsWalkWithin, line_of, Stands, IsTransportAnswer};
+ghost use Rattle.tpkt_cotp.specs.Lines.{IsWalkWithin, line_of, Stands, IsTransportAnswer};
 ghost use Rattle.tpkt_cotp.specs.Steps.{Steps};
 ghost use Rattle.tpkt_cotp.specs.Goings.{HandsOut, KeepsStart};
 ghost use Rattle.tpkt_cotp.specs.Seen.{message_seen};

@@ -4,7 +4,7 @@ ghost use Rattle.std.specs.Prelude.{OnOk, OnErr, option_copied};
 ghost use Rattle.tpkt_cotp.specs.declared.limits.TheConstants.{SELECTOR_LIMIT, TSDU_LIMIT};
 ghost use Rattle.tpkt_cotp.specs.Selectors.{IsSelector};
 ghost use Rattle.tpkt_cotp.specs.Written.{connection_request_octets, size_octets, selector_octets};
-ghost use Rattle.tpkt_cotp.specs.Written.{answer_octets, confirm_head, confirm_octets, part_octets};
+ghost use Rattle.tpkt_cotp.specs.Written.{confirm_octets, part_octets};
 ghost use Rattle.tpkt_cotp.specs.Written.{IsCut, wire};
 
 use crate::selector::Selector;

@@ -1,12 +1,7 @@
-use Rattle.std.proofs.Common.{◌≡◌, ◌<◌, List, reverse, Bool, true, false, Option, Some, None, Ok}
-use Rattle.std.proofs.Common.{Err}
-use Rattle.std.proofs.Common.{refl, sym, ap, subst, ◌∙◌}
-use Rattle.stack_assoc.specs.Arrivals.{Arrival}
-use Rattle.bilateral.specs.Rows.{CentreRows}
+use Rattle.std.proofs.Common.{◌<◌, reverse, Bool, true, false, Option, Some, Ok}
+use Rattle.std.proofs.Common.{refl, sym, subst, ◌∙◌}
 use Rattle.tase_views.specs.Setup.{Setup}
 use Rattle.tase_views.specs.declared.event.EventKind.{EventKind}
-use Rattle.tase_map.specs.Inputs.{Item}
-use Rattle.tase_map.specs.Turns.{Turn}
 use Rattle.tase_conn.specs.Wanting.{Wants}
 use Rattle.conn_service.specs.Attending.{IsServed, IsAsking, remaining}
 use Rattle.conn_service.proofs.Going.{served_free, served_placed}

@@ -1,12 +1,6 @@
-use Rattle.std.proofs.Common.{◌≡◌, List, reverse, Option, Some, None, refl, subst}
+use Rattle.std.proofs.Common.{reverse, Option, Some, refl, subst}
 use Rattle.std.proofs.lemmas.Bool.{false≢true}
-use Rattle.stack_assoc.specs.Arrivals.{Arrival}
-use Rattle.bilateral.specs.Rows.{CentreRows}
 use Rattle.tase_views.specs.declared.event.EventKind.{EventKind}
-use Rattle.tase_map.specs.Inputs.{Item}
-use Rattle.tase_map.specs.Turns.{Turn}
-use Rattle.tase_conn.specs.Talking.{Talking}
-use Rattle.tase_conn.specs.Places.{StandsAt}
 use Rattle.tase_conn.specs.Wanting.{Wants}
 use Rattle.conn_service.proofs.Going.{parting_free, parting_placed, parting_wants, placed_of}
 use Rattle.conn_service.proofs.Going.{wants_close, close_told, close_right, close_leaves, closed_on}

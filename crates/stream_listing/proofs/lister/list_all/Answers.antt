@@ -1,5 +1,5 @@
-use Rattle.std.proofs.Common.{◌≡◌, ◌-◌, ◌∙◌, ◌++◌, ℕ, List, Bool, true, false, Some, Ok, Err, Result}
-use Rattle.std.proofs.Common.{Option, sym, ap, subst, rules}
+use Rattle.std.proofs.Common.{◌≡◌, ◌-◌, ◌∙◌, ◌++◌, ℕ, Bool, false, Some, Ok, Err, Result}
+use Rattle.std.proofs.Common.{Option, ap, subst}
 use Rattle.tpkt_cotp.specs.declared.fault.CotpFault.{CotpFault}
 use Rattle.tpkt_cotp.specs.declared.message.TransportIn.{TransportIn}
 use Rattle.tpkt_cotp.specs.Seen.{message_seen}
@@ -7,7 +7,7 @@ use Rattle.tpkt_cotp.specs.Goings.{HandsOut}
 use Rattle.stack_messages.specs.declared.fault.StackFault.{StackFault}
 use Rattle.stream_listing.specs.Lines.{fault_line}
 use Rattle.stream_listing.specs.Hearing.{told_in}
-use Rattle.stream_listing.specs.Listings.{state, listed_transport_fault, IsListed}
+use Rattle.stream_listing.specs.Listings.{state, IsListed}
 use Rattle.stream_listing.proofs.Listing.{lists_then, lists_message, lists_fault}
 use Rattle.stream_listing.proofs.lister.list_all.Goals as goal
 

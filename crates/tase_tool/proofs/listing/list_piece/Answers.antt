@@ -1,5 +1,5 @@
-use Rattle.std.proofs.Common.{true, subst, ap, ◌∙◌}
-use Rattle.outside.specs.Sink.{AppendsPart, WritesAll}
+use Rattle.std.proofs.Common.{true, subst}
+use Rattle.outside.specs.Sink.{AppendsPart}
 use Rattle.tase_tool.proofs.Listed.{stopped_piece}
 use Rattle.tase_tool.proofs.listing.list_piece.Goals as goal
 
