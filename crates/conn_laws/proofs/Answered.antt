@@ -23,10 +23,10 @@ use Rattle.tase_views.specs.Answers.{reply_to}
 use Rattle.tase_views.specs.Setup.{Setup}
 use Rattle.tase_map.specs.Inputs.{Item}
 use Rattle.tase_map.specs.Turns.{Turn, offers, asks, pauses}
-use Rattle.tase_map.specs.Asks.{is_last, is_open, event_if, open_of, asks_at, asks_behind}
+use Rattle.tase_map.specs.Asks.{is_last, is_open_behind, event_if, open_of, asks_at, asks_behind}
 use Rattle.tase_map.specs.Sent.{events_by}
-use Rattle.tase_conn.specs.declared.stage.Asked.{Asked}
-use Rattle.tase_conn.specs.declared.stage.Asked.TheVariants as askeds
+use Rattle.tase_conn.specs.declared.stage.PendingEvent.{PendingEvent}
+use Rattle.tase_conn.specs.declared.stage.PendingEvent.TheVariants as askeds
 use Rattle.tase_conn.specs.declared.stage.Cause.{Cause}
 use Rattle.tase_conn.specs.declared.stage.Cause.TheVariants as causes
 use Rattle.tase_conn.specs.declared.stage.Coming.{Coming}
@@ -35,11 +35,11 @@ use Rattle.tase_conn.specs.declared.stage.Progress.TheVariants as progresses
 use Rattle.tase_conn.specs.declared.stage.Stage.{Stage}
 use Rattle.tase_conn.specs.declared.stage.Stage.TheVariants as stages
 use Rattle.tase_conn.specs.Talking.{Talking}
-use Rattle.tase_conn.specs.Places.{Runs, GoesBy, EndsWith, IsAskedAt, turn_for}
+use Rattle.tase_conn.specs.Places.{Runs, GoesBy, EndsWithTurn, IsAskedAt, turn_for}
 use Rattle.tase_conn.specs.Places.{is_connected, standing_by, served_standing, IsAgreed}
 use Rattle.tase_conn.specs.Answering.{told_said, stage_told, progress_told, progress_closed}
 use Rattle.tase_conn.specs.Answering.{detail_in}
-use Rattle.tase_conn.specs.Answering.{answer_said, closed_said, closed}
+use Rattle.tase_conn.specs.Answering.{answer_said, closed_said, stage_closed}
 use Rattle.tase_map.proofs.AskedOn.{asks_join}
 use Rattle.conn_laws.specs.Serving.{with_event, AsksLast, IsWaiting, SaysOpen, SaysClosed, SaysBy}
 use Rattle.conn_laws.specs.Serving.{Serves, HasTold}
@@ -58,7 +58,7 @@ pub record AskedTurn (rows : CentreRows) (answered turns : List Turn) (event : E
   pub asks : asks_at rows answered last ≡ event ∷ []
 
 pub asked_turn : (rows : CentreRows) (answered turns : List Turn) (event : EventKind)
-    (last : Turn) → AsksLast rows event answered turns → EndsWith rows turns last
+    (last : Turn) → AsksLast rows event answered turns → EndsWithTurn rows turns last
     → AskedTurn rows answered turns event last
 asked_turn rows answered turns event last a e =
     let s = same_ends answered e.front a.last last (sym a.is ∙ e.is) in
@@ -82,15 +82,15 @@ if_event false one event e = absurd cc
 close_event : (rows : CentreRows) (answered : List Turn) (cause : Cause) (event : EventKind)
     → asks_at rows answered (turn_for cause) ≡ event ∷ [] → event ≡ events.Close
 close_event rows answered causes.Concluded event e =
-    if_event (is_open rows answered) events.Close event e
+    if_event (is_open_behind rows answered) events.Close event e
 close_event rows answered causes.Released event e =
-    if_event (is_open rows answered) events.Close event e
+    if_event (is_open_behind rows answered) events.Close event e
 close_event rows answered causes.Aborted event e =
-    if_event (is_open rows answered) events.Close event e
+    if_event (is_open_behind rows answered) events.Close event e
 close_event rows answered causes.LinkEnd event e =
-    if_event (is_open rows answered) events.Close event e
+    if_event (is_open_behind rows answered) events.Close event e
 close_event rows answered (causes.Broken fault) event e =
-    if_event (is_open rows answered) events.Close event e
+    if_event (is_open_behind rows answered) events.Close event e
 
 open_event : (rows : CentreRows) (title : Option (List ℕ)) (peer : ℕ) (event : EventKind)
     → place_of_title rows title ≡ Some peer
@@ -313,7 +313,7 @@ taken_follows : (rows : CentreRows) (past : Past) (who : ℕ) (items : List Item
 taken_follows rows past who items octets event answer old s p r right =
     let w = take_served old.stage old.held r.waits in
     let a = asked_turn rows s.answered s.turns event pauses s.are r.last in
-    let ev = if_event (is_open rows s.answered) events.Take event a.asks in
+    let ev = if_event (is_open_behind rows s.answered) events.Take event a.asks in
     let o = open_before rows past who items octets event old w.peer w.detail s w.stage_is in
     let said_is : told_said old.progress old.stage old.course (Ok answer) ≡ [] =
     ap (λ (x : Progress). told_said x old.stage old.course (Ok answer)) p
@@ -378,7 +378,7 @@ closed_follows rows past who items octets event answer old cause s p r right =
       stage = stages.Closed w.peer;
       progress_is = ap (λ (x : Progress). progress_told x old.stage (Ok answer)) p;
       stage_is = ap (λ (x : Progress). stage_told x (Ok answer) old.stage) p
-          ∙ ap (λ (x : Stage). closed x) w.stage_is;
+          ∙ ap (λ (x : Stage). stage_closed x) w.stage_is;
       waits = none_waits cause;
       says = subst (λ (os : List ℕ). SaysClosed after rows (with_event who event past) who items
           s.turns (octets ++ os)) (sym said_is)
@@ -391,7 +391,7 @@ closed_follows rows past who items octets event answer old cause s p r right =
 -- ---- any event
 
 running_follows : (rows : CentreRows) (past : Past) (who : ℕ) (items : List Item)
-    (octets : List ℕ) (event : EventKind) (answer : Answer) (old : Talking) (asked : Asked)
+    (octets : List ℕ) (event : EventKind) (answer : Answer) (old : Talking) (asked : PendingEvent)
     → (s : Serves rows past who items octets (Some event) old)
     → old.progress ≡ progresses.Running asked
     → IsWaiting (progresses.Running asked) (Some event)

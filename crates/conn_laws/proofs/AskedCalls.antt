@@ -16,8 +16,8 @@ use Rattle.stack_assoc.specs.Arrivals.{Arrival, asked, confirmed, gone, heard, c
 use Rattle.stack_assoc.specs.Handing.{is_offer, input_heard, handed_out}
 use Rattle.tase_views.specs.declared.call.CallKind.{CallKind}
 use Rattle.tase_views.specs.Calls.{IsCall}
-use Rattle.tase_map.specs.Asked.{call_in}
-use Rattle.tase_map.specs.Inputs.{Item, IsInput, text_of, has_ended}
+use Rattle.tase_map.specs.Asked.{call_of_request}
+use Rattle.tase_map.specs.Inputs.{Item, IsLinkInput, text_given, link_has_ended}
 use Rattle.tase_map.specs.LawfulTold.{IsLawfulTold, IsLawfulHeard}
 use Rattle.tase_map.specs.Readings.{reading_of}
 use Rattle.tase_map.specs.Turns.{Turn, offers, offers_badly, asks, concludes, releases, aborts}
@@ -48,7 +48,7 @@ asked_found None turns f a = a
 asked_found (Some turn) turns f a = (f, a)
 
 asked_pdu : (pdu : MmsPdu) → IsLawfulPdu pdu → IfSome (turn_of_pdu pdu) IsAsked
-asked_pdu (pdus.Request invoke request) l = lawful_call request (call_in request) l refl
+asked_pdu (pdus.Request invoke request) l = lawful_call request (call_of_request request) l refl
 asked_pdu (pdus.Response invoke response) l = tt
 asked_pdu (pdus.Error e) l = tt
 asked_pdu (pdus.Report r) l = tt
@@ -122,11 +122,11 @@ asked_at [] invoke call rest a = a.0
 asked_at (turn ∷ front) invoke call rest a = asked_at front invoke call rest a.1
 
 pub input_calls : (items : List Item) (front : List Turn) (invoke : ℕ) (call : CallKind)
-    (rest : List Turn) → IsInput items → turns_of items ≡ front ++ asks invoke call ∷ rest
+    (rest : List Turn) → IsLinkInput items → turns_of items ≡ front ++ asks invoke call ∷ rest
     → IsCall call
 input_calls items front invoke call rest i t =
     asked_at front invoke call rest
     (subst (λ (ts : List Turn). AreAsked ts) t
     (asked_paused (turns_of items)
     (subst (λ (ts : List Turn). AreAsked ts) (sym (text_turns items i))
-    (asked_text (text_of items) (has_ended items)))))
+    (asked_text (text_given items) (link_has_ended items)))))

@@ -16,20 +16,20 @@ use Rattle.bilateral.specs.Rows.{CentreRows}
 use Rattle.tase_views.specs.declared.event.EventKind.{EventKind}
 use Rattle.tase_views.specs.declared.event.EventKind.TheVariants as events
 use Rattle.tase_views.specs.History.{Past}
-use Rattle.tase_map.specs.Inputs.{Item, piece, idle, ended, IsInput, text_of, has_ended}
-use Rattle.tase_map.specs.Readings.{Reading, reading_of, Reads}
+use Rattle.tase_map.specs.Inputs.{Item, piece, idle, ended, IsLinkInput, text_given, link_has_ended}
+use Rattle.tase_map.specs.Readings.{Reading, reading_of, TellsReading}
 use Rattle.tase_map.specs.Turns.{Turn, offers, offers_badly, asks, concludes, releases, aborts}
 use Rattle.tase_map.specs.Turns.{breaks, ends, pauses, turns_told, turns_of}
-use Rattle.tase_map.specs.Asks.{is_last, is_open, begins, finishes, event_if, asks_at}
+use Rattle.tase_map.specs.Asks.{is_last, is_open_behind, begins, finishes, event_if, asks_at}
 use Rattle.tase_map.specs.Asks.{asks_behind, is_peers, without_pauses}
 use Rattle.tase_map.specs.Out.{talk_of, concluded_octets, early_octets}
 use Rattle.tase_map.specs.Out.{is_declined, end_turns}
-use Rattle.tase_map.specs.Sent.{events_by, sent}
+use Rattle.tase_map.specs.Sent.{events_by, association_octets}
 use Rattle.tase_map.proofs.ReadingLaws.{reading, reading_found, reading_only}
 use Rattle.tase_map.proofs.TurnOrder.{offered, Follows, AllFollow, turns_follow}
 use Rattle.tase_map.proofs.Uncut.{any_kept, without-append}
-use Rattle.tase_conn.specs.declared.stage.Asked.{Asked}
-use Rattle.tase_conn.specs.declared.stage.Asked.TheVariants as askeds
+use Rattle.tase_conn.specs.declared.stage.PendingEvent.{PendingEvent}
+use Rattle.tase_conn.specs.declared.stage.PendingEvent.TheVariants as askeds
 use Rattle.tase_conn.specs.declared.stage.ConnEnd.{ConnEnd}
 use Rattle.tase_conn.specs.declared.stage.ConnEnd.TheVariants as conn_ends
 use Rattle.tase_conn.specs.declared.stage.Progress.{Progress}
@@ -37,15 +37,15 @@ use Rattle.tase_conn.specs.declared.stage.Progress.TheVariants as progresses
 use Rattle.tase_conn.specs.declared.stage.Stage.{Stage}
 use Rattle.tase_conn.specs.declared.stage.Stage.TheVariants as stages
 use Rattle.tase_conn.specs.Talking.{Talking, pending_of, IsFree}
-use Rattle.tase_conn.specs.Places.{Runs, GoesBy, EndsBy, EndsWith, IsCause, is_connected}
+use Rattle.tase_conn.specs.Places.{Runs, GoesBy, EndsBy, EndsWithTurn, IsCause, is_connected}
 use Rattle.tase_conn.specs.Places.{has_begun, has_finished}
-use Rattle.tase_conn.specs.Wanting.{quiet_at, quiet_behind, behind_close, refusal_said, GoesOn}
-use Rattle.tase_conn.specs.Wanting.{Passes, IsIdle, IsWhole, Stays, WantsBy, Wants}
+use Rattle.tase_conn.specs.Wanting.{quiet_at, quiet_behind, behind_close, refusal_said, ReadsOn}
+use Rattle.tase_conn.specs.Wanting.{Passes, IsIdle, AreAllTurns, StaysEnded, WantsBy, Wants}
 use Rattle.tase_conn.specs.Wanting as wanting
 use Rattle.tase_conn.proofs.Composed.{quiet_join}
 use Rattle.tase_map.proofs.AskedOn.{asks_join}
 use Rattle.tase_conn.proofs.LastTurns.{last_of_cause}
-use Rattle.conn_laws.specs.Serving.{IsWaiting, SaysClosed, SaysBy, Serves, Whatever}
+use Rattle.conn_laws.specs.Serving.{IsWaiting, SaysClosed, SaysBy, Serves, HoldsOfAllInput}
 use Rattle.tase_map.proofs.Fronts.{HasFront, whole_front, front_read, size_first, setup_kept}
 use Rattle.tase_map.proofs.Fronts.{setup_fixed, answers_told}
 use Rattle.conn_laws.proofs.Served.{kept_front, at_end}
@@ -71,8 +71,8 @@ any_here p front rest last e =
     or_true false = refl
 
 -- nothing comes behind the end of a link
-not_ended : (items : List Item) (item : Item) (more : List Item) → IsInput (items ++ item ∷ more)
-    → has_ended items ≡ false
+not_ended : (items : List Item) (item : Item) (more : List Item) → IsLinkInput (items ++ item ∷ more)
+    → link_has_ended items ≡ false
 not_ended [] item more i = refl
 not_ended (piece octets ∷ items) item more i = not_ended items item more i
 not_ended (idle ∷ items) item more i = not_ended items item more i
@@ -80,16 +80,16 @@ not_ended (ended ∷ []) item more i = absurd cc
 not_ended (ended ∷ x ∷ items) item more i = absurd cc
 
 -- where nothing was told and no rule is broken there are pauses alone
-untold_goes : (rows : CentreRows) (items : List Item) → IsInput items → has_ended items ≡ false
-    → turns_told (reading_of (text_of items)) ≡ []
+untold_goes : (rows : CentreRows) (items : List Item) → IsLinkInput items → link_has_ended items ≡ false
+    → turns_told (reading_of (text_given items)) ≡ []
     → list_any (is_last rows) (turns_of items) ≡ false
 untold_goes rows items i e t =
     sym (any_kept (is_last rows) refl (turns_of items))
     ∙ ap (λ (ts : List Turn). list_any (is_last rows) ts)
-    (text_turns items i ∙ ap (λ (ts : List Turn). ts ++ end_turns (has_ended items)) t
+    (text_turns items i ∙ ap (λ (ts : List Turn). ts ++ end_turns (link_has_ended items)) t
     ∙ ap (λ (b : Bool). end_turns b) e)
 
-front_input : (items more : List Item) → IsInput (items ++ more) → IsInput items
+front_input : (items more : List Item) → IsLinkInput (items ++ more) → IsLinkInput items
 front_input [] more i = tt
 front_input (piece octets ∷ items) more i = front_input items more i
 front_input (idle ∷ items) more i = front_input items more i
@@ -97,40 +97,40 @@ front_input (ended ∷ []) more i = refl
 front_input (ended ∷ x ∷ items) more i = absurd cc
 
 broken_stays : (items more : List Item) (fault : StackFault)
-    → reading_of (text_of items) ≡ reading [] (Some fault)
-    → answers_to called (reading_of (text_of (items ++ more))).told ≡ []
+    → reading_of (text_given items) ≡ reading [] (Some fault)
+    → answers_to called (reading_of (text_given (items ++ more))).told ≡ []
 broken_stays items more fault e =
-    let text = text_of items in
-    let stops : Reads text [] (Some fault) =
-    subst (λ (r : Reading). Reads text r.told r.broken) e (reading_found text) in
+    let text = text_given items in
+    let stops : TellsReading text [] (Some fault) =
+    subst (λ (r : Reading). TellsReading text r.told r.broken) e (reading_found text) in
     ap (λ (r : Reading). answers_to called r.told)
     (ap (λ (os : List ℕ). reading_of os) (text-append items more)
-    ∙ reading_only (text ++ text_of more) [] (Some fault)
-    (fault_stays called text (text_of more) [] fault stops))
+    ∙ reading_only (text ++ text_given more) [] (Some fault)
+    (fault_stays called text (text_given more) [] fault stops))
 
 -- what is answered at once of the items with which a connection has ended
 same_answers : (rows : CentreRows) (done more : List Item) (r : Reading)
-    → reading_of (text_of done) ≡ r → IsInput (done ++ more)
+    → reading_of (text_given done) ≡ r → IsLinkInput (done ++ more)
     → list_any (is_last rows) (turns_of done) ≡ true
-    → answers_to called (reading_of (text_of (done ++ more))).told ≡ answers_to called r.told
+    → answers_to called (reading_of (text_given (done ++ more))).told ≡ answers_to called r.told
 same_answers rows done [] r e i l =
-    ap (λ (all : List Item). answers_to called (reading_of (text_of all)).told) (append-nil done)
+    ap (λ (all : List Item). answers_to called (reading_of (text_given all)).told) (append-nil done)
     ∙ ap (λ (x : Reading). answers_to called x.told) e
 same_answers rows done (item ∷ more) r e i l =
     same_by r.told r.broken e
   where
     same_by : (told : List Arrival) (broken : Option StackFault)
-        → reading_of (text_of done) ≡ reading told broken
-        → answers_to called (reading_of (text_of (done ++ item ∷ more))).told
+        → reading_of (text_given done) ≡ reading told broken
+        → answers_to called (reading_of (text_given (done ++ item ∷ more))).told
         ≡ answers_to called told
     same_by [] (Some fault) e = broken_stays done (item ∷ more) fault e
     same_by [] None e =
         absurd (false≢true (sym (untold_goes rows done (front_input done (item ∷ more) i)
         (not_ended done item more i) (ap (λ (x : Reading). turns_told x) e)) ∙ l))
     same_by (t ∷ told) broken e =
-        let text = text_of (done ++ item ∷ more) in
+        let text = text_given (done ++ item ∷ more) in
         let front = longer_front done (item ∷ more) (t ∷ told)
-        (subst (λ (x : Reading). HasFront (text_of done) x.told) e (whole_front (text_of done))) in
+        (subst (λ (x : Reading). HasFront (text_given done) x.told) e (whole_front (text_given done))) in
         let f = front_read text (t ∷ told) front in
         ap (λ (ts : List Arrival). answers_to called ts) f.1
         ∙ answers_told text (t ∷ told) f.0
@@ -138,13 +138,13 @@ same_answers rows done (item ∷ more) r e i l =
 
 -- and what its connect fixed
 same_setup : (done more : List Item)
-    → is_some (first_in connect_in (reading_of (text_of done)).told) ≡ true
-    → setup_after (reading_of (text_of (done ++ more))).told
-    ≡ setup_after (reading_of (text_of done)).told
+    → is_some (first_in connect_in (reading_of (text_given done)).told) ≡ true
+    → setup_after (reading_of (text_given (done ++ more))).told
+    ≡ setup_after (reading_of (text_given done)).told
 same_setup done more connect =
-    let told = (reading_of (text_of done)).told in
-    let f = whole_front (text_of done) in
-    let g = front_read (text_of (done ++ more)) told (longer_front done more told f) in
+    let told = (reading_of (text_given done)).told in
+    let f = whole_front (text_given done) in
+    let g = front_read (text_given (done ++ more)) told (longer_front done more told f) in
     ap (λ (ts : List Arrival). setup_after ts) g.1
     ∙ setup_kept told g.0
     (size_first told f.messages f.starts.whole f.starts.spelled f.tell connect) connect
@@ -164,7 +164,7 @@ left_none [] ys e = refl
 left_none (x ∷ xs) ys e = absurd cc
 
 ending : (rows : CentreRows) (turns more : List Turn) (last : Turn)
-    → (e : EndsWith rows (turns ++ more) last) → is_last rows last ≡ true
+    → (e : EndsWithTurn rows (turns ++ more) last) → is_last rows last ≡ true
     → list_any (is_last rows) turns ≡ false → asks_behind rows turns more ≡ []
     → Ending rows turns more e.front last
 ending rows turns [] last e is goes none =
@@ -195,7 +195,7 @@ ending rows turns (turn ∷ more) last e is goes none =
 -- what was said on the way to the end
 ending_said : (rows : CentreRows) (items : List Item) (told : List Arrival) (turns : List Turn)
     (octets_more : List ℕ) (last : Turn) (front : List Turn) (old new : Talking)
-    → (g : GoesOn rows items told turns [] old new)
+    → (g : ReadsOn rows items told turns [] old new)
     → (e : Ending rows turns g.more front last) → list_any (is_last rows) front ≡ false
     → pending_of new ≡ pending_of old ++ octets_more
     → octets_more ≡ answers_to called g.later
@@ -265,10 +265,10 @@ quiet_refuses rows setup front offers_badly b = refl
 quiet_refuses rows setup front (asks invoke call) b = refl
 quiet_refuses rows setup front concludes b = refl
 quiet_refuses rows setup front releases b =
-    close_unsaid (is_open rows front) (list_any (begins rows) front) _ b
+    close_unsaid (is_open_behind rows front) (list_any (begins rows) front) _ b
 quiet_refuses rows setup front aborts b = refl
 quiet_refuses rows setup front breaks b =
-    close_unsaid (is_open rows front) (list_any (begins rows) front) _ b
+    close_unsaid (is_open_behind rows front) (list_any (begins rows) front) _ b
 quiet_refuses rows setup front ends b = refl
 quiet_refuses rows setup front pauses b = refl
 
@@ -313,7 +313,7 @@ early_end : (rows : CentreRows) (items : List Item) (told later : List Arrival) 
     → octets ≡ answers_to called told
     → octets_more ≡ answers_to called later
     ++ quiet_at rows (setup_after (told ++ later)) e.ends.front e.last
-    → Whatever items turns (λ text ended rest. octets ++ octets_more ≡ early_octets rows text)
+    → HoldsOfAllInput items turns (λ text ended rest. octets ++ octets_more ≡ early_octets rows text)
 early_end rows items told later turns octets octets_more end e none unbegun said added =
     λ more i rest t.
     let front = e.ends.front in
@@ -322,13 +322,13 @@ early_end rows items told later turns octets octets_more end e none unbegun said
     let is = last_of_cause rows items end last e.cause in
     let all : items ++ more ≡ e.done ++ extra =
     ap (λ (is : List Item). is ++ more) e.items_are ∙ append_assoc e.done e.dropped more in
-    let input : IsInput (e.done ++ extra) = subst (λ (x : List Item). IsInput x) all i in
-    let r = reading_of (text_of (items ++ more)) in
-    let before = reading_of (text_of e.done) in
+    let input : IsLinkInput (e.done ++ extra) = subst (λ (x : List Item). IsLinkInput x) all i in
+    let r = reading_of (text_given (items ++ more)) in
+    let before = reading_of (text_given e.done) in
     let setup = setup_after (told ++ later) in
     let declined = is_declined rows (last ∷ []) in
     let answers : answers_to called r.told ≡ answers_to called (told ++ later) =
-    ap (λ (x : List Item). answers_to called (reading_of (text_of x)).told) all
+    ap (λ (x : List Item). answers_to called (reading_of (text_given x)).told) all
     ∙ same_answers rows e.done extra before refl input
     (last_within rows items (told ++ later) turns end e) ∙ sym e.answered in
     let joined : turns_of (items ++ more) ≡ front ++ last ∷ rest =
@@ -337,7 +337,7 @@ early_end rows items told later turns octets octets_more end e none unbegun said
     silent rows [] front (last ∷ rest) refl e.ends.goes
     (input_follows items more front (last ∷ rest) i joined) none in
     let first : is_declined rows (turns_told r) ≡ declined =
-    sym (declined_told rows (turns_told r) (has_ended (items ++ more)))
+    sym (declined_told rows (turns_told r) (link_has_ended (items ++ more)))
     ∙ ap (λ (ts : List Turn). is_declined rows ts)
     (sym (text_turns (items ++ more) i) ∙ ap (λ (ts : List Turn). without_pauses ts) joined
     ∙ without-append front (last ∷ rest)
@@ -349,7 +349,7 @@ early_end rows items told later turns octets octets_more end e none unbegun said
     (λ d.
     let f = e.fixed (cause_declined rows items end last e.cause d) in
     ap (λ (s : AssociationSetup). refusal_said s)
-    (f.0 ∙ sym (ap (λ (x : List Item). setup_after (reading_of (text_of x)).told) all
+    (f.0 ∙ sym (ap (λ (x : List Item). setup_after (reading_of (text_given x)).told) all
     ∙ same_setup e.done extra f.1))) in
     ap (λ (os : List ℕ). os ++ octets_more) said
     ∙ ap (λ (os : List ℕ). answers_to called told ++ os) added
@@ -375,7 +375,7 @@ never_offered : (rows : CentreRows) (front : List Turn) → list_any (begins row
     → list_any (is_last rows) front ≡ false → list_any offered front ≡ false → ⊥
 never_offered rows front b l o = false≢true (sym o ∙ sym (begins_offered rows front l) ∙ b)
 
-never_open : (rows : CentreRows) (front : List Turn) (last : Turn) → is_open rows front ≡ true
+never_open : (rows : CentreRows) (front : List Turn) (last : Turn) → is_open_behind rows front ≡ true
     → is_last rows last ≡ true → list_any (is_last rows) front ≡ false → Follows front last
     → asks_at rows front last ≡ [] → ⊥
 never_open rows front (offers title) o is l f e =
@@ -384,10 +384,10 @@ never_open rows front offers_badly o is l f e =
     never_offered rows front (both_true (list_any (begins rows) front) _ o) l f
 never_open rows front (asks invoke call) o is l f e = false≢true is
 never_open rows front concludes o is l f e = false≢true is
-never_open rows front releases o is l f e = close_asked (is_open rows front) o e
-never_open rows front aborts o is l f e = close_asked (is_open rows front) o e
-never_open rows front breaks o is l f e = close_asked (is_open rows front) o e
-never_open rows front ends o is l f e = close_asked (is_open rows front) o e
+never_open rows front releases o is l f e = close_asked (is_open_behind rows front) o e
+never_open rows front aborts o is l f e = close_asked (is_open_behind rows front) o e
+never_open rows front breaks o is l f e = close_asked (is_open_behind rows front) o e
+never_open rows front ends o is l f e = close_asked (is_open_behind rows front) o e
 never_open rows front pauses o is l f e = false≢true is
 
 -- ---- behind a conclude
@@ -399,7 +399,7 @@ close_said false true octets e f = refl
 close_said false false octets e f = absurd (false≢true f)
 
 concluded_last : (rows : CentreRows) (setup : AssociationSetup) (front : List Turn) (last : Turn)
-    (rest : List Turn) → is_open rows front ≡ false → list_any (begins rows) front ≡ true
+    (rest : List Turn) → is_open_behind rows front ≡ false → list_any (begins rows) front ≡ true
     → list_any (is_last rows) front ≡ false → is_last rows last ≡ true → Follows front last
     → quiet_at rows setup front last ≡ concluded_octets setup (without_pauses (last ∷ rest))
 concluded_last rows setup front (offers title) rest o b l is f =
@@ -409,17 +409,17 @@ concluded_last rows setup front offers_badly rest o b l is f =
 concluded_last rows setup front (asks invoke call) rest o b l is f = absurd (false≢true is)
 concluded_last rows setup front concludes rest o b l is f = absurd (false≢true is)
 concluded_last rows setup front releases rest o b l is f =
-    close_said (is_open rows front) (list_any (begins rows) front) _ o b
+    close_said (is_open_behind rows front) (list_any (begins rows) front) _ o b
 concluded_last rows setup front aborts rest o b l is f = refl
 concluded_last rows setup front breaks rest o b l is f =
-    close_said (is_open rows front) (list_any (begins rows) front) _ o b
+    close_said (is_open_behind rows front) (list_any (begins rows) front) _ o b
 concluded_last rows setup front ends rest o b l is f = refl
 concluded_last rows setup front pauses rest o b l is f = absurd (false≢true is)
 
 -- no more is answered at once on the way to the end
 none_answered : (rows : CentreRows) (items : List Item) (told later : List Arrival)
-    (turns : List Turn) (end : ConnEnd) (old : Talking) → IsInput items
-    → (e : EndsBy rows items (told ++ later) turns end) → (asked : Asked) (before : List Turn)
+    (turns : List Turn) (end : ConnEnd) (old : Talking) → IsLinkInput items
+    → (e : EndsBy rows items (told ++ later) turns end) → (asked : PendingEvent) (before : List Turn)
     → Runs rows items told before asked old → is_some (first_in connect_in told) ≡ true
     → answers_to called later ≡ []
 none_answered rows items told later turns end old i e asked before r connect =
@@ -427,10 +427,10 @@ none_answered rows items told later turns end old i e asked before r connect =
     let all : items ++ [] ≡ e.done ++ e.dropped = append-nil items ∙ e.items_are in
     append_cancel_left (answers_to called told) (answers_to called later) []
     (sym (answers-append told later) ∙ e.answered
-    ∙ sym (same_answers rows e.done e.dropped (reading_of (text_of e.done)) refl
-    (subst (λ (is : List Item). IsInput is) e.items_are i)
+    ∙ sym (same_answers rows e.done e.dropped (reading_of (text_given e.done)) refl
+    (subst (λ (is : List Item). IsLinkInput is) e.items_are i)
     (last_within rows items (told ++ later) turns end e))
-    ∙ ap (λ (is : List Item). answers_to called (reading_of (text_of is)).told) (sym all)
+    ∙ ap (λ (is : List Item). answers_to called (reading_of (text_given is)).told) (sym all)
     ∙ x.answered ∙ sym (append-nil (answers_to called told)))
 
 closed_end : (rows : CentreRows) (past : Past) (who : ℕ) (items : List Item)
@@ -440,7 +440,7 @@ closed_end : (rows : CentreRows) (past : Past) (who : ℕ) (items : List Item)
     → Ending rows turns more e.ends.front e.last
     → Runs rows items told turns askeds.Nothing old
     → is_some (first_in connect_in told) ≡ true
-    → is_open rows e.ends.front ≡ false → list_any (begins rows) e.ends.front ≡ true
+    → is_open_behind rows e.ends.front ≡ false → list_any (begins rows) e.ends.front ≡ true
     → Follows e.ends.front e.last → answers_to called later ≡ []
     → octets_more ≡ answers_to called later
     ++ quiet_at rows (setup_after (told ++ later)) e.ends.front e.last
@@ -453,19 +453,19 @@ closed_end rows past who items told later turns more octets octets_more end old 
     let last = e.last in
     let key = says.key in
     let setup = setup_after (told ++ later) in
-    let k = setup_fixed (text_of items) told old.course r.stands connect in
+    let k = setup_fixed (text_given items) told old.course r.stands connect in
     let is = last_of_cause rows items end last e.cause in
     let goes : list_any (is_last rows) (turns ++ n.quiet_front) ≡ false =
     ap (λ (ts : List Turn). list_any (is_last rows) ts) (sym n.front_is) ∙ e.ends.goes in
-    let moved : Whatever items front (λ text ended rest.
+    let moved : HoldsOfAllInput items front (λ text ended rest.
     octets ++ concluded_octets (talk_of (reading_of text) ended).setup rest
-    ≡ sent rows past key text ended) =
-    subst (λ (ts : List Turn). Whatever items ts (λ text ended rest.
+    ≡ association_octets rows past key text ended) =
+    subst (λ (ts : List Turn). HoldsOfAllInput items ts (λ text ended rest.
     octets ++ concluded_octets (talk_of (reading_of text) ended).setup rest
-    ≡ sent rows past key text ended)) (sym n.front_is)
+    ≡ association_octets rows past key text ended)) (sym n.front_is)
     (behind_silent (λ text ended rest.
     octets ++ concluded_octets (talk_of (reading_of text) ended).setup rest
-    ≡ sent rows past key text ended) rows items turns n.quiet_front
+    ≡ association_octets rows past key text ended) rows items turns n.quiet_front
     (any_front (is_last rows) turns n.quiet_front goes)
     (any_back (is_last rows) turns n.quiet_front goes) n.none says.octets) in
     record {
@@ -473,8 +473,8 @@ closed_end rows past who items told later turns more octets octets_more end old 
       opened = says.opened;
       closed = says.closed;
       octets = λ more_items i rest t.
-          let text = text_of (items ++ more_items) in
-          let talk = talk_of (reading_of text) (has_ended (items ++ more_items)) in
+          let text = text_given (items ++ more_items) in
+          let talk = talk_of (reading_of text) (link_has_ended (items ++ more_items)) in
           let x = fixed_over items more_items told old.course r.stands connect in
           append-nil (octets ++ octets_more)
           ∙ ap (λ (os : List ℕ). octets ++ os)
@@ -504,13 +504,13 @@ tests_kept p none turns quiet front b is alone e =
 
 open_of_tests : (rows : CentreRows) (front : List Turn) (b f : Bool)
     → list_any (begins rows) front ≡ b → list_any finishes front ≡ f
-    → is_open rows front ≡ (b && not f)
+    → is_open_behind rows front ≡ (b && not f)
 open_of_tests rows front b f e g =
     ap (λ (x : Bool). x && not (list_any finishes front)) e ∙ ap (λ (x : Bool). b && not x) g
 
 says_end : (rows : CentreRows) (past : Past) (who : ℕ) (items : List Item)
     (told later : List Arrival) (turns more : List Turn) (octets octets_more : List ℕ)
-    (end : ConnEnd) (stage : Stage) (old : Talking) → IsInput items
+    (end : ConnEnd) (stage : Stage) (old : Talking) → IsLinkInput items
     → (e : EndsBy rows items (told ++ later) (turns ++ more) end)
     → (n : Ending rows turns more e.ends.front e.last)
     → Runs rows items told turns askeds.Nothing old → old.stage ≡ stage
@@ -561,7 +561,7 @@ pub ends_on : (rows : CentreRows) (past : Past) (who : ℕ) (items : List Item)
     (octets octets_more : List ℕ) (end : ConnEnd) (old new : Talking)
     → (s : Serves rows past who items octets None old)
     → old.progress ≡ progresses.Running askeds.Nothing → new.stage ≡ old.stage
-    → new.progress ≡ progresses.Ended end → GoesOn rows items s.told s.turns [] old new
+    → new.progress ≡ progresses.Ended end → ReadsOn rows items s.told s.turns [] old new
     → pending_of new ≡ pending_of old ++ octets_more
     → Serves rows past who items (octets ++ octets_more) None new
 ends_on rows past who items octets octets_more end old new s p st q g pending =
@@ -622,7 +622,7 @@ rests_running : (rows : CentreRows) (past : Past) (who : ℕ) (items : List Item
     → (s : Serves rows past who items octets None old)
     → old.progress ≡ progresses.Running askeds.Nothing → new.stage ≡ old.stage
     → new.progress ≡ progresses.Running askeds.Nothing
-    → GoesOn rows items s.told s.turns [] old new
+    → ReadsOn rows items s.told s.turns [] old new
     → pending_of new ≡ pending_of old ++ octets_more
     → Serves rows past who items (octets ++ octets_more) None new
 rests_running rows past who items octets octets_more old new s p st q g pending =
@@ -643,7 +643,7 @@ rests_by : (rows : CentreRows) (past : Past) (who : ℕ) (items : List Item)
     (octets octets_more : List ℕ) (old new : Talking) (x : Progress)
     → (s : Serves rows past who items octets None old)
     → old.progress ≡ progresses.Running askeds.Nothing → new.stage ≡ old.stage
-    → new.progress ≡ x → IsWaiting x None → GoesOn rows items s.told s.turns [] old new
+    → new.progress ≡ x → IsWaiting x None → ReadsOn rows items s.told s.turns [] old new
     → pending_of new ≡ pending_of old ++ octets_more
     → Serves rows past who items (octets ++ octets_more) None new
 rests_by rows past who items octets octets_more old new (progresses.Running askeds.Nothing) s p st q
@@ -671,7 +671,7 @@ rests_on : (rows : CentreRows) (past : Past) (who : ℕ) (items : List Item)
     (octets octets_more : List ℕ) (old new : Talking)
     → (s : Serves rows past who items octets None old)
     → old.progress ≡ progresses.Running askeds.Nothing → new.stage ≡ old.stage
-    → IsWaiting new.progress None → GoesOn rows items s.told s.turns [] old new
+    → IsWaiting new.progress None → ReadsOn rows items s.told s.turns [] old new
     → pending_of new ≡ pending_of old ++ octets_more
     → Serves rows past who items (octets ++ octets_more) None new
 rests_on rows past who items octets octets_more old new s p st w g pending =
@@ -694,7 +694,7 @@ passes_on rows past who items octets octets_more old new s p st q g pending =
 -- ---- whatever is wanted
 
 none_waits : (rows : CentreRows) (items : List Item) (turns : List Turn) (p : Progress)
-    → IsFree p → IsWhole rows items turns p → IsWaiting p None
+    → IsFree p → AreAllTurns rows items turns p → IsWaiting p None
 none_waits rows items turns (progresses.Running askeds.Nothing) f w = tt
 none_waits rows items turns (progresses.Running (askeds.Opening peer offered)) f w = absurd f
 none_waits rows items turns (progresses.Running (askeds.Requesting invoke)) f w = absurd f
@@ -709,7 +709,7 @@ reads_on : (rows : CentreRows) (past : Past) (who : ℕ) (items : List Item)
     (octets octets_more : List ℕ) (event : Option EventKind) (old new : Talking)
     → (s : Serves rows past who items octets None old)
     → old.progress ≡ progresses.Running askeds.Nothing → new.stage ≡ old.stage
-    → wanting.Reads rows items s.told s.turns event old new
+    → wanting.ReadsNext rows items s.told s.turns event old new
     → pending_of new ≡ pending_of old ++ octets_more
     → Serves rows past who items (octets ++ octets_more) event new
 reads_on rows past who items octets octets_more (Some event) old new s p st r pending =
@@ -721,7 +721,7 @@ reads_on rows past who items octets octets_more None old new s p st r pending =
 
 stays_on : (rows : CentreRows) (past : Past) (who : ℕ) (items : List Item)
     (octets octets_more : List ℕ) (event : Option EventKind) (old new : Talking)
-    → Serves rows past who items octets None old → Stays event old new
+    → Serves rows past who items octets None old → StaysEnded event old new
     → pending_of new ≡ pending_of old ++ octets_more
     → Serves rows past who items (octets ++ octets_more) event new
 stays_on rows past who items octets octets_more event old new s r pending =

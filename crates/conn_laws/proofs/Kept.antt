@@ -6,18 +6,18 @@ use Rattle.stack_assoc.specs.Arrivals.{Arrival}
 use Rattle.bilateral.specs.Rows.{CentreRows}
 use Rattle.tase_views.specs.declared.event.EventKind.{EventKind}
 use Rattle.tase_views.specs.History.{Past}
-use Rattle.tase_map.specs.Inputs.{Item, IsInput, text_of, has_ended}
+use Rattle.tase_map.specs.Inputs.{Item, IsLinkInput, text_given, link_has_ended}
 use Rattle.tase_map.specs.Readings.{reading_of}
 use Rattle.tase_map.specs.Turns.{Turn}
 use Rattle.tase_map.specs.Out.{talk_of, early_octets}
-use Rattle.tase_map.specs.Sent.{events_by, sent, turns_left}
-use Rattle.tase_conn.specs.declared.stage.Asked.TheVariants as askeds
+use Rattle.tase_map.specs.Sent.{events_by, association_octets, turns_left}
+use Rattle.tase_conn.specs.declared.stage.PendingEvent.TheVariants as askeds
 use Rattle.tase_conn.specs.declared.stage.Progress.{Progress}
 use Rattle.tase_conn.specs.declared.stage.Progress.TheVariants as progresses
 use Rattle.tase_conn.specs.declared.stage.Stage.{Stage}
 use Rattle.tase_conn.specs.declared.stage.Stage.TheVariants as stages
 use Rattle.tase_conn.specs.Talking.{Talking}
-use Rattle.tase_conn.specs.Places.{StandsAt, Runs, GoesBy, has_begun}
+use Rattle.tase_conn.specs.Places.{ConnStandsAt, Runs, GoesBy, has_begun}
 use Rattle.tase_conn.specs.Taken.{TakesIn}
 use Rattle.conn_laws.specs.Serving.{AreOthers, IsWaiting, SaysEarly, SaysOpen, SaysBy, Serves, owed}
 use Rattle.conn_laws.proofs.Seats.{others_none, others_seat, others_sent, still_opened}
@@ -32,7 +32,7 @@ unbegun (stages.Open peer detail) e = absurd (false≢true e)
 unbegun (stages.Closed peer) e = absurd (false≢true e)
 
 pub begun_serves : (rows : CentreRows) (past : Past) (who : ℕ) (v : Talking)
-    → events_by who past ≡ [] → StandsAt rows [] [] [] v
+    → events_by who past ≡ [] → ConnStandsAt rows [] [] [] v
     → v.progress ≡ progresses.Running askeds.Nothing → Serves rows past who [] [] None v
 begun_serves rows past who v none stands p =
     let r : Runs rows [] [] [] askeds.Nothing v =
@@ -72,7 +72,7 @@ open_more rows past who items item answered octets says = record {
   key = says.key;
   opened = says.opened;
   seat = says.seat;
-  octets = one_item_more (λ text ended rest. (octets ≡ sent rows past says.key text ended)
+  octets = one_item_more (λ text ended rest. (octets ≡ association_octets rows past says.key text ended)
       × (turns_left rows past says.key text ended ≡ rest)) items item answered says.octets;
 }
 
@@ -91,13 +91,13 @@ says_more (stages.Closed peer) progress rows past who items item told answered o
       closed = says.closed;
       octets = one_item_more (λ text ended rest.
           octets ++ owed progress (talk_of (reading_of text) ended).setup rest
-          ≡ sent rows past says.key text ended) items item answered says.octets;
+          ≡ association_octets rows past says.key text ended) items item answered says.octets;
     }
 
 pub taken_serves : (rows : CentreRows) (past : Past) (who : ℕ) (items : List Item) (item : Item)
     (octets : List ℕ) (old new : Talking)
-    → (s : Serves rows past who items octets None old) → IsInput (items ++ item ∷ [])
-    → StandsAt rows (items ++ item ∷ []) s.told s.turns new → TakesIn old new
+    → (s : Serves rows past who items octets None old) → IsLinkInput (items ++ item ∷ [])
+    → ConnStandsAt rows (items ++ item ∷ []) s.told s.turns new → TakesIn old new
     → Serves rows past who (items ++ item ∷ []) octets None new
 taken_serves rows past who items item octets old new s input stands takes =
     let all = items ++ item ∷ [] in
@@ -133,8 +133,8 @@ open_beside rows past others who items answered octets a says =
       seat = others_seat who others past a ∙ says.seat;
       octets = λ more i rest t.
           let before = says.octets more i rest t in
-          let same = others_sent rows who others past key (text_of (items ++ more))
-          (has_ended (items ++ more)) a says.seat in
+          let same = others_sent rows who others past key (text_given (items ++ more))
+          (link_has_ended (items ++ more)) a says.seat in
           (before.0 ∙ sym same.0, same.1 ∙ before.1);
     }
 
@@ -154,8 +154,8 @@ says_beside (stages.Closed peer) progress rows past others who items told answer
       opened = still_opened others past who key says.opened;
       closed = (closed_still rows key others past [] false says.closed).0;
       octets = λ more i rest t. says.octets more i rest t
-          ∙ sym (closed_still rows key others past (text_of (items ++ more))
-          (has_ended (items ++ more)) says.closed).1;
+          ∙ sym (closed_still rows key others past (text_given (items ++ more))
+          (link_has_ended (items ++ more)) says.closed).1;
     }
 
 pub others_serve : (rows : CentreRows) (past others : Past) (who : ℕ) (items : List Item)

@@ -19,7 +19,7 @@ use Rattle.tase_views.specs.declared.fault.StepFault.{StepFault}
 use Rattle.tase_views.specs.declared.reply.Answer.{Answer}
 use Rattle.tase_views.specs.History.{Past}
 use Rattle.tase_views.specs.OwnTable.{own_table}
-use Rattle.tase_map.specs.Inputs.{Item, IsInput, text_of, has_ended}
+use Rattle.tase_map.specs.Inputs.{Item, IsLinkInput, text_given, link_has_ended}
 use Rattle.tase_map.specs.Readings.{reading_of}
 use Rattle.tase_map.specs.Turns.{Turn, turns_of}
 use Rattle.tase_map.specs.Asks.{is_last, up_to_last, asks_behind, without_pauses}
@@ -27,8 +27,8 @@ use Rattle.tase_map.specs.Out.{talk_of, concluded_octets, close_octets, early_oc
 use Rattle.tase_map.specs.Out.{refusal_octets}
 use Rattle.tase_map.specs.Sent.{events_by, turns_left}
 use Rattle.tase_map.proofs.Adding.{close_adds}
-use Rattle.tase_conn.specs.declared.stage.Asked.{Asked}
-use Rattle.tase_conn.specs.declared.stage.Asked.TheVariants as askeds
+use Rattle.tase_conn.specs.declared.stage.PendingEvent.{PendingEvent}
+use Rattle.tase_conn.specs.declared.stage.PendingEvent.TheVariants as askeds
 use Rattle.tase_conn.specs.declared.stage.Coming.{Coming}
 use Rattle.tase_conn.specs.declared.stage.Coming.TheVariants as comings
 use Rattle.tase_conn.specs.declared.stage.ConnEnd.{ConnEnd}
@@ -37,17 +37,17 @@ use Rattle.tase_conn.specs.declared.stage.Progress.TheVariants as progresses
 use Rattle.tase_conn.specs.declared.stage.Stage.{Stage}
 use Rattle.tase_conn.specs.declared.stage.Stage.TheVariants as stages
 use Rattle.tase_conn.specs.Talking.{Talking, pending_of, is_open_stage}
-use Rattle.tase_conn.specs.Places.{StandsAt, Runs, GoesBy, Begins, is_connected, early_standing}
+use Rattle.tase_conn.specs.Places.{ConnStandsAt, Runs, GoesBy, BeginsTurns, is_connected, early_standing}
 use Rattle.tase_conn.specs.Places.{standing_by}
-use Rattle.tase_conn.specs.Answering.{told_said, end_of, aborts, aborted, parted, IsAnswerFor}
-use Rattle.tase_conn.specs.Answering.{closed}
+use Rattle.tase_conn.specs.Answering.{told_said, end_of_fault, aborts, aborted, parting_octets, IsAnswerFor}
+use Rattle.tase_conn.specs.Answering.{stage_closed}
 use Rattle.tase_conn.specs.Answering.{progress_told, stage_told}
 use Rattle.tase_conn.specs.Leaving.{IsLeft, Parts}
-use Rattle.tase_conn.specs.Wanting.{Leaves, closing, IsLeaving}
-use Rattle.conn_laws.specs.Cutting.{IsClosing, parting, LeftOpen, LeftClosed}
+use Rattle.tase_conn.specs.Wanting.{WantsClose, progress_closing, IsLeaving}
+use Rattle.conn_laws.specs.Cutting.{IsClosingFor, parting, LeftOpen, LeftClosed}
 use Rattle.conn_laws.specs.Cutting.{LeftBy, HasLeft, left_said, is_leaving}
 use Rattle.conn_laws.specs.Serving.{with_event, SaysBy, SaysOpen, SaysClosed, Serves, HasTold}
-use Rattle.conn_laws.specs.Serving.{Whatever}
+use Rattle.conn_laws.specs.Serving.{HoldsOfAllInput}
 use Rattle.conn_laws.proofs.Answered.{opens_early, request_served, take_served, IsServedAt}
 use Rattle.conn_laws.proofs.Texts.{answers-append}
 use Rattle.tase_map.proofs.Fronts.{HasFront, has_front, front_read}
@@ -59,12 +59,12 @@ use Rattle.conn_laws.proofs.Wanted.{waiting_of, answered_goes}
 -- ---- no more was said than is sent
 
 early_front : (rows : CentreRows) (items : List Item) (told : List Arrival) (answered : List Turn)
-    (octets : List ℕ) (v : Course) → HasFront (text_of items) told
+    (octets : List ℕ) (v : Course) → HasFront (text_given items) told
     → octets ≡ answers_to called told
-    → Whatever items answered (λ text ended rest. (others : List ℕ)
+    → HoldsOfAllInput items answered (λ text ended rest. (others : List ℕ)
     × (early_octets rows text ≡ octets ++ others))
 early_front rows items told answered octets v front said = λ more i rest t.
-    let text = text_of (items ++ more) in
+    let text = text_given (items ++ more) in
     let r = reading_of text in
     let f = front_read text told (longer_front items more told front) in
     let later = answers_to called f.0 ++ refusal_octets rows r in (
@@ -77,9 +77,9 @@ early_front rows items told answered octets v front said = λ more i rest t.
 
 -- the turns that are answered begin those of the items
 answered_read : (rows : CentreRows) (past : Past) (who : ℕ) (items : List Item)
-    (octets : List ℕ) (event : EventKind) (asked : Asked) (v : Talking)
+    (octets : List ℕ) (event : EventKind) (asked : PendingEvent) (v : Talking)
     → (s : Serves rows past who items octets (Some event) v)
-    → Runs rows items s.told s.turns asked v → Begins s.answered (turns_of items)
+    → Runs rows items s.told s.turns asked v → BeginsTurns s.answered (turns_of items)
 answered_read rows past who items octets event asked v s r =
     let f = begins_turns rows items s.told s.turns asked v r in (
       s.are.last ∷ f.0,
@@ -88,16 +88,16 @@ answered_read rows past who items octets event asked v s r =
     )
 
 pub setup_known : (items : List Item) (told : List Arrival) (answered : List Turn) (rows : CentreRows)
-    (turns : List Turn) (asked : Asked) (v : Talking) → Runs rows items told turns asked v
+    (turns : List Turn) (asked : PendingEvent) (v : Talking) → Runs rows items told turns asked v
     → is_some (first_in connect_in told) ≡ true
-    → Whatever items answered (λ text ended rest.
+    → HoldsOfAllInput items answered (λ text ended rest.
     v.course.setup ≡ (talk_of (reading_of text) ended).setup)
 setup_known items told answered rows turns asked v r connect = λ more i rest t.
     let x = fixed_over items more told v.course r.stands connect in x.course_setup ∙ sym x.setup
 
 -- an association that doesn't stand isn't aborted
 unparted : (course : Course) (end : ConnEnd) → is_accepted course.standing ≡ false
-    → parted course end ≡ []
+    → parting_octets course end ≡ []
 unparted course end e =
     let none : aborted course ≡ [] = rw e refl in
     by_end (aborts end) none
@@ -133,7 +133,7 @@ early_kept : (rows : CentreRows) (past : Past) (who : ℕ) (items : List Item) (
     (answered : List Turn) (octets : List ℕ) (end : ConnEnd) (old : Talking)
     → old.stage ≡ stages.Early → is_accepted old.course.standing ≡ false
     → events_by who past ≡ [] → reverse (events_by who past) ≡ asks_behind rows [] answered
-    → HasFront (text_of items) told → octets ≡ answers_to called told
+    → HasFront (text_given items) told → octets ≡ answers_to called told
     → IsKept true rows past who items answered octets end old
 early_kept rows past who items told answered octets end old early unaccepted none asked front said =
     let none_said : left_said old.stage old.course end ≡ [] =
@@ -169,12 +169,12 @@ open_kept rows past who items octets event end old peer offered s p r =
     early_kept rows past who items s.told s.answered octets end old early
     (ap (λ (x : EndState). is_accepted x)
     (r.standing ∙ ap (λ (x : Stage). standing_by x asked old.held) early)) before.0 s.asked
-    (has_front (text_of items) s.told old.course r.stands) before.1
+    (has_front (text_given items) s.told old.course r.stands) before.1
 
 -- while its association is open
 served_kept : (rows : CentreRows) (past : Past) (who : ℕ) (items : List Item)
     (told : List Arrival) (turns answered : List Turn) (octets : List ℕ) (end : ConnEnd)
-    (asked : Asked) (peer : ℕ) (detail : ℤ) (old : Talking)
+    (asked : PendingEvent) (peer : ℕ) (detail : ℤ) (old : Talking)
     → Runs rows items told turns asked old → old.stage ≡ stages.Open peer detail
     → reverse (events_by who past) ≡ asks_behind rows [] answered
     → SaysOpen rows past who items answered octets
@@ -205,7 +205,7 @@ served_kept rows past who items told turns answered octets end asked peer detail
     }))
 
 asked_kept : (rows : CentreRows) (past : Past) (who : ℕ) (items : List Item)
-    (octets : List ℕ) (event : EventKind) (end : ConnEnd) (old : Talking) (asked : Asked)
+    (octets : List ℕ) (event : EventKind) (end : ConnEnd) (old : Talking) (asked : PendingEvent)
     → (s : Serves rows past who items octets (Some event) old)
     → Runs rows items s.told s.turns asked old → IsServedAt old.stage old.held
     → IsKept true rows past who items s.answered octets end old
@@ -217,7 +217,7 @@ asked_kept rows past who items octets event end old asked s r w =
 
 running_kept : (rows : CentreRows) (past : Past) (who : ℕ) (items : List Item)
     (octets : List ℕ) (event : EventKind) (fault : StepFault) (end : ConnEnd) (old : Talking)
-    (asked : Asked) → (s : Serves rows past who items octets (Some event) old)
+    (asked : PendingEvent) → (s : Serves rows past who items octets (Some event) old)
     → old.progress ≡ progresses.Running asked
     → IsAnswerFor (progresses.Running asked) (Err fault)
     → Runs rows items s.told s.turns asked old
@@ -238,7 +238,7 @@ running_kept rows past who items octets event fault end old (askeds.Closing caus
 
 -- how it stands then
 pub record Stands (end : ConnEnd) (old new : Talking) : Type 0 where
-  pub waits : IsClosing new.progress None end
+  pub waits : IsClosingFor new.progress None end
   pub owes : is_open_stage new.stage ≡ is_leaving new.progress
   pub stage : new.stage ≡ old.stage
   pub course : is_open_stage old.stage ≡ true → new.course ≡ old.course
@@ -246,20 +246,20 @@ pub record Stands (end : ConnEnd) (old new : Talking) : Type 0 where
 
 pub stands_by : (b : Bool) (end : ConnEnd) (old new : Talking) → is_open_stage old.stage ≡ b
     → MatchBool b (new ≡ record old { progress = progresses.Leaving end false })
-    (Parts (progresses.Cut end) (parted old.course end) old new)
+    (Parts (progresses.Cut end) (parting_octets old.course end) old new)
     → Stands end old new
 stands_by true end old new e l = record {
-  waits = subst (λ (x : Progress). IsClosing x None end)
+  waits = subst (λ (x : Progress). IsClosingFor x None end)
       (sym (ap (λ (v : Talking). v.progress) l)) refl;
   owes = ap (λ (v : Talking). is_open_stage v.stage) l ∙ e
       ∙ sym (ap (λ (v : Talking). is_leaving v.progress) l);
   stage = ap (λ (v : Talking). v.stage) l;
   course = λ is. ap (λ (v : Talking). v.course) l;
   pending = ap (λ (v : Talking). pending_of v) l ∙ sym (append-nil (pending_of old))
-      ∙ ap (λ (b : Bool). pending_of old ++ (if b then [] else parted old.course end)) (sym e);
+      ∙ ap (λ (b : Bool). pending_of old ++ (if b then [] else parting_octets old.course end)) (sym e);
 }
 stands_by false end old new e l = record {
-  waits = subst (λ (x : Progress). IsClosing x None end)
+  waits = subst (λ (x : Progress). IsClosingFor x None end)
       (sym (ap (λ (v : Talking). v.progress) l.is)) refl;
   owes = ap (λ (v : Talking). is_open_stage v.stage) l.is ∙ e
       ∙ sym (ap (λ (v : Talking). is_leaving v.progress) l.is);
@@ -267,14 +267,14 @@ stands_by false end old new e l = record {
   course = λ is. absurd (false≢true (sym e ∙ is));
   pending = ap (λ (os : List ℕ). os ++ new.farewell.items) (ap (λ (v : Talking). v.out) l.is)
       ∙ ap (λ (os : List ℕ). old.out ++ os) l.said_is
-      ∙ sym (append_assoc old.out old.farewell.items (parted old.course end))
-      ∙ ap (λ (b : Bool). pending_of old ++ (if b then [] else parted old.course end)) (sym e);
+      ∙ sym (append_assoc old.out old.farewell.items (parting_octets old.course end))
+      ∙ ap (λ (b : Bool). pending_of old ++ (if b then [] else parting_octets old.course end)) (sym e);
 }
 
 -- what begins all turns begins those up to the last
 up_to_read : (rows : CentreRows) (items : List Item) (answered : List Turn)
-    → list_any (is_last rows) answered ≡ false → Begins answered (turns_of items)
-    → Begins answered (up_to_last rows (turns_of items))
+    → list_any (is_last rows) answered ≡ false → BeginsTurns answered (turns_of items)
+    → BeginsTurns answered (up_to_last rows (turns_of items))
 up_to_read rows items answered goes b = (
   up_to_last rows b.0,
   ap (λ (ts : List Turn). up_to_last rows ts) b.1 ∙ goes_front rows answered b.0 goes,
@@ -298,9 +298,9 @@ kept_on whole (stages.Closed peer) end standing rows past who items answered oct
 pub leaves : (whole : Bool) (rows : CentreRows) (past : Past) (who : ℕ) (items : List Item)
     (told : List Arrival)
     (turns answered : List Turn) (octets octets_more : List ℕ) (end : ConnEnd)
-    (old new : Talking) → IsInput items → StandsAt rows items told turns new → IsLeft end old new
+    (old new : Talking) → IsLinkInput items → ConnStandsAt rows items told turns new → IsLeft end old new
     → pending_of new ≡ pending_of old ++ octets_more
-    → Begins answered (up_to_last rows (turns_of items))
+    → BeginsTurns answered (up_to_last rows (turns_of items))
     → IsKept whole rows past who items answered octets end old
     → HasLeft whole end old.course.standing rows past who items (octets ++ octets_more) None new
 leaves whole rows past who items told turns answered octets octets_more end old new input stands
@@ -333,9 +333,9 @@ leaves whole rows past who items told turns answered octets octets_more end old 
 pub refused_leaves : (rows : CentreRows) (past : Past) (who : ℕ) (items : List Item)
     (octets octets_more : List ℕ) (event : EventKind) (fault : StepFault) (old new : Talking)
     → (s : Serves rows past who items octets (Some event) old)
-    → IsAnswerFor old.progress (Err fault) → StandsAt rows items s.told s.turns new
-    → IsLeft (end_of fault) old new → pending_of new ≡ pending_of old ++ octets_more
-    → HasLeft true (end_of fault) old.course.standing rows past who items
+    → IsAnswerFor old.progress (Err fault) → ConnStandsAt rows items s.told s.turns new
+    → IsLeft (end_of_fault fault) old new → pending_of new ≡ pending_of old ++ octets_more
+    → HasLeft true (end_of_fault fault) old.course.standing rows past who items
     (octets ++ octets_more) None
     new
 refused_leaves rows past who items octets octets_more event fault old new s right stands left
@@ -344,11 +344,11 @@ refused_leaves rows past who items octets octets_more event fault old new s righ
     let asked = found.0 in
     let r : Runs rows items s.told s.turns asked old =
     subst (λ (x : Progress). GoesBy x rows items s.told s.turns old) found.1 s.stands.goes in
-    leaves true rows past who items s.told s.turns s.answered octets octets_more (end_of fault) old
+    leaves true rows past who items s.told s.turns s.answered octets octets_more (end_of_fault fault) old
     new s.input stands left pending
     (up_to_read rows items s.answered (answered_goes rows past who items octets event old s)
     (answered_read rows past who items octets event asked old s r))
-    (running_kept rows past who items octets event fault (end_of fault) old asked s found.1
+    (running_kept rows past who items octets event fault (end_of_fault fault) old asked s found.1
     (subst (λ (x : Progress). IsAnswerFor x (Err fault)) found.1 right) r)
 
 -- ---- it is given up
@@ -364,13 +364,13 @@ concluded_kept rows past who items told answered octets end peer old r st before
     let standing = old.course.standing in
     let connect = r.connected ∙ ap (λ (x : Stage). is_connected x askeds.Nothing old.held) st in
     let setup = setup_known items told answered rows answered askeds.Nothing old r connect in
-    let part : left_said old.stage old.course end ≡ parted old.course end =
+    let part : left_said old.stage old.course end ≡ parting_octets old.course end =
     ap (λ (x : Stage). left_said x old.course end) st in
     subst (λ (os : List ℕ). LeftBy true old.stage end standing old.course rows past who items
     answered
     (octets ++ os)) (sym part)
     (subst (λ (x : Stage). LeftBy true x end standing old.course rows past who items answered
-    (octets ++ parted old.course end)) (sym st)
+    (octets ++ parting_octets old.course end)) (sym st)
     (inr (record {
       key = says.key;
       opened = says.opened;
@@ -379,8 +379,8 @@ concluded_kept rows past who items told answered octets end peer old r st before
       before = octets;
       octets = λ more i rest t. (
         ap (λ (s : AssociationSetup). octets ++ parting end standing s) (setup more i rest t),
-        concluded_octets (talk_of (reading_of (text_of (items ++ more)))
-            (has_ended (items ++ more))).setup (without_pauses rest),
+        concluded_octets (talk_of (reading_of (text_given (items ++ more)))
+            (link_has_ended (items ++ more))).setup (without_pauses rest),
         sym (says.octets more i rest t),
       );
     })))
@@ -396,7 +396,7 @@ idle_kept rows past who items told answered octets end stages.Early old r st bef
     (ap (λ (x : EndState). is_accepted x)
     (r.standing ∙ ap (λ (x : Stage). standing_by x askeds.Nothing old.held) st)
     ∙ early_unaccepted old.held) says.0 before
-    (has_front (text_of items) told old.course r.stands) says.1
+    (has_front (text_given items) told old.course r.stands) says.1
 idle_kept rows past who items told answered octets end (stages.Open peer detail) old r st before
     says =
     served_kept rows past who items told answered answered octets end askeds.Nothing peer detail old
@@ -407,7 +407,7 @@ idle_kept rows past who items told answered octets end (stages.Closed peer) old 
 pub given_up : (rows : CentreRows) (past : Past) (who : ℕ) (items : List Item)
     (octets octets_more : List ℕ) (end : ConnEnd) (old new : Talking)
     → (s : Serves rows past who items octets None old)
-    → old.progress ≡ progresses.Running askeds.Nothing → StandsAt rows items s.told s.turns new
+    → old.progress ≡ progresses.Running askeds.Nothing → ConnStandsAt rows items s.told s.turns new
     → IsLeft end old new → pending_of new ≡ pending_of old ++ octets_more
     → HasLeft true end old.course.standing rows past who items (octets ++ octets_more) None new
 given_up rows past who items octets octets_more end old new s p stands left pending =
@@ -429,17 +429,17 @@ given_up rows past who items octets octets_more end old new s p stands left pend
 
 -- the close was asked
 record Asks (end : ConnEnd) (old new : Talking) : Type 0 where
-  waits : IsClosing new.progress (Some events.Close) end
+  waits : IsClosingFor new.progress (Some events.Close) end
   leaving : is_leaving new.progress ≡ is_leaving old.progress
   stage : new.stage ≡ old.stage
   course : new.course ≡ old.course
 
 asks_close : (p : Progress) (end : ConnEnd) (old new : Talking) → old.progress ≡ p → IsLeaving p
-    → IsClosing p None end → new ≡ closing old p → Asks end old new
+    → IsClosingFor p None end → new ≡ progress_closing old p → Asks end old new
 asks_close (progresses.Running asked) end old new e l w n = absurd l
 asks_close progresses.Refused end old new e l w n = absurd l
 asks_close (progresses.Leaving left false) end old new e l w n = record {
-  waits = subst (λ (x : Progress). IsClosing x (Some events.Close) end)
+  waits = subst (λ (x : Progress). IsClosingFor x (Some events.Close) end)
       (sym (ap (λ (v : Talking). v.progress) n)) w;
   leaving = ap (λ (v : Talking). is_leaving v.progress) n
       ∙ sym (ap (λ (x : Progress). is_leaving x) e);
@@ -454,7 +454,7 @@ pub closing_leaves : (rows : CentreRows) (past : Past) (who : ℕ) (items : List
     (octets : List ℕ) (event : Option EventKind) (whole : Bool) (end : ConnEnd)
     (standing : EndState)
     (old new : Talking) → (h : HasLeft whole end standing rows past who items octets None old)
-    → IsLeaving old.progress → Leaves event old new × StandsAt rows items h.told h.turns new
+    → IsLeaving old.progress → WantsClose event old new × ConnStandsAt rows items h.told h.turns new
     → HasLeft whole end standing rows past who items octets event new
 closing_leaves rows past who items octets event whole end standing old new h leaving l =
     let a = asks_close old.progress end old new refl leaving h.waits l.0.is in
@@ -463,7 +463,7 @@ closing_leaves rows past who items octets event whole end standing old new h lea
       turns = h.turns;
       input = h.input;
       stands = l.1;
-      waits = subst (λ (e : Option EventKind). IsClosing new.progress e end) (sym l.0.event_is)
+      waits = subst (λ (e : Option EventKind). IsClosingFor new.progress e end) (sym l.0.event_is)
           a.waits;
       owes = ap (λ (x : Stage). is_open_stage x) a.stage ∙ h.owes ∙ sym a.leaving;
       answered = h.answered;
@@ -482,7 +482,7 @@ record IsClose (event : EventKind) (end : ConnEnd) (old : Talking) : Type 0 wher
   progress : old.progress ≡ progresses.Leaving end true
 
 close_of : (p : Progress) (event : EventKind) (end : ConnEnd) (old : Talking)
-    → old.progress ≡ p → IsClosing p (Some event) end → IsClose event end old
+    → old.progress ≡ p → IsClosingFor p (Some event) end → IsClose event end old
 close_of (progresses.Running asked) event end old p w = absurd w
 close_of progresses.Refused event end old p w = absurd w
 close_of (progresses.Leaving left false) event end old p w = absurd w
@@ -500,7 +500,7 @@ closed_says : (whole : Bool) (rows : CentreRows) (past : Past) (who : ℕ) (item
     (answered : List Turn) (octets : List ℕ) (end : ConnEnd) (standing : EndState) (course : Course)
     → LeftOpen whole standing course rows past who items answered octets
     → LeftClosed whole end standing rows (with_event who events.Close past) who items answered
-    (octets ++ parted course end)
+    (octets ++ parting_octets course end)
 closed_says whole rows past who items answered octets end standing course o =
     let key = o.key in
     record {
@@ -512,20 +512,20 @@ closed_says whole rows past who items answered octets end standing course o =
           ∙ ap (λ (es : List EventKind). es ++ events.Close ∷ []) o.asked;
       before = octets;
       octets = λ more i rest t.
-          let talk = talk_of (reading_of (text_of (items ++ more))) (has_ended (items ++ more)) in
+          let talk = talk_of (reading_of (text_given (items ++ more))) (link_has_ended (items ++ more)) in
           let b = o.octets more i rest t in (
             ap (λ (x : EndState). octets ++ parting end x course.setup) o.stood
                 ∙ ap (λ (s : AssociationSetup). octets ++ parting end standing s) (o.setup more i rest t),
             b.0,
             close_adds rows (own_table rows key.peer) talk key who past o.seat
                 ∙ ap (λ (os : List ℕ). os ++ close_octets talk.setup (turns_left rows past key
-                (text_of (items ++ more)) (has_ended (items ++ more)))) b.1
+                (text_given (items ++ more)) (link_has_ended (items ++ more)))) b.1
                 ∙ ap (λ (ts : List Turn). (octets ++ b.0) ++ close_octets talk.setup ts) b.2,
             b.3,
           );
     }
 
-closed_shut : (stage : Stage) → is_open_stage (closed stage) ≡ false
+closed_shut : (stage : Stage) → is_open_stage (stage_closed stage) ≡ false
 closed_shut stages.Early = refl
 closed_shut (stages.Open peer detail) = refl
 closed_shut (stages.Closed peer) = refl
@@ -535,8 +535,8 @@ closed_by : (whole : Bool) (stage : Stage) (rows : CentreRows) (past : Past) (wh
     (answered : List Turn) (octets : List ℕ) (end : ConnEnd) (standing : EndState)
     (old new : Course) → is_open_stage stage ≡ true
     → LeftBy whole stage end standing old rows past who items answered octets
-    → LeftBy whole (closed stage) end standing new rows (with_event who events.Close past) who items
-    answered (octets ++ parted old end)
+    → LeftBy whole (stage_closed stage) end standing new rows (with_event who events.Close past) who items
+    answered (octets ++ parting_octets old end)
 closed_by whole stages.Early rows past who items answered octets end standing old new o k =
     absurd (false≢true o)
 closed_by whole (stages.Open peer detail) rows past who items answered octets end standing old new
@@ -558,9 +558,9 @@ closed_leaves rows past who items octets event answer whole end standing old new
     let p = c.progress in
     let is_open : is_open_stage old.stage ≡ true =
     subst (λ (x : Progress). GoesBy x rows items h.told h.turns old) p h.stands.goes in
-    let said : told_said old.progress old.stage old.course (Ok answer) ≡ parted old.course end =
+    let said : told_said old.progress old.stage old.course (Ok answer) ≡ parting_octets old.course end =
     ap (λ (x : Progress). told_said x old.stage old.course (Ok answer)) p in
-    let stage : new.stage ≡ closed old.stage =
+    let stage : new.stage ≡ stage_closed old.stage =
     t.stage ∙ ap (λ (x : Progress). stage_told x (Ok answer) old.stage) p in
     let progress : new.progress ≡ progresses.Cut end =
     t.progress ∙ ap (λ (x : Progress). progress_told x old.stage (Ok answer)) p in
@@ -570,7 +570,7 @@ closed_leaves rows past who items octets event answer whole end standing old new
       turns = h.turns;
       input = h.input;
       stands = t.stands;
-      waits = subst (λ (x : Progress). IsClosing x None end) (sym progress) refl;
+      waits = subst (λ (x : Progress). IsClosingFor x None end) (sym progress) refl;
       owes = ap (λ (x : Stage). is_open_stage x) stage ∙ closed_shut old.stage
           ∙ sym (ap (λ (x : Progress). is_leaving x) progress);
       answered = h.answered;
@@ -578,11 +578,11 @@ closed_leaves rows past who items octets event answer whole end standing old new
       says = subst (λ (x : Stage). LeftBy whole x end standing new.course rows now who items
           h.answered
           (octets ++ told_said old.progress old.stage old.course (Ok answer))) (sym stage)
-          (subst (λ (os : List ℕ). LeftBy whole (closed old.stage) end standing new.course rows now
+          (subst (λ (os : List ℕ). LeftBy whole (stage_closed old.stage) end standing new.course rows now
           who
           items h.answered (octets ++ os)) (sym said)
-          (subst (λ (x : EventKind). LeftBy whole (closed old.stage) end standing new.course rows
-          (with_event who x past) who items h.answered (octets ++ parted old.course end))
+          (subst (λ (x : EventKind). LeftBy whole (stage_closed old.stage) end standing new.course rows
+          (with_event who x past) who items h.answered (octets ++ parting_octets old.course end))
           (sym c.event_is)
           (closed_by whole old.stage rows past who items h.answered octets end standing old.course
           new.course is_open h.says)));

@@ -11,25 +11,25 @@ use Rattle.bilateral.specs.Rows.{CentreRows}
 use Rattle.tase_views.specs.declared.event.EventKind.{EventKind}
 use Rattle.tase_views.specs.declared.event.EventKind.TheVariants as events
 use Rattle.tase_views.specs.History.{Past}
-use Rattle.tase_map.specs.Inputs.{Item, IsInput, text_of, has_ended}
+use Rattle.tase_map.specs.Inputs.{Item, IsLinkInput, text_given, link_has_ended}
 use Rattle.tase_map.specs.Readings.{reading_of}
 use Rattle.tase_map.specs.Turns.{Turn, offers, offers_badly, asks, concludes, releases, aborts}
 use Rattle.tase_map.specs.Turns.{breaks, ends, pauses, turns_of}
 use Rattle.tase_map.specs.Asks.{is_last, up_to_last, asks_behind, without_pauses}
-use Rattle.tase_map.specs.Out.{talk_of, close_octets, abort_octets, early_octets}
-use Rattle.tase_map.specs.Sent.{events_by, sent, turns_left}
+use Rattle.tase_map.specs.Out.{talk_of, close_octets, abort_wire, early_octets}
+use Rattle.tase_map.specs.Sent.{events_by, association_octets, turns_left}
 use Rattle.tase_conn.specs.declared.stage.ConnEnd.{ConnEnd}
 use Rattle.tase_conn.specs.declared.stage.Progress.{Progress}
 use Rattle.tase_conn.specs.declared.stage.Progress.TheVariants as progresses
 use Rattle.tase_conn.specs.declared.stage.Stage.{Stage}
 use Rattle.tase_conn.specs.declared.stage.Stage.TheVariants as stages
 use Rattle.tase_conn.specs.Talking.{Talking, is_open_stage}
-use Rattle.tase_conn.specs.Places.{StandsAt}
+use Rattle.tase_conn.specs.Places.{ConnStandsAt}
 use Rattle.tase_conn.specs.Taken.{TakesIn}
 use Rattle.tase_conn.specs.Answering as answering
 use Rattle.tase_map.proofs.AskedOn.{turns_on}
 use Rattle.tase_map.proofs.AskedOn.{asks_join}
-use Rattle.conn_laws.specs.Cutting.{IsClosing, parting, LeftClosed}
+use Rattle.conn_laws.specs.Cutting.{IsClosingFor, parting, LeftClosed}
 use Rattle.conn_laws.specs.Cutting.{LeftBy, HasLeft, HasSaidSome, WasLeft, IsUnexplained}
 use Rattle.conn_laws.specs.Cutting.{is_leaving}
 use Rattle.conn_laws.proofs.Left.{kept_on}
@@ -64,8 +64,8 @@ left_beside whole (stages.Open peer detail) end standing course rows past others
       setup = k.setup;
       octets = λ more i rest t.
           let o = k.octets more i rest t in
-          let same = others_sent rows who others past k.key (text_of (items ++ more))
-          (has_ended (items ++ more)) a k.seat in
+          let same = others_sent rows who others past k.key (text_given (items ++ more))
+          (link_has_ended (items ++ more)) a k.seat in
           (o.0, same.0 ∙ o.1, same.1 ∙ o.2, o.3);
     }
 left_beside whole (stages.Closed peer) end standing course rows past others who items answered
@@ -81,8 +81,8 @@ left_beside whole (stages.Closed peer) end standing course rows past others who 
           let o = k.octets more i rest t in (
             o.0,
             o.1,
-            (closed_still rows k.key others past (text_of (items ++ more))
-                (has_ended (items ++ more)) k.closed).1 ∙ o.2,
+            (closed_still rows k.key others past (text_given (items ++ more))
+                (link_has_ended (items ++ more)) k.closed).1 ∙ o.2,
             o.3,
           );
     })
@@ -99,8 +99,8 @@ left_beside whole (stages.Closed peer) end standing course rows past others who 
           let o = k.octets more i rest t in (
             o.0,
             o.1,
-            (closed_still rows k.key others past (text_of (items ++ more))
-                (has_ended (items ++ more)) k.closed).1 ∙ o.2,
+            (closed_still rows k.key others past (text_given (items ++ more))
+                (link_has_ended (items ++ more)) k.closed).1 ∙ o.2,
           );
     })
 
@@ -162,7 +162,7 @@ left_more whole (stages.Open peer detail) end standing course rows past who item
       setup = one_item_more (λ text ended rest.
           course.setup ≡ (talk_of (reading_of text) ended).setup) items item answered k.setup;
       octets = one_item_more (λ text ended rest. (missing : List ℕ)
-          × (sent rows past k.key text ended ≡ octets ++ missing)
+          × (association_octets rows past k.key text ended ≡ octets ++ missing)
           × (turns_left rows past k.key text ended ≡ rest) × (whole ≡ true → missing ≡ [])) items
           item answered k.octets;
     }
@@ -176,7 +176,7 @@ left_more whole (stages.Closed peer) end standing course rows past who items ite
       before = k.before;
       octets = one_item_more (λ text ended rest.
           (octets ≡ k.before ++ parting end standing (talk_of (reading_of text) ended).setup)
-          × (missing : List ℕ) × (sent rows past k.key text ended
+          × (missing : List ℕ) × (association_octets rows past k.key text ended
           ≡ (k.before ++ missing) ++ close_octets (talk_of (reading_of text) ended).setup rest)
           × (whole ≡ true → missing ≡ [])) items item answered k.octets;
     })
@@ -190,7 +190,7 @@ left_more whole (stages.Closed peer) end standing course rows past who items ite
       before = k.before;
       octets = one_item_more (λ text ended rest.
           (octets ≡ k.before ++ parting end standing (talk_of (reading_of text) ended).setup)
-          × (others : List ℕ) × (sent rows past k.key text ended ≡ k.before ++ others)) items item
+          × (others : List ℕ) × (association_octets rows past k.key text ended ≡ k.before ++ others)) items item
           answered k.octets;
     })
 
@@ -198,8 +198,8 @@ pub dropped_leaves : (whole : Bool) (end : ConnEnd) (standing : EndState) (rows 
     (past : Past)
     (who : ℕ) (items : List Item) (item : Item) (octets : List ℕ) (old new : Talking)
     → (h : HasLeft whole end standing rows past who items octets None old)
-    → old.progress ≡ progresses.Cut end → IsInput (items ++ item ∷ [])
-    → StandsAt rows (items ++ item ∷ []) h.told h.turns new → TakesIn old new
+    → old.progress ≡ progresses.Cut end → IsLinkInput (items ++ item ∷ [])
+    → ConnStandsAt rows (items ++ item ∷ []) h.told h.turns new → TakesIn old new
     → HasLeft whole end standing rows past who (items ++ item ∷ []) octets None new
 dropped_leaves whole end standing rows past who items item octets old new h p input stands takes =
     let all = items ++ item ∷ [] in
@@ -214,7 +214,7 @@ dropped_leaves whole end standing rows past who items item octets old new h p in
       turns = h.turns;
       input = input;
       stands = stands;
-      waits = subst (λ (x : Progress). IsClosing x None end) (sym progress) h.waits;
+      waits = subst (λ (x : Progress). IsClosingFor x None end) (sym progress) h.waits;
       owes = ap (λ (x : Stage). is_open_stage x) stage ∙ h.owes
           ∙ ap (λ (x : Progress). is_leaving x) (sym progress);
       answered = h.answered;
@@ -238,7 +238,7 @@ dropped_leaves whole end standing rows past who items item octets old new h p in
 
 said_some : (whole : Bool) (stage : Stage) (end : ConnEnd) (standing : EndState) (course : Course)
     (rows : CentreRows) (past : Past) (who : ℕ) (items : List Item) (answered rest : List Turn)
-    (octets : List ℕ) → IsInput items → turns_of items ≡ answered ++ rest
+    (octets : List ℕ) → IsLinkInput items → turns_of items ≡ answered ++ rest
     → is_open_stage stage ≡ false
     → LeftBy whole stage end standing course rows past who items answered octets
     → ((reverse (events_by who past) ≡ asks_behind rows [] answered)
@@ -257,10 +257,10 @@ said_some whole (stages.Closed peer) end standing course rows past who items ans
     (inl k) =
     let e = over_all (λ text ended rest.
     (octets ≡ k.before ++ parting end standing (talk_of (reading_of text) ended).setup)
-    × (missing : List ℕ) × (sent rows past k.key text ended
+    × (missing : List ℕ) × (association_octets rows past k.key text ended
     ≡ (k.before ++ missing) ++ close_octets (talk_of (reading_of text) ended).setup rest)
     × (whole ≡ true → missing ≡ [])) items answered rest i t k.octets in
-    let close = close_octets (talk_of (reading_of (text_of items)) (has_ended items)).setup
+    let close = close_octets (talk_of (reading_of (text_given items)) (link_has_ended items)).setup
     (without_pauses rest) in (
       inr k.asked,
       inl (
@@ -278,7 +278,7 @@ said_some whole (stages.Closed peer) end standing course rows past who items ans
     (inr k) =
     let e = over_all (λ text ended rest.
     (octets ≡ k.before ++ parting end standing (talk_of (reading_of text) ended).setup)
-    × (others : List ℕ) × (sent rows past k.key text ended ≡ k.before ++ others)) items answered
+    × (others : List ℕ) × (association_octets rows past k.key text ended ≡ k.before ++ others)) items answered
     rest i t k.octets in
     (inl k.asked, inl (k.key, k.opened, k.closed, k.before, e.1, e.0, e.2))
 
@@ -306,7 +306,7 @@ was_left whole end standing rows past who items octets v h p =
     }
 
 unexplained : (setup : AssociationSetup) (rest : List Turn) → IsUnexplained rest
-    → close_octets setup rest ≡ abort_octets setup
+    → close_octets setup rest ≡ abort_wire setup
 unexplained setup [] u = refl
 unexplained setup (offers title ∷ rest) u = refl
 unexplained setup (offers_badly ∷ rest) u = refl
@@ -319,21 +319,21 @@ unexplained setup (ends ∷ rest) u = absurd u
 unexplained setup (pauses ∷ rest) u = refl
 
 parts : (end : ConnEnd) (standing : EndState) (setup : AssociationSetup) → answering.aborts end ≡ true
-    → is_accepted standing ≡ true → parting end standing setup ≡ abort_octets setup
+    → is_accepted standing ≡ true → parting end standing setup ≡ abort_wire setup
 parts end standing setup a s = rw (a, s) refl
 
 -- where nothing in the text explains its close, all was said
 pub all_said : (end : ConnEnd) (standing : EndState) (rows : CentreRows) (past : Past) (who : ℕ)
-    (items : List Item) (answered rest : List Turn) (octets : List ℕ) → IsInput items
+    (items : List Item) (answered rest : List Turn) (octets : List ℕ) → IsLinkInput items
     → turns_of items ≡ answered ++ rest → IsUnexplained (without_pauses rest)
     → answering.aborts end ≡ true → is_accepted standing ≡ true
     → (l : LeftClosed true end standing rows past who items answered octets)
-    → octets ≡ sent rows past l.key (text_of items) (has_ended items)
+    → octets ≡ association_octets rows past l.key (text_given items) (link_has_ended items)
 all_said end standing rows past who items answered rest octets i t u a s l =
-    let setup = (talk_of (reading_of (text_of items)) (has_ended items)).setup in
+    let setup = (talk_of (reading_of (text_given items)) (link_has_ended items)).setup in
     let e = over_all (λ text ended rest.
     (octets ≡ l.before ++ parting end standing (talk_of (reading_of text) ended).setup)
-    × (missing : List ℕ) × (sent rows past l.key text ended
+    × (missing : List ℕ) × (association_octets rows past l.key text ended
     ≡ (l.before ++ missing) ++ close_octets (talk_of (reading_of text) ended).setup rest)
     × (true ≡ true → missing ≡ [])) items answered rest i t l.octets in
     let close = close_octets setup (without_pauses rest) in

@@ -15,18 +15,18 @@ use Rattle.tase_conn.specs.declared.stage.Progress.TheVariants as progresses
 use Rattle.tase_conn.specs.declared.stage.Stage.{Stage}
 use Rattle.tase_conn.specs.declared.stage.Stage.TheVariants as stages
 use Rattle.tase_conn.specs.Talking.{Talking, is_open_stage}
-use Rattle.tase_conn.specs.Places.{StandsAt}
-use Rattle.tase_conn.specs.Taken.{IsSent}
+use Rattle.tase_conn.specs.Places.{ConnStandsAt}
+use Rattle.tase_conn.specs.Taken.{SendsSome}
 use Rattle.tase_conn.specs.Leaving.{IsLeft}
 use Rattle.tase_conn.specs.Wanting.{IsLeaving}
-use Rattle.conn_laws.specs.Cutting.{IsClosing, LeftBy, HasLeft, is_leaving}
+use Rattle.conn_laws.specs.Cutting.{IsClosingFor, LeftBy, HasLeft, is_leaving}
 use Rattle.conn_laws.specs.Serving.{IsWaiting, SaysBy, Serves}
 use Rattle.conn_laws.proofs.Left.{stands_by, kept_on}
 
 pub sent_serves : (rows : CentreRows) (past : Past) (who : ℕ) (items : List Item)
     (octets : List ℕ) (waiting : Option EventKind) (old new : Talking)
     → (s : Serves rows past who items octets waiting old)
-    → StandsAt rows items s.told s.turns new → IsSent old new
+    → ConnStandsAt rows items s.told s.turns new → SendsSome old new
     → Serves rows past who items octets waiting new
 sent_serves rows past who items octets waiting old new s stands same =
     let p : new.progress ≡ old.progress = ap (λ (v : Talking). v.progress) same in
@@ -49,7 +49,7 @@ sent_serves rows past who items octets waiting old new s stands same =
 pub sent_leaves : (whole : Bool) (end : ConnEnd) (standing : EndState) (rows : CentreRows)
     (past : Past) (who : ℕ) (items : List Item) (octets : List ℕ) (waiting : Option EventKind)
     (old new : Talking) → (h : HasLeft whole end standing rows past who items octets waiting old)
-    → StandsAt rows items h.told h.turns new → IsSent old new
+    → ConnStandsAt rows items h.told h.turns new → SendsSome old new
     → HasLeft whole end standing rows past who items octets waiting new
 sent_leaves whole end standing rows past who items octets waiting old new h stands same =
     let p : new.progress ≡ old.progress = ap (λ (v : Talking). v.progress) same in
@@ -60,7 +60,7 @@ sent_leaves whole end standing rows past who items octets waiting old new h stan
       turns = h.turns;
       input = h.input;
       stands = stands;
-      waits = subst (λ (x : Progress). IsClosing x waiting end) (sym p) h.waits;
+      waits = subst (λ (x : Progress). IsClosingFor x waiting end) (sym p) h.waits;
       owes = ap (λ (x : Stage). is_open_stage x) st ∙ h.owes
           ∙ ap (λ (x : Progress). is_leaving x) (sym p);
       answered = h.answered;
@@ -97,7 +97,7 @@ leaving_is (progresses.Cut end) l = absurd l
 pub left_again : (whole : Bool) (end other : ConnEnd) (standing : EndState) (rows : CentreRows)
     (past : Past) (who : ℕ) (items : List Item) (octets : List ℕ) (old new : Talking)
     → (h : HasLeft whole end standing rows past who items octets None old)
-    → IsLeaving old.progress → StandsAt rows items h.told h.turns new → IsLeft other old new
+    → IsLeaving old.progress → ConnStandsAt rows items h.told h.turns new → IsLeft other old new
     → HasLeft whole other standing rows past who items octets None new
 left_again whole end other standing rows past who items octets old new h leaving stands left =
     let is_open = h.owes ∙ leaving_is old.progress leaving in

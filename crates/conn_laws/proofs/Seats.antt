@@ -18,7 +18,7 @@ use Rattle.tase_views.specs.Outcomes.{is_close}
 use Rattle.tase_map.specs.Closed.{is_closed}
 use Rattle.tase_map.specs.Readings.{reading_of}
 use Rattle.tase_map.specs.Out.{talk_of, turns_behind}
-use Rattle.tase_map.specs.Sent.{events_by, sent, turns_left}
+use Rattle.tase_map.specs.Sent.{events_by, association_octets, turns_left}
 use Rattle.tase_map.proofs.Closing.{issued, closed_spent, octets_kept, at_other, next_new}
 use Rattle.tase_map.proofs.Closing.{one_seat}
 use Rattle.tase_map.proofs.Adding.{other_adds}
@@ -103,7 +103,7 @@ others_seat who (entry ∷ others) past a =
 
 pub others_sent : (rows : CentreRows) (who : ℕ) (others past : Past) (key : Key) (text : List ℕ)
     (ended : Bool) → AreOthers who others → association_in past who ≡ Some key
-    → (sent rows (others ++ past) key text ended ≡ sent rows past key text ended)
+    → (association_octets rows (others ++ past) key text ended ≡ association_octets rows past key text ended)
     × (turns_left rows (others ++ past) key text ended ≡ turns_left rows past key text ended)
 others_sent rows who [] past key text ended a e = (refl, refl)
 others_sent rows who (entry ∷ others) past key text ended a e =
@@ -164,7 +164,7 @@ pub closed_still : (rows : CentreRows) (key : Key) (later past : Past) (text : L
     (ended : Bool)
     → is_closed key past ≡ true
     → (is_closed key (later ++ past) ≡ true)
-    × (sent rows (later ++ past) key text ended ≡ sent rows past key text ended)
+    × (association_octets rows (later ++ past) key text ended ≡ association_octets rows past key text ended)
 closed_still rows key later past text ended c = (
   is_closed_later key later past c,
   octets_kept rows (own_table rows key.peer) (talk_of (reading_of text) ended) key later past

@@ -16,7 +16,7 @@ use Rattle.tpkt_cotp.specs.Written.{wire}
 use Rattle.tase_views.specs.declared.event.EventKind.{EventKind}
 use Rattle.tase_views.specs.History.{Past, association_in}
 use Rattle.tase_views.specs.Outcomes.{seat_refusal, name_refusal}
-use Rattle.tase_map.specs.Inputs.{Item, IsInput, text_of, has_ended}
+use Rattle.tase_map.specs.Inputs.{Item, IsLinkInput, text_given, link_has_ended}
 use Rattle.tase_map.specs.Readings.{reading_of}
 use Rattle.tase_map.specs.Turns.{Turn, offers, offers_badly, asks, concludes, releases, aborts}
 use Rattle.tase_map.specs.Turns.{breaks, ends, pauses, turns_told, turns_of}
@@ -24,12 +24,12 @@ use Rattle.tase_map.specs.Asks.{is_last, up_to_last, asks_at, asks_behind, asks_
 use Rattle.tase_map.specs.Asks.{AreInTurn}
 use Rattle.tase_map.specs.Out.{talk_of, concluded_octets, early_octets, is_declined, refusal_octets}
 use Rattle.tase_map.specs.Out.{end_turns}
-use Rattle.tase_map.specs.Sent.{events_by, sent, turns_left}
+use Rattle.tase_map.specs.Sent.{events_by, association_octets, turns_left}
 use Rattle.tase_map.proofs.InTurn.{asked_in_turn}
 use Rattle.tase_map.proofs.Uncut.{any_kept}
 use Rattle.tase_map.proofs.Unrefused.{unrefused}
-use Rattle.tase_conn.specs.declared.stage.Asked.{Asked}
-use Rattle.tase_conn.specs.declared.stage.Asked.TheVariants as askeds
+use Rattle.tase_conn.specs.declared.stage.PendingEvent.{PendingEvent}
+use Rattle.tase_conn.specs.declared.stage.PendingEvent.TheVariants as askeds
 use Rattle.tase_conn.specs.declared.stage.Behind.{Behind}
 use Rattle.tase_conn.specs.declared.stage.Coming.{Coming}
 use Rattle.tase_conn.specs.declared.stage.ConnEnd.{ConnEnd}
@@ -39,12 +39,12 @@ use Rattle.tase_conn.specs.declared.stage.Stage.{Stage}
 use Rattle.tase_conn.specs.declared.stage.Stage.TheVariants as stages
 use Rattle.tase_conn.specs.Talking.{Talking, IsResting}
 use Rattle.tase_conn.specs.Places.{Runs, GoesBy, EndsBy, IsDone, ReadsBy}
-use Rattle.tase_conn.specs.Places.{Begins, turns_held, fault_seen}
+use Rattle.tase_conn.specs.Places.{BeginsTurns, turns_held, fault_seen}
 use Rattle.tase_conn.proofs.LastTurns.{last_of_cause}
 use Rattle.tase_map.proofs.AskedOn.{turns_on}
 use Rattle.tase_map.proofs.AskedOn.{asks_join}
 use Rattle.conn_laws.specs.Serving.{IsWaiting, SaysBy, Serves, HasSaid}
-use Rattle.conn_laws.specs.Serving.{HasServed, Whatever}
+use Rattle.conn_laws.specs.Serving.{HasServed, HoldsOfAllInput}
 use Rattle.tase_conn.proofs.SeenTurns.{seen_front}
 use Rattle.conn_laws.proofs.Texts.{text_turns}
 use Rattle.conn_laws.proofs.TurnLists.{any_front, or_left, or_right}
@@ -101,8 +101,8 @@ kept_front rows (turn ∷ turns) =
 
 -- the turns that were acted on begin those of the items
 pub begins_turns : (rows : CentreRows) (items : List Item) (told : List Arrival) (turns : List Turn)
-    (asked : Asked) (v : Talking) → Runs rows items told turns asked v
-    → Begins turns (turns_of items)
+    (asked : PendingEvent) (v : Talking) → Runs rows items told turns asked v
+    → BeginsTurns turns (turns_of items)
 begins_turns rows items told turns asked v r =
     let f = seen_front rows items told turns asked v r in
     (turns_held v.held ++ f.0, f.1 ∙ append_assoc turns (turns_held v.held) f.0)
@@ -148,12 +148,12 @@ never_refused rows past who items octets event v s =
 -- ---- all octets
 
 pub over_all : (Holds : List ℕ → Bool → List Turn → Type 0) (items : List Item)
-    (answered rest : List Turn) → IsInput items → turns_of items ≡ answered ++ rest
-    → Whatever items answered Holds → Holds (text_of items) (has_ended items) (without_pauses rest)
+    (answered rest : List Turn) → IsLinkInput items → turns_of items ≡ answered ++ rest
+    → HoldsOfAllInput items answered Holds → Holds (text_given items) (link_has_ended items) (without_pauses rest)
 over_all Holds items answered rest i t holds =
     let same = append-nil items in
-    subst (λ (all : List Item). Holds (text_of all) (has_ended all) (without_pauses rest)) same
-    (holds [] (subst (λ (all : List Item). IsInput all) (sym same) i) rest
+    subst (λ (all : List Item). Holds (text_given all) (link_has_ended all) (without_pauses rest)) same
+    (holds [] (subst (λ (all : List Item). IsLinkInput all) (sym same) i) rest
     (subst (λ (all : List Item). turns_of all ≡ answered ++ rest) (sym same) t))
 
 undeclined : (rows : CentreRows) (turns : List Turn) → list_any (is_last rows) turns ≡ false
@@ -171,19 +171,19 @@ undeclined rows (ends ∷ turns) l = refl
 undeclined rows (pauses ∷ turns) l = refl
 
 -- no offer was refused where something follows each turn
-early_said : (rows : CentreRows) (items : List Item) → IsInput items
+early_said : (rows : CentreRows) (items : List Item) → IsLinkInput items
     → list_any (is_last rows) (turns_of items) ≡ false
-    → answers_to called (reading_of (text_of items)).told ≡ early_octets rows (text_of items)
+    → answers_to called (reading_of (text_given items)).told ≡ early_octets rows (text_given items)
 early_said rows items i l =
-    let r = reading_of (text_of items) in
-    let kept : list_any (is_last rows) (turns_told r ++ end_turns (has_ended items)) ≡ false =
+    let r = reading_of (text_given items) in
+    let kept : list_any (is_last rows) (turns_told r ++ end_turns (link_has_ended items)) ≡ false =
     ap (λ (ts : List Turn). list_any (is_last rows) ts) (sym (text_turns items i))
     ∙ any_kept (is_last rows) refl (turns_of items) ∙ l in
     let none : refusal_octets rows r ≡ [] =
     ap (λ (b : Bool). if b then wire (setup_after r.told).size
     (refusal_tsdu (setup_after r.told).acse) else [])
     (undeclined rows (turns_told r)
-    (any_front (is_last rows) (turns_told r) (end_turns (has_ended items)) kept)) in
+    (any_front (is_last rows) (turns_told r) (end_turns (link_has_ended items)) kept)) in
     sym (append-nil (answers_to called r.told))
     ∙ ap (λ (os : List ℕ). answers_to called r.told ++ os) (sym none)
 
@@ -198,14 +198,14 @@ all_done rows items told turns v at r =
     r.fault ∙ ap (λ (h : Option Coming). fault_seen h askeds.Nothing) at.acted in
     let P : Option StackFault → Type 0 = λ f. MatchOption f
     (ReadsBy v.behind items told (turns ++ turns_held v.held) v)
-    (λ fault. Begins (turns ++ turns_held v.held) (turns_of items)) in
+    (λ fault. BeginsTurns (turns ++ turns_held v.held) (turns_of items)) in
     subst (λ (h : Option Coming). IsDone items told (turns ++ turns_held h) v) at.acted
     (subst (λ (b : Behind). ReadsBy b items told (turns ++ turns_held v.held) v) at.read
     (subst P clear r.reads))
 
 running_said : (rows : CentreRows) (past : Past) (who : ℕ) (items : List Item)
-    (told : List Arrival) (turns : List Turn) (octets : List ℕ) (stage : Stage) → IsInput items
-    → turns_of items ≡ turns → told ≡ (reading_of (text_of items)).told
+    (told : List Arrival) (turns : List Turn) (octets : List ℕ) (stage : Stage) → IsLinkInput items
+    → turns_of items ≡ turns → told ≡ (reading_of (text_given items)).told
     → list_any (is_last rows) turns ≡ false
     → SaysBy stage (progresses.Running askeds.Nothing) rows past who items told turns octets
     → HasSaid rows past who items octets
@@ -216,13 +216,13 @@ running_said rows past who items told turns octets stages.Early i t all l says =
           ∙ early_said rows items i (ap (λ (ts : List Turn). list_any (is_last rows) ts) t ∙ l),
     )
 running_said rows past who items told turns octets (stages.Open peer detail) i t all l says =
-    let o = over_all (λ text ended rest. (octets ≡ sent rows past says.key text ended)
+    let o = over_all (λ text ended rest. (octets ≡ association_octets rows past says.key text ended)
     × (turns_left rows past says.key text ended ≡ rest)) items turns [] i
     (t ∙ sym (append-nil turns)) says.octets in
     inl (says.key, says.opened, o.0)
 running_said rows past who items told turns octets (stages.Closed peer) i t all l says =
     let o = over_all (λ text ended rest. octets ++ concluded_octets
-    (talk_of (reading_of text) ended).setup rest ≡ sent rows past says.key text ended)
+    (talk_of (reading_of text) ended).setup rest ≡ association_octets rows past says.key text ended)
     items turns [] i (t ∙ sym (append-nil turns)) says.octets in
     inl (says.key, says.opened, sym (append-nil octets) ∙ o)
 
@@ -291,7 +291,7 @@ at_end rows items told turns end e =
 
 ended_said : (rows : CentreRows) (past : Past) (who : ℕ) (items : List Item)
     (told : List Arrival) (turns rest : List Turn) (octets : List ℕ) (end : ConnEnd) (stage : Stage)
-    → IsInput items → turns_of items ≡ turns ++ rest
+    → IsLinkInput items → turns_of items ≡ turns ++ rest
     → (is_running : SaysBy stage (progresses.Ended end) rows past who items told turns octets)
     → HasSaid rows past who items octets
 ended_said rows past who items told turns rest octets end stages.Early i t says =
@@ -301,11 +301,11 @@ ended_said rows past who items told turns rest octets end stages.Early i t says 
           says.1,
     )
 ended_said rows past who items told turns rest octets end (stages.Open peer detail) i t says =
-    let o = over_all (λ text ended rest. (octets ≡ sent rows past says.key text ended)
+    let o = over_all (λ text ended rest. (octets ≡ association_octets rows past says.key text ended)
     × (turns_left rows past says.key text ended ≡ rest)) items turns rest i t says.octets in
     inl (says.key, says.opened, o.0)
 ended_said rows past who items told turns rest octets end (stages.Closed peer) i t says =
-    let o = over_all (λ text ended rest. octets ++ [] ≡ sent rows past says.key text ended)
+    let o = over_all (λ text ended rest. octets ++ [] ≡ association_octets rows past says.key text ended)
     items turns rest i t says.octets in
     inl (says.key, says.opened, sym (append-nil octets) ∙ o)
 

@@ -24,22 +24,22 @@ use Rattle.tase_views.specs.History.{Past, next_key, opens_in}
 use Rattle.tase_views.specs.OwnTable.{own_table}
 use Rattle.tase_views.specs.View.{view_of}
 use Rattle.tase_views.specs.Answers.{reply_to}
-use Rattle.tase_map.specs.Inputs.{Item, IsInput, text_of, has_ended}
+use Rattle.tase_map.specs.Inputs.{Item, IsLinkInput, text_given, link_has_ended}
 use Rattle.tase_map.specs.Readings.{reading_of}
-use Rattle.tase_map.specs.Replied.{pdu_in}
+use Rattle.tase_map.specs.Replied.{pdu_of_reply}
 use Rattle.tase_map.specs.Turns.{Turn, offers, asks, pauses}
 use Rattle.tase_map.specs.Turns.{turns_of}
 use Rattle.tase_map.specs.Asks.{is_last, asks_behind, without_pauses}
-use Rattle.tase_map.specs.Out.{talk_of, accept_octets, detail_of, behind_offer, said, within}
-use Rattle.tase_map.specs.Out.{reply_octets, close_octets, concluded_octets, release_octets}
-use Rattle.tase_map.specs.Out.{abort_octets, turns_behind}
-use Rattle.tase_map.specs.Sent.{sent}
+use Rattle.tase_map.specs.Out.{talk_of, accept_wire, detail_of, behind_offer, said, within}
+use Rattle.tase_map.specs.Out.{reply_octets, close_octets, concluded_octets, release_wire}
+use Rattle.tase_map.specs.Out.{abort_wire, turns_behind}
+use Rattle.tase_map.specs.Sent.{association_octets}
 use Rattle.tase_map.proofs.Adding.{open_adds, take_adds, close_adds, asked_adds}
 use Rattle.tase_map.proofs.Passing.{left_asked, quiet_event, none_sent, all_left}
 use Rattle.tase_map.proofs.Uncut.{without-append}
 use Rattle.tase_conn.specs.declared.stage.Cause.{Cause}
 use Rattle.tase_conn.specs.declared.stage.Cause.TheVariants as causes
-use Rattle.tase_conn.specs.declared.stage.Asked.TheVariants as askeds
+use Rattle.tase_conn.specs.declared.stage.PendingEvent.TheVariants as askeds
 use Rattle.tase_conn.specs.Places.{IsGranted, turn_for, served_standing}
 use Rattle.tase_conn.specs.Answering.{closed_said, progress_closed, aborted}
 use Rattle.conn_laws.specs.Serving.{with_event, SaysOpen, SaysClosed, owed}
@@ -53,9 +53,9 @@ use Rattle.conn_laws.proofs.TurnLists.{silent, input_follows}
 -- what comes behind the offer
 behind_first : (rows : CentreRows) (items more : List Item) (answered : List Turn)
     (title : Option (List ℕ)) (rest : List Turn) → list_any (is_last rows) answered ≡ false
-    → asks_behind rows [] answered ≡ [] → IsInput (items ++ more)
+    → asks_behind rows [] answered ≡ [] → IsLinkInput (items ++ more)
     → turns_of (items ++ more) ≡ answered ++ offers title ∷ rest
-    → (talk_of (reading_of (text_of (items ++ more))) (has_ended (items ++ more))).turns
+    → (talk_of (reading_of (text_given (items ++ more))) (link_has_ended (items ++ more))).turns
     ≡ without_pauses rest
 behind_first rows items more answered title rest l e i t =
     let alone : without_pauses answered ≡ [] =
@@ -74,9 +74,9 @@ opening_is told offered v text ended x g =
     let r = reading_of text in
     let front = answers_to called told in
     ap (λ (os : List ℕ). os
-    ++ accept_octets (setup_after r.told) (first_in connect_in r.told)) x.answered
-    ∙ ap (λ (s : AssociationSetup). front ++ accept_octets s (first_in connect_in r.told)) x.setup
-    ∙ ap (λ (c : Option Connecting). front ++ accept_octets (setup_after told) c)
+    ++ accept_wire (setup_after r.told) (first_in connect_in r.told)) x.answered
+    ∙ ap (λ (s : AssociationSetup). front ++ accept_wire s (first_in connect_in r.told)) x.setup
+    ∙ ap (λ (c : Option Connecting). front ++ accept_wire (setup_after told) c)
     (x.first ∙ g.first)
     ∙ ap (λ (o : Initiate). front
     ++ wire (setup_after told).size (accept_tsdu (setup_after told) o)) (sym g.is)
@@ -85,7 +85,7 @@ opening_is told offered v text ended x g =
 pub opened_says : (rows : CentreRows) (past : Past) (who : ℕ) (items : List Item)
     (told : List Arrival) (answered : List Turn) (title : Option (List ℕ)) (peer : ℕ)
     (offered : Initiate) (octets : List ℕ) (v : Course)
-    → CourseStands called (text_of items) told v → is_some (first_in connect_in told) ≡ true
+    → CourseStands called (text_given items) told v → is_some (first_in connect_in told) ≡ true
     → IsGranted told offered → list_any (is_last rows) answered ≡ false
     → asks_behind rows [] answered ≡ [] → octets ≡ answers_to called told
     → SaysOpen rows (with_event who (events.Open peer) past) who items
@@ -99,8 +99,8 @@ opened_says rows past who items told answered title peer offered octets v s conn
       opened = record { later = []; earlier = past; peer = peer; is = refl; key_is = refl };
       seat = at_seat (events.Open peer) past who;
       octets = λ more i rest t.
-          let text = text_of (items ++ more) in
-          let ended = has_ended (items ++ more) in
+          let text = text_given (items ++ more) in
+          let ended = link_has_ended (items ++ more) in
           let talk = talk_of (reading_of text) ended in
           let table = own_table rows peer in
           let accept = wire v.setup.size (accept_tsdu v.setup offered) in
@@ -121,24 +121,24 @@ opened_says rows past who items told answered title peer offered octets v s conn
 -- ---- a request
 
 abbrev pub answer_octets : CentreRows → Past → Key → Course → ℤ → ℕ → CallKind → List ℕ
-answer_octets rows past key v detail invoke call = said v.setup (within detail invoke (pdu_in invoke
+answer_octets rows past key v detail invoke call = said v.setup (within detail invoke (pdu_of_reply invoke
     (reply_to (own_table rows key.peer) (view_of rows key.peer past) key.ordinal call)))
 
 reply_is : (told : List Arrival) (detail : ℤ) (v : Course) (text : List ℕ) (ended : Bool)
     (invoke : ℕ) (reply : ReplyKind) → IsFixed told v (reading_of text)
     → detail ≡ detail_of (first_in connect_in told)
-    → said v.setup (within detail invoke (pdu_in invoke reply))
+    → said v.setup (within detail invoke (pdu_of_reply invoke reply))
     ≡ reply_octets (talk_of (reading_of text) ended) invoke reply
 reply_is told detail v text ended invoke reply x d =
     let r = reading_of text in
-    ap (λ (s : AssociationSetup). said s (within detail invoke (pdu_in invoke reply)))
+    ap (λ (s : AssociationSetup). said s (within detail invoke (pdu_of_reply invoke reply)))
     (x.course_setup ∙ sym x.setup)
-    ∙ ap (λ (z : ℤ). said (setup_after r.told) (within z invoke (pdu_in invoke reply)))
+    ∙ ap (λ (z : ℤ). said (setup_after r.told) (within z invoke (pdu_of_reply invoke reply)))
     (d ∙ ap (λ (c : Option Connecting). detail_of c) (sym x.first))
 
 pub requested_says : (rows : CentreRows) (past : Past) (who : ℕ) (items : List Item)
     (told : List Arrival) (answered : List Turn) (invoke : ℕ) (call : CallKind) (detail : ℤ)
-    (octets : List ℕ) (v : Course) → CourseStands called (text_of items) told v
+    (octets : List ℕ) (v : Course) → CourseStands called (text_given items) told v
     → is_some (first_in connect_in told) ≡ true → detail ≡ detail_of (first_in connect_in told)
     → (o : SaysOpen rows past who items answered octets)
     → SaysOpen rows (with_event who (events.Request call) past) who items
@@ -151,8 +151,8 @@ requested_says rows past who items told answered invoke call detail octets v s c
       opened = still_opened (with_event who (events.Request call) []) past who key o.opened;
       seat = at_seat (events.Request call) past who ∙ o.seat;
       octets = λ more i rest t.
-          let text = text_of (items ++ more) in
-          let ended = has_ended (items ++ more) in
+          let text = text_given (items ++ more) in
+          let ended = link_has_ended (items ++ more) in
           let talk = talk_of (reading_of text) ended in
           let table = own_table rows key.peer in
           let x = fixed_over items more told v s connect in
@@ -161,7 +161,7 @@ requested_says rows past who items told answered invoke call detail octets v s c
           let before = o.octets more i (asks invoke call ∷ rest) joined in
           let lawful = input_calls (items ++ more) answered invoke call rest i joined in (
             ap (λ (os : List ℕ). os ++ answer_octets rows past key v detail invoke call) before.0
-                ∙ ap (λ (os : List ℕ). sent rows past key text ended ++ os)
+                ∙ ap (λ (os : List ℕ). association_octets rows past key text ended ++ os)
                 (reply_is told detail v text ended invoke (reply_to table
                 (view_of rows key.peer past) key.ordinal call) x d)
                 ∙ sym (asked_adds rows table talk key who past invoke call (without_pauses rest)
@@ -183,7 +183,7 @@ taken_says rows past who items answered octets o =
       opened = still_opened (with_event who events.Take []) past who key o.opened;
       seat = at_seat events.Take past who ∙ o.seat;
       octets = λ more i rest t.
-          let talk = talk_of (reading_of (text_of (items ++ more))) (has_ended (items ++ more)) in
+          let talk = talk_of (reading_of (text_given (items ++ more))) (link_has_ended (items ++ more)) in
           let before = o.octets more i (pauses ∷ rest)
           (t ∙ append_assoc answered (pauses ∷ []) rest) in (
             before.0 ∙ sym (take_adds rows (own_table rows key.peer) talk key who past o.seat),
@@ -202,13 +202,13 @@ closed_octets : (cause : Cause) (v : Course) (setup : AssociationSetup) (rest : 
 closed_octets causes.Concluded v setup rest a e =
     ap (λ (s : AssociationSetup). said s pdus.Concluded ++ concluded_octets setup rest) e
 closed_octets causes.Released v setup rest a e =
-    append-nil (release_octets v.setup) ∙ ap (λ (s : AssociationSetup). release_octets s) e
+    append-nil (release_wire v.setup) ∙ ap (λ (s : AssociationSetup). release_wire s) e
 closed_octets causes.Aborted v setup rest a e = refl
 closed_octets causes.LinkEnd v setup rest a e = refl
 closed_octets (causes.Broken fault) v setup rest a e =
     append-nil (aborted v)
-    ∙ ap (λ (s : EndState). if is_accepted s then abort_octets v.setup else []) a
-    ∙ ap (λ (s : AssociationSetup). abort_octets s) e
+    ∙ ap (λ (s : EndState). if is_accepted s then abort_wire v.setup else []) a
+    ∙ ap (λ (s : AssociationSetup). abort_wire s) e
 
 turn_kept : (cause : Cause) (rest : List Turn)
     → without_pauses (turn_for cause ∷ rest) ≡ turn_for cause ∷ without_pauses rest
@@ -220,7 +220,7 @@ turn_kept (causes.Broken fault) rest = refl
 
 pub closed_says : (rows : CentreRows) (past : Past) (who : ℕ) (items : List Item)
     (told : List Arrival) (answered : List Turn) (cause : Cause) (octets : List ℕ) (v : Course)
-    → CourseStands called (text_of items) told v → is_some (first_in connect_in told) ≡ true
+    → CourseStands called (text_given items) told v → is_some (first_in connect_in told) ≡ true
     → v.standing ≡ served_standing (askeds.Closing cause) None
     → SaysOpen rows past who items answered octets
     → SaysClosed (progress_closed cause) rows (with_event who events.Close past) who items
@@ -232,8 +232,8 @@ closed_says rows past who items told answered cause octets v s connect a o =
       opened = still_opened (with_event who events.Close []) past who key o.opened;
       closed = close_closes past who key o.seat;
       octets = λ more i rest t.
-          let text = text_of (items ++ more) in
-          let ended = has_ended (items ++ more) in
+          let text = text_given (items ++ more) in
+          let ended = link_has_ended (items ++ more) in
           let talk = talk_of (reading_of text) ended in
           let x = fixed_over items more told v s connect in
           let before = o.octets more i (turn_for cause ∷ rest)
@@ -245,7 +245,7 @@ closed_says rows past who items told answered cause octets v s connect a o =
           (closed_octets cause v talk.setup (without_pauses rest) a
           (x.course_setup ∙ sym x.setup))
           ∙ ap (λ (os : List ℕ). os ++ close) before.0
-          ∙ ap (λ (ts : List Turn). sent rows past key text ended ++ close_octets talk.setup ts)
+          ∙ ap (λ (ts : List Turn). association_octets rows past key text ended ++ close_octets talk.setup ts)
           (sym (before.1 ∙ turn_kept cause rest))
           ∙ sym (close_adds rows (own_table rows key.peer) talk key who past o.seat);
     }

@@ -8,7 +8,7 @@ use Rattle.stack_assoc.specs.Arrivals.{Arrival, called, first_in, connect_in}
 use Rattle.stack_assoc.specs.Handing.{answer_to, answers_to}
 use Rattle.stack_assoc.specs.Expectations.{setup_after}
 use Rattle.stack_assoc.specs.Courses.{Course, CourseStands}
-use Rattle.tase_map.specs.Inputs.{Item, octets_of, text_of, has_ended, IsInput}
+use Rattle.tase_map.specs.Inputs.{Item, given_octets, text_given, link_has_ended, IsLinkInput}
 use Rattle.tase_map.specs.Readings.{Reading, reading_of}
 use Rattle.tase_map.specs.Turns.{Turn, turns_told, turns_of}
 use Rattle.tase_map.specs.Asks.{without_pauses}
@@ -21,20 +21,20 @@ use Rattle.tase_map.proofs.Fronts.{setup_fixed, answers_kept}
 
 -- ---- fronts of a text
 
-pub text-append : (items more : List Item) → text_of (items ++ more) ≡ text_of items ++ text_of more
-text-append items more = flat_map-append octets_of items more
+pub text-append : (items more : List Item) → text_given (items ++ more) ≡ text_given items ++ text_given more
+text-append items more = flat_map-append given_octets items more
 
 -- with more behind it
-pub longer_front : (items more : List Item) (told : List Arrival) → HasFront (text_of items) told
-    → HasFront (text_of (items ++ more)) told
+pub longer_front : (items more : List Item) (told : List Arrival) → HasFront (text_given items) told
+    → HasFront (text_given (items ++ more)) told
 longer_front items more told f = record {
   messages = f.messages;
   starts = record {
     whole = f.starts.whole;
-    more = f.starts.more ++ text_of more;
+    more = f.starts.more ++ text_given more;
     is = text-append items more
-        ∙ ap (λ (os : List ℕ). os ++ text_of more) f.starts.is
-        ∙ append_assoc f.starts.whole f.starts.more (text_of more);
+        ∙ ap (λ (os : List ℕ). os ++ text_given more) f.starts.is
+        ∙ append_assoc f.starts.whole f.starts.more (text_given more);
     spelled = f.starts.spelled;
   };
   tell = f.tell;
@@ -65,13 +65,13 @@ pub record IsFixed (told : List Arrival) (course : Course) (whole : Reading) : T
   pub course_setup : course.setup ≡ setup_after told
 
 pub fixed_over : (items more : List Item) (told : List Arrival) (v : Course)
-    → CourseStands called (text_of items) told v → is_some (first_in connect_in told) ≡ true
-    → IsFixed told v (reading_of (text_of (items ++ more)))
+    → CourseStands called (text_given items) told v → is_some (first_in connect_in told) ≡ true
+    → IsFixed told v (reading_of (text_given (items ++ more)))
 fixed_over items more told v s connect =
-    let text = text_of (items ++ more) in
+    let text = text_given (items ++ more) in
     let f = front_read text told
-    (longer_front items more told (has_front (text_of items) told v s)) in
-    let k = setup_fixed (text_of items) told v s connect in
+    (longer_front items more told (has_front (text_given items) told v s)) in
+    let k = setup_fixed (text_given items) told v s connect in
     record {
       answered = ap (λ (ts : List Arrival). answers_to called ts) f.1
           ∙ answers_kept text told f.0
@@ -91,9 +91,9 @@ nothing_told =
     (nothing_said.0, record { messages = []; said = nothing_said.1; tell = tt }))
 
 -- those of an input, but for its pauses, are those of its text, and its end
-pub text_turns : (items : List Item) → IsInput items
+pub text_turns : (items : List Item) → IsLinkInput items
     → without_pauses (turns_of items)
-    ≡ turns_told (reading_of (text_of items)) ++ end_turns (has_ended items)
+    ≡ turns_told (reading_of (text_given items)) ++ end_turns (link_has_ended items)
 text_turns items i =
     ap (λ (ts : List Turn). ts ++ without_pauses (turns_of items)) (sym nothing_told)
     ∙ uncut_from [] items i

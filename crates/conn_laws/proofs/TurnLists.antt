@@ -10,15 +10,15 @@ use Rattle.bilateral.specs.Rows.{CentreRows, place_of_title}
 use Rattle.stack_wire.specs.declared.setup.AssociationSetup.{AssociationSetup}
 use Rattle.tase_views.specs.declared.event.EventKind.{EventKind}
 use Rattle.tase_views.specs.declared.event.EventKind.TheVariants as events
-use Rattle.tase_map.specs.Inputs.{Item, IsInput, text_of, has_ended}
+use Rattle.tase_map.specs.Inputs.{Item, IsLinkInput, text_given, link_has_ended}
 use Rattle.tase_map.specs.Turns.{Turn, offers, offers_badly, asks, concludes, releases, aborts}
 use Rattle.tase_map.specs.Turns.{breaks, ends, pauses, turns_of}
-use Rattle.tase_map.specs.Asks.{is_peers, begins, finishes, is_open, is_last, event_if, open_of}
+use Rattle.tase_map.specs.Asks.{is_peers, begins, finishes, is_open_behind, is_last, event_if, open_of}
 use Rattle.tase_map.specs.Asks.{asks_behind, without_pauses}
 use Rattle.tase_map.proofs.Uncut.{without-append}
 use Rattle.tase_map.proofs.TurnOrder.{offered, concluded, IsBegun, AllFollow, turns_follow}
 use Rattle.tase_conn.specs.Wanting.{quiet_at, quiet_behind}
-use Rattle.conn_laws.specs.Serving.{Whatever}
+use Rattle.conn_laws.specs.Serving.{HoldsOfAllInput}
 
 -- ---- lists
 
@@ -134,7 +134,7 @@ begins_offered rows turns l = any_same (begins rows) offered rows (begins_one ro
 
 -- behind an offer, and before a conclude, one is open
 pub begun_open : (rows : CentreRows) (turns : List Turn) → list_any (is_last rows) turns ≡ false
-    → IsBegun turns → is_open rows turns ≡ true
+    → IsBegun turns → is_open_behind rows turns ≡ true
 begun_open rows turns l b =
     rw (
       begins_offered rows turns l ∙ b.offer,
@@ -166,7 +166,7 @@ silent rows before (offers title ∷ turns) rest b l a e =
 silent rows before (offers_badly ∷ turns) rest b l a e = absurd (false≢true (sym l))
 silent rows before (asks invoke call ∷ turns) rest b l a e = absurd cc
 silent rows before (concludes ∷ turns) rest b l a e =
-    absurd (event_asks (is_open rows before) events.Close
+    absurd (event_asks (is_open_behind rows before) events.Close
     (asks_behind rows (before ++ concludes ∷ []) turns) (begun_open rows before b a.0) e)
 silent rows before (releases ∷ turns) rest b l a e = absurd (false≢true (sym l))
 silent rows before (aborts ∷ turns) rest b l a e = absurd (false≢true (sym l))
@@ -175,11 +175,11 @@ silent rows before (ends ∷ turns) rest b l a e = absurd (false≢true (sym l))
 silent rows before (pauses ∷ turns) rest b l a e =
     silent rows (before ++ pauses ∷ []) turns rest
     (none_more (is_last rows) before pauses b refl) l a.1
-    (right_none (event_if (is_open rows before) events.Take)
+    (right_none (event_if (is_open_behind rows before) events.Take)
     (asks_behind rows (before ++ pauses ∷ []) turns) e)
 
 -- what the turns of an input follow
-pub input_follows : (items more : List Item) (front rest : List Turn) → IsInput (items ++ more)
+pub input_follows : (items more : List Item) (front rest : List Turn) → IsLinkInput (items ++ more)
     → turns_of (items ++ more) ≡ front ++ rest → AllFollow [] (front ++ rest)
 input_follows items more front rest i t =
     subst (λ (ts : List Turn). AllFollow [] ts) t (turns_follow (items ++ more) i)
@@ -189,7 +189,7 @@ pub behind_silent : (Holds : List ℕ → Bool → List Turn → Type 0) (rows :
     (items : List Item) (answered turns : List Turn)
     → list_any (is_last rows) answered ≡ false → list_any (is_last rows) turns ≡ false
     → asks_behind rows answered turns ≡ []
-    → Whatever items answered Holds → Whatever items (answered ++ turns) Holds
+    → HoldsOfAllInput items answered Holds → HoldsOfAllInput items (answered ++ turns) Holds
 behind_silent Holds rows items answered turns b l e holds = λ more i rest t.
     let joined : turns_of (items ++ more) ≡ answered ++ (turns ++ rest) =
     t ∙ append_assoc answered turns rest in
@@ -197,21 +197,21 @@ behind_silent Holds rows items answered turns b l e holds = λ more i rest t.
     silent rows answered turns rest b l
     (follow_behind [] answered (turns ++ rest)
     (input_follows items more answered (turns ++ rest) i joined)) e in
-    subst (λ (ts : List Turn). Holds (text_of (items ++ more)) (has_ended (items ++ more)) ts)
+    subst (λ (ts : List Turn). Holds (text_given (items ++ more)) (link_has_ended (items ++ more)) ts)
     (without-append turns rest
     ∙ ap (λ (ts : List Turn). ts ++ without_pauses rest) pauses_alone)
     (holds more i (turns ++ rest) joined)
 
 -- with one item more
 pub one_item_more : (Holds : List ℕ → Bool → List Turn → Type 0) (items : List Item) (item : Item)
-    (answered : List Turn) → Whatever items answered Holds
-    → Whatever (items ++ item ∷ []) answered Holds
+    (answered : List Turn) → HoldsOfAllInput items answered Holds
+    → HoldsOfAllInput (items ++ item ∷ []) answered Holds
 one_item_more Holds items item answered holds = λ more i rest t.
     let same : (items ++ item ∷ []) ++ more ≡ items ++ item ∷ more =
     append_assoc items (item ∷ []) more in
-    subst (λ (all : List Item). Holds (text_of all) (has_ended all) (without_pauses rest))
+    subst (λ (all : List Item). Holds (text_given all) (link_has_ended all) (without_pauses rest))
     (sym same)
-    (holds (item ∷ more) (subst (λ (all : List Item). IsInput all) same i) rest
+    (holds (item ∷ more) (subst (λ (all : List Item). IsLinkInput all) same i) rest
     (subst (λ (all : List Item). turns_of all ≡ answered ++ rest) same t))
 
 -- ---- the last of a list

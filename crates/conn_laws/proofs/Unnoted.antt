@@ -11,25 +11,25 @@ use Rattle.tase_views.specs.declared.event.EventKind.{EventKind}
 use Rattle.tase_views.specs.declared.reply.Answer.{Answer}
 use Rattle.tase_views.specs.History.{Past}
 use Rattle.tase_views.specs.Outcomes.{IsRightOutcome}
-use Rattle.tase_map.specs.Inputs.{Item, text_of, has_ended}
+use Rattle.tase_map.specs.Inputs.{Item, text_given, link_has_ended}
 use Rattle.tase_map.specs.Readings.{reading_of}
 use Rattle.tase_map.specs.Turns.{Turn, turns_of}
 use Rattle.tase_map.specs.Asks.{up_to_last, asks_behind, without_pauses}
 use Rattle.tase_map.specs.Out.{talk_of}
 use Rattle.tase_map.specs.Sent.{events_by}
-use Rattle.tase_conn.specs.declared.stage.Asked.{Asked}
-use Rattle.tase_conn.specs.declared.stage.Asked.TheVariants as askeds
+use Rattle.tase_conn.specs.declared.stage.PendingEvent.{PendingEvent}
+use Rattle.tase_conn.specs.declared.stage.PendingEvent.TheVariants as askeds
 use Rattle.tase_conn.specs.declared.stage.ConnEnd.{ConnEnd}
 use Rattle.tase_conn.specs.declared.stage.Progress.{Progress}
 use Rattle.tase_conn.specs.declared.stage.Progress.TheVariants as progresses
 use Rattle.tase_conn.specs.declared.stage.Stage.{Stage}
 use Rattle.tase_conn.specs.declared.stage.Stage.TheVariants as stages
 use Rattle.tase_conn.specs.Talking.{Talking, pending_of}
-use Rattle.tase_conn.specs.Places.{StandsAt, Runs, GoesBy, Begins, is_connected}
+use Rattle.tase_conn.specs.Places.{ConnStandsAt, Runs, GoesBy, BeginsTurns, is_connected}
 use Rattle.tase_conn.specs.Answering.{stage_told, told_said}
 use Rattle.tase_conn.specs.Leaving.{IsLeft}
 use Rattle.conn_laws.specs.Cutting.{HasLeft, LeftBy, LeftOpen, left_said, parting}
-use Rattle.conn_laws.specs.Serving.{with_event, IsWaiting, SaysBy, Serves, Whatever, owed}
+use Rattle.conn_laws.specs.Serving.{with_event, IsWaiting, SaysBy, Serves, HoldsOfAllInput, owed}
 use Rattle.conn_laws.proofs.Answered.{follows_by, asked_more, opens_early, request_served}
 use Rattle.conn_laws.proofs.Answered.{take_served, close_served}
 use Rattle.conn_laws.proofs.Left.{leaves, setup_known}
@@ -40,7 +40,7 @@ use Rattle.conn_laws.proofs.Wanted.{waiting_of, answered_goes}
 
 -- where an event waits a connect was told
 connected_asked : (rows : CentreRows) (items : List Item) (told : List Arrival) (turns : List Turn)
-    (asked : Asked) (event : EventKind) (v : Talking)
+    (asked : PendingEvent) (event : EventKind) (v : Talking)
     → IsWaiting (progresses.Running asked) (Some event) → Runs rows items told turns asked v
     → is_some (first_in connect_in told) ≡ true
 connected_asked rows items told turns askeds.Nothing event v w r = absurd w
@@ -59,10 +59,10 @@ connected_asked rows items told turns (askeds.Closing cause) event v w r =
 
 -- the turns with that which asked for the event begin those up to the last
 read_with : (rows : CentreRows) (past : Past) (who : ℕ) (items : List Item) (octets : List ℕ)
-    (event : EventKind) (asked : Asked) (v : Talking)
+    (event : EventKind) (asked : PendingEvent) (v : Talking)
     → (s : Serves rows past who items octets (Some event) v)
     → Runs rows items s.told s.turns asked v
-    → Begins s.turns (up_to_last rows (turns_of items))
+    → BeginsTurns s.turns (up_to_last rows (turns_of items))
 read_with rows past who items octets event asked v s r =
     let f = begins_turns rows items s.told s.turns asked v r in
     let k = first_kept rows s.are.last f.0 in (
@@ -85,7 +85,7 @@ some_kept : (stage : Stage) (progress : Progress) (rows : CentreRows) (past : Pa
     (items : List Item) (told : List Arrival) (turns : List Turn) (event : EventKind)
     (octets missing : List ℕ) (end : ConnEnd) (v : Talking)
     → reverse (events_by who (with_event who event past)) ≡ asks_behind rows [] turns
-    → Whatever items turns (λ text ended rest.
+    → HoldsOfAllInput items turns (λ text ended rest.
     v.course.setup ≡ (talk_of (reading_of text) ended).setup)
     → SaysBy stage progress rows (with_event who event past) who items told turns
     (octets ++ missing)
@@ -118,7 +118,7 @@ some_kept (stages.Closed peer) progress rows past who items told turns event oct
       asked = asked;
       before = octets;
       octets = λ more i rest t.
-          let talk = talk_of (reading_of (text_of (items ++ more))) (has_ended (items ++ more)) in (
+          let talk = talk_of (reading_of (text_given (items ++ more))) (link_has_ended (items ++ more)) in (
             ap (λ (s : wire_setup.AssociationSetup). octets ++ parting end v.course.standing s)
                 (setup more i rest t),
             missing ++ owed progress talk.setup (without_pauses rest),
@@ -131,7 +131,7 @@ pub unnoted_leaves : (setup : Setup) (past : Past) (who : ℕ) (items : List Ite
     (octets octets_more : List ℕ) (event : EventKind) (answer : Answer) (end : ConnEnd)
     (old new : Talking) → (s : Serves setup.centre past who items octets (Some event) old)
     → IsRightOutcome setup past who event (Ok answer)
-    → StandsAt setup.centre items s.told s.turns new
+    → ConnStandsAt setup.centre items s.told s.turns new
     → IsLeft end (stalled (stage_told old.progress (Ok answer) old.stage) old) new
     → pending_of new ≡ pending_of old ++ octets_more
     → HasLeft false end old.course.standing setup.centre (with_event who event past) who items

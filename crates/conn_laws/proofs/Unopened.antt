@@ -13,15 +13,15 @@ use Rattle.bilateral.specs.Rows.{CentreRows}
 use Rattle.tase_views.specs.declared.event.EventKind.{EventKind}
 use Rattle.tase_views.specs.declared.event.EventKind.TheVariants as events
 use Rattle.tase_views.specs.History.{Past}
-use Rattle.tase_map.specs.Inputs.{Item, text_of, has_ended}
+use Rattle.tase_map.specs.Inputs.{Item, text_given, link_has_ended}
 use Rattle.tase_map.specs.Readings.{reading_of}
 use Rattle.tase_map.specs.Turns.{Turn, offers, turns_told, turns_of}
 use Rattle.tase_map.specs.Asks.{asks_behind, without_pauses}
 use Rattle.tase_map.specs.Out.{early_octets, is_declined, refusal_octets}
 use Rattle.tase_map.proofs.TurnOrder.{AllFollow, turns_follow}
 use Rattle.tase_map.proofs.Uncut.{without-append}
-use Rattle.tase_conn.specs.declared.stage.Asked.{Asked}
-use Rattle.tase_conn.specs.declared.stage.Asked.TheVariants as askeds
+use Rattle.tase_conn.specs.declared.stage.PendingEvent.{PendingEvent}
+use Rattle.tase_conn.specs.declared.stage.PendingEvent.TheVariants as askeds
 use Rattle.tase_conn.specs.declared.stage.Progress.{Progress}
 use Rattle.tase_conn.specs.declared.stage.Progress.TheVariants as progresses
 use Rattle.tase_conn.specs.declared.stage.Stage.{Stage}
@@ -41,7 +41,7 @@ opening_said : (rows : CentreRows) (past : Past) (who : ℕ) (items : List Item)
     → (s : Serves rows past who items octets (Some event) v)
     → v.progress ≡ progresses.Running (askeds.Opening peer offered)
     → Runs rows items s.told s.turns (askeds.Opening peer offered) v
-    → octets ≡ early_octets rows (text_of items)
+    → octets ≡ early_octets rows (text_given items)
 opening_said rows past who items octets event v peer offered s p r =
     let asked = askeds.Opening peer offered in
     let early = opens_early peer offered v.stage v.held r.waits in
@@ -57,9 +57,9 @@ opening_said rows past who items octets event v peer offered s p r =
     sym s.asked ∙ ap (λ (es : List EventKind). reverse es) before.0 in
     let connect = r.connected ∙ ap (λ (x : Stage). is_connected x asked v.held) early in
     let x = fixed_over items [] s.told v.course r.stands connect in
-    let whole = reading_of (text_of items) in
+    let whole = reading_of (text_given items) in
     let answers : answers_to called whole.told ≡ answers_to called s.told =
-    ap (λ (is : List Item). answers_to called (reading_of (text_of is)).told) (sym
+    ap (λ (is : List Item). answers_to called (reading_of (text_given is)).told) (sym
     (append-nil items))
     ∙ x.answered in
     let f = begins_turns rows items s.told s.turns asked v r in
@@ -70,7 +70,7 @@ opening_said rows past who items octets event v peer offered s p r =
     silent rows [] s.answered (offers title ∷ f.0) refl a.goes
     (subst (λ (ts : List Turn). AllFollow [] ts) t (turns_follow items s.input)) none in
     let accepted : is_declined rows (turns_told whole) ≡ false =
-    sym (declined_told rows (turns_told whole) (has_ended items))
+    sym (declined_told rows (turns_told whole) (link_has_ended items))
     ∙ ap (λ (ts : List Turn). is_declined rows ts)
     (sym (text_turns items s.input) ∙ ap (λ (ts : List Turn). without_pauses ts) t
     ∙ without-append s.answered (offers title ∷ f.0)
@@ -83,11 +83,11 @@ opening_said rows past who items octets event v peer offered s p r =
     ∙ ap (λ (os : List ℕ). answers_to called whole.told ++ os) (sym unrefused)
 
 opening_by : (rows : CentreRows) (past : Past) (who : ℕ) (items : List Item)
-    (octets : List ℕ) (peer : ℕ) (v : Talking) (asked : Asked)
+    (octets : List ℕ) (peer : ℕ) (v : Talking) (asked : PendingEvent)
     → (s : Serves rows past who items octets (Some (events.Open peer)) v)
     → v.progress ≡ progresses.Running asked
     → IsWaiting (progresses.Running asked) (Some (events.Open peer))
-    → Runs rows items s.told s.turns asked v → octets ≡ early_octets rows (text_of items)
+    → Runs rows items s.told s.turns asked v → octets ≡ early_octets rows (text_given items)
 opening_by rows past who items octets peer v askeds.Nothing s p w r = absurd w
 opening_by rows past who items octets peer v (askeds.Opening other offered) s p w r =
     opening_said rows past who items octets (events.Open peer) v other offered s p r
@@ -98,7 +98,7 @@ opening_by rows past who items octets peer v (askeds.Closing cause) s p w r = ab
 pub unopened_said : (rows : CentreRows) (past : Past) (who : ℕ) (items : List Item)
     (octets : List ℕ) (peer : ℕ) (v : Talking)
     → Serves rows past who items octets (Some (events.Open peer)) v
-    → octets ≡ early_octets rows (text_of items)
+    → octets ≡ early_octets rows (text_given items)
 unopened_said rows past who items octets peer v s =
     let found = waiting_of v.progress (events.Open peer) s.waits in
     opening_by rows past who items octets peer v found.0 s found.1

@@ -13,16 +13,16 @@ use Rattle.bilateral.specs.Rows.{CentreRows, place_of_title}
 use Rattle.tase_views.specs.declared.event.EventKind.{EventKind}
 use Rattle.tase_views.specs.declared.event.EventKind.TheVariants as events
 use Rattle.tase_views.specs.History.{Past}
-use Rattle.tase_map.specs.Inputs.{Item, text_of}
+use Rattle.tase_map.specs.Inputs.{Item, text_given}
 use Rattle.tase_map.specs.Readings.{reading_of}
 use Rattle.tase_map.specs.Turns.{Turn, offers, offers_badly, asks, concludes, releases, aborts}
 use Rattle.tase_map.specs.Turns.{breaks, ends, pauses}
-use Rattle.tase_map.specs.Asks.{is_last, is_open, begins, finishes, event_if, open_of, asks_at}
+use Rattle.tase_map.specs.Asks.{is_last, is_open_behind, begins, finishes, event_if, open_of, asks_at}
 use Rattle.tase_map.specs.Asks.{asks_behind}
 use Rattle.tase_map.specs.Out.{talk_of}
-use Rattle.tase_map.specs.Sent.{sent, turns_left}
-use Rattle.tase_conn.specs.declared.stage.Asked.{Asked}
-use Rattle.tase_conn.specs.declared.stage.Asked.TheVariants as askeds
+use Rattle.tase_map.specs.Sent.{association_octets, turns_left}
+use Rattle.tase_conn.specs.declared.stage.PendingEvent.{PendingEvent}
+use Rattle.tase_conn.specs.declared.stage.PendingEvent.TheVariants as askeds
 use Rattle.tase_conn.specs.declared.stage.Cause.{Cause}
 use Rattle.tase_conn.specs.declared.stage.Cause.TheVariants as causes
 use Rattle.tase_conn.specs.declared.stage.Progress.{Progress}
@@ -30,9 +30,9 @@ use Rattle.tase_conn.specs.declared.stage.Progress.TheVariants as progresses
 use Rattle.tase_conn.specs.declared.stage.Stage.{Stage}
 use Rattle.tase_conn.specs.declared.stage.Stage.TheVariants as stages
 use Rattle.tase_conn.specs.Talking.{Talking, pending_of}
-use Rattle.tase_conn.specs.Places.{StandsAt, Runs, GoesBy, EndsWith, is_connected, turn_for}
+use Rattle.tase_conn.specs.Places.{ConnStandsAt, Runs, GoesBy, EndsWithTurn, is_connected, turn_for}
 use Rattle.tase_conn.specs.Places.{has_begun, has_finished}
-use Rattle.tase_conn.specs.Wanting.{quiet_at, quiet_behind, GoesOn, WaitsFor}
+use Rattle.tase_conn.specs.Wanting.{quiet_at, quiet_behind, ReadsOn, WaitsFor}
 use Rattle.tase_conn.proofs.Composed.{quiet_join}
 use Rattle.tase_map.proofs.AskedOn.{asks_join}
 use Rattle.conn_laws.specs.Serving.{IsWaiting, SaysOpen, SaysClosed, SaysBy, Serves, owed}
@@ -46,14 +46,14 @@ use Rattle.conn_laws.proofs.TurnLists.{behind_silent, same_ends}
 
 -- nothing more is answered at once once the association has begun
 unanswered : (rows : CentreRows) (items : List Item) (told later : List Arrival)
-    (turns more : List Turn) (asked : Asked) (stage : Stage) (old new : Talking)
+    (turns more : List Turn) (asked : PendingEvent) (stage : Stage) (old new : Talking)
     → Runs rows items told turns askeds.Nothing old
     → Runs rows items (told ++ later) more asked new → old.stage ≡ stage
     → is_connected stage askeds.Nothing old.held ≡ true → answers_to called later ≡ []
 unanswered rows items told later turns more asked stage old new r n st connected =
-    connected_once (text_of items) told later
+    connected_once (text_given items) told later
     (r.connected ∙ ap (λ (x : Stage). is_connected x askeds.Nothing old.held) st ∙ connected)
-    (has_front (text_of items) (told ++ later) new.course n.stands)
+    (has_front (text_given items) (told ++ later) new.course n.stands)
 
 none_said : (octets more later : List ℕ) → more ≡ later → later ≡ [] → octets ++ more ≡ octets
 none_said octets more later e n =
@@ -61,7 +61,7 @@ none_said octets more later e n =
 
 -- behind messages that are answered at once, and turns that ask for nothing
 pub says_on : (rows : CentreRows) (past : Past) (who : ℕ) (items : List Item)
-    (told later : List Arrival) (turns more front : List Turn) (asked : Asked) (stage : Stage)
+    (told later : List Arrival) (turns more front : List Turn) (asked : PendingEvent) (stage : Stage)
     (octets octets_more : List ℕ) (old new : Talking)
     → Runs rows items told turns askeds.Nothing old
     → Runs rows items (told ++ later) more asked new → old.stage ≡ stage
@@ -88,7 +88,7 @@ says_on rows past who items told later turns more front asked (stages.Open peer 
       opened = says.opened;
       seat = says.seat;
       octets = behind_silent (λ text ended rest.
-          (octets ≡ sent rows past says.key text ended)
+          (octets ≡ association_octets rows past says.key text ended)
           × (turns_left rows past says.key text ended ≡ rest)) rows items turns front l f e
           says.octets;
     })
@@ -104,7 +104,7 @@ says_on rows past who items told later turns more front asked (stages.Closed pee
       closed = says.closed;
       octets = behind_silent (λ text ended rest.
           octets ++ owed (progresses.Running asked) (talk_of (reading_of text) ended).setup rest
-          ≡ sent rows past says.key text ended) rows items turns front l f e says.octets;
+          ≡ association_octets rows past says.key text ended) rows items turns front l f e says.octets;
     })
 
 -- ---- it goes on, and nothing is asked
@@ -114,7 +114,7 @@ pub goes_on : (rows : CentreRows) (past : Past) (who : ℕ) (items : List Item)
     → (s : Serves rows past who items octets None old) (later : List Arrival) (more : List Turn)
     → old.progress ≡ progresses.Running askeds.Nothing
     → new.progress ≡ progresses.Running askeds.Nothing → new.stage ≡ old.stage
-    → StandsAt rows items (s.told ++ later) (s.turns ++ more) new
+    → ConnStandsAt rows items (s.told ++ later) (s.turns ++ more) new
     → asks_behind rows s.turns more ≡ [] → octets_more ≡ answers_to called later
     → Serves rows past who items (octets ++ octets_more) None new
 goes_on rows past who items octets octets_more old new s later more p q st stands none said =
@@ -156,7 +156,7 @@ goes_on rows past who items octets octets_more old new s later more p q st stand
 -- the last turn asks for one event
 record AsksOne (rows : CentreRows) (turns : List Turn) : Type 0 where
   last : Turn
-  ends : EndsWith rows turns last
+  ends : EndsWithTurn rows turns last
   one : EventKind
   asks : asks_at rows ends.front last ≡ one ∷ []
 
@@ -173,11 +173,11 @@ any_but p front turns last b is none e =
     or_false false = refl
 
 open_where : (rows : CentreRows) (front : List Turn) → list_any (begins rows) front ≡ true
-    → list_any finishes front ≡ false → is_open rows front ≡ true
+    → list_any finishes front ≡ false → is_open_behind rows front ≡ true
 open_where rows front b f = rw (b, f) refl
 
 one_close : (rows : CentreRows) (front : List Turn) (cause : Cause)
-    → is_open rows front ≡ true → asks_at rows front (turn_for cause) ≡ events.Close ∷ []
+    → is_open_behind rows front ≡ true → asks_at rows front (turn_for cause) ≡ events.Close ∷ []
 one_close rows front causes.Concluded o = ap (λ (b : Bool). event_if b events.Close) o
 one_close rows front causes.Released o = ap (λ (b : Bool). event_if b events.Close) o
 one_close rows front causes.Aborted o = ap (λ (b : Bool). event_if b events.Close) o
@@ -192,7 +192,7 @@ begins_none rows causes.LinkEnd = refl
 begins_none rows (causes.Broken fault) = refl
 
 asks_one : (rows : CentreRows) (items : List Item) (told : List Arrival) (turns : List Turn)
-    (asked : Asked) (event : EventKind) (v : Talking) → WaitsFor (progresses.Running asked) event
+    (asked : PendingEvent) (event : EventKind) (v : Talking) → WaitsFor (progresses.Running asked) event
     → Runs rows items told turns asked v → AsksOne rows turns
 asks_one rows items told turns askeds.Nothing event v w r = absurd w
 asks_one rows items told turns (askeds.Opening peer offered) event v w r = record {
@@ -252,9 +252,9 @@ asking_quiet rows setup front (offers title) one e =
 asking_quiet rows setup front offers_badly one e = absurd cc
 asking_quiet rows setup front (asks invoke call) one e = refl
 asking_quiet rows setup front concludes one e = refl
-asking_quiet rows setup front releases one e = close_quiet (is_open rows front) one _ e
+asking_quiet rows setup front releases one e = close_quiet (is_open_behind rows front) one _ e
 asking_quiet rows setup front aborts one e = refl
-asking_quiet rows setup front breaks one e = close_quiet (is_open rows front) one _ e
+asking_quiet rows setup front breaks one e = close_quiet (is_open_behind rows front) one _ e
 asking_quiet rows setup front ends one e = refl
 asking_quiet rows setup front pauses one e = refl
 
@@ -309,14 +309,14 @@ behind rows turns more event a e =
     }
 
 running_of : (p : Progress) (event : EventKind) → WaitsFor p event
-    → (asked : Asked) × (p ≡ progresses.Running asked)
+    → (asked : PendingEvent) × (p ≡ progresses.Running asked)
 running_of (progresses.Running asked) event w = (asked, refl)
 running_of progresses.Refused event w = absurd w
 running_of (progresses.Leaving end asked) event w = absurd w
 running_of (progresses.Ended end) event w = absurd w
 running_of (progresses.Cut end) event w = absurd w
 
-is_waiting : (asked : Asked) (event : EventKind) → WaitsFor (progresses.Running asked) event
+is_waiting : (asked : PendingEvent) (event : EventKind) → WaitsFor (progresses.Running asked) event
     → IsWaiting (progresses.Running asked) (Some event)
 is_waiting askeds.Nothing event w = w
 is_waiting (askeds.Opening peer offered) event w = w
@@ -327,7 +327,7 @@ is_waiting (askeds.Closing cause) event w = w
 -- where an event is asked, what is answered at once is all that is said
 asking_said : (rows : CentreRows) (items : List Item) (told : List Arrival) (turns : List Turn)
     (event : EventKind) (octets_more : List ℕ) (old new : Talking)
-    → (g : GoesOn rows items told turns (event ∷ []) old new)
+    → (g : ReadsOn rows items told turns (event ∷ []) old new)
     → (a : AsksOne rows (turns ++ g.more)) → Behind rows turns g.more event a
     → pending_of new ≡ pending_of old ++ octets_more → octets_more ≡ answers_to called g.later
 asking_said rows items told turns event octets_more old new g a b pending =
@@ -351,7 +351,7 @@ pub asks_on : (rows : CentreRows) (past : Past) (who : ℕ) (items : List Item)
     (octets octets_more : List ℕ) (event : EventKind) (old new : Talking)
     → (s : Serves rows past who items octets None old)
     → old.progress ≡ progresses.Running askeds.Nothing → new.stage ≡ old.stage
-    → WaitsFor new.progress event → GoesOn rows items s.told s.turns (event ∷ []) old new
+    → WaitsFor new.progress event → ReadsOn rows items s.told s.turns (event ∷ []) old new
     → pending_of new ≡ pending_of old ++ octets_more
     → Serves rows past who items (octets ++ octets_more) (Some event) new
 asks_on rows past who items octets octets_more event old new s p st w g pending =
@@ -407,7 +407,7 @@ asks_on rows past who items octets octets_more event old new s p st w g pending 
 
 -- ---- the event that waits
 
-waits_for : (asked : Asked) (event : EventKind) → IsWaiting (progresses.Running asked) (Some event)
+waits_for : (asked : PendingEvent) (event : EventKind) → IsWaiting (progresses.Running asked) (Some event)
     → WaitsFor (progresses.Running asked) event
 waits_for askeds.Nothing event w = w
 waits_for (askeds.Opening peer offered) event w = w
@@ -416,7 +416,7 @@ waits_for askeds.Taking event w = w
 waits_for (askeds.Closing cause) event w = w
 
 pub waiting_of : (p : Progress) (event : EventKind) → IsWaiting p (Some event)
-    → (asked : Asked) × (p ≡ progresses.Running asked)
+    → (asked : PendingEvent) × (p ≡ progresses.Running asked)
 waiting_of (progresses.Running asked) event w = (asked, refl)
 waiting_of progresses.Refused event w = absurd w
 waiting_of (progresses.Leaving end asked) event w = absurd w

@@ -11,30 +11,30 @@ use Rattle.sbo_device.specs.declared.key.Key.{Key}
 use Rattle.tase_views.specs.declared.event.EventKind.{EventKind}
 use Rattle.tase_views.specs.declared.event.EventKind.TheVariants as events
 use Rattle.tase_views.specs.History.{Past, association_in}
-use Rattle.tase_map.specs.Inputs.{Item, IsInput, text_of, has_ended}
+use Rattle.tase_map.specs.Inputs.{Item, IsLinkInput, text_given, link_has_ended}
 use Rattle.tase_map.specs.Readings.{reading_of}
 use Rattle.tase_map.specs.Turns.{Turn, asks, turns_of}
 use Rattle.tase_map.specs.Asks.{up_to_last, asks_behind, asks_of}
-use Rattle.tase_map.specs.Out.{talk_of, abort_octets, close_octets, early_octets}
+use Rattle.tase_map.specs.Out.{talk_of, abort_wire, close_octets, early_octets}
 use Rattle.tase_map.specs.Closed.{is_closed}
-use Rattle.tase_map.specs.Sent.{events_by, sent, turns_left}
+use Rattle.tase_map.specs.Sent.{events_by, association_octets, turns_left}
 use Rattle.tase_conn.specs.declared.stage.ConnEnd.{ConnEnd}
 use Rattle.tase_conn.specs.declared.stage.Stage.{Stage}
 use Rattle.tase_conn.specs.declared.stage.Stage.TheVariants as stages
 use Rattle.tase_conn.specs.declared.stage.Progress.{Progress}
 use Rattle.tase_conn.specs.declared.stage.Progress.TheVariants as progresses
 use Rattle.tase_conn.specs.Talking.{Talking, is_open_stage}
-use Rattle.tase_conn.specs.Places.{StandsAt, Begins}
-use Rattle.tase_conn.specs.Answering.{aborts, parted}
-use Rattle.conn_laws.specs.Serving.{HasOpened, Whatever}
+use Rattle.tase_conn.specs.Places.{ConnStandsAt, BeginsTurns}
+use Rattle.tase_conn.specs.Answering.{aborts, parting_octets}
+use Rattle.conn_laws.specs.Serving.{HasOpened, HoldsOfAllInput}
 
 -- which event waits of a connection that was left for this end: none, or once it was asked the
 -- close of its association
-abbrev pub IsClosing : Progress → Option EventKind → ConnEnd → Type 0
-IsClosing (progresses.Leaving end false) None left = end ≡ left
-IsClosing (progresses.Leaving end true) (Some events.Close) left = end ≡ left
-IsClosing (progresses.Cut end) None left = end ≡ left
-IsClosing _ _ left = ⊥
+abbrev pub IsClosingFor : Progress → Option EventKind → ConnEnd → Type 0
+IsClosingFor (progresses.Leaving end false) None left = end ≡ left
+IsClosingFor (progresses.Leaving end true) (Some events.Close) left = end ≡ left
+IsClosingFor (progresses.Cut end) None left = end ≡ left
+IsClosingFor _ _ left = ⊥
 
 -- its association is still to be closed
 abbrev pub is_leaving : Progress → Bool
@@ -45,18 +45,18 @@ is_leaving _ = false
 -- unless the link can't take them
 abbrev pub parting : ConnEnd → EndState → AssociationSetup → List ℕ
 parting end standing setup =
-    if aborts end then (if is_accepted standing then abort_octets setup else []) else []
+    if aborts end then (if is_accepted standing then abort_wire setup else []) else []
 
 -- what is said when it is left: while its association is open nothing yet
 abbrev pub left_said : Stage → Course → ConnEnd → List ℕ
-left_said stage course end = if is_open_stage stage then [] else parted course end
+left_said stage course end = if is_open_stage stage then [] else parting_octets course end
 
 -- before an open: no more than a connection without one is sent
 pub record LeftEarly (rows : CentreRows) (past : Past) (who : ℕ) (items : List Item)
     (answered : List Turn) (said : List ℕ) : Type 0 where
   pub none : events_by who past ≡ []
   pub asked : reverse (events_by who past) ≡ asks_behind rows [] answered
-  pub octets : Whatever items answered (λ text ended rest. (others : List ℕ)
+  pub octets : HoldsOfAllInput items answered (λ text ended rest. (others : List ℕ)
       × (early_octets rows text ≡ said ++ others))
 
 -- its association is still open: all that it is sent was said, or where memory was wanting for the
@@ -69,10 +69,10 @@ pub record LeftOpen (whole : Bool) (standing : EndState) (course : Course) (rows
   pub seat : association_in past who ≡ Some key
   pub asked : reverse (events_by who past) ≡ asks_behind rows [] answered
   pub stood : course.standing ≡ standing
-  pub setup : Whatever items answered (λ text ended rest.
+  pub setup : HoldsOfAllInput items answered (λ text ended rest.
       course.setup ≡ (talk_of (reading_of text) ended).setup)
-  pub octets : Whatever items answered (λ text ended rest. (missing : List ℕ)
-      × (sent rows past key text ended ≡ said ++ missing)
+  pub octets : HoldsOfAllInput items answered (λ text ended rest. (missing : List ℕ)
+      × (association_octets rows past key text ended ≡ said ++ missing)
       × (turns_left rows past key text ended ≡ rest) × (whole ≡ true → missing ≡ []))
 
 -- it was closed then: all that it was sent before that close was said, and the parting
@@ -84,9 +84,9 @@ pub record LeftClosed (whole : Bool) (end : ConnEnd) (standing : EndState) (rows
   pub closed : is_closed key past ≡ true
   pub asked : reverse (events_by who past) ≡ asks_behind rows [] answered ++ events.Close ∷ []
   pub before : List ℕ
-  pub octets : Whatever items answered (λ text ended rest.
+  pub octets : HoldsOfAllInput items answered (λ text ended rest.
       (said ≡ before ++ parting end standing (talk_of (reading_of text) ended).setup)
-      × (missing : List ℕ) × (sent rows past key text ended
+      × (missing : List ℕ) × (association_octets rows past key text ended
       ≡ (before ++ missing) ++ close_octets (talk_of (reading_of text) ended).setup rest)
       × (whole ≡ true → missing ≡ []))
 
@@ -98,9 +98,9 @@ pub record LeftConcluded (end : ConnEnd) (standing : EndState) (rows : CentreRow
   pub closed : is_closed key past ≡ true
   pub asked : reverse (events_by who past) ≡ asks_behind rows [] answered
   pub before : List ℕ
-  pub octets : Whatever items answered (λ text ended rest.
+  pub octets : HoldsOfAllInput items answered (λ text ended rest.
       (said ≡ before ++ parting end standing (talk_of (reading_of text) ended).setup)
-      × (others : List ℕ) × (sent rows past key text ended ≡ before ++ others))
+      × (others : List ℕ) × (association_octets rows past key text ended ≡ before ++ others))
 
 abbrev pub LeftBy : Bool → Stage → ConnEnd → EndState → Course → CentreRows → Past → ℕ → List Item
     → List Turn → List ℕ → Type 0
@@ -119,12 +119,12 @@ pub record HasLeft (whole : Bool) (end : ConnEnd) (standing : EndState) (rows : 
     (v : Talking) : Type 0 where
   pub told : List Arrival
   pub turns : List Turn
-  pub input : IsInput items
-  pub stands : StandsAt rows items told turns v
-  pub waits : IsClosing v.progress waiting end
+  pub input : IsLinkInput items
+  pub stands : ConnStandsAt rows items told turns v
+  pub waits : IsClosingFor v.progress waiting end
   pub owes : is_open_stage v.stage ≡ is_leaving v.progress
   pub answered : List Turn
-  pub read : Begins answered (up_to_last rows (turns_of items))
+  pub read : BeginsTurns answered (up_to_last rows (turns_of items))
   pub says : LeftBy whole v.stage end standing v.course rows past who items answered said
 
 -- ---- what that means
@@ -141,10 +141,11 @@ abbrev pub HasSaidSome : ConnEnd → EndState → CentreRows → Past → ℕ �
 HasSaidSome end standing rows past who items said =
     ((key : Key) × HasOpened past who key × (is_closed key past ≡ true) × (before : List ℕ)
     × (others : List ℕ) × (said ≡ before
-    ++ parting end standing (talk_of (reading_of (text_of items)) (has_ended items)).setup)
-    × (sent rows past key (text_of items) (has_ended items) ≡ before ++ others))
+    ++ parting end standing (talk_of (reading_of (text_given items)) (link_has_ended items)).setup)
+    × (association_octets rows past key (text_given items) (link_has_ended items)
+    ≡ before ++ others))
     ⊎ ((events_by who past ≡ []) × (others : List ℕ)
-    × (early_octets rows (text_of items) ≡ said ++ others))
+    × (early_octets rows (text_given items) ≡ said ++ others))
 
 -- the seat has had the first of the events that the input asks, and then the close of an
 -- association that was open

@@ -13,20 +13,20 @@ use Rattle.tase_views.specs.declared.event.EventKind.TheVariants as events
 use Rattle.tase_views.specs.declared.fault.StepFault.{StepFault}
 use Rattle.tase_views.specs.declared.reply.Answer.{Answer}
 use Rattle.tase_views.specs.History.{Past, next_key, association_in}
-use Rattle.tase_map.specs.Inputs.{Item, IsInput, text_of, has_ended}
+use Rattle.tase_map.specs.Inputs.{Item, IsLinkInput, text_given, link_has_ended}
 use Rattle.tase_map.specs.Readings.{reading_of}
 use Rattle.tase_map.specs.Turns.{Turn, turns_of}
 use Rattle.tase_map.specs.Asks.{asks_at, asks_behind, asks_of, without_pauses}
 use Rattle.tase_map.specs.Out.{talk_of, concluded_octets, early_octets}
 use Rattle.tase_map.specs.Closed.{is_closed}
-use Rattle.tase_map.specs.Sent.{events_by, sent, turns_left}
+use Rattle.tase_map.specs.Sent.{events_by, association_octets, turns_left}
 use Rattle.tase_conn.specs.declared.stage.Stage.{Stage}
 use Rattle.tase_conn.specs.declared.stage.Stage.TheVariants as stages
-use Rattle.tase_conn.specs.declared.stage.Asked.TheVariants as askeds
+use Rattle.tase_conn.specs.declared.stage.PendingEvent.TheVariants as askeds
 use Rattle.tase_conn.specs.declared.stage.Progress.{Progress}
 use Rattle.tase_conn.specs.declared.stage.Progress.TheVariants as progresses
 use Rattle.tase_conn.specs.Talking.{Talking}
-use Rattle.tase_conn.specs.Places.{StandsAt}
+use Rattle.tase_conn.specs.Places.{ConnStandsAt}
 use Rattle.tase_conn.specs.Wanting.{WaitsFor}
 use Rattle.tase_conn.specs.Answering.{progress_told, stage_told}
 
@@ -75,10 +75,10 @@ IsWaiting _ _ = ⊥
 
 -- whatever else the link gives: this holds of the whole text, of whether it has ended, and of
 -- what it tells behind the turns that are answered
-abbrev pub Whatever : List Item → List Turn → (List ℕ → Bool → List Turn → Type 0) → Type 0
-Whatever items answered Holds = (more : List Item) → IsInput (items ++ more)
+abbrev pub HoldsOfAllInput : List Item → List Turn → (List ℕ → Bool → List Turn → Type 0) → Type 0
+HoldsOfAllInput items answered Holds = (more : List Item) → IsLinkInput (items ++ more)
     → (rest : List Turn) → turns_of (items ++ more) ≡ answered ++ rest
-    → Holds (text_of (items ++ more)) (has_ended (items ++ more)) (without_pauses rest)
+    → Holds (text_given (items ++ more)) (link_has_ended (items ++ more)) (without_pauses rest)
 
 -- before an open: what answers the messages that were read; in the end, all that a connection
 -- without one is sent
@@ -86,7 +86,7 @@ abbrev pub SaysEarly : Progress → CentreRows → List Item → List Arrival �
     → Type 0
 SaysEarly (progresses.Running asked) rows items told answered said = said ≡ answers_to called told
 SaysEarly (progresses.Ended end) rows items told answered said =
-    Whatever items answered (λ text ended rest. said ≡ early_octets rows text)
+    HoldsOfAllInput items answered (λ text ended rest. said ≡ early_octets rows text)
 SaysEarly _ rows items told answered said = ⊥
 
 -- while its association is open: all that it is sent
@@ -95,8 +95,9 @@ pub record SaysOpen (rows : CentreRows) (past : Past) (who : ℕ) (items : List 
   pub key : Key
   pub opened : HasOpened past who key
   pub seat : association_in past who ≡ Some key
-  pub octets : Whatever items answered (λ text ended rest.
-      (said ≡ sent rows past key text ended) × (turns_left rows past key text ended ≡ rest))
+  pub octets : HoldsOfAllInput items answered (λ text ended rest.
+      (said ≡ association_octets rows past key text ended)
+      × (turns_left rows past key text ended ≡ rest))
 
 -- what is still owed behind the response to conclude
 abbrev pub owed : Progress → AssociationSetup → List Turn → List ℕ
@@ -109,9 +110,9 @@ pub record SaysClosed (progress : Progress) (rows : CentreRows) (past : Past) (w
   pub key : Key
   pub opened : HasOpened past who key
   pub closed : is_closed key past ≡ true
-  pub octets : Whatever items answered (λ text ended rest.
+  pub octets : HoldsOfAllInput items answered (λ text ended rest.
       said ++ owed progress (talk_of (reading_of text) ended).setup rest
-      ≡ sent rows past key text ended)
+      ≡ association_octets rows past key text ended)
 
 abbrev pub SaysBy : Stage → Progress → CentreRows → Past → ℕ → List Item → List Arrival → List Turn
     → List ℕ → Type 0
@@ -130,8 +131,8 @@ pub record Serves (rows : CentreRows) (past : Past) (who : ℕ) (items : List It
     (said : List ℕ) (waiting : Option EventKind) (v : Talking) : Type 0 where
   pub told : List Arrival
   pub turns : List Turn
-  pub input : IsInput items
-  pub stands : StandsAt rows items told turns v
+  pub input : IsLinkInput items
+  pub stands : ConnStandsAt rows items told turns v
   pub waits : IsWaiting v.progress waiting
   pub answered : List Turn
   pub are : AreAnswered rows waiting answered turns
@@ -141,7 +142,7 @@ pub record Serves (rows : CentreRows) (past : Past) (who : ℕ) (items : List It
 -- where the connection stands behind an answer, or a refusal, that it was told
 pub record HasTold (rows : CentreRows) (items : List Item) (told : List Arrival) (turns : List Turn)
     (outcome : Result Answer StepFault) (old new : Talking) : Type 0 where
-  pub stands : StandsAt rows items told turns new
+  pub stands : ConnStandsAt rows items told turns new
   pub progress : new.progress ≡ progress_told old.progress old.stage outcome
   pub stage : new.stage ≡ stage_told old.progress outcome old.stage
 
@@ -152,8 +153,8 @@ pub record HasTold (rows : CentreRows) (items : List Item) (told : List Arrival)
 abbrev pub HasSaid : CentreRows → Past → ℕ → List Item → List ℕ → Type 0
 HasSaid rows past who items said =
     ((key : Key) × HasOpened past who key
-    × (said ≡ sent rows past key (text_of items) (has_ended items)))
-    ⊎ ((events_by who past ≡ []) × (said ≡ early_octets rows (text_of items)))
+    × (said ≡ association_octets rows past key (text_given items) (link_has_ended items)))
+    ⊎ ((events_by who past ≡ []) × (said ≡ early_octets rows (text_given items)))
 
 -- the seat has had all events that the input asks, and all octets were said
 pub record HasServed (rows : CentreRows) (past : Past) (who : ℕ) (items : List Item)

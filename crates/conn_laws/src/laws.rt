@@ -11,20 +11,21 @@ ghost use Rattle.tase_views.specs.declared.fault.StepFault.{StepFault};
 ghost use Rattle.tase_views.specs.declared.reply.Answer.{Answer};
 ghost use Rattle.tase_views.specs.History.{Past, association_in};
 ghost use Rattle.tase_views.specs.Outcomes.{IsRightOutcome, seat_refusal, name_refusal};
-ghost use Rattle.tase_map.specs.Inputs.{Item, IsInput, text_of, has_ended};
+ghost use Rattle.tase_map.specs.Inputs.{Item, IsLinkInput, text_given, link_has_ended};
 ghost use Rattle.tase_map.specs.Turns.{Turn, turns_of};
 ghost use Rattle.tase_map.specs.Asks.{asks_of, without_pauses};
 ghost use Rattle.tase_map.specs.Out.{early_octets};
-ghost use Rattle.tase_map.specs.Sent.{events_by, sent};
+ghost use Rattle.tase_map.specs.Sent.{events_by, association_octets};
 ghost use Rattle.tase_conn.specs.declared.stage.ConnEnd.{ConnEnd as AnyEnd};
-ghost use Rattle.tase_conn.specs.declared.stage.Asked.TheVariants as askeds;
+ghost use Rattle.tase_conn.specs.declared.stage.PendingEvent.TheVariants as askeds;
 ghost use Rattle.tase_conn.specs.declared.stage.Progress.TheVariants as progresses;
 ghost use Rattle.tase_conn.specs.Talking.{Talking, pending_of, IsResting};
-ghost use Rattle.tase_conn.specs.Places.{StandsAt};
-ghost use Rattle.tase_conn.specs.Taken.{TakesIn, IsSent};
-ghost use Rattle.tase_conn.specs.Wanting.{Wants, Passes, IsIdle, Leaves, IsLeaving};
+ghost use Rattle.tase_conn.specs.Places.{ConnStandsAt};
+ghost use Rattle.tase_conn.specs.Taken.{TakesIn, SendsSome};
+ghost use Rattle.tase_conn.specs.Wanting.{Wants, Passes, IsIdle, WantsClose, IsLeaving};
 ghost use Rattle.tase_conn.specs.Leaving.{IsLeft};
-ghost use Rattle.tase_conn.specs.Answering.{told_said, stage_told, IsAnswerFor, end_of, aborts};
+ghost use Rattle.tase_conn.specs.Answering.{told_said, stage_told, IsAnswerFor, end_of_fault};
+ghost use Rattle.tase_conn.specs.Answering.{aborts};
 ghost use Rattle.conn_laws.specs.Cutting.{HasLeft, LeftClosed, WasLeft, IsUnexplained};
 ghost use Rattle.conn_laws.specs.Serving.{Serves, AreOthers, HasTold, HasServed};
 ghost use Rattle.conn_laws.specs.Serving.{with_event};
@@ -38,12 +39,12 @@ ghost use Rattle.conn_laws.specs.Serving.{with_event};
 /// history, and no others.
 pub fn connections_serve()
     ensures begun { (rows : CentreRows) (past : Past) (who : ℕ) (v : Talking)
-        → events_by who past ≡ [] → StandsAt rows [] [] [] v
+        → events_by who past ≡ [] → ConnStandsAt rows [] [] [] v
         → v.progress ≡ progresses.Running askeds.Nothing → Serves rows past who [] [] None v }
     ensures taken { (rows : CentreRows) (past : Past) (who : ℕ) (items : List Item) (item : Item)
         (octets : List ℕ) (old new : Talking)
-        → (s : Serves rows past who items octets None old) → IsInput (items ++ item ∷ [])
-        → StandsAt rows (items ++ item ∷ []) s.told s.turns new → TakesIn old new
+        → (s : Serves rows past who items octets None old) → IsLinkInput (items ++ item ∷ [])
+        → ConnStandsAt rows (items ++ item ∷ []) s.told s.turns new → TakesIn old new
         → Serves rows past who (items ++ item ∷ []) octets None new }
     ensures others { (rows : CentreRows) (past others : Past) (who : ℕ) (items : List Item)
         (octets : List ℕ) (waiting : Option AnyEvent) (v : Talking)
@@ -65,7 +66,7 @@ pub fn connections_serve()
     ensures sent { (rows : CentreRows) (past : Past) (who : ℕ) (items : List Item)
         (octets : List ℕ) (waiting : Option AnyEvent) (old new : Talking)
         → (s : Serves rows past who items octets waiting old)
-        → StandsAt rows items s.told s.turns new → IsSent old new
+        → ConnStandsAt rows items s.told s.turns new → SendsSome old new
         → Serves rows past who items octets waiting new }
     ensures next { (rows : CentreRows) (past : Past) (who : ℕ) (items : List Item)
         (octets : List ℕ) (event : AnyEvent) (v : Talking)
@@ -101,15 +102,16 @@ pub fn connections_leave()
     ensures refused { (rows : CentreRows) (past : Past) (who : ℕ) (items : List Item)
         (octets added : List ℕ) (event : AnyEvent) (fault : StepFault) (old new : Talking)
         → (s : Serves rows past who items octets (Some event) old)
-        → IsAnswerFor old.progress (Err fault) → StandsAt rows items s.told s.turns new
-        → IsLeft (end_of fault) old new → pending_of new ≡ pending_of old ++ added
-        → HasLeft true (end_of fault) old.course.standing rows past who items (octets ++ added)
+        → IsAnswerFor old.progress (Err fault) → ConnStandsAt rows items s.told s.turns new
+        → IsLeft (end_of_fault fault) old new → pending_of new ≡ pending_of old ++ added
+        → HasLeft true (end_of_fault fault) old.course.standing rows past who items
+        (octets ++ added)
         None new }
     ensures given_up { (rows : CentreRows) (past : Past) (who : ℕ) (items : List Item)
         (octets added : List ℕ) (end : AnyEnd) (old new : Talking)
         → (s : Serves rows past who items octets None old)
         → old.progress ≡ progresses.Running askeds.Nothing
-        → StandsAt rows items s.told s.turns new → IsLeft end old new
+        → ConnStandsAt rows items s.told s.turns new → IsLeft end old new
         → pending_of new ≡ pending_of old ++ added
         → HasLeft true end old.course.standing rows past who items (octets ++ added) None new }
     ensures unnoted { (setup : Setup) (past : Past) (who : ℕ) (items : List Item)
@@ -121,7 +123,7 @@ pub fn connections_leave()
           progress = progresses.Refused;
           stage = stage_told old.progress (Ok answer) old.stage;
         }
-        → StandsAt setup.centre items s.told s.turns new → IsLeft end between new
+        → ConnStandsAt setup.centre items s.told s.turns new → IsLeft end between new
         → pending_of new ≡ pending_of old ++ added
         → HasLeft false end old.course.standing setup.centre (with_event who event past) who items
         (octets ++ added) None new }
@@ -129,7 +131,8 @@ pub fn connections_leave()
         (octets : List ℕ) (event : Option AnyEvent) (whole : Bool) (end : AnyEnd)
         (standing : EndState) (old new : Talking)
         → (h : HasLeft whole end standing rows past who items octets None old)
-        → IsLeaving old.progress → Leaves event old new × StandsAt rows items h.told h.turns new
+        → IsLeaving old.progress → WantsClose event old new
+        × ConnStandsAt rows items h.told h.turns new
         → HasLeft whole end standing rows past who items octets event new }
     ensures closed { (rows : CentreRows) (past : Past) (who : ℕ) (items : List Item)
         (octets : List ℕ) (event : AnyEvent) (answer : Answer) (whole : Bool) (end : AnyEnd)
@@ -147,19 +150,19 @@ pub fn connections_leave()
         (past : Past) (who : ℕ) (items : List Item) (octets : List ℕ)
         (waiting : Option AnyEvent) (old new : Talking)
         → (h : HasLeft whole end standing rows past who items octets waiting old)
-        → StandsAt rows items h.told h.turns new → IsSent old new
+        → ConnStandsAt rows items h.told h.turns new → SendsSome old new
         → HasLeft whole end standing rows past who items octets waiting new }
     ensures again { (whole : Bool) (end other : AnyEnd) (standing : EndState) (rows : CentreRows)
         (past : Past) (who : ℕ) (items : List Item) (octets : List ℕ) (old new : Talking)
         → (h : HasLeft whole end standing rows past who items octets None old)
-        → IsLeaving old.progress → StandsAt rows items h.told h.turns new → IsLeft other old new
+        → IsLeaving old.progress → ConnStandsAt rows items h.told h.turns new → IsLeft other old new
         → HasLeft whole other standing rows past who items octets None new }
     ensures dropped { (whole : Bool) (end : AnyEnd) (standing : EndState) (rows : CentreRows)
         (past : Past) (who : ℕ) (items : List Item) (item : Item) (octets : List ℕ)
         (old new : Talking)
         → (h : HasLeft whole end standing rows past who items octets None old)
-        → old.progress ≡ progresses.Cut end → IsInput (items ++ item ∷ [])
-        → StandsAt rows (items ++ item ∷ []) h.told h.turns new → TakesIn old new
+        → old.progress ≡ progresses.Cut end → IsLinkInput (items ++ item ∷ [])
+        → ConnStandsAt rows (items ++ item ∷ []) h.told h.turns new → TakesIn old new
         → HasLeft whole end standing rows past who (items ++ item ∷ []) octets None new }
     ensures left { (whole : Bool) (end : AnyEnd) (standing : EndState) (rows : CentreRows)
         (past : Past) (who : ℕ) (items : List Item) (octets : List ℕ) (v : Talking)
@@ -168,12 +171,13 @@ pub fn connections_leave()
         → WasLeft end standing rows past who items octets }
     ensures whole { (end : AnyEnd) (standing : EndState) (rows : CentreRows) (past : Past)
         (who : ℕ) (items : List Item) (answered rest : List Turn) (octets : List ℕ)
-        → IsInput items → turns_of items ≡ answered ++ rest → IsUnexplained (without_pauses rest)
+        → IsLinkInput items → turns_of items ≡ answered ++ rest
+        → IsUnexplained (without_pauses rest)
         → aborts end ≡ true → is_accepted standing ≡ true
         → (l : LeftClosed true end standing rows past who items answered octets)
-        → octets ≡ sent rows past l.key (text_of items) (has_ended items) }
+        → octets ≡ association_octets rows past l.key (text_given items) (link_has_ended items) }
     ensures unopened { (rows : CentreRows) (past : Past) (who : ℕ) (items : List Item)
         (octets : List ℕ) (peer : ℕ) (v : Talking)
         → Serves rows past who items octets (Some (Open peer)) v
-        → octets ≡ early_octets rows (text_of items) }
+        → octets ≡ early_octets rows (text_given items) }
 {}

@@ -17,7 +17,7 @@ use Rattle.stack_assoc.specs.Courses.{CourseStands}
 use Rattle.bilateral.specs.Rows.{CentreRows}
 use Rattle.tase_views.specs.declared.event.EventKind.{EventKind}
 use Rattle.tase_views.specs.declared.event.EventKind.TheVariants as events
-use Rattle.tase_map.specs.Inputs.{Item, piece, idle, ended, text_of}
+use Rattle.tase_map.specs.Inputs.{Item, piece, idle, ended, text_given}
 use Rattle.tase_map.specs.Readings.{reading_of}
 use Rattle.tase_map.specs.Turns.{Turn}
 use Rattle.tase_map.specs.Turns.{breaks, ends, pauses, turn_of_pdu, turn_in, fault_turns, turns_of}
@@ -25,7 +25,7 @@ use Rattle.tase_map.specs.Turns.{turns_behind_octets}
 use Rattle.tase_map.specs.Asks.{is_last, asks_behind}
 use Rattle.tase_map.proofs.Fronts.{told_front}
 use Rattle.tase_map.proofs.TurnsRead.{turns_heard}
-use Rattle.tase_conn.specs.declared.stage.Asked.TheVariants as askeds
+use Rattle.tase_conn.specs.declared.stage.PendingEvent.TheVariants as askeds
 use Rattle.tase_conn.specs.declared.stage.Behind.{Behind}
 use Rattle.tase_conn.specs.declared.stage.Behind.TheVariants as behinds
 use Rattle.tase_conn.specs.declared.stage.Coming.{Coming}
@@ -33,8 +33,8 @@ use Rattle.tase_conn.specs.declared.stage.Coming.TheVariants as comings
 use Rattle.tase_conn.specs.declared.stage.Progress.{Progress}
 use Rattle.tase_conn.specs.declared.stage.Progress.TheVariants as progresses
 use Rattle.tase_conn.specs.Talking.{Talking}
-use Rattle.tase_conn.specs.Places.{StandsAt, GoesBy, Runs, EndsWith, IsWithin, ReadsBy}
-use Rattle.tase_conn.specs.Places.{Begins, turns_held, listed, fault_held, fault_seen}
+use Rattle.tase_conn.specs.Places.{ConnStandsAt, GoesBy, Runs, EndsWithTurn, IsWithin, ReadsBy}
+use Rattle.tase_conn.specs.Places.{BeginsTurns, turns_held, turn_listed, fault_held, fault_seen}
 use Rattle.tase_conn.specs.Places.{IsPassed}
 use Rattle.tase_conn.specs.Wanting.{Wants, WantsBy, WaitsFor}
 use Rattle.tase_conn.proofs.SeenTurns.{within_turns}
@@ -66,12 +66,12 @@ bounds-append (x ∷ xs) ys = ap (λ n. one_if (is_bound x) + n) (bounds-append 
     ∙ sym (add_assoc (one_if (is_bound x)) (bounds xs) (bounds ys))
 
 -- messages end none
-pdu_bounds : (pdu : MmsPdu) → bounds (listed (turn_of_pdu pdu)) ≡ 0
+pdu_bounds : (pdu : MmsPdu) → bounds (turn_listed (turn_of_pdu pdu)) ≡ 0
 pdu_bounds (pdus.Request invoke request) = refl
 pdu_bounds pdus.Conclude = refl
 pdu_bounds _ = refl
 
-input_bounds : (input : StackIn) → bounds (listed (turn_in input)) ≡ 0
+input_bounds : (input : StackIn) → bounds (turn_listed (turn_in input)) ≡ 0
 input_bounds (inputs.Offer title initiate) = refl
 input_bounds inputs.BadOffer = refl
 input_bounds (inputs.Accepted initiate) = refl
@@ -81,7 +81,7 @@ input_bounds inputs.Released = refl
 input_bounds inputs.Aborted = refl
 input_bounds inputs.Refused = refl
 
-option_bounds : (turn : Option Turn) (turns : List Turn) → bounds (listed turn) ≡ 0
+option_bounds : (turn : Option Turn) (turns : List Turn) → bounds (turn_listed turn) ≡ 0
     → bounds turns ≡ 0 → bounds (cons_option turn turns) ≡ 0
 option_bounds None turns one others = others
 option_bounds (Some turn) turns one others = omega (arith, one, others)
@@ -127,12 +127,12 @@ within_done items told seen v w =
 
 -- and it hasn't
 within_more : (items : List Item) (told : List Arrival) (seen : List Turn) (v : Talking)
-    → CourseStands called (text_of items) told v.course → IsWithin items told seen v
+    → CourseStands called (text_given items) told v.course → IsWithin items told seen v
     → bounds seen + 1 ≤ bounds (turns_of items)
 within_more items told seen v s w =
-    let f = told_front (text_of items) told v.course s in
+    let f = told_front (text_given items) told v.course s in
     let heard = turns_heard f.0 in
-    let broken = fault_turns (reading_of (text_of items)).broken in
+    let broken = fault_turns (reading_of (text_given items)).broken in
     let behind = turns_behind_octets w.item in
     let one : bounds behind ≡ 1 = item_bounds w.item in
     let all : bounds (turns_of items)
@@ -153,7 +153,7 @@ record IsTaking (rows : CentreRows) (items : List Item) (told : List Arrival) (t
   within : IsWithin items (told ++ later) (turns ++ more) new
 
 one_more : (rows : CentreRows) (turns more : List Turn)
-    → asks_behind rows turns more ≡ events.Take ∷ [] → EndsWith rows (turns ++ more) pauses
+    → asks_behind rows turns more ≡ events.Take ∷ [] → EndsWithTurn rows (turns ++ more) pauses
     → 1 ≤ bounds more
 one_more rows turns [] e l = absurd cc
 one_more rows turns (turn ∷ more) e l =
@@ -247,7 +247,7 @@ old_never : (fault : Option StackFault) (rows : CentreRows) (items : List Item)
     → IsTaking rows items told turns more later new
     → Runs rows items told turns askeds.Nothing old → old.course.fault ≡ fault
     → MatchOption fault (ReadsBy old.behind items told (turns ++ turns_held old.held) old)
-    (λ f. Begins (turns ++ turns_held old.held) (turns_of items)) → ⊥
+    (λ f. BeginsTurns (turns ++ turns_held old.held) (turns_of items)) → ⊥
 old_never None rows items told turns more later old new t r f reads =
     read_never old.behind rows items told turns more later old new t refl r.passed reads
 old_never (Some fault) rows items told turns more later old new t r f b =
@@ -286,7 +286,7 @@ taking_reads rows items told turns v r =
     r.fault ∙ ap (λ (h : Option Coming). fault_seen h askeds.Taking) held in
     let P : Option StackFault → Type 0 = λ f. MatchOption f
     (ReadsBy v.behind items told (turns ++ turns_held v.held) v)
-    (λ fault. Begins (turns ++ turns_held v.held) (turns_of items)) in
+    (λ fault. BeginsTurns (turns ++ turns_held v.held) (turns_of items)) in
     subst (λ (ts : List Turn). ReadsBy v.behind items told ts v)
     (ap (λ (h : Option Coming). turns ++ turns_held h) held ∙ append-nil turns)
     (subst P clear r.reads)
@@ -307,7 +307,7 @@ some_none e = absurd cc
 
 take_read : (p : Progress) (rows : CentreRows) (items : List Item) (told : List Arrival)
     (turns : List Turn) (old new : Talking) → old.progress ≡ p → IsWaiting p None
-    → StandsAt rows items told turns old
+    → ConnStandsAt rows items told turns old
     → WantsBy p rows items told turns (Some events.Take) old new
     → new.behind ≡ behinds.Nothing
 take_read (progresses.Running askeds.Nothing) rows items told turns old new e w s r =
@@ -334,7 +334,7 @@ take_read (progresses.Cut end) rows items told turns old new e w s r = absurd w
 -- an event that a connection wants: where it is a take
 pub wanted_read : (rows : CentreRows) (items : List Item) (told : List Arrival)
     (turns : List Turn) (event : EventKind) (old new : Talking) → IsWaiting old.progress None
-    → StandsAt rows items told turns old → Wants rows items told turns (Some event) old new
+    → ConnStandsAt rows items told turns old → Wants rows items told turns (Some event) old new
     → IsAllRead event new
 wanted_read rows items told turns (events.Open peer) old new w s r = tt
 wanted_read rows items told turns (events.Request call) old new w s r = tt

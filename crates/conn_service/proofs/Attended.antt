@@ -16,15 +16,15 @@ use Rattle.tase_views.specs.Outcomes.{refusal_of}
 use Rattle.tase_views.specs.declared.event.EventKind.{EventKind}
 use Rattle.tase_views.specs.declared.fault.StepFault.{StepFault}
 use Rattle.tase_views.specs.declared.fault.StepFault.TheVariants as faults
-use Rattle.tase_map.specs.Inputs.{Item, IsInput}
+use Rattle.tase_map.specs.Inputs.{Item, IsLinkInput}
 use Rattle.tase_map.specs.Turns.{Turn, turns_of}
 use Rattle.tase_map.specs.Asks.{asks_of, asks_behind, up_to_last, is_last, AreInTurn}
 use Rattle.tase_map.specs.Sent.{events_by}
-use Rattle.tase_conn.specs.declared.stage.Asked.TheVariants as askeds
+use Rattle.tase_conn.specs.declared.stage.PendingEvent.TheVariants as askeds
 use Rattle.tase_conn.specs.declared.stage.Progress.{Progress}
 use Rattle.tase_conn.specs.declared.stage.Progress.TheVariants as progresses
-use Rattle.tase_conn.specs.Talking.{Talking, pending_of, end_in, IsResting, IsFree}
-use Rattle.tase_conn.specs.Places.{StandsAt, GoesBy, Runs, EndsBy, IsOver}
+use Rattle.tase_conn.specs.Talking.{Talking, pending_of, conn_end_in, IsResting, IsFree}
+use Rattle.tase_conn.specs.Places.{ConnStandsAt, GoesBy, Runs, EndsBy, ReadsNoMore}
 use Rattle.tase_conn.specs.Wanting.{Wants, WantsBy}
 use Rattle.conn_laws.specs.Serving.{Serves, IsWaiting, with_event, HasServed, HasSaid}
 use Rattle.conn_laws.proofs.Ended.{wants_on}
@@ -36,17 +36,17 @@ use Rattle.tase_map.proofs.InTurn.{asked_in_turn}
 use Rattle.conn_service.specs.Linked.{link_octets, octets_by, opened_in, peer_end}
 use Rattle.conn_service.proofs.Opened.{none_opened, one_opened}
 use Rattle.conn_service.proofs.PeerEnds.{ended_so, unended_so}
-use Rattle.conn_service.specs.Attending.{Takes, Adds, HasTaken, IsRefused}
-use Rattle.conn_service.specs.Attending.{Attends, Answers, IsLeftFor, IsServed, IsAsking, remaining}
+use Rattle.conn_service.specs.Attending.{TakesEvents, AddsPending, HasTaken, IsRefused}
+use Rattle.conn_service.specs.Attending.{Attends, AnswersEvent, IsLeftFor, IsServed, IsAsking, remaining}
 use Rattle.conn_service.proofs.AllRead.{wanted_read}
 use Rattle.conn_service.proofs.Remaining.{waits_less}
 
 -- ---- the history
 
 pub taken_on : (setup : Setup) (who : ℕ) (past : Past) (taken : List EventKind) (between : Past)
-    (event : EventKind) → Takes setup who past taken between
+    (event : EventKind) → TakesEvents setup who past taken between
     → refusal_of setup between who event ≡ None
-    → Takes setup who past (taken ++ event ∷ []) (with_event who event between)
+    → TakesEvents setup who past (taken ++ event ∷ []) (with_event who event between)
 taken_on setup who past [] between event t r = (
   subst (λ (p : Past). refusal_of setup p who event ≡ None) t r,
   ap (λ (p : Past). with_event who event p) t,
@@ -55,7 +55,7 @@ taken_on setup who past (first ∷ taken) between event t r =
     (t.0, taken_on setup who (with_event who first past) taken between event t.1 r)
 
 pub events_taken : (setup : Setup) (who : ℕ) (past : Past) (taken : List EventKind)
-    (after : Past) → Takes setup who past taken after
+    (after : Past) → TakesEvents setup who past taken after
     → reverse (events_by who after) ≡ reverse (events_by who past) ++ taken
 events_taken setup who past [] after t =
     ap (λ (p : Past). reverse (events_by who p)) t ∙ sym (append-nil (reverse (events_by who past)))
@@ -71,8 +71,8 @@ events_taken setup who past (first ∷ taken) after t =
 pub record Goes (setup : Setup) (past : Past) (who : ℕ) (items : List Item) (said : List ℕ)
     (waiting : Option EventKind) (old : Talking) (after : Past) (new : Talking) : Type 0 where
   pub taken : List EventKind
-  pub takes : Takes setup who past taken after
-  pub adds : Adds old new
+  pub takes : TakesEvents setup who past taken after
+  pub adds : AddsPending old new
   pub serves : Serves setup.centre after who items (said ++ adds.added) waiting new
 
 pub goes_first : (setup : Setup) (past : Past) (who : ℕ) (items : List Item) (said : List ℕ)
@@ -86,8 +86,8 @@ goes_first setup past who items said old s = record {
       (sym (append-nil said)) s;
 }
 
-abbrev then_adds : (old between new : Talking) (more : List ℕ) → (a : Adds old between)
-    → pending_of new ≡ pending_of between ++ more → Adds old new
+abbrev then_adds : (old between new : Talking) (more : List ℕ) → (a : AddsPending old between)
+    → pending_of new ≡ pending_of between ++ more → AddsPending old new
 then_adds old between new more a p = record {
   added = a.added ++ more;
   pending = p ∙ ap (λ (os : List ℕ). os ++ more) a.pending
@@ -138,11 +138,11 @@ goes_wanted setup past after who items said event old between new g stage w =
 pub goes_answered : (setup : Setup) (past between after : Past) (who : ℕ) (items : List Item)
     (said : List ℕ) (event : EventKind) (old v new : Talking)
     → (g : Goes setup past who items said (Some event) old between v)
-    → Answers setup between who items (said ++ g.adds.added) event v (Ok true) after new
+    → AnswersEvent setup between who items (said ++ g.adds.added) event v (Ok true) after new
     → Goes setup past who items said None old after new
 goes_answered setup past between after who items said event old v new g a = record {
   taken = g.taken ++ event ∷ [];
-  takes = subst (λ (p : Past). Takes setup who past (g.taken ++ event ∷ []) p) (sym a.1)
+  takes = subst (λ (p : Past). TakesEvents setup who past (g.taken ++ event ∷ []) p) (sym a.1)
       (taken_on setup who past g.taken between event g.takes a.0);
   adds = then_adds old v new a.2.added g.adds a.2.pending;
   serves = subst (λ (os : List ℕ). Serves setup.centre after who items os None new)
@@ -180,7 +180,7 @@ refused_so setup past between who items said event fault old v g r =
 pub goes_stopped : (setup : Setup) (past between after : Past) (who : ℕ) (items : List Item)
     (said : List ℕ) (event : EventKind) (old v new : Talking)
     → (g : Goes setup past who items said (Some event) old between v)
-    → Answers setup between who items (said ++ g.adds.added) event v (Ok false) after new
+    → AnswersEvent setup between who items (said ++ g.adds.added) event v (Ok false) after new
     → Attends setup past who items said old (Ok tt) after new
 goes_stopped setup past between after who items said event old v new g a = (
   then_adds old v new a.3.added g.adds a.3.pending,
@@ -200,7 +200,7 @@ goes_stopped setup past between after who items said event old v new g a = (
 pub goes_full : (setup : Setup) (past between after : Past) (who weight limit : ℕ)
     (items : List Item) (said : List ℕ) (event : EventKind) (old v new : Talking)
     → (g : Goes setup past who items said (Some event) old between v)
-    → Answers setup between who items (said ++ g.adds.added) event v
+    → AnswersEvent setup between who items (said ++ g.adds.added) event v
     (Err (faults.HistoryFull weight limit)) after new
     → Attends setup past who items said old (Err (faults.HistoryFull weight limit)) after new
 goes_full setup past between after who weight limit items said event old v new g a =
@@ -212,7 +212,7 @@ goes_full setup past between after who weight limit items said event old v new g
 pub goes_unanswered : (setup : Setup) (past between after : Past) (who : ℕ) (items : List Item)
     (said : List ℕ) (event : EventKind) (old v new : Talking)
     → (g : Goes setup past who items said (Some event) old between v)
-    → Answers setup between who items (said ++ g.adds.added) event v (Err faults.Memory) after new
+    → AnswersEvent setup between who items (said ++ g.adds.added) event v (Err faults.Memory) after new
     → Attends setup past who items said old (Err faults.Memory) after new
 goes_unanswered setup past between after who items said event old v new g a =
     let n = asked_next setup past between who items said event old v g in
@@ -235,7 +235,7 @@ goes_unanswered setup past between after who items said event old v new g a =
 pub goes_never : (setup : Setup) (past between after : Past) (who : ℕ) (items : List Item)
     (said : List ℕ) (event : EventKind) (fault : StepFault) (old v new : Talking)
     → (g : Goes setup past who items said (Some event) old between v)
-    → Answers setup between who items (said ++ g.adds.added) event v (Err fault) after new
+    → AnswersEvent setup between who items (said ++ g.adds.added) event v (Err fault) after new
     → Attends setup past who items said old (Err fault) after new
 goes_never setup past between after who items said event faults.Memory old v new g a =
     goes_unanswered setup past between after who items said event old v new g a
@@ -253,7 +253,7 @@ goes_never setup past between after who items said event faults.UnknownName old 
 
 none_rests : (p : Progress) (rows : CentreRows) (items : List Item) (told : List Arrival)
     (turns : List Turn) (old new : Talking) → old.progress ≡ p → IsWaiting p None
-    → StandsAt rows items told turns old → WantsBy p rows items told turns None old new
+    → ConnStandsAt rows items told turns old → WantsBy p rows items told turns None old new
     → IsResting new
 none_rests (progresses.Running askeds.Nothing) rows items told turns old new e w s r = r.resting
 none_rests (progresses.Running (askeds.Opening peer granted)) rows items told turns old new e w s
@@ -266,7 +266,7 @@ none_rests (progresses.Running (askeds.Closing cause)) rows items told turns old
 none_rests progresses.Refused rows items told turns old new e w s r = absurd w
 none_rests (progresses.Leaving end asked) rows items told turns old new e w s r = absurd w
 none_rests (progresses.Ended end) rows items told turns old new e w s r =
-    let g : EndsBy rows items told turns end × IsOver old =
+    let g : EndsBy rows items told turns end × ReadsNoMore old =
     subst (λ (x : Progress). GoesBy x rows items told turns old) e s.goes in
     subst (λ (v : Talking). IsResting v) (sym r.is) (record {
       read = g.1.read;
@@ -292,7 +292,7 @@ said_by rows past who items said turn (inr n) =
     octets_at rows past items said None (opened_in past who) (none_opened past who n.0) n.1
 
 pub said_so : (rows : CentreRows) (past : Past) (who : ℕ) (items : List Item) (said : List ℕ)
-    → IsInput items → HasServed rows past who items said → said ≡ link_octets rows past who items
+    → IsLinkInput items → HasServed rows past who items said → said ≡ link_octets rows past who items
 said_so rows past who items said i h =
     let turn : AreInTurn rows (reverse (events_by who past) ++ []) =
     subst (λ (es : List EventKind). AreInTurn rows es)
@@ -303,13 +303,13 @@ said_so rows past who items said i h =
 end_so : (rows : CentreRows) (past : Past) (who : ℕ) (items : List Item) (said : List ℕ)
     (v : Talking) (p : Progress) → (s : Serves rows past who items said None v)
     → v.progress ≡ p → IsWaiting p None → IsResting v
-    → end_in v.progress ≡ peer_end rows items
+    → conn_end_in v.progress ≡ peer_end rows items
 end_so rows past who items said v (progresses.Running askeds.Nothing) s e w rests =
     let r : Runs rows items s.told s.turns askeds.Nothing v =
     subst (λ (x : Progress). GoesBy x rows items s.told s.turns v) e s.stands.goes in
     let t : turns_of items ≡ s.turns =
     sym (all_done rows items s.told s.turns v rests r).seen_is ∙ append-nil s.turns in
-    ap (λ (x : Progress). end_in x) e
+    ap (λ (x : Progress). conn_end_in x) e
     ∙ sym (unended_so rows items (ap (λ (ts : List Turn). list_any (is_last rows) ts) t ∙ r.ending))
 end_so rows past who items said v (progresses.Running (askeds.Opening peer granted)) s e w rests =
     absurd w
@@ -320,9 +320,9 @@ end_so rows past who items said v (progresses.Running (askeds.Closing cause)) s 
 end_so rows past who items said v progresses.Refused s e w rests = absurd w
 end_so rows past who items said v (progresses.Leaving end asked) s e w rests = absurd w
 end_so rows past who items said v (progresses.Ended end) s e w rests =
-    let g : EndsBy rows items s.told s.turns end × IsOver v =
+    let g : EndsBy rows items s.told s.turns end × ReadsNoMore v =
     subst (λ (x : Progress). GoesBy x rows items s.told s.turns v) e s.stands.goes in
-    ap (λ (x : Progress). end_in x) e ∙ sym (ended_so rows items s.told s.turns end g.0)
+    ap (λ (x : Progress). conn_end_in x) e ∙ sym (ended_so rows items s.told s.turns end g.0)
 end_so rows past who items said v (progresses.Cut end) s e w rests = absurd w
 
 pub goes_through : (setup : Setup) (past after : Past) (who : ℕ) (items : List Item)
@@ -381,7 +381,7 @@ front_by (progresses.Running (askeds.Closing cause)) rows past who items said v 
 front_by progresses.Refused rows past who items said v s e w = absurd w
 front_by (progresses.Leaving end asked) rows past who items said v s e w = absurd w
 front_by (progresses.Ended end) rows past who items said v s e w =
-    let g : EndsBy rows items s.told s.turns end × IsOver v =
+    let g : EndsBy rows items s.told s.turns end × ReadsNoMore v =
     subst (λ (x : Progress). GoesBy x rows items s.told s.turns v) e s.stands.goes in
     let a = at_end rows items s.told s.turns end g.0 in (
       [],
@@ -416,7 +416,7 @@ served_of setup past after who items said old new g = (items, said ++ g.adds.add
 pub asking_of : (rows : CentreRows) (past : Past) (who : ℕ) (event : EventKind)
     (old new : Talking) → IsServed rows past who old → new.stage ≡ old.stage
     → ((centre : CentreRows) (items : List Item) (told : List Arrival) (turns : List Turn)
-    → StandsAt centre items told turns old → Wants centre items told turns (Some event) old new)
+    → ConnStandsAt centre items told turns old → Wants centre items told turns (Some event) old new)
     → IsAsking rows past who event new
 asking_of rows past who event old new x stage wants =
     let w = wants rows x.0 x.2.told x.2.turns x.2.stands in
@@ -432,7 +432,7 @@ pub served_on : (setup : Setup) (past after : Past) (who : ℕ) (event : EventKi
     (old new : Talking) → IsAsking setup.centre past who event old
     → ((items : List Item) (said : List ℕ)
     → Serves setup.centre past who items said (Some event) old
-    → Answers setup past who items said event old (Ok true) after new)
+    → AnswersEvent setup past who items said event old (Ok true) after new)
     → IsServed setup.centre after who new
 served_on setup past after who event old new x answers =
     let a = answers x.0 x.1 x.2 in (x.0, x.1 ++ a.2.added, a.3)
@@ -442,7 +442,7 @@ pub answered_less : (setup : Setup) (past after : Past) (who : ℕ) (event : Eve
     (old new : Talking) → IsAsking setup.centre past who event old
     → ((items : List Item) (said : List ℕ)
     → Serves setup.centre past who items said (Some event) old
-    → Answers setup past who items said event old (Ok true) after new)
+    → AnswersEvent setup past who items said event old (Ok true) after new)
     → remaining setup after who < remaining setup past who
 answered_less setup past after who event old new x answers =
     let a = answers x.0 x.1 x.2 in
@@ -464,14 +464,14 @@ AttendsSo setup past who old result after new = (items : List Item) (said : List
 
 abbrev pub WantsSo : Option EventKind → Talking → Talking → Type 0
 WantsSo event old new = (rows : CentreRows) (items : List Item) (told : List Arrival)
-    (turns : List Turn) → StandsAt rows items told turns old
+    (turns : List Turn) → ConnStandsAt rows items told turns old
     → Wants rows items told turns event old new
 
 abbrev pub AnswersSo : Setup → Past → ℕ → EventKind → Talking → Result Bool StepFault → Past
     → Talking → Type 0
 AnswersSo setup past who event old result after new = (items : List Item) (said : List ℕ)
     → Serves setup.centre past who items said (Some event) old
-    → Answers setup past who items said event old result after new
+    → AnswersEvent setup past who items said event old result after new
 
 -- with an event that is wanted
 goes_so : (setup : Setup) (past between : Past) (who : ℕ) (items : List Item) (said : List ℕ)

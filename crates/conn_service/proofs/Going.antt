@@ -26,8 +26,8 @@ use Rattle.node_core.specs.NodeState.{NodeState, with_entry}
 use Rattle.node_core.proofs.Outcomes.{reverse_push}
 use Rattle.tase_map.specs.Inputs.{Item}
 use Rattle.tase_map.specs.Turns.{Turn}
-use Rattle.tase_conn.specs.declared.stage.Asked.{Asked}
-use Rattle.tase_conn.specs.declared.stage.Asked.TheVariants as askeds
+use Rattle.tase_conn.specs.declared.stage.PendingEvent.{PendingEvent}
+use Rattle.tase_conn.specs.declared.stage.PendingEvent.TheVariants as askeds
 use Rattle.tase_conn.specs.declared.stage.ConnEnd.{ConnEnd}
 use Rattle.tase_conn.specs.declared.stage.ConnEnd.TheVariants as conn_ends
 use Rattle.tase_conn.specs.declared.stage.Coming.{Coming}
@@ -36,18 +36,18 @@ use Rattle.tase_conn.specs.declared.stage.Stage.TheVariants as stages
 use Rattle.tase_conn.specs.declared.stage.Progress.{Progress}
 use Rattle.tase_conn.specs.declared.stage.Progress.TheVariants as progresses
 use Rattle.tase_conn.specs.Talking.{Talking, pending_of, is_open_stage, IsFree}
-use Rattle.tase_conn.specs.Places.{StandsAt, IsPlaced, GoesBy, Runs, IsAskedAt}
-use Rattle.tase_conn.specs.Wanting.{Wants, WantsBy, Leaves, IsLeaving, closing}
+use Rattle.tase_conn.specs.Places.{ConnStandsAt, IsPlaced, GoesBy, Runs, IsAskedAt}
+use Rattle.tase_conn.specs.Wanting.{Wants, WantsBy, WantsClose, IsLeaving, progress_closing}
 use Rattle.tase_conn.specs.Leaving.{IsLeft, Parts}
-use Rattle.tase_conn.specs.Answering.{told_said, stage_told, progress_told, IsAnswerFor, parted}
+use Rattle.tase_conn.specs.Answering.{told_said, stage_told, progress_told, IsAnswerFor, parting_octets}
 use Rattle.conn_laws.specs.Serving.{Serves, SaysBy, IsWaiting, with_event}
-use Rattle.conn_laws.specs.Cutting.{HasLeft, IsClosing, is_leaving, LeftBy}
+use Rattle.conn_laws.specs.Cutting.{HasLeft, IsClosingFor, is_leaving, LeftBy}
 use Rattle.conn_laws.proofs.Answered.{answered_serves}
 use Rattle.conn_laws.proofs.Left.{refused_leaves, closing_leaves, closed_leaves}
 use Rattle.conn_laws.proofs.Seats.{none_open}
 use Rattle.conn_laws.proofs.Served.{never_refused}
 use Rattle.conn_laws.proofs.Wanted.{waiting_of}
-use Rattle.conn_service.specs.Attending.{Answers, Closes, IsLeftFor, IsServed}
+use Rattle.conn_service.specs.Attending.{AnswersEvent, Closes, IsLeftFor, IsServed}
 use Rattle.conn_service.specs.Attending.{IsAsking}
 use Rattle.conn_service.specs.Attending.{IsParting, ClosesLeft, WasCut}
 use Rattle.conn_service.proofs.Told.{waits_free, closing_free, refused_ours, close_taken, IsOurs}
@@ -60,7 +60,7 @@ pub served_free : (rows : CentreRows) (past : Past) (who : ℕ) (v : Talking)
 served_free rows past who v s = waits_free v.progress s.2.waits
 
 pub placed_of : {rows : CentreRows} {items : List Item} {told : List Arrival} {turns : List Turn}
-    {v : Talking} → StandsAt rows items told turns v → IsPlaced v
+    {v : Talking} → ConnStandsAt rows items told turns v → IsPlaced v
 placed_of {rows} {items} {told} {turns} s =
     record { rows = rows; items = items; told = told; turns = turns; stands = s }
 
@@ -120,7 +120,7 @@ same_past before after is = ap (λ (n : NodeState). reverse n.history) is
 
 abbrev pub StaysAt : Talking → Talking → Type 0
 StaysAt old new = (rows : CentreRows) (items : List Item) (heard : List Arrival) (turns : List Turn)
-    → StandsAt rows items heard turns old → StandsAt rows items heard turns new
+    → ConnStandsAt rows items heard turns old → ConnStandsAt rows items heard turns new
 
 pub answered_on : (before after : NodeState) (who : ℕ) (items : List Item) (said : List ℕ)
     (event : EventKind) (answer : Answer) (old new : Talking)
@@ -131,7 +131,7 @@ pub answered_on : (before after : NodeState) (who : ℕ) (items : List Item) (sa
     → new.progress ≡ progress_told old.progress old.stage (Ok answer)
     → new.stage ≡ stage_told old.progress (Ok answer) old.stage
     → Serves before.setup.centre (reverse before.history) who items said (Some event) old
-    → Answers before.setup (reverse before.history) who items said event old (Ok true)
+    → AnswersEvent before.setup (reverse before.history) who items said event old (Ok true)
     (reverse after.history) new
 answered_on before after who items said event answer old new is right stays pending progress stage
     s =
@@ -155,11 +155,11 @@ pub unnoted_on : (before after : NodeState) (who : ℕ) (items : List Item) (sai
     (event : EventKind) (answer : Answer) (old new : Talking) (result : Result Bool StepFault)
     → IsErrAnd result (λ fault. fault ≡ faults.Memory) → after ≡ with_entry before who event
     → IsRightOutcome before.setup (reverse before.history) who event (Ok answer)
-    → Answers before.setup (reverse before.history) who items said event old result
+    → AnswersEvent before.setup (reverse before.history) who items said event old result
     (reverse after.history) new
 unnoted_on before after who items said event answer old new result e is right =
     let p = err_from_is_err_and result e in
-    subst (λ (r : Result Bool StepFault). Answers before.setup (reverse before.history) who items
+    subst (λ (r : Result Bool StepFault). AnswersEvent before.setup (reverse before.history) who items
     said event old r (reverse after.history) new) (sym (p.1 ∙ ap (λ (f : StepFault). Err f) p.2))
     (inr (right.0, grown before after who event is))
 
@@ -168,11 +168,11 @@ pub undone_on : (before after : NodeState) (who : ℕ) (items : List Item) (said
     (event : EventKind) (old new : Talking) (result : Result Bool StepFault)
     → IsErrAnd result (λ fault. fault ≡ faults.Memory)
     → reverse after.history ≡ reverse before.history
-    → Answers before.setup (reverse before.history) who items said event old result
+    → AnswersEvent before.setup (reverse before.history) who items said event old result
     (reverse after.history) new
 undone_on before after who items said event old new result e same =
     let p = err_from_is_err_and result e in
-    subst (λ (r : Result Bool StepFault). Answers before.setup (reverse before.history) who items
+    subst (λ (r : Result Bool StepFault). AnswersEvent before.setup (reverse before.history) who items
     said event old r (reverse after.history) new) (sym (p.1 ∙ ap (λ (f : StepFault). Err f) p.2))
     (inl same)
 
@@ -182,7 +182,7 @@ pub full_on : (before after : NodeState) (who weight limit : ℕ) (items : List 
     (said : List ℕ) (event : EventKind) (old new : Talking) → after ≡ before
     → IsRightOutcome before.setup (reverse before.history) who event
     (Err (faults.HistoryFull weight limit))
-    → Answers before.setup (reverse before.history) who items said event old
+    → AnswersEvent before.setup (reverse before.history) who items said event old
     (Err (faults.HistoryFull weight limit)) (reverse after.history) new
 full_on before after who weight limit items said event old new is right =
     (right, same_past before after is)
@@ -200,7 +200,7 @@ never_on setup past who items said event fault v s e =
 
 left_by : (b : Bool) (end : ConnEnd) (old new : Talking)
     → MatchBool b (new ≡ record old { progress = progresses.Leaving end false })
-    (Parts (progresses.Cut end) (parted old.course end) old new) → is_leaving new.progress ≡ b
+    (Parts (progresses.Cut end) (parting_octets old.course end) old new) → is_leaving new.progress ≡ b
 left_by true end old new l = ap (λ (v : Talking). is_leaving v.progress) l
 left_by false end old new l = ap (λ (v : Talking). is_leaving v.progress) l.is
 
@@ -208,7 +208,7 @@ pub left_goes : (end : ConnEnd) (old new : Talking) → IsLeft end old new
     → is_leaving new.progress ≡ is_open_stage old.stage
 left_goes end old new l = left_by (is_open_stage old.stage) end old new l
 
-closed_asks : (peer : ℕ) (asked : Asked) (held : Option Coming) (event : EventKind)
+closed_asks : (peer : ℕ) (asked : PendingEvent) (held : Option Coming) (event : EventKind)
     → IsAskedAt asked (stages.Closed peer) held
     → IsWaiting (progresses.Running asked) (Some event) → ⊥
 closed_asks peer askeds.Nothing held event a w = nothing_waits event w
@@ -218,7 +218,7 @@ closed_asks peer askeds.Taking held event a w = absurd a
 closed_asks peer (askeds.Closing cause) held event a w = absurd a
 
 -- where an event waits, the seat has an association exactly where it is open
-seat_by : (stage : Stage) (asked : Asked) (held : Option Coming) (event : EventKind)
+seat_by : (stage : Stage) (asked : PendingEvent) (held : Option Coming) (event : EventKind)
     (progress : Progress) (rows : CentreRows) (past : Past) (who : ℕ) (items : List Item)
     (told : List Arrival) (answered : List Turn) (said : List ℕ) → IsAskedAt asked stage held
     → IsWaiting (progresses.Running asked) (Some event)
@@ -266,9 +266,9 @@ some_none e = absurd cc
 
 want_by : (p : Progress) (rows : CentreRows) (items : List Item) (told : List Arrival)
     (turns : List Turn) (event : EventKind) (old new : Talking)
-    → IsClosing p None conn_ends.Stopped
+    → IsClosingFor p None conn_ends.Stopped
     → WantsBy p rows items told turns (Some event) old new
-    → IsLeaving p × (Leaves (Some event) old new × StandsAt rows items told turns new)
+    → IsLeaving p × (WantsClose (Some event) old new × ConnStandsAt rows items told turns new)
 want_by (progresses.Running asked) rows items told turns event old new c w = absurd c
 want_by progresses.Refused rows items told turns event old new c w = absurd c
 want_by (progresses.Leaving end true) rows items told turns event old new c w = absurd c
@@ -278,7 +278,7 @@ want_by (progresses.Cut end) rows items told turns event old new c w =
     absurd (some_none w.none)
 
 -- the progress of a connection whose close is asked
-asked_by : (p : Progress) → IsLeaving p → IsClosing p None conn_ends.Stopped
+asked_by : (p : Progress) → IsLeaving p → IsClosingFor p None conn_ends.Stopped
     → (is_leaving p ≡ true) × (p ≡ progresses.Leaving conn_ends.Stopped false)
 asked_by (progresses.Running asked) l c = absurd l
 asked_by progresses.Refused l c = absurd l
@@ -321,7 +321,7 @@ wants_close rows past who items said event standing old new h w =
     let l = want_by old.progress rows items h.told h.turns event old new h.waits w in
     let a = asked_by old.progress l.0 h.waits in
     let is : new ≡ record old { progress = progresses.Leaving conn_ends.Stopped true } =
-    l.1.0.is ∙ ap (λ (p : Progress). closing old p) a.1 in
+    l.1.0.is ∙ ap (λ (p : Progress). progress_closing old p) a.1 in
     record {
       event_is = some_close event l.1.0.event_is;
       leaving = a.0;
@@ -339,7 +339,7 @@ wants_close rows past who items said event standing old new h w =
 pub parting_wants : (rows : CentreRows) (past : Past) (who : ℕ) (event : EventKind)
     (old new : Talking) → (p : IsParting rows past who old)
     → ((rows : CentreRows) (items : List Item) (told : List Arrival) (turns : List Turn)
-    → StandsAt rows items told turns old → Wants rows items told turns (Some event) old new)
+    → ConnStandsAt rows items told turns old → Wants rows items told turns (Some event) old new)
     → WantsClose rows past who p.0 p.1 event old new
 parting_wants rows past who event old new p wants =
     let h = p.2.1 in
@@ -412,9 +412,9 @@ closed_on before after who items said event answer old between new c is stays pe
     let past = reverse before.history in
     let more = told_said between.progress between.stage between.course (Ok answer) in
     let g : reverse after.history ≡ with_event who event past = grown before after who event is in
-    let said_is : more ≡ parted old.course conn_ends.Stopped =
+    let said_is : more ≡ parting_octets old.course conn_ends.Stopped =
     ap (λ (p : Progress). told_said p between.stage between.course (Ok answer)) c.progress
-    ∙ ap (λ (k : Course). parted k conn_ends.Stopped) c.course in
+    ∙ ap (λ (k : Course). parting_octets k conn_ends.Stopped) c.course in
     let left : HasLeft true conn_ends.Stopped c.standing before.setup.centre
     (with_event who event past) who items (said ++ more) None new =
     closed_leaves before.setup.centre past who items said event answer true conn_ends.Stopped
@@ -446,7 +446,7 @@ none_event e = absurd cc
 
 -- where it was cut at once nothing is wanted
 none_by : (p : Progress) (rows : CentreRows) (items : List Item) (told : List Arrival)
-    (turns : List Turn) (old new : Talking) → IsClosing p None conn_ends.Stopped
+    (turns : List Turn) (old new : Talking) → IsClosingFor p None conn_ends.Stopped
     → WantsBy p rows items told turns None old new
     → (is_leaving p ≡ false) × (p ≡ progresses.Cut conn_ends.Stopped) × (new ≡ old)
 none_by (progresses.Running asked) rows items told turns old new c w = absurd c

@@ -6,7 +6,7 @@ use Rattle.std.specs.List.{list_any}
 use Rattle.bilateral.specs.Rows.{CentreRows}
 use Rattle.stack_messages.specs.declared.fault.StackFault.{StackFault}
 use Rattle.stack_assoc.specs.Arrivals.{Arrival}
-use Rattle.tase_map.specs.Inputs.{Item, text_of}
+use Rattle.tase_map.specs.Inputs.{Item, text_given}
 use Rattle.tase_map.specs.Readings.{reading_of}
 use Rattle.tase_map.specs.Turns.{Turn, offers, offers_badly, asks, concludes, releases, aborts}
 use Rattle.tase_map.specs.Turns.{breaks, ends, pauses, turns_of}
@@ -59,13 +59,13 @@ first_found p (turn ∷ front) last rest e is =
 
 cause_end : (rows : CentreRows) (items : List Item) (end : ConnEnd) (last : Turn)
     → IsCause rows items end last
-    → end_at (reading_of (text_of items)).broken last ≡ Some end
+    → end_at (reading_of (text_given items)).broken last ≡ Some end
 cause_end rows items conn_ends.Finished last c =
-    ap (λ t. end_at (reading_of (text_of items)).broken t) c
+    ap (λ t. end_at (reading_of (text_given items)).broken t) c
 cause_end rows items conn_ends.PeerEnd last (inl c) =
-    ap (λ t. end_at (reading_of (text_of items)).broken t) c
+    ap (λ t. end_at (reading_of (text_given items)).broken t) c
 cause_end rows items conn_ends.PeerEnd last (inr c) =
-    ap (λ t. end_at (reading_of (text_of items)).broken t) c
+    ap (λ t. end_at (reading_of (text_given items)).broken t) c
 cause_end rows items conn_ends.Declined (offers title) c = refl
 cause_end rows items conn_ends.Declined offers_badly c = refl
 cause_end rows items conn_ends.Declined (asks invoke call) c = absurd cc
@@ -76,7 +76,7 @@ cause_end rows items conn_ends.Declined breaks c = absurd cc
 cause_end rows items conn_ends.Declined ends c = absurd cc
 cause_end rows items conn_ends.Declined pauses c = absurd cc
 cause_end rows items (conn_ends.Refused fault) last c =
-    ap (λ t. end_at (reading_of (text_of items)).broken t) c.0
+    ap (λ t. end_at (reading_of (text_given items)).broken t) c.0
     ∙ ap (λ (b : Option StackFault). option_map conn_ends.Refused b) c.1
 cause_end rows items (conn_ends.TooLong len detail) last c = absurd c
 cause_end rows items (conn_ends.Overflow pending limit) last c = absurd c
@@ -97,12 +97,12 @@ ended_so rows items told turns end e =
     ap (λ (ts : List Turn). last_turn rows ts) all
     ∙ first_found (is_last rows) e.ends.front e.last a.rest e.ends.goes
     (last_of_cause rows items end e.last e.cause) in
-    ap (λ (t : Option Turn). option_and_then (end_at (reading_of (text_of items)).broken) t) found
+    ap (λ (t : Option Turn). option_and_then (end_at (reading_of (text_given items)).broken) t) found
     ∙ cause_end rows items end e.last e.cause
 
 -- where it goes on
 pub unended_so : (rows : CentreRows) (items : List Item) → list_any (is_last rows) (turns_of items)
     ≡ false → peer_end rows items ≡ None
 unended_so rows items none =
-    ap (λ (ts : List Turn). option_and_then (end_at (reading_of (text_of items)).broken)
+    ap (λ (ts : List Turn). option_and_then (end_at (reading_of (text_given items)).broken)
     (slice_get ts 0)) (none_found (is_last rows) (turns_of items) none)

@@ -13,8 +13,8 @@ use Rattle.tase_views.specs.declared.call.CallKind.{CallKind}
 use Rattle.tase_views.specs.declared.event.EventKind.{EventKind}
 use Rattle.tase_views.specs.declared.event.EventKind.TheVariants as events
 use Rattle.tase_views.specs.declared.fault.StepFault.{StepFault}
-use Rattle.tase_conn.specs.declared.stage.Asked.{Asked}
-use Rattle.tase_conn.specs.declared.stage.Asked.TheVariants as askeds
+use Rattle.tase_conn.specs.declared.stage.PendingEvent.{PendingEvent}
+use Rattle.tase_conn.specs.declared.stage.PendingEvent.TheVariants as askeds
 use Rattle.tase_conn.specs.declared.stage.Progress.{Progress}
 use Rattle.tase_conn.specs.declared.stage.Progress.TheVariants as progresses
 use Rattle.conn_laws.specs.Serving.{IsWaiting, with_event}
@@ -131,7 +131,7 @@ close_less setup past who r =
     ap (λ (k : Option Key). seat_count k) (at_seat event past who) in
     omega (arith, before, after)
 
-asked_less : (setup : Setup) (past : Past) (who : ℕ) (event : EventKind) (asked : Asked)
+asked_less : (setup : Setup) (past : Past) (who : ℕ) (event : EventKind) (asked : PendingEvent)
     → IsWaiting (progresses.Running asked) (Some event)
     → refusal_of setup past who event ≡ None → LeavesLess setup past who event
 asked_less setup past who (events.Open opened) askeds.Nothing w r = absurd w

@@ -23,17 +23,17 @@ use Rattle.tase_views.specs.declared.event.EventKind.TheVariants as events
 use Rattle.tase_views.specs.declared.fault.StepFault.{StepFault}
 use Rattle.tase_views.specs.declared.fault.StepFault.TheVariants as faults
 use Rattle.node_core.specs.NodeState.{NodeState}
-use Rattle.tase_map.specs.Inputs.{Item, text_of, has_ended}
+use Rattle.tase_map.specs.Inputs.{Item, text_given, link_has_ended}
 use Rattle.tase_map.specs.Readings.{reading_of}
 use Rattle.tase_map.specs.Turns.{Turn, offers, offers_badly, asks, concludes, releases, aborts}
 use Rattle.tase_map.specs.Turns.{breaks, ends, pauses, turns_of}
 use Rattle.tase_map.specs.Asks.{without_pauses, AreInTurn}
-use Rattle.tase_map.specs.Out.{talk_of, abort_octets, close_octets}
-use Rattle.tase_map.specs.Sent.{events_by, sent, turns_left}
+use Rattle.tase_map.specs.Out.{talk_of, abort_wire, close_octets}
+use Rattle.tase_map.specs.Sent.{events_by, association_octets, turns_left}
 use Rattle.tase_map.proofs.Adding.{close_adds}
 use Rattle.tase_map.proofs.InTurn.{asked_in_turn}
-use Rattle.tase_conn.specs.declared.stage.Asked.{Asked}
-use Rattle.tase_conn.specs.declared.stage.Asked.TheVariants as askeds
+use Rattle.tase_conn.specs.declared.stage.PendingEvent.{PendingEvent}
+use Rattle.tase_conn.specs.declared.stage.PendingEvent.TheVariants as askeds
 use Rattle.tase_conn.specs.declared.stage.Behind.{Behind}
 use Rattle.tase_conn.specs.declared.stage.Coming.{Coming}
 use Rattle.tase_conn.specs.declared.stage.ConnEnd.TheVariants as conn_ends
@@ -44,7 +44,7 @@ use Rattle.tase_conn.specs.declared.stage.Stage.TheVariants as stages
 use Rattle.tase_conn.specs.Talking.{Talking, pending_of, is_open_stage}
 use Rattle.tase_conn.specs.Places.{GoesBy, Runs, ReadsBy, IsDone, is_connected, standing_by}
 use Rattle.tase_conn.specs.Leaving.{IsLeft}
-use Rattle.tase_conn.specs.Answering.{told_said, parted, IsAnswerFor}
+use Rattle.tase_conn.specs.Answering.{told_said, parting_octets, IsAnswerFor}
 use Rattle.conn_laws.specs.Serving.{Serves, SaysBy, SaysOpen, IsWaiting, with_event}
 use Rattle.conn_laws.specs.Cutting.{IsUnexplained}
 use Rattle.conn_laws.proofs.Answered.{asked_turn, opens_early, request_served, take_served}
@@ -53,7 +53,7 @@ use Rattle.conn_laws.proofs.Left.{setup_known, stands_by}
 use Rattle.conn_laws.proofs.Served.{begins_turns, next_asked, over_all}
 use Rattle.conn_laws.proofs.Unopened.{unopened_said}
 use Rattle.conn_laws.proofs.Wanted.{waiting_of}
-use Rattle.conn_service.specs.Attending.{Answers, Closes, ClosesLeft, WasCut, IsLeftFor, IsAllRead}
+use Rattle.conn_service.specs.Attending.{AnswersEvent, Closes, ClosesLeft, WasCut, IsLeftFor, IsAllRead}
 use Rattle.conn_service.specs.Attending.{IsAsking, IsParting}
 use Rattle.conn_service.specs.Linked.{link_octets, octets_by, opened_in}
 use Rattle.conn_service.proofs.AllRead.{taking_reads}
@@ -70,11 +70,11 @@ record Refused (items : List Item) (answered : List Turn) (v : Talking) : Type 0
   is : turns_of items ≡ answered ++ rest
   unexplained : IsUnexplained (without_pauses rest)
   accepted : is_accepted v.course.standing ≡ true
-  setup : v.course.setup ≡ (talk_of (reading_of (text_of items)) (has_ended items)).setup
+  setup : v.course.setup ≡ (talk_of (reading_of (text_given items)) (link_has_ended items)).setup
 
 -- where its association is open, and an event waits
 refused_at : (rows : CentreRows) (past : Past) (who : ℕ) (items : List Item) (said : List ℕ)
-    (event : EventKind) (asked : Asked) (rest : List Turn) (v : Talking)
+    (event : EventKind) (asked : PendingEvent) (rest : List Turn) (v : Talking)
     → (s : Serves rows past who items said (Some event) v)
     → Runs rows items s.told s.turns asked v → IsServedAt v.stage v.held
     → turns_of items ≡ s.answered ++ rest → IsUnexplained (without_pauses rest)
@@ -129,7 +129,7 @@ open_never : (stage : Stage) → stage ≡ stages.Early → is_open_stage stage 
 open_never stage early is = false≢true (sym (ap (λ (x : Stage). is_open_stage x) early) ∙ is)
 
 refused_by : (rows : CentreRows) (past : Past) (who place : ℕ) (items : List Item)
-    (said : List ℕ) (event : EventKind) (asked : Asked) (v : Talking)
+    (said : List ℕ) (event : EventKind) (asked : PendingEvent) (v : Talking)
     → (s : Serves rows past who items said (Some event) v)
     → IsWaiting (progresses.Running asked) (Some event) → IsAllRead event v
     → IsAnswerFor (progresses.Running asked) (Err (faults.Stopped place))
@@ -173,7 +173,7 @@ refused setup past who place items said event v s a right is =
 -- ---- the octets of the close
 
 unexplained_abort : (setup : AssociationSetup) (rest : List Turn) → IsUnexplained rest
-    → close_octets setup rest ≡ abort_octets setup
+    → close_octets setup rest ≡ abort_wire setup
 unexplained_abort setup [] u = refl
 unexplained_abort setup (offers title ∷ rest) u = refl
 unexplained_abort setup (offers_badly ∷ rest) u = refl
@@ -198,21 +198,21 @@ opened_closed past who = here (who == who) (eq-eqb who who refl)
 abort_said : (rows : CentreRows) (past : Past) (who : ℕ) (items : List Item) (said : List ℕ)
     (event : EventKind) (v : Talking) → (s : Serves rows past who items said (Some event) v)
     → Refused items s.answered v → SaysOpen rows past who items s.answered said
-    → said ++ parted v.course conn_ends.Stopped
+    → said ++ parting_octets v.course conn_ends.Stopped
     ≡ link_octets rows (with_event who events.Close past) who items
 abort_said rows past who items said event v s f says =
     let key = says.key in
-    let text = text_of items in
-    let over = has_ended items in
+    let text = text_given items in
+    let over = link_has_ended items in
     let talk = talk_of (reading_of text) over in
     let now = with_event who events.Close past in
-    let o = over_all (λ text ended rest. (said ≡ sent rows past key text ended)
+    let o = over_all (λ text ended rest. (said ≡ association_octets rows past key text ended)
     × (turns_left rows past key text ended ≡ rest)) items s.answered f.rest s.input f.is
     says.octets in
-    let aborts_it : parted v.course conn_ends.Stopped ≡ abort_octets talk.setup =
-    ap (λ (b : Bool). if b then abort_octets v.course.setup else []) f.accepted
-    ∙ ap (λ (x : AssociationSetup). abort_octets x) f.setup in
-    let closes_it : sent rows now key text over ≡ said ++ abort_octets talk.setup =
+    let aborts_it : parting_octets v.course conn_ends.Stopped ≡ abort_wire talk.setup =
+    ap (λ (b : Bool). if b then abort_wire v.course.setup else []) f.accepted
+    ∙ ap (λ (x : AssociationSetup). abort_wire x) f.setup in
+    let closes_it : association_octets rows now key text over ≡ said ++ abort_wire talk.setup =
     close_adds rows (own_table rows key.peer) talk key who past says.seat
     ∙ ap (λ (os : List ℕ). os ++ close_octets talk.setup (turns_left rows past key text over))
     (sym o.0)
@@ -253,9 +253,9 @@ early_parted : (rows : CentreRows) (items : List Item) (past : Past) (who : ℕ)
     (event : EventKind) (peer : ℕ) (granted : Initiate) (v : Talking)
     → (s : Serves rows past who items said (Some event) v)
     → Runs rows items s.told s.turns (askeds.Opening peer granted) v
-    → parted v.course conn_ends.Stopped ≡ []
+    → parting_octets v.course conn_ends.Stopped ≡ []
 early_parted rows items past who said event peer granted v s r =
-    ap (λ (b : Bool). if b then abort_octets v.course.setup else [])
+    ap (λ (b : Bool). if b then abort_wire v.course.setup else [])
     (ap (λ (x : EndState). is_accepted x) (r.standing
     ∙ ap (λ (x : Stage). standing_by x (askeds.Opening peer granted) v.held)
     (opens_early peer granted v.stage v.held r.waits)))
@@ -263,13 +263,13 @@ early_parted rows items past who said event peer granted v s r =
 record SaidEarly (rows : CentreRows) (past : Past) (who : ℕ) (items : List Item)
     (said : List ℕ) (v : Talking) : Type 0 where
   all : said ≡ link_octets rows past who items
-  parted_is : parted v.course conn_ends.Stopped ≡ []
+  parted_is : parting_octets v.course conn_ends.Stopped ≡ []
 
 served_never : (v : Talking) → IsServedAt v.stage v.held → is_open_stage v.stage ≡ false → ⊥
 served_never v w is = true≢false (sym (ap (λ (x : Stage). is_open_stage x) w.stage_is) ∙ is)
 
 said_early : (rows : CentreRows) (past : Past) (who place : ℕ) (items : List Item)
-    (said : List ℕ) (event : EventKind) (asked : Asked) (v : Talking)
+    (said : List ℕ) (event : EventKind) (asked : PendingEvent) (v : Talking)
     → (s : Serves rows past who items said (Some event) v)
     → IsWaiting (progresses.Running asked) (Some event)
     → IsAnswerFor (progresses.Running asked) (Err (faults.Stopped place))
@@ -293,10 +293,10 @@ stopped_open : (setup : Setup) (past after : Past) (who place : ℕ) (items : Li
     (said more : List ℕ) (event : EventKind) (old between new : Talking)
     → IsRightOutcome setup past who event (Err (faults.Stopped place))
     → is_some (association_in past who) ≡ true → pending_of between ≡ pending_of old ++ more
-    → (said ++ (more ++ parted between.course conn_ends.Stopped)
+    → (said ++ (more ++ parting_octets between.course conn_ends.Stopped)
     ≡ link_octets setup.centre after who items)
     → ClosesLeft setup past who items (said ++ more) between after new
-    → Answers setup past who items said event old (Ok false) after new
+    → AnswersEvent setup past who items said event old (Ok false) after new
 stopped_open setup past after who place items said more event old between new right there pending
     octets c = (
       place,
@@ -304,14 +304,14 @@ stopped_open setup past after who place items said more event old between new ri
       c.after_is ∙ sym (ap (λ (b : Bool). if b then with_event who events.Close past else past)
           there),
       record {
-        added = more ++ parted between.course conn_ends.Stopped;
+        added = more ++ parting_octets between.course conn_ends.Stopped;
         pending = c.pending
-            ∙ ap (λ (os : List ℕ). os ++ parted between.course conn_ends.Stopped) pending
-            ∙ append_assoc (pending_of old) more (parted between.course conn_ends.Stopped);
+            ∙ ap (λ (os : List ℕ). os ++ parting_octets between.course conn_ends.Stopped) pending
+            ∙ append_assoc (pending_of old) more (parting_octets between.course conn_ends.Stopped);
       },
       octets,
       subst (λ (os : List ℕ). IsLeftFor setup.centre after who items os new)
-          (append_assoc said more (parted between.course conn_ends.Stopped)) c.left,
+          (append_assoc said more (parting_octets between.course conn_ends.Stopped)) c.left,
       c.ended,
     )
 
@@ -323,7 +323,7 @@ stopped_early : (setup : Setup) (past after : Past) (who place : ℕ) (items : L
     → (said ++ more ≡ link_octets setup.centre past who items)
     → IsLeftFor setup.centre past who items (said ++ more) between
     → WasCut past between after new
-    → Answers setup past who items said event old (Ok false) after new
+    → AnswersEvent setup past who items said event old (Ok false) after new
 stopped_early setup past after who place items said more event old between new right none pending
     octets left c = (
       place,
@@ -341,10 +341,10 @@ stopped_early setup past after who place items said more event old between new r
 -- ---- together
 
 -- what a refusal says at once
-refusal_said : (p : Progress) (asked : Asked) (place : ℕ) (v : Talking)
+refusal_said : (p : Progress) (asked : PendingEvent) (place : ℕ) (v : Talking)
     → p ≡ progresses.Running asked
     → told_said p v.stage v.course (Err (faults.Stopped place))
-    ≡ (if is_open_stage v.stage then [] else parted v.course conn_ends.Stopped)
+    ≡ (if is_open_stage v.stage then [] else parting_octets v.course conn_ends.Stopped)
 refusal_said p asked place v e =
     ap (λ (x : Progress). told_said x v.stage v.course (Err (faults.Stopped place))) e
 
@@ -361,24 +361,24 @@ open_says (stages.Closed peer) progress rows past who items v event said s is sa
 stopped_by : (b : Bool) (setup : Setup) (past after : Past) (who place : ℕ) (items : List Item)
     (said more : List ℕ) (event : EventKind) (old between new : Talking)
     → is_open_stage old.stage ≡ b
-    → more ≡ (if b then [] else parted old.course conn_ends.Stopped)
+    → more ≡ (if b then [] else parting_octets old.course conn_ends.Stopped)
     → IsRightOutcome setup past who event (Err (faults.Stopped place))
     → StaysAt old between → IsLeft conn_ends.Stopped old between
     → pending_of between ≡ pending_of old ++ more → IsAllRead event old
     → (s : Serves setup.centre past who items said (Some event) old)
     → MatchBool b (ClosesLeft setup past who items (said ++ more) between after new)
     (WasCut past between after new)
-    → Answers setup past who items said event old (Ok false) after new
+    → AnswersEvent setup past who items said event old (Ok false) after new
 stopped_by true setup past after who place items said more event old between new is m right stays
     left pending read s c =
     let rows = setup.centre in
     let says = open_says old.stage old.progress rows past who items old event said s is s.says in
     let course : between.course ≡ old.course =
     (stands_by (is_open_stage old.stage) conn_ends.Stopped old between refl left).course is in
-    let octets : said ++ (more ++ parted between.course conn_ends.Stopped)
+    let octets : said ++ (more ++ parting_octets between.course conn_ends.Stopped)
     ≡ link_octets rows after who items =
-    ap (λ (os : List ℕ). said ++ (os ++ parted between.course conn_ends.Stopped)) m
-    ∙ ap (λ (x : Course). said ++ parted x conn_ends.Stopped) course
+    ap (λ (os : List ℕ). said ++ (os ++ parting_octets between.course conn_ends.Stopped)) m
+    ∙ ap (λ (x : Course). said ++ parting_octets x conn_ends.Stopped) course
     ∙ abort_said rows past who items said event old s
     (refused setup past who place items said event old s read right is) says
     ∙ sym (ap (λ (p : Past). link_octets rows p who items) c.after_is) in
@@ -415,7 +415,7 @@ pub stopped_on : (before middle after : NodeState) (who place : ℕ) (items : Li
     ++ told_said old.progress old.stage old.course (Err (faults.Stopped place))
     → IsAllRead event old → ClosesSo middle after who between new
     → Serves before.setup.centre (reverse before.history) who items said (Some event) old
-    → Answers before.setup (reverse before.history) who items said event old (Ok false)
+    → AnswersEvent before.setup (reverse before.history) who items said event old (Ok false)
     (reverse after.history) new
 stopped_on before middle after who place items said event old between new same right stays left
     pending read closes s =
@@ -459,7 +459,7 @@ memory_by : (fault : StepFault) (before : NodeState) (past after : Past) (who : 
     (items : List Item) (said more : List ℕ) (event : EventKind) (old between new : Talking)
     → past ≡ reverse before.history
     → Closes before.setup past who items more between (Err fault) after new
-    → Answers before.setup (reverse before.history) who items said event old (Err fault) after new
+    → AnswersEvent before.setup (reverse before.history) who items said event old (Err fault) after new
 memory_by faults.Memory before past after who items said more event old between new p c =
     inl (c ∙ p)
 memory_by (faults.Stopped place) before past after who items said more event old between new p c =
@@ -484,7 +484,7 @@ pub unclosed_answer : (before middle after : NodeState) (who place : ℕ) (items
     → Closes middle.setup (reverse middle.history) who items said between (Err fault)
     (reverse after.history) new)
     → Serves before.setup.centre (reverse before.history) who items said (Some event) old
-    → Answers before.setup (reverse before.history) who items said event old result
+    → AnswersEvent before.setup (reverse before.history) who items said event old result
     (reverse after.history) new
 unclosed_answer before middle after who place items said event fault old between new result e same
     right stays left pending closes s =
@@ -496,7 +496,7 @@ unclosed_answer before middle after who place items said event fault old between
     → Closes n.setup (reverse n.history) who items said between (Err fault) now new in
     let closes_so : P before = subst P same closes in
     let p = err_from_is_err_and result e in
-    subst (λ (r : Result Bool StepFault). Answers before.setup past who items said event old r now
+    subst (λ (r : Result Bool StepFault). AnswersEvent before.setup past who items said event old r now
     new) (sym (p.1 ∙ ap (λ (f : StepFault). Err f) p.2))
     (memory_by fault before past now who items said (said ++ more) event old between new refl
     (closes_so items (said ++ more)

@@ -15,8 +15,8 @@ use Rattle.tase_views.specs.declared.event.EventKind.TheVariants as events
 use Rattle.tase_views.specs.declared.reply.Answer.{Answer}
 use Rattle.tase_views.specs.declared.fault.StepFault.{StepFault}
 use Rattle.tase_views.specs.declared.fault.StepFault.TheVariants as faults
-use Rattle.tase_conn.specs.declared.stage.Asked.{Asked}
-use Rattle.tase_conn.specs.declared.stage.Asked.TheVariants as askeds
+use Rattle.tase_conn.specs.declared.stage.PendingEvent.{PendingEvent}
+use Rattle.tase_conn.specs.declared.stage.PendingEvent.TheVariants as askeds
 use Rattle.tase_conn.specs.declared.stage.ConnEnd.{ConnEnd}
 use Rattle.tase_conn.specs.declared.stage.Progress.{Progress}
 use Rattle.tase_conn.specs.declared.stage.Progress.TheVariants as progresses
@@ -24,7 +24,7 @@ use Rattle.tase_conn.specs.Talking.{IsFree}
 use Rattle.tase_conn.specs.Wanting.{WaitsFor}
 use Rattle.tase_conn.specs.Answering.{IsAnswerTo, IsAnswerFor}
 use Rattle.conn_laws.specs.Serving.{IsWaiting}
-use Rattle.conn_laws.specs.Cutting.{IsClosing}
+use Rattle.conn_laws.specs.Cutting.{IsClosingFor}
 
 -- ---- which events may be wanted
 
@@ -39,7 +39,7 @@ waits_free (progresses.Leaving end asked) w = absurd w
 waits_free (progresses.Ended end) w = tt
 waits_free (progresses.Cut end) w = absurd w
 
-pub closing_free : (p : Progress) (left : ConnEnd) → IsClosing p None left → IsFree p
+pub closing_free : (p : Progress) (left : ConnEnd) → IsClosingFor p None left → IsFree p
 closing_free (progresses.Running asked) left w = absurd w
 closing_free progresses.Refused left w = absurd w
 closing_free (progresses.Leaving end true) left w = absurd w
@@ -133,7 +133,7 @@ abbrev IsKept : Option Key → Type 0
 IsKept None = ⊥
 IsKept (Some key) = Unit {0}
 
-answer_told : (setup : Setup) (past : Past) (who : ℕ) (event : EventKind) (asked : Asked)
+answer_told : (setup : Setup) (past : Past) (who : ℕ) (event : EventKind) (asked : PendingEvent)
     (found : Option Key) → WaitsFor (progresses.Running asked) event
     → association_in past who ≡ found → seat_refusal found event ≡ None
     → IsAnswerTo asked (Ok (answer_of setup past who event))
@@ -221,7 +221,7 @@ none_some : {f : StepFault} → None ≡ Some f → ⊥
 none_some e = absurd cc
 
 -- and that the node was stopped: a close isn't refused so
-stop_told : (setup : Setup) (past : Past) (who place : ℕ) (event : EventKind) (asked : Asked)
+stop_told : (setup : Setup) (past : Past) (who place : ℕ) (event : EventKind) (asked : PendingEvent)
     → WaitsFor (progresses.Running asked) event → (r : Option StepFault)
     → (event ≡ events.Close → r ≡ None) → r ≡ Some (faults.Stopped place)
     → IsAnswerTo asked (Err (faults.Stopped place))

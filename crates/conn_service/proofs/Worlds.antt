@@ -11,13 +11,13 @@ use Rattle.tpkt_cotp.specs.Written.{wire}
 use Rattle.tase_views.specs.History.{Past}
 use Rattle.tase_views.specs.OwnTable.{OwnTable, own_table}
 use Rattle.tase_views.specs.View.{View, view_of}
-use Rattle.tase_map.specs.Inputs.{Item, text_of, has_ended}
+use Rattle.tase_map.specs.Inputs.{Item, text_given, link_has_ended}
 use Rattle.tase_map.specs.Readings.{Reading, reading_of}
 use Rattle.tase_map.specs.Turns.{Turn, offers, offers_badly, asks, concludes, releases, aborts}
 use Rattle.tase_map.specs.Turns.{breaks, ends, pauses, turns_told}
 use Rattle.tase_map.specs.Asks.{is_peers}
 use Rattle.tase_map.specs.Out.{octets_out, is_declined, early_octets}
-use Rattle.tase_map.specs.Sent.{sent}
+use Rattle.tase_map.specs.Sent.{association_octets}
 use Rattle.conn_service.specs.Linked.{opened_in, link_octets}
 
 -- an association is sent the same over the same own table and the same view
@@ -26,7 +26,7 @@ sent-alike : (here there : CentreRows) (past other_past : Past) (key other : Key
     → own_table here key.peer ≡ own_table there other.peer
     → view_of here key.peer past ≡ view_of there other.peer other_past
     → key.ordinal ≡ other.ordinal
-    → sent here past key text ended ≡ sent there other_past other text ended
+    → association_octets here past key text ended ≡ association_octets there other_past other text ended
 sent-alike here there past other_past key other text ended table view ordinal =
     ap (λ (t : OwnTable). octets_out t (view_of here key.peer past) key.ordinal text ended) table
     ∙ ap (λ (v : View). octets_out (own_table there other.peer) v key.ordinal text ended) view
@@ -42,7 +42,7 @@ pub associated-alike : (here there : CentreRows) (past other_past : Past) (who s
     → link_octets here past who items ≡ link_octets there other_past seat items
 associated-alike here there past other_past who seat items key other opened others table view
     ordinal = rw (opened, others)
-    (sent-alike here there past other_past key other (text_of items) (has_ended items) table view
+    (sent-alike here there past other_past key other (text_given items) (link_has_ended items) table view
     ordinal)
 
 -- an offer is declined where its title is no peer's
@@ -76,4 +76,4 @@ pub unopened-alike : (here there : CentreRows) (past other_past : Past) (who sea
     → ((title : Option (List ℕ)) → is_peers here title ≡ is_peers there title)
     → link_octets here past who items ≡ link_octets there other_past seat items
 unopened-alike here there past other_past who seat items opened others same =
-    rw (opened, others) (early-alike here there (text_of items) same)
+    rw (opened, others) (early-alike here there (text_given items) same)

@@ -19,8 +19,8 @@ use Rattle.tase_map.specs.Sent.{events_by}
 use Rattle.tase_conn.specs.declared.stage.Behind.TheVariants as behinds
 use Rattle.tase_conn.specs.declared.stage.ConnEnd.TheVariants as conn_ends
 use Rattle.tase_conn.specs.declared.stage.Progress.TheVariants as progresses
-use Rattle.tase_conn.specs.Talking.{Talking, pending_of, end_in, IsResting}
-use Rattle.tase_conn.specs.Answering.{parted}
+use Rattle.tase_conn.specs.Talking.{Talking, pending_of, conn_end_in, IsResting}
+use Rattle.tase_conn.specs.Answering.{parting_octets}
 use Rattle.conn_laws.specs.Serving.{Serves, with_event}
 use Rattle.conn_service.specs.Linked.{link_octets, peer_end}
 use Rattle.conn_laws.specs.Cutting.{HasLeft, is_leaving}
@@ -43,10 +43,10 @@ IsAsking rows past who event v = (items : List Item) × (said : List ℕ)
 -- ---- the history
 
 -- a node takes these events of a seat, one after another
-abbrev pub Takes : Setup → ℕ → Past → List EventKind → Past → Type 0
-Takes setup who past [] after = after ≡ past
-Takes setup who past (event ∷ events) after = (refusal_of setup past who event ≡ None)
-    × Takes setup who (with_event who event past) events after
+abbrev pub TakesEvents : Setup → ℕ → Past → List EventKind → Past → Type 0
+TakesEvents setup who past [] after = after ≡ past
+TakesEvents setup who past (event ∷ events) after = (refusal_of setup past who event ≡ None)
+    × TakesEvents setup who (with_event who event past) events after
 
 -- of what the link asks, some more events were taken, and these are left
 pub record HasTaken (setup : Setup) (past : Past) (who : ℕ) (items : List Item)
@@ -54,7 +54,7 @@ pub record HasTaken (setup : Setup) (past : Past) (who : ℕ) (items : List Item
   pub taken : List EventKind
   pub asks_are : asks_of setup.centre items
       ≡ (reverse (events_by who past) ++ taken) ++ rest
-  pub takes : Takes setup who past taken after
+  pub takes : TakesEvents setup who past taken after
 
 -- the next event is refused so
 pub record IsRefused (setup : Setup) (past : Past) (who : ℕ) (items : List Item)
@@ -73,13 +73,13 @@ with_closed who past =
 
 -- all that the link gave was acted on: it is served still, or the peer has ended it; the peer is
 -- sent what the history and the link's items say, and no more
-pub record IsThrough (setup : Setup) (past : Past) (who : ℕ) (items : List Item)
+pub record IsAllServed (setup : Setup) (past : Past) (who : ℕ) (items : List Item)
     (said : List ℕ) (after : Past) (new : Talking) : Type 0 where
   pub has : HasTaken setup past who items [] after
   pub serves : Serves setup.centre after who items said None new
   pub resting : IsResting new
   pub octets : said ≡ link_octets setup.centre after who items
-  pub end : end_in new.progress ≡ peer_end setup.centre items
+  pub end : conn_end_in new.progress ≡ peer_end setup.centre items
 
 -- it was left since the node was stopped
 abbrev pub IsLeftFor : CentreRows → Past → ℕ → List Item → List ℕ → Talking → Type 0
@@ -102,7 +102,7 @@ pub record IsStopped (setup : Setup) (past : Past) (who : ℕ) (items : List Ite
   pub ended : new.progress ≡ progresses.Cut conn_ends.Stopped
 
 -- these octets more are to be sent
-pub record Adds (old new : Talking) : Type 0 where
+pub record AddsPending (old new : Talking) : Type 0 where
   pub added : List ℕ
   pub pending : pending_of new ≡ pending_of old ++ added
 
@@ -111,8 +111,8 @@ pub record Adds (old new : Talking) : Type 0 where
 -- where memory was wanting some events of the link were taken
 abbrev pub Attends : Setup → Past → ℕ → List Item → List ℕ → Talking
     → Result (Unit {0}) StepFault → Past → Talking → Type 0
-Attends setup past who items said old (Ok done) after new = (a : Adds old new)
-    × (IsThrough setup past who items (said ++ a.added) after new
+Attends setup past who items said old (Ok done) after new = (a : AddsPending old new)
+    × (IsAllServed setup past who items (said ++ a.added) after new
     ⊎ IsStopped setup past who items (said ++ a.added) after new)
 Attends setup past who items said old (Err (faults.HistoryFull weight limit)) after new =
     IsRefused setup past who items (faults.HistoryFull weight limit) after
@@ -125,31 +125,31 @@ Attends setup past who items said old (Err fault) after new = ⊥
 -- an event was answered, and the connection goes on; or it was left, since the node was stopped,
 -- and its association closed; or the history is full, or memory was wanting before or behind the
 -- event
-abbrev pub Answers : Setup → Past → ℕ → List Item → List ℕ → EventKind → Talking
+abbrev pub AnswersEvent : Setup → Past → ℕ → List Item → List ℕ → EventKind → Talking
     → Result Bool StepFault → Past → Talking → Type 0
-Answers setup past who items said event old (Ok true) after new =
+AnswersEvent setup past who items said event old (Ok true) after new =
     (refusal_of setup past who event ≡ None) × (after ≡ with_event who event past)
-    × (a : Adds old new) × Serves setup.centre after who items (said ++ a.added) None new
-Answers setup past who items said event old (Ok false) after new =
+    × (a : AddsPending old new) × Serves setup.centre after who items (said ++ a.added) None new
+AnswersEvent setup past who items said event old (Ok false) after new =
     (place : ℕ) × (refusal_of setup past who event ≡ Some (faults.Stopped place))
-    × (after ≡ with_closed who past) × (a : Adds old new)
+    × (after ≡ with_closed who past) × (a : AddsPending old new)
     × (said ++ a.added ≡ link_octets setup.centre after who items)
     × IsLeftFor setup.centre after who items (said ++ a.added) new
     × (new.progress ≡ progresses.Cut conn_ends.Stopped)
-Answers setup past who items said event old (Err (faults.HistoryFull weight limit)) after new =
+AnswersEvent setup past who items said event old (Err (faults.HistoryFull weight limit)) after new =
     (refusal_of setup past who event ≡ Some (faults.HistoryFull weight limit)) × (after ≡ past)
-Answers setup past who items said event old (Err faults.Memory) after new =
+AnswersEvent setup past who items said event old (Err faults.Memory) after new =
     (after ≡ past) ⊎ ((refusal_of setup past who event ≡ None)
     × (after ≡ with_event who event past))
-Answers setup past who items said event old (Err fault) after new = ⊥
+AnswersEvent setup past who items said event old (Err fault) after new = ⊥
 
 -- the octets of an abort more are to be sent, and the association was closed
 pub record ClosesLeft (setup : Setup) (past : Past) (who : ℕ) (items : List Item)
     (said : List ℕ) (old : Talking) (after : Past) (new : Talking) : Type 0 where
   pub after_is : after ≡ with_event who events.Close past
-  pub pending : pending_of new ≡ pending_of old ++ parted old.course conn_ends.Stopped
+  pub pending : pending_of new ≡ pending_of old ++ parting_octets old.course conn_ends.Stopped
   pub left : IsLeftFor setup.centre after who items
-      (said ++ parted old.course conn_ends.Stopped) new
+      (said ++ parting_octets old.course conn_ends.Stopped) new
   pub ended : new.progress ≡ progresses.Cut conn_ends.Stopped
 
 -- nothing was to be done

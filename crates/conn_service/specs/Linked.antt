@@ -8,13 +8,13 @@ use Rattle.stack_messages.specs.declared.fault.StackFault.{StackFault}
 use Rattle.tase_views.specs.declared.event.EventKind.{EventKind}
 use Rattle.tase_views.specs.declared.event.EventKind.TheVariants as events
 use Rattle.tase_views.specs.History.{Past, next_key}
-use Rattle.tase_map.specs.Inputs.{Item, text_of, has_ended}
+use Rattle.tase_map.specs.Inputs.{Item, text_given, link_has_ended}
 use Rattle.tase_map.specs.Readings.{reading_of}
 use Rattle.tase_map.specs.Turns.{Turn, offers, offers_badly, asks, concludes, releases, aborts}
 use Rattle.tase_map.specs.Turns.{breaks, ends, pauses, turns_of}
 use Rattle.tase_map.specs.Asks.{is_last}
 use Rattle.tase_map.specs.Out.{early_octets}
-use Rattle.tase_map.specs.Sent.{sent}
+use Rattle.tase_map.specs.Sent.{association_octets}
 use Rattle.tase_conn.specs.declared.stage.ConnEnd.{ConnEnd}
 use Rattle.tase_conn.specs.declared.stage.ConnEnd.TheVariants as conn_ends
 
@@ -39,7 +39,8 @@ end_at broken pauses = None
 -- how the peer ends a connection, whose link gave these items, if it does
 abbrev pub peer_end : CentreRows → List Item → Option ConnEnd
 peer_end rows items =
-    option_and_then (end_at (reading_of (text_of items)).broken) (last_turn rows (turns_of items))
+    option_and_then (end_at (reading_of (text_given items)).broken)
+    (last_turn rows (turns_of items))
 
 -- ---- the octets
 
@@ -59,8 +60,9 @@ opened_in (entry ∷ past) who = if entry.who == who
 
 -- what the peer of an association is sent, or of a connection without one
 abbrev pub octets_by : CentreRows → Past → List Item → Option Key → List ℕ
-octets_by rows past items None = early_octets rows (text_of items)
-octets_by rows past items (Some key) = sent rows past key (text_of items) (has_ended items)
+octets_by rows past items None = early_octets rows (text_given items)
+octets_by rows past items (Some key) = association_octets rows past key (text_given items)
+    (link_has_ended items)
 
 -- all octets that the peer of a seat's link is sent over this past, where the link gave these items
 abbrev pub link_octets : CentreRows → Past → ℕ → List Item → List ℕ

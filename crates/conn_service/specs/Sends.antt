@@ -10,10 +10,10 @@ use Rattle.tase_views.specs.declared.event.EventKind.{EventKind}
 use Rattle.tase_views.specs.declared.event.EventKind.TheVariants as events
 use Rattle.tase_views.specs.declared.fault.StepFault.{StepFault}
 use Rattle.tase_views.specs.declared.fault.StepFault.TheVariants as faults
-use Rattle.tase_map.specs.Inputs.{Item, text_of}
+use Rattle.tase_map.specs.Inputs.{Item, text_given}
 use Rattle.tase_map.specs.Readings.{reading_of}
 use Rattle.tase_map.specs.Asks.{asks_of}
-use Rattle.tase_map.specs.Out.{abort_octets}
+use Rattle.tase_map.specs.Out.{abort_wire}
 use Rattle.tase_map.specs.Sent.{events_by}
 use Rattle.tase_conn.specs.declared.stage.ConnEnd.{ConnEnd}
 use Rattle.tase_conn.specs.declared.stage.ConnEnd.TheVariants as conn_ends
@@ -77,7 +77,7 @@ pub record IsSaidInPart (setup : Setup) (items : List Item) (octets all : List �
   pub parting : List ℕ
   pub are : octets ≡ first ++ parting
   pub front : IsFrontOf first all
-  pub aborts : IsFrontOf parting (abort_octets (setup_after (reading_of (text_of items)).told))
+  pub aborts : IsFrontOf parting (abort_wire (setup_after (reading_of (text_given items)).told))
 
 -- how much is said of all that is owed: all of it, but for a link that fails or doesn't take it, and
 -- for want of memory

@@ -3,7 +3,7 @@ ghost use Rattle.std.specs.Prelude.{◌≡◌, ℕ, List, None, Some, reverse};
 ghost use Rattle.tase_map.specs.Inputs.{Item};
 ghost use Rattle.conn_laws.specs.Serving.{Serves};
 ghost use Rattle.conn_service.specs.Attending.{IsServed, IsAsking, IsParting, IsLeftFor};
-ghost use Rattle.conn_service.specs.Attending.{Attends, Answers, Closes};
+ghost use Rattle.conn_service.specs.Attending.{Attends, AnswersEvent, Closes};
 
 use node_core::Node;
 use std::alloc::Global;
@@ -43,7 +43,8 @@ fn answer(
     ensures answers { (items : List Item) (said : List ℕ)
         → Serves node.old.setup.centre (reverse node.old.history) who items said (Some event)
         conn.old
-        → Answers node.old.setup (reverse node.old.history) who items said event conn.old result
+        → AnswersEvent node.old.setup (reverse node.old.history) who items said event conn.old
+        result
         (reverse node.new.history) conn.new }
     ensures setup { node.new.setup ≡ node.old.setup }
 {

@@ -17,15 +17,15 @@ use Rattle.tase_conn.specs.declared.stage.Stage.{Stage}
 use Rattle.tase_conn.specs.declared.stage.Stage.TheVariants as stages
 use Rattle.tase_conn.specs.declared.stage.Cause.{Cause}
 use Rattle.tase_conn.specs.declared.stage.Cause.TheVariants as causes
-use Rattle.tase_conn.specs.declared.stage.Asked.TheVariants as askeds
+use Rattle.tase_conn.specs.declared.stage.PendingEvent.TheVariants as askeds
 use Rattle.tase_conn.specs.declared.stage.Progress.{Progress}
 use Rattle.tase_conn.specs.declared.stage.Progress.TheVariants as progresses
-use Rattle.tase_conn.specs.Talking.{Talking, IsFree, MayLeave, IsResting, end_in, is_open_stage}
-use Rattle.tase_conn.specs.Places.{StandsAt, IsPlaced, GoesBy}
-use Rattle.tase_conn.specs.Taken.{TakesIn, IsSent}
-use Rattle.tase_conn.specs.Wanting.{Wants, WantsBy, WaitsFor, closing}
+use Rattle.tase_conn.specs.Talking.{Talking, IsFree, MayLeave, IsResting, conn_end_in, is_open_stage}
+use Rattle.tase_conn.specs.Places.{ConnStandsAt, IsPlaced, GoesBy}
+use Rattle.tase_conn.specs.Taken.{TakesIn, SendsSome}
+use Rattle.tase_conn.specs.Wanting.{Wants, WantsBy, WaitsFor, progress_closing}
 use Rattle.tase_conn.specs.Answering.{IsAnswerTo, IsAnswerFor, progress_told, progress_closed}
-use Rattle.tase_conn.specs.Answering.{progress_left, parted}
+use Rattle.tase_conn.specs.Answering.{progress_left, parting_octets}
 use Rattle.tase_conn.specs.Leaving.{IsLeft, Parts}
 use Rattle.conn_tests.specs.Playing.{IsReady, IsAtRest, IsAwaited, HasWanted, IsAnswerOf}
 
@@ -182,7 +182,7 @@ told_free (progresses.Cut end) stage told f = absurd f
 pub told_ready : {A E : Type 0} (r : Result A E) (old new : Talking)
     (told : Result Answer StepFault) → IsPlaced old → IsAnswerFor old.progress told
     → ((rows : CentreRows) (items : List Item) (heard : List Arrival) (turns : List Turn)
-    → StandsAt rows items heard turns old → OnOk r (StandsAt rows items heard turns new))
+    → ConnStandsAt rows items heard turns old → OnOk r (ConnStandsAt rows items heard turns new))
     → OnOk r (new.progress ≡ progress_told old.progress old.stage told) → OnOk r (IsReady new)
 told_ready (Ok x) old new told p f stands e = record {
   placed = record {
@@ -208,7 +208,7 @@ waits_awaited (progresses.Cut end) event w = w
 
 wanted_by : (progress : Progress) (event : Option EventKind) (rows : CentreRows)
     (items : List Item) (told : List Arrival) (turns : List Turn) (old new : Talking)
-    → old.progress ≡ progress → StandsAt rows items told turns old → IsFree progress
+    → old.progress ≡ progress → ConnStandsAt rows items told turns old → IsFree progress
     → WantsBy progress rows items told turns event old new → HasWanted event new
 wanted_by (progresses.Running askeds.Nothing) (Some event) rows items told turns old new e s f w = (
   record {
@@ -242,8 +242,8 @@ wanted_by (progresses.Running (askeds.Closing cause)) event rows items told turn
 wanted_by progresses.Refused event rows items told turns old new e s f w = absurd f
 wanted_by (progresses.Leaving end true) event rows items told turns old new e s f w = absurd f
 wanted_by (progresses.Leaving end false) event rows items told turns old new e s f w =
-    let now : new ≡ closing old (progresses.Leaving end false) =
-    w.0.is ∙ ap (λ (p : Progress). closing old p) e in
+    let now : new ≡ progress_closing old (progresses.Leaving end false) =
+    w.0.is ∙ ap (λ (p : Progress). progress_closing old p) e in
     subst (λ (wanted : Option EventKind). HasWanted wanted new) (sym w.0.event_is) (
       record {
         rows = rows;
@@ -283,7 +283,7 @@ wanted_by (progresses.Cut end) None rows items told turns old new e s f w =
 
 pub wanted : {E : Type 0} (r : Result (Option EventKind) E) (old new : Talking) → IsReady old
     → ((rows : CentreRows) (items : List Item) (told : List Arrival) (turns : List Turn)
-    → StandsAt rows items told turns old
+    → ConnStandsAt rows items told turns old
     → IfOk r (λ event. Wants rows items told turns event old new))
     → IfOk r (λ event. HasWanted event new)
 wanted (Ok event) old new r w = let p = r.placed in
@@ -295,7 +295,7 @@ wanted (Err x) old new r w = tt
 
 stood : (item : Item) (old new : Talking) → IsPlaced old
     → ((rows : CentreRows) (items : List Item) (told : List Arrival) (turns : List Turn)
-    → StandsAt rows items told turns old → StandsAt rows (items ++ item ∷ []) told turns new)
+    → ConnStandsAt rows items told turns old → ConnStandsAt rows (items ++ item ∷ []) told turns new)
     → IsPlaced new
 stood item old new p s = record {
   rows = p.rows;
@@ -307,7 +307,7 @@ stood item old new p s = record {
 
 pub taken_ready : (item : Item) (old new : Talking) → IsAtRest old
     → ((rows : CentreRows) (items : List Item) (told : List Arrival) (turns : List Turn)
-    → StandsAt rows items told turns old → StandsAt rows (items ++ item ∷ []) told turns new)
+    → ConnStandsAt rows items told turns old → ConnStandsAt rows (items ++ item ∷ []) told turns new)
     → TakesIn old new → IsReady new
 taken_ready item old new r s e = record {
   placed = stood item old new r.placed s;
@@ -316,8 +316,8 @@ taken_ready item old new r s e = record {
 
 pub taken : {A E : Type 0} (r : Result A E) (item : Item) (old new : Talking) → IsAtRest old
     → ((rows : CentreRows) (items : List Item) (told : List Arrival) (turns : List Turn)
-    → StandsAt rows items told turns old
-    → OnOk r (StandsAt rows (items ++ item ∷ []) told turns new))
+    → ConnStandsAt rows items told turns old
+    → OnOk r (ConnStandsAt rows (items ++ item ∷ []) told turns new))
     → OnOk r (TakesIn old new) → OnOk r (IsReady new)
 taken (Ok x) item old new r s e = taken_ready item old new r s e
 taken (Err x) item old new r s e = tt
@@ -327,7 +327,7 @@ at_rest_ready v r = record { placed = r.placed; free = r.resting.free }
 
 placed_on : (old new : Talking) → IsPlaced old
     → ((rows : CentreRows) (items : List Item) (told : List Arrival) (turns : List Turn)
-    → StandsAt rows items told turns old → StandsAt rows items told turns new)
+    → ConnStandsAt rows items told turns old → ConnStandsAt rows items told turns new)
     → IsPlaced new
 placed_on old new p s = record {
   rows = p.rows;
@@ -339,8 +339,8 @@ placed_on old new p s = record {
 
 pub sent_rests : (old new : Talking) → IsAtRest old
     → ((rows : CentreRows) (items : List Item) (told : List Arrival) (turns : List Turn)
-    → StandsAt rows items told turns old → StandsAt rows items told turns new)
-    → IsSent old new → IsAtRest new
+    → ConnStandsAt rows items told turns old → ConnStandsAt rows items told turns new)
+    → SendsSome old new → IsAtRest new
 sent_rests old new r s e = record {
   placed = placed_on old new r.placed s;
   resting = subst IsResting (sym e) (record {
@@ -352,7 +352,7 @@ sent_rests old new r s e = record {
 
 -- ---- where it is given up
 
-pub may_leave : (progress : Progress) → IsFree progress → end_in progress ≡ None
+pub may_leave : (progress : Progress) → IsFree progress → conn_end_in progress ≡ None
     → MayLeave progress
 may_leave (progresses.Running askeds.Nothing) f e = tt
 may_leave (progresses.Running (askeds.Opening peer granted)) f e = absurd f
@@ -375,9 +375,9 @@ given_up false end octets old new e =
 
 pub left_ready : (end : ConnEnd) (old new : Talking) → IsAtRest old
     → ((rows : CentreRows) (items : List Item) (told : List Arrival) (turns : List Turn)
-    → StandsAt rows items told turns old → StandsAt rows items told turns new)
+    → ConnStandsAt rows items told turns old → ConnStandsAt rows items told turns new)
     → IsLeft end old new → IsReady new
 left_ready end old new r s l = record {
   placed = placed_on old new r.placed s;
-  free = given_up (is_open_stage old.stage) end (parted old.course end) old new l;
+  free = given_up (is_open_stage old.stage) end (parting_octets old.course end) old new l;
 }

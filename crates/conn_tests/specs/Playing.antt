@@ -10,7 +10,7 @@ use Rattle.tase_conn.specs.declared.stage.Progress.TheVariants as progresses
 use Rattle.tase_conn.specs.Talking.{Talking, IsFree, IsResting}
 use Rattle.tase_conn.specs.Places.{IsPlaced}
 use Rattle.tase_conn.specs.Wanting.{WaitsFor}
-use Rattle.tase_conn.specs.Answering.{IsCut}
+use Rattle.tase_conn.specs.Answering.{IsCutFault}
 
 -- it stands somewhere, and no event waits for its answer
 pub record IsReady (v : Talking) : Type 0 where
@@ -40,10 +40,10 @@ HasServed false v = IsAtRest v
 -- a node's answer to an event of a peer
 abbrev pub IsAnswerOf : EventKind → Result Answer StepFault → Type 0
 IsAnswerOf (events.Open peer) (Ok (answers.Opened key)) = Unit {0}
-IsAnswerOf (events.Open peer) (Err fault) = IsCut fault
+IsAnswerOf (events.Open peer) (Err fault) = IsCutFault fault
 IsAnswerOf (events.Request call) (Ok (answers.Reply reply)) = Unit {0}
-IsAnswerOf (events.Request call) (Err fault) = IsCut fault
+IsAnswerOf (events.Request call) (Err fault) = IsCutFault fault
 IsAnswerOf events.Take (Ok (answers.Reports reports)) = Unit {0}
-IsAnswerOf events.Take (Err fault) = IsCut fault
+IsAnswerOf events.Take (Err fault) = IsCutFault fault
 IsAnswerOf events.Close (Ok answers.Closed) = Unit {0}
 IsAnswerOf _ _ = ⊥

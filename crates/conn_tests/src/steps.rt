@@ -1,9 +1,9 @@
 //! The steps of a connection with a node that answers opens, takes and closes, unless it is to refuse
 //! them.
 ghost use Rattle.std.specs.Prelude.{◌≡◌, ◌≤◌, Ok, Err, None, true, IfOk, OnOk, length};
-ghost use Rattle.tase_conn.specs.Talking.{end_in, next_of};
+ghost use Rattle.tase_conn.specs.Talking.{conn_end_in, next_pending};
 ghost use Rattle.tase_conn.specs.Places.{IsPlaced};
-ghost use Rattle.tase_conn.specs.Answering.{IsAnswerFor, IsCut};
+ghost use Rattle.tase_conn.specs.Answering.{IsAnswerFor, IsCutFault};
 ghost use Rattle.conn_tests.specs.Playing.{IsReady, IsAtRest, IsAwaited, HasWanted, HasServed};
 ghost use Rattle.conn_tests.specs.Playing.{IsAnswerOf};
 
@@ -67,7 +67,7 @@ fn answer_to(alloc: Global, kind: &EventKind) -> Result<Answer, Fail>
 
 /// A refusal that leaves the connection.
 fn cut_of(fault: StepFault) -> Result<StepFault, Fail>
-    ensures { IfOk result (λ fault. IsCut fault) }
+    ensures { IfOk result (λ fault. IsCutFault fault) }
 {
     match fault {
         StepFault::Stopped { .. } | StepFault::HistoryFull { .. } | StepFault::Memory => Ok(fault),
@@ -210,7 +210,7 @@ pub(crate) fn take(conn: &mut Conn, piece: &[u8]) -> Result<(), Fail>
 
 /// Whether it hasn't ended.
 pub(crate) fn goes_on(conn: &Conn) -> bool
-    ensures { result ≡ true → end_in conn.now.progress ≡ None }
+    ensures { result ≡ true → conn_end_in conn.now.progress ≡ None }
 {
     match conn.ended() {
         Some(_) => false,
@@ -221,7 +221,7 @@ pub(crate) fn goes_on(conn: &Conn) -> bool
 /// Gives it up.
 pub(crate) fn give_up(conn: &mut Conn, end: ConnEnd)
     requires rests { IsAtRest conn.old }
-    requires goes_on { end_in conn.old.progress ≡ None }
+    requires goes_on { conn_end_in conn.old.progress ≡ None }
     ensures { IsReady conn.new }
 {
     conn.give_up(end);
@@ -229,7 +229,7 @@ pub(crate) fn give_up(conn: &mut Conn, end: ConnEnd)
 
 fn note_sent(conn: &mut Conn, count: usize)
     requires rests { IsAtRest conn.old }
-    requires few { count ≤ length (next_of conn.old) }
+    requires few { count ≤ length (next_pending conn.old) }
     ensures { IsAtRest conn.new }
 {
     conn.sent(count);

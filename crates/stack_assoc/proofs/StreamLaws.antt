@@ -108,8 +108,8 @@ above_of role octets ms s b =
       }),
     )
 
-pub always : (one : OneMeaning) (role : Role) (octets : List ℕ) → Outcome role octets
-always one role octets = elim (below.always (end_of role) octets) [
+pub tells_or_stops : (one : OneMeaning) (role : Role) (octets : List ℕ) → Outcome role octets
+tells_or_stops one role octets = elim (below.always (end_of role) octets) [
   | inl said ↦ elim (spelled_or_broken (TellsNext role) (BreaksNext role) (one_each one role).each
       [] said.0) [
         | inl told ↦ inl (told.0, said.1, record { messages = said.0; said = said.2; tell = told.1 })

@@ -14,10 +14,10 @@ use Rattle.stack_assoc.specs.Arrivals.{Arrival, called, first_in, connect_in}
 use Rattle.stack_assoc.specs.Expectations.{setup_after}
 use Rattle.stack_assoc.specs.Handing.{answers_to}
 use Rattle.tase_views.specs.declared.event.EventKind.{EventKind}
-use Rattle.tase_map.specs.Inputs.{Item, text_of}
+use Rattle.tase_map.specs.Inputs.{Item, text_given}
 use Rattle.tase_map.specs.Readings.{reading_of}
 use Rattle.tase_map.specs.Turns.{Turn, turns_of}
-use Rattle.tase_map.specs.Asks.{begins, finishes, is_last, is_open, asks_at, asks_behind}
+use Rattle.tase_map.specs.Asks.{begins, finishes, is_last, is_open_behind, asks_at, asks_behind}
 use Rattle.tase_map.specs.Asks.{up_to_last}
 use Rattle.tase_conn.specs.declared.stage.ConnEnd.{ConnEnd}
 use Rattle.tase_conn.specs.declared.stage.ConnEnd.TheVariants as conn_ends
@@ -25,21 +25,21 @@ use Rattle.tase_conn.specs.declared.stage.Stage.{Stage}
 use Rattle.tase_conn.specs.declared.stage.Behind.{Behind}
 use Rattle.tase_conn.specs.declared.stage.Behind.TheVariants as behinds
 use Rattle.tase_conn.specs.declared.stage.Coming.{Coming}
-use Rattle.tase_conn.specs.declared.stage.Asked.{Asked}
-use Rattle.tase_conn.specs.declared.stage.Asked.TheVariants as askeds
+use Rattle.tase_conn.specs.declared.stage.PendingEvent.{PendingEvent}
+use Rattle.tase_conn.specs.declared.stage.PendingEvent.TheVariants as askeds
 use Rattle.tase_conn.specs.declared.stage.Progress.{Progress}
 use Rattle.tase_conn.specs.declared.stage.Progress.TheVariants as progresses
 use Rattle.tase_conn.specs.declared.stage.Step.TheVariants as steps
 use Rattle.tase_conn.specs.Talking.{Talking, pending_of, stage_peer}
-use Rattle.tase_conn.specs.Places.{StandsAt, Runs, GoesBy, EndsWith, EndsBy, IsCause}
+use Rattle.tase_conn.specs.Places.{ConnStandsAt, Runs, GoesBy, EndsWithTurn, EndsBy, IsCause}
 use Rattle.tase_conn.specs.Places.{RoomBy}
-use Rattle.tase_conn.specs.Places.{IsPeer, IsAgreed, IsAskedBy, HasRead, Begins, turn_coming}
-use Rattle.tase_conn.specs.Places.{listed}
+use Rattle.tase_conn.specs.Places.{IsPeer, IsAgreed, IsAskedBy, HasRead, BeginsTurns, turn_coming}
+use Rattle.tase_conn.specs.Places.{turn_listed}
 use Rattle.tase_conn.specs.Places.{turns_held, fault_held, fault_seen, has_begun, has_finished}
-use Rattle.tase_conn.specs.Places.{IsAskedAt, IsDue, IsPassed, is_ending, standing_by}
+use Rattle.tase_conn.specs.Places.{IsAskedAt, IsDue, IsPassed, ends_connection, standing_by}
 use Rattle.tase_conn.specs.Places.{is_connected, has_concluded, ReadsBy}
 use Rattle.tase_conn.specs.Wanting.{quiet_at, quiet_behind, WaitsFor, IsIdle}
-use Rattle.tase_conn.specs.Acting.{HasEnded, Steps, holding}
+use Rattle.tase_conn.specs.Acting.{HasEnded, StepsBy, holding}
 use Rattle.tase_conn.proofs.SeenTurns.{seen_front}
 
 -- ---- one turn more
@@ -89,7 +89,7 @@ uncut rows (x ∷ turns) goes =
 
 -- it runs, with nothing waiting
 pub running_idle : (rows : CentreRows) (items : List Item) (told : List Arrival) (turns : List Turn)
-    (v : Talking) → IsIdle v.progress → StandsAt rows items told turns v
+    (v : Talking) → IsIdle v.progress → ConnStandsAt rows items told turns v
     → Runs rows items told turns askeds.Nothing v
 running_idle rows items told turns v idle s =
     subst (λ (p : Progress). GoesBy p rows items told turns v) idle s.goes
@@ -98,7 +98,7 @@ running_idle rows items told turns v idle s =
 pub open_by : (rows : CentreRows) (turns : List Turn) (stage : Stage)
     → list_any (begins rows) turns ≡ has_begun stage askeds.Nothing
     → list_any finishes turns ≡ has_finished stage askeds.Nothing
-    → is_open rows turns
+    → is_open_behind rows turns
     ≡ (has_begun stage askeds.Nothing && not (has_finished stage askeds.Nothing))
 open_by rows turns stage b f =
     ap (λ (x : Bool). x && not (list_any finishes turns)) b
@@ -106,24 +106,24 @@ open_by rows turns stage b f =
 
 -- ---- an event is asked
 
-abbrev pub asking : Asked → Talking → Talking
+abbrev pub asking : PendingEvent → Talking → Talking
 asking asked v = record v { progress = progresses.Running asked }
 
 -- a turn behind others
 abbrev pub ends_with : (rows : CentreRows) (turns : List Turn) (turn : Turn)
-    → list_any (is_last rows) turns ≡ false → EndsWith rows (turns ++ turn ∷ []) turn
+    → list_any (is_last rows) turns ≡ false → EndsWithTurn rows (turns ++ turn ∷ []) turn
 ends_with rows turns turn goes = record { front = turns; is = refl; goes = goes }
 
 -- what is to hold of a turn, and of the event that it asks for
 pub record Asking (rows : CentreRows) (told : List Arrival) (turns : List Turn) (turn : Turn)
-    (event : EventKind) (stage : Stage) (asked : Asked) (coming : Coming) : Type 0 where
+    (event : EventKind) (stage : Stage) (asked : PendingEvent) (coming : Coming) : Type 0 where
   pub turn_is : turn_coming coming ≡ Some turn
   pub fault : fault_held (Some coming) ≡ fault_seen None asked
   pub begun : (has_begun stage askeds.Nothing || (begins rows turn || false))
       ≡ has_begun stage asked
   pub finished : (has_finished stage askeds.Nothing || (finishes turn || false))
       ≡ has_finished stage asked
-  pub ending : (is_last rows turn || false) ≡ is_ending asked
+  pub ending : (is_last rows turn || false) ≡ ends_connection asked
   pub standing : standing_by stage askeds.Nothing (Some coming) ≡ standing_by stage asked None
   pub connected : is_connected stage askeds.Nothing (Some coming)
       ≡ is_connected stage asked None
@@ -173,23 +173,23 @@ has_read_by : (f : Option StackFault) (items : List Item) (told : List Arrival) 
     → HasRead items told seen (record v { held = held; progress = progress })
 has_read_by None items told seen held progress v e r =
     let P : Option StackFault → Type 0 = λ x. MatchOption x (ReadsBy v.behind items told seen v)
-    (λ fault. Begins seen (turns_of items)) in
+    (λ fault. BeginsTurns seen (turns_of items)) in
     let Q : Option StackFault → Type 0 = λ x. MatchOption x
     (ReadsBy v.behind items told seen (record v { held = held; progress = progress }))
-    (λ fault. Begins seen (turns_of items)) in
+    (λ fault. BeginsTurns seen (turns_of items)) in
     subst Q (sym e) (read_on v.behind items told seen held progress v (subst P e r))
 has_read_by (Some f) items told seen held progress v e r =
     let P : Option StackFault → Type 0 = λ x. MatchOption x (ReadsBy v.behind items told seen v)
-    (λ fault. Begins seen (turns_of items)) in
+    (λ fault. BeginsTurns seen (turns_of items)) in
     let Q : Option StackFault → Type 0 = λ x. MatchOption x
     (ReadsBy v.behind items told seen (record v { held = held; progress = progress }))
-    (λ fault. Begins seen (turns_of items)) in
+    (λ fault. BeginsTurns seen (turns_of items)) in
     subst Q (sym e) (subst P e r)
 
 -- and what was held was seen
 pub has_read : (items : List Item) (told : List Arrival) (turns more : List Turn)
     (held : Option Coming) (progress : Progress) (v : Talking) (coming : Coming)
-    → listed (turn_coming coming) ≡ more
+    → turn_listed (turn_coming coming) ≡ more
     → HasRead items told (turns ++ turns_held (Some coming)) v
     → HasRead items told ((turns ++ more) ++ []) (record v { held = held; progress = progress })
 has_read items told turns more held progress v coming is r =
@@ -198,7 +198,7 @@ has_read items told turns more held progress v coming is r =
     (ap (λ (ts : List Turn). turns ++ ts) is ∙ sym (append-nil (turns ++ more))) r)
 
 runs_asking : (rows : CentreRows) (items : List Item) (told : List Arrival) (turns : List Turn)
-    (turn : Turn) (event : EventKind) (stage : Stage) (asked : Asked) (coming : Coming)
+    (turn : Turn) (event : EventKind) (stage : Stage) (asked : PendingEvent) (coming : Coming)
     (v : Talking) → v.stage ≡ stage → v.held ≡ None
     → Asking rows told turns turn event stage asked coming
     → Runs rows items told turns askeds.Nothing (holding coming v)
@@ -213,7 +213,7 @@ runs_asking rows items told turns turn event stage asked coming v at empty a r =
           ∙ ap (λ (h : Option Coming). fault_seen h asked) (sym empty);
       reads = held (λ h. HasRead items told ((turns ++ turn ∷ []) ++ turns_held h) (asking asked v))
           (has_read items told turns (turn ∷ []) v.held (progresses.Running asked)
-          (holding coming v) coming (ap (λ (t : Option Turn). listed t) a.turn_is) r.reads);
+          (holding coming v) coming (ap (λ (t : Option Turn). turn_listed t) a.turn_is) r.reads);
       due = held (λ h. IfSome h (IsDue told v.stage)) tt;
       passed = held (λ h. IsPassed h v.behind) tt;
       begun = on (λ s. list_any (begins rows) (turns ++ turn ∷ []) ≡ has_begun s asked)
@@ -242,12 +242,12 @@ runs_asking rows items told turns turn event stage asked coming v at empty a r =
 
 -- it steps to an event
 pub asks_event : (rows : CentreRows) (items : List Item) (told : List Arrival) (turns : List Turn)
-    (turn : Turn) (event : EventKind) (stage : Stage) (asked : Asked) (coming : Coming)
+    (turn : Turn) (event : EventKind) (stage : Stage) (asked : PendingEvent) (coming : Coming)
     (v : Talking) → v.stage ≡ stage → v.held ≡ None → IsIdle v.progress
     → (Runs rows items told turns askeds.Nothing (holding coming v)
     → Asking rows told turns turn event stage asked coming)
-    → StandsAt rows items told turns (holding coming v)
-    → Steps rows items told turns (steps.Asks event) (holding coming v) (asking asked v)
+    → ConnStandsAt rows items told turns (holding coming v)
+    → StepsBy rows items told turns (steps.Asks event) (holding coming v) (asking asked v)
 asks_event rows items told turns turn event stage asked coming v at empty idle makes s =
     let r = running_idle rows items told turns (holding coming v) idle s in
     let a = makes r in
@@ -274,10 +274,10 @@ asks_event rows items told turns turn event stage asked coming v at empty idle m
 
 -- all messages that are answered at once were told, and an offer that was declined
 pub record HasToldAll (items : List Item) (told : List Arrival) (end : ConnEnd) : Type 0 where
-  pub answered : answers_to called told ≡ answers_to called (reading_of (text_of items)).told
+  pub answered : answers_to called told ≡ answers_to called (reading_of (text_given items)).told
   pub fixed : end ≡ conn_ends.Declined
-      → (setup_after told ≡ setup_after (reading_of (text_of items)).told)
-      × (is_some (first_in connect_in (reading_of (text_of items)).told) ≡ true)
+      → (setup_after told ≡ setup_after (reading_of (text_given items)).told)
+      × (is_some (first_in connect_in (reading_of (text_given items)).told) ≡ true)
 
 -- what is to hold of a turn that ends the connection, and of the octets that were said
 pub record Ending (rows : CentreRows) (items : List Item) (told : List Arrival) (turns : List Turn)
@@ -305,8 +305,8 @@ ended_by : (rows : CentreRows) (items : List Item) (told : List Arrival) (turns 
     → EndsBy rows items told (turns ++ turn ∷ []) end
 ended_by rows items told turns turn end octets coming v e r =
     let f = seen_front rows items told turns askeds.Nothing (holding coming v) r in
-    let is : listed (turn_coming coming) ≡ turn ∷ [] =
-    ap (λ (t : Option Turn). listed t) e.turn_is in
+    let is : turn_listed (turn_coming coming) ≡ turn ∷ [] =
+    ap (λ (t : Option Turn). turn_listed t) e.turn_is in
     record {
       done = items;
       dropped = [];
@@ -327,8 +327,8 @@ pub ends_step : (rows : CentreRows) (items : List Item) (told : List Arrival) (t
     → IsIdle v.progress → Ended end octets v new
     → (Runs rows items told turns askeds.Nothing (holding coming v)
     → Ending rows items told turns turn end octets coming)
-    → StandsAt rows items told turns (holding coming v)
-    → Steps rows items told turns steps.Ends (holding coming v) new
+    → ConnStandsAt rows items told turns (holding coming v)
+    → StepsBy rows items told turns steps.Ends (holding coming v) new
 ends_step rows items told turns turn end octets coming v new idle n makes s =
     let r = running_idle rows items told turns (holding coming v) idle s in
     let e = makes r in
@@ -357,7 +357,7 @@ ends_step rows items told turns turn end octets coming v new idle n makes s =
 -- what is to hold where nothing is asked and nothing ends: no turn, or a pause with none open
 pub record Passing (rows : CentreRows) (turns more : List Turn) (stage : Stage)
     (coming : Coming) : Type 0 where
-  pub turns_are : listed (turn_coming coming) ≡ more
+  pub turns_are : turn_listed (turn_coming coming) ≡ more
   pub fault : fault_held (Some coming) ≡ None
   pub begun : list_any (begins rows) (turns ++ more) ≡ has_begun stage askeds.Nothing
   pub finished : list_any finishes (turns ++ more) ≡ has_finished stage askeds.Nothing
@@ -406,8 +406,8 @@ pub goes_step : (rows : CentreRows) (items : List Item) (told : List Arrival)
     → IsIdle v.progress
     → (Runs rows items told turns askeds.Nothing (holding coming v)
     → Passing rows turns more v.stage coming)
-    → StandsAt rows items told turns (holding coming v)
-    → Steps rows items told turns steps.GoesOn (holding coming v) v
+    → ConnStandsAt rows items told turns (holding coming v)
+    → StepsBy rows items told turns steps.GoesOn (holding coming v) v
 goes_step rows items told turns more coming v empty idle makes s =
     let r = running_idle rows items told turns (holding coming v) idle s in
     let a = makes r in

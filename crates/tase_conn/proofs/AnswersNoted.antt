@@ -35,12 +35,12 @@ use Rattle.stack_assoc.proofs.SaidMore.{stands_standing, stands_said}
 use Rattle.tase_views.specs.declared.reply.Answer.{Answer}
 use Rattle.tase_views.specs.declared.reply.Answer.TheVariants as answers
 use Rattle.tase_views.specs.declared.fault.StepFault.{StepFault}
-use Rattle.tase_map.specs.Inputs.{Item, text_of}
+use Rattle.tase_map.specs.Inputs.{Item, text_given}
 use Rattle.tase_map.specs.Readings.{Reading, reading_of}
 use Rattle.tase_map.specs.Turns.{Turn, turns_of}
 use Rattle.tase_map.specs.Asks.{is_last, up_to_last}
-use Rattle.tase_map.specs.Replied.{pdu_in}
-use Rattle.tase_map.specs.Out.{said, within, release_octets, detail_of}
+use Rattle.tase_map.specs.Replied.{pdu_of_reply}
+use Rattle.tase_map.specs.Out.{said, within, release_wire, detail_of}
 use Rattle.tase_map.proofs.ReadingLaws.{reading_only}
 use Rattle.tase_conn.specs.declared.stage.ConnEnd.{ConnEnd}
 use Rattle.tase_conn.specs.declared.stage.ConnEnd.TheVariants as conn_ends
@@ -51,21 +51,21 @@ use Rattle.tase_conn.specs.declared.stage.Behind.TheVariants as behinds
 use Rattle.tase_conn.specs.declared.stage.Coming.{Coming}
 use Rattle.tase_conn.specs.declared.stage.Cause.{Cause}
 use Rattle.tase_conn.specs.declared.stage.Cause.TheVariants as causes
-use Rattle.tase_conn.specs.declared.stage.Asked.{Asked}
-use Rattle.tase_conn.specs.declared.stage.Asked.TheVariants as askeds
+use Rattle.tase_conn.specs.declared.stage.PendingEvent.{PendingEvent}
+use Rattle.tase_conn.specs.declared.stage.PendingEvent.TheVariants as askeds
 use Rattle.tase_conn.specs.declared.stage.Progress.{Progress}
 use Rattle.tase_conn.specs.declared.stage.Progress.TheVariants as progresses
 use Rattle.tase_conn.specs.Talking.{Talking, pending_of, is_open_stage, stage_peer}
-use Rattle.tase_conn.specs.Places.{turns_held, Begins, fault_seen, is_ending, standing_by, IsAgreed}
-use Rattle.tase_conn.specs.Places.{IsAskedAt, turn_for, EndsWith, Runs, IsCause, EndsBy, GoesBy}
-use Rattle.tase_conn.specs.Places.{IsPeer, HasRoom, RoomBy, StandsAt, IsPlaced}
+use Rattle.tase_conn.specs.Places.{turns_held, BeginsTurns, fault_seen, ends_connection, standing_by, IsAgreed}
+use Rattle.tase_conn.specs.Places.{IsAskedAt, turn_for, EndsWithTurn, Runs, IsCause, EndsBy, GoesBy}
+use Rattle.tase_conn.specs.Places.{IsPeer, HasAbortRoom, RoomBy, ConnStandsAt, IsPlaced}
 use Rattle.tase_conn.specs.Wanting.{IsLeaving}
-use Rattle.tase_conn.specs.Answering.{IsAnswerTo, IsAnswerFor, detail_in, closed, stage_told}
-use Rattle.tase_conn.specs.Answering.{end_of, progress_closed, progress_by, progress_told, parted}
+use Rattle.tase_conn.specs.Answering.{IsAnswerTo, IsAnswerFor, detail_in, stage_closed, stage_told}
+use Rattle.tase_conn.specs.Answering.{end_of_fault, progress_closed, progress_by, progress_told, parting_octets}
 use Rattle.tase_conn.specs.Answering.{closed_said}
 use Rattle.tase_conn.specs.Answering.{detail_at, answer_said, told_said}
-use Rattle.tase_conn.specs.Leaving.{finished, Parts, IsLeft, MayAnswer, Adds, EndsFor}
-use Rattle.tase_conn.specs.Noting.{free, opened, answered, NotesAsked, Notes}
+use Rattle.tase_conn.specs.Leaving.{finished, Parts, IsLeft, MayAnswer, AddsAnswer, EndsFor}
+use Rattle.tase_conn.specs.Noting.{with_nothing_waiting, with_open, answered, NotesAsked, NotesAnswer}
 use Rattle.tase_conn.proofs.LastTurns.{up_to_whole}
 use Rattle.tase_conn.proofs.SeenTurns.{seen_front}
 use Rattle.tase_conn.proofs.ToldAll.{told_open}
@@ -75,17 +75,17 @@ use Rattle.tase_conn.proofs.Placing.{talking, reads_moved, parted_stands}
 -- ---- what may be said of an event that waits
 
 -- the first of these
-abbrev pub Waits : Asked → Talking → Type 0
+abbrev pub Waits : PendingEvent → Talking → Type 0
 Waits asked v = (rows : CentreRows) × (items : List Item) × (told : List Arrival)
     × (turns : List Turn) × Runs rows items told turns asked v
 
-waits_by : (progress : Progress) (asked : Asked) (rows : CentreRows) (items : List Item)
+waits_by : (progress : Progress) (asked : PendingEvent) (rows : CentreRows) (items : List Item)
     (told : List Arrival) (turns : List Turn) (v : Talking) → progress ≡ progresses.Running asked
     → GoesBy progress rows items told turns v → Runs rows items told turns asked v
 waits_by progress asked rows items told turns v e g =
     subst (λ (p : Progress). GoesBy p rows items told turns v) e g
 
-pub waiting : (asked : Asked) (v : Talking) → IsPlaced v → v.progress ≡ progresses.Running asked
+pub waiting : (asked : PendingEvent) (v : Talking) → IsPlaced v → v.progress ≡ progresses.Running asked
     → Waits asked v
 waiting asked v p e = (
   p.rows,
@@ -204,26 +204,26 @@ closing_may (causes.Broken fault) v w = tt
 opening_noted : (rows : CentreRows) (items : List Item) (told : List Arrival) (turns : List Turn)
     (peer : ℕ) (granted : Initiate) (centre : CentreRows) (course : Course)
     (held : Option Coming) (behind : Behind) (stage : Stage) (out : List ℕ)
-    (farewell : Vec ℕ Global) (new : Talking) → StandsAt rows items told turns
+    (farewell : Vec ℕ Global) (new : Talking) → ConnStandsAt rows items told turns
     (talking centre course held behind stage (progresses.Running (askeds.Opening peer granted)) out
-    farewell) → new ≡ opened peer granted (talking centre course held behind stage
+    farewell) → new ≡ with_open peer granted (talking centre course held behind stage
     (progresses.Running (askeds.Opening peer granted)) out farewell)
-    → StandsAt rows items told turns new
+    → ConnStandsAt rows items told turns new
 opening_noted rows items told turns peer granted centre course None behind stages.Early out
     farewell new s e =
     let old : Talking = talking centre course None behind stages.Early
     (progresses.Running (askeds.Opening peer granted)) out farewell in
     let g = s.goes.agreed in
-    subst (λ (v : Talking). StandsAt rows items told turns v) (sym e) (record {
+    subst (λ (v : Talking). ConnStandsAt rows items told turns v) (sym e) (record {
       rows_are = s.rows_are;
       peer = (position-Some (λ (table : Table). option_eq bytes_eq table.title s.goes.last.0)
           rows.tables peer no_table s.goes.last.2).0;
       goes = record {
-        stands = stands_standing called (text_of items) told course
+        stands = stands_standing called (text_given items) told course
             (with_standing standings.Accepted course) standings.Accepted s.goes.stands refl;
         fault = s.goes.fault;
         reads = reads_moved course.fault behind items told (turns ++ []) old
-            (opened peer granted old) (λ x. x) refl s.goes.reads;
+            (with_open peer granted old) (λ x. x) refl s.goes.reads;
         due = tt;
         passed = tt;
         begun = s.goes.begun;
@@ -263,20 +263,20 @@ said_stands octets told course pdu clear s =
 requesting_noted : (rows : CentreRows) (items : List Item) (told : List Arrival) (turns : List Turn)
     (invoke : ℕ) (pdu : MmsPdu) (centre : CentreRows) (course : Course)
     (held : Option Coming) (behind : Behind) (stage : Stage) (out : List ℕ)
-    (farewell : Vec ℕ Global) (new : Talking) → StandsAt rows items told turns
+    (farewell : Vec ℕ Global) (new : Talking) → ConnStandsAt rows items told turns
     (talking centre course held behind stage (progresses.Running (askeds.Requesting invoke)) out
     farewell) → new ≡ answered pdu (talking centre course held behind stage
     (progresses.Running (askeds.Requesting invoke)) out farewell)
-    → StandsAt rows items told turns new
+    → ConnStandsAt rows items told turns new
 requesting_noted rows items told turns invoke pdu centre course None behind
     (stages.Open peer detail) out farewell new s e =
     let old : Talking = talking centre course None behind (stages.Open peer detail)
     (progresses.Running (askeds.Requesting invoke)) out farewell in
-    subst (λ (v : Talking). StandsAt rows items told turns v) (sym e) (record {
+    subst (λ (v : Talking). ConnStandsAt rows items told turns v) (sym e) (record {
       rows_are = s.rows_are;
       peer = s.peer;
       goes = record {
-        stands = said_stands (text_of items) told course pdu s.goes.fault s.goes.stands;
+        stands = said_stands (text_given items) told course pdu s.goes.fault s.goes.stands;
         fault = s.goes.fault;
         reads = reads_moved course.fault behind items told (turns ++ []) old (answered pdu old)
             (λ x. x) refl s.goes.reads;
@@ -306,21 +306,21 @@ requesting_noted rows items told turns invoke pdu centre course held behind (sta
 taking_noted : (rows : CentreRows) (items : List Item) (told : List Arrival) (turns : List Turn)
     (centre : CentreRows) (course : Course) (held : Option Coming) (behind : Behind)
     (stage : Stage) (out : List ℕ) (farewell : Vec ℕ Global) (new : Talking)
-    → StandsAt rows items told turns
+    → ConnStandsAt rows items told turns
     (talking centre course held behind stage (progresses.Running askeds.Taking) out farewell)
-    → new ≡ free (talking centre course held behind stage (progresses.Running askeds.Taking) out
-    farewell) → StandsAt rows items told turns new
+    → new ≡ with_nothing_waiting (talking centre course held behind stage (progresses.Running askeds.Taking) out
+    farewell) → ConnStandsAt rows items told turns new
 taking_noted rows items told turns centre course None behind (stages.Open peer detail) out farewell
     new s e =
     let old : Talking = talking centre course None behind (stages.Open peer detail)
     (progresses.Running askeds.Taking) out farewell in
-    subst (λ (v : Talking). StandsAt rows items told turns v) (sym e) (record {
+    subst (λ (v : Talking). ConnStandsAt rows items told turns v) (sym e) (record {
       rows_are = s.rows_are;
       peer = s.peer;
       goes = record {
         stands = s.goes.stands;
         fault = s.goes.fault;
-        reads = reads_moved course.fault behind items told (turns ++ []) old (free old) (λ x. x)
+        reads = reads_moved course.fault behind items told (turns ++ []) old (with_nothing_waiting old) (λ x. x)
             refl s.goes.reads;
         due = tt;
         passed = tt;
@@ -345,7 +345,7 @@ taking_noted rows items told turns centre course held behind (stages.Closed peer
 
 -- ---- a close is answered
 
-last_for : (rows : CentreRows) (cause : Cause) → is_ending (askeds.Closing cause) ≡ true
+last_for : (rows : CentreRows) (cause : Cause) → ends_connection (askeds.Closing cause) ≡ true
     → is_last rows (turn_for cause) ≡ true
 last_for rows causes.Concluded e = absurd cc
 last_for rows causes.Released e = refl
@@ -355,20 +355,20 @@ last_for rows (causes.Broken fault) e = refl
 
 -- all that was told was seen, up to what asked for the close
 pub whole_for : (rows : CentreRows) (items : List Item) (turns : List Turn) (cause : Cause)
-    → is_ending (askeds.Closing cause) ≡ true → EndsWith rows turns (turn_for cause)
-    → Begins (turns ++ []) (turns_of items) → up_to_last rows (turns_of items) ≡ turns
+    → ends_connection (askeds.Closing cause) ≡ true → EndsWithTurn rows turns (turn_for cause)
+    → BeginsTurns (turns ++ []) (turns_of items) → up_to_last rows (turns_of items) ≡ turns
 whole_for rows items turns cause e w b =
     ap (λ (ts : List Turn). up_to_last rows ts) (b.1
     ∙ ap (λ (ts : List Turn). ts ++ b.0) (append-nil turns))
     ∙ up_to_whole rows turns b.0 (turn_for cause) w (last_for rows cause e)
 
 broken_so : (items : List Item) (told : List Arrival) (course : Course) (f : Option StackFault)
-    (fault : StackFault) → f ≡ Some fault → MatchOption f (ReadsMessages called (text_of items) told course)
-    (λ g. StopsTelling called (text_of items) told g)
-    → (reading_of (text_of items)).broken ≡ Some fault
+    (fault : StackFault) → f ≡ Some fault → MatchOption f (ReadsMessages called (text_given items) told course)
+    (λ g. StopsTelling called (text_given items) told g)
+    → (reading_of (text_given items)).broken ≡ Some fault
 broken_so items told course None fault e r = absurd cc
 broken_so items told course (Some g) fault e r =
-    ap (λ (x : Reading). x.broken) (reading_only (text_of items) told (Some g) r) ∙ e
+    ap (λ (x : Reading). x.broken) (reading_only (text_given items) told (Some g) r) ∙ e
 
 -- a close waits for its answer while the association is open
 closing_connected : {rows : CentreRows} {items : List Item} {told : List Arrival} {turns : List Turn}
@@ -386,7 +386,7 @@ closing_connected cause v r = by v.stage v.held r.waits
 pub closed_ends : (rows : CentreRows) (items : List Item) (told : List Arrival) (turns : List Turn)
     (cause : Cause) (end : ConnEnd) (v : Talking) → v.held ≡ None
     → Runs rows items told turns (askeds.Closing cause) v
-    → is_ending (askeds.Closing cause) ≡ true → IsCause rows items end (turn_for cause)
+    → ends_connection (askeds.Closing cause) ≡ true → IsCause rows items end (turn_for cause)
     → EndsBy rows items told turns end
 closed_ends rows items told turns cause end v none r e c = record {
   done = items;
@@ -400,7 +400,7 @@ closed_ends rows items told turns cause end v none r e c = record {
   ends = r.last.0;
   cause = c;
   whole = whole_for rows items turns cause e r.last.0
-      (subst (λ (held : Option Coming). Begins (turns ++ turns_held held) (turns_of items)) none
+      (subst (λ (held : Option Coming). BeginsTurns (turns ++ turns_held held) (turns_of items)) none
       (seen_front rows items told turns (askeds.Closing cause) v r));
 }
 
@@ -409,9 +409,9 @@ ended_stands : (rows : CentreRows) (items : List Item) (told : List Arrival) (tu
     (farewell : Vec ℕ Global) (new : Talking) → centre ≡ rows
     → IfSome (stage_peer stage) (IsPeer rows) → EndsBy rows items told turns end
     → new ≡ talking centre course None behinds.Nothing stage (progresses.Ended end) out farewell
-    → StandsAt rows items told turns new
+    → ConnStandsAt rows items told turns new
 ended_stands rows items told turns end centre stage course out farewell new rows_are peer ends e =
-    subst (λ (x : Talking). StandsAt rows items told turns x) (sym e) (record {
+    subst (λ (x : Talking). ConnStandsAt rows items told turns x) (sym e) (record {
       rows_are = rows_are;
       peer = peer;
       goes = (ends, record { read = refl; acted = refl });
@@ -420,21 +420,21 @@ ended_stands rows items told turns end centre stage course out farewell new rows
 
 concluded_noted : (rows : CentreRows) (items : List Item) (told : List Arrival) (turns : List Turn)
     (centre : CentreRows) (course : Course) (behind : Behind) (peer : ℕ) (detail : ℤ)
-    (out : List ℕ) (farewell : Vec ℕ Global) (new : Talking) → StandsAt rows items told turns
+    (out : List ℕ) (farewell : Vec ℕ Global) (new : Talking) → ConnStandsAt rows items told turns
     (talking centre course None behind (stages.Open peer detail)
     (progresses.Running (askeds.Closing causes.Concluded)) out farewell)
     → new ≡ talking centre (with_said pdus.Concluded course) None behind (stages.Closed peer)
-    (progresses.Running askeds.Nothing) new.out farewell → StandsAt rows items told turns new
+    (progresses.Running askeds.Nothing) new.out farewell → ConnStandsAt rows items told turns new
 concluded_noted rows items told turns centre course behind peer detail out farewell new s e =
     let old : Talking = talking centre course None behind (stages.Open peer detail)
     (progresses.Running (askeds.Closing causes.Concluded)) out farewell in
     let to : Talking = talking centre (with_said pdus.Concluded course) None behind
     (stages.Closed peer) (progresses.Running askeds.Nothing) new.out farewell in
-    subst (λ (v : Talking). StandsAt rows items told turns v) (sym e) (record {
+    subst (λ (v : Talking). ConnStandsAt rows items told turns v) (sym e) (record {
       rows_are = s.rows_are;
       peer = s.peer;
       goes = record {
-        stands = said_stands (text_of items) told course pdus.Concluded s.goes.fault s.goes.stands;
+        stands = said_stands (text_given items) told course pdus.Concluded s.goes.fault s.goes.stands;
         fault = s.goes.fault;
         reads = reads_moved course.fault behind items told (turns ++ []) old to (λ x. x) refl
             s.goes.reads;
@@ -456,12 +456,12 @@ concluded_noted rows items told turns centre course behind peer detail out farew
 closing_noted : (cause : Cause) (rows : CentreRows) (items : List Item) (told : List Arrival)
     (turns : List Turn) (centre : CentreRows) (course : Course) (held : Option Coming)
     (behind : Behind) (stage : Stage) (out : List ℕ) (farewell : Vec ℕ Global) (new : Talking)
-    → StandsAt rows items told turns
+    → ConnStandsAt rows items told turns
     (talking centre course held behind stage (progresses.Running (askeds.Closing cause)) out
     farewell)
-    → EndsFor cause (talking centre course held behind (closed stage)
+    → EndsFor cause (talking centre course held behind (stage_closed stage)
     (progresses.Running (askeds.Closing cause)) out farewell) new
-    → StandsAt rows items told turns new
+    → ConnStandsAt rows items told turns new
 closing_noted causes.Concluded rows items told turns centre course None behind
     (stages.Open peer detail) out farewell new s n =
     concluded_noted rows items told turns centre course behind peer detail out farewell new s
@@ -507,14 +507,14 @@ closing_noted cause rows items told turns centre course held behind (stages.Clos
 
 -- ---- any answer
 
-noted_asked : (asked : Asked) (answer : Answer) (rows : CentreRows) (items : List Item)
+noted_asked : (asked : PendingEvent) (answer : Answer) (rows : CentreRows) (items : List Item)
     (told : List Arrival) (turns : List Turn) (centre : CentreRows) (course : Course)
     (held : Option Coming) (behind : Behind) (stage : Stage) (out : List ℕ)
-    (farewell : Vec ℕ Global) (new : Talking) → StandsAt rows items told turns
+    (farewell : Vec ℕ Global) (new : Talking) → ConnStandsAt rows items told turns
     (talking centre course held behind stage (progresses.Running asked) out farewell)
     → IsAnswerTo asked (Ok answer) → NotesAsked asked answer
     (talking centre course held behind stage (progresses.Running asked) out farewell) new
-    → StandsAt rows items told turns new
+    → ConnStandsAt rows items told turns new
 noted_asked (askeds.Opening peer granted) answer rows items told turns centre course held behind
     stage out farewell new s right n =
     opening_noted rows items told turns peer granted centre course held behind stage out farewell
@@ -522,7 +522,7 @@ noted_asked (askeds.Opening peer granted) answer rows items told turns centre co
 noted_asked (askeds.Requesting invoke) (answers.Reply reply) rows items told turns centre course
     held behind stage out farewell new s right n =
     requesting_noted rows items told turns invoke
-    (within (detail_at stage) invoke (pdu_in invoke reply)) centre course held behind stage out
+    (within (detail_at stage) invoke (pdu_of_reply invoke reply)) centre course held behind stage out
     farewell new s n
 noted_asked (askeds.Requesting invoke) (answers.Opened key) rows items told turns centre course
     held behind stage out farewell new s right n = absurd right
@@ -542,7 +542,7 @@ noted_asked askeds.Nothing answer rows items told turns centre course held behin
     farewell new s right n = absurd right
 
 peer_closed : (rows : CentreRows) (stage : Stage) → IfSome (stage_peer stage) (IsPeer rows)
-    → IfSome (stage_peer (closed stage)) (IsPeer rows)
+    → IfSome (stage_peer (stage_closed stage)) (IsPeer rows)
 peer_closed rows stages.Early p = p
 peer_closed rows (stages.Open peer detail) p = p
 peer_closed rows (stages.Closed peer) p = p
@@ -550,11 +550,11 @@ peer_closed rows (stages.Closed peer) p = p
 noted_by : (progress : Progress) (answer : Answer) (rows : CentreRows) (items : List Item)
     (told : List Arrival) (turns : List Turn) (centre : CentreRows) (course : Course)
     (held : Option Coming) (behind : Behind) (stage : Stage) (out : List ℕ)
-    (farewell : Vec ℕ Global) (new : Talking) → StandsAt rows items told turns
+    (farewell : Vec ℕ Global) (new : Talking) → ConnStandsAt rows items told turns
     (talking centre course held behind stage progress out farewell)
-    → IsAnswerFor progress (Ok answer) → Notes progress answer
+    → IsAnswerFor progress (Ok answer) → NotesAnswer progress answer
     (talking centre course held behind stage progress out farewell) new
-    → StandsAt rows items told turns new
+    → ConnStandsAt rows items told turns new
 noted_by (progresses.Running asked) answer rows items told turns centre course held behind stage
     out farewell new s right n =
     noted_asked asked answer rows items told turns centre course held behind stage out farewell new
@@ -563,8 +563,8 @@ noted_by progresses.Refused answer rows items told turns centre course held behi
     farewell new s right n = absurd right
 noted_by (progresses.Leaving end asked) answer rows items told turns centre course held behind
     stage out farewell new s right n =
-    parted_stands rows items told turns end (parted course end)
-    (talking centre course held behind (closed stage) (progresses.Leaving end asked) out farewell)
+    parted_stands rows items told turns end (parting_octets course end)
+    (talking centre course held behind (stage_closed stage) (progresses.Leaving end asked) out farewell)
     new n s.rows_are (peer_closed rows stage s.peer)
 noted_by (progresses.Ended end) answer rows items told turns centre course held behind stage out
     farewell new s right n = absurd right
@@ -574,8 +574,8 @@ noted_by (progresses.Cut end) answer rows items told turns centre course held be
 -- it stands where it stood
 pub noted_stands : (answer : Answer) (rows : CentreRows) (items : List Item) (told : List Arrival)
     (turns : List Turn) (old new : Talking) → IsAnswerFor old.progress (Ok answer)
-    → Notes old.progress answer old new → StandsAt rows items told turns old
-    → StandsAt rows items told turns new
+    → NotesAnswer old.progress answer old new → ConnStandsAt rows items told turns old
+    → ConnStandsAt rows items told turns new
 noted_stands answer rows items told turns old new right n s =
     noted_by old.progress answer rows items told turns old.rows old.course old.held old.behind
     old.stage old.out old.farewell new s right n
@@ -590,7 +590,7 @@ behind_none out octets rest e =
     ∙ ap (λ (r : List ℕ). (out ++ r) ++ octets) (sym e)
 
 pub adds_said : (octets : List ℕ) (old new : Talking) → old.farewell.items ≡ []
-    → Adds octets old new → pending_of new ≡ pending_of old ++ octets
+    → AddsAnswer octets old new → pending_of new ≡ pending_of old ++ octets
 adds_said octets old new none a = ap (λ (v : Talking). pending_of v) a.is
     ∙ ap (λ (o : List ℕ). o ++ old.farewell.items) a.said_is
     ∙ behind_none old.out octets old.farewell.items none
@@ -604,9 +604,9 @@ parts_said progress octets old new p = ap (λ (v : Talking). pending_of v) p.is
 closed_said_so : (cause : Cause) (old new : Talking) → old.farewell.items ≡ []
     → EndsFor cause old new → pending_of new ≡ pending_of old ++ closed_said old.course cause
 closed_said_so causes.Concluded old new none n =
-    adds_said (said old.course.setup pdus.Concluded) (free old) new none n.0
+    adds_said (said old.course.setup pdus.Concluded) (with_nothing_waiting old) new none n.0
 closed_said_so causes.Released old new none n =
-    adds_said (release_octets old.course.setup) (finished (progresses.Ended conn_ends.Finished) old)
+    adds_said (release_wire old.course.setup) (finished (progresses.Ended conn_ends.Finished) old)
     new none n
 closed_said_so causes.Aborted old new none n =
     ap (λ (v : Talking). pending_of v) n ∙ sym (append-nil (pending_of old))
@@ -614,9 +614,9 @@ closed_said_so causes.LinkEnd old new none n =
     ap (λ (v : Talking). pending_of v) n ∙ sym (append-nil (pending_of old))
 closed_said_so (causes.Broken fault) old new none n =
     parts_said (progresses.Ended (conn_ends.Refused fault))
-    (parted old.course (conn_ends.Refused fault)) old new n
+    (parting_octets old.course (conn_ends.Refused fault)) old new n
 
-asked_said : (asked : Asked) (answer : Answer) (old new : Talking) → old.farewell.items ≡ []
+asked_said : (asked : PendingEvent) (answer : Answer) (old new : Talking) → old.farewell.items ≡ []
     → IsAnswerTo asked (Ok answer) → NotesAsked asked answer old new
     → pending_of new ≡ pending_of old ++ answer_said old.course old.stage asked answer
 asked_said (askeds.Opening peer granted) (answers.Opened key) old new none right n =
@@ -631,7 +631,7 @@ asked_said (askeds.Opening peer granted) answers.Noted old new none right n = ab
 asked_said (askeds.Requesting invoke) (answers.Reply reply) old new none right n =
     ap (λ (v : Talking). pending_of v) n
     ∙ behind_none old.out
-    (said old.course.setup (within (detail_at old.stage) invoke (pdu_in invoke reply)))
+    (said old.course.setup (within (detail_at old.stage) invoke (pdu_of_reply invoke reply)))
     old.farewell.items none
 asked_said (askeds.Requesting invoke) (answers.Opened key) old new none right n = absurd right
 asked_said (askeds.Requesting invoke) (answers.Reports reports) old new none right n =
@@ -645,7 +645,7 @@ asked_said askeds.Taking (answers.Reply reply) old new none right n = absurd rig
 asked_said askeds.Taking answers.Closed old new none right n = absurd right
 asked_said askeds.Taking answers.Noted old new none right n = absurd right
 asked_said (askeds.Closing cause) answers.Closed old new none right n =
-    closed_said_so cause (record old { stage = closed old.stage }) new none n
+    closed_said_so cause (record old { stage = stage_closed old.stage }) new none n
 asked_said (askeds.Closing cause) (answers.Opened key) old new none right n = absurd right
 asked_said (askeds.Closing cause) (answers.Reply reply) old new none right n = absurd right
 asked_said (askeds.Closing cause) (answers.Reports reports) old new none right n = absurd right
@@ -654,14 +654,14 @@ asked_said askeds.Nothing answer old new none right n = absurd right
 
 -- what the peer is answered stands behind all that is still to be sent
 pub noted_said : (progress : Progress) (answer : Answer) (old new : Talking)
-    → old.farewell.items ≡ [] → IsAnswerFor progress (Ok answer) → Notes progress answer old new
+    → old.farewell.items ≡ [] → IsAnswerFor progress (Ok answer) → NotesAnswer progress answer old new
     → pending_of new ≡ pending_of old ++ told_said progress old.stage old.course (Ok answer)
 noted_said (progresses.Running asked) answer old new none right n =
     asked_said asked answer old new none right n
 noted_said progresses.Refused answer old new none right n = absurd right
 noted_said (progresses.Leaving end asked) answer old new none right n =
-    parts_said (progresses.Cut end) (parted old.course end)
-    (record old { stage = closed old.stage }) new n
+    parts_said (progresses.Cut end) (parting_octets old.course end)
+    (record old { stage = stage_closed old.stage }) new n
 noted_said (progresses.Ended end) answer old new none right n = absurd right
 noted_said (progresses.Cut end) answer old new none right n = absurd right
 
@@ -675,7 +675,7 @@ closed_progress causes.Aborted old new n = ap (λ (v : Talking). v.progress) n
 closed_progress causes.LinkEnd old new n = ap (λ (v : Talking). v.progress) n
 closed_progress (causes.Broken fault) old new n = ap (λ (v : Talking). v.progress) n.is
 
-asked_progress : (asked : Asked) (answer : Answer) (old new : Talking)
+asked_progress : (asked : PendingEvent) (answer : Answer) (old new : Talking)
     → IsAnswerTo asked (Ok answer) → NotesAsked asked answer old new
     → new.progress ≡ progress_by asked
 asked_progress (askeds.Opening peer granted) answer old new right n =
@@ -688,11 +688,11 @@ asked_progress (askeds.Requesting invoke) answers.Closed old new right n = absur
 asked_progress (askeds.Requesting invoke) answers.Noted old new right n = absurd right
 asked_progress askeds.Taking answer old new right n = ap (λ (v : Talking). v.progress) n
 asked_progress (askeds.Closing cause) answer old new right n =
-    closed_progress cause (record old { stage = closed old.stage }) new n
+    closed_progress cause (record old { stage = stage_closed old.stage }) new n
 asked_progress askeds.Nothing answer old new right n = absurd right
 
 pub noted_progress : (progress : Progress) (answer : Answer) (old new : Talking)
-    → IsAnswerFor progress (Ok answer) → Notes progress answer old new
+    → IsAnswerFor progress (Ok answer) → NotesAnswer progress answer old new
     → new.progress ≡ progress_told progress old.stage (Ok answer)
 noted_progress (progresses.Running asked) answer old new right n =
     asked_progress asked answer old new right n
@@ -706,32 +706,32 @@ noted_progress (progresses.Cut end) answer old new right n = absurd right
 
 left_said : (b : Bool) (end : ConnEnd) (old new : Talking)
     → MatchBool b (new ≡ record old { progress = progresses.Leaving end false })
-    (Parts (progresses.Cut end) (parted old.course end) old new)
-    → pending_of new ≡ pending_of old ++ (if b then [] else parted old.course end)
+    (Parts (progresses.Cut end) (parting_octets old.course end) old new)
+    → pending_of new ≡ pending_of old ++ (if b then [] else parting_octets old.course end)
 left_said true end old new l =
     ap (λ (v : Talking). pending_of v) l ∙ sym (append-nil (pending_of old))
 left_said false end old new l =
-    parts_said (progresses.Cut end) (parted old.course end) old new l
+    parts_said (progresses.Cut end) (parting_octets old.course end) old new l
 
 left_progress : (b : Bool) (end : ConnEnd) (old new : Talking)
     → MatchBool b (new ≡ record old { progress = progresses.Leaving end false })
-    (Parts (progresses.Cut end) (parted old.course end) old new)
+    (Parts (progresses.Cut end) (parting_octets old.course end) old new)
     → new.progress ≡ (if b then progresses.Leaving end false else progresses.Cut end)
 left_progress true end old new l = ap (λ (v : Talking). v.progress) l
 left_progress false end old new l = ap (λ (v : Talking). v.progress) l.is
 
 left_stage : (b : Bool) (end : ConnEnd) (old new : Talking)
     → MatchBool b (new ≡ record old { progress = progresses.Leaving end false })
-    (Parts (progresses.Cut end) (parted old.course end) old new)
+    (Parts (progresses.Cut end) (parting_octets old.course end) old new)
     → new.stage ≡ old.stage
 left_stage true end old new l = ap (λ (v : Talking). v.stage) l
 left_stage false end old new l = ap (λ (v : Talking). v.stage) l.is
 
 pub refused_said : (progress : Progress) (fault : StepFault) (old new : Talking)
-    → IsAnswerFor progress (Err fault) → IsLeft (end_of fault) old new
+    → IsAnswerFor progress (Err fault) → IsLeft (end_of_fault fault) old new
     → pending_of new ≡ pending_of old ++ told_said progress old.stage old.course (Err fault)
 refused_said (progresses.Running asked) fault old new right l =
-    left_said (is_open_stage old.stage) (end_of fault) old new l
+    left_said (is_open_stage old.stage) (end_of_fault fault) old new l
 refused_said progresses.Refused fault old new right l = absurd right
 refused_said (progresses.Leaving end true) fault old new right l = absurd right
 refused_said (progresses.Leaving end false) fault old new right l = absurd right
@@ -739,10 +739,10 @@ refused_said (progresses.Ended end) fault old new right l = absurd right
 refused_said (progresses.Cut end) fault old new right l = absurd right
 
 pub refused_progress : (progress : Progress) (fault : StepFault) (old new : Talking)
-    → IsAnswerFor progress (Err fault) → IsLeft (end_of fault) old new
+    → IsAnswerFor progress (Err fault) → IsLeft (end_of_fault fault) old new
     → new.progress ≡ progress_told progress old.stage (Err fault)
 refused_progress (progresses.Running asked) fault old new right l =
-    left_progress (is_open_stage old.stage) (end_of fault) old new l
+    left_progress (is_open_stage old.stage) (end_of_fault fault) old new l
 refused_progress progresses.Refused fault old new right l = absurd right
 refused_progress (progresses.Leaving end true) fault old new right l = absurd right
 refused_progress (progresses.Leaving end false) fault old new right l = absurd right
@@ -750,10 +750,10 @@ refused_progress (progresses.Ended end) fault old new right l = absurd right
 refused_progress (progresses.Cut end) fault old new right l = absurd right
 
 pub refused_stage : (progress : Progress) (fault : StepFault) (old new : Talking)
-    → IsAnswerFor progress (Err fault) → IsLeft (end_of fault) old new
+    → IsAnswerFor progress (Err fault) → IsLeft (end_of_fault fault) old new
     → new.stage ≡ stage_told progress (Err fault) old.stage
 refused_stage (progresses.Running asked) fault old new right l =
-    left_stage (is_open_stage old.stage) (end_of fault) old new l
+    left_stage (is_open_stage old.stage) (end_of_fault fault) old new l
 refused_stage progresses.Refused fault old new right l = absurd right
 refused_stage (progresses.Leaving end true) fault old new right l = absurd right
 refused_stage (progresses.Leaving end false) fault old new right l = absurd right
@@ -761,7 +761,7 @@ refused_stage (progresses.Ended end) fault old new right l = absurd right
 refused_stage (progresses.Cut end) fault old new right l = absurd right
 
 room_answered : (progress : Progress) (told : Result Answer StepFault) (v : Talking)
-    → IsAnswerFor progress told → RoomBy progress v → HasRoom v
+    → IsAnswerFor progress told → RoomBy progress v → HasAbortRoom v
 room_answered (progresses.Running asked) told v right r = r
 room_answered progresses.Refused told v right r = r
 room_answered (progresses.Leaving end asked) told v right r = r
@@ -770,7 +770,7 @@ room_answered (progresses.Cut end) told v right r = absurd right
 
 -- where an answer may be told there is room for the octets of an abort
 pub answer_room : (told : Result Answer StepFault) (v : Talking) → IsAnswerFor v.progress told
-    → IsPlaced v → HasRoom v
+    → IsPlaced v → HasAbortRoom v
 answer_room told v right p = room_answered v.progress told v right p.stands.room
 
 leaving_right : (progress : Progress) (end : ConnEnd) (asked : Bool) (answer : Answer)
@@ -788,15 +788,15 @@ on_ok T E P Q (Err e) f p = tt
 -- an answer was told
 pub told_stands : (told : Result Answer StepFault) (answer : Answer) (rows : CentreRows)
     (items : List Item) (heard : List Arrival) (turns : List Turn) (old new : Talking)
-    → told ≡ Ok answer → IsAnswerFor old.progress told → Notes old.progress answer old new
-    → StandsAt rows items heard turns old → StandsAt rows items heard turns new
+    → told ≡ Ok answer → IsAnswerFor old.progress told → NotesAnswer old.progress answer old new
+    → ConnStandsAt rows items heard turns old → ConnStandsAt rows items heard turns new
 told_stands told answer rows items heard turns old new e right n s =
     noted_stands answer rows items heard turns old new
     (subst (λ (t : Result Answer StepFault). IsAnswerFor old.progress t) e right) n s
 
 pub told_octets : (told : Result Answer StepFault) (answer : Answer) (old new : Talking)
     → told ≡ Ok answer → IsAnswerFor old.progress told → IsPlaced old
-    → Notes old.progress answer old new → pending_of new
+    → NotesAnswer old.progress answer old new → pending_of new
     ≡ pending_of old ++ told_said old.progress old.stage old.course told
 told_octets told answer old new e right p n =
     noted_said old.progress answer old new (answer_room told old right p).unsaid
@@ -805,7 +805,7 @@ told_octets told answer old new e right p n =
     ++ told_said old.progress old.stage old.course t) (sym e)
 
 pub told_goes : (told : Result Answer StepFault) (answer : Answer) (old new : Talking)
-    → told ≡ Ok answer → IsAnswerFor old.progress told → Notes old.progress answer old new
+    → told ≡ Ok answer → IsAnswerFor old.progress told → NotesAnswer old.progress answer old new
     → new.progress ≡ progress_told old.progress old.stage told
 told_goes told answer old new e right n =
     noted_progress old.progress answer old new
@@ -814,7 +814,7 @@ told_goes told answer old new e right n =
 
 -- a refusal was told
 abbrev pub Refuses : Result Answer StepFault → StepFault → ConnEnd → Talking → Talking → Type 0
-Refuses told fault end old new = (told ≡ Err fault) × (end ≡ end_of fault)
+Refuses told fault end old new = (told ≡ Err fault) × (end ≡ end_of_fault fault)
     × IsAnswerFor old.progress told × IsLeft end old new
 
 pub refused_octets : (told : Result Answer StepFault) (fault : StepFault) (end : ConnEnd)
@@ -861,11 +861,11 @@ pub release_adds : (progress : Progress) (view old new : Talking) (course : Cour
     → new ≡ finished progress (record view { course = course; out = out })
     → out ≡ view.out
     ++ wire view.course.setup.size (leaving view.course.known.side view.course.setup.acse)
-    → Adds (release_octets old.course.setup) (finished progress old) new
+    → AddsAnswer (release_wire old.course.setup) (finished progress old) new
 release_adds progress view old new course out e side is o =
     subst (λ (v : Talking). v.course.known.side ≡ sides.Called
-    → Adds (release_octets v.course.setup) (finished progress v) new) e
-    (λ called. subst (λ (n : Talking). Adds (release_octets view.course.setup)
+    → AddsAnswer (release_wire v.course.setup) (finished progress v) new) e
+    (λ called. subst (λ (n : Talking). AddsAnswer (release_wire view.course.setup)
     (finished progress view) n) (sym is)
     (record {
       is = refl;
@@ -910,10 +910,10 @@ pub refused_stands : (told : Result Answer StepFault) (rows : CentreRows) (items
     → new ≡ record old {
       progress = progresses.Refused;
       stage = stage_told old.progress told old.stage;
-    } → StandsAt rows items heard turns old → StandsAt rows items heard turns new
+    } → ConnStandsAt rows items heard turns old → ConnStandsAt rows items heard turns new
 refused_stands told rows items heard turns old new right e s =
     let room = room_answered old.progress told old right s.room in
-    subst (λ (v : Talking). StandsAt rows items heard turns v) (sym e) (record {
+    subst (λ (v : Talking). ConnStandsAt rows items heard turns v) (sym e) (record {
       rows_are = s.rows_are;
       peer = peer_told old.progress told rows items heard turns old s.goes right s.peer;
       goes = tt;
@@ -932,11 +932,11 @@ answered_no_fault told answer fault e f = ok_no_err (sym e ∙ f)
     ok_no_err e = absurd cc
 
 pub refused_left : (told : Result Answer StepFault) (fault other : StepFault) (end : ConnEnd)
-    (old new : Talking) → told ≡ Err fault → told ≡ Err other → end ≡ end_of fault
-    → IsLeft end old new → IsLeft (end_of other) old new
+    (old new : Talking) → told ≡ Err fault → told ≡ Err other → end ≡ end_of_fault fault
+    → IsLeft end old new → IsLeft (end_of_fault other) old new
 refused_left told fault other end old new e f is l =
     subst (λ (x : ConnEnd). IsLeft x old new)
-    (is ∙ ap (λ (x : StepFault). end_of x) (ap (λ (r : Result Answer StepFault).
+    (is ∙ ap (λ (x : StepFault). end_of_fault x) (ap (λ (r : Result Answer StepFault).
     fault_or fault r) (sym e ∙ f))) l
 
 pub on_err : (T E P Q : Type 0) (result : Result T E) → (P → Q) → OnErr result P → OnErr result Q

@@ -24,13 +24,13 @@ use Rattle.stack_assoc.specs.Tellings.{StopsTelling}
 use Rattle.stack_assoc.specs.Handing.{is_offered_below, is_too_little}
 use Rattle.stack_assoc.specs.Expectations.{setup_after}
 use Rattle.tase_views.specs.declared.event.EventKind.TheVariants as events
-use Rattle.tase_map.specs.Asked.{call_in, invalid}
-use Rattle.tase_map.specs.Inputs.{Item, text_of}
+use Rattle.tase_map.specs.Asked.{call_of_request, invalid}
+use Rattle.tase_map.specs.Inputs.{Item, text_given}
 use Rattle.tase_map.specs.Readings.{reading_of}
 use Rattle.tase_map.specs.Turns.{Turn, offers, offers_badly, asks, concludes, releases, aborts}
 use Rattle.tase_map.specs.Turns.{breaks, ends, pauses, turn_of_pdu}
-use Rattle.tase_map.specs.Asks.{begins, finishes, is_last, is_open, open_of, event_if}
-use Rattle.tase_map.specs.Out.{abort_octets, release_octets}
+use Rattle.tase_map.specs.Asks.{begins, finishes, is_last, is_open_behind, open_of, event_if}
+use Rattle.tase_map.specs.Out.{abort_wire, release_wire}
 use Rattle.tase_map.proofs.Fronts.{setup_fixed}
 use Rattle.tase_map.proofs.ReadingLaws.{reading_only}
 use Rattle.tase_conn.specs.declared.stage.ConnEnd.TheVariants as conn_ends
@@ -39,11 +39,11 @@ use Rattle.tase_conn.specs.declared.stage.Stage.TheVariants as stages
 use Rattle.tase_conn.specs.declared.stage.Coming.TheVariants as comings
 use Rattle.tase_conn.specs.declared.stage.Cause.{Cause}
 use Rattle.tase_conn.specs.declared.stage.Cause.TheVariants as causes
-use Rattle.tase_conn.specs.declared.stage.Asked.TheVariants as askeds
+use Rattle.tase_conn.specs.declared.stage.PendingEvent.TheVariants as askeds
 use Rattle.tase_conn.specs.Talking.{Talking}
 use Rattle.tase_conn.specs.Places.{Runs, InputIsDue, PduIsDue, IsAgreed, has_begun}
 use Rattle.tase_conn.specs.Places.{has_finished}
-use Rattle.tase_conn.specs.Places.{is_connected, standing_by, turn_for, has_concluded, listed}
+use Rattle.tase_conn.specs.Places.{is_connected, standing_by, turn_for, has_concluded, turn_listed}
 use Rattle.tase_conn.specs.Wanting.{behind_close, refusal_said}
 use Rattle.tase_conn.specs.Acting.{coming_by}
 use Rattle.tase_conn.proofs.Acted.{HasToldAll, ends_with, Asking, Ending, Passing, any_on}
@@ -134,7 +134,7 @@ pub asks_request : (rows : CentreRows) (told : List Arrival) (turns : List Turn)
     (request : Request) (stage : Stage)
     → PduIsDue stage (pdus.Request invoke request) → IsAgreed told stage askeds.Nothing
     → list_any (is_last rows) turns ≡ false
-    → Asking rows told turns (asks invoke (call_in request)) (events.Request (call_in request))
+    → Asking rows told turns (asks invoke (call_of_request request)) (events.Request (call_of_request request))
     stage (askeds.Requesting invoke) (comings.Input (inputs.Pdu (pdus.Request invoke request)))
 asks_request rows told turns invoke request stages.Early due agreed goes = absurd cc
 asks_request rows told turns invoke request (stages.Closed p) due agreed goes = absurd cc
@@ -148,7 +148,7 @@ asks_request rows told turns invoke request (stages.Open p d) due agreed goes = 
   connected = refl;
   concluded = λ c. absurd (false≢true c);
   agreed = agreed;
-  last = (call_in request, ends_with rows turns (asks invoke (call_in request)) goes);
+  last = (call_of_request request, ends_with rows turns (asks invoke (call_of_request request)) goes);
   asks_are = refl;
   quiet = λ setup. refl;
   waits = tt;
@@ -180,7 +180,7 @@ asks_badly rows told turns invoke (stages.Open p d) due agreed goes = record {
 }
 
 pub asks_take : (rows : CentreRows) (told : List Arrival) (turns : List Turn) (peer : ℕ) (detail : ℤ)
-    → IsAgreed told (stages.Open peer detail) askeds.Nothing → is_open rows turns ≡ true
+    → IsAgreed told (stages.Open peer detail) askeds.Nothing → is_open_behind rows turns ≡ true
     → list_any (is_last rows) turns ≡ false
     → Asking rows told turns pauses events.Take (stages.Open peer detail) askeds.Taking
     comings.Pause
@@ -205,14 +205,14 @@ close_for : (b : Bool) → b ≡ true → event_if b events.Close ≡ events.Clo
 close_for b e = ap (λ (x : Bool). event_if x events.Close) e
 
 quiet_open : (rows : CentreRows) (turns : List Turn) (octets : List ℕ)
-    → is_open rows turns ≡ true → behind_close rows turns octets ≡ []
+    → is_open_behind rows turns ≡ true → behind_close rows turns octets ≡ []
 quiet_open rows turns octets e = ap (λ (b : Bool). if b then [] else
     (if list_any (begins rows) turns then octets else [])) e
 
 -- its close
 pub asks_close : (rows : CentreRows) (told : List Arrival) (turns : List Turn) (cause : Cause)
     (peer : ℕ) (detail : ℤ) → IsAgreed told (stages.Open peer detail) askeds.Nothing
-    → is_open rows turns ≡ true → list_any (is_last rows) turns ≡ false
+    → is_open_behind rows turns ≡ true → list_any (is_last rows) turns ≡ false
     → list_any finishes turns ≡ false
     → Asking rows told turns (turn_for cause) events.Close (stages.Open peer detail)
     (askeds.Closing cause) (coming_by cause)
@@ -227,7 +227,7 @@ asks_close rows told turns causes.Concluded peer detail agreed is goes shut = re
   concluded = λ c. refl;
   agreed = agreed;
   last = (ends_with rows turns concludes goes, shut);
-  asks_are = close_for (is_open rows turns) is;
+  asks_are = close_for (is_open_behind rows turns) is;
   quiet = λ setup. refl;
   waits = tt;
   due = tt;
@@ -243,8 +243,8 @@ asks_close rows told turns causes.Released peer detail agreed is goes shut = rec
   concluded = λ c. absurd (false≢true c);
   agreed = agreed;
   last = (ends_with rows turns releases goes, shut);
-  asks_are = close_for (is_open rows turns) is;
-  quiet = λ setup. quiet_open rows turns (release_octets setup) is;
+  asks_are = close_for (is_open_behind rows turns) is;
+  quiet = λ setup. quiet_open rows turns (release_wire setup) is;
   waits = tt;
   due = tt;
 }
@@ -259,7 +259,7 @@ asks_close rows told turns causes.Aborted peer detail agreed is goes shut = reco
   concluded = λ c. absurd (false≢true c);
   agreed = agreed;
   last = (ends_with rows turns aborts goes, shut);
-  asks_are = close_for (is_open rows turns) is;
+  asks_are = close_for (is_open_behind rows turns) is;
   quiet = λ setup. refl;
   waits = tt;
   due = tt;
@@ -275,7 +275,7 @@ asks_close rows told turns causes.LinkEnd peer detail agreed is goes shut = reco
   concluded = λ c. absurd (false≢true c);
   agreed = agreed;
   last = (ends_with rows turns ends goes, shut);
-  asks_are = close_for (is_open rows turns) is;
+  asks_are = close_for (is_open_behind rows turns) is;
   quiet = λ setup. refl;
   waits = tt;
   due = tt;
@@ -291,8 +291,8 @@ asks_close rows told turns (causes.Broken fault) peer detail agreed is goes shut
   concluded = λ c. absurd (false≢true c);
   agreed = agreed;
   last = (ends_with rows turns breaks goes, shut);
-  asks_are = close_for (is_open rows turns) is;
-  quiet = λ setup. quiet_open rows turns (abort_octets setup) is;
+  asks_are = close_for (is_open_behind rows turns) is;
+  quiet = λ setup. quiet_open rows turns (abort_wire setup) is;
   waits = tt;
   due = tt;
 }
@@ -304,7 +304,7 @@ pub setup_known : (rows : CentreRows) (items : List Item) (told : List Arrival) 
     (v : Talking) → Runs rows items told turns askeds.Nothing v
     → is_connected v.stage askeds.Nothing v.held ≡ true → v.course.setup ≡ setup_after told
 setup_known rows items told turns v r is =
-    (setup_fixed (text_of items) told v.course r.stands (r.connected ∙ is)).0
+    (setup_fixed (text_given items) told v.course r.stands (r.connected ∙ is)).0
 
 pub declines_offer : (rows : CentreRows) (items : List Item) (told : List Arrival)
     (turns : List Turn) (title : Option (List ℕ)) (initiate : Initiate) (setup : AssociationSetup)
@@ -341,7 +341,7 @@ none_for b e = ap (λ (x : Bool). event_if x events.Close) e
 
 -- behind the close of an association it is said, before its open nothing is
 said_closed : (rows : CentreRows) (turns : List Turn) (octets : List ℕ) (b : Bool)
-    → is_open rows turns ≡ false → list_any (begins rows) turns ≡ b
+    → is_open_behind rows turns ≡ false → list_any (begins rows) turns ≡ b
     → behind_close rows turns octets ≡ (if b then octets else [])
 said_closed rows turns octets b e f =
     ap (λ (x : Bool). if x then [] else (if list_any (begins rows) turns then octets else [])) e
@@ -349,22 +349,22 @@ said_closed rows turns octets b e f =
 
 pub ends_released : (rows : CentreRows) (items : List Item) (told : List Arrival)
     (turns : List Turn) (setup : AssociationSetup) → setup ≡ setup_after told
-    → is_open rows turns ≡ false → list_any (begins rows) turns ≡ true
+    → is_open_behind rows turns ≡ false → list_any (begins rows) turns ≡ true
     → HasToldAll items told conn_ends.Finished
-    → Ending rows items told turns releases conn_ends.Finished (release_octets setup)
+    → Ending rows items told turns releases conn_ends.Finished (release_wire setup)
     (coming_by causes.Released)
 ends_released rows items told turns setup known e f all = record {
   told_all = all;
   turn_is = refl;
   is_last = refl;
   cause = refl;
-  asks_are = none_for (is_open rows turns) e;
-  said = said_closed rows turns (release_octets (setup_after told)) true e f
-      ∙ ap (λ (s : AssociationSetup). release_octets s) (sym known);
+  asks_are = none_for (is_open_behind rows turns) e;
+  said = said_closed rows turns (release_wire (setup_after told)) true e f
+      ∙ ap (λ (s : AssociationSetup). release_wire s) (sym known);
 }
 
 pub ends_aborted : (rows : CentreRows) (items : List Item) (told : List Arrival)
-    (turns : List Turn) → is_open rows turns ≡ false
+    (turns : List Turn) → is_open_behind rows turns ≡ false
     → HasToldAll items told conn_ends.PeerEnd
     → Ending rows items told turns aborts conn_ends.PeerEnd [] (coming_by causes.Aborted)
 ends_aborted rows items told turns e all = record {
@@ -372,12 +372,12 @@ ends_aborted rows items told turns e all = record {
   turn_is = refl;
   is_last = refl;
   cause = inl refl;
-  asks_are = none_for (is_open rows turns) e;
+  asks_are = none_for (is_open_behind rows turns) e;
   said = refl;
 }
 
 pub ends_linked : (rows : CentreRows) (items : List Item) (told : List Arrival)
-    (turns : List Turn) → is_open rows turns ≡ false
+    (turns : List Turn) → is_open_behind rows turns ≡ false
     → HasToldAll items told conn_ends.PeerEnd
     → Ending rows items told turns ends conn_ends.PeerEnd [] (coming_by causes.LinkEnd)
 ends_linked rows items told turns e all = record {
@@ -385,41 +385,41 @@ ends_linked rows items told turns e all = record {
   turn_is = refl;
   is_last = refl;
   cause = inr refl;
-  asks_are = none_for (is_open rows turns) e;
+  asks_are = none_for (is_open_behind rows turns) e;
   said = refl;
 }
 
 -- the rule that was broken is the one that the octets break
 pub broken_is : (items : List Item) (told : List Arrival) (fault : StackFault) (v : Talking)
-    → CourseStands called (text_of items) told v.course → v.course.fault ≡ Some fault
-    → (reading_of (text_of items)).broken ≡ Some fault
+    → CourseStands called (text_given items) told v.course → v.course.fault ≡ Some fault
+    → (reading_of (text_given items)).broken ≡ Some fault
 broken_is items told fault v s e =
-    ap (λ r. r.broken) (reading_only (text_of items) told (Some fault)
+    ap (λ r. r.broken) (reading_only (text_given items) told (Some fault)
     (subst (λ (f : Option StackFault). MatchOption f
-    (courses.ReadsMessages called (text_of items) told v.course)
-    (λ g. StopsTelling called (text_of items) told g)) e s.reads))
+    (courses.ReadsMessages called (text_given items) told v.course)
+    (λ g. StopsTelling called (text_given items) told g)) e s.reads))
 
 pub ends_broken : (rows : CentreRows) (items : List Item) (told : List Arrival)
     (turns : List Turn) (fault : StackFault) (setup : AssociationSetup) (b : Bool)
-    → setup ≡ setup_after told ⊎ (b ≡ false) → is_open rows turns ≡ false
-    → list_any (begins rows) turns ≡ b → (reading_of (text_of items)).broken ≡ Some fault
+    → setup ≡ setup_after told ⊎ (b ≡ false) → is_open_behind rows turns ≡ false
+    → list_any (begins rows) turns ≡ b → (reading_of (text_given items)).broken ≡ Some fault
     → HasToldAll items told (conn_ends.Refused fault)
     → Ending rows items told turns breaks (conn_ends.Refused fault)
-    (if b then abort_octets setup else []) (coming_by (causes.Broken fault))
+    (if b then abort_wire setup else []) (coming_by (causes.Broken fault))
 ends_broken rows items told turns fault setup b known e f broken all = record {
   told_all = all;
   turn_is = refl;
   is_last = refl;
   cause = (refl, broken);
-  asks_are = none_for (is_open rows turns) e;
-  said = said_closed rows turns (abort_octets (setup_after told)) b e f
+  asks_are = none_for (is_open_behind rows turns) e;
+  said = said_closed rows turns (abort_wire (setup_after told)) b e f
       ∙ said_known b setup (setup_after told) known;
 }
   where
     said_known : (b : Bool) (setup other : AssociationSetup) → setup ≡ other ⊎ (b ≡ false)
-        → (if b then abort_octets other else []) ≡ (if b then abort_octets setup else [])
+        → (if b then abort_wire other else []) ≡ (if b then abort_wire setup else [])
     said_known b setup other (inl k) =
-        ap (λ (s : AssociationSetup). if b then abort_octets s else []) (sym k)
+        ap (λ (s : AssociationSetup). if b then abort_wire s else []) (sym k)
     said_known true setup other (inr k) = absurd (false≢true (sym k))
     said_known false setup other (inr k) = refl
 
@@ -434,7 +434,7 @@ pub passes_pdu : (rows : CentreRows) (turns : List Turn) (stage : Stage) (pdu : 
 passes_pdu rows turns stage pdu no_turn b f l =
     let e : turns ++ [] ≡ turns = append-nil turns in
     record {
-      turns_are = ap (λ (t : Option Turn). listed t) no_turn;
+      turns_are = ap (λ (t : Option Turn). turn_listed t) no_turn;
       fault = refl;
       begun = ap (λ (ts : List Turn). list_any (begins rows) ts) e ∙ b;
       finished = ap (λ (ts : List Turn). list_any finishes ts) e ∙ f;

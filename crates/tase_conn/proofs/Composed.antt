@@ -19,17 +19,17 @@ use Rattle.tase_conn.specs.declared.stage.ConnEnd.{ConnEnd}
 use Rattle.tase_conn.specs.declared.stage.Behind.{Behind}
 use Rattle.tase_conn.specs.declared.stage.Behind.TheVariants as behinds
 use Rattle.tase_conn.specs.declared.stage.Coming.{Coming}
-use Rattle.tase_conn.specs.declared.stage.Asked.TheVariants as askeds
+use Rattle.tase_conn.specs.declared.stage.PendingEvent.TheVariants as askeds
 use Rattle.tase_conn.specs.declared.stage.Progress.{Progress}
 use Rattle.tase_conn.specs.declared.stage.Progress.TheVariants as progresses
 use Rattle.tase_conn.specs.declared.stage.Step.TheVariants as steps
 use Rattle.tase_conn.specs.Talking.{Talking, pending_of, IsResting, IsFree}
-use Rattle.tase_conn.specs.Places.{StandsAt, IsPlaced, Runs, GoesBy, ReadsBy, Begins}
+use Rattle.tase_conn.specs.Places.{ConnStandsAt, IsPlaced, Runs, GoesBy, ReadsBy, BeginsTurns}
 use Rattle.tase_conn.specs.Places.{turns_held}
 use Rattle.tase_conn.specs.Places.{fault_seen, RoomBy}
-use Rattle.tase_conn.specs.Wanting.{quiet_at, quiet_behind, GoesOn, IsWhole, Reads}
+use Rattle.tase_conn.specs.Wanting.{quiet_at, quiet_behind, ReadsOn, AreAllTurns, ReadsNext}
 use Rattle.tase_conn.specs.Wanting.{Passes, IsIdle}
-use Rattle.tase_conn.specs.Acting.{Acts, Steps, HasEnded, has_more, is_left}
+use Rattle.tase_conn.specs.Acting.{ActsOnTurns, StepsBy, HasEnded, has_more, is_left}
 use Rattle.tase_map.proofs.AskedOn.{asks_join}
 use Rattle.tase_conn.proofs.Acted.{running_idle, uncut}
 use Rattle.tase_conn.proofs.LastTurns.{whole_now}
@@ -54,15 +54,15 @@ quiet_join rows setup before (turn ∷ turns) more =
 
 -- it stands where it stood
 pub passes_none : (rows : CentreRows) (items : List Item) (told : List Arrival) (turns : List Turn)
-    (old new : Talking) → StandsAt rows items told turns new → pending_of new ≡ pending_of old
+    (old new : Talking) → ConnStandsAt rows items told turns new → pending_of new ≡ pending_of old
     → Passes rows items told turns old new
 passes_none rows items told turns old new s same =
     record {
       later = [];
       more = [];
-      stands = subst (λ (ts : List Arrival). StandsAt rows items ts (turns ++ []) new)
+      stands = subst (λ (ts : List Arrival). ConnStandsAt rows items ts (turns ++ []) new)
           (sym (append-nil told))
-          (subst (λ (ts : List Turn). StandsAt rows items told ts new) (sym (append-nil turns)) s);
+          (subst (λ (ts : List Turn). ConnStandsAt rows items told ts new) (sym (append-nil turns)) s);
       asks_are = refl;
       quiet = λ setup. refl;
       said = same ∙ sym (append-nil (pending_of old));
@@ -77,9 +77,9 @@ passes_then rows items told turns old now new p q =
     record {
       later = p.later ++ q.later;
       more = p.more ++ q.more;
-      stands = subst (λ (ts : List Arrival). StandsAt rows items ts (turns ++ (p.more ++ q.more)) new)
+      stands = subst (λ (ts : List Arrival). ConnStandsAt rows items ts (turns ++ (p.more ++ q.more)) new)
           (append_assoc told p.later q.later)
-          (subst (λ (ts : List Turn). StandsAt rows items ((told ++ p.later) ++ q.later) ts new)
+          (subst (λ (ts : List Turn). ConnStandsAt rows items ((told ++ p.later) ++ q.later) ts new)
           (append_assoc turns p.more q.more) q.stands);
       asks_are = asks_join rows turns p.more q.more
           ∙ ap (λ (es : List EventKind). es ++ asks_behind rows (turns ++ p.more) q.more) p.asks_are
@@ -96,14 +96,14 @@ passes_then rows items told turns old now new p q =
 -- and then what acts on what was read
 pub acts_then : (rows : CentreRows) (items : List Item) (told : List Arrival) (turns : List Turn)
     (asked : List EventKind) (old now new : Talking) → (p : Passes rows items told turns old now)
-    → Acts rows items (told ++ p.later) (turns ++ p.more) asked now new
-    → GoesOn rows items told turns asked old new
+    → ActsOnTurns rows items (told ++ p.later) (turns ++ p.more) asked now new
+    → ReadsOn rows items told turns asked old new
 acts_then rows items told turns asked old now new p a =
     let setup = setup_after (told ++ p.later) in
     record {
       later = p.later;
       more = p.more ++ a.more;
-      stands = subst (λ (ts : List Turn). StandsAt rows items (told ++ p.later) ts new)
+      stands = subst (λ (ts : List Turn). ConnStandsAt rows items (told ++ p.later) ts new)
           (append_assoc turns p.more a.more) a.stands;
       asks_are = asks_join rows turns p.more a.more
           ∙ ap (λ (es : List EventKind). es ++ asks_behind rows (turns ++ p.more) a.more) p.asks_are
@@ -120,8 +120,8 @@ acts_then rows items told turns asked old now new p a =
 
 pub reads_event : (rows : CentreRows) (items : List Item) (told : List Arrival) (turns : List Turn)
     (event : EventKind) (old now new : Talking) → (p : Passes rows items told turns old now)
-    → Steps rows items (told ++ p.later) (turns ++ p.more) (steps.Asks event) now new
-    → Reads rows items told turns (Some event) old new
+    → StepsBy rows items (told ++ p.later) (turns ++ p.more) (steps.Asks event) now new
+    → ReadsNext rows items told turns (Some event) old new
 reads_event rows items told turns event old now new p s =
     (s.0, acts_then rows items told turns (event ∷ []) old now new p s.1)
 
@@ -129,14 +129,14 @@ reads_event rows items told turns event old now new p s =
 
 ended_resting : (rows : CentreRows) (items : List Item) (told : List Arrival) (turns : List Turn)
     (p : Progress) (v : Talking) → v.progress ≡ p → HasEnded p
-    → GoesBy p rows items told turns v → IsResting v × IsWhole rows items turns v.progress
+    → GoesBy p rows items told turns v → IsResting v × AreAllTurns rows items turns v.progress
 ended_resting rows items told turns (progresses.Ended end) v e h g = (
   record {
     read = g.1.read;
     acted = g.1.acted;
     free = subst (λ (p : Progress). IsFree p) (sym e) tt;
   },
-  subst (λ (p : Progress). IsWhole rows items turns p) (sym e)
+  subst (λ (p : Progress). AreAllTurns rows items turns p) (sym e)
       (whole_now rows items told turns end g.0),
 )
 ended_resting rows items told turns (progresses.Cut end) v e h g = absurd h
@@ -147,8 +147,8 @@ ended_resting rows items told turns (progresses.Leaving end asked) v e h g = abs
 -- it has ended
 pub reads_end : (rows : CentreRows) (items : List Item) (told : List Arrival) (turns : List Turn)
     (old now new : Talking) → (p : Passes rows items told turns old now)
-    → Steps rows items (told ++ p.later) (turns ++ p.more) steps.Ends now new
-    → Reads rows items told turns None old new
+    → StepsBy rows items (told ++ p.later) (turns ++ p.more) steps.Ends now new
+    → ReadsNext rows items told turns None old new
 reads_end rows items told turns old now new p s =
     let g = acts_then rows items told turns [] old now new p s.1 in
     let e = ended_resting rows items (told ++ g.later) (turns ++ g.more) new.progress new refl s.0
@@ -171,7 +171,7 @@ all_seen rows items told turns v held behind r =
     r.fault ∙ ap (λ (h : Option Coming). fault_seen h askeds.Nothing) held in
     let P : Option StackFault → Type 0 = λ f. MatchOption f
     (ReadsBy v.behind items told (turns ++ turns_held v.held) v)
-    (λ fault. Begins (turns ++ turns_held v.held) (turns_of items)) in
+    (λ fault. BeginsTurns (turns ++ turns_held v.held) (turns_of items)) in
     let d = subst (λ (b : Behind). ReadsBy b items told (turns ++ turns_held v.held) v) behind
     (subst P clear r.reads) in
     sym (append-nil turns) ∙ ap (λ (h : Option Coming). turns ++ turns_held h) (sym held)
@@ -180,7 +180,7 @@ all_seen rows items told turns v held behind r =
 -- all was acted on
 pub reads_all : (rows : CentreRows) (items : List Item) (told : List Arrival) (turns : List Turn)
     (old new : Talking) → Passes rows items told turns old new → IsIdle new.progress
-    → has_more new ≡ false → Reads rows items told turns None old new
+    → has_more new ≡ false → ReadsNext rows items told turns None old new
 reads_all rows items told turns old new p idle none =
     let n = nothing_left new.held new.behind none in
     let r = running_idle rows items (told ++ p.later) (turns ++ p.more) new idle p.stands in
@@ -201,7 +201,7 @@ reads_all rows items told turns old new p idle none =
         acted = n.0;
         free = subst (λ (x : Progress). IsFree x) (sym idle) tt;
       };
-      whole = subst (λ (x : Progress). IsWhole rows items (turns ++ p.more) x) (sym idle)
+      whole = subst (λ (x : Progress). AreAllTurns rows items (turns ++ p.more) x) (sym idle)
           (ap (λ (ts : List Turn). up_to_last rows ts) (sym seen)
           ∙ uncut rows (turns ++ p.more) r.ending);
     }
@@ -210,8 +210,8 @@ reads_all rows items told turns old new p idle none =
 
 pub stands_closing : (rows : CentreRows) (items : List Item) (told : List Arrival)
     (turns : List Turn) (end : ConnEnd) (asked : Bool) (v : Talking)
-    → v.progress ≡ progresses.Leaving end asked → StandsAt rows items told turns v
-    → StandsAt rows items told turns (record v { progress = progresses.Leaving end true })
+    → v.progress ≡ progresses.Leaving end asked → ConnStandsAt rows items told turns v
+    → ConnStandsAt rows items told turns (record v { progress = progresses.Leaving end true })
 stands_closing rows items told turns end asked v e s =
     let room = subst (λ (p : Progress). RoomBy p v) e s.room in
     record {

@@ -21,7 +21,7 @@ use Rattle.stack_assoc.specs.Courses.{Course, CourseStands, IsCourseSettled, Goe
 use Rattle.stack_assoc.specs.Courses.{is_offered, standing_with, standing_behind, stack_state_of}
 use Rattle.stack_assoc.specs.Courses.{state_with, fault_in}
 use Rattle.stack_assoc.specs.Steps.{left_of}
-use Rattle.tase_map.specs.Inputs.{Item, text_of}
+use Rattle.tase_map.specs.Inputs.{Item, text_given}
 use Rattle.tase_map.specs.Inputs as given
 use Rattle.tase_map.specs.Readings.{Reading, reading_of}
 use Rattle.tase_map.specs.Turns.{Turn, breaks, turn_in, fault_turns, turns_behind_octets, turns_of}
@@ -36,18 +36,18 @@ use Rattle.tase_conn.specs.declared.stage.Behind.{Behind}
 use Rattle.tase_conn.specs.declared.stage.Behind.TheVariants as behinds
 use Rattle.tase_conn.specs.declared.stage.Coming.{Coming}
 use Rattle.tase_conn.specs.declared.stage.Coming.TheVariants as comings
-use Rattle.tase_conn.specs.declared.stage.Asked.TheVariants as askeds
+use Rattle.tase_conn.specs.declared.stage.PendingEvent.TheVariants as askeds
 use Rattle.tase_conn.specs.declared.stage.Progress.{Progress}
 use Rattle.tase_conn.specs.declared.stage.Progress.TheVariants as progresses
 use Rattle.tase_conn.specs.Talking.{Talking, stage_peer}
 use Rattle.tase_conn.specs.Places.{IsPassed}
-use Rattle.tase_conn.specs.Places.{turns_held, listed, Begins, IsDone, IsWithin, ReadsBy, HasRead}
+use Rattle.tase_conn.specs.Places.{turns_held, turn_listed, BeginsTurns, IsDone, IsWithin, ReadsBy, HasRead}
 use Rattle.tase_conn.specs.Places.{fault_held, fault_seen, IsDue, has_begun, has_finished}
-use Rattle.tase_conn.specs.Places.{is_ending, standing_by, is_connected, has_concluded, IsAgreed}
-use Rattle.tase_conn.specs.Places.{Runs, behind_of, GoesBy, IsPeer, HasRoom, RoomBy, StandsAt}
+use Rattle.tase_conn.specs.Places.{ends_connection, standing_by, is_connected, has_concluded, IsAgreed}
+use Rattle.tase_conn.specs.Places.{Runs, behind_of, GoesBy, IsPeer, HasAbortRoom, RoomBy, ConnStandsAt}
 use Rattle.tase_conn.specs.Wanting.{Passes, IsIdle}
 use Rattle.tase_conn.specs.Acting.{coming_behind, is_left, has_more, weight_behind, weight_held}
-use Rattle.tase_conn.specs.Acting.{weight}
+use Rattle.tase_conn.specs.Acting.{steps_left}
 use Rattle.tase_conn.proofs.SeenTurns.{within_turns}
 use Rattle.tase_conn.proofs.Noted.{connected, has_conclude, still_concluded, quiet_standing}
 use Rattle.tase_conn.proofs.Noted.{quiet_unconnected, some-append, IsNext, IsNoted, noted}
@@ -57,12 +57,12 @@ use Rattle.tase_conn.proofs.Noted.{quiet_unconnected, some-append, IsNext, IsNot
 -- it reads on within an item, and no event waits
 pub record ReadsOn (rows : CentreRows) (items : List Item) (told : List Arrival) (turns : List Turn)
     (v : Talking) : Type 0 where
-  pub stands : CourseStands called (text_of items) told v.course
+  pub stands : CourseStands called (text_given items) told v.course
   pub fault : v.course.fault ≡ None
   pub within : IsWithin items told turns v
   pub begun : list_any (begins rows) turns ≡ has_begun v.stage askeds.Nothing
   pub finished : list_any finishes turns ≡ has_finished v.stage askeds.Nothing
-  pub ending : list_any (is_last rows) turns ≡ is_ending askeds.Nothing
+  pub ending : list_any (is_last rows) turns ≡ ends_connection askeds.Nothing
   pub standing : v.course.standing ≡ standing_by v.stage askeds.Nothing None
   pub connect : connected told ≡ is_connected v.stage askeds.Nothing None
   pub conclude : has_concluded v.stage askeds.Nothing None ≡ true → has_conclude told ≡ true
@@ -70,7 +70,7 @@ pub record ReadsOn (rows : CentreRows) (items : List Item) (told : List Arrival)
 
 within_by : (items : List Item) (told : List Arrival) (seen : List Turn) (v : Talking)
     (fault : Option StackFault) (behind : Behind) → fault ≡ None → is_left None behind ≡ true
-    → MatchOption fault (ReadsBy behind items told seen v) (λ f. Begins seen (turns_of items))
+    → MatchOption fault (ReadsBy behind items told seen v) (λ f. BeginsTurns seen (turns_of items))
     → IsWithin items told seen v
 within_by items told seen v None behinds.Nothing e m r = absurd (false≢true m)
 within_by items told seen v None behinds.Pause e m r = r
@@ -117,7 +117,7 @@ fetched course out coming behind old = record old {
 -- it stands so with more messages told, where this comes next
 pub record IsHeld (items : List Item) (told later : List Arrival) (turns : List Turn)
     (coming : Coming) (stage : Stage) (new : Talking) : Type 0 where
-  pub stands : CourseStands called (text_of items) (told ++ later) new.course
+  pub stands : CourseStands called (text_given items) (told ++ later) new.course
   pub fault : new.course.fault ≡ fault_held (Some coming)
   pub reads : HasRead items (told ++ later) (turns ++ turns_held (Some coming)) new
   pub due : IsDue (told ++ later) stage coming
@@ -159,7 +159,7 @@ runs_on rows items told later turns coming old course out behind r h = record {
 
 -- ---- a message that is handed out
 
-listed_one : (o : Option Turn) → cons_option o [] ≡ listed o
+listed_one : (o : Option Turn) → cons_option o [] ≡ turn_listed o
 listed_one None = refl
 listed_one (Some turn) = refl
 
@@ -182,10 +182,10 @@ handed_last passed later last input quiet is e =
 within_more : (items : List Item) (told later : List Arrival) (turns : List Turn)
     (input : StackIn) (old new : Talking) → handed_out later ≡ input ∷ []
     → new.behind ≡ old.behind → IsWithin items told turns old
-    → IsWithin items (told ++ later) (turns ++ listed (turn_in input)) new
+    → IsWithin items (told ++ later) (turns ++ turn_listed (turn_in input)) new
 within_more items told later turns input old new out behind w =
-    let first = (reading_of (text_of w.done)).told in
-    let one : turns_heard later ≡ listed (turn_in input) =
+    let first = (reading_of (text_given w.done)).told in
+    let one : turns_heard later ≡ turn_listed (turn_in input) =
     ap (λ (is : List StackIn). filter_map turn_in is) out ∙ listed_one (turn_in input) in
     record {
       done = w.done;
@@ -196,8 +196,8 @@ within_more items told later turns input old new out behind w =
       told_is = ap (λ (ts : List Arrival). ts ++ later) w.told_is
           ∙ append_assoc first w.later later;
       unbroken = w.unbroken;
-      seen_is = ap (λ (ts : List Turn). ts ++ listed (turn_in input)) w.seen_is
-          ∙ append_assoc (turns_of w.done) (turns_heard w.later) (listed (turn_in input))
+      seen_is = ap (λ (ts : List Turn). ts ++ turn_listed (turn_in input)) w.seen_is
+          ∙ append_assoc (turns_of w.done) (turns_heard w.later) (turn_listed (turn_in input))
           ∙ ap (λ (ts : List Turn). turns_of w.done ++ ts)
           (ap (λ (ts : List Turn). turns_heard w.later ++ ts) (sym one)
           ∙ sym (heard-append w.later later));
@@ -217,7 +217,7 @@ read_by : (items : List Item) (told : List Arrival) (seen : List Turn) (v : Talk
     → v.course.fault ≡ None → ReadsBy v.behind items told seen v → HasRead items told seen v
 read_by items told seen v e r =
     subst (λ (fault : Option StackFault). MatchOption fault (ReadsBy v.behind items told seen v)
-    (λ f. Begins seen (turns_of items))) (sym e) r
+    (λ f. BeginsTurns seen (turns_of items))) (sym e) r
 
 standing_more : (passed : List Arrival) (last : Arrival) (s : EndState) → handed_out passed ≡ []
     → standing_behind s (passed ++ last ∷ []) ≡ standing_with s last
@@ -240,17 +240,17 @@ quiet_connected told later e =
 
 next_of_told : (rows : CentreRows) (items : List Item) (told later : List Arrival)
     (turns : List Turn) (old : Talking) (course : Course) → ReadsOn rows items told turns old
-    → CourseStands called (text_of items) (told ++ later) course → (l : IsLast told later course)
+    → CourseStands called (text_given items) (told ++ later) course → (l : IsLast told later course)
     → IsNext (told ++ l.passed) l.last old.stage
 next_of_told rows items told later turns old course r s l =
     let front = told ++ l.passed in
-    let there : CourseStands called (text_of items) (front ++ l.last ∷ []) course =
-    subst (λ (ts : List Arrival). CourseStands called (text_of items) ts course)
+    let there : CourseStands called (text_given items) (front ++ l.last ∷ []) course =
+    subst (λ (ts : List Arrival). CourseStands called (text_given items) ts course)
     (ap (λ (ts : List Arrival). told ++ ts) l.is ∙ sym (append_assoc told l.passed (l.last ∷ []))) s
     in
     record {
-      comes = last_comes (text_of items) front l.last course there;
-      lawful = last_lawful (text_of items) front l.last course there;
+      comes = last_comes (text_given items) front l.last course there;
+      lawful = last_lawful (text_given items) front l.last course there;
       connect = quiet_connected told l.passed l.quiet ∙ r.connect;
       conclude = λ now. still_concluded told l.passed (r.conclude now);
     }
@@ -258,7 +258,7 @@ next_of_told rows items told later turns old course r s l =
 held_input : (rows : CentreRows) (items : List Item) (told later : List Arrival)
     (turns : List Turn) (input : StackIn) (old : Talking) (course : Course)
     (out written : List ℕ) → ReadsOn rows items told turns old → course.fault ≡ None
-    → GoesFurther called (text_of items) told later old.course old.out course written
+    → GoesFurther called (text_given items) told later old.course old.out course written
     → handed_out later ≡ input ∷ [] → IsLast told later course
     → IsHeld items told later turns (comings.Input input) old.stage
     (fetched course out (comings.Input input) old.behind old)
@@ -275,8 +275,8 @@ held_input rows items told later turns input old course out written r fault g ha
     record {
       stands = g.stands;
       fault = fault;
-      reads = read_by items (told ++ later) (turns ++ listed (turn_in input)) new fault
-          (within_behind items (told ++ later) (turns ++ listed (turn_in input)) new old.behind
+      reads = read_by items (told ++ later) (turns ++ turn_listed (turn_in input)) new fault
+          (within_behind items (told ++ later) (turns ++ turn_listed (turn_in input)) new old.behind
           r.within.item r.within.behind
           (within_more items told later turns input old new handed refl r.within));
       due = subst (λ (ts : List Arrival). IsDue ts old.stage coming) all n.due;
@@ -340,7 +340,7 @@ held_other : (rows : CentreRows) (items : List Item) (told later : List Arrival)
     (turns : List Turn) (coming : Coming) (old : Talking) (course : Course)
     (out written : List ℕ) → ReadsOn rows items told turns old
     → course.fault ≡ fault_held (Some coming)
-    → GoesFurther called (text_of items) told later old.course old.out course written
+    → GoesFurther called (text_given items) told later old.course old.out course written
     → handed_out later ≡ [] → NoInput coming
     → HasRead items (told ++ later) (turns ++ turns_held (Some coming))
     (fetched course out coming behinds.Nothing old)
@@ -363,12 +363,12 @@ held_other rows items told later turns coming old course out written r fault g h
 -- what the items tell, where nothing more was handed out
 quiet_turns : (items : List Item) (told later : List Arrival) (turns : List Turn) (v : Talking)
     (broken : Option StackFault) (w : IsWithin items told turns v) → handed_out later ≡ []
-    → reading_of (text_of items) ≡ reading (told ++ later) broken
+    → reading_of (text_given items) ≡ reading (told ++ later) broken
     → turns_of items ≡ turns ++ (fault_turns broken ++ turns_behind_octets w.item)
 quiet_turns items told later turns v broken w handed e =
     within_turns items told turns v w later (ap (λ (r : Reading). r.told) e)
     ∙ ap (λ (is : List StackIn). turns ++ (filter_map turn_in is
-    ++ (fault_turns (reading_of (text_of items)).broken ++ turns_behind_octets w.item))) handed
+    ++ (fault_turns (reading_of (text_given items)).broken ++ turns_behind_octets w.item))) handed
     ∙ ap (λ (r : Reading). turns ++ (fault_turns r.broken ++ turns_behind_octets w.item)) e
 
 behind_turns : (behind : Behind) (item : Item) → behind ≡ behind_of item
@@ -381,11 +381,11 @@ behind_turns behind given.ended e = ap (λ (b : Behind). turns_held (Some (comin
 -- all of the items is read
 done_behind : (items : List Item) (told later : List Arrival) (turns : List Turn) (old new : Talking)
     (rest : List ℕ) → IsWithin items told turns old → handed_out later ≡ []
-    → Tells called (text_of items) (told ++ later) rest → IsCourseSettled new.course
+    → Tells called (text_given items) (told ++ later) rest → IsCourseSettled new.course
     → IsDone items (told ++ later) (turns ++ turns_held (Some (coming_behind old.behind))) new
 done_behind items told later turns old new rest w handed t settled =
-    let e : reading_of (text_of items) ≡ reading (told ++ later) None =
-    reading_only (text_of items) (told ++ later) None (rest, t) in
+    let e : reading_of (text_given items) ≡ reading (told ++ later) None =
+    reading_only (text_given items) (told ++ later) None (rest, t) in
     record {
       told_is = sym (ap (λ (r : Reading). r.told) e);
       unbroken = ap (λ (r : Reading). r.broken) e;
@@ -420,15 +420,15 @@ left_nothing false octets told later new e n = n
 held_behind : (rows : CentreRows) (items : List Item) (told later : List Arrival)
     (turns : List Turn) (old : Talking) (course : Course) (out written : List ℕ)
     → ReadsOn rows items told turns old → course.fault ≡ None
-    → GoesFurther called (text_of items) told later old.course old.out course written
+    → GoesFurther called (text_given items) told later old.course old.out course written
     → handed_out later ≡ []
-    → NothingLeft called (text_of items) told later old.course course
+    → NothingLeft called (text_given items) told later old.course course
     → IsHeld items told later turns (coming_behind old.behind) old.stage
     (fetched course out (coming_behind old.behind) behinds.Nothing old)
 held_behind rows items told later turns old course out written r fault g handed left =
     let coming = coming_behind old.behind in
     let new = fetched course out coming behinds.Nothing old in
-    let n = left_nothing (is_offered old.course.standing) (text_of items) told later course
+    let n = left_nothing (is_offered old.course.standing) (text_given items) told later course
     (ap (λ (s : EndState). is_offered s) r.standing ∙ unoffered old.stage) left in
     held_other rows items told later turns coming old course out written r
     (fault ∙ sym (no_fault old.behind)) g handed (no_input old.behind)
@@ -437,11 +437,11 @@ held_behind rows items told later turns old course out written r fault g handed 
 
 broken_begins : (items : List Item) (told later : List Arrival) (turns : List Turn) (old : Talking)
     (f : StackFault) → IsWithin items told turns old → handed_out later ≡ []
-    → StopsTelling called (text_of items) (told ++ later) f
-    → Begins (turns ++ breaks ∷ []) (turns_of items)
+    → StopsTelling called (text_given items) (told ++ later) f
+    → BeginsTurns (turns ++ breaks ∷ []) (turns_of items)
 broken_begins items told later turns old f w handed stops =
-    let e : reading_of (text_of items) ≡ reading (told ++ later) (Some f) =
-    reading_only (text_of items) (told ++ later) (Some f) stops in (
+    let e : reading_of (text_given items) ≡ reading (told ++ later) (Some f) =
+    reading_only (text_given items) (told ++ later) (Some f) stops in (
       turns_behind_octets w.item,
       quiet_turns items told later turns old (Some f) w handed e
           ∙ sym (append_assoc turns (breaks ∷ []) (turns_behind_octets w.item)),
@@ -450,8 +450,8 @@ broken_begins items told later turns old f w handed stops =
 held_fault : (rows : CentreRows) (items : List Item) (told later : List Arrival)
     (turns : List Turn) (f : StackFault) (old : Talking) (course : Course)
     (out written : List ℕ) → ReadsOn rows items told turns old → course.fault ≡ Some f
-    → GoesFurther called (text_of items) told later old.course old.out course written
-    → handed_out later ≡ [] → StopsTelling called (text_of items) (told ++ later) f
+    → GoesFurther called (text_given items) told later old.course old.out course written
+    → handed_out later ≡ [] → StopsTelling called (text_given items) (told ++ later) f
     → IsHeld items told later turns (comings.Fault f) old.stage
     (fetched course out (comings.Fault f) behinds.Nothing old)
 held_fault rows items told later turns f old course out written r fault g handed stops =
@@ -460,33 +460,33 @@ held_fault rows items told later turns f old course out written r fault g handed
     (subst (λ (o : Option StackFault). MatchOption o
     (IsDone items (told ++ later) (turns ++ breaks ∷ [])
     (fetched course out (comings.Fault f) behinds.Nothing old))
-    (λ g. Begins (turns ++ breaks ∷ []) (turns_of items))) (sym fault)
+    (λ g. BeginsTurns (turns ++ breaks ∷ []) (turns_of items))) (sym fault)
     (broken_begins items told later turns old f r.within handed stops))
 
 -- ---- it passes
 
-room_by : (old new : Talking) → new.farewell ≡ old.farewell → HasRoom old → HasRoom new
+room_by : (old new : Talking) → new.farewell ≡ old.farewell → HasAbortRoom old → HasAbortRoom new
 room_by old new e h = record {
   room = subst (λ (v : Vec ℕ Global). vec_len v + 64 ≤ vec_capacity v) (sym e) h.room;
   unsaid = ap (λ (v : Vec ℕ Global). v.items) e ∙ h.unsaid;
 }
 
 pub idle_runs : (rows : CentreRows) (items : List Item) (told : List Arrival) (turns : List Turn)
-    (v : Talking) → IsIdle v.progress → StandsAt rows items told turns v
+    (v : Talking) → IsIdle v.progress → ConnStandsAt rows items told turns v
     → Runs rows items told turns askeds.Nothing v
 idle_runs rows items told turns v idle s =
     subst (λ (p : Progress). GoesBy p rows items told turns v) idle s.goes
 
 pub idle_room : (rows : CentreRows) (items : List Item) (told : List Arrival) (turns : List Turn)
-    (v : Talking) → IsIdle v.progress → StandsAt rows items told turns v → HasRoom v
+    (v : Talking) → IsIdle v.progress → ConnStandsAt rows items told turns v → HasAbortRoom v
 idle_room rows items told turns v idle s = subst (λ (p : Progress). RoomBy p v) idle s.room
 
 -- it stands so, with the same association and what is said at its end
 pub idle_stands : (rows : CentreRows) (items : List Item) (told there : List Arrival)
     (turns : List Turn) (old new : Talking) → IsIdle old.progress → new.progress ≡ old.progress
     → new.rows ≡ old.rows → new.stage ≡ old.stage → new.farewell ≡ old.farewell
-    → StandsAt rows items told turns old → Runs rows items there turns askeds.Nothing new
-    → StandsAt rows items there turns new
+    → ConnStandsAt rows items told turns old → Runs rows items there turns askeds.Nothing new
+    → ConnStandsAt rows items there turns new
 idle_stands rows items told there turns old new idle progress same stage farewell s r =
     let now : progresses.Running askeds.Nothing ≡ new.progress = sym (progress ∙ idle) in
     record {
@@ -506,7 +506,7 @@ said_on old answers new farewell none e =
 
 passes_on : (rows : CentreRows) (items : List Item) (told later : List Arrival)
     (turns : List Turn) (coming : Coming) (old : Talking) (course : Course) (out : List ℕ)
-    (behind : Behind) → IsIdle old.progress → StandsAt rows items told turns old
+    (behind : Behind) → IsIdle old.progress → ConnStandsAt rows items told turns old
     → ReadsOn rows items told turns old
     → IsHeld items told later turns coming old.stage (fetched course out coming behind old)
     → out ≡ old.out ++ answers_to called later
@@ -517,7 +517,7 @@ passes_on rows items told later turns coming old course out behind idle s r h wr
     record {
       later = later;
       more = [];
-      stands = subst (λ (ts : List Turn). StandsAt rows items (told ++ later) ts new)
+      stands = subst (λ (ts : List Turn). ConnStandsAt rows items (told ++ later) ts new)
           (sym (append-nil turns))
           (idle_stands rows items told (told ++ later) turns old new idle refl refl refl refl s
           (runs_on rows items told later turns coming old course out behind r h));
@@ -529,7 +529,7 @@ passes_on rows items told later turns coming old course out behind idle s r h wr
 -- what it stands for, where it reads on
 started : (rows : CentreRows) (items : List Item) (told : List Arrival) (turns : List Turn)
     (v : Talking) → IsIdle v.progress → v.held ≡ None → has_more v ≡ true
-    → StandsAt rows items told turns v → ReadsOn rows items told turns v
+    → ConnStandsAt rows items told turns v → ReadsOn rows items told turns v
 started rows items told turns v idle empty more s =
     reads_on rows items told turns v (idle_runs rows items told turns v idle s) empty more
 
@@ -537,8 +537,8 @@ started rows items told turns v idle empty more s =
 pub passes_input : (rows : CentreRows) (items : List Item) (told : List Arrival)
     (turns : List Turn) (input : StackIn) (old : Talking) (course : Course) (out : List ℕ)
     → IsIdle old.progress → old.held ≡ None → has_more old ≡ true
-    → StandsAt rows items told turns old → course.fault ≡ None
-    → IsNextAnswer called (text_of items) told old.course old.out (Ok (Some input)) course out
+    → ConnStandsAt rows items told turns old → course.fault ≡ None
+    → IsNextAnswer called (text_given items) told old.course old.out (Ok (Some input)) course out
     → Passes rows items told turns old (fetched course out (comings.Input input) old.behind old)
 passes_input rows items told turns input old course out idle empty more s fault a =
     let r = started rows items told turns old idle empty more s in
@@ -550,8 +550,8 @@ passes_input rows items told turns input old course out idle empty more s fault 
 pub passes_behind : (rows : CentreRows) (items : List Item) (told : List Arrival)
     (turns : List Turn) (old : Talking) (course : Course) (out : List ℕ)
     → IsIdle old.progress → old.held ≡ None → has_more old ≡ true
-    → StandsAt rows items told turns old → course.fault ≡ None
-    → IsNextAnswer called (text_of items) told old.course old.out (Ok None) course out
+    → ConnStandsAt rows items told turns old → course.fault ≡ None
+    → IsNextAnswer called (text_given items) told old.course old.out (Ok None) course out
     → Passes rows items told turns old
     (fetched course out (coming_behind old.behind) behinds.Nothing old)
 passes_behind rows items told turns old course out idle empty more s fault a =
@@ -564,8 +564,8 @@ passes_behind rows items told turns old course out idle empty more s fault a =
 pub passes_fault : (rows : CentreRows) (items : List Item) (told : List Arrival)
     (turns : List Turn) (f : StackFault) (old : Talking) (course : Course) (out : List ℕ)
     → IsIdle old.progress → old.held ≡ None → has_more old ≡ true
-    → StandsAt rows items told turns old → course.fault ≡ Some f
-    → IsNextAnswer called (text_of items) told old.course old.out (Err f) course out
+    → ConnStandsAt rows items told turns old → course.fault ≡ Some f
+    → IsNextAnswer called (text_given items) told old.course old.out (Err f) course out
     → Passes rows items told turns old
     (fetched course out (comings.Fault f) behinds.Nothing old)
 passes_fault rows items told turns f old course out idle empty more s fault a =
@@ -602,10 +602,10 @@ with_course course v = record v { course = course }
 -- it stands where it stood
 stands_kept : (rows : CentreRows) (items : List Item) (told : List Arrival)
     (turns : List Turn) (old : Talking) (course : Course) → IsIdle old.progress
-    → old.held ≡ None → has_more old ≡ true → StandsAt rows items told turns old
-    → CourseStands called (text_of items) told course → course.standing ≡ old.course.standing
+    → old.held ≡ None → has_more old ≡ true → ConnStandsAt rows items told turns old
+    → CourseStands called (text_given items) told course → course.standing ≡ old.course.standing
     → stack_state_of course ≡ stack_state_of old.course
-    → StandsAt rows items told turns (with_course course old)
+    → ConnStandsAt rows items told turns (with_course course old)
 stands_kept rows items told turns old course idle empty more s there standing state =
     let new = with_course course old in
     let r = idle_runs rows items told turns old idle s in
@@ -642,18 +642,18 @@ stands_kept rows items told turns old course idle empty more s there standing st
 pub stands_again : (rows : CentreRows) (items : List Item) (told : List Arrival)
     (turns : List Turn) (view old new : Talking) (course : Course) → view ≡ old
     → IsIdle old.progress → old.held ≡ None → has_more old ≡ true
-    → StandsAt rows items told turns old
-    → (CourseStands called (text_of items) told view.course → CourseStands called (text_of items) told course)
+    → ConnStandsAt rows items told turns old
+    → (CourseStands called (text_given items) told view.course → CourseStands called (text_given items) told course)
     → course.standing ≡ view.course.standing → stack_state_of course ≡ stack_state_of view.course
-    → new ≡ record view { course = course } → StandsAt rows items told turns new
+    → new ≡ record view { course = course } → ConnStandsAt rows items told turns new
 stands_again rows items told turns view old new course seen idle empty more s kept standing state
     is =
-    let there : CourseStands called (text_of items) told course =
-    kept (subst (λ (v : Talking). CourseStands called (text_of items) told v.course) (sym seen)
+    let there : CourseStands called (text_given items) told course =
+    kept (subst (λ (v : Talking). CourseStands called (text_given items) told v.course) (sym seen)
     (idle_runs rows items told turns old idle s).stands) in
     let now : with_course course old ≡ new =
     sym (is ∙ ap (λ (v : Talking). with_course course v) seen) in
-    subst (λ (v : Talking). StandsAt rows items told turns v) now
+    subst (λ (v : Talking). ConnStandsAt rows items told turns v) now
     (stands_kept rows items told turns old course idle empty more s there
     (standing ∙ ap (λ (v : Talking). v.course.standing) seen)
     (state ∙ ap (λ (v : Talking). stack_state_of v.course) seen))
@@ -669,7 +669,7 @@ lighter_by behinds.End old new more less = omega (arith, less)
 
 pub lighter_input : (coming : Coming) (old : Talking) (course : Course) (out : List ℕ)
     → old.held ≡ None → has_more old ≡ true → left_of course < left_of old.course
-    → weight (fetched course out coming old.behind old) < weight old
+    → steps_left (fetched course out coming old.behind old) < steps_left old
 lighter_input coming old course out empty more less =
     subst (λ (held : Option Coming). 2 * weight_behind old.behind course + 1
     < 2 * weight_behind old.behind old.course + weight_held held) (sym empty)
@@ -684,7 +684,7 @@ least_by behinds.End old new more = omega arith
 
 pub lighter_behind : (coming : Coming) (old : Talking) (course : Course) (out : List ℕ)
     → old.held ≡ None → has_more old ≡ true
-    → weight (fetched course out coming behinds.Nothing old) < weight old
+    → steps_left (fetched course out coming behinds.Nothing old) < steps_left old
 lighter_behind coming old course out empty more =
     subst (λ (held : Option Coming). 2 * weight_behind behinds.Nothing course + 1
     < 2 * weight_behind old.behind old.course + weight_held held) (sym empty)
@@ -703,8 +703,8 @@ fetched_by (Err f) course out old = fetched course out (comings.Fault f) behinds
 passes_by : (rows : CentreRows) (items : List Item) (told : List Arrival) (turns : List Turn)
     (answer : Result (Option StackIn) StackFault) (old : Talking) (course : Course)
     (out : List ℕ) → IsIdle old.progress → old.held ≡ None → has_more old ≡ true
-    → StandsAt rows items told turns old → course.fault ≡ fault_in answer
-    → IsNextAnswer called (text_of items) told old.course old.out answer course out
+    → ConnStandsAt rows items told turns old → course.fault ≡ fault_in answer
+    → IsNextAnswer called (text_given items) told old.course old.out answer course out
     → Passes rows items told turns old (fetched_by answer course out old)
 passes_by rows items told turns (Ok (Some input)) old course out idle empty more s fault a =
     passes_input rows items told turns input old course out idle empty more s fault a
@@ -717,17 +717,17 @@ passes_by rows items told turns (Err f) old course out idle empty more s fault a
 pub passes_fetched : (rows : CentreRows) (items : List Item) (told : List Arrival)
     (turns : List Turn) (answer : Result (Option StackIn) StackFault) (view old new : Talking)
     (course : Course) (out : List ℕ) → view ≡ old → IsIdle old.progress → old.held ≡ None
-    → has_more old ≡ true → StandsAt rows items told turns old → course.fault ≡ fault_in answer
-    → (CourseStands called (text_of items) told view.course
-    → IsNextAnswer called (text_of items) told view.course view.out answer course out)
+    → has_more old ≡ true → ConnStandsAt rows items told turns old → course.fault ≡ fault_in answer
+    → (CourseStands called (text_given items) told view.course
+    → IsNextAnswer called (text_given items) told view.course view.out answer course out)
     → new ≡ fetched_by answer course out view → Passes rows items told turns old new
 passes_fetched rows items told turns answer view old new course out seen idle empty more s fault a
     is =
-    let stands : CourseStands called (text_of items) told old.course =
+    let stands : CourseStands called (text_given items) told old.course =
     (idle_runs rows items told turns old idle s).stands in
-    let answers : IsNextAnswer called (text_of items) told old.course old.out answer course out =
-    subst (λ (v : Talking). IsNextAnswer called (text_of items) told v.course v.out answer course out)
-    seen (a (subst (λ (v : Talking). CourseStands called (text_of items) told v.course) (sym seen)
+    let answers : IsNextAnswer called (text_given items) told old.course old.out answer course out =
+    subst (λ (v : Talking). IsNextAnswer called (text_given items) told v.course v.out answer course out)
+    seen (a (subst (λ (v : Talking). CourseStands called (text_given items) told v.course) (sym seen)
     stands)) in
     subst (λ (v : Talking). Passes rows items told turns old v)
     (sym (is ∙ ap (λ (v : Talking). fetched_by answer course out v) seen))
@@ -736,7 +736,7 @@ passes_fetched rows items told turns answer view old new course out seen idle em
 lighter_for : (answer : Result (Option StackIn) StackFault) (old : Talking) (course : Course)
     (out : List ℕ) → old.held ≡ None → has_more old ≡ true
     → IfOk answer (λ (input : Option StackIn). OnSome input (left_of course < left_of old.course))
-    → weight (fetched_by answer course out old) < weight old
+    → steps_left (fetched_by answer course out old) < steps_left old
 lighter_for (Ok (Some input)) old course out empty more less =
     lighter_input (comings.Input input) old course out empty more less
 lighter_for (Ok None) old course out empty more less =
@@ -748,9 +748,9 @@ pub lighter_fetched : (answer : Result (Option StackIn) StackFault) (view old ne
     (course : Course) (out : List ℕ) → view ≡ old → old.held ≡ None → has_more old ≡ true
     → IfOk answer (λ (input : Option StackIn). OnSome input
     (left_of course < left_of view.course)) → new ≡ fetched_by answer course out view
-    → weight new < weight old
+    → steps_left new < steps_left old
 lighter_fetched answer view old new course out seen empty more less is =
-    subst (λ (v : Talking). weight v < weight old)
+    subst (λ (v : Talking). steps_left v < steps_left old)
     (sym (is ∙ ap (λ (v : Talking). fetched_by answer course out v) seen))
     (lighter_for answer old course out empty more
     (subst (λ (v : Talking). IfOk answer (λ (input : Option StackIn). OnSome input

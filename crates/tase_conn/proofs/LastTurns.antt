@@ -9,8 +9,8 @@ use Rattle.bilateral.specs.Rows.{CentreRows}
 use Rattle.stack_messages.specs.declared.fault.StackFault.{StackFault}
 use Rattle.stack_assoc.specs.Arrivals.{Arrival, called}
 use Rattle.stack_assoc.proofs.StreamLaws.{fault_stays}
-use Rattle.tase_map.specs.Inputs.{Item, octets_of, text_of}
-use Rattle.tase_map.specs.Readings.{Reading, Reads, reading_of}
+use Rattle.tase_map.specs.Inputs.{Item, given_octets, text_given}
+use Rattle.tase_map.specs.Readings.{Reading, TellsReading, reading_of}
 use Rattle.tase_map.specs.Turns.{Turn, turns_of}
 use Rattle.tase_map.specs.Turns.{offers, offers_badly, asks, concludes, releases, aborts, breaks}
 use Rattle.tase_map.specs.Turns.{ends, pauses}
@@ -19,17 +19,17 @@ use Rattle.tase_map.proofs.AskedOn.{turns_on}
 use Rattle.tase_map.proofs.ReadingLaws.{reading_only, reading_found}
 use Rattle.tase_conn.specs.declared.stage.ConnEnd.{ConnEnd}
 use Rattle.tase_conn.specs.declared.stage.ConnEnd.TheVariants as conn_ends
-use Rattle.tase_conn.specs.Places.{EndsWith, EndsBy, IsCause}
+use Rattle.tase_conn.specs.Places.{EndsWithTurn, EndsBy, IsCause}
 
 -- ---- an item more
 
 pub text_on : (items : List Item) (item : Item)
-    → text_of (items ++ item ∷ []) ≡ text_of items ++ octets_of item
-text_on items item = flat_map-append octets_of items (item ∷ [])
-    ∙ ap (λ (os : List ℕ). text_of items ++ os) (append-nil (octets_of item))
+    → text_given (items ++ item ∷ []) ≡ text_given items ++ given_octets item
+text_on items item = flat_map-append given_octets items (item ∷ [])
+    ∙ ap (λ (os : List ℕ). text_given items ++ os) (append-nil (given_octets item))
 
 broken_by : (text more : List ℕ) (told : List Arrival) (broken : Option StackFault)
-    (fault : StackFault) → Reads text told broken → broken ≡ Some fault
+    (fault : StackFault) → TellsReading text told broken → broken ≡ Some fault
     → (reading_of (text ++ more)).broken ≡ Some fault
 broken_by text more told None fault r e = absurd cc
 broken_by text more told (Some f) fault r e =
@@ -37,12 +37,12 @@ broken_by text more told (Some f) fault r e =
     (fault_stays called text more told f r)) ∙ e
 
 broken_stays : (items : List Item) (item : Item) (fault : StackFault)
-    → (reading_of (text_of items)).broken ≡ Some fault
-    → (reading_of (text_of (items ++ item ∷ []))).broken ≡ Some fault
+    → (reading_of (text_given items)).broken ≡ Some fault
+    → (reading_of (text_given (items ++ item ∷ []))).broken ≡ Some fault
 broken_stays items item fault e =
     ap (λ (os : List ℕ). (reading_of os).broken) (text_on items item)
-    ∙ broken_by (text_of items) (octets_of item) (reading_of (text_of items)).told
-    (reading_of (text_of items)).broken fault (reading_found (text_of items)) e
+    ∙ broken_by (text_given items) (given_octets item) (reading_of (text_given items)).told
+    (reading_of (text_given items)).broken fault (reading_found (text_given items)) e
 
 -- ---- the last turn
 
@@ -122,7 +122,7 @@ up_to_first rows (turn ∷ front) more last none e =
 
 -- turns that end with it, and others behind them
 pub up_to_whole : (rows : CentreRows) (turns others : List Turn) (last : Turn)
-    → EndsWith rows turns last → is_last rows last ≡ true
+    → EndsWithTurn rows turns last → is_last rows last ≡ true
     → up_to_last rows (turns ++ others) ≡ turns
 up_to_whole rows turns others last w e =
     ap (λ (ts : List Turn). up_to_last rows (ts ++ others)) w.is

@@ -28,7 +28,7 @@ use Rattle.tase_map.proofs.MessageOrder.{HasBegun, PduComes, HeardComes, Comes}
 use Rattle.tase_conn.specs.declared.stage.Stage.{Stage}
 use Rattle.tase_conn.specs.declared.stage.Stage.TheVariants as stages
 use Rattle.tase_conn.specs.declared.stage.Coming.TheVariants as comings
-use Rattle.tase_conn.specs.declared.stage.Asked.TheVariants as askeds
+use Rattle.tase_conn.specs.declared.stage.PendingEvent.TheVariants as askeds
 use Rattle.tase_conn.specs.Places.{InputIsDue, standing_by, is_connected}
 use Rattle.tase_conn.specs.Places.{has_concluded}
 

@@ -13,7 +13,7 @@ use Rattle.stack_assoc.specs.declared.end_state.EndState.TheVariants as standing
 use Rattle.stack_assoc.specs.Arrivals.{Arrival, called}
 use Rattle.stack_assoc.specs.Courses.{Course, CourseStands, IsCourseSettled, is_offered, state_by, state_with}
 use Rattle.stack_assoc.specs.Courses.{stack_state_of}
-use Rattle.tase_map.specs.Inputs.{Item, piece, idle, ended, octets_of, text_of}
+use Rattle.tase_map.specs.Inputs.{Item, piece, idle, ended, given_octets, text_given}
 use Rattle.tase_map.specs.Readings.{Reading, reading_of}
 use Rattle.tase_map.specs.Turns.{Turn, turns_of}
 use Rattle.tase_map.proofs.ReadingLaws.{reading, reading_only}
@@ -24,16 +24,16 @@ use Rattle.tase_conn.specs.declared.stage.Stage.TheVariants as stages
 use Rattle.tase_conn.specs.declared.stage.Behind.{Behind}
 use Rattle.tase_conn.specs.declared.stage.Behind.TheVariants as behinds
 use Rattle.tase_conn.specs.declared.stage.Coming.{Coming}
-use Rattle.tase_conn.specs.declared.stage.Asked.{Asked}
-use Rattle.tase_conn.specs.declared.stage.Asked.TheVariants as askeds
+use Rattle.tase_conn.specs.declared.stage.PendingEvent.{PendingEvent}
+use Rattle.tase_conn.specs.declared.stage.PendingEvent.TheVariants as askeds
 use Rattle.tase_conn.specs.declared.stage.Progress.{Progress}
 use Rattle.tase_conn.specs.declared.stage.Progress.TheVariants as progresses
 use Rattle.tase_conn.specs.Talking.{Talking, IsFree, MayLeave, IsResting, is_running}
-use Rattle.tase_conn.specs.Talking.{is_open_stage, stage_peer, first_of, next_of}
-use Rattle.tase_conn.specs.Places.{turns_held, Begins, IsDone, IsWithin, behind_of, ReadsBy}
-use Rattle.tase_conn.specs.Places.{standing_by, Runs, GoesBy, HasRoom, RoomBy}
-use Rattle.tase_conn.specs.Places.{StandsAt, IsPlaced, IsPeer}
-use Rattle.tase_conn.specs.Answering.{parted}
+use Rattle.tase_conn.specs.Talking.{is_open_stage, stage_peer, first_filled, next_pending}
+use Rattle.tase_conn.specs.Places.{turns_held, BeginsTurns, IsDone, IsWithin, behind_of, ReadsBy}
+use Rattle.tase_conn.specs.Places.{standing_by, Runs, GoesBy, HasAbortRoom, RoomBy}
+use Rattle.tase_conn.specs.Places.{ConnStandsAt, IsPlaced, IsPeer}
+use Rattle.tase_conn.specs.Answering.{parting_octets}
 use Rattle.tase_conn.specs.Leaving.{Parts, IsLeft}
 use Rattle.tase_conn.proofs.LastTurns.{text_on, ends_on}
 
@@ -98,8 +98,8 @@ reads_by_moved behinds.End items told seen old new settled behind r = record {
 pub reads_moved : (f : Option StackFault) (b : Behind) (items : List Item) (told : List Arrival)
     (seen : List Turn) (old new : Talking) → (IsCourseSettled old.course → IsCourseSettled new.course)
     → new.behind ≡ old.behind
-    → MatchOption f (ReadsBy b items told seen old) (λ fault. Begins seen (turns_of items))
-    → MatchOption f (ReadsBy b items told seen new) (λ fault. Begins seen (turns_of items))
+    → MatchOption f (ReadsBy b items told seen old) (λ fault. BeginsTurns seen (turns_of items))
+    → MatchOption f (ReadsBy b items told seen new) (λ fault. BeginsTurns seen (turns_of items))
 reads_moved None b items told seen old new settled behind r =
     reads_by_moved b items told seen old new settled behind r
 reads_moved (Some fault) b items told seen old new settled behind r = r
@@ -128,7 +128,7 @@ starting rows course out farewell =
 pub started : (rows : CentreRows) (course : Course) (out : List ℕ) (farewell : Vec ℕ Global)
     → CourseStands called [] [] course → IsCourseSettled course → stack_state_of course ≡ states.Waiting
     → vec_len farewell + 64 ≤ vec_capacity farewell → farewell.items ≡ []
-    → StandsAt rows [] [] [] (starting rows course out farewell)
+    → ConnStandsAt rows [] [] [] (starting rows course out farewell)
 started rows course out farewell stands settled waiting room empty =
     let w = waiting_alone course.fault course.standing waiting in
     let done : IsDone [] [] [] (starting rows course out farewell) = record {
@@ -144,7 +144,7 @@ started rows course out farewell stands settled waiting room empty =
         stands = stands;
         fault = w.0;
         reads = clear_match (IsDone [] [] [] (starting rows course out farewell))
-            (λ fault. Begins [] (turns_of [])) course.fault w.0 done;
+            (λ fault. BeginsTurns [] (turns_of [])) course.fault w.0 done;
         due = tt;
         passed = tt;
         begun = refl;
@@ -181,7 +181,7 @@ nothing_read items item told seen old course d = record {
   is = refl;
   behind = refl;
   later = [];
-  told_is = d.told_is ∙ sym (append-nil (reading_of (text_of items)).told);
+  told_is = d.told_is ∙ sym (append-nil (reading_of (text_given items)).told);
   unbroken = d.unbroken;
   seen_is = d.seen_is ∙ sym (append-nil (turns_of items));
 }
@@ -209,8 +209,8 @@ not_offered s (inr e) = ap is_offered e
 -- what feeding ensures
 pub record Fed (items : List Item) (item : Item) (told : List Arrival) (old new : Course) :
     Type 0 where
-  pub stands : CourseStands called (text_of items) told old
-      → CourseStands called (text_of items ++ octets_of item) told new
+  pub stands : CourseStands called (text_given items) told old
+      → CourseStands called (text_given items ++ given_octets item) told new
   pub standing : new.standing ≡ old.standing
   pub state : stack_state_of new ≡ stack_state_of old
 
@@ -239,14 +239,14 @@ runs_taken rows items told turns item centre course None behinds.Nothing stage p
     talking centre fed None (behind_of item) stage progress out farewell in
     let done : IsDone items told (turns ++ []) old = match_clear
     (IsDone items told (turns ++ []) old)
-    (λ fault. Begins (turns ++ []) (turns_of items)) course.fault r.fault r.reads in
+    (λ fault. BeginsTurns (turns ++ []) (turns_of items)) course.fault r.fault r.reads in
     let clear = rests_clear stage course fed r.fault r.standing f.standing f.state in
     record {
       stands = subst (λ (os : List ℕ). CourseStands called os told fed) (sym (text_on items item))
           (f.stands r.stands);
       fault = clear;
       reads = clear_match (ReadsBy (behind_of item) (items ++ item ∷ []) told (turns ++ []) new)
-          (λ fault. Begins (turns ++ []) (turns_of (items ++ item ∷ []))) fed.fault clear
+          (λ fault. BeginsTurns (turns ++ []) (turns_of (items ++ item ∷ []))) fed.fault clear
           (read_item item (items ++ item ∷ []) told (turns ++ []) new
           (nothing_read items item told (turns ++ []) old fed done));
       due = tt;
@@ -290,7 +290,7 @@ goes_taken (progresses.Leaving end asked) rows items told turns item old fed fre
 goes_taken (progresses.Ended end) rows items told turns item old fed free run b h g f = absurd cc
 goes_taken (progresses.Cut end) rows items told turns item old fed free run b h g f = absurd cc
 
-room_kept : (progress : Progress) (old new : Talking) → (HasRoom old → HasRoom new)
+room_kept : (progress : Progress) (old new : Talking) → (HasAbortRoom old → HasAbortRoom new)
     → RoomBy progress old → RoomBy progress new
 room_kept (progresses.Running asked) old new keep r = keep r
 room_kept progresses.Refused old new keep r = keep r
@@ -301,8 +301,8 @@ room_kept (progresses.Cut end) old new keep r = tt
 -- it was taken in
 pub taken_in : (rows : CentreRows) (items : List Item) (told : List Arrival) (turns : List Turn)
     (item : Item) (old : Talking) (fed : Course) → IsResting old → is_running old.progress ≡ true
-    → Fed items item told old.course fed → StandsAt rows items told turns old
-    → StandsAt rows (items ++ item ∷ []) told turns (taking old item fed)
+    → Fed items item told old.course fed → ConnStandsAt rows items told turns old
+    → ConnStandsAt rows (items ++ item ∷ []) told turns (taking old item fed)
 taken_in rows items told turns item old fed rest run f s = record {
   rows_are = s.rows_are;
   peer = s.peer;
@@ -326,7 +326,7 @@ goes_dropped (progresses.Cut end) rows items told turns item v e g = g
 -- it was dropped, once the connection was left or has ended
 pub dropped : (rows : CentreRows) (items : List Item) (told : List Arrival) (turns : List Turn)
     (item : Item) (v : Talking) → is_running v.progress ≡ false
-    → StandsAt rows items told turns v → StandsAt rows (items ++ item ∷ []) told turns v
+    → ConnStandsAt rows items told turns v → ConnStandsAt rows (items ++ item ∷ []) told turns v
 dropped rows items told turns item v e s = record {
   rows_are = s.rows_are;
   peer = s.peer;
@@ -337,19 +337,19 @@ dropped rows items told turns item v e s = record {
 -- ---- nothing for now, and nothing more
 
 no_octets : (items : List Item) (item : Item) (told : List Arrival) (course : Course)
-    → octets_of item ≡ [] → Fed items item told course course
+    → given_octets item ≡ [] → Fed items item told course course
 no_octets items item told course e = record {
   stands = λ s. subst (λ (os : List ℕ). CourseStands called os told course)
-      (sym (append-nil (text_of items)) ∙ ap (λ (os : List ℕ). text_of items ++ os) (sym e)) s;
+      (sym (append-nil (text_given items)) ∙ ap (λ (os : List ℕ). text_given items ++ os) (sym e)) s;
   standing = refl;
   state = refl;
 }
 
 -- an item without octets was taken in
 pub idle_taken : (rows : CentreRows) (items : List Item) (told : List Arrival) (turns : List Turn)
-    (item : Item) (old : Talking) → octets_of item ≡ [] → IsResting old
-    → is_running old.progress ≡ true → StandsAt rows items told turns old
-    → StandsAt rows (items ++ item ∷ []) told turns (record old { behind = behind_of item })
+    (item : Item) (old : Talking) → given_octets item ≡ [] → IsResting old
+    → is_running old.progress ≡ true → ConnStandsAt rows items told turns old
+    → ConnStandsAt rows (items ++ item ∷ []) told turns (record old { behind = behind_of item })
 idle_taken rows items told turns item old e rest run s =
     taken_in rows items told turns item old old.course rest run
     (no_octets items item told old.course e) s
@@ -366,7 +366,7 @@ settled_so rows items told turns centre course None behinds.Nothing stage progre
     let v : Talking =
     talking centre course None behinds.Nothing stage progress out farewell in
     let done : IsDone items told (turns ++ []) v = match_clear (IsDone items told (turns ++ []) v)
-    (λ fault. Begins (turns ++ []) (turns_of items)) course.fault r.fault r.reads in
+    (λ fault. BeginsTurns (turns ++ []) (turns_of items)) course.fault r.fault r.reads in
     (done.settled, not_offered course.standing (resting_so stage course.standing r.standing))
 settled_so rows items told turns centre course (Some coming) b stage progress out farewell e h r =
     absurd cc
@@ -406,7 +406,7 @@ abbrev pub apart : Talking → Progress → List ℕ → Vec ℕ Global → Talk
 apart v progress out farewell = record v { progress = progress; out = out; farewell = farewell }
 
 pub runs_apart : (rows : CentreRows) (items : List Item) (told : List Arrival) (turns : List Turn)
-    (asked : Asked) (v : Talking) (progress : Progress) (out : List ℕ) (farewell : Vec ℕ Global)
+    (asked : PendingEvent) (v : Talking) (progress : Progress) (out : List ℕ) (farewell : Vec ℕ Global)
     → Runs rows items told turns asked v
     → Runs rows items told turns asked (apart v progress out farewell)
 runs_apart rows items told turns asked v progress out farewell r = record {
@@ -443,23 +443,23 @@ goes_apart (progresses.Cut end) rows items told turns v progress out farewell g 
 -- it stands where it stood, whatever was sent
 pub sent_on : (rows : CentreRows) (items : List Item) (told : List Arrival) (turns : List Turn)
     (old new : Talking) → new ≡ record old { out = new.out; farewell = new.farewell }
-    → (HasRoom old → HasRoom new) → StandsAt rows items told turns old
-    → StandsAt rows items told turns new
+    → (HasAbortRoom old → HasAbortRoom new) → ConnStandsAt rows items told turns old
+    → ConnStandsAt rows items told turns new
 sent_on rows items told turns old new is keep s =
     let moved : Talking = apart old old.progress new.out new.farewell in
-    subst (λ (v : Talking). StandsAt rows items told turns v) (sym is) (record {
+    subst (λ (v : Talking). ConnStandsAt rows items told turns v) (sym is) (record {
       rows_are = s.rows_are;
       peer = s.peer;
       goes = goes_apart old.progress rows items told turns old old.progress new.out new.farewell
           s.goes;
       room = room_kept old.progress old moved
-          (λ r. subst (λ (v : Talking). HasRoom v) is (keep r)) s.room;
+          (λ r. subst (λ (v : Talking). HasAbortRoom v) is (keep r)) s.room;
     })
 
 -- ---- given up
 
 pub room_left : (progress : Progress) (v : Talking) → MayLeave progress → RoomBy progress v
-    → HasRoom v
+    → HasAbortRoom v
 room_left (progresses.Running asked) v m r = r
 room_left progresses.Refused v m r = r
 room_left (progresses.Leaving end asked) v m r = r
@@ -467,16 +467,16 @@ room_left (progresses.Ended end) v m r = absurd m
 room_left (progresses.Cut end) v m r = absurd m
 
 -- where it may be given up there is room for the octets of an abort
-pub may_part : (v : Talking) → MayLeave v.progress → IsPlaced v → HasRoom v
+pub may_part : (v : Talking) → MayLeave v.progress → IsPlaced v → HasAbortRoom v
 may_part v m p = room_left v.progress v m p.stands.room
 
 -- it has ended
 pub parted_stands : (rows : CentreRows) (items : List Item) (told : List Arrival)
     (turns : List Turn) (end : ConnEnd) (octets : List ℕ) (old new : Talking)
     → Parts (progresses.Cut end) octets old new → old.rows ≡ rows
-    → IfSome (stage_peer old.stage) (IsPeer rows) → StandsAt rows items told turns new
+    → IfSome (stage_peer old.stage) (IsPeer rows) → ConnStandsAt rows items told turns new
 parted_stands rows items told turns end octets old new p rows_are peer =
-    subst (λ (v : Talking). StandsAt rows items told turns v) (sym p.is) (record {
+    subst (λ (v : Talking). ConnStandsAt rows items told turns v) (sym p.is) (record {
       rows_are = rows_are;
       peer = peer;
       goes = record { read = refl; acted = refl };
@@ -485,23 +485,23 @@ parted_stands rows items told turns end octets old new p rows_are peer =
 
 left_by : (b : Bool) (rows : CentreRows) (items : List Item) (told : List Arrival)
     (turns : List Turn) (end : ConnEnd) (old new : Talking) → is_open_stage old.stage ≡ b
-    → HasRoom old → MatchBool b (new ≡ record old { progress = progresses.Leaving end false })
-    (Parts (progresses.Cut end) (parted old.course end) old new)
-    → StandsAt rows items told turns old → StandsAt rows items told turns new
+    → HasAbortRoom old → MatchBool b (new ≡ record old { progress = progresses.Leaving end false })
+    (Parts (progresses.Cut end) (parting_octets old.course end) old new)
+    → ConnStandsAt rows items told turns old → ConnStandsAt rows items told turns new
 left_by true rows items told turns end old new e room l s =
-    subst (λ (v : Talking). StandsAt rows items told turns v) (sym l) (record {
+    subst (λ (v : Talking). ConnStandsAt rows items told turns v) (sym l) (record {
       rows_are = s.rows_are;
       peer = s.peer;
       goes = e;
       room = record { room = room.room; unsaid = room.unsaid };
     })
 left_by false rows items told turns end old new e room l s =
-    parted_stands rows items told turns end (parted old.course end) old new l s.rows_are s.peer
+    parted_stands rows items told turns end (parting_octets old.course end) old new l s.rows_are s.peer
 
 -- it was left
 pub left_stands : (rows : CentreRows) (items : List Item) (told : List Arrival) (turns : List Turn)
-    (end : ConnEnd) (old new : Talking) → HasRoom old → IsLeft end old new
-    → StandsAt rows items told turns old → StandsAt rows items told turns new
+    (end : ConnEnd) (old new : Talking) → HasAbortRoom old → IsLeft end old new
+    → ConnStandsAt rows items told turns old → ConnStandsAt rows items told turns new
 left_stands rows items told turns end old new room l s =
     left_by (is_open_stage old.stage) rows items told turns end old new refl room l s
 
@@ -509,16 +509,16 @@ left_stands rows items told turns end old new room l s =
 
 -- the same by its fields
 pub by_view : (rows : CentreRows) (items : List Item) (told : List Arrival) (turns : List Turn)
-    (view old : Talking) → view ≡ old → StandsAt rows items told turns old
-    → StandsAt rows items told turns view
+    (view old : Talking) → view ≡ old → ConnStandsAt rows items told turns old
+    → ConnStandsAt rows items told turns view
 by_view rows items told turns view old e s =
-    subst (λ (v : Talking). StandsAt rows items told turns v) (sym e) s
+    subst (λ (v : Talking). ConnStandsAt rows items told turns v) (sym e) s
 
 pub taken_view : (rows : CentreRows) (items : List Item) (told : List Arrival) (turns : List Turn)
     (item : Item) (view old : Talking) (fed : Course) → view ≡ old → IsResting old
     → is_running old.progress ≡ true → Fed items item told view.course fed
-    → StandsAt rows items told turns old
-    → StandsAt rows (items ++ item ∷ []) told turns (taking view item fed)
+    → ConnStandsAt rows items told turns old
+    → ConnStandsAt rows (items ++ item ∷ []) told turns (taking view item fed)
 taken_view rows items told turns item view old fed e rest run f s =
     taken_in rows items told turns item view fed
     (subst (λ (v : Talking). IsResting v) (sym e) rest)
@@ -526,9 +526,9 @@ taken_view rows items told turns item view old fed e rest run f s =
     (by_view rows items told turns view old e s)
 
 pub idle_view : (rows : CentreRows) (items : List Item) (told : List Arrival) (turns : List Turn)
-    (item : Item) (view old : Talking) → view ≡ old → octets_of item ≡ [] → IsResting old
-    → is_running old.progress ≡ true → StandsAt rows items told turns old
-    → StandsAt rows (items ++ item ∷ []) told turns (record view { behind = behind_of item })
+    (item : Item) (view old : Talking) → view ≡ old → given_octets item ≡ [] → IsResting old
+    → is_running old.progress ≡ true → ConnStandsAt rows items told turns old
+    → ConnStandsAt rows (items ++ item ∷ []) told turns (record view { behind = behind_of item })
 idle_view rows items told turns item view old e none rest run s =
     taken_view rows items told turns item view old view.course e rest run
     (no_octets items item told view.course none) s
@@ -537,25 +537,25 @@ idle_view rows items told turns item view old e none rest run s =
 
 -- the octets before those of an abort were cut
 pub front_sent : (rows : CentreRows) (items : List Item) (told : List Arrival) (turns : List Turn)
-    (view old : Talking) (out : List ℕ) → view ≡ old → StandsAt rows items told turns old
-    → StandsAt rows items told turns (record view { out = out })
+    (view old : Talking) (out : List ℕ) → view ≡ old → ConnStandsAt rows items told turns old
+    → ConnStandsAt rows items told turns (record view { out = out })
 front_sent rows items told turns view old out e s =
     sent_on rows items told turns view (record view { out = out }) refl
     (λ r. record { room = r.room; unsaid = r.unsaid })
     (by_view rows items told turns view old e s)
 
 none_sent : (out farewell : List ℕ) (n : ℕ) → out ≡ [] → farewell ≡ []
-    → n ≤ length (first_of out farewell) → n ≡ 0
+    → n ≤ length (first_filled out farewell) → n ≡ 0
 none_sent out farewell n o f e =
-    let l : length (first_of out farewell) ≡ 0 =
-    ap (λ (os : List ℕ). length (first_of os farewell)) o ∙ ap (λ (os : List ℕ). length os) f in
+    let l : length (first_filled out farewell) ≡ 0 =
+    ap (λ (os : List ℕ). length (first_filled os farewell)) o ∙ ap (λ (os : List ℕ). length os) f in
     omega (arith, l, e)
 
 -- those of an abort were cut, so that one was said
 pub farewell_sent : (rows : CentreRows) (items : List Item) (told : List Arrival)
     (turns : List Turn) (view old : Talking) (farewell : Vec ℕ Global) (n : ℕ) → view ≡ old
-    → view.out ≡ [] → n ≤ length (next_of view) → n ≢ 0 → StandsAt rows items told turns old
-    → StandsAt rows items told turns (record view { farewell = farewell })
+    → view.out ≡ [] → n ≤ length (next_pending view) → n ≢ 0 → ConnStandsAt rows items told turns old
+    → ConnStandsAt rows items told turns (record view { farewell = farewell })
 farewell_sent rows items told turns view old farewell n e none few some s =
     sent_on rows items told turns view (record view { farewell = farewell }) refl
     (λ r. absurd (some (none_sent view.out view.farewell.items n none r.unsaid few)))

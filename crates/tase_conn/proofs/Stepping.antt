@@ -24,12 +24,12 @@ use Rattle.stack_assoc.specs.Saying.{may_leave}
 use Rattle.stack_assoc.specs.Expectations.{setup_after}
 use Rattle.tase_views.specs.declared.event.EventKind.{EventKind}
 use Rattle.tase_views.specs.declared.event.EventKind.TheVariants as events
-use Rattle.tase_map.specs.Asked.{call_in, invalid}
+use Rattle.tase_map.specs.Asked.{call_of_request, invalid}
 use Rattle.tase_map.specs.Inputs.{Item}
 use Rattle.tase_map.specs.Turns.{Turn, offers, offers_badly, asks, releases, aborts, breaks, ends}
 use Rattle.tase_map.specs.Turns.{concludes, pauses, turn_of_pdu}
-use Rattle.tase_map.specs.Asks.{begins, finishes, is_open}
-use Rattle.tase_map.specs.Out.{abort_octets, release_octets}
+use Rattle.tase_map.specs.Asks.{begins, finishes, is_open_behind}
+use Rattle.tase_map.specs.Out.{abort_wire, release_wire}
 use Rattle.tase_conn.specs.declared.stage.ConnEnd.TheVariants as conn_ends
 use Rattle.tase_conn.specs.declared.stage.ConnEnd.{ConnEnd}
 use Rattle.tase_conn.specs.declared.stage.Stage.{Stage}
@@ -38,20 +38,20 @@ use Rattle.tase_conn.specs.declared.stage.Coming.{Coming}
 use Rattle.tase_conn.specs.declared.stage.Coming.TheVariants as comings
 use Rattle.tase_conn.specs.declared.stage.Cause.{Cause}
 use Rattle.tase_conn.specs.declared.stage.Cause.TheVariants as causes
-use Rattle.tase_conn.specs.declared.stage.Asked.{Asked}
-use Rattle.tase_conn.specs.declared.stage.Asked.TheVariants as askeds
+use Rattle.tase_conn.specs.declared.stage.PendingEvent.{PendingEvent}
+use Rattle.tase_conn.specs.declared.stage.PendingEvent.TheVariants as askeds
 use Rattle.tase_conn.specs.declared.stage.Progress.{Progress}
 use Rattle.tase_conn.specs.declared.stage.Progress.TheVariants as progresses
 use Rattle.tase_conn.specs.declared.stage.Step.{Step}
 use Rattle.tase_conn.specs.declared.stage.Step.TheVariants as steps
 use Rattle.tase_conn.specs.Talking.{Talking, pending_of}
-use Rattle.tase_conn.specs.Places.{StandsAt, IsPlaced, Runs, RoomBy, HasRoom, IsAgreed, InputIsDue}
+use Rattle.tase_conn.specs.Places.{ConnStandsAt, IsPlaced, Runs, RoomBy, HasAbortRoom, IsAgreed, InputIsDue}
 use Rattle.tase_conn.specs.Places.{PduIsDue, IsDue, has_begun, has_finished, standing_by, turn_for}
 use Rattle.tase_conn.specs.Places.{is_connected}
-use Rattle.tase_conn.specs.Answering.{parted}
-use Rattle.tase_conn.specs.Leaving.{Adds, Parts, EndsFor, MayAnswer, MayEnd, finished}
+use Rattle.tase_conn.specs.Answering.{parting_octets}
+use Rattle.tase_conn.specs.Leaving.{AddsAnswer, Parts, EndsFor, MayAnswer, MayEnd, finished}
 use Rattle.tase_conn.specs.Wanting.{IsIdle, refusal_said}
-use Rattle.tase_conn.specs.Acting.{Steps, StaysSo, GoesDown, holding, coming_by, weight}
+use Rattle.tase_conn.specs.Acting.{StepsBy, StaysSo, GoesDown, holding, coming_by, steps_left}
 use Rattle.tase_conn.specs.Acting.{weight_behind, weight_held}
 use Rattle.tase_conn.proofs.Acted.{running_idle, asking, asks_event, Asking, Ended, Ending}
 use Rattle.tase_conn.proofs.Acted.{ends_step}
@@ -73,16 +73,16 @@ if_ok X E Q P R (Err e) f p q = tt
 
 -- of a function that asks for it
 pub asks_so : (rows : CentreRows) (items : List Item) (told : List Arrival) (turns : List Turn)
-    (turn : Turn) (event : EventKind) (stage : Stage) (asked : Asked) (coming : Coming)
+    (turn : Turn) (event : EventKind) (stage : Stage) (asked : PendingEvent) (coming : Coming)
     (v new : Talking) (step : Step) → v.stage ≡ stage → v.held ≡ None → IsIdle v.progress
     → step ≡ steps.Asks event → new ≡ asking asked v
     → (Runs rows items told turns askeds.Nothing (holding coming v)
     → Asking rows told turns turn event stage asked coming)
-    → StandsAt rows items told turns (holding coming v)
-    → Steps rows items told turns step (holding coming v) new
+    → ConnStandsAt rows items told turns (holding coming v)
+    → StepsBy rows items told turns step (holding coming v) new
 asks_so rows items told turns turn event stage asked coming v new step at empty idle is e makes s =
-    subst (λ (x : Step). Steps rows items told turns x (holding coming v) new) (sym is)
-    (subst (λ (x : Talking). Steps rows items told turns (steps.Asks event) (holding coming v) x)
+    subst (λ (x : Step). StepsBy rows items told turns x (holding coming v) new) (sym is)
+    (subst (λ (x : Talking). StepsBy rows items told turns (steps.Asks event) (holding coming v) x)
     (sym e)
     (asks_event rows items told turns turn event stage asked coming v at empty idle makes s))
 
@@ -101,7 +101,7 @@ finished_at rows items told turns v stage at r =
 
 is_open_at : (rows : CentreRows) (items : List Item) (told : List Arrival) (turns : List Turn)
     (v : Talking) (stage : Stage) → v.stage ≡ stage → Runs rows items told turns askeds.Nothing v
-    → is_open rows turns
+    → is_open_behind rows turns
     ≡ (has_begun stage askeds.Nothing && not (has_finished stage askeds.Nothing))
 is_open_at rows items told turns v stage at r =
     open_by rows turns stage (begun_at rows items told turns v stage at r)
@@ -124,8 +124,8 @@ pub opens_so : (rows : CentreRows) (items : List Item) (told : List Arrival) (tu
     (step : Step) → v.held ≡ None → IsIdle v.progress → step ≡ steps.Asks (events.Open peer)
     → new ≡ asking (askeds.Opening peer offered) v
     → place_of_title v.rows title ≡ Some peer → offered ≡ granted initiate
-    → StandsAt rows items told turns (holding (comings.Input (inputs.Offer title initiate)) v)
-    → Steps rows items told turns step (holding (comings.Input (inputs.Offer title initiate)) v) new
+    → ConnStandsAt rows items told turns (holding (comings.Input (inputs.Offer title initiate)) v)
+    → StepsBy rows items told turns step (holding (comings.Input (inputs.Offer title initiate)) v) new
 opens_so rows items told turns title initiate offered peer v new step empty idle is e place g s =
     asks_so rows items told turns (offers title) (events.Open peer) v.stage
     (askeds.Opening peer offered) (comings.Input (inputs.Offer title initiate)) v new step refl
@@ -141,14 +141,14 @@ pdu_due told (stages.Closed peer) pdu d = d
 
 pub requests_so : (rows : CentreRows) (items : List Item) (told : List Arrival) (turns : List Turn)
     (invoke : ℕ) (request : Request) (v new : Talking) (step : Step) → v.held ≡ None
-    → IsIdle v.progress → step ≡ steps.Asks (events.Request (call_in request))
+    → IsIdle v.progress → step ≡ steps.Asks (events.Request (call_of_request request))
     → new ≡ asking (askeds.Requesting invoke) v
-    → StandsAt rows items told turns
+    → ConnStandsAt rows items told turns
     (holding (comings.Input (inputs.Pdu (pdus.Request invoke request))) v)
-    → Steps rows items told turns step
+    → StepsBy rows items told turns step
     (holding (comings.Input (inputs.Pdu (pdus.Request invoke request))) v) new
 requests_so rows items told turns invoke request v new step empty idle is e s =
-    asks_so rows items told turns (asks invoke (call_in request)) (events.Request (call_in request))
+    asks_so rows items told turns (asks invoke (call_of_request request)) (events.Request (call_of_request request))
     v.stage (askeds.Requesting invoke) (comings.Input (inputs.Pdu (pdus.Request invoke request))) v
     new step refl empty idle is e
     (λ r. asks_request rows told turns invoke request v.stage
@@ -161,8 +161,8 @@ pub requests_badly : (rows : CentreRows) (items : List Item) (told : List Arriva
     (turns : List Turn) (invoke : ℕ) (v new : Talking) (step : Step) → v.held ≡ None
     → IsIdle v.progress → step ≡ steps.Asks (events.Request invalid)
     → new ≡ asking (askeds.Requesting invoke) v
-    → StandsAt rows items told turns (holding (comings.Input (inputs.BadRequest invoke)) v)
-    → Steps rows items told turns step (holding (comings.Input (inputs.BadRequest invoke)) v) new
+    → ConnStandsAt rows items told turns (holding (comings.Input (inputs.BadRequest invoke)) v)
+    → StepsBy rows items told turns step (holding (comings.Input (inputs.BadRequest invoke)) v) new
 requests_badly rows items told turns invoke v new step empty idle is e s =
     asks_so rows items told turns (asks invoke invalid) (events.Request invalid) v.stage
     (askeds.Requesting invoke) (comings.Input (inputs.BadRequest invoke)) v new step refl empty idle
@@ -175,8 +175,8 @@ pub takes_so : (rows : CentreRows) (items : List Item) (told : List Arrival) (tu
     (peer : ℕ) (detail : ℤ) (v new : Talking) (step : Step) → v.stage ≡ stages.Open peer detail
     → v.held ≡ None → IsIdle v.progress → step ≡ steps.Asks events.Take
     → new ≡ asking askeds.Taking v
-    → StandsAt rows items told turns (holding comings.Pause v)
-    → Steps rows items told turns step (holding comings.Pause v) new
+    → ConnStandsAt rows items told turns (holding comings.Pause v)
+    → StepsBy rows items told turns step (holding comings.Pause v) new
 takes_so rows items told turns peer detail v new step at empty idle is e s =
     asks_so rows items told turns pauses events.Take (stages.Open peer detail) askeds.Taking
     comings.Pause v new step at empty idle is e
@@ -189,8 +189,8 @@ pub closes_so : (rows : CentreRows) (items : List Item) (told : List Arrival) (t
     (cause : Cause) (peer : ℕ) (detail : ℤ) (v new : Talking) (step : Step)
     → v.stage ≡ stages.Open peer detail → v.held ≡ None → IsIdle v.progress
     → step ≡ steps.Asks events.Close → new ≡ asking (askeds.Closing cause) v
-    → StandsAt rows items told turns (holding (coming_by cause) v)
-    → Steps rows items told turns step (holding (coming_by cause) v) new
+    → ConnStandsAt rows items told turns (holding (coming_by cause) v)
+    → StepsBy rows items told turns step (holding (coming_by cause) v) new
 closes_so rows items told turns cause peer detail v new step at empty idle is e s =
     let here = holding (coming_by cause) v in
     asks_so rows items told turns (turn_for cause) events.Close (stages.Open peer detail)
@@ -207,16 +207,16 @@ ended_so : (rows : CentreRows) (items : List Item) (told : List Arrival) (turns 
     (step : Step) → step ≡ steps.Ends → IsIdle v.progress → Ended end octets v new
     → (Runs rows items told turns askeds.Nothing (holding coming v)
     → Ending rows items told turns turn end octets coming)
-    → StandsAt rows items told turns (holding coming v)
-    → Steps rows items told turns step (holding coming v) new
+    → ConnStandsAt rows items told turns (holding coming v)
+    → StepsBy rows items told turns step (holding coming v) new
 ended_so rows items told turns turn end octets coming v new step is idle n makes s =
-    subst (λ (x : Step). Steps rows items told turns x (holding coming v) new) (sym is)
+    subst (λ (x : Step). StepsBy rows items told turns x (holding coming v) new) (sym is)
     (ends_step rows items told turns turn end octets coming v new idle n makes s)
 
 -- its farewell is empty yet
 unsaid : (rows : CentreRows) (items : List Item) (told : List Arrival) (turns : List Turn)
     (coming : Coming) (v : Talking) → IsIdle v.progress
-    → StandsAt rows items told turns (holding coming v) → HasRoom v
+    → ConnStandsAt rows items told turns (holding coming v) → HasAbortRoom v
 unsaid rows items told turns coming v idle s =
     let room : RoomBy (progresses.Running askeds.Nothing) (holding coming v) =
     subst (λ (p : Progress). RoomBy p (holding coming v)) idle s.room in
@@ -239,7 +239,7 @@ swapped a b c e =
     ∙ ap (λ (x : List ℕ). x ++ b) (sym (append-nil a) ∙ ap (λ (x : List ℕ). a ++ x) (sym e))
 
 added : (end : ConnEnd) (octets : List ℕ) (v new : Talking) → v.farewell.items ≡ []
-    → Adds octets (finished (progresses.Ended end) v) new → Ended end octets v new
+    → AddsAnswer octets (finished (progresses.Ended end) v) new → Ended end octets v new
 added end octets v new none a = record {
   rows = ap (λ (x : Talking). x.rows) a.is;
   stage = ap (λ (x : Talking). x.stage) a.is;
@@ -267,9 +267,9 @@ parting end octets v new p = record {
 pub declines_so : (rows : CentreRows) (items : List Item) (told : List Arrival) (turns : List Turn)
     (title : Option (List ℕ)) (initiate : Initiate) (v new : Talking) (step : Step)
     → step ≡ steps.Ends → IsIdle v.progress → place_of_title v.rows title ≡ None
-    → Adds (refusal_said v.course.setup) (finished (progresses.Ended conn_ends.Declined) v) new
-    → StandsAt rows items told turns (holding (comings.Input (inputs.Offer title initiate)) v)
-    → Steps rows items told turns step (holding (comings.Input (inputs.Offer title initiate)) v) new
+    → AddsAnswer (refusal_said v.course.setup) (finished (progresses.Ended conn_ends.Declined) v) new
+    → ConnStandsAt rows items told turns (holding (comings.Input (inputs.Offer title initiate)) v)
+    → StepsBy rows items told turns step (holding (comings.Input (inputs.Offer title initiate)) v) new
 declines_so rows items told turns title initiate v new step is idle place a s =
     let coming = comings.Input (inputs.Offer title initiate) in
     let room = unsaid rows items told turns coming v idle s in
@@ -292,9 +292,9 @@ declines_so rows items told turns title initiate v new step is idle place a s =
 
 pub declines_bad : (rows : CentreRows) (items : List Item) (told : List Arrival) (turns : List Turn)
     (v new : Talking) (step : Step) → step ≡ steps.Ends → IsIdle v.progress
-    → Adds (refusal_said v.course.setup) (finished (progresses.Ended conn_ends.Declined) v) new
-    → StandsAt rows items told turns (holding (comings.Input inputs.BadOffer) v)
-    → Steps rows items told turns step (holding (comings.Input inputs.BadOffer) v) new
+    → AddsAnswer (refusal_said v.course.setup) (finished (progresses.Ended conn_ends.Declined) v) new
+    → ConnStandsAt rows items told turns (holding (comings.Input inputs.BadOffer) v)
+    → StepsBy rows items told turns step (holding (comings.Input inputs.BadOffer) v) new
 declines_bad rows items told turns v new step is idle a s =
     let coming = comings.Input inputs.BadOffer in
     let room = unsaid rows items told turns coming v idle s in
@@ -314,7 +314,7 @@ declines_bad rows items told turns v new step is idle a s =
 
 shut_at : (rows : CentreRows) (items : List Item) (told : List Arrival) (turns : List Turn)
     (v : Talking) (stage : Stage) → v.stage ≡ stage → IsShut stage
-    → Runs rows items told turns askeds.Nothing v → is_open rows turns ≡ false
+    → Runs rows items told turns askeds.Nothing v → is_open_behind rows turns ≡ false
 shut_at rows items told turns v stage at shut r =
     is_open_at rows items told turns v stage at r ∙ shut_open stage shut
 
@@ -322,15 +322,15 @@ shut_at rows items told turns v stage at shut r =
 said_broken : (rows : CentreRows) (items : List Item) (told : List Arrival) (turns : List Turn)
     (fault : StackFault) (v : Talking) (stage : Stage) → v.stage ≡ stage → IsShut stage
     → Runs rows items told turns askeds.Nothing (holding (comings.Fault fault) v)
-    → (if has_begun stage askeds.Nothing then abort_octets v.course.setup else [])
-    ≡ parted v.course (conn_ends.Refused fault)
+    → (if has_begun stage askeds.Nothing then abort_wire v.course.setup else [])
+    ≡ parting_octets v.course (conn_ends.Refused fault)
 said_broken rows items told turns fault v stages.Early at shut r =
-    ap (λ (s : EndState). if is_accepted s then abort_octets v.course.setup else [])
+    ap (λ (s : EndState). if is_accepted s then abort_wire v.course.setup else [])
     (sym (r.standing ∙ ap (λ (x : Stage). standing_by x askeds.Nothing
     (Some (comings.Fault fault))) at))
 said_broken rows items told turns fault v (stages.Open peer detail) at shut r = absurd shut
 said_broken rows items told turns fault v (stages.Closed peer) at shut r =
-    ap (λ (s : EndState). if is_accepted s then abort_octets v.course.setup else [])
+    ap (λ (s : EndState). if is_accepted s then abort_wire v.course.setup else [])
     (sym (r.standing ∙ ap (λ (x : Stage). standing_by x askeds.Nothing
     (Some (comings.Fault fault))) at))
 
@@ -385,16 +385,16 @@ some_aborted told (stages.Closed peer) d = d
 pub ends_so : (rows : CentreRows) (items : List Item) (told : List Arrival) (turns : List Turn)
     (cause : Cause) (stage : Stage) (v new : Talking) (step : Step) → v.stage ≡ stage
     → IsShut stage → step ≡ steps.Ends → IsIdle v.progress → EndsFor cause v new
-    → StandsAt rows items told turns (holding (coming_by cause) v)
-    → Steps rows items told turns step (holding (coming_by cause) v) new
+    → ConnStandsAt rows items told turns (holding (coming_by cause) v)
+    → StepsBy rows items told turns step (holding (coming_by cause) v) new
 ends_so rows items told turns causes.Concluded stage v new step at shut is idle n s =
     absurd (not_concluded rows items told turns v stage at shut
     (running_idle rows items told turns (holding (coming_by causes.Concluded) v) idle s))
 ends_so rows items told turns causes.Released stage v new step at shut is idle n s =
     let room = unsaid rows items told turns (coming_by causes.Released) v idle s in
-    ended_so rows items told turns releases conn_ends.Finished (release_octets v.course.setup)
+    ended_so rows items told turns releases conn_ends.Finished (release_wire v.course.setup)
     (coming_by causes.Released) v new step is idle
-    (added conn_ends.Finished (release_octets v.course.setup) v new room.unsaid n)
+    (added conn_ends.Finished (release_wire v.course.setup) v new room.unsaid n)
     (λ r. let k = released_setup rows items told turns v stage at shut r in
     ends_released rows items told turns v.course.setup k.0
     (shut_at rows items told turns (holding (coming_by causes.Released) v) stage at shut r) k.1
@@ -417,8 +417,8 @@ ends_so rows items told turns causes.LinkEnd stage v new step at shut is idle n 
 ends_so rows items told turns (causes.Broken fault) stage v new step at shut is idle n s =
     let coming = coming_by (causes.Broken fault) in
     let end = conn_ends.Refused fault in
-    ended_so rows items told turns breaks end (parted v.course end) coming v new step is idle
-    (parting end (parted v.course end) v new n)
+    ended_so rows items told turns breaks end (parting_octets v.course end) coming v new step is idle
+    (parting end (parting_octets v.course end) v new n)
     (λ r. subst (λ (os : List ℕ). Ending rows items told turns breaks end os coming)
     (said_broken rows items told turns fault v stage at shut r)
     (ends_broken rows items told turns fault v.course.setup (has_begun stage askeds.Nothing)
@@ -446,16 +446,16 @@ other_pdu pdus.Concluded n m = refl
 
 pub passes_so : (rows : CentreRows) (items : List Item) (told : List Arrival) (turns : List Turn)
     (pdu : MmsPdu) (v : Talking) → v.held ≡ None → IsIdle v.progress → turn_of_pdu pdu ≡ None
-    → StandsAt rows items told turns (holding (comings.Input (inputs.Pdu pdu)) v)
-    → Steps rows items told turns steps.GoesOn (holding (comings.Input (inputs.Pdu pdu)) v) v
+    → ConnStandsAt rows items told turns (holding (comings.Input (inputs.Pdu pdu)) v)
+    → StepsBy rows items told turns steps.GoesOn (holding (comings.Input (inputs.Pdu pdu)) v) v
 passes_so rows items told turns pdu v empty idle none s =
     goes_step rows items told turns [] (comings.Input (inputs.Pdu pdu)) v empty idle
     (λ r. passes_pdu rows turns v.stage pdu none r.begun r.finished r.ending) s
 
 pub pauses_so : (rows : CentreRows) (items : List Item) (told : List Arrival) (turns : List Turn)
     (stage : Stage) (v : Talking) → v.stage ≡ stage → IsShut stage → v.held ≡ None
-    → IsIdle v.progress → StandsAt rows items told turns (holding comings.Pause v)
-    → Steps rows items told turns steps.GoesOn (holding comings.Pause v) v
+    → IsIdle v.progress → ConnStandsAt rows items told turns (holding comings.Pause v)
+    → StepsBy rows items told turns steps.GoesOn (holding comings.Pause v) v
 pauses_so rows items told turns stage v at shut empty idle s =
     goes_step rows items told turns (pauses ∷ []) comings.Pause v empty idle
     (λ r. passes_pause rows turns v.stage (subst (λ (x : Stage). IsShut x) (sym at) shut) r.begun
@@ -516,7 +516,7 @@ request_lawful invoke request v idle p =
     (holding (comings.Input (inputs.Pdu (pdus.Request invoke request))) v) idle p.stands in
     lawful v.stage p.told r.due
   where
-    some_none : Some (asks invoke (call_in request)) ≡ None → ⊥
+    some_none : Some (asks invoke (call_of_request request)) ≡ None → ⊥
     some_none e = absurd cc
 
     lawful : (stage : Stage) (told : List Arrival)
@@ -529,13 +529,13 @@ request_lawful invoke request v idle p =
 -- ---- less is left
 
 pub goes_down : (step : Step) (coming : Coming) (v new : Talking) → v.held ≡ None
-    → StaysSo step v new → GoesDown step (weight (holding coming v)) (weight new)
+    → StaysSo step v new → GoesDown step (steps_left (holding coming v)) (steps_left new)
 goes_down (steps.Asks event) coming v new empty so = tt
 goes_down steps.Ends coming v new empty so = tt
 goes_down steps.GoesOn coming v new empty so =
     let here = weight_behind v.behind v.course in
     let less : 2 * here + weight_held None < 2 * here + 1 = omega arith in
-    subst (λ (x : Talking). weight x < weight (holding coming v)) (sym so)
+    subst (λ (x : Talking). steps_left x < steps_left (holding coming v)) (sym so)
     (subst (λ (h : Option Coming). 2 * here + weight_held h < 2 * here + 1) (sym empty) less)
 
 -- ---- an end where no association is open

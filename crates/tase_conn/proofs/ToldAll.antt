@@ -10,7 +10,7 @@ use Rattle.stack_assoc.specs.Handing.{answers_to}
 use Rattle.stack_assoc.specs.Expectations.{setup_after}
 use Rattle.stack_assoc.specs.Courses.{Course, CourseStands}
 use Rattle.stack_assoc.specs.Courses as courses
-use Rattle.tase_map.specs.Inputs.{Item, text_of}
+use Rattle.tase_map.specs.Inputs.{Item, text_given}
 use Rattle.tase_map.specs.Readings.{Reading, reading_of}
 use Rattle.tase_map.specs.Turns.{Turn, turns_of}
 use Rattle.tase_map.proofs.Fronts.{HasFront, told_front, whole_front, first_kept, setup_fixed}
@@ -20,43 +20,43 @@ use Rattle.tase_conn.specs.declared.stage.Behind.{Behind}
 use Rattle.tase_conn.specs.declared.stage.Behind.TheVariants as behinds
 use Rattle.tase_conn.specs.declared.stage.Coming.{Coming}
 use Rattle.tase_conn.specs.declared.stage.Coming.TheVariants as comings
-use Rattle.tase_conn.specs.declared.stage.Asked.{Asked}
-use Rattle.tase_conn.specs.declared.stage.Asked.TheVariants as askeds
+use Rattle.tase_conn.specs.declared.stage.PendingEvent.{PendingEvent}
+use Rattle.tase_conn.specs.declared.stage.PendingEvent.TheVariants as askeds
 use Rattle.tase_conn.specs.declared.stage.ConnEnd.{ConnEnd}
 use Rattle.tase_conn.specs.declared.stage.ConnEnd.TheVariants as conn_ends
 use Rattle.tase_conn.specs.Talking.{Talking}
-use Rattle.tase_conn.specs.Places.{Runs, ReadsBy, Begins, turns_held, is_connected}
+use Rattle.tase_conn.specs.Places.{Runs, ReadsBy, BeginsTurns, turns_held, is_connected}
 use Rattle.tase_conn.specs.Places.{fault_seen}
 use Rattle.tase_conn.proofs.Acted.{HasToldAll}
 
 -- behind the first message nothing more is answered at once
 answered_by : (items : List Item) (told : List Arrival) (course : Course)
-    → CourseStands called (text_of items) told course → 1 ≤ length told
-    → answers_to called told ≡ answers_to called (reading_of (text_of items)).told
+    → CourseStands called (text_given items) told course → 1 ≤ length told
+    → answers_to called told ≡ answers_to called (reading_of (text_given items)).told
 answered_by items told course s some =
-    let f = told_front (text_of items) told course s in
-    let whole = whole_front (text_of items) in
+    let f = told_front (text_given items) told course s in
+    let whole = whole_front (text_given items) in
     sym (ap (λ (ts : List Arrival). answers_to called ts) f.1
-    ∙ answers_told (text_of items) told f.0
-    (subst (λ (ts : List Arrival). HasFront (text_of items) ts) f.1 whole) some)
+    ∙ answers_told (text_given items) told f.0
+    (subst (λ (ts : List Arrival). HasFront (text_given items) ts) f.1 whole) some)
 
 -- what was told, and what its first connect fixed, once one was told
 pub record IsTold (items : List Item) (told : List Arrival) : Type 0 where
-  pub answered : answers_to called told ≡ answers_to called (reading_of (text_of items)).told
-  pub fixed : (setup_after told ≡ setup_after (reading_of (text_of items)).told)
-      × (is_some (first_in connect_in (reading_of (text_of items)).told) ≡ true)
+  pub answered : answers_to called told ≡ answers_to called (reading_of (text_given items)).told
+  pub fixed : (setup_after told ≡ setup_after (reading_of (text_given items)).told)
+      × (is_some (first_in connect_in (reading_of (text_given items)).told) ≡ true)
 
 pub told_open : (rows : CentreRows) (items : List Item) (told : List Arrival) (turns : List Turn)
-    (asked : Asked) (v : Talking) → Runs rows items told turns asked v
+    (asked : PendingEvent) (v : Talking) → Runs rows items told turns asked v
     → is_connected v.stage asked v.held ≡ true → IsTold items told
 told_open rows items told turns asked v r is =
     let connect = r.connected ∙ is in
-    let f = told_front (text_of items) told v.course r.stands in
+    let f = told_front (text_given items) told v.course r.stands in
     record {
       answered = answered_by items told v.course r.stands (some_told told connect);
       fixed = (
         sym (ap (λ (ts : List Arrival). setup_after ts) f.1
-            ∙ (setup_fixed (text_of items) told v.course r.stands connect).1 f.0),
+            ∙ (setup_fixed (text_given items) told v.course r.stands connect).1 f.0),
         ap (λ (ts : List Arrival). is_some (first_in connect_in ts)) f.1
             ∙ ap (λ (o : Option _). is_some o) (first_kept connect_in told f.0 connect) ∙ connect,
       );
@@ -72,7 +72,7 @@ all_open rows items told turns v end r is =
 
 -- at an abort
 pub all_some : (items : List Item) (told : List Arrival) (course : Course) (end : ConnEnd)
-    → CourseStands called (text_of items) told course → 1 ≤ length told
+    → CourseStands called (text_given items) told course → 1 ≤ length told
     → (end ≡ conn_ends.Declined → ⊥) → HasToldAll items told end
 all_some items told course end s some other = record {
   answered = answered_by items told course s some;
@@ -81,7 +81,7 @@ all_some items told course end s some other = record {
 
 -- where all messages of the items were told
 all_read : (items : List Item) (told : List Arrival) (end : ConnEnd)
-    → told ≡ (reading_of (text_of items)).told → (end ≡ conn_ends.Declined → ⊥)
+    → told ≡ (reading_of (text_given items)).told → (end ≡ conn_ends.Declined → ⊥)
     → HasToldAll items told end
 all_read items told end e other = record {
   answered = ap (λ (ts : List Arrival). answers_to called ts) e;
@@ -90,14 +90,14 @@ all_read items told end e other = record {
 
 -- at a rule that is broken
 pub all_broken : (items : List Item) (told : List Arrival) (fault : StackFault) (course : Course)
-    (end : ConnEnd) → CourseStands called (text_of items) told course → course.fault ≡ Some fault
+    (end : ConnEnd) → CourseStands called (text_given items) told course → course.fault ≡ Some fault
     → (end ≡ conn_ends.Declined → ⊥) → HasToldAll items told end
 all_broken items told fault course end s e other =
     all_read items told end
-    (sym (ap (λ (r : Reading). r.told) (reading_only (text_of items) told (Some fault)
+    (sym (ap (λ (r : Reading). r.told) (reading_only (text_given items) told (Some fault)
     (subst (λ (f : Option StackFault). MatchOption f
-    (courses.ReadsMessages called (text_of items) told course)
-    (λ g. StopsTelling called (text_of items) told g)) e s.reads)))) other
+    (courses.ReadsMessages called (text_given items) told course)
+    (λ g. StopsTelling called (text_given items) told g)) e s.reads)))) other
 
 -- at the link's end
 pub all_ended : (rows : CentreRows) (items : List Item) (told : List Arrival) (turns : List Turn)
@@ -109,7 +109,7 @@ all_ended rows items told turns v end r held behind other =
     r.fault ∙ ap (λ (h : Option Coming). fault_seen h askeds.Nothing) held in
     let P : Option StackFault → Type 0 = λ f. MatchOption f
     (ReadsBy v.behind items told (turns ++ turns_held v.held) v)
-    (λ fault. Begins (turns ++ turns_held v.held) (turns_of items)) in
+    (λ fault. BeginsTurns (turns ++ turns_held v.held) (turns_of items)) in
     let d = subst (λ (b : Behind). ReadsBy b items told (turns ++ turns_held v.held) v) behind
     (subst P clear r.reads) in
     all_read items told end d.told_is other

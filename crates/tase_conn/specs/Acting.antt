@@ -24,7 +24,7 @@ use Rattle.tase_conn.specs.declared.stage.Progress.TheVariants as progresses
 use Rattle.tase_conn.specs.declared.stage.Step.{Step}
 use Rattle.tase_conn.specs.declared.stage.Step.TheVariants as steps
 use Rattle.tase_conn.specs.Talking.{Talking, pending_of}
-use Rattle.tase_conn.specs.Places.{StandsAt}
+use Rattle.tase_conn.specs.Places.{ConnStandsAt}
 use Rattle.tase_conn.specs.Wanting.{Passes, IsIdle, WaitsFor, quiet_behind}
 
 -- ---- what comes next
@@ -62,10 +62,11 @@ has_more v = is_left v.held v.behind
 -- ---- one step
 
 -- what was read was acted on
-pub record Acts (rows : CentreRows) (items : List Item) (told : List Arrival) (turns : List Turn)
+pub record ActsOnTurns (rows : CentreRows) (items : List Item) (told : List Arrival)
+    (turns : List Turn)
     (asked : List EventKind) (old new : Talking) : Type 0 where
   pub more : List Turn
-  pub stands : StandsAt rows items told (turns ++ more) new
+  pub stands : ConnStandsAt rows items told (turns ++ more) new
   pub asks_are : asks_behind rows turns more ≡ asked
   pub said : pending_of new ≡ pending_of old ++ quiet_behind rows (setup_after told) turns more
 
@@ -75,13 +76,13 @@ HasEnded (progresses.Ended end) = Unit {0}
 HasEnded _ = ⊥
 
 -- a step asks for an event, or goes on, or ends the connection
-abbrev pub Steps : CentreRows → List Item → List Arrival → List Turn → Step → Talking → Talking
+abbrev pub StepsBy : CentreRows → List Item → List Arrival → List Turn → Step → Talking → Talking
     → Type 0
-Steps rows items told turns (steps.Asks event) old new = WaitsFor new.progress event
-    × Acts rows items told turns (event ∷ []) old new
-Steps rows items told turns steps.GoesOn old new = Passes rows items told turns old new
-Steps rows items told turns steps.Ends old new = HasEnded new.progress
-    × Acts rows items told turns [] old new
+StepsBy rows items told turns (steps.Asks event) old new = WaitsFor new.progress event
+    × ActsOnTurns rows items told turns (event ∷ []) old new
+StepsBy rows items told turns steps.GoesOn old new = Passes rows items told turns old new
+StepsBy rows items told turns steps.Ends old new = HasEnded new.progress
+    × ActsOnTurns rows items told turns [] old new
 
 -- behind a step that goes on nothing waits
 abbrev pub StaysIdle : Step → Progress → Type 0
@@ -99,8 +100,8 @@ weight_behind behinds.Nothing course = 0
 weight_behind _ course = 1 + left_of course
 
 -- how many steps may still be made, at most
-abbrev pub weight : Talking → ℕ
-weight v = 2 * weight_behind v.behind v.course + weight_held v.held
+abbrev pub steps_left : Talking → ℕ
+steps_left v = 2 * weight_behind v.behind v.course + weight_held v.held
 
 abbrev pub GoesDown : Step → ℕ → ℕ → Type 0
 GoesDown steps.GoesOn before after = after < before
@@ -111,8 +112,8 @@ GoesDown _ before after = Unit {0}
 -- wherever it stands with this to be acted on, it goes a step from there
 abbrev pub ActsOn : Coming → Talking → Step → Talking → Type 0
 ActsOn coming old step new = (rows : CentreRows) (items : List Item) (told : List Arrival)
-    (turns : List Turn) → StandsAt rows items told turns (holding coming old)
-    → Steps rows items told turns step (holding coming old) new
+    (turns : List Turn) → ConnStandsAt rows items told turns (holding coming old)
+    → StepsBy rows items told turns step (holding coming old) new
 
 -- a step that goes on changes nothing
 abbrev pub StaysSo : Step → Talking → Talking → Type 0

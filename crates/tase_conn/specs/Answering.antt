@@ -12,16 +12,16 @@ use Rattle.tase_views.specs.declared.reply.Answer.{Answer}
 use Rattle.tase_views.specs.declared.reply.Answer.TheVariants as answers
 use Rattle.tase_views.specs.declared.fault.StepFault.{StepFault}
 use Rattle.tase_views.specs.declared.fault.StepFault.TheVariants as faults
-use Rattle.tase_map.specs.Replied.{pdu_in}
-use Rattle.tase_map.specs.Out.{said, within, release_octets, abort_octets}
+use Rattle.tase_map.specs.Replied.{pdu_of_reply}
+use Rattle.tase_map.specs.Out.{said, within, release_wire, abort_wire}
 use Rattle.tase_conn.specs.declared.stage.ConnEnd.{ConnEnd}
 use Rattle.tase_conn.specs.declared.stage.ConnEnd.TheVariants as conn_ends
 use Rattle.tase_conn.specs.declared.stage.Stage.{Stage}
 use Rattle.tase_conn.specs.declared.stage.Stage.TheVariants as stages
 use Rattle.tase_conn.specs.declared.stage.Cause.{Cause}
 use Rattle.tase_conn.specs.declared.stage.Cause.TheVariants as causes
-use Rattle.tase_conn.specs.declared.stage.Asked.{Asked}
-use Rattle.tase_conn.specs.declared.stage.Asked.TheVariants as askeds
+use Rattle.tase_conn.specs.declared.stage.PendingEvent.{PendingEvent}
+use Rattle.tase_conn.specs.declared.stage.PendingEvent.TheVariants as askeds
 use Rattle.tase_conn.specs.declared.stage.Progress.{Progress}
 use Rattle.tase_conn.specs.declared.stage.Progress.TheVariants as progresses
 use Rattle.tase_conn.specs.Talking.{is_open_stage}
@@ -29,20 +29,20 @@ use Rattle.tase_conn.specs.Talking.{is_open_stage}
 -- ---- which answers may be told
 
 -- the node was stopped, its history is full, or its memory ran out
-abbrev pub IsCut : StepFault → Type 0
-IsCut (faults.Stopped place) = Unit {0}
-IsCut (faults.HistoryFull weight limit) = Unit {0}
-IsCut faults.Memory = Unit {0}
-IsCut _ = ⊥
+abbrev pub IsCutFault : StepFault → Type 0
+IsCutFault (faults.Stopped place) = Unit {0}
+IsCutFault (faults.HistoryFull weight limit) = Unit {0}
+IsCutFault faults.Memory = Unit {0}
+IsCutFault _ = ⊥
 
 -- the node answers an open, a request, a take and a close; each but a close it may refuse
-abbrev pub IsAnswerTo : Asked → Result Answer StepFault → Type 0
+abbrev pub IsAnswerTo : PendingEvent → Result Answer StepFault → Type 0
 IsAnswerTo (askeds.Opening peer granted) (Ok (answers.Opened key)) = Unit {0}
-IsAnswerTo (askeds.Opening peer granted) (Err fault) = IsCut fault
+IsAnswerTo (askeds.Opening peer granted) (Err fault) = IsCutFault fault
 IsAnswerTo (askeds.Requesting invoke) (Ok (answers.Reply reply)) = Unit {0}
-IsAnswerTo (askeds.Requesting invoke) (Err fault) = IsCut fault
+IsAnswerTo (askeds.Requesting invoke) (Err fault) = IsCutFault fault
 IsAnswerTo askeds.Taking (Ok (answers.Reports reports)) = Unit {0}
-IsAnswerTo askeds.Taking (Err fault) = IsCut fault
+IsAnswerTo askeds.Taking (Err fault) = IsCutFault fault
 IsAnswerTo (askeds.Closing cause) (Ok answers.Closed) = Unit {0}
 IsAnswerTo _ _ = ⊥
 
@@ -60,27 +60,27 @@ detail_in granted = detail_or granted.detail
     detail_or None = MOST_DETAIL
     detail_or (Some detail) = detail
 
-abbrev pub closed : Stage → Stage
-closed (stages.Open peer detail) = stages.Closed peer
-closed stage = stage
+abbrev pub stage_closed : Stage → Stage
+stage_closed (stages.Open peer detail) = stages.Closed peer
+stage_closed stage = stage
 
 -- an open has opened it, and a close has closed it
-abbrev pub stage_by : Asked → Stage → Stage
+abbrev pub stage_by : PendingEvent → Stage → Stage
 stage_by (askeds.Opening peer granted) stage = stages.Open peer (detail_in granted)
-stage_by (askeds.Closing cause) stage = closed stage
+stage_by (askeds.Closing cause) stage = stage_closed stage
 stage_by _ stage = stage
 
 abbrev pub stage_told : Progress → Result Answer StepFault → Stage → Stage
 stage_told (progresses.Running asked) (Ok answer) stage = stage_by asked stage
-stage_told (progresses.Leaving end asked) (Ok answer) stage = closed stage
+stage_told (progresses.Leaving end asked) (Ok answer) stage = stage_closed stage
 stage_told _ _ stage = stage
 
 -- ---- how it goes on
 
-abbrev pub end_of : StepFault → ConnEnd
-end_of (faults.Stopped place) = conn_ends.Stopped
-end_of (faults.HistoryFull weight limit) = conn_ends.Full weight limit
-end_of _ = conn_ends.Memory
+abbrev pub end_of_fault : StepFault → ConnEnd
+end_of_fault (faults.Stopped place) = conn_ends.Stopped
+end_of_fault (faults.HistoryFull weight limit) = conn_ends.Full weight limit
+end_of_fault _ = conn_ends.Memory
 
 -- behind the answer to a close: conclude may be followed by the release, each other cause ends it
 abbrev pub progress_closed : Cause → Progress
@@ -90,7 +90,7 @@ progress_closed causes.Aborted = progresses.Ended conn_ends.PeerEnd
 progress_closed causes.LinkEnd = progresses.Ended conn_ends.PeerEnd
 progress_closed (causes.Broken fault) = progresses.Ended (conn_ends.Refused fault)
 
-abbrev pub progress_by : Asked → Progress
+abbrev pub progress_by : PendingEvent → Progress
 progress_by (askeds.Closing cause) = progress_closed cause
 progress_by _ = progresses.Running askeds.Nothing
 
@@ -101,7 +101,8 @@ progress_left stage end =
 
 abbrev pub progress_told : Progress → Stage → Result Answer StepFault → Progress
 progress_told (progresses.Running asked) stage (Ok answer) = progress_by asked
-progress_told (progresses.Running asked) stage (Err fault) = progress_left stage (end_of fault)
+progress_told (progresses.Running asked) stage (Err fault) =
+    progress_left stage (end_of_fault fault)
 progress_told (progresses.Leaving end asked) stage told = progresses.Cut end
 progress_told progress stage told = progress
 
@@ -115,15 +116,15 @@ aborts _ = true
 
 -- an association that stands is aborted
 abbrev pub aborted : Course → List ℕ
-aborted course = if is_accepted course.standing then abort_octets course.setup else []
+aborted course = if is_accepted course.standing then abort_wire course.setup else []
 
-abbrev pub parted : Course → ConnEnd → List ℕ
-parted course end = if aborts end then aborted course else []
+abbrev pub parting_octets : Course → ConnEnd → List ℕ
+parting_octets course end = if aborts end then aborted course else []
 
 -- conclude and release are answered; an abort and the link's end aren't
 abbrev pub closed_said : Course → Cause → List ℕ
 closed_said course causes.Concluded = said course.setup pdus.Concluded
-closed_said course causes.Released = release_octets course.setup
+closed_said course causes.Released = release_wire course.setup
 closed_said course causes.Aborted = []
 closed_said course causes.LinkEnd = []
 closed_said course (causes.Broken fault) = aborted course
@@ -132,11 +133,11 @@ abbrev pub detail_at : Stage → ℤ
 detail_at (stages.Open peer detail) = detail
 detail_at _ = MOST_DETAIL
 
-abbrev pub answer_said : Course → Stage → Asked → Answer → List ℕ
+abbrev pub answer_said : Course → Stage → PendingEvent → Answer → List ℕ
 answer_said course stage (askeds.Opening peer granted) (answers.Opened key) =
     wire course.setup.size (accept_tsdu course.setup granted)
 answer_said course stage (askeds.Requesting invoke) (answers.Reply reply) =
-    said course.setup (within (detail_at stage) invoke (pdu_in invoke reply))
+    said course.setup (within (detail_at stage) invoke (pdu_of_reply invoke reply))
 answer_said course stage (askeds.Closing cause) answers.Closed = closed_said course cause
 answer_said course stage _ _ = []
 
@@ -145,8 +146,8 @@ abbrev pub told_said : Progress → Stage → Course → Result Answer StepFault
 told_said (progresses.Running asked) stage course (Ok answer) =
     answer_said course stage asked answer
 told_said (progresses.Running asked) stage course (Err fault) =
-    if is_open_stage stage then [] else parted course (end_of fault)
-told_said (progresses.Leaving end asked) stage course told = parted course end
+    if is_open_stage stage then [] else parting_octets course (end_of_fault fault)
+told_said (progresses.Leaving end asked) stage course told = parting_octets course end
 told_said progress stage course told = []
 
 -- ---- what may wait

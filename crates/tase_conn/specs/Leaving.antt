@@ -5,18 +5,18 @@ use Rattle.stack_messages.specs.declared.expecting.Side.TheVariants as sides
 use Rattle.stack_assoc.specs.declared.input.StackState.TheVariants as states
 use Rattle.stack_assoc.specs.Courses.{Course, stack_state_of}
 use Rattle.stack_assoc.specs.Saying.{with_said, may_release}
-use Rattle.tase_map.specs.Out.{said, release_octets}
+use Rattle.tase_map.specs.Out.{said, release_wire}
 use Rattle.tase_conn.specs.declared.stage.Cause.{Cause}
 use Rattle.tase_conn.specs.declared.stage.Cause.TheVariants as causes
 use Rattle.tase_conn.specs.declared.stage.Behind.TheVariants as behinds
 use Rattle.tase_conn.specs.declared.stage.ConnEnd.{ConnEnd}
 use Rattle.tase_conn.specs.declared.stage.ConnEnd.TheVariants as conn_ends
-use Rattle.tase_conn.specs.declared.stage.Asked.TheVariants as askeds
+use Rattle.tase_conn.specs.declared.stage.PendingEvent.TheVariants as askeds
 use Rattle.tase_conn.specs.declared.stage.Progress.{Progress}
 use Rattle.tase_conn.specs.declared.stage.Progress.TheVariants as progresses
 use Rattle.tase_conn.specs.Talking.{Talking, is_open_stage}
-use Rattle.tase_conn.specs.Places.{HasRoom}
-use Rattle.tase_conn.specs.Answering.{parted}
+use Rattle.tase_conn.specs.Places.{HasAbortRoom}
+use Rattle.tase_conn.specs.Answering.{parting_octets}
 
 -- nothing more is read
 abbrev pub finished : Progress → Talking → Talking
@@ -36,7 +36,7 @@ pub record Parts (progress : Progress) (octets : List ℕ) (old new : Talking) :
 abbrev pub IsLeft : ConnEnd → Talking → Talking → Type 0
 IsLeft end old new = MatchBool (is_open_stage old.stage)
     (new ≡ record old { progress = progresses.Leaving end false })
-    (Parts (progresses.Cut end) (parted old.course end) old new)
+    (Parts (progresses.Cut end) (parting_octets old.course end) old new)
 
 -- ---- the answer to a close
 
@@ -48,22 +48,22 @@ MayAnswer causes.Released course =
 MayAnswer _ course = Unit {0}
 
 -- the octets of an answer stand behind those before them
-pub record Adds (octets : List ℕ) (old new : Talking) : Type 0 where
+pub record AddsAnswer (octets : List ℕ) (old new : Talking) : Type 0 where
   pub is : new ≡ record old { course = new.course; out = new.out }
   pub said_is : new.out ≡ old.out ++ octets
 
 -- conclude is answered, and the connection goes on; else it ends
 abbrev pub EndsFor : Cause → Talking → Talking → Type 0
-EndsFor causes.Concluded old new = Adds (said old.course.setup pdus.Concluded)
+EndsFor causes.Concluded old new = AddsAnswer (said old.course.setup pdus.Concluded)
     (record old { progress = progresses.Running askeds.Nothing }) new
     × (new.course ≡ with_said pdus.Concluded old.course)
-EndsFor causes.Released old new = Adds (release_octets old.course.setup)
+EndsFor causes.Released old new = AddsAnswer (release_wire old.course.setup)
     (finished (progresses.Ended conn_ends.Finished) old) new
 EndsFor causes.Aborted old new = new ≡ finished (progresses.Ended conn_ends.PeerEnd) old
 EndsFor causes.LinkEnd old new = new ≡ finished (progresses.Ended conn_ends.PeerEnd) old
 EndsFor (causes.Broken fault) old new =
     Parts (progresses.Ended (conn_ends.Refused fault))
-    (parted old.course (conn_ends.Refused fault)) old new
+    (parting_octets old.course (conn_ends.Refused fault)) old new
 
 -- no memory is taken for it
 abbrev pub is_quick : Cause → Bool
@@ -79,4 +79,4 @@ IsNoConclude cause = Unit {0}
 pub record MayEnd (cause : Cause) (v : Talking) : Type 0 where
   pub other : IsNoConclude cause
   pub answer : MayAnswer cause v.course
-  pub room : HasRoom v
+  pub room : HasAbortRoom v

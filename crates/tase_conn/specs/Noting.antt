@@ -8,24 +8,24 @@ use Rattle.stack_assoc.specs.declared.end_state.EndState.TheVariants as standing
 use Rattle.stack_assoc.specs.Saying.{with_standing, with_said}
 use Rattle.tase_views.specs.declared.reply.Answer.{Answer}
 use Rattle.tase_views.specs.declared.reply.Answer.TheVariants as answers
-use Rattle.tase_map.specs.Replied.{pdu_in}
+use Rattle.tase_map.specs.Replied.{pdu_of_reply}
 use Rattle.tase_map.specs.Out.{said, within}
 use Rattle.tase_conn.specs.declared.stage.Stage.TheVariants as stages
-use Rattle.tase_conn.specs.declared.stage.Asked.{Asked}
-use Rattle.tase_conn.specs.declared.stage.Asked.TheVariants as askeds
+use Rattle.tase_conn.specs.declared.stage.PendingEvent.{PendingEvent}
+use Rattle.tase_conn.specs.declared.stage.PendingEvent.TheVariants as askeds
 use Rattle.tase_conn.specs.declared.stage.Progress.{Progress}
 use Rattle.tase_conn.specs.declared.stage.Progress.TheVariants as progresses
 use Rattle.tase_conn.specs.Talking.{Talking}
-use Rattle.tase_conn.specs.Answering.{detail_in, detail_at, closed, parted}
+use Rattle.tase_conn.specs.Answering.{detail_in, detail_at, stage_closed, parting_octets}
 use Rattle.tase_conn.specs.Leaving.{Parts, EndsFor}
 
 -- nothing waits any more
-abbrev pub free : Talking → Talking
-free v = record v { progress = progresses.Running askeds.Nothing }
+abbrev pub with_nothing_waiting : Talking → Talking
+with_nothing_waiting v = record v { progress = progresses.Running askeds.Nothing }
 
 -- the association is open, and its offer was accepted with what is granted
-abbrev pub opened : ℕ → Initiate → Talking → Talking
-opened peer granted v = record v {
+abbrev pub with_open : ℕ → Initiate → Talking → Talking
+with_open peer granted v = record v {
   course = with_standing standings.Accepted v.course;
   stage = stages.Open peer (detail_in granted);
   progress = progresses.Running askeds.Nothing;
@@ -41,17 +41,17 @@ answered pdu v = record v {
 }
 
 -- the answer to the event that waited
-abbrev pub NotesAsked : Asked → Answer → Talking → Talking → Type 0
-NotesAsked (askeds.Opening peer granted) answer old new = new ≡ opened peer granted old
+abbrev pub NotesAsked : PendingEvent → Answer → Talking → Talking → Type 0
+NotesAsked (askeds.Opening peer granted) answer old new = new ≡ with_open peer granted old
 NotesAsked (askeds.Requesting invoke) (answers.Reply reply) old new =
-    new ≡ answered (within (detail_at old.stage) invoke (pdu_in invoke reply)) old
+    new ≡ answered (within (detail_at old.stage) invoke (pdu_of_reply invoke reply)) old
 NotesAsked (askeds.Closing cause) answer old new =
-    EndsFor cause (record old { stage = closed old.stage }) new
-NotesAsked asked answer old new = new ≡ free old
+    EndsFor cause (record old { stage = stage_closed old.stage }) new
+NotesAsked asked answer old new = new ≡ with_nothing_waiting old
 
 -- or to the close of the association that was left
-abbrev pub Notes : Progress → Answer → Talking → Talking → Type 0
-Notes (progresses.Running asked) answer old new = NotesAsked asked answer old new
-Notes (progresses.Leaving end asked) answer old new = Parts (progresses.Cut end)
-    (parted old.course end) (record old { stage = closed old.stage }) new
-Notes progress answer old new = new ≡ old
+abbrev pub NotesAnswer : Progress → Answer → Talking → Talking → Type 0
+NotesAnswer (progresses.Running asked) answer old new = NotesAsked asked answer old new
+NotesAnswer (progresses.Leaving end asked) answer old new = Parts (progresses.Cut end)
+    (parting_octets old.course end) (record old { stage = stage_closed old.stage }) new
+NotesAnswer progress answer old new = new ≡ old

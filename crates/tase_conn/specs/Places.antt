@@ -20,7 +20,7 @@ use Rattle.stack_assoc.specs.Expectations.{setup_after}
 use Rattle.stack_assoc.specs.Handing.{answers_to, handed_out, is_too_little}
 use Rattle.stack_assoc.specs.Courses.{CourseStands, IsCourseSettled}
 use Rattle.tase_views.specs.declared.call.CallKind.{CallKind}
-use Rattle.tase_map.specs.Inputs.{Item, piece, idle, ended, text_of}
+use Rattle.tase_map.specs.Inputs.{Item, piece, idle, ended, text_given}
 use Rattle.tase_map.specs.Readings.{reading_of}
 use Rattle.tase_map.specs.Turns.{Turn, offers, offers_badly, asks, concludes, releases, aborts}
 use Rattle.tase_map.specs.Turns.{breaks, ends, pauses, turns_of, turn_in, turn_of_pdu}
@@ -36,8 +36,8 @@ use Rattle.tase_conn.specs.declared.stage.Coming.{Coming}
 use Rattle.tase_conn.specs.declared.stage.Coming.TheVariants as comings
 use Rattle.tase_conn.specs.declared.stage.Cause.{Cause}
 use Rattle.tase_conn.specs.declared.stage.Cause.TheVariants as causes
-use Rattle.tase_conn.specs.declared.stage.Asked.{Asked}
-use Rattle.tase_conn.specs.declared.stage.Asked.TheVariants as askeds
+use Rattle.tase_conn.specs.declared.stage.PendingEvent.{PendingEvent}
+use Rattle.tase_conn.specs.declared.stage.PendingEvent.TheVariants as askeds
 use Rattle.tase_conn.specs.declared.stage.Progress.{Progress}
 use Rattle.tase_conn.specs.declared.stage.Progress.TheVariants as progresses
 use Rattle.tase_conn.specs.Talking.{Talking, is_open_stage, stage_peer}
@@ -51,23 +51,23 @@ turn_coming (comings.Fault fault) = Some breaks
 turn_coming comings.Pause = Some pauses
 turn_coming comings.End = Some ends
 
-abbrev pub listed : Option Turn → List Turn
-listed None = []
-listed (Some turn) = turn ∷ []
+abbrev pub turn_listed : Option Turn → List Turn
+turn_listed None = []
+turn_listed (Some turn) = turn ∷ []
 
 abbrev pub turns_held : Option Coming → List Turn
 turns_held None = []
-turns_held (Some coming) = listed (turn_coming coming)
+turns_held (Some coming) = turn_listed (turn_coming coming)
 
 -- some turns, and then others
-abbrev pub Begins : List Turn → List Turn → Type 0
-Begins front whole = (others : List Turn) × (whole ≡ front ++ others)
+abbrev pub BeginsTurns : List Turn → List Turn → Type 0
+BeginsTurns front whole = (others : List Turn) × (whole ≡ front ++ others)
 
 -- all that the items tell was read
 pub record IsDone (items : List Item) (told : List Arrival) (seen : List Turn) (v : Talking) :
     Type 0 where
-  pub told_is : told ≡ (reading_of (text_of items)).told
-  pub unbroken : (reading_of (text_of items)).broken ≡ None
+  pub told_is : told ≡ (reading_of (text_given items)).told
+  pub unbroken : (reading_of (text_given items)).broken ≡ None
   pub seen_is : seen ≡ turns_of items
   pub settled : IsCourseSettled v.course
 
@@ -85,8 +85,8 @@ pub record IsWithin (items : List Item) (told : List Arrival) (seen : List Turn)
   pub is : items ≡ done ++ item ∷ []
   pub behind : v.behind ≡ behind_of item
   pub later : List Arrival
-  pub told_is : told ≡ (reading_of (text_of done)).told ++ later
-  pub unbroken : (reading_of (text_of done)).broken ≡ None
+  pub told_is : told ≡ (reading_of (text_given done)).told ++ later
+  pub unbroken : (reading_of (text_given done)).broken ≡ None
   pub seen_is : seen ≡ turns_of done ++ filter_map turn_in (handed_out later)
 
 abbrev pub ReadsBy : Behind → List Item → List Arrival → List Turn → Talking → Type 0
@@ -97,7 +97,7 @@ ReadsBy behinds.End items told seen v = IsWithin items told seen v
 -- or a rule was broken, behind which nothing is acted on
 abbrev pub HasRead : List Item → List Arrival → List Turn → Talking → Type 0
 HasRead items told seen v = MatchOption v.course.fault (ReadsBy v.behind items told seen v)
-    (λ fault. Begins seen (turns_of items))
+    (λ fault. BeginsTurns seen (turns_of items))
 
 -- ---- what comes next, by how far the association has come
 
@@ -106,12 +106,12 @@ abbrev pub fault_held : Option Coming → Option StackFault
 fault_held (Some (comings.Fault fault)) = Some fault
 fault_held _ = None
 
-abbrev pub fault_seen : Option Coming → Asked → Option StackFault
+abbrev pub fault_seen : Option Coming → PendingEvent → Option StackFault
 fault_seen held (askeds.Closing (causes.Broken fault)) = Some fault
 fault_seen held _ = fault_held held
 
 -- an offer is that of the first connect, and enough is offered
-pub record IsOffered (told : List Arrival) (title : Option (List ℕ)) (initiate : Initiate) :
+pub record IsOfferOf (told : List Arrival) (title : Option (List ℕ)) (initiate : Initiate) :
     Type 0 where
   pub connect : Connecting
   pub first : first_in connect_in told ≡ Some connect
@@ -125,7 +125,7 @@ PduIsDue (stages.Open peer detail) pdu = IsLawfulPdu pdu
 PduIsDue _ pdu = turn_of_pdu pdu ≡ None
 
 abbrev pub InputIsDue : List Arrival → Stage → StackIn → Type 0
-InputIsDue told stages.Early (inputs.Offer title initiate) = IsOffered told title initiate
+InputIsDue told stages.Early (inputs.Offer title initiate) = IsOfferOf told title initiate
 InputIsDue told stages.Early inputs.BadOffer = Unit {0}
 InputIsDue told stage (inputs.Pdu pdu) = PduIsDue stage pdu
 InputIsDue told (stages.Open peer detail) (inputs.BadRequest invoke) = Unit {0}
@@ -147,24 +147,24 @@ IsPassed held behind = Unit {0}
 -- ---- the association
 
 -- whether an association has begun, and whether it has ended, behind what was acted on
-abbrev pub has_begun : Stage → Asked → Bool
+abbrev pub has_begun : Stage → PendingEvent → Bool
 has_begun stages.Early (askeds.Opening peer offered) = true
 has_begun stages.Early asked = false
 has_begun stage asked = true
 
-abbrev pub has_finished : Stage → Asked → Bool
+abbrev pub has_finished : Stage → PendingEvent → Bool
 has_finished (stages.Closed peer) asked = true
 has_finished (stages.Open peer detail) (askeds.Closing cause) = true
 has_finished stage asked = false
 
 -- whether nothing comes behind what was acted on
-abbrev pub is_ending : Asked → Bool
-is_ending (askeds.Closing causes.Concluded) = false
-is_ending (askeds.Closing cause) = true
-is_ending _ = false
+abbrev pub ends_connection : PendingEvent → Bool
+ends_connection (askeds.Closing causes.Concluded) = false
+ends_connection (askeds.Closing cause) = true
+ends_connection _ = false
 
 -- how the stack's end stands before the open, by what waits and what comes next
-abbrev pub early_standing : Asked → Option Coming → EndState
+abbrev pub early_standing : PendingEvent → Option Coming → EndState
 early_standing (askeds.Opening peer offered) held = standings.Offered
 early_standing asked (Some (comings.Input (inputs.Offer title initiate))) = standings.Offered
 early_standing asked (Some (comings.Input inputs.BadOffer)) = standings.BadlyOffered
@@ -172,30 +172,30 @@ early_standing asked (Some (comings.Input inputs.Aborted)) = standings.Closed
 early_standing asked held = standings.Waiting
 
 -- behind it: the association stands until its release was asked, or the peer has aborted it
-abbrev pub served_standing : Asked → Option Coming → EndState
+abbrev pub served_standing : PendingEvent → Option Coming → EndState
 served_standing (askeds.Closing causes.Released) held = standings.Finishing
 served_standing (askeds.Closing causes.Aborted) held = standings.Closed
 served_standing asked (Some (comings.Input inputs.Released)) = standings.Finishing
 served_standing asked (Some (comings.Input inputs.Aborted)) = standings.Closed
 served_standing asked held = standings.Accepted
 
-abbrev pub standing_by : Stage → Asked → Option Coming → EndState
+abbrev pub standing_by : Stage → PendingEvent → Option Coming → EndState
 standing_by stages.Early asked held = early_standing asked held
 standing_by stage asked held = served_standing asked held
 
 -- whether a connect was told
-abbrev pub early_connected : Asked → Option Coming → Bool
+abbrev pub early_connected : PendingEvent → Option Coming → Bool
 early_connected (askeds.Opening peer offered) held = true
 early_connected asked (Some (comings.Input (inputs.Offer title initiate))) = true
 early_connected asked (Some (comings.Input inputs.BadOffer)) = true
 early_connected asked held = false
 
-abbrev pub is_connected : Stage → Asked → Option Coming → Bool
+abbrev pub is_connected : Stage → PendingEvent → Option Coming → Bool
 is_connected stages.Early asked held = early_connected asked held
 is_connected stage asked held = true
 
 -- whether a conclude was told for certain
-abbrev pub has_concluded : Stage → Asked → Option Coming → Bool
+abbrev pub has_concluded : Stage → PendingEvent → Option Coming → Bool
 has_concluded (stages.Closed peer) asked held = true
 has_concluded stage (askeds.Closing causes.Concluded) held = true
 has_concluded stage asked (Some (comings.Input (inputs.Pdu pdus.Conclude))) = true
@@ -208,14 +208,14 @@ pub record IsGranted (told : List Arrival) (offered : Initiate) : Type 0 where
   pub is : offered ≡ granted connect.initiate
 
 -- it, and then the most octets of a PDU, are those of the first connect
-abbrev pub IsAgreed : List Arrival → Stage → Asked → Type 0
+abbrev pub IsAgreed : List Arrival → Stage → PendingEvent → Type 0
 IsAgreed told stages.Early (askeds.Opening peer offered) = IsGranted told offered
 IsAgreed told (stages.Open peer detail) asked = detail ≡ detail_of (first_in connect_in told)
 IsAgreed told stage asked = Unit {0}
 
 -- where an event waits nothing more was read: an open before the association, each other while it
 -- is open
-abbrev pub IsAskedAt : Asked → Stage → Option Coming → Type 0
+abbrev pub IsAskedAt : PendingEvent → Stage → Option Coming → Type 0
 IsAskedAt askeds.Nothing stage held = Unit {0}
 IsAskedAt (askeds.Opening peer offered) stages.Early None = Unit {0}
 IsAskedAt (askeds.Requesting invoke) (stages.Open peer detail) None = Unit {0}
@@ -233,35 +233,35 @@ turn_for causes.LinkEnd = ends
 turn_for (causes.Broken fault) = breaks
 
 -- this was the last, and something followed each before it
-pub record EndsWith (rows : CentreRows) (turns : List Turn) (last : Turn) : Type 0 where
+pub record EndsWithTurn (rows : CentreRows) (turns : List Turn) (last : Turn) : Type 0 where
   pub front : List Turn
   pub is : turns ≡ front ++ last ∷ []
   pub goes : list_any (is_last rows) front ≡ false
 
 -- what asks for the event that waits was the last
-abbrev pub IsAskedBy : CentreRows → List Turn → Asked → Type 0
+abbrev pub IsAskedBy : CentreRows → List Turn → PendingEvent → Type 0
 IsAskedBy rows turns askeds.Nothing = Unit {0}
 IsAskedBy rows turns (askeds.Opening peer offered) = (title : Option (List ℕ))
-    × EndsWith rows turns (offers title) × (place_of_title rows title ≡ Some peer)
+    × EndsWithTurn rows turns (offers title) × (place_of_title rows title ≡ Some peer)
 IsAskedBy rows turns (askeds.Requesting invoke) =
-    (call : CallKind) × EndsWith rows turns (asks invoke call)
-IsAskedBy rows turns askeds.Taking = EndsWith rows turns pauses
+    (call : CallKind) × EndsWithTurn rows turns (asks invoke call)
+IsAskedBy rows turns askeds.Taking = EndsWithTurn rows turns pauses
 IsAskedBy rows turns (askeds.Closing cause) =
-    (e : EndsWith rows turns (turn_for cause)) × (list_any finishes e.front ≡ false)
+    (e : EndsWithTurn rows turns (turn_for cause)) × (list_any finishes e.front ≡ false)
 
 -- ---- how far it has come
 
 -- it reads on: what was read, and how that and its association stand
 pub record Runs (rows : CentreRows) (items : List Item) (told : List Arrival) (turns : List Turn)
-    (asked : Asked) (v : Talking) : Type 0 where
-  pub stands : CourseStands called (text_of items) told v.course
+    (asked : PendingEvent) (v : Talking) : Type 0 where
+  pub stands : CourseStands called (text_given items) told v.course
   pub fault : v.course.fault ≡ fault_seen v.held asked
   pub reads : HasRead items told (turns ++ turns_held v.held) v
   pub due : IfSome v.held (IsDue told v.stage)
   pub passed : IsPassed v.held v.behind
   pub begun : list_any (begins rows) turns ≡ has_begun v.stage asked
   pub finished : list_any finishes turns ≡ has_finished v.stage asked
-  pub ending : list_any (is_last rows) turns ≡ is_ending asked
+  pub ending : list_any (is_last rows) turns ≡ ends_connection asked
   pub standing : v.course.standing ≡ standing_by v.stage asked v.held
   pub connected : is_some (first_in connect_in told) ≡ is_connected v.stage asked v.held
   pub concluded : has_concluded v.stage asked v.held ≡ true → list_any is_conclude told ≡ true
@@ -276,7 +276,7 @@ IsCause rows items conn_ends.PeerEnd last = (last ≡ aborts) ⊎ (last ≡ ends
 IsCause rows items conn_ends.Declined (offers title) = is_peers rows title ≡ false
 IsCause rows items conn_ends.Declined last = last ≡ offers_badly
 IsCause rows items (conn_ends.Refused fault) last = (last ≡ breaks)
-    × ((reading_of (text_of items)).broken ≡ Some fault)
+    × ((reading_of (text_given items)).broken ≡ Some fault)
 IsCause rows items _ last = ⊥
 
 -- all that these items tell, up to the first behind which nothing follows, was acted on, and the
@@ -288,16 +288,16 @@ pub record EndsBy (rows : CentreRows) (items : List Item) (told : List Arrival) 
   pub dropped : List Item
   pub items_are : items ≡ done ++ dropped
   pub last : Turn
-  pub ends : EndsWith rows turns last
+  pub ends : EndsWithTurn rows turns last
   pub cause : IsCause rows items end last
   pub whole : up_to_last rows (turns_of done) ≡ turns
-  pub answered : answers_to called told ≡ answers_to called (reading_of (text_of done)).told
+  pub answered : answers_to called told ≡ answers_to called (reading_of (text_given done)).told
   pub fixed : end ≡ conn_ends.Declined
-      → (setup_after told ≡ setup_after (reading_of (text_of done)).told)
-      × (is_some (first_in connect_in (reading_of (text_of done)).told) ≡ true)
+      → (setup_after told ≡ setup_after (reading_of (text_given done)).told)
+      × (is_some (first_in connect_in (reading_of (text_given done)).told) ≡ true)
 
 -- nothing is read any more
-pub record IsOver (v : Talking) : Type 0 where
+pub record ReadsNoMore (v : Talking) : Type 0 where
   pub read : v.behind ≡ behinds.Nothing
   pub acted : v.held ≡ None
 
@@ -305,25 +305,26 @@ abbrev pub GoesBy : Progress → CentreRows → List Item → List Arrival → L
 GoesBy (progresses.Running asked) rows items told turns v = Runs rows items told turns asked v
 GoesBy progresses.Refused rows items told turns v = Unit {0}
 GoesBy (progresses.Leaving end asked) rows items told turns v = is_open_stage v.stage ≡ true
-GoesBy (progresses.Ended end) rows items told turns v = EndsBy rows items told turns end × IsOver v
-GoesBy (progresses.Cut end) rows items told turns v = IsOver v
+GoesBy (progresses.Ended end) rows items told turns v = EndsBy rows items told turns end
+    × ReadsNoMore v
+GoesBy (progresses.Cut end) rows items told turns v = ReadsNoMore v
 
 abbrev pub IsPeer : CentreRows → ℕ → Type 0
 IsPeer rows peer = peer < length rows.tables
 
 -- until it ends there is room for the octets of an abort, and none were said
-pub record HasRoom (v : Talking) : Type 0 where
+pub record HasAbortRoom (v : Talking) : Type 0 where
   pub room : vec_len v.farewell + 64 ≤ vec_capacity v.farewell
   pub unsaid : v.farewell.items ≡ []
 
 abbrev pub RoomBy : Progress → Talking → Type 0
 RoomBy (progresses.Ended end) v = Unit {0}
 RoomBy (progresses.Cut end) v = Unit {0}
-RoomBy _ v = HasRoom v
+RoomBy _ v = HasAbortRoom v
 
 -- a connection at one of the peers of this centre, whose link has given these items, of which these
 -- messages were told, and what these turns tell was acted on
-pub record StandsAt (rows : CentreRows) (items : List Item) (told : List Arrival)
+pub record ConnStandsAt (rows : CentreRows) (items : List Item) (told : List Arrival)
     (turns : List Turn) (v : Talking) : Type 0 where
   pub rows_are : v.rows ≡ rows
   pub peer : IfSome (stage_peer v.stage) (IsPeer rows)
@@ -336,4 +337,4 @@ pub record IsPlaced (v : Talking) : Type 0 where
   pub items : List Item
   pub told : List Arrival
   pub turns : List Turn
-  pub stands : StandsAt rows items told turns v
+  pub stands : ConnStandsAt rows items told turns v

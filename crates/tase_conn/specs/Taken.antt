@@ -7,5 +7,5 @@ abbrev pub TakesIn : Talking → Talking → Type 0
 TakesIn old new = new ≡ record old { course = new.course; behind = new.behind }
 
 -- but for what is still to be sent
-abbrev pub IsSent : Talking → Talking → Type 0
-IsSent old new = new ≡ record old { out = new.out; farewell = new.farewell }
+abbrev pub SendsSome : Talking → Talking → Type 0
+SendsSome old new = new ≡ record old { out = new.out; farewell = new.farewell }

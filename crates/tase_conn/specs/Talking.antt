@@ -10,7 +10,7 @@ use Rattle.tase_conn.specs.declared.stage.Stage.TheVariants as stages
 use Rattle.tase_conn.specs.declared.stage.Behind.{Behind}
 use Rattle.tase_conn.specs.declared.stage.Behind.TheVariants as behinds
 use Rattle.tase_conn.specs.declared.stage.Coming.{Coming}
-use Rattle.tase_conn.specs.declared.stage.Asked.TheVariants as askeds
+use Rattle.tase_conn.specs.declared.stage.PendingEvent.TheVariants as askeds
 use Rattle.tase_conn.specs.declared.stage.Progress.{Progress}
 use Rattle.tase_conn.specs.declared.stage.Progress.TheVariants as progresses
 
@@ -35,19 +35,19 @@ pub record Talking : Type 0 where
 abbrev pub pending_of : Talking → List ℕ
 pending_of v = v.out ++ v.farewell.items
 
-abbrev pub first_of : List ℕ → List ℕ → List ℕ
-first_of [] others = others
-first_of (x ∷ xs) others = x ∷ xs
+abbrev pub first_filled : List ℕ → List ℕ → List ℕ
+first_filled [] others = others
+first_filled (x ∷ xs) others = x ∷ xs
 
 -- those that are to be sent next: all of them, or all but those of an abort
-abbrev pub next_of : Talking → List ℕ
-next_of v = first_of v.out v.farewell.items
+abbrev pub next_pending : Talking → List ℕ
+next_pending v = first_filled v.out v.farewell.items
 
 -- the end, once it has come
-abbrev pub end_in : Progress → Option ConnEnd
-end_in (progresses.Ended end) = Some end
-end_in (progresses.Cut end) = Some end
-end_in _ = None
+abbrev pub conn_end_in : Progress → Option ConnEnd
+conn_end_in (progresses.Ended end) = Some end
+conn_end_in (progresses.Cut end) = Some end
+conn_end_in _ = None
 
 -- no event waits for its answer, and no answer was refused for want of memory
 abbrev pub IsFree : Progress → Type 0

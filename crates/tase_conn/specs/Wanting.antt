@@ -15,13 +15,13 @@ use Rattle.tase_views.specs.declared.event.EventKind.TheVariants as events
 use Rattle.tase_map.specs.Inputs.{Item}
 use Rattle.tase_map.specs.Turns.{Turn, offers, offers_badly, asks, concludes, releases, aborts}
 use Rattle.tase_map.specs.Turns.{breaks, ends, pauses, turns_of}
-use Rattle.tase_map.specs.Asks.{is_peers, begins, is_open, asks_behind, up_to_last}
-use Rattle.tase_map.specs.Out.{release_octets, abort_octets}
-use Rattle.tase_conn.specs.declared.stage.Asked.TheVariants as askeds
+use Rattle.tase_map.specs.Asks.{is_peers, begins, is_open_behind, asks_behind, up_to_last}
+use Rattle.tase_map.specs.Out.{release_wire, abort_wire}
+use Rattle.tase_conn.specs.declared.stage.PendingEvent.TheVariants as askeds
 use Rattle.tase_conn.specs.declared.stage.Progress.{Progress}
 use Rattle.tase_conn.specs.declared.stage.Progress.TheVariants as progresses
 use Rattle.tase_conn.specs.Talking.{Talking, pending_of, IsResting}
-use Rattle.tase_conn.specs.Places.{StandsAt}
+use Rattle.tase_conn.specs.Places.{ConnStandsAt}
 
 -- ---- what is said of what asks for no event
 
@@ -30,7 +30,7 @@ refusal_said setup = wire setup.size (refusal_tsdu setup.acse)
 
 -- what follows a conclude, whose association is closed: a release is answered, a fault aborts
 abbrev pub behind_close : CentreRows → List Turn → List ℕ → List ℕ
-behind_close rows before octets = if is_open rows before then [] else
+behind_close rows before octets = if is_open_behind rows before then [] else
     (if list_any (begins rows) before then octets else [])
 
 -- at one turn, behind these: an offer is refused that can't be accepted
@@ -40,9 +40,9 @@ quiet_at rows setup before (offers title) =
 quiet_at rows setup before offers_badly = refusal_said setup
 quiet_at rows setup before (asks invoke call) = []
 quiet_at rows setup before concludes = []
-quiet_at rows setup before releases = behind_close rows before (release_octets setup)
+quiet_at rows setup before releases = behind_close rows before (release_wire setup)
 quiet_at rows setup before aborts = []
-quiet_at rows setup before breaks = behind_close rows before (abort_octets setup)
+quiet_at rows setup before breaks = behind_close rows before (abort_wire setup)
 quiet_at rows setup before ends = []
 quiet_at rows setup before pauses = []
 
@@ -55,27 +55,27 @@ quiet_behind rows setup before (turn ∷ turns) = quiet_at rows setup before tur
 
 -- these messages and turns more were acted on; they ask for these events, and these octets were
 -- said
-pub record GoesOn (rows : CentreRows) (items : List Item) (told : List Arrival) (turns : List Turn)
+pub record ReadsOn (rows : CentreRows) (items : List Item) (told : List Arrival) (turns : List Turn)
     (asked : List EventKind) (old new : Talking) : Type 0 where
   pub later : List Arrival
   pub more : List Turn
-  pub stands : StandsAt rows items (told ++ later) (turns ++ more) new
+  pub stands : ConnStandsAt rows items (told ++ later) (turns ++ more) new
   pub asks_are : asks_behind rows turns more ≡ asked
   pub said : pending_of new ≡ pending_of old ++ (answers_to called later
       ++ quiet_behind rows (setup_after (told ++ later)) turns more)
 
 -- all that the items tell was acted on, up to the first behind which nothing follows: the
 -- connection runs, or the peer has brought its end
-abbrev pub IsWhole : CentreRows → List Item → List Turn → Progress → Type 0
-IsWhole rows items turns (progresses.Running asked) = up_to_last rows (turns_of items) ≡ turns
-IsWhole rows items turns (progresses.Ended end) = up_to_last rows (turns_of items) ≡ turns
-IsWhole rows items turns progress = ⊥
+abbrev pub AreAllTurns : CentreRows → List Item → List Turn → Progress → Type 0
+AreAllTurns rows items turns (progresses.Running asked) = up_to_last rows (turns_of items) ≡ turns
+AreAllTurns rows items turns (progresses.Ended end) = up_to_last rows (turns_of items) ≡ turns
+AreAllTurns rows items turns progress = ⊥
 
-pub record IsThrough (rows : CentreRows) (items : List Item) (told : List Arrival)
+pub record IsAllActedOn (rows : CentreRows) (items : List Item) (told : List Arrival)
     (turns : List Turn) (old new : Talking) : Type 0 where
-  pub goes : GoesOn rows items told turns [] old new
+  pub goes : ReadsOn rows items told turns [] old new
   pub resting : IsResting new
-  pub whole : IsWhole rows items (turns ++ goes.more) new.progress
+  pub whole : AreAllTurns rows items (turns ++ goes.more) new.progress
 
 -- the event that waits
 abbrev pub WaitsFor : Progress → EventKind → Type 0
@@ -86,11 +86,12 @@ WaitsFor (progresses.Running (askeds.Closing cause)) events.Close = Unit {0}
 WaitsFor _ _ = ⊥
 
 -- an event is the next that is asked; none where nothing is left
-abbrev pub Reads : CentreRows → List Item → List Arrival → List Turn → Option EventKind → Talking
+abbrev pub ReadsNext : CentreRows → List Item → List Arrival → List Turn → Option EventKind
+    → Talking
     → Talking → Type 0
-Reads rows items told turns (Some event) old new = WaitsFor new.progress event
-    × GoesOn rows items told turns (event ∷ []) old new
-Reads rows items told turns None old new = IsThrough rows items told turns old new
+ReadsNext rows items told turns (Some event) old new = WaitsFor new.progress event
+    × ReadsOn rows items told turns (event ∷ []) old new
+ReadsNext rows items told turns None old new = IsAllActedOn rows items told turns old new
 
 -- it was left, and its association is still to be closed
 abbrev pub IsLeaving : Progress → Type 0
@@ -98,26 +99,27 @@ IsLeaving (progresses.Leaving end asked) = Unit {0}
 IsLeaving _ = ⊥
 
 -- where it was left nothing is acted on, and the association is closed
-abbrev pub closing : Talking → Progress → Talking
-closing v (progresses.Leaving end asked) = record v { progress = progresses.Leaving end true }
-closing v progress = v
+abbrev pub progress_closing : Talking → Progress → Talking
+progress_closing v (progresses.Leaving end asked) =
+    record v { progress = progresses.Leaving end true }
+progress_closing v progress = v
 
-pub record Leaves (event : Option EventKind) (old new : Talking) : Type 0 where
+pub record WantsClose (event : Option EventKind) (old new : Talking) : Type 0 where
   pub event_is : event ≡ Some events.Close
-  pub is : new ≡ closing old old.progress
+  pub is : new ≡ progress_closing old old.progress
 
 -- where it has ended nothing is wanted any more
-pub record Stays (event : Option EventKind) (old new : Talking) : Type 0 where
+pub record StaysEnded (event : Option EventKind) (old new : Talking) : Type 0 where
   pub none : event ≡ None
   pub is : new ≡ old
 
 abbrev pub WantsBy : Progress → CentreRows → List Item → List Arrival → List Turn
     → Option EventKind → Talking → Talking → Type 0
 WantsBy (progresses.Leaving end asked) rows items told turns event old new =
-    Leaves event old new × StandsAt rows items told turns new
-WantsBy (progresses.Ended end) rows items told turns event old new = Stays event old new
-WantsBy (progresses.Cut end) rows items told turns event old new = Stays event old new
-WantsBy progress rows items told turns event old new = Reads rows items told turns event old new
+    WantsClose event old new × ConnStandsAt rows items told turns new
+WantsBy (progresses.Ended end) rows items told turns event old new = StaysEnded event old new
+WantsBy (progresses.Cut end) rows items told turns event old new = StaysEnded event old new
+WantsBy progress rows items told turns event old new = ReadsNext rows items told turns event old new
 
 abbrev pub Wants : CentreRows → List Item → List Arrival → List Turn → Option EventKind → Talking
     → Talking → Type 0
@@ -131,7 +133,7 @@ pub record Passes (rows : CentreRows) (items : List Item) (told : List Arrival) 
     (old new : Talking) : Type 0 where
   pub later : List Arrival
   pub more : List Turn
-  pub stands : StandsAt rows items (told ++ later) (turns ++ more) new
+  pub stands : ConnStandsAt rows items (told ++ later) (turns ++ more) new
   pub asks_are : asks_behind rows turns more ≡ []
   pub quiet : (setup : AssociationSetup) → quiet_behind rows setup turns more ≡ []
   pub said : pending_of new ≡ pending_of old ++ answers_to called later

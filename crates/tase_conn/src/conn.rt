@@ -11,13 +11,14 @@ ghost use Rattle.stack_assoc.specs.Arrivals.{Arrival};
 ghost use Rattle.tase_map.specs.Inputs.{Item, piece as a_piece, idle, ended};
 ghost use Rattle.tase_map.specs.Turns.{Turn};
 ghost use Rattle.tase_conn.specs.declared.stage.Progress.TheVariants as progresses;
-ghost use Rattle.tase_conn.specs.declared.stage.Asked.TheVariants as askeds;
-ghost use Rattle.tase_conn.specs.Talking.{pending_of, next_of, end_in, IsResting, is_running};
-ghost use Rattle.tase_conn.specs.Places.{StandsAt, IsPlaced};
-ghost use Rattle.tase_conn.specs.Taken.{TakesIn, IsSent};
+ghost use Rattle.tase_conn.specs.declared.stage.PendingEvent.TheVariants as askeds;
+ghost use Rattle.tase_conn.specs.Talking.{pending_of, next_pending, conn_end_in, IsResting};
+ghost use Rattle.tase_conn.specs.Talking.{is_running};
+ghost use Rattle.tase_conn.specs.Places.{ConnStandsAt, IsPlaced};
+ghost use Rattle.tase_conn.specs.Taken.{TakesIn, SendsSome};
 ghost use Rattle.tase_conn.specs.Answering.{limit_at};
 
-use crate::stage::{Asked, Behind, Coming, ConnEnd, Progress, Stage};
+use crate::stage::{Behind, Coming, ConnEnd, PendingEvent, Progress, Stage};
 use bilateral::Centre;
 use stack_assoc::Stack;
 use std::alloc::{AllocError, Global};
@@ -75,7 +76,7 @@ impl Model for Conn {
 impl Conn {
     /// A connection of which nothing has come yet, to one of the peers of this centre.
     pub fn new(alloc: Global, centre: Arc<Centre>) -> Result<Conn, AllocError>
-        ensures start { IfOk result (λ conn. StandsAt (arc_value centre) [] [] [] conn) }
+        ensures start { IfOk result (λ conn. ConnStandsAt (arc_value centre) [] [] [] conn) }
         ensures resting { IfOk result (λ conn. IsResting conn) }
         ensures running { IfOk result (λ conn.
             conn.progress ≡ progresses.Running askeds.Nothing) }
@@ -91,7 +92,7 @@ impl Conn {
             held: None,
             behind: Behind::Nothing,
             stage: Stage::Early,
-            progress: Progress::Running(Asked::Nothing),
+            progress: Progress::Running(PendingEvent::Nothing),
             out: Vec::new(alloc),
             farewell,
         })
@@ -106,8 +107,9 @@ impl Conn {
         requires resting { IsResting self.old }
         requires placed { IsPlaced self.old }
         ensures ok { (rows : CentreRows) (items : List Item) (told : List Arrival)
-            (turns : List Turn) → StandsAt rows items told turns self.old
-            → OnOk result (StandsAt rows (items ++ a_piece piece.now ∷ []) told turns self.new) }
+            (turns : List Turn) → ConnStandsAt rows items told turns self.old
+            → OnOk result
+            (ConnStandsAt rows (items ++ a_piece piece.now ∷ []) told turns self.new) }
         ensures same { OnOk result (TakesIn self.old self.new) }
         ensures err { OnErr result (self.new ≡ self.old) }
     {
@@ -125,8 +127,8 @@ impl Conn {
         requires resting { IsResting self.old }
         requires placed { IsPlaced self.old }
         ensures stands { (rows : CentreRows) (items : List Item) (told : List Arrival)
-            (turns : List Turn) → StandsAt rows items told turns self.old
-            → StandsAt rows (items ++ idle ∷ []) told turns self.new }
+            (turns : List Turn) → ConnStandsAt rows items told turns self.old
+            → ConnStandsAt rows (items ++ idle ∷ []) told turns self.new }
         ensures same { TakesIn self.old self.new }
     {
         if self.is_running() {
@@ -140,8 +142,8 @@ impl Conn {
         requires resting { IsResting self.old }
         requires placed { IsPlaced self.old }
         ensures stands { (rows : CentreRows) (items : List Item) (told : List Arrival)
-            (turns : List Turn) → StandsAt rows items told turns self.old
-            → StandsAt rows (items ++ ended ∷ []) told turns self.new }
+            (turns : List Turn) → ConnStandsAt rows items told turns self.old
+            → ConnStandsAt rows (items ++ ended ∷ []) told turns self.new }
         ensures same { TakesIn self.old self.new }
     {
         if self.is_running() {
@@ -159,7 +161,7 @@ impl Conn {
     /// The octets that are to be sent next: all that are to be sent, or, where the association was
     /// aborted, first all before the abort, and then those of the abort.
     pub fn pending(&self) -> &[u8]
-        ensures { result.now ≡ next_of self.now }
+        ensures { result.now ≡ next_pending self.now }
     {
         if self.out.is_empty() {
             self.farewell.as_slice()
@@ -170,12 +172,12 @@ impl Conn {
 
     /// Notes that so many of the pending octets were sent.
     pub fn sent(&mut self, n: usize)
-        requires { n ≤ length (next_of self.old) }
+        requires { n ≤ length (next_pending self.old) }
         ensures pending { pending_of self.new ≡ drop n (pending_of self.old) }
         ensures stands { (rows : CentreRows) (items : List Item) (told : List Arrival)
-            (turns : List Turn) → StandsAt rows items told turns self.old
-            → StandsAt rows items told turns self.new }
-        ensures same { IsSent self.old self.new }
+            (turns : List Turn) → ConnStandsAt rows items told turns self.old
+            → ConnStandsAt rows items told turns self.new }
+        ensures same { SendsSome self.old self.new }
     {
         if n == 0 {
             return;
@@ -215,7 +217,7 @@ impl Conn {
 
     /// How the connection ended, if it has.
     pub fn ended(&self) -> Option<&ConnEnd>
-        ensures { option_copied result ≡ end_in self.now.progress }
+        ensures { option_copied result ≡ conn_end_in self.now.progress }
     {
         match &self.progress {
             Progress::Ended(end) | Progress::Cut(end) => Some(end),

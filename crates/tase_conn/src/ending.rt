@@ -6,12 +6,12 @@ ghost use Rattle.bilateral.specs.Rows.{CentreRows};
 ghost use Rattle.stack_assoc.specs.Arrivals.{Arrival};
 ghost use Rattle.tase_conn.specs.declared.stage.Cause.TheVariants as causes;
 ghost use Rattle.tase_conn.specs.Talking.{MayLeave};
-ghost use Rattle.tase_conn.specs.Places.{StandsAt, IsPlaced, HasRoom};
-ghost use Rattle.tase_conn.specs.Answering.{aborts, aborted, parted};
+ghost use Rattle.tase_conn.specs.Places.{ConnStandsAt, IsPlaced, HasAbortRoom};
+ghost use Rattle.tase_conn.specs.Answering.{aborts, aborted, parting_octets};
 ghost use Rattle.tase_conn.specs.Leaving.{IsLeft, Parts, finished, MayAnswer, EndsFor, is_quick};
 
 use crate::conn::Conn;
-use crate::stage::{Asked, Behind, Cause, ConnEnd, Progress, Stage};
+use crate::stage::{Behind, Cause, ConnEnd, PendingEvent, Progress, Stage};
 use mms_services::MmsPdu;
 use std::alloc::AllocError;
 
@@ -33,8 +33,8 @@ impl Conn {
         requires placed { IsPlaced self.old }
         // Nothing more is read: it stands where it stood.
         ensures stands { (rows : CentreRows) (items : List Item) (told : List Arrival)
-            (turns : List Turn) → StandsAt rows items told turns self.old
-            → StandsAt rows items told turns self.new }
+            (turns : List Turn) → ConnStandsAt rows items told turns self.old
+            → ConnStandsAt rows items told turns self.new }
         ensures left { IsLeft end self.old self.new }
     {
         self.leave(end);
@@ -42,7 +42,7 @@ impl Conn {
 
     /// Leaves the connection, for this end, once its association is closed.
     pub(crate) fn leave(&mut self, end: ConnEnd)
-        requires { HasRoom self.old }
+        requires { HasAbortRoom self.old }
         ensures { IsLeft end self.old self.new }
     {
         match self.stage {
@@ -54,8 +54,8 @@ impl Conn {
     /// Ends the connection, and aborts its association where it stands, unless the link can't take
     /// it.
     pub(crate) fn part(&mut self, end: ConnEnd, progress: Progress)
-        requires { HasRoom self.old }
-        ensures { Parts progress (parted self.old.course end) self.old self.new }
+        requires { HasAbortRoom self.old }
+        ensures { Parts progress (parting_octets self.old.course end) self.old self.new }
     {
         if aborts(end) {
             self.abort();
@@ -64,7 +64,7 @@ impl Conn {
     }
 
     fn abort(&mut self)
-        requires { HasRoom self.old }
+        requires { HasAbortRoom self.old }
         ensures same { self.new
             ≡ record self.old { course = self.new.course; farewell = self.new.farewell } }
         ensures said { self.new.farewell.items
@@ -86,7 +86,7 @@ impl Conn {
     /// Answers the peer that its association is closed, or where none is open ends the connection.
     pub(crate) fn answer_end(&mut self, cause: Cause) -> Result<(), AllocError>
         requires may { MayAnswer cause self.old.course }
-        requires room { HasRoom self.old }
+        requires room { HasAbortRoom self.old }
         ensures ok { OnOk result (EndsFor cause self.old self.new) }
         ensures err { OnErr result (self.new ≡ self.old) }
         ensures quick { is_quick cause ≡ true → IsOk result }
@@ -112,7 +112,7 @@ impl Conn {
         ensures err { OnErr result (self.new ≡ self.old) }
     {
         self.stack.say(&MmsPdu::Concluded, &mut self.out)?;
-        self.progress = Progress::Running(Asked::Nothing);
+        self.progress = Progress::Running(PendingEvent::Nothing);
         Ok(())
     }
 

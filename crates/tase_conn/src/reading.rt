@@ -5,7 +5,7 @@ ghost use Rattle.tase_map.specs.Turns.{Turn};
 ghost use Rattle.bilateral.specs.Rows.{CentreRows};
 ghost use Rattle.stack_assoc.specs.Arrivals.{Arrival};
 ghost use Rattle.tase_conn.specs.declared.stage.Progress.TheVariants as progresses;
-ghost use Rattle.tase_conn.specs.declared.stage.Asked.TheVariants as askeds;
+ghost use Rattle.tase_conn.specs.declared.stage.PendingEvent.TheVariants as askeds;
 ghost use Rattle.tase_conn.specs.declared.stage.Coming.TheVariants as comings;
 ghost use Rattle.tase_conn.specs.declared.stage.ConnEnd.TheVariants as conn_ends;
 ghost use Rattle.tase_conn.specs.declared.stage.Step.TheVariants as steps;
@@ -14,15 +14,16 @@ ghost use Rattle.stack_assoc.specs.Courses.{is_offered};
 ghost use Rattle.mms_services.specs.declared.pdu.MmsPdu.TheVariants as pdus;
 ghost use Rattle.tase_views.specs.declared.event.EventKind.TheVariants as events;
 ghost use Rattle.tase_conn.specs.Talking.{IsFree};
-ghost use Rattle.tase_conn.specs.Places.{StandsAt, IsPlaced};
-ghost use Rattle.tase_conn.specs.Wanting.{Wants, Reads, Passes, IsIdle, IsLeaving, refusal_said};
-ghost use Rattle.tase_conn.specs.Acting.{Steps, StaysIdle, GoesDown, weight};
+ghost use Rattle.tase_conn.specs.Places.{ConnStandsAt, IsPlaced};
+ghost use Rattle.tase_conn.specs.Wanting.{Wants, ReadsNext, Passes, IsIdle, IsLeaving};
+ghost use Rattle.tase_conn.specs.Wanting.{refusal_said};
+ghost use Rattle.tase_conn.specs.Acting.{StepsBy, StaysIdle, GoesDown, steps_left};
 ghost use Rattle.tase_conn.specs.Acting.{ActsOn, StaysSo, holding, has_more, coming_by};
 ghost use Rattle.tase_conn.specs.Acting.{holding_behind, holding_fault};
-ghost use Rattle.tase_conn.specs.Leaving.{Adds, EndsFor, MayEnd, finished};
+ghost use Rattle.tase_conn.specs.Leaving.{AddsAnswer, EndsFor, MayEnd, finished};
 
 use crate::conn::Conn;
-use crate::stage::{Asked, Behind, Cause, Coming, ConnEnd, Progress, Stage, Step};
+use crate::stage::{Behind, Cause, Coming, ConnEnd, PendingEvent, Progress, Stage, Step};
 use ber_values::Oid;
 use bilateral::peer_of;
 use mms_services::{Initiate, MmsPdu, Request, negotiate};
@@ -41,10 +42,10 @@ impl Conn {
         requires free { IsFree self.old.progress }
         requires placed { IsPlaced self.old }
         ensures ok { (rows : CentreRows) (items : List Item) (told : List Arrival)
-            (turns : List Turn) → StandsAt rows items told turns self.old
+            (turns : List Turn) → ConnStandsAt rows items told turns self.old
             → IfOk result (λ event. Wants rows items told turns event self.old self.new) }
         ensures err { (rows : CentreRows) (items : List Item) (told : List Arrival)
-            (turns : List Turn) → StandsAt rows items told turns self.old
+            (turns : List Turn) → ConnStandsAt rows items told turns self.old
             → OnErr result (Passes rows items told turns self.old self.new) }
         ensures again { OnErr result (IsIdle self.new.progress) }
         ensures left { IsLeaving self.old.progress → IsOk result }
@@ -71,10 +72,10 @@ impl Conn {
         requires idle { IsIdle self.old.progress }
         requires placed { IsPlaced self.old }
         ensures ok { (rows : CentreRows) (items : List Item) (told : List Arrival)
-            (turns : List Turn) → StandsAt rows items told turns self.old
-            → IfOk result (λ event. Reads rows items told turns event self.old self.new) }
+            (turns : List Turn) → ConnStandsAt rows items told turns self.old
+            → IfOk result (λ event. ReadsNext rows items told turns event self.old self.new) }
         ensures err { (rows : CentreRows) (items : List Item) (told : List Arrival)
-            (turns : List Turn) → StandsAt rows items told turns self.old
+            (turns : List Turn) → ConnStandsAt rows items told turns self.old
             → OnErr result (Passes rows items told turns self.old self.new) }
         ensures again { OnErr result (IsIdle self.new.progress) }
         ensures stage { self.new.stage ≡ self.old.stage }
@@ -105,14 +106,15 @@ impl Conn {
         requires more { has_more self.old ≡ true }
         requires placed { IsPlaced self.old }
         ensures ok { (rows : CentreRows) (items : List Item) (told : List Arrival)
-            (turns : List Turn) → StandsAt rows items told turns self.old
-            → IfOk result (λ step. Steps rows items told turns step self.old self.new) }
+            (turns : List Turn) → ConnStandsAt rows items told turns self.old
+            → IfOk result (λ step. StepsBy rows items told turns step self.old self.new) }
         ensures err { (rows : CentreRows) (items : List Item) (told : List Arrival)
-            (turns : List Turn) → StandsAt rows items told turns self.old
-            → OnErr result (StandsAt rows items told turns self.new) }
+            (turns : List Turn) → ConnStandsAt rows items told turns self.old
+            → OnErr result (ConnStandsAt rows items told turns self.new) }
         ensures same { OnErr result (self.new ≡ record self.old { course = self.new.course }) }
         ensures idle { IfOk result (λ step. StaysIdle step self.new.progress) }
-        ensures shorter { IfOk result (λ step. GoesDown step (weight self.old) (weight self.new)) }
+        ensures shorter { IfOk result (λ step. GoesDown step (steps_left self.old)
+            (steps_left self.new)) }
         ensures stage { self.new.stage ≡ self.old.stage }
     {
         match self.held.take() {
@@ -129,15 +131,15 @@ impl Conn {
         requires more { has_more self.old ≡ true }
         requires placed { IsPlaced self.old }
         ensures ok { (rows : CentreRows) (items : List Item) (told : List Arrival)
-            (turns : List Turn) → StandsAt rows items told turns self.old
+            (turns : List Turn) → ConnStandsAt rows items told turns self.old
             → OnOk result (Passes rows items told turns self.old self.new) }
         ensures err { (rows : CentreRows) (items : List Item) (told : List Arrival)
-            (turns : List Turn) → StandsAt rows items told turns self.old
-            → OnErr result (StandsAt rows items told turns self.new) }
+            (turns : List Turn) → ConnStandsAt rows items told turns self.old
+            → OnErr result (ConnStandsAt rows items told turns self.new) }
         ensures same { OnErr result (self.new ≡ record self.old { course = self.new.course }) }
         ensures step { IfOk result (λ step. step ≡ steps.GoesOn) }
         ensures idle { OnOk result (self.new.progress ≡ self.old.progress) }
-        ensures shorter { OnOk result (weight self.new < weight self.old) }
+        ensures shorter { OnOk result (steps_left self.new < steps_left self.old) }
         ensures stage { self.new.stage ≡ self.old.stage }
     {
         match self.stack.next(&mut self.out)? {
@@ -182,7 +184,7 @@ impl Conn {
         ensures ok { IfOk result (λ step. ActsOn coming self.old step self.new) }
         ensures idle { IfOk result (λ step. StaysIdle step self.new.progress) }
         ensures shorter { IfOk result (λ step.
-            GoesDown step (weight (holding coming self.old)) (weight self.new)) }
+            GoesDown step (steps_left (holding coming self.old)) (steps_left self.new)) }
         ensures err { OnErr result (self.new ≡ holding coming self.old) }
         ensures stage { self.new.stage ≡ self.old.stage }
     {
@@ -250,7 +252,7 @@ impl Conn {
         match peer_of(&self.centre, title.as_ref()) {
             Some(peer) => match negotiate(initiate) {
                 Some(granted) => {
-                    let asked = Asked::Opening { peer, granted };
+                    let asked = PendingEvent::Opening { peer, granted };
                     Ok(self.ask(asked, EventKind::Open { peer }))
                 }
                 None => self.decline(),
@@ -263,7 +265,7 @@ impl Conn {
     fn decline(&mut self) -> Result<Step, AllocError>
         requires offered { is_offered self.old.course.standing ≡ true }
         ensures ok { IfOk result (λ step. step ≡ steps.Ends) }
-        ensures done { OnOk result (Adds (refusal_said self.old.course.setup)
+        ensures done { OnOk result (AddsAnswer (refusal_said self.old.course.setup)
             (finished (progresses.Ended conn_ends.Declined) self.old) self.new) }
         ensures err { OnErr result (self.new ≡ self.old) }
         ensures stage { self.new.stage ≡ self.old.stage }
@@ -313,7 +315,10 @@ impl Conn {
         ensures same { self.new
             ≡ record self.old { progress = progresses.Running (askeds.Requesting invoke) } }
     {
-        self.ask(Asked::Requesting { invoke }, EventKind::Request { call })
+        self.ask(
+            PendingEvent::Requesting { invoke },
+            EventKind::Request { call },
+        )
     }
 
     /// Behind all of a piece, or where nothing came, the reports are taken, if an association is
@@ -326,7 +331,7 @@ impl Conn {
         ensures stage { self.new.stage ≡ self.old.stage }
     {
         match self.stage {
-            Stage::Open { .. } => self.ask(Asked::Taking, EventKind::Take),
+            Stage::Open { .. } => self.ask(PendingEvent::Taking, EventKind::Take),
             Stage::Early => Step::GoesOn,
             Stage::Closed { .. } => Step::GoesOn,
         }
@@ -344,7 +349,7 @@ impl Conn {
         ensures stage { self.new.stage ≡ self.old.stage }
     {
         match self.stage {
-            Stage::Open { .. } => Ok(self.ask(Asked::Closing(cause), EventKind::Close)),
+            Stage::Open { .. } => Ok(self.ask(PendingEvent::Closing(cause), EventKind::Close)),
             Stage::Early => self.end_now(cause),
             Stage::Closed { .. } => self.end_now(cause),
         }
@@ -363,7 +368,7 @@ impl Conn {
     }
 
     /// Asks for an event.
-    fn ask(&mut self, asked: Asked, kind: EventKind) -> Step
+    fn ask(&mut self, asked: PendingEvent, kind: EventKind) -> Step
         ensures step { result ≡ steps.Asks kind }
         ensures same { self.new ≡ record self.old { progress = progresses.Running asked } }
     {

@@ -81,7 +81,7 @@ pub(crate) enum Cause {
 
 /// The event that waits for its answer.
 #[derive(Clone, Copy)]
-pub(crate) enum Asked {
+pub(crate) enum PendingEvent {
     Nothing,
     /// The open of this peer; with this its offer is to be accepted.
     Opening { peer: u32, granted: Initiate },
@@ -95,7 +95,7 @@ pub(crate) enum Asked {
 #[derive(Clone, Copy)]
 pub(crate) enum Progress {
     /// It does, and this event waits.
-    Running(Asked),
+    Running(PendingEvent),
     /// An answer was refused for want of memory: it is to be given up.
     Refused,
     /// It was left, and its association is still to be closed; whether that was asked.

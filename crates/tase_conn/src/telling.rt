@@ -10,23 +10,23 @@ ghost use Rattle.stack_assoc.specs.Arrivals.{Arrival};
 ghost use Rattle.bilateral.specs.Rows.{CentreRows};
 ghost use Rattle.tase_map.specs.Inputs.{Item};
 ghost use Rattle.tase_map.specs.Turns.{Turn};
-ghost use Rattle.tase_map.specs.Replied.{pdu_in};
+ghost use Rattle.tase_map.specs.Replied.{pdu_of_reply};
 ghost use Rattle.tase_map.specs.Out.{within, too_long};
-ghost use Rattle.tase_conn.specs.declared.stage.Asked.TheVariants as askeds;
+ghost use Rattle.tase_conn.specs.declared.stage.PendingEvent.TheVariants as askeds;
 ghost use Rattle.tase_conn.specs.declared.stage.Stage.TheVariants as stages;
 ghost use Rattle.tase_conn.specs.declared.stage.Progress.TheVariants as progresses;
 ghost use Rattle.tase_conn.specs.Talking.{pending_of};
-ghost use Rattle.tase_conn.specs.Places.{StandsAt, IsPlaced, HasRoom};
+ghost use Rattle.tase_conn.specs.Places.{ConnStandsAt, IsPlaced, HasAbortRoom};
 ghost use Rattle.tase_conn.specs.Wanting.{IsLeaving};
 ghost use Rattle.tase_conn.specs.Answering.{IsAnswerTo, IsAnswerFor, told_said, stage_by};
-ghost use Rattle.tase_conn.specs.Answering.{stage_told, progress_told, end_of, detail_in};
-ghost use Rattle.tase_conn.specs.Answering.{detail_at, closed, parted};
+ghost use Rattle.tase_conn.specs.Answering.{stage_told, progress_told, end_of_fault, detail_in};
+ghost use Rattle.tase_conn.specs.Answering.{detail_at, stage_closed, parting_octets};
 ghost use Rattle.tase_views.specs.declared.fault.StepFault.{StepFault as AnyFault};
 ghost use Rattle.tase_conn.specs.Leaving.{IsLeft, Parts, MayAnswer, EndsFor};
-ghost use Rattle.tase_conn.specs.Noting.{Notes, NotesAsked, opened, answered};
+ghost use Rattle.tase_conn.specs.Noting.{NotesAnswer, NotesAsked, with_open, answered};
 
 use crate::conn::Conn;
-use crate::stage::{Asked, Cause, ConnEnd, Progress, Stage};
+use crate::stage::{Cause, ConnEnd, PendingEvent, Progress, Stage};
 use mms_services::{ErrorPdu, Initiate, MOST_DETAIL, MmsPdu, pdu_len};
 use std::alloc::AllocError;
 use tase_map::pdu_of;
@@ -34,7 +34,7 @@ use tase_views::{Answer, Reply, StepFault};
 
 /// The end of a connection whose event is refused so.
 fn end_of(fault: StepFault) -> ConnEnd
-    ensures { result ≡ end_of fault }
+    ensures { result ≡ end_of_fault fault }
 {
     match fault {
         StepFault::Stopped { .. } => ConnEnd::Stopped,
@@ -87,8 +87,8 @@ impl Conn {
         requires right { IsAnswerFor self.old.progress told }
         requires placed { IsPlaced self.old }
         ensures ok { (rows : CentreRows) (items : List Item) (heard : List Arrival)
-            (turns : List Turn) → StandsAt rows items heard turns self.old
-            → OnOk result (StandsAt rows items heard turns self.new) }
+            (turns : List Turn) → ConnStandsAt rows items heard turns self.old
+            → OnOk result (ConnStandsAt rows items heard turns self.new) }
         ensures said { OnOk result (pending_of self.new ≡ pending_of self.old
             ++ told_said self.old.progress self.old.stage self.old.course told) }
         ensures progress { OnOk result (self.new.progress
@@ -100,11 +100,11 @@ impl Conn {
         }) }
         // It stands where it stood, and may be given up.
         ensures kept { (rows : CentreRows) (items : List Item) (heard : List Arrival)
-            (turns : List Turn) → StandsAt rows items heard turns self.old
-            → OnErr result (StandsAt rows items heard turns self.new) }
+            (turns : List Turn) → ConnStandsAt rows items heard turns self.old
+            → OnErr result (ConnStandsAt rows items heard turns self.new) }
         // A refusal leaves the connection.
         ensures refused { (fault : AnyFault) → told ≡ Err fault
-            → IsLeft (end_of fault) self.old self.new }
+            → IsLeft (end_of_fault fault) self.old self.new }
         // Once it was given up, the answer to its close takes no memory.
         ensures left { IsLeaving self.old.progress → IsOk result }
     {
@@ -120,7 +120,7 @@ impl Conn {
     fn note_or_refuse(&mut self, answer: Answer) -> Result<(), AllocError>
         requires right { IsAnswerFor self.old.progress (Ok answer) }
         requires placed { IsPlaced self.old }
-        ensures ok { OnOk result (Notes self.old.progress answer self.old self.new) }
+        ensures ok { OnOk result (NotesAnswer self.old.progress answer self.old self.new) }
         ensures stage { self.new.stage
             ≡ stage_told self.old.progress (Ok answer) self.old.stage }
         ensures err { OnErr result (self.new ≡ record self.old {
@@ -142,7 +142,7 @@ impl Conn {
     fn note(&mut self, answer: Answer) -> Result<(), AllocError>
         requires right { IsAnswerFor self.old.progress (Ok answer) }
         requires placed { IsPlaced self.old }
-        ensures ok { OnOk result (Notes self.old.progress answer self.old self.new) }
+        ensures ok { OnOk result (NotesAnswer self.old.progress answer self.old self.new) }
         ensures stage { self.new.stage
             ≡ stage_told self.old.progress (Ok answer) self.old.stage }
         ensures err { OnErr result (self.new ≡ record self.old {
@@ -162,15 +162,15 @@ impl Conn {
 
     /// The association is closed that was left.
     fn end_left(&mut self, end: ConnEnd)
-        requires { HasRoom self.old }
-        ensures { Parts (progresses.Cut end) (parted self.old.course end)
-            (record self.old { stage = closed self.old.stage }) self.new }
+        requires { HasAbortRoom self.old }
+        ensures { Parts (progresses.Cut end) (parting_octets self.old.course end)
+            (record self.old { stage = stage_closed self.old.stage }) self.new }
     {
         self.close_stage();
         self.part(end, Progress::Cut(end));
     }
 
-    fn note_asked(&mut self, asked: Asked, answer: &Answer) -> Result<(), AllocError>
+    fn note_asked(&mut self, asked: PendingEvent, answer: &Answer) -> Result<(), AllocError>
         requires right { IsAnswerTo asked (Ok answer.now) }
         requires asked { self.old.progress ≡ progresses.Running asked }
         requires placed { IsPlaced self.old }
@@ -180,11 +180,11 @@ impl Conn {
             ≡ record self.old { stage = stage_by asked self.old.stage }) }
     {
         match asked {
-            Asked::Opening { peer, granted } => self.open(peer, granted),
-            Asked::Requesting { invoke } => self.note_reply(invoke, answer),
-            Asked::Closing(cause) => self.close(cause),
-            Asked::Nothing | Asked::Taking => {
-                self.progress = Progress::Running(Asked::Nothing);
+            PendingEvent::Opening { peer, granted } => self.open(peer, granted),
+            PendingEvent::Requesting { invoke } => self.note_reply(invoke, answer),
+            PendingEvent::Closing(cause) => self.close(cause),
+            PendingEvent::Nothing | PendingEvent::Taking => {
+                self.progress = Progress::Running(PendingEvent::Nothing);
                 Ok(())
             }
         }
@@ -194,7 +194,7 @@ impl Conn {
     fn open(&mut self, peer: u32, granted: Initiate) -> Result<(), AllocError>
         requires offered { self.old.course.standing ≡ standings.Offered }
         requires full { IsFullInitiate granted }
-        ensures ok { OnOk result (self.new ≡ opened peer granted self.old) }
+        ensures ok { OnOk result (self.new ≡ with_open peer granted self.old) }
         ensures stage { self.new.stage ≡ stages.Open peer (detail_in granted) }
         ensures err { OnErr result (self.new
             ≡ record self.old { stage = stages.Open peer (detail_in granted) }) }
@@ -204,7 +204,7 @@ impl Conn {
             detail: detail_of(&granted),
         };
         self.stack.accept(&granted, &mut self.out)?;
-        self.progress = Progress::Running(Asked::Nothing);
+        self.progress = Progress::Running(PendingEvent::Nothing);
         Ok(())
     }
 
@@ -227,7 +227,7 @@ impl Conn {
         requires accepted { stack_state_of self.old.course ≡ states.Accepted }
         requires detail { detail_at self.old.stage ≤ℤ MOST_DETAIL }
         ensures ok { OnOk result (self.new ≡ answered
-            (within (detail_at self.old.stage) invoke (pdu_in invoke reply.now)) self.old) }
+            (within (detail_at self.old.stage) invoke (pdu_of_reply invoke reply.now)) self.old) }
         ensures stage { self.new.stage ≡ self.old.stage }
         ensures err { OnErr result (self.new ≡ self.old) }
     {
@@ -246,7 +246,7 @@ impl Conn {
         ensures err { OnErr result (self.new ≡ self.old) }
     {
         self.stack.say(pdu, &mut self.out)?;
-        self.progress = Progress::Running(Asked::Nothing);
+        self.progress = Progress::Running(PendingEvent::Nothing);
         Ok(())
     }
 
@@ -262,19 +262,19 @@ impl Conn {
     /// The association is closed, and the peer is answered.
     fn close(&mut self, cause: Cause) -> Result<(), AllocError>
         requires may { MayAnswer cause self.old.course }
-        requires room { HasRoom self.old }
+        requires room { HasAbortRoom self.old }
         ensures ok { OnOk result
-            (EndsFor cause (record self.old { stage = closed self.old.stage }) self.new) }
-        ensures stage { self.new.stage ≡ closed self.old.stage }
+            (EndsFor cause (record self.old { stage = stage_closed self.old.stage }) self.new) }
+        ensures stage { self.new.stage ≡ stage_closed self.old.stage }
         ensures err { OnErr result (self.new
-            ≡ record self.old { stage = closed self.old.stage }) }
+            ≡ record self.old { stage = stage_closed self.old.stage }) }
     {
         self.close_stage();
         self.answer_end(cause)
     }
 
     fn close_stage(&mut self)
-        ensures { self.new ≡ record self.old { stage = closed self.old.stage } }
+        ensures { self.new ≡ record self.old { stage = stage_closed self.old.stage } }
     {
         if let Stage::Open { peer, .. } = self.stage {
             self.stage = Stage::Closed { peer };

@@ -26,7 +26,7 @@ use Rattle.tase_views.proofs.Seen.{view_of-entry}
 use Rattle.tase_map.specs.Turns.{Turn, offers, offers_badly, asks, concludes, releases, aborts}
 use Rattle.tase_map.specs.Turns.{breaks, ends, pauses}
 use Rattle.tase_map.specs.Out.{Talk, is_asked, is_asked_by, acts_made, turns_behind, first_reply}
-use Rattle.tase_map.specs.Out.{reply_octets, octets_at, octets_in}
+use Rattle.tase_map.specs.Out.{reply_octets, act_octets, octets_in}
 use Rattle.std.proofs.lemmas.Option.{none-some}
 use Rattle.tase_map.specs.Sent.{IsNoted}
 use Rattle.tase_map.proofs.Closing.{event_adds}
@@ -179,7 +179,7 @@ made_all ordinal (this ∷ these) view a =
 
 asked_at : (table : OwnTable) (ordinal : ℕ) (talk : Talk) (view : View) (a : Act)
     → is_asked a ≡ true
-    → octets_at table ordinal talk view a
+    → act_octets table ordinal talk view a
     ≡ first_reply table ordinal talk view (turns_behind talk.turns (acts_made ordinal view))
 asked_at table ordinal talk view act.opens i = absurd (false≢true i)
 asked_at table ordinal talk view act.takes i = absurd (false≢true i)
@@ -192,7 +192,7 @@ asked_at table ordinal talk view (act.calls call) i = refl
 
 seen_own : (table : OwnTable) (ordinal : ℕ) (talk : Talk) (view : View) (a : Act)
     → octets_in table ordinal talk (own ordinal a ∷ view)
-    ≡ octets_in table ordinal talk view ++ octets_at table ordinal talk view a
+    ≡ octets_in table ordinal talk view ++ act_octets table ordinal talk view a
 seen_own table ordinal talk view a = rw (eq-eqb ordinal ordinal refl) refl
 
 asked_own : (table : OwnTable) (ordinal : ℕ) (talk : Talk) (view : View) (a : Act)
@@ -365,7 +365,7 @@ one_adds : (rows : CentreRows) (table : OwnTable) (talk : Talk) (key : Key) (who
     ≡ map (own key.ordinal) (this ∷ [])
     → octets_in table key.ordinal talk (view_of rows key.peer (with_event who event past))
     ≡ octets_in table key.ordinal talk (view_of rows key.peer past)
-    ++ octets_at table key.ordinal talk (view_of rows key.peer past) this
+    ++ act_octets table key.ordinal talk (view_of rows key.peer past) this
 one_adds rows table talk key who event past this e =
     ap (λ (v : View). octets_in table key.ordinal talk v)
     (with_acts rows key who event past (this ∷ []) e)
@@ -392,7 +392,7 @@ pub close_adds : (rows : CentreRows) (table : OwnTable) (talk : Talk) (key : Key
     (past : Past) → key_at events.Close past who ≡ Some key
     → octets_in table key.ordinal talk (view_of rows key.peer (with_event who events.Close past))
     ≡ octets_in table key.ordinal talk (view_of rows key.peer past)
-    ++ octets_at table key.ordinal talk (view_of rows key.peer past) act.closes
+    ++ act_octets table key.ordinal talk (view_of rows key.peer past) act.closes
 close_adds rows table talk key who past e =
     one_adds rows table talk key who events.Close past act.closes
     (shown rows key (key_at events.Close past who) (act.closes ∷ []) e)

@@ -20,7 +20,7 @@ use Rattle.mms_data.specs.ObjectName.{ObjectName}
 use Rattle.tase_views.specs.declared.call.CallKind.{CallKind}
 use Rattle.tase_views.specs.declared.call.CallKind.TheVariants as calls
 use Rattle.tase_views.specs.Calls.{IsCall}
-use Rattle.tase_map.specs.Asked.{call_in, request_in, is_odd, read_asked, write_asked}
+use Rattle.tase_map.specs.Asked.{call_of_request, request_in, is_odd, read_call_of, write_call_of}
 use Rattle.tase_map.specs.Asked.{delete_asked, unrecognized}
 
 -- ---- deletions
@@ -42,12 +42,12 @@ delete_scoped (negsuc n) sets is = refl
 unrecognized_call : IsCall unrecognized
 unrecognized_call = (inl refl, refl)
 
-read_call : (echo : Bool) (spec : Spec) → IsSpec spec → IsCall (read_asked echo spec)
+read_call : (echo : Bool) (spec : Spec) → IsSpec spec → IsCall (read_call_of echo spec)
 read_call echo (specs.List names) s = s
 read_call echo (specs.Set name) s = tt
 
 write_call : (values : List Datum) (spec : Spec) → IsSpec spec → HasValues spec (length values)
-    → All IsLawful values → IsCall (write_asked values spec)
+    → All IsLawful values → IsCall (write_call_of values spec)
 write_call values (specs.List names) s h l = (s, h, l)
 write_call values (specs.Set name) s h l = (h, l)
 
@@ -60,7 +60,7 @@ delete_call (pos zero) sets l = l
 delete_call (pos (suc n)) sets l = other_scope (pos (suc n)) refl
 delete_call (negsuc n) sets l = other_scope (negsuc n) refl
 
-call_lawful : (request : Request) → IsLawfulRequest request → IsCall (call_in request)
+call_lawful : (request : Request) → IsLawfulRequest request → IsCall (call_of_request request)
 call_lawful (requests.NameList r) l = (l.scope, l.after)
 call_lawful requests.Identify l = tt
 call_lawful (requests.Read r) l = read_call r.echo r.spec l
@@ -72,7 +72,7 @@ call_lawful requests.Unknown l = unrecognized_call
 
 -- the call of a lawful request keeps what calls keep
 pub lawful_call : (request : Request) (kind : CallKind) → IsLawfulRequest request
-    → kind ≡ call_in request → IsCall kind
+    → kind ≡ call_of_request request → IsCall kind
 lawful_call request kind l e = subst IsCall (sym e) (call_lawful request l)
 
 request_writable : (call : CallKind) → is_odd call ≡ false → IsCall call
@@ -102,7 +102,7 @@ writable_request call request o i e =
 -- ---- there and back
 
 pub call_again : (call : CallKind) → is_odd call ≡ false → IsCall call
-    → call_in (request_in call) ≡ call
+    → call_of_request (request_in call) ≡ call
 call_again calls.Identify o i = refl
 call_again (calls.Read names echo) o i = refl
 call_again (calls.ReadSet set echo) o i = refl
@@ -117,13 +117,13 @@ call_again (calls.DeleteScope (pos (suc n))) o i = refl
 call_again (calls.DeleteScope (negsuc n)) o i = refl
 call_again (calls.Odd kind code) o i = absurd cc
 
-read_again : (echo : Bool) (spec : Spec) → is_odd (read_asked echo spec) ≡ false
-    → request_in (read_asked echo spec) ≡ requests.Read (record { echo = echo; spec = spec })
+read_again : (echo : Bool) (spec : Spec) → is_odd (read_call_of echo spec) ≡ false
+    → request_in (read_call_of echo spec) ≡ requests.Read (record { echo = echo; spec = spec })
 read_again echo (specs.List names) o = refl
 read_again echo (specs.Set name) o = refl
 
-write_again : (values : List Datum) (spec : Spec) → is_odd (write_asked values spec) ≡ false
-    → request_in (write_asked values spec)
+write_again : (values : List Datum) (spec : Spec) → is_odd (write_call_of values spec) ≡ false
+    → request_in (write_call_of values spec)
     ≡ requests.Write (record { spec = spec; values = values })
 write_again values (specs.List names) o = refl
 write_again values (specs.Set name) o = refl
@@ -138,8 +138,8 @@ delete_again (pos (suc n)) sets l =
 delete_again (negsuc n) sets l =
     ap (λ s. requests.Delete (record { scope = negsuc n; sets = s })) (sym l)
 
-pub request_again : (request : Request) → is_odd (call_in request) ≡ false
-    → IsLawfulRequest request → request_in (call_in request) ≡ request
+pub request_again : (request : Request) → is_odd (call_of_request request) ≡ false
+    → IsLawfulRequest request → request_in (call_of_request request) ≡ request
 request_again (requests.NameList r) o l = refl
 request_again requests.Identify o l = refl
 request_again (requests.Read r) o l = read_again r.echo r.spec o

@@ -38,7 +38,7 @@ use Rattle.stack_assoc.specs.Courses as courses
 use Rattle.stack_assoc.proofs.FrontsKept.{front_more, said_front, stopped_front, stands_front}
 use Rattle.stack_assoc.proofs.StreamLaws.{front_front, GoesOn, told_stays, stopped_stays}
 use Rattle.tase_map.specs.LawfulTold.{IsLawfulTold}
-use Rattle.tase_map.specs.Readings.{reading_of, Reads}
+use Rattle.tase_map.specs.Readings.{reading_of, TellsReading}
 use Rattle.tase_map.proofs.ReadingLaws.{reading_found}
 use Rattle.tase_map.proofs.MessageOrder.{Comes, AllCome, told_come}
 use Rattle.tase_map.proofs.LawfulMessages.{told_lawful}
@@ -77,7 +77,7 @@ pub has_front : (octets : List ℕ) (told : List Arrival) (v : Course) → Cours
 has_front octets told v s = front_by octets told v v.fault s.reads
 
 read_by : (octets : List ℕ) (told : List Arrival) (broken : Option StackFault)
-    → Reads octets told broken → HasFront octets told
+    → TellsReading octets told broken → HasFront octets told
 read_by octets told None r = record {
   messages = r.1.messages;
   starts = said_front ends.Called octets r.0 r.1.messages r.1.said;
@@ -133,7 +133,7 @@ whole_said octets messages s = record {
 }
 
 told_more : (text more : List ℕ) (told later : List Arrival) (broken : Option StackFault)
-    → Tells called text told [] → Reads (text ++ more) later broken → GoesOn told later
+    → Tells called text told [] → TellsReading (text ++ more) later broken → GoesOn told later
 told_more text more told later None t r =
     told_stays one_message called text more told later [] r.0 t r.1
 told_more text more told later (Some fault) t r =

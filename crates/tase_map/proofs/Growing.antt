@@ -34,11 +34,11 @@ use Rattle.tase_views.proofs.Seen.{view_of-entry}
 use Rattle.tase_map.specs.Readings.{Reading, reading_of}
 use Rattle.tase_map.specs.Turns.{Turn, offers, offers_badly, asks, concludes, releases, aborts}
 use Rattle.tase_map.specs.Turns.{breaks, ends, pauses, fault_turns, turns_told}
-use Rattle.tase_map.specs.Out.{Talk, accept_octets, detail_of, behind_offer, end_turns, talk_of}
+use Rattle.tase_map.specs.Out.{Talk, accept_wire, detail_of, behind_offer, end_turns, talk_of}
 use Rattle.tase_map.specs.Out.{is_asked, is_asked_by, acts_made, turns_behind, first_reply}
-use Rattle.tase_map.specs.Out.{said, concluded_octets, close_octets, octets_at, octets_in}
+use Rattle.tase_map.specs.Out.{said, concluded_octets, close_octets, act_octets, octets_in}
 use Rattle.tase_map.specs.Closed.{is_closed}
-use Rattle.tase_map.specs.Sent.{sent, turns_left, AreInText, IsFixed, IsQuiet}
+use Rattle.tase_map.specs.Sent.{association_octets, turns_left, AreInText, IsFixed, AsksNoService}
 use Rattle.tase_map.proofs.ReadingLaws.{turns_go_on}
 use Rattle.tase_map.proofs.Closing.{not_key_at, key_is, not_true, closed_spent}
 use Rattle.tase_map.proofs.Adding.{if_eq, if_ne, asks_front, asks_inside, asks_passed, AreAsked}
@@ -288,7 +288,7 @@ module _ (table : OwnTable) (ordinal : ℕ) (opening : List ℕ) (setup : Associ
 
   at_same : (view : View) (a : Act) → (is_asked a ≡ true → IsSameReply view)
       → is_closes a ≡ false
-      → octets_at table ordinal long view a ≡ octets_at table ordinal short view a
+      → act_octets table ordinal long view a ≡ act_octets table ordinal short view a
   at_same view act.opens reply closes = refl
   at_same view act.takes reply closes = refl
   at_same view act.closes reply closes = absurd (false≢true (sym closes))
@@ -300,8 +300,8 @@ module _ (table : OwnTable) (ordinal : ℕ) (opening : List ℕ) (setup : Associ
 
   own_same : (b : Bool) (view : View) (a : Act)
       → (b ≡ true → is_asked a ≡ true → IsSameReply view) → (b ≡ true → is_closes a ≡ false)
-      → (if b then octets_at table ordinal long view a else [])
-      ≡ (if b then octets_at table ordinal short view a else [])
+      → (if b then act_octets table ordinal long view a else [])
+      ≡ (if b then act_octets table ordinal short view a else [])
   own_same true view a reply closes = at_same view a (reply refl) (closes refl)
   own_same false view a reply closes = refl
 
@@ -327,7 +327,7 @@ module _ (table : OwnTable) (ordinal : ℕ) (opening : List ℕ) (setup : Associ
       let least = made_least ordinal (own other a) view in
       let before = same_octets view (omega (arith, least, few)) n.1 in
       ap (λ (os : List ℕ). os
-      ++ (if other == ordinal then octets_at table ordinal long view a else [])) before
+      ++ (if other == ordinal then act_octets table ordinal long view a else [])) before
       ∙ ap (λ (os : List ℕ). octets_in table ordinal short view ++ os)
       (own_same (other == ordinal) view a
       (λ same by_call. let one = made_one ordinal other a view same by_call in
@@ -635,25 +635,25 @@ grows text more ended o =
     connect in
     record {
       opening = answers_to called r.told
-          ++ accept_octets (setup_after r.told) (first_in connect_in r.told);
+          ++ accept_wire (setup_after r.told) (first_in connect_in r.told);
       setup = setup_after r.told;
       detail = detail_of (first_in connect_in r.told);
       turns = o.turns;
       later = t.0;
       short = ap (λ (ts : List Turn). talk_with (answers_to called r.told
-          ++ accept_octets (setup_after r.told) (first_in connect_in r.told))
+          ++ accept_wire (setup_after r.told) (first_in connect_in r.told))
           (setup_after r.told) (detail_of (first_in connect_in r.told)) (behind_offer (ts ++ [])))
           o.is
           ∙ ap (λ (ts : List Turn). talk_with (answers_to called r.told
-          ++ accept_octets (setup_after r.told) (first_in connect_in r.told))
+          ++ accept_wire (setup_after r.told) (first_in connect_in r.told))
           (setup_after r.told) (detail_of (first_in connect_in r.told)) ts) (append-nil o.turns);
       long = talk_is _ _ _ _ _ _ _ _
           (ap (λ (os : List ℕ). os
-          ++ accept_octets (setup_after w.told) (first_in connect_in w.told)) answers
+          ++ accept_wire (setup_after w.told) (first_in connect_in w.told)) answers
           ∙ ap (λ (s : AssociationSetup). answers_to called r.told
-          ++ accept_octets s (first_in connect_in w.told)) setup
+          ++ accept_wire s (first_in connect_in w.told)) setup
           ∙ ap (λ (c : Option Connecting). answers_to called r.told
-          ++ accept_octets (setup_after r.told) c) first)
+          ++ accept_wire (setup_after r.told) c) first)
           setup
           (ap (λ (c : Option Connecting). detail_of c) first)
           (ap (λ (ts : List Turn). behind_offer (ts ++ end_turns ended))
@@ -743,7 +743,7 @@ in_asked rows past key who invoke call later text i e s left =
     )
 
 pub in_quiet : (rows : CentreRows) (past : Past) (key : Key) (who : ℕ) (event : EventKind)
-    (text : List ℕ) → IsQuiet event → key_at event past who ≡ Some key
+    (text : List ℕ) → AsksNoService event → key_at event past who ≡ Some key
     → AreInText rows past key text
     → AreInText rows (record { who = who; event = event } ∷ past) key text
 in_quiet rows past key who event text q e s = (
@@ -766,7 +766,7 @@ in_other rows past key who event text apart s = (
 -- until it is closed it is sent the same
 pub sent_more : (rows : CentreRows) (past : Past) (key : Key) (text more : List ℕ) (ended : Bool)
     → is_closed key past ≡ false → AreInText rows past key text
-    → sent rows past key (text ++ more) ended ≡ sent rows past key text false
+    → association_octets rows past key (text ++ more) ended ≡ association_octets rows past key text false
 sent_more rows past key text more ended unclosed_yet s =
     let g = grown rows past key text more ended s in
     ap (λ (talk : Talk). sent_by rows past key talk) g.long
@@ -780,7 +780,7 @@ closed_more : (rows : CentreRows) (past : Past) (key : Key) (text more : List �
     → (g : Grows text more ended)
     → close_octets g.setup (turns_left rows past key text false ++ (g.later ++ end_turns ended))
     ≡ close_octets g.setup (turns_left rows past key text false) ++ added
-    → sent rows past key (text ++ more) ended ≡ sent rows past key text false ++ added
+    → association_octets rows past key (text ++ more) ended ≡ association_octets rows past key text false ++ added
 closed_more rows past key text more ended added c s g adds =
     ap (λ (talk : Talk). sent_by rows past key talk) g.long
     ∙ ends_so rows (own_table rows key.peer) key g.opening g.setup g.detail g.turns
@@ -806,21 +806,21 @@ fixed_close setup (turn ∷ left) others f = refl
 pub sent_fixed : (rows : CentreRows) (past : Past) (key : Key) (text more : List ℕ)
     (ended : Bool) → is_closed key past ≡ true → AreInText rows past key text
     → IsFixed (turns_left rows past key text false)
-    → sent rows past key (text ++ more) ended ≡ sent rows past key text false
+    → association_octets rows past key (text ++ more) ended ≡ association_octets rows past key text false
 sent_fixed rows past key text more ended c s f =
     let g = grown rows past key text more ended s in
     let left = turns_left rows past key text false in
     closed_more rows past key text more ended [] c s g
     (fixed_close g.setup left (g.later ++ end_turns ended) f
     ∙ sym (append-nil (close_octets g.setup left)))
-    ∙ append-nil (sent rows past key text false)
+    ∙ append-nil (association_octets rows past key text false)
 
 -- where conclude was the last, what follows it is answered
 pub sent_concluded : (rows : CentreRows) (past : Past) (key : Key) (text more : List ℕ)
     (ended : Bool) (later : List Turn) → is_closed key past ≡ true
     → AreInText rows past key text → turns_left rows past key text false ≡ concludes ∷ []
     → turns_left rows past key (text ++ more) ended ≡ concludes ∷ later
-    → sent rows past key (text ++ more) ended ≡ sent rows past key text false
+    → association_octets rows past key (text ++ more) ended ≡ association_octets rows past key text false
     ++ concluded_octets (talk_of (reading_of text) false).setup later
 sent_concluded rows past key text more ended later c s left now =
     let g = grown rows past key text more ended s in
@@ -837,6 +837,6 @@ sent_concluded rows past key text more ended later c s left now =
     ≡ close_octets g.setup ts ++ concluded_octets g.setup others) (sym left)
     (ap (λ (os : List ℕ). os ++ concluded_octets g.setup others)
     (sym (append-nil (said g.setup pdus.Concluded)))))
-    ∙ ap (λ (ts : List Turn). sent rows past key text false ++ concluded_octets g.setup ts) same
-    ∙ ap (λ (talk : Talk). sent rows past key text false ++ concluded_octets talk.setup later)
+    ∙ ap (λ (ts : List Turn). association_octets rows past key text false ++ concluded_octets g.setup ts) same
+    ∙ ap (λ (talk : Talk). association_octets rows past key text false ++ concluded_octets talk.setup later)
     (sym g.short)

@@ -13,10 +13,10 @@ use Rattle.bilateral.specs.declared.rows.Table.{Table}
 use Rattle.bilateral.specs.Rows.{CentreRows, place_of_title}
 use Rattle.tase_views.specs.declared.event.EventKind.{EventKind}
 use Rattle.tase_views.specs.declared.event.EventKind.TheVariants as events
-use Rattle.tase_map.specs.Inputs.{Item, IsInput}
+use Rattle.tase_map.specs.Inputs.{Item, IsLinkInput}
 use Rattle.tase_map.specs.Turns.{Turn, offers, offers_badly, asks, concludes, releases, aborts}
 use Rattle.tase_map.specs.Turns.{breaks, ends, pauses, turns_of}
-use Rattle.tase_map.specs.Asks.{begins, finishes, is_open, up_to_last, event_if, open_of}
+use Rattle.tase_map.specs.Asks.{begins, finishes, is_open_behind, up_to_last, event_if, open_of}
 use Rattle.tase_map.specs.Asks.{asks_at, asks_behind, asks_of, AreServed, AreInTurn}
 use Rattle.tase_map.proofs.TurnOrder.{offered, concluded, AllFollow, turns_follow}
 
@@ -56,7 +56,7 @@ over_more before turn o = record {
 }
 
 not_open : (rows : CentreRows) (before : List Turn) → list_any finishes before ≡ true
-    → is_open rows before ≡ false
+    → is_open_behind rows before ≡ false
 not_open rows before f = rw f (never (list_any (begins rows) before))
   where
     never : (b : Bool) → (b && false) ≡ false
@@ -69,10 +69,10 @@ none_if false event e = refl
 
 -- nothing is asked at a turn where none is open
 over_last : (rows : CentreRows) (before : List Turn) (event : EventKind) → IsOver before
-    → event_if (is_open rows before) event ++ [] ≡ []
+    → event_if (is_open_behind rows before) event ++ [] ≡ []
 over_last rows before event o =
     ap (λ (es : List EventKind). es ++ [])
-    (none_if (is_open rows before) event (not_open rows before o.finished))
+    (none_if (is_open_behind rows before) event (not_open rows before o.finished))
 
 asks_none : (rows : CentreRows) (before turns : List Turn) → IsOver before
     → AllFollow before turns → asks_behind rows before (up_to_last rows turns) ≡ []
@@ -90,7 +90,7 @@ asks_none rows before (ends ∷ turns) o a = over_last rows before events.Close 
 asks_none rows before (pauses ∷ turns) o a =
     ap (λ (es : List EventKind). es
     ++ asks_behind rows (before ++ pauses ∷ []) (up_to_last rows turns))
-    (none_if (is_open rows before) events.Take (not_open rows before o.finished))
+    (none_if (is_open_behind rows before) events.Take (not_open rows before o.finished))
     ∙ asks_none rows (before ++ pauses ∷ []) turns (over_more before pauses o) a.1
 
 -- ---- behind an open
@@ -109,7 +109,7 @@ served_more rows before turn f s = record {
 }
 
 served_open : (rows : CentreRows) (before : List Turn) → IsServed rows before
-    → is_open rows before ≡ true
+    → is_open_behind rows before ≡ true
 served_open rows before s = rw (s.begun, s.unfinished) refl
 
 -- an event that is asked, and those behind it
@@ -119,9 +119,9 @@ served_if true event asked e s = s
 served_if false event asked e s = absurd (false≢true e)
 
 served_last : (rows : CentreRows) (before : List Turn) → IsServed rows before
-    → AreServed (event_if (is_open rows before) events.Close ++ [])
+    → AreServed (event_if (is_open_behind rows before) events.Close ++ [])
 served_last rows before s =
-    served_if (is_open rows before) events.Close [] (served_open rows before s) refl
+    served_if (is_open_behind rows before) events.Close [] (served_open rows before s) refl
 
 asks_served : (rows : CentreRows) (before turns : List Turn) → IsServed rows before
     → AllFollow before turns → AreServed (asks_behind rows before (up_to_last rows turns))
@@ -132,7 +132,7 @@ asks_served rows before (asks invoke call ∷ turns) s a =
     asks_served rows (before ++ asks invoke call ∷ []) turns
     (served_more rows before (asks invoke call) refl s) a.1
 asks_served rows before (concludes ∷ turns) s a =
-    served_if (is_open rows before) events.Close
+    served_if (is_open_behind rows before) events.Close
     (asks_behind rows (before ++ concludes ∷ []) (up_to_last rows turns))
     (served_open rows before s)
     (asks_none rows (before ++ concludes ∷ []) turns (record {
@@ -145,7 +145,7 @@ asks_served rows before (aborts ∷ turns) s a = served_last rows before s
 asks_served rows before (breaks ∷ turns) s a = served_last rows before s
 asks_served rows before (ends ∷ turns) s a = served_last rows before s
 asks_served rows before (pauses ∷ turns) s a =
-    served_if (is_open rows before) events.Take
+    served_if (is_open_behind rows before) events.Take
     (asks_behind rows (before ++ pauses ∷ []) (up_to_last rows turns))
     (served_open rows before s)
     (asks_served rows (before ++ pauses ∷ []) turns (served_more rows before pauses refl s) a.1)
@@ -158,10 +158,10 @@ record IsEarly (rows : CentreRows) (before : List Turn) : Type 0 where
   no_offer : list_any offered before ≡ false
 
 early_last : (rows : CentreRows) (before : List Turn) → IsEarly rows before
-    → AreInTurn rows (event_if (is_open rows before) events.Close ++ [])
+    → AreInTurn rows (event_if (is_open_behind rows before) events.Close ++ [])
 early_last rows before y =
     subst (λ (es : List EventKind). AreInTurn rows (es ++ []))
-    (sym (none_if (is_open rows before) events.Close (rw y.unbegun refl))) tt
+    (sym (none_if (is_open_behind rows before) events.Close (rw y.unbegun refl))) tt
 
 position_below : {X : Type 0} (p : X → Bool) (xs : List X) (i : ℕ) → position p xs ≡ Some i
     → i < length xs
@@ -211,14 +211,14 @@ asks_early rows before (ends ∷ turns) y a = early_last rows before y
 asks_early rows before (pauses ∷ turns) y a =
     subst (λ (es : List EventKind). AreInTurn rows (es
     ++ asks_behind rows (before ++ pauses ∷ []) (up_to_last rows turns)))
-    (sym (none_if (is_open rows before) events.Take (rw y.unbegun refl)))
+    (sym (none_if (is_open_behind rows before) events.Take (rw y.unbegun refl)))
     (asks_early rows (before ++ pauses ∷ []) turns (record {
       unbegun = more_none (begins rows) before pauses y.unbegun refl;
       unfinished = more_none finishes before pauses y.unfinished refl;
       no_offer = more_none offered before pauses y.no_offer refl;
     }) a.1)
 
-pub asked_in_turn : (rows : CentreRows) (items : List Item) → IsInput items
+pub asked_in_turn : (rows : CentreRows) (items : List Item) → IsLinkInput items
     → AreInTurn rows (asks_of rows items)
 asked_in_turn rows items i =
     asks_early rows [] (turns_of items)

@@ -40,7 +40,7 @@ use Rattle.stack_assoc.specs.Arrivals.{connect_in, is_conclude}
 use Rattle.stack_assoc.specs.InTurn.{SpellInTurn}
 use Rattle.stack_assoc.specs.Expectations.{expecting_after}
 use Rattle.stack_assoc.specs.Tellings.{TellsNext}
-use Rattle.tase_map.specs.Readings.{Reads}
+use Rattle.tase_map.specs.Readings.{TellsReading}
 
 -- ---- kinds of messages
 
@@ -330,7 +330,7 @@ all_come before (t ∷ told) (m ∷ messages) s =
 
 -- all that octets tell comes so
 pub told_come : (octets : List ℕ) (told : List Arrival) (broken : Option StackFault)
-    → Reads octets told broken → AllCome [] told
+    → TellsReading octets told broken → AllCome [] told
 told_come octets told None r = all_come [] told r.1.messages r.1.tell
 told_come octets told (Some fault) (inl r) = all_come [] told r.messages r.tell
 told_come octets told (Some fault) (inr r) = all_come [] told r.messages r.tell

@@ -23,7 +23,7 @@ use Rattle.tase_views.proofs.Seen.{view_of-entry}
 use Rattle.tase_map.specs.Turns.{Turn, offers, offers_badly, asks, concludes, releases, aborts}
 use Rattle.tase_map.specs.Turns.{breaks, ends, pauses}
 use Rattle.tase_map.specs.Out.{Talk, is_asked, acts_made, turns_behind, octets_in}
-use Rattle.tase_map.specs.Sent.{IsQuiet}
+use Rattle.tase_map.specs.Sent.{AsksNoService}
 use Rattle.tase_map.proofs.Closing.{cons_joined, issued, same_key}
 use Rattle.tase_map.proofs.Adding.{is_asking, call_at, asks_front, asks_inside, asks_passed, if_eq}
 use Rattle.tase_map.proofs.Adding.{if_ne, none_asking, made_all, acts_asked, some_acts, with_acts}
@@ -247,7 +247,7 @@ left_asked rows turns key who invoke call later past i e f =
 
 -- any other event of the association
 pub quiet_event : (rows : CentreRows) (key : Key) (who : ℕ) (event : EventKind) (past : Past)
-    → IsQuiet event → key_at event past who ≡ Some key
+    → AsksNoService event → key_at event past who ≡ Some key
     → acts_made key.ordinal (view_of rows key.peer (with_event who event past))
     ≡ acts_made key.ordinal (view_of rows key.peer past)
 quiet_event rows key who (events.Open peer) past q e =

@@ -8,27 +8,27 @@ use Rattle.stack_messages.specs.declared.fault.StackFault.{StackFault}
 use Rattle.stack_messages.proofs.OneMessage.{one_message}
 use Rattle.stack_assoc.specs.Arrivals.{Arrival, called}
 use Rattle.stack_assoc.specs.Handing.{stack_in, handed_out}
-use Rattle.stack_assoc.proofs.StreamLaws.{always, tells_once, stops_once, never_both, told_stays}
+use Rattle.stack_assoc.proofs.StreamLaws.{tells_or_stops, tells_once, stops_once, never_both, told_stays}
 use Rattle.stack_assoc.proofs.StreamLaws.{stopped_stays, fault_stays}
-use Rattle.tase_map.specs.Readings.{Reading, TellsOrStops, the_reading, reading_of, Reads}
+use Rattle.tase_map.specs.Readings.{Reading, TellsOrStops, the_reading, reading_of, TellsReading}
 use Rattle.tase_map.specs.Turns.{Turn, turn_in, fault_turns, turns_told}
 
 found_reading : (octets : List ℕ) (t : TellsOrStops octets)
-    → Reads octets (the_reading octets t).told (the_reading octets t).broken
+    → TellsReading octets (the_reading octets t).told (the_reading octets t).broken
 found_reading octets (inl tells) = (tells.1, tells.2)
 found_reading octets (inr stops) = stops.2
 
 -- what is read of octets is what they tell
 pub reading_found : (octets : List ℕ)
-    → Reads octets (reading_of octets).told (reading_of octets).broken
+    → TellsReading octets (reading_of octets).told (reading_of octets).broken
 unfolding reading_of
-reading_found octets = found_reading octets (always one_message called octets)
+reading_found octets = found_reading octets (tells_or_stops one_message called octets)
 
 abbrev pub reading : List Arrival → Option StackFault → Reading
 reading told broken = record { told = told; broken = broken }
 
 only_reading : (octets : List ℕ) (t : TellsOrStops octets) (told : List Arrival)
-    (broken : Option StackFault) → Reads octets told broken
+    (broken : Option StackFault) → TellsReading octets told broken
     → the_reading octets t ≡ reading told broken
 only_reading octets (inl tells) told None r =
     ap (λ (ts : List Arrival). reading ts None)
@@ -44,10 +44,10 @@ only_reading octets (inr stops) told (Some fault) r =
 
 -- and nothing else is
 pub reading_only : (octets : List ℕ) (told : List Arrival) (broken : Option StackFault)
-    → Reads octets told broken → reading_of octets ≡ reading told broken
+    → TellsReading octets told broken → reading_of octets ≡ reading told broken
 unfolding reading_of
 reading_only octets told broken r =
-    only_reading octets (always one_message called octets) told broken r
+    only_reading octets (tells_or_stops one_message called octets) told broken r
 
 -- ---- what follows
 
@@ -72,7 +72,7 @@ more_turns told later others broken e = (
 )
 
 grown : (text more : List ℕ) (told later : List Arrival) (broken now : Option StackFault)
-    → Reads text told broken → Reads (text ++ more) later now
+    → TellsReading text told broken → TellsReading (text ++ more) later now
     → Continues (turns_told (reading told broken)) (turns_told (reading later now))
 grown text more told later None None r s =
     let e = told_stays one_message called text more told later r.0 s.0 r.1 s.1 in

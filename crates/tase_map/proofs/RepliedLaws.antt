@@ -18,8 +18,8 @@ use Rattle.tase_views.specs.declared.reply.ReadSpec.TheVariants as named
 use Rattle.tase_views.specs.declared.reply.ReplyKind.{ReplyKind}
 use Rattle.tase_views.specs.declared.reply.ReplyKind.TheVariants as replies
 use Rattle.tase_views.specs.Replies.{IsReply, IsReadSpec}
-use Rattle.tase_map.specs.Replied.{spec_in, pdu_in, results_in, reply_in_response, reply_in}
-use Rattle.tase_map.specs.Replied.{number_in}
+use Rattle.tase_map.specs.Replied.{spec_in, pdu_of_reply, results_reply, reply_in_response, reply_in}
+use Rattle.tase_map.specs.Replied.{answered_number}
 
 -- ---- what types keep
 
@@ -29,7 +29,7 @@ spec_writable None i = tt
 spec_writable (Some (named.List names)) i = i
 spec_writable (Some (named.Set name)) i = tt
 
-pdu_writable : (invoke : ℕ) (reply : ReplyKind) → IsReply reply → IsWritablePdu (pdu_in invoke reply)
+pdu_writable : (invoke : ℕ) (reply : ReplyKind) → IsReply reply → IsWritablePdu (pdu_of_reply invoke reply)
 pdu_writable invoke replies.Identified i = tt
 pdu_writable invoke (replies.Results spec results) i =
     record { spec = spec_writable spec i.0; lawful = i.1 }
@@ -43,7 +43,7 @@ pdu_writable invoke (replies.Reject kind code) i = i
 
 -- the PDU of a reply may be written
 pub writable_pdu : (invoke : ℕ) (reply : ReplyKind) (pdu : MmsPdu) → IsReply reply
-    → pdu ≡ pdu_in invoke reply → IsWritablePdu pdu
+    → pdu ≡ pdu_of_reply invoke reply → IsWritablePdu pdu
 writable_pdu invoke reply pdu i e = subst IsWritablePdu (sym e) (pdu_writable invoke reply i)
 
 -- what a reply keeps, where there is one
@@ -51,7 +51,7 @@ abbrev IsReplyIfAny : Option ReplyKind → Type 0
 IsReplyIfAny reply = IfSome reply IsReply
 
 results_lawful : (results : List Outcome) (spec : Option Spec) → IsSpecIfAny spec
-    → All IsLawfulOutcome results → IsReplyIfAny (results_in results spec)
+    → All IsLawfulOutcome results → IsReplyIfAny (results_reply results spec)
 results_lawful results None s l = (tt, l)
 results_lawful results (Some (specs.List names)) s l = (s, l)
 results_lawful results (Some (specs.Set name)) s l = (tt, l)
@@ -86,12 +86,12 @@ lawful_reply pdu reply l e = subst IsReplyIfAny (sym e) (reply_lawful pdu l)
 -- ---- there and back
 
 spec_again : (spec : Option ReadSpec) (results : List Outcome)
-    → results_in results (option_map spec_in spec) ≡ Some (replies.Results spec results)
+    → results_reply results (option_map spec_in spec) ≡ Some (replies.Results spec results)
 spec_again None results = refl
 spec_again (Some (named.List names)) results = refl
 spec_again (Some (named.Set name)) results = refl
 
-pub reply_again : (invoke : ℕ) (reply : ReplyKind) → reply_in (pdu_in invoke reply) ≡ Some reply
+pub reply_again : (invoke : ℕ) (reply : ReplyKind) → reply_in (pdu_of_reply invoke reply) ≡ Some reply
 reply_again invoke replies.Identified = refl
 reply_again invoke (replies.Results spec results) = spec_again spec results
 reply_again invoke (replies.Written results) = refl
@@ -102,7 +102,7 @@ reply_again invoke (replies.Deleted matched deleted) = refl
 reply_again invoke (replies.Error class code) = refl
 reply_again invoke (replies.Reject kind code) = refl
 
-pub number_again : (invoke : ℕ) (reply : ReplyKind) → number_in (pdu_in invoke reply) ≡ Some invoke
+pub number_again : (invoke : ℕ) (reply : ReplyKind) → answered_number (pdu_of_reply invoke reply) ≡ Some invoke
 number_again invoke replies.Identified = refl
 number_again invoke (replies.Results spec results) = refl
 number_again invoke (replies.Written results) = refl
@@ -115,12 +115,12 @@ number_again invoke (replies.Reject kind code) = refl
 
 -- what a reply that was found is written as
 abbrev WrittenAs : ℕ → MmsPdu → Option ReplyKind → Type 0
-WrittenAs invoke pdu reply = IfSome reply (λ r. pdu_in invoke r ≡ pdu)
+WrittenAs invoke pdu reply = IfSome reply (λ r. pdu_of_reply invoke r ≡ pdu)
 
 results_written : (invoke : ℕ) (results : List Outcome) (spec : Option Spec)
     → WrittenAs invoke
     (pdus.Response invoke (responses.Read (record { spec = spec; results = results })))
-    (results_in results spec)
+    (results_reply results spec)
 results_written invoke results None = refl
 results_written invoke results (Some (specs.List names)) = refl
 results_written invoke results (Some (specs.Set name)) = refl
@@ -144,7 +144,7 @@ reject_written : (number : Option ℕ) (kind code : ℕ)
 reject_written None kind code = tt
 reject_written (Some invoke) kind code = refl
 
-pdu_written : (pdu : MmsPdu) → WrittenBy (number_in pdu) pdu
+pdu_written : (pdu : MmsPdu) → WrittenBy (answered_number pdu) pdu
 pdu_written (pdus.Request invoke request) = tt
 pdu_written (pdus.Response invoke response) = response_written invoke response
 pdu_written (pdus.Error e) = refl
@@ -157,7 +157,7 @@ pdu_written pdus.Conclude = tt
 pdu_written pdus.Concluded = tt
 
 pub pdu_again : (pdu : MmsPdu) (invoke : ℕ) (reply : ReplyKind) → reply_in pdu ≡ Some reply
-    → number_in pdu ≡ Some invoke → pdu_in invoke reply ≡ pdu
+    → answered_number pdu ≡ Some invoke → pdu_of_reply invoke reply ≡ pdu
 pdu_again pdu invoke reply r n =
     subst (WrittenAs invoke pdu) r
     (subst (λ number. IfSome number (λ i. WrittenAs i pdu (reply_in pdu))) n (pdu_written pdu))

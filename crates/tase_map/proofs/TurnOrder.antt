@@ -19,7 +19,7 @@ use Rattle.stack_assoc.specs.declared.input.StackIn.TheVariants as inputs
 use Rattle.stack_assoc.specs.Arrivals.{Arrival, asked, confirmed, gone, heard, first_in, connect_in}
 use Rattle.stack_assoc.specs.Arrivals.{is_conclude}
 use Rattle.stack_assoc.specs.Handing.{is_offer, input_heard, stack_in, handed_out}
-use Rattle.tase_map.specs.Inputs.{Item, text_of, has_ended, IsInput}
+use Rattle.tase_map.specs.Inputs.{Item, text_given, link_has_ended, IsLinkInput}
 use Rattle.tase_map.specs.Readings.{Reading, reading_of}
 use Rattle.tase_map.specs.Turns.{Turn, offers, offers_badly, asks, concludes, releases, aborts}
 use Rattle.tase_map.specs.Turns.{breaks, ends, pauses, turn_of_pdu, turn_in, fault_turns}
@@ -298,11 +298,11 @@ nothing_told =
     (reading_only [] [] None
     (nothing_said.0, record { messages = []; said = nothing_said.1; tell = tt }))
 
-pub turns_follow : (items : List Item) → IsInput items → AllFollow [] (turns_of items)
+pub turns_follow : (items : List Item) → IsLinkInput items → AllFollow [] (turns_of items)
 turns_follow items i =
     follow_kept [] (turns_of items)
     (subst (λ (ts : List Turn). AllFollow [] ts)
     (sym (uncut_from [] items i)
     ∙ ap (λ (ts : List Turn). ts ++ without_pauses (turns_of items)) nothing_told)
-    (more_follow [] (turns_told (reading_of (text_of items))) (end_turns (has_ended items))
-    (told_follow (text_of items)) (end_follows (has_ended items))))
+    (more_follow [] (turns_told (reading_of (text_given items))) (end_turns (link_has_ended items))
+    (told_follow (text_given items)) (end_follows (link_has_ended items))))

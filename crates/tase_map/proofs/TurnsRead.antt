@@ -9,7 +9,7 @@ use Rattle.stack_messages.specs.declared.fault.StackFault.{StackFault}
 use Rattle.stack_assoc.specs.declared.input.StackIn.{StackIn}
 use Rattle.stack_assoc.specs.Arrivals.{Arrival}
 use Rattle.stack_assoc.specs.Handing.{stack_in, handed_out}
-use Rattle.tase_map.specs.Inputs.{Item, text_of}
+use Rattle.tase_map.specs.Inputs.{Item, text_given}
 use Rattle.tase_map.specs.Readings.{Reading, reading_of}
 use Rattle.tase_map.specs.Turns.{Turn, turn_in, fault_turns, turns_told, turns_between}
 use Rattle.tase_map.specs.Turns.{turns_behind_octets, turns_at, turns_from, turns_of}
@@ -57,13 +57,13 @@ between_told front whole others unbroken e =
 
 -- what items and one more tell, where with it these messages come
 pub item_turns : (done : List Item) (item : Item) (others : List Arrival)
-    → (reading_of (text_of done)).broken ≡ None
-    → (reading_of (text_of (done ++ item ∷ []))).told
-    ≡ (reading_of (text_of done)).told ++ others
+    → (reading_of (text_given done)).broken ≡ None
+    → (reading_of (text_given (done ++ item ∷ []))).told
+    ≡ (reading_of (text_given done)).told ++ others
     → turns_of (done ++ item ∷ []) ≡ turns_of done ++ ((turns_heard others
-    ++ fault_turns (reading_of (text_of (done ++ item ∷ []))).broken) ++ turns_behind_octets item)
+    ++ fault_turns (reading_of (text_given (done ++ item ∷ []))).broken) ++ turns_behind_octets item)
 item_turns done item others unbroken e =
     turns_more [] done item
     ∙ ap (λ (ts : List Turn). turns_of done ++ (ts ++ turns_behind_octets item))
-    (between_told (reading_of (text_of done)) (reading_of (text_of (done ++ item ∷ []))) others
+    (between_told (reading_of (text_given done)) (reading_of (text_given (done ++ item ∷ []))) others
     unbroken e)

@@ -17,14 +17,14 @@ use Rattle.stack_assoc.specs.Handing.{handed_out}
 use Rattle.bilateral.specs.Rows.{CentreRows, place_of_title}
 use Rattle.tase_views.specs.declared.event.EventKind.{EventKind}
 use Rattle.tase_views.specs.declared.event.EventKind.TheVariants as events
-use Rattle.tase_map.specs.Inputs.{Item, piece, idle, ended, octets_of, text_of, has_ended}
-use Rattle.tase_map.specs.Inputs.{IsInput}
+use Rattle.tase_map.specs.Inputs.{Item, piece, idle, ended, given_octets, text_given, link_has_ended}
+use Rattle.tase_map.specs.Inputs.{IsLinkInput}
 use Rattle.tase_map.specs.Readings.{Reading, reading_of}
 use Rattle.tase_map.specs.Turns.{Turn, offers, offers_badly, asks, concludes, releases, aborts}
 use Rattle.tase_map.specs.Turns.{breaks, ends, pauses, turn_of_pdu, turn_in, fault_turns}
 use Rattle.tase_map.specs.Turns.{turns_told, turns_between, turns_behind_octets, turns_at}
 use Rattle.tase_map.specs.Turns.{turns_from, turns_of}
-use Rattle.tase_map.specs.Asks.{begins, finishes, is_open, is_last, up_to_last, event_if, open_of}
+use Rattle.tase_map.specs.Asks.{begins, finishes, is_open_behind, is_last, up_to_last, event_if, open_of}
 use Rattle.tase_map.specs.Asks.{asks_at, asks_behind, asks_of, is_pause, without_pauses}
 use Rattle.tase_map.specs.Asks.{without_takes, is_take}
 use Rattle.tase_map.specs.Out.{end_turns}
@@ -108,58 +108,58 @@ joined text more =
     ∙ ap (λ (ts : List Turn). without_pauses ts) (sym g.1)
     ∙ told_kept (reading_of (text ++ more))
 
-text-append : (items more : List Item) → text_of (items ++ more) ≡ text_of items ++ text_of more
-text-append items more = flat_map-append octets_of items more
+text-append : (items more : List Item) → text_given (items ++ more) ≡ text_given items ++ text_given more
+text-append items more = flat_map-append given_octets items more
 
 joined_at : (before : List Item) (item : Item)
-    → turns_in (text_of before) ++ without_pauses (turns_between (reading_of (text_of before))
-    (reading_of (text_of (before ++ item ∷ []))))
-    ≡ turns_in (text_of (before ++ item ∷ []))
+    → turns_in (text_given before) ++ without_pauses (turns_between (reading_of (text_given before))
+    (reading_of (text_given (before ++ item ∷ []))))
+    ≡ turns_in (text_given (before ++ item ∷ []))
 joined_at before item =
-    ap (λ (text : List ℕ). turns_in (text_of before)
-    ++ without_pauses (turns_between (reading_of (text_of before)) (reading_of text)))
+    ap (λ (text : List ℕ). turns_in (text_given before)
+    ++ without_pauses (turns_between (reading_of (text_given before)) (reading_of text)))
     (text-append before (item ∷ []))
-    ∙ joined (text_of before) (text_of (item ∷ []))
+    ∙ joined (text_given before) (text_given (item ∷ []))
     ∙ ap (λ (text : List ℕ). turns_in text) (sym (text-append before (item ∷ [])))
 
 -- one item, and what stands behind it
 item_joined : (before : List Item) (item : Item) (rest : List Turn)
-    → turns_in (text_of before) ++ without_pauses (turns_at before item ++ rest)
-    ≡ turns_in (text_of (before ++ item ∷ []))
+    → turns_in (text_given before) ++ without_pauses (turns_at before item ++ rest)
+    ≡ turns_in (text_given (before ++ item ∷ []))
     ++ (without_pauses (turns_behind_octets item) ++ without_pauses rest)
 item_joined before item rest =
-    let between = turns_between (reading_of (text_of before))
-    (reading_of (text_of (before ++ item ∷ []))) in
+    let between = turns_between (reading_of (text_given before))
+    (reading_of (text_given (before ++ item ∷ []))) in
     let behind = turns_behind_octets item in
-    ap (λ (ts : List Turn). turns_in (text_of before) ++ without_pauses ts)
+    ap (λ (ts : List Turn). turns_in (text_given before) ++ without_pauses ts)
     (append_assoc between behind rest)
-    ∙ ap (λ (ts : List Turn). turns_in (text_of before) ++ ts)
+    ∙ ap (λ (ts : List Turn). turns_in (text_given before) ++ ts)
     (without-append between (behind ++ rest))
-    ∙ sym (append_assoc (turns_in (text_of before)) (without_pauses between)
+    ∙ sym (append_assoc (turns_in (text_given before)) (without_pauses between)
     (without_pauses (behind ++ rest)))
     ∙ ap (λ (ts : List Turn). ts ++ without_pauses (behind ++ rest)) (joined_at before item)
-    ∙ ap (λ (ts : List Turn). turns_in (text_of (before ++ item ∷ [])) ++ ts)
+    ∙ ap (λ (ts : List Turn). turns_in (text_given (before ++ item ∷ [])) ++ ts)
     (without-append behind rest)
 
-pub uncut_from : (before items : List Item) → IsInput items
-    → turns_in (text_of before) ++ without_pauses (turns_from before items)
-    ≡ turns_in (text_of (before ++ items)) ++ end_turns (has_ended items)
+pub uncut_from : (before items : List Item) → IsLinkInput items
+    → turns_in (text_given before) ++ without_pauses (turns_from before items)
+    ≡ turns_in (text_given (before ++ items)) ++ end_turns (link_has_ended items)
 uncut_from before [] i =
-    ap (λ (items : List Item). turns_in (text_of items) ++ []) (sym (append-nil before))
+    ap (λ (items : List Item). turns_in (text_given items) ++ []) (sym (append-nil before))
 uncut_from before (piece octets ∷ items) i =
     item_joined before (piece octets) (turns_from (before ++ piece octets ∷ []) items)
     ∙ uncut_from (before ++ piece octets ∷ []) items i
-    ∙ ap (λ (all : List Item). turns_in (text_of all) ++ end_turns (has_ended items))
+    ∙ ap (λ (all : List Item). turns_in (text_given all) ++ end_turns (link_has_ended items))
     (append_assoc before (piece octets ∷ []) items)
 uncut_from before (idle ∷ items) i =
     item_joined before idle (turns_from (before ++ idle ∷ []) items)
     ∙ uncut_from (before ++ idle ∷ []) items i
-    ∙ ap (λ (all : List Item). turns_in (text_of all) ++ end_turns (has_ended items))
+    ∙ ap (λ (all : List Item). turns_in (text_given all) ++ end_turns (link_has_ended items))
     (append_assoc before (idle ∷ []) items)
 uncut_from before (ended ∷ items) i =
-    subst (λ (rest : List Item). turns_in (text_of before)
+    subst (λ (rest : List Item). turns_in (text_given before)
     ++ without_pauses (turns_from before (ended ∷ rest))
-    ≡ turns_in (text_of (before ++ ended ∷ rest)) ++ end_turns (has_ended (ended ∷ rest))) (sym i)
+    ≡ turns_in (text_given (before ++ ended ∷ rest)) ++ end_turns (link_has_ended (ended ∷ rest))) (sym i)
     (item_joined before ended [])
 
 -- ---- what they ask
@@ -172,7 +172,7 @@ any_kept test none (turn ∷ turns) =
     ap (λ (b : Bool). test turn || b) (any_kept test none turns)
 
 open_kept : (rows : CentreRows) (before : List Turn)
-    → is_open rows before ≡ is_open rows (without_pauses before)
+    → is_open_behind rows before ≡ is_open_behind rows (without_pauses before)
 open_kept rows before =
     ap (λ (b : Bool). b && not (list_any finishes before))
     (sym (any_kept (begins rows) refl before))
@@ -192,10 +192,10 @@ takes_alone true = refl
 takes_alone false = refl
 
 close_kept : (rows : CentreRows) (before : List Turn)
-    → without_takes (event_if (is_open rows before) events.Close)
-    ≡ event_if (is_open rows (without_pauses before)) events.Close
+    → without_takes (event_if (is_open_behind rows before) events.Close)
+    ≡ event_if (is_open_behind rows (without_pauses before)) events.Close
 close_kept rows before =
-    close_not_take (is_open rows before)
+    close_not_take (is_open_behind rows before)
     ∙ ap (λ (b : Bool). event_if b events.Close) (open_kept rows before)
 
 at_kept : (rows : CentreRows) (before : List Turn) (turn : Turn) → is_pause turn ≡ false
@@ -243,11 +243,11 @@ pause_asks : (rows : CentreRows) (before turns : List Turn)
     → without_takes (asks_behind rows before (pauses ∷ turns))
     ≡ asks_behind rows (without_pauses before) (without_pauses turns)
 pause_asks rows before turns e =
-    takes-append (event_if (is_open rows before) events.Take)
+    takes-append (event_if (is_open_behind rows before) events.Take)
     (asks_behind rows (before ++ pauses ∷ []) turns)
     ∙ ap (λ (es : List EventKind). es
     ++ without_takes (asks_behind rows (before ++ pauses ∷ []) turns))
-    (takes_alone (is_open rows before))
+    (takes_alone (is_open_behind rows before))
     ∙ e ∙ ap (λ (ts : List Turn). asks_behind rows ts (without_pauses turns))
     (without-append before (pauses ∷ []) ∙ append-nil (without_pauses before))
 
@@ -283,19 +283,19 @@ asked_uncut rows items =
     asks_kept rows [] (up_to_last rows (turns_of items))
     ∙ ap (λ (ts : List Turn). asks_behind rows [] ts) (up_to_last_kept rows (turns_of items))
 
-same_turns : (here there : List Item) → IsInput here → IsInput there
-    → text_of here ≡ text_of there → has_ended here ≡ has_ended there
+same_turns : (here there : List Item) → IsLinkInput here → IsLinkInput there
+    → text_given here ≡ text_given there → link_has_ended here ≡ link_has_ended there
     → without_pauses (turns_of here) ≡ without_pauses (turns_of there)
 same_turns here there i j text end =
     append_cancel_left (turns_in []) (without_pauses (turns_of here))
     (without_pauses (turns_of there))
     (uncut_from [] here i
-    ∙ ap (λ (octets : List ℕ). turns_in octets ++ end_turns (has_ended here)) text
-    ∙ ap (λ (b : Bool). turns_in (text_of there) ++ end_turns b) end
+    ∙ ap (λ (octets : List ℕ). turns_in octets ++ end_turns (link_has_ended here)) text
+    ∙ ap (λ (b : Bool). turns_in (text_given there) ++ end_turns b) end
     ∙ sym (uncut_from [] there j))
 
-pub asked_the_same : (rows : CentreRows) (here there : List Item) → IsInput here → IsInput there
-    → text_of here ≡ text_of there → has_ended here ≡ has_ended there
+pub asked_the_same : (rows : CentreRows) (here there : List Item) → IsLinkInput here → IsLinkInput there
+    → text_given here ≡ text_given there → link_has_ended here ≡ link_has_ended there
     → without_takes (asks_of rows here) ≡ without_takes (asks_of rows there)
 asked_the_same rows here there i j text end =
     asked_uncut rows here

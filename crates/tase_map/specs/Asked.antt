@@ -20,28 +20,28 @@ abbrev pub invalid : CallKind
 invalid = calls.Odd 5 1
 
 -- variables are read and written by their names, or by that of a data set
-abbrev pub read_asked : Bool → Spec → CallKind
-read_asked echo (specs.List names) = calls.Read names echo
-read_asked echo (specs.Set name) = calls.ReadSet name echo
+abbrev pub read_call_of : Bool → Spec → CallKind
+read_call_of echo (specs.List names) = calls.Read names echo
+read_call_of echo (specs.Set name) = calls.ReadSet name echo
 
-abbrev pub write_asked : List Datum → Spec → CallKind
-write_asked values (specs.List names) = calls.Write names values
-write_asked values (specs.Set name) = calls.WriteSet name values
+abbrev pub write_call_of : List Datum → Spec → CallKind
+write_call_of values (specs.List names) = calls.Write names values
+write_call_of values (specs.Set name) = calls.WriteSet name values
 
 -- the data sets that are named are deleted, or those of another scope
 abbrev pub delete_asked : ℤ → List ObjectName → CallKind
 delete_asked scope sets = if is_specific scope then calls.Delete sets else calls.DeleteScope scope
 
 -- the call that a request is
-abbrev pub call_in : Request → CallKind
-call_in (requests.NameList r) = calls.NameList r.class r.scope r.after
-call_in requests.Identify = calls.Identify
-call_in (requests.Read r) = read_asked r.echo r.spec
-call_in (requests.Write r) = write_asked r.values r.spec
-call_in (requests.Define r) = calls.Define r.set r.members
-call_in (requests.MembersOf r) = calls.MembersOf r.set
-call_in (requests.Delete r) = delete_asked r.scope r.sets
-call_in requests.Unknown = unrecognized
+abbrev pub call_of_request : Request → CallKind
+call_of_request (requests.NameList r) = calls.NameList r.class r.scope r.after
+call_of_request requests.Identify = calls.Identify
+call_of_request (requests.Read r) = read_call_of r.echo r.spec
+call_of_request (requests.Write r) = write_call_of r.values r.spec
+call_of_request (requests.Define r) = calls.Define r.set r.members
+call_of_request (requests.MembersOf r) = calls.MembersOf r.set
+call_of_request (requests.Delete r) = delete_asked r.scope r.sets
+call_of_request requests.Unknown = unrecognized
 
 -- whether a call is a request that no service is
 abbrev pub is_odd : CallKind → Bool

@@ -29,8 +29,8 @@ finishes ends = true
 finishes _ = false
 
 -- whether an association is open behind these
-abbrev pub is_open : CentreRows → List Turn → Bool
-is_open rows before = list_any (begins rows) before && not (list_any finishes before)
+abbrev pub is_open_behind : CentreRows → List Turn → Bool
+is_open_behind rows before = list_any (begins rows) before && not (list_any finishes before)
 
 -- whether nothing follows: a declined offer, a release, an abort, a fault, the end
 abbrev pub is_last : CentreRows → Turn → Bool
@@ -65,8 +65,8 @@ abbrev pub asks_at : CentreRows → List Turn → Turn → List EventKind
 asks_at rows before (offers title) = open_of (place_of_title rows title)
 asks_at rows before offers_badly = []
 asks_at rows before (asks invoke call) = events.Request call ∷ []
-asks_at rows before pauses = event_if (is_open rows before) events.Take
-asks_at rows before _ = event_if (is_open rows before) events.Close
+asks_at rows before pauses = event_if (is_open_behind rows before) events.Take
+asks_at rows before _ = event_if (is_open_behind rows before) events.Close
 
 abbrev pub asks_behind : CentreRows → List Turn → List Turn → List EventKind
 asks_behind rows before [] = []

@@ -10,27 +10,27 @@ pub data Item : Type 0 where
   -- none any more
   ended : Item
 
-abbrev pub octets_of : Item → List ℕ
-octets_of (piece octets) = octets
-octets_of idle = []
-octets_of ended = []
+abbrev pub given_octets : Item → List ℕ
+given_octets (piece octets) = octets
+given_octets idle = []
+given_octets ended = []
 
 -- all octets of an input
-abbrev pub text_of : List Item → List ℕ
-text_of items = flat_map octets_of items
+abbrev pub text_given : List Item → List ℕ
+text_given items = flat_map given_octets items
 
-abbrev pub is_end : Item → Bool
-is_end (piece octets) = false
-is_end idle = false
-is_end ended = true
+abbrev pub is_link_end : Item → Bool
+is_link_end (piece octets) = false
+is_link_end idle = false
+is_link_end ended = true
 
 -- whether the link has ended
-abbrev pub has_ended : List Item → Bool
-has_ended items = list_any is_end items
+abbrev pub link_has_ended : List Item → Bool
+link_has_ended items = list_any is_link_end items
 
 -- an end is the last item
-abbrev pub IsInput : List Item → Type 0
-IsInput [] = Unit {0}
-IsInput (piece octets ∷ items) = IsInput items
-IsInput (idle ∷ items) = IsInput items
-IsInput (ended ∷ items) = items ≡ []
+abbrev pub IsLinkInput : List Item → Type 0
+IsLinkInput [] = Unit {0}
+IsLinkInput (piece octets ∷ items) = IsLinkInput items
+IsLinkInput (idle ∷ items) = IsLinkInput items
+IsLinkInput (ended ∷ items) = items ≡ []

@@ -20,7 +20,7 @@ use Rattle.tase_views.specs.OwnTable.{OwnTable}
 use Rattle.tase_views.specs.View.{View, Seen, own, Act, acts_of_call}
 use Rattle.tase_views.specs.View as acts
 use Rattle.tase_views.specs.Answers.{reply_to}
-use Rattle.tase_map.specs.Replied.{pdu_in}
+use Rattle.tase_map.specs.Replied.{pdu_of_reply}
 use Rattle.tase_map.specs.Readings.{Reading, reading_of}
 use Rattle.tase_map.specs.Turns.{Turn, offers, offers_badly, asks, concludes, releases, aborts}
 use Rattle.tase_map.specs.Turns.{breaks, ends}
@@ -38,9 +38,9 @@ pub record Talk : Type 0 where
   pub turns : List Turn
 
 -- the association is accepted with what is granted of the offer
-abbrev pub accept_octets : AssociationSetup → Option Connecting → List ℕ
-accept_octets setup None = []
-accept_octets setup (Some c) = wire setup.size (accept_tsdu setup (granted c.initiate))
+abbrev pub accept_wire : AssociationSetup → Option Connecting → List ℕ
+accept_wire setup None = []
+accept_wire setup (Some c) = wire setup.size (accept_tsdu setup (granted c.initiate))
 
 abbrev pub detail_of : Option Connecting → ℤ
 detail_of None = MOST_DETAIL
@@ -59,7 +59,7 @@ end_turns false = []
 abbrev pub talk_of : Reading → Bool → Talk
 talk_of reading ended = record {
   opening = answers_to called reading.told
-      ++ accept_octets (setup_after reading.told) (first_in connect_in reading.told);
+      ++ accept_wire (setup_after reading.told) (first_in connect_in reading.told);
   setup = setup_after reading.told;
   detail = detail_of (first_in connect_in reading.told);
   turns = behind_offer (turns_told reading ++ end_turns ended);
@@ -80,18 +80,19 @@ within detail invoke pdu = if int_lt detail (pos (pdu_len pdu)) then too_long in
 
 -- the reply to a request
 abbrev pub reply_octets : Talk → ℕ → ReplyKind → List ℕ
-reply_octets talk invoke reply = said talk.setup (within talk.detail invoke (pdu_in invoke reply))
+reply_octets talk invoke reply = said talk.setup
+    (within talk.detail invoke (pdu_of_reply invoke reply))
 
-abbrev pub release_octets : AssociationSetup → List ℕ
-release_octets setup = wire setup.size (release_tsdu setup.acse)
+abbrev pub release_wire : AssociationSetup → List ℕ
+release_wire setup = wire setup.size (release_tsdu setup.acse)
 
-abbrev pub abort_octets : AssociationSetup → List ℕ
-abort_octets setup = wire setup.size (abort_tsdu setup.acse)
+abbrev pub abort_wire : AssociationSetup → List ℕ
+abort_wire setup = wire setup.size (abort_tsdu setup.acse)
 
 -- what is sent behind the response to conclude
 abbrev pub concluded_octets : AssociationSetup → List Turn → List ℕ
-concluded_octets setup (releases ∷ turns) = release_octets setup
-concluded_octets setup (breaks ∷ turns) = abort_octets setup
+concluded_octets setup (releases ∷ turns) = release_wire setup
+concluded_octets setup (breaks ∷ turns) = abort_wire setup
 concluded_octets setup _ = []
 
 -- a close, by what stands at its place: conclude is answered, and then what follows it; a release is
@@ -99,10 +100,10 @@ concluded_octets setup _ = []
 -- cause, abort the association
 abbrev pub close_octets : AssociationSetup → List Turn → List ℕ
 close_octets setup (concludes ∷ turns) = said setup pdus.Concluded ++ concluded_octets setup turns
-close_octets setup (releases ∷ turns) = release_octets setup
+close_octets setup (releases ∷ turns) = release_wire setup
 close_octets setup (aborts ∷ turns) = []
 close_octets setup (ends ∷ turns) = []
-close_octets setup _ = abort_octets setup
+close_octets setup _ = abort_wire setup
 
 -- ---- which of them an act begins
 
@@ -142,17 +143,17 @@ first_reply table ordinal talk view _ = []
 
 -- what an act of the association adds behind the view before it: the first act of a request its
 -- reply; a take nothing, since no reports are made yet
-abbrev pub octets_at : OwnTable → ℕ → Talk → View → Act → List ℕ
-octets_at table ordinal talk view acts.opens = talk.opening
-octets_at table ordinal talk view acts.takes = []
-octets_at table ordinal talk view acts.closes =
+abbrev pub act_octets : OwnTable → ℕ → Talk → View → Act → List ℕ
+act_octets table ordinal talk view acts.opens = talk.opening
+act_octets table ordinal talk view acts.takes = []
+act_octets table ordinal talk view acts.closes =
     close_octets talk.setup (turns_behind talk.turns (acts_made ordinal view))
-octets_at table ordinal talk view _ =
+act_octets table ordinal talk view _ =
     first_reply table ordinal talk view (turns_behind talk.turns (acts_made ordinal view))
 
 abbrev pub octets_seen : OwnTable → ℕ → Talk → View → Seen → List ℕ
 octets_seen table ordinal talk view (own other act) =
-    if other == ordinal then octets_at table ordinal talk view act else []
+    if other == ordinal then act_octets table ordinal talk view act else []
 octets_seen table ordinal talk view _ = []
 
 abbrev pub octets_in : OwnTable → ℕ → Talk → View → List ℕ

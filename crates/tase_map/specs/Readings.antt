@@ -6,7 +6,7 @@ use Rattle.stack_messages.specs.declared.fault.StackFault.{StackFault}
 use Rattle.stack_messages.proofs.OneMessage.{one_message}
 use Rattle.stack_assoc.specs.Arrivals.{Arrival, called}
 use Rattle.stack_assoc.specs.Tellings.{Tells, StopsTelling}
-use Rattle.stack_assoc.proofs.StreamLaws.{always}
+use Rattle.stack_assoc.proofs.StreamLaws.{tells_or_stops}
 
 pub record Reading : Type 0 where
   pub told : List Arrival
@@ -23,9 +23,9 @@ the_reading octets (inr stops) = record { told = stops.0; broken = Some stops.1 
 
 -- the one thing that octets tell
 unfoldable pub reading_of : List ℕ → Reading
-reading_of octets = the_reading octets (always one_message called octets)
+reading_of octets = the_reading octets (tells_or_stops one_message called octets)
 
 -- octets tell this
-abbrev pub Reads : List ℕ → List Arrival → Option StackFault → Type 0
-Reads octets told None = (rest : List ℕ) × Tells called octets told rest
-Reads octets told (Some fault) = StopsTelling called octets told fault
+abbrev pub TellsReading : List ℕ → List Arrival → Option StackFault → Type 0
+TellsReading octets told None = (rest : List ℕ) × Tells called octets told rest
+TellsReading octets told (Some fault) = StopsTelling called octets told fault

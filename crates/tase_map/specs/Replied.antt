@@ -19,37 +19,37 @@ spec_in (named.List names) = specs.List names
 spec_in (named.Set name) = specs.Set name
 
 -- the PDU that a reply to the request with this number is
-abbrev pub pdu_in : ℕ → ReplyKind → MmsPdu
-pdu_in invoke replies.Identified = pdus.Response invoke responses.Identify
-pdu_in invoke (replies.Results spec results) =
+abbrev pub pdu_of_reply : ℕ → ReplyKind → MmsPdu
+pdu_of_reply invoke replies.Identified = pdus.Response invoke responses.Identify
+pdu_of_reply invoke (replies.Results spec results) =
     pdus.Response invoke
     (responses.Read (record { spec = option_map spec_in spec; results = results }))
-pdu_in invoke (replies.Written results) =
+pdu_of_reply invoke (replies.Written results) =
     pdus.Response invoke (responses.Write (record { results = results }))
-pdu_in invoke (replies.NamesAre names more) =
+pdu_of_reply invoke (replies.NamesAre names more) =
     pdus.Response invoke (responses.NameList (record { names = names; more = more }))
-pdu_in invoke replies.Defined = pdus.Response invoke responses.Define
-pdu_in invoke (replies.MembersAre names) =
+pdu_of_reply invoke replies.Defined = pdus.Response invoke responses.Define
+pdu_of_reply invoke (replies.MembersAre names) =
     pdus.Response invoke (responses.MembersOf (record { members = names }))
-pdu_in invoke (replies.Deleted matched deleted) =
+pdu_of_reply invoke (replies.Deleted matched deleted) =
     pdus.Response invoke (responses.Delete (record { matched = matched; deleted = deleted }))
-pdu_in invoke (replies.Error class code) =
+pdu_of_reply invoke (replies.Error class code) =
     pdus.Error (record { invoke = invoke; class = class; code = code })
-pdu_in invoke (replies.Reject kind code) =
+pdu_of_reply invoke (replies.Reject kind code) =
     pdus.Reject (record { invoke = Some invoke; kind = kind; code = code })
 
 -- the results of a read that named these variables or this data set, or doesn't repeat them
-abbrev pub results_in : List Outcome → Option Spec → Option ReplyKind
-results_in results None = Some (replies.Results None results)
-results_in results (Some (specs.List names)) =
+abbrev pub results_reply : List Outcome → Option Spec → Option ReplyKind
+results_reply results None = Some (replies.Results None results)
+results_reply results (Some (specs.List names)) =
     Some (replies.Results (Some (named.List names)) results)
-results_in results (Some (specs.Set name)) =
+results_reply results (Some (specs.Set name)) =
     Some (replies.Results (Some (named.Set name)) results)
 
 abbrev pub reply_in_response : Response → Option ReplyKind
 reply_in_response (responses.NameList r) = Some (replies.NamesAre r.names r.more)
 reply_in_response responses.Identify = Some replies.Identified
-reply_in_response (responses.Read r) = results_in r.results r.spec
+reply_in_response (responses.Read r) = results_reply r.results r.spec
 reply_in_response (responses.Write r) = Some (replies.Written r.results)
 reply_in_response responses.Define = Some replies.Defined
 reply_in_response (responses.MembersOf r) = Some (replies.MembersAre r.members)
@@ -63,8 +63,8 @@ reply_in (pdus.Reject r) = Some (replies.Reject r.kind r.code)
 reply_in pdu = None
 
 -- the number of the request that a PDU answers, where it tells one
-abbrev pub number_in : MmsPdu → Option ℕ
-number_in (pdus.Response invoke response) = Some invoke
-number_in (pdus.Error e) = Some e.invoke
-number_in (pdus.Reject r) = r.invoke
-number_in pdu = None
+abbrev pub answered_number : MmsPdu → Option ℕ
+answered_number (pdus.Response invoke response) = Some invoke
+answered_number (pdus.Error e) = Some e.invoke
+answered_number (pdus.Reject r) = r.invoke
+answered_number pdu = None

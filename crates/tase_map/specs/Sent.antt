@@ -23,8 +23,8 @@ abbrev pub events_by : ℕ → Past → List EventKind
 events_by who past = filter_map (event_by who) past
 
 -- the octets that an association is sent over this past, where its link has given this text
-abbrev pub sent : CentreRows → Past → Key → List ℕ → Bool → List ℕ
-sent rows past key text ended =
+abbrev pub association_octets : CentreRows → Past → Key → List ℕ → Bool → List ℕ
+association_octets rows past key text ended =
     octets_out (own_table rows key.peer) (view_of rows key.peer past) key.ordinal text ended
 
 -- what its text has behind the requests that it has made so far
@@ -45,9 +45,9 @@ IsFixed (concludes ∷ []) = ⊥
 IsFixed (turn ∷ turns) = Unit {0}
 
 -- an event that asks for no service
-abbrev pub IsQuiet : EventKind → Type 0
-IsQuiet (events.Request call) = ⊥
-IsQuiet event = Unit {0}
+abbrev pub AsksNoService : EventKind → Type 0
+AsksNoService (events.Request call) = ⊥
+AsksNoService event = Unit {0}
 
 -- an event that is of no association's doing: a new value of a point, the stop
 abbrev pub IsNoted : EventKind → Type 0

@@ -7,8 +7,8 @@ use Rattle.stack_assoc.specs.declared.input.StackIn.{StackIn}
 use Rattle.stack_assoc.specs.declared.input.StackIn.TheVariants as inputs
 use Rattle.stack_assoc.specs.Handing.{handed_out}
 use Rattle.tase_views.specs.declared.call.CallKind.{CallKind}
-use Rattle.tase_map.specs.Asked.{call_in, invalid}
-use Rattle.tase_map.specs.Inputs.{Item, piece, idle, ended, text_of}
+use Rattle.tase_map.specs.Asked.{call_of_request, invalid}
+use Rattle.tase_map.specs.Inputs.{Item, piece, idle, ended, text_given}
 use Rattle.tase_map.specs.Readings.{Reading, reading_of}
 
 pub data Turn : Type 0 where
@@ -29,7 +29,7 @@ pub data Turn : Type 0 where
 
 -- a request and conclude; no other PDU has an effect
 abbrev pub turn_of_pdu : MmsPdu → Option Turn
-turn_of_pdu (pdus.Request invoke request) = Some (asks invoke (call_in request))
+turn_of_pdu (pdus.Request invoke request) = Some (asks invoke (call_of_request request))
 turn_of_pdu pdus.Conclude = Some concludes
 turn_of_pdu _ = None
 
@@ -64,7 +64,7 @@ turns_behind_octets ended = ends ∷ []
 -- what an item tells behind those before it
 abbrev pub turns_at : List Item → Item → List Turn
 turns_at before item =
-    turns_between (reading_of (text_of before)) (reading_of (text_of (before ++ item ∷ [])))
+    turns_between (reading_of (text_given before)) (reading_of (text_given (before ++ item ∷ [])))
     ++ turns_behind_octets item
 
 -- what items tell behind those before them

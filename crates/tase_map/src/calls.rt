@@ -5,7 +5,8 @@ ghost use Rattle.mms_services.specs.PduOctets.{IsWritableRequest};
 ghost use Rattle.mms_services.specs.declared.request.Request.TheVariants as requests;
 ghost use Rattle.tase_views.specs.declared.call.CallKind.TheVariants as calls;
 ghost use Rattle.mms_names.specs.Deletes as deletes;
-ghost use Rattle.tase_map.specs.Asked.{call_in, request_in, delete_asked, is_odd, unrecognized};
+ghost use Rattle.tase_map.specs.Asked.{call_of_request, request_in, delete_asked, is_odd};
+ghost use Rattle.tase_map.specs.Asked.{unrecognized};
 ghost use Rattle.tase_map.specs.Asked.{invalid};
 
 use crate::copies::{data_of, values_of};
@@ -23,7 +24,7 @@ use tase_views::{Call, CallKind, Values};
 #[tactic(auto, using(crate::proofs::AskedLaws::lawful_call))]
 pub fn call_of(alloc: Global, request: &Request) -> Result<Call, AllocError>
     requires lawful { IsLawfulRequest request.now }
-    ensures { IfOk result (λ call. call ≡ call_in request.now) }
+    ensures { IfOk result (λ call. call ≡ call_of_request request.now) }
 {
     let kind = kind_of(alloc, request)?;
     Ok(Call::new(kind))
@@ -37,7 +38,7 @@ pub fn invalid_call() -> Call
 }
 
 fn kind_of(alloc: Global, request: &Request) -> Result<CallKind, AllocError>
-    ensures { IfOk result (λ kind. kind ≡ call_in request.now) }
+    ensures { IfOk result (λ kind. kind ≡ call_of_request request.now) }
 {
     match request {
         Request::NameList(asked) => name_list_of(asked),
@@ -59,7 +60,7 @@ fn unrecognized() -> CallKind
 }
 
 fn name_list_of(asked: &NameListRequest) -> Result<CallKind, AllocError>
-    ensures { IfOk result (λ kind. kind ≡ call_in (requests.NameList asked.now)) }
+    ensures { IfOk result (λ kind. kind ≡ call_of_request (requests.NameList asked.now)) }
 {
     Ok(CallKind::NameList {
         class: asked.class,
@@ -79,7 +80,7 @@ fn after_of(after: &Option<Visible>) -> Result<Option<Visible>, AllocError>
 }
 
 fn read_of(asked: &ReadRequest) -> Result<CallKind, AllocError>
-    ensures { IfOk result (λ kind. kind ≡ call_in (requests.Read asked.now)) }
+    ensures { IfOk result (λ kind. kind ≡ call_of_request (requests.Read asked.now)) }
 {
     match &asked.spec {
         Spec::List(names) => Ok(CallKind::Read {
@@ -94,7 +95,7 @@ fn read_of(asked: &ReadRequest) -> Result<CallKind, AllocError>
 }
 
 fn write_of(alloc: Global, asked: &WriteRequest) -> Result<CallKind, AllocError>
-    ensures { IfOk result (λ kind. kind ≡ call_in (requests.Write asked.now)) }
+    ensures { IfOk result (λ kind. kind ≡ call_of_request (requests.Write asked.now)) }
 {
     match &asked.spec {
         Spec::List(names) => Ok(CallKind::Write {
@@ -109,7 +110,7 @@ fn write_of(alloc: Global, asked: &WriteRequest) -> Result<CallKind, AllocError>
 }
 
 fn define_of(asked: &DefineRequest) -> Result<CallKind, AllocError>
-    ensures { IfOk result (λ kind. kind ≡ call_in (requests.Define asked.now)) }
+    ensures { IfOk result (λ kind. kind ≡ call_of_request (requests.Define asked.now)) }
 {
     Ok(CallKind::Define {
         set: asked.set.clone()?,
@@ -118,7 +119,7 @@ fn define_of(asked: &DefineRequest) -> Result<CallKind, AllocError>
 }
 
 fn members_of(asked: &MembersRequest) -> Result<CallKind, AllocError>
-    ensures { IfOk result (λ kind. kind ≡ call_in (requests.MembersOf asked.now)) }
+    ensures { IfOk result (λ kind. kind ≡ call_of_request (requests.MembersOf asked.now)) }
 {
     Ok(CallKind::MembersOf {
         set: asked.set.clone()?,

@@ -6,24 +6,25 @@ ghost use Rattle.tase_views.specs.declared.call.CallKind.{CallKind as AnyCall};
 ghost use Rattle.tase_views.specs.declared.reply.ReplyKind.{ReplyKind as AnyReply};
 ghost use Rattle.mms_services.specs.Lawful.{IsLawfulRequest};
 ghost use Rattle.tase_views.specs.Calls.{IsCall};
-ghost use Rattle.tase_map.specs.Asked.{call_in, request_in, is_odd};
-ghost use Rattle.tase_map.specs.Replied.{pdu_in, reply_in, number_in};
+ghost use Rattle.tase_map.specs.Asked.{call_of_request, request_in, is_odd};
+ghost use Rattle.tase_map.specs.Replied.{pdu_of_reply, reply_in, answered_number};
 
 /// What a call asks in MMS is that call again, and a lawful request that is a call of the node is
 /// what that call asks.
 pub fn calls_are_requests()
     ensures call { (call : AnyCall) → is_odd call ≡ false → IsCall call
-        → call_in (request_in call) ≡ call }
-    ensures request { (request : Request) → is_odd (call_in request) ≡ false
-        → IsLawfulRequest request → request_in (call_in request) ≡ request }
+        → call_of_request (request_in call) ≡ call }
+    ensures request { (request : Request) → is_odd (call_of_request request) ≡ false
+        → IsLawfulRequest request → request_in (call_of_request request) ≡ request }
 {}
 
 /// What answers by a reply is that reply again and tells the number of the request, and a PDU that
 /// is a reply and tells a number is what answers the request with that number by the reply.
 pub fn replies_are_pdus()
-    ensures reply { (invoke : ℕ) (reply : AnyReply) → reply_in (pdu_in invoke reply) ≡ Some reply }
+    ensures reply { (invoke : ℕ) (reply : AnyReply) → reply_in (pdu_of_reply invoke reply)
+        ≡ Some reply }
     ensures number { (invoke : ℕ) (reply : AnyReply)
-        → number_in (pdu_in invoke reply) ≡ Some invoke }
+        → answered_number (pdu_of_reply invoke reply) ≡ Some invoke }
     ensures pdu { (pdu : MmsPdu) (invoke : ℕ) (reply : AnyReply) → reply_in pdu ≡ Some reply
-        → number_in pdu ≡ Some invoke → pdu_in invoke reply ≡ pdu }
+        → answered_number pdu ≡ Some invoke → pdu_of_reply invoke reply ≡ pdu }
 {}

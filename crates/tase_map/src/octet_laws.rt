@@ -19,22 +19,23 @@ ghost use Rattle.tase_views.specs.OwnTable.{own_table};
 ghost use Rattle.tase_views.specs.View.{view_of};
 ghost use Rattle.tase_views.specs.Answers.{reply_to};
 ghost use Rattle.tase_views.specs.Outcomes.{seat_refusal, name_refusal};
-ghost use Rattle.tase_map.specs.Inputs.{Item, IsInput, text_of, has_ended};
-ghost use Rattle.tase_map.specs.Readings.{reading_of, Reads};
+ghost use Rattle.tase_map.specs.Inputs.{Item, IsLinkInput, text_given, link_has_ended};
+ghost use Rattle.tase_map.specs.Readings.{reading_of, TellsReading};
 ghost use Rattle.tase_map.specs.Asks.{asks_of, without_takes, AreInTurn};
 ghost use Rattle.tase_map.specs.Closed.{is_closed};
 ghost use Rattle.tase_map.specs.Out.{talk_of, end_turns, reply_octets, close_octets};
 ghost use Rattle.tase_map.specs.Out.{concluded_octets, octets_out};
-ghost use Rattle.tase_map.specs.Sent.{events_by, sent, turns_left, AreInText, IsFixed, IsQuiet};
+ghost use Rattle.tase_map.specs.Sent.{events_by, association_octets, turns_left, AreInText};
+ghost use Rattle.tase_map.specs.Sent.{IsFixed, AsksNoService};
 ghost use Rattle.tase_map.specs.Sent.{IsNoted};
 ghost use Rattle.tase_map.specs.Turns.{Turn, offers, asks, concludes, turns_told};
 
 /// What is read of octets is what they tell the called end, and nothing else is.
 pub fn octets_tell_one_thing()
     ensures found { (octets : List ℕ)
-        → Reads octets (reading_of octets).told (reading_of octets).broken }
+        → TellsReading octets (reading_of octets).told (reading_of octets).broken }
     ensures only { (octets : List ℕ) (told : List Arrival) (broken : Option StackFault)
-        → Reads octets told broken
+        → TellsReading octets told broken
         → reading_of octets ≡ record { told = told; broken = broken } }
 {}
 
@@ -50,8 +51,9 @@ pub fn told_pdus_are_lawful()
 pub fn asking_goes_on()
     ensures more { (rows : CentreRows) (items more : List Item) → (others : List AnyEvent)
         × (asks_of rows (items ++ more) ≡ asks_of rows items ++ others) }
-    ensures cuts { (rows : CentreRows) (here there : List Item) → IsInput here → IsInput there
-        → text_of here ≡ text_of there → has_ended here ≡ has_ended there
+    ensures cuts { (rows : CentreRows) (here there : List Item) → IsLinkInput here
+        → IsLinkInput there
+        → text_given here ≡ text_given there → link_has_ended here ≡ link_has_ended there
         → without_takes (asks_of rows here) ≡ without_takes (asks_of rows there) }
 {}
 
@@ -59,7 +61,7 @@ pub fn asking_goes_on()
 /// and takes, and at last a close. An event that comes in turn behind all those of its seat isn't
 /// refused for want of an association, or because the seat has one, or for its peer.
 pub fn events_come_in_turn()
-    ensures turn { (rows : CentreRows) (items : List Item) → IsInput items
+    ensures turn { (rows : CentreRows) (items : List Item) → IsLinkInput items
         → AreInTurn rows (asks_of rows items) }
     ensures unrefused { (rows : CentreRows) (past : Past) (who : ℕ) (event : AnyEvent)
         (later : List AnyEvent) → AreInTurn rows (reverse (events_by who past) ++ event ∷ later)
@@ -73,32 +75,32 @@ pub fn events_come_in_turn()
 pub fn each_entry_adds_its_octets()
     ensures other { (rows : CentreRows) (past : Past) (key : Key) (who : ℕ) (event : AnyEvent)
         (text : List ℕ) (ended : Bool) → key_at event past who ≢ Some key
-        → sent rows (record { who = who; event = event } ∷ past) key text ended
-        ≡ sent rows past key text ended }
+        → association_octets rows (record { who = who; event = event } ∷ past) key text ended
+        ≡ association_octets rows past key text ended }
     ensures open { (rows : CentreRows) (past : Past) (key : Key) (who peer : ℕ) (text : List ℕ)
         (ended : Bool) → key_at (Open peer) past who ≡ Some key
-        → sent rows (record { who = who; event = Open peer } ∷ past) key text ended
-        ≡ sent rows past key text ended ++ (talk_of (reading_of text) ended).opening }
+        → association_octets rows (record { who = who; event = Open peer } ∷ past) key text ended
+        ≡ association_octets rows past key text ended ++ (talk_of (reading_of text) ended).opening }
     ensures request { (rows : CentreRows) (past : Past) (key : Key) (who invoke : ℕ)
         (call : AnyCall) (later : List Turn) (text : List ℕ) (ended : Bool) → IsCall call
         → key_at (Request call) past who ≡ Some key
         → turns_left rows past key text ended ≡ asks invoke call ∷ later
-        → sent rows (record { who = who; event = Request call } ∷ past) key text ended
-        ≡ sent rows past key text ended
+        → association_octets rows (record { who = who; event = Request call } ∷ past) key text ended
+        ≡ association_octets rows past key text ended
         ++ reply_octets (talk_of (reading_of text) ended) invoke
         (reply_to (own_table rows key.peer) (view_of rows key.peer past) key.ordinal call) }
     ensures take { (rows : CentreRows) (past : Past) (key : Key) (who : ℕ) (text : List ℕ)
         (ended : Bool) → key_at Take past who ≡ Some key
-        → sent rows (record { who = who; event = Take } ∷ past) key text ended
-        ≡ sent rows past key text ended }
+        → association_octets rows (record { who = who; event = Take } ∷ past) key text ended
+        ≡ association_octets rows past key text ended }
     ensures noted { (rows : CentreRows) (past : Past) (key : Key) (who : ℕ) (event : AnyEvent)
         (text : List ℕ) (ended : Bool) → IsNoted event
-        → sent rows (record { who = who; event = event } ∷ past) key text ended
-        ≡ sent rows past key text ended }
+        → association_octets rows (record { who = who; event = event } ∷ past) key text ended
+        ≡ association_octets rows past key text ended }
     ensures close { (rows : CentreRows) (past : Past) (key : Key) (who : ℕ) (text : List ℕ)
         (ended : Bool) → key_at Close past who ≡ Some key
-        → sent rows (record { who = who; event = Close } ∷ past) key text ended
-        ≡ sent rows past key text ended
+        → association_octets rows (record { who = who; event = Close } ∷ past) key text ended
+        ≡ association_octets rows past key text ended
         ++ close_octets (talk_of (reading_of text) ended).setup
         (turns_left rows past key text ended) }
 {}
@@ -110,7 +112,7 @@ pub fn requests_are_taken_in_order()
     ensures yet { (rows : CentreRows) (past : Past) (key : Key) (text : List ℕ) (ended : Bool)
         → opens_in past key.peer ≤ key.ordinal
         → (turns_left rows past key text ended ≡ (talk_of (reading_of text) ended).turns)
-        × (sent rows past key text ended ≡ []) }
+        × (association_octets rows past key text ended ≡ []) }
     ensures request { (rows : CentreRows) (past : Past) (key : Key) (who invoke : ℕ)
         (call : AnyCall) (later : List Turn) (text : List ℕ) (ended : Bool) → IsCall call
         → key_at (Request call) past who ≡ Some key
@@ -118,7 +120,7 @@ pub fn requests_are_taken_in_order()
         → turns_left rows (record { who = who; event = Request call } ∷ past) key text ended
         ≡ later }
     ensures quiet { (rows : CentreRows) (past : Past) (key : Key) (who : ℕ) (event : AnyEvent)
-        (text : List ℕ) (ended : Bool) → IsQuiet event → key_at event past who ≡ Some key
+        (text : List ℕ) (ended : Bool) → AsksNoService event → key_at event past who ≡ Some key
         → turns_left rows (record { who = who; event = event } ∷ past) key text ended
         ≡ turns_left rows past key text ended }
     ensures other { (rows : CentreRows) (past : Past) (key : Key) (who : ℕ) (event : AnyEvent)
@@ -140,7 +142,7 @@ pub fn requests_stand_in_texts()
         → turns_left rows past key text false ≡ asks invoke call ∷ later
         → AreInText rows (record { who = who; event = Request call } ∷ past) key text }
     ensures quiet { (rows : CentreRows) (past : Past) (key : Key) (who : ℕ) (event : AnyEvent)
-        (text : List ℕ) → IsQuiet event → key_at event past who ≡ Some key
+        (text : List ℕ) → AsksNoService event → key_at event past who ≡ Some key
         → AreInText rows past key text
         → AreInText rows (record { who = who; event = event } ∷ past) key text }
     ensures other { (rows : CentreRows) (past : Past) (key : Key) (who : ℕ) (event : AnyEvent)
@@ -161,16 +163,19 @@ pub fn texts_grow()
         ≡ turns_left rows past key text false ++ (later ++ end_turns ended)) }
     ensures open { (rows : CentreRows) (past : Past) (key : Key) (text more : List ℕ)
         (ended : Bool) → is_closed key past ≡ false → AreInText rows past key text
-        → sent rows past key (text ++ more) ended ≡ sent rows past key text false }
+        → association_octets rows past key (text ++ more) ended
+        ≡ association_octets rows past key text false }
     ensures fixed { (rows : CentreRows) (past : Past) (key : Key) (text more : List ℕ)
         (ended : Bool) → is_closed key past ≡ true → AreInText rows past key text
         → IsFixed (turns_left rows past key text false)
-        → sent rows past key (text ++ more) ended ≡ sent rows past key text false }
+        → association_octets rows past key (text ++ more) ended
+        ≡ association_octets rows past key text false }
     ensures concluded { (rows : CentreRows) (past : Past) (key : Key) (text more : List ℕ)
         (ended : Bool) (later : List Turn) → is_closed key past ≡ true
         → AreInText rows past key text → turns_left rows past key text false ≡ concludes ∷ []
         → turns_left rows past key (text ++ more) ended ≡ concludes ∷ later
-        → sent rows past key (text ++ more) ended ≡ sent rows past key text false
+        → association_octets rows past key (text ++ more) ended
+        ≡ association_octets rows past key text false
         ++ concluded_octets (talk_of (reading_of text) false).setup later }
 {}
 
@@ -183,7 +188,8 @@ pub fn closed_associations_stay()
         → association_in (later ++ past) who ≢ Some key }
     ensures octets { (rows : CentreRows) (past later : Past) (key : Key) (text : List ℕ)
         (ended : Bool) → is_closed key past ≡ true
-        → sent rows (later ++ past) key text ended ≡ sent rows past key text ended }
+        → association_octets rows (later ++ past) key text ended
+        ≡ association_octets rows past key text ended }
 {}
 
 /// Two centres with two histories in which a peer has the same own table and the same view send that

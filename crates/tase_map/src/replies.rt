@@ -3,7 +3,8 @@ ghost use Rattle.std.specs.Prelude.{◌≡◌, Some, IfOk, option_map};
 ghost use Rattle.mms_services.specs.Lawful.{IsLawfulPdu, IsLawfulResponse};
 ghost use Rattle.mms_services.specs.PduOctets.{IsWritablePdu};
 ghost use Rattle.tase_views.specs.declared.reply.ReplyKind.TheVariants as replies;
-ghost use Rattle.tase_map.specs.Replied.{pdu_in, spec_in, reply_in, reply_in_response, results_in};
+ghost use Rattle.tase_map.specs.Replied.{pdu_of_reply, spec_in, reply_in, reply_in_response};
+ghost use Rattle.tase_map.specs.Replied.{results_reply};
 
 use crate::copies::{outcomes_of, written_of};
 use mms_access::{ReadResponse, Spec, WriteResponse};
@@ -16,7 +17,7 @@ use tase_views::{ObjectNames, ReadSpec, Reply, ReplyKind, Results, WriteResults}
 /// The PDU that answers the request with this number by a reply. It may be written.
 #[tactic(auto, using(crate::proofs::RepliedLaws::writable_pdu))]
 pub fn pdu_of(alloc: Global, invoke: u32, reply: &Reply) -> Result<MmsPdu, AllocError>
-    ensures exact { IfOk result (λ pdu. pdu ≡ pdu_in invoke reply.now) }
+    ensures exact { IfOk result (λ pdu. pdu ≡ pdu_of_reply invoke reply.now) }
     ensures writable { IfOk result IsWritablePdu }
 {
     match reply.kind() {
@@ -33,7 +34,7 @@ pub fn pdu_of(alloc: Global, invoke: u32, reply: &Reply) -> Result<MmsPdu, Alloc
 }
 
 fn identified(invoke: u32) -> MmsPdu
-    ensures { result ≡ pdu_in invoke replies.Identified }
+    ensures { result ≡ pdu_of_reply invoke replies.Identified }
 {
     MmsPdu::Response {
         invoke,
@@ -47,7 +48,8 @@ fn results_pdu(
     spec: &Option<ReadSpec>,
     results: &Results,
 ) -> Result<MmsPdu, AllocError>
-    ensures { IfOk result (λ pdu. pdu ≡ pdu_in invoke (replies.Results spec.now results.now)) }
+    ensures { IfOk result (λ pdu.
+        pdu ≡ pdu_of_reply invoke (replies.Results spec.now results.now)) }
 {
     let response = ReadResponse {
         spec: spec_of(spec)?,
@@ -70,7 +72,7 @@ fn spec_of(spec: &Option<ReadSpec>) -> Result<Option<Spec>, AllocError>
 }
 
 fn written_pdu(alloc: Global, invoke: u32, results: &WriteResults) -> Result<MmsPdu, AllocError>
-    ensures { IfOk result (λ pdu. pdu ≡ pdu_in invoke (replies.Written results.now)) }
+    ensures { IfOk result (λ pdu. pdu ≡ pdu_of_reply invoke (replies.Written results.now)) }
 {
     let response = WriteResponse {
         results: written_of(alloc, results.as_slice())?,
@@ -82,7 +84,7 @@ fn written_pdu(alloc: Global, invoke: u32, results: &WriteResults) -> Result<Mms
 }
 
 fn names_pdu(invoke: u32, names: &ObjectNames, more: bool) -> Result<MmsPdu, AllocError>
-    ensures { IfOk result (λ pdu. pdu ≡ pdu_in invoke (replies.NamesAre names.now more)) }
+    ensures { IfOk result (λ pdu. pdu ≡ pdu_of_reply invoke (replies.NamesAre names.now more)) }
 {
     let response = NameListResponse {
         names: names.clone()?,
@@ -95,7 +97,7 @@ fn names_pdu(invoke: u32, names: &ObjectNames, more: bool) -> Result<MmsPdu, All
 }
 
 fn defined(invoke: u32) -> MmsPdu
-    ensures { result ≡ pdu_in invoke replies.Defined }
+    ensures { result ≡ pdu_of_reply invoke replies.Defined }
 {
     MmsPdu::Response {
         invoke,
@@ -104,7 +106,7 @@ fn defined(invoke: u32) -> MmsPdu
 }
 
 fn members_pdu(invoke: u32, names: &Names) -> Result<MmsPdu, AllocError>
-    ensures { IfOk result (λ pdu. pdu ≡ pdu_in invoke (replies.MembersAre names.now)) }
+    ensures { IfOk result (λ pdu. pdu ≡ pdu_of_reply invoke (replies.MembersAre names.now)) }
 {
     let response = MembersResponse {
         members: names.clone()?,
@@ -116,7 +118,7 @@ fn members_pdu(invoke: u32, names: &Names) -> Result<MmsPdu, AllocError>
 }
 
 fn deleted_pdu(invoke: u32, matched: u32, deleted: u32) -> MmsPdu
-    ensures { result ≡ pdu_in invoke (replies.Deleted matched deleted) }
+    ensures { result ≡ pdu_of_reply invoke (replies.Deleted matched deleted) }
 {
     MmsPdu::Response {
         invoke,
@@ -125,7 +127,7 @@ fn deleted_pdu(invoke: u32, matched: u32, deleted: u32) -> MmsPdu
 }
 
 fn error_pdu(invoke: u32, class: u8, code: u8) -> MmsPdu
-    ensures { result ≡ pdu_in invoke (replies.Error class code) }
+    ensures { result ≡ pdu_of_reply invoke (replies.Error class code) }
 {
     MmsPdu::Error(ErrorPdu {
         invoke,
@@ -135,7 +137,7 @@ fn error_pdu(invoke: u32, class: u8, code: u8) -> MmsPdu
 }
 
 fn reject_pdu(invoke: u32, kind: u8, code: u8) -> MmsPdu
-    ensures { result ≡ pdu_in invoke (replies.Reject kind code) }
+    ensures { result ≡ pdu_of_reply invoke (replies.Reject kind code) }
 {
     MmsPdu::Reject(RejectPdu {
         invoke: Some(invoke),
@@ -220,7 +222,7 @@ fn members_of(answer: &MembersResponse) -> Result<ReplyKind, AllocError>
 }
 
 fn results_of(alloc: Global, answer: &ReadResponse) -> Result<ReplyKind, AllocError>
-    ensures { IfOk result (λ kind. Some kind ≡ results_in answer.now.results answer.now.spec) }
+    ensures { IfOk result (λ kind. Some kind ≡ results_reply answer.now.results answer.now.spec) }
 {
     let spec = match &answer.spec {
         Some(Spec::Set(name)) => Some(ReadSpec::Set(name.clone()?)),

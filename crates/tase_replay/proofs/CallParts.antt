@@ -32,7 +32,7 @@ use Rattle.mms_text.proofs.TextReading.{one_text_reading}
 use Rattle.mms_text.proofs.WordText.{word-found, is_same, chosen}
 use Rattle.event_text.specs.CallWords.{assigned_word, after_words}
 use Rattle.tase_replay.specs.CallIn.{datum_read, datum_in, assigned_at, assigned_in, if_some}
-use Rattle.tase_replay.specs.CallIn.{class_in, scope_at, scope_of_word, after_in}
+use Rattle.tase_replay.specs.CallIn.{signed_64_in, scope_at, scope_of_word, after_in}
 use Rattle.tase_replay.proofs.Foreign.{name_foreign, identifier_foreign, separator_foreign}
 
 datum_read-found : (text : List ℕ) (reading : HasOneTextReading text) (d : Datum)
@@ -105,14 +105,14 @@ assigned_in-word p h =
       datum_in-text p.1 h.1,
     ) refl
 
-pub class_in-found : (word : List ℕ) (class : ℤ) → class_in word ≡ Some class
+pub class_in-found : (word : List ℕ) (class : ℤ) → signed_64_in word ≡ Some class
     → (word ≡ signed_decimal class) × FitsSigned w64 class
 class_in-found word class e =
     let found = word-found (105 ∷ word) (integer class) (ap (option_map integer) e) in
     (ap (drop 1) found.spelled, found.parts)
 
 pub class_in-text : (class : ℤ) → FitsSigned w64 class
-    → class_in (signed_decimal class) ≡ Some class
+    → signed_64_in (signed_decimal class) ≡ Some class
 class_in-text class fits = integer-read class fits
 
 pub scope_of_word-found : (word : List ℕ) (scope : Scope) → scope_of_word word ≡ Some scope

@@ -29,8 +29,9 @@ use Rattle.tase_views.specs.declared.call.CallKind.TheVariants.{WriteSet, NameLi
 use Rattle.tase_views.specs.declared.call.CallKind.TheVariants.{MembersOf, Delete, DeleteScope, Odd}
 use Rattle.tase_views.specs.EventTexts.{read_verb}
 use Rattle.event_text.specs.CallWords.{assigned_words, after_words, SpellsCall, AreCallWords}
-use Rattle.tase_replay.specs.CallIn.{assigned_in, some_in, read_in, write_in, class_in}
-use Rattle.tase_replay.specs.CallIn.{scope_of_word, after_in, list_in, identify_in, call_in, is_odd}
+use Rattle.tase_replay.specs.CallIn.{assigned_in, some_in, read_in, write_in, signed_64_in}
+use Rattle.tase_map.specs.Asked.{is_odd}
+use Rattle.tase_replay.specs.CallIn.{scope_of_word, after_in, names_call_in, identify_in, call_of_words}
 use Rattle.tase_replay.proofs.CallParts.{Assigned, IsAssigned, word_of_pair, assigned_in-found}
 use Rattle.tase_replay.proofs.CallParts.{assigned_in-word, class_in-found, class_in-text}
 use Rattle.tase_replay.proofs.CallParts.{scope_of_word-found, scope_of_word-text, after_in-found}
@@ -175,14 +176,14 @@ write_in-words names values some many named textual =
     ∙ ap (λ ns. Some (Write ns (values_of (paired names values)))) pairs.firsts
     ∙ ap (λ vs. Some (Write names vs)) pairs.seconds
 
-list_in-found : (words : List (List ℕ)) (call : CallKind) → list_in words ≡ Some call
+list_in-found : (words : List (List ℕ)) (call : CallKind) → names_call_in words ≡ Some call
     → Said (codes "names" ∷ words) call
 list_in-found [] call e = absurd (none-some call e)
 list_in-found (class ∷ []) call e = absurd (none-some call e)
 list_in-found (class ∷ scope ∷ more) call e =
     option_and_then_some
     (λ c. option_and_then (λ s. option_map (λ a. NameList c s a) (after_in more))
-    (scope_of_word scope)) (class_in class) call e
+    (scope_of_word scope)) (signed_64_in class) call e
     (λ c is_c k.
     option_and_then_some (λ s. option_map (λ a. NameList c s a) (after_in more))
     (scope_of_word scope) call k
@@ -205,7 +206,7 @@ list_in-found (class ∷ scope ∷ more) call e =
 
 list_in-words : (class : ℤ) (scope : Scope) (after : Option (List ℕ)) → FitsSigned w64 class
     → IsScope scope → IfSome after IsIdentifier
-    → list_in (signed_decimal class ∷ scope_text scope ∷ after_words after)
+    → names_call_in (signed_decimal class ∷ scope_text scope ∷ after_words after)
     ≡ Some (NameList class scope after)
 list_in-words class scope after fits s a =
     rw (class_in-text class fits, scope_of_word-text scope s, after_in-words after a) refl
@@ -217,7 +218,7 @@ identify_in-found [] call e =
     (record { spelled = refl; lawful = tt; textual = tt }, refl)
 identify_in-found (word ∷ words) call e = absurd (none-some call e)
 
-pub call_in-found : (words : List (List ℕ)) (call : CallKind) → call_in words ≡ Some call
+pub call_in-found : (words : List (List ℕ)) (call : CallKind) → call_of_words words ≡ Some call
     → Said words call
 call_in-found [] call e = absurd (none-some call e)
 call_in-found (verb ∷ words) call e =
@@ -234,34 +235,34 @@ call_in-found (verb ∷ words) call e =
     (λ other p. set_call_in-found verb words call p) o) n) m) k) e
 
 pub call_in-words : (words : List (List ℕ)) (call : CallKind) → SpellsCall words call
-    → is_odd call ≡ false → call_in words ≡ Some call
-call_in-words words Identify s odd = ap call_in s.spelled
+    → is_odd call ≡ false → call_of_words words ≡ Some call
+call_in-words words Identify s odd = ap call_of_words s.spelled
 call_in-words words (Read names true) s odd =
-    ap call_in s.spelled ∙ read_in-words true names s.lawful s.textual
+    ap call_of_words s.spelled ∙ read_in-words true names s.lawful s.textual
 call_in-words words (Read names false) s odd =
-    ap call_in s.spelled ∙ read_in-words false names s.lawful s.textual
+    ap call_of_words s.spelled ∙ read_in-words false names s.lawful s.textual
 call_in-words words (Write names values) s odd =
-    ap call_in s.spelled
+    ap call_of_words s.spelled
     ∙ write_in-words names values s.lawful.0 s.lawful.1 s.textual.0 s.textual.1
 call_in-words words (ReadSet set true) s odd =
-    ap call_in s.spelled ∙ read_set_in-words true set s.textual
+    ap call_of_words s.spelled ∙ read_set_in-words true set s.textual
 call_in-words words (ReadSet set false) s odd =
-    ap call_in s.spelled ∙ read_set_in-words false set s.textual
+    ap call_of_words s.spelled ∙ read_set_in-words false set s.textual
 call_in-words words (WriteSet set values) s odd =
-    ap call_in s.spelled
+    ap call_of_words s.spelled
     ∙ write_set_in-words set values s.textual.0 s.lawful.0 s.textual.1
 call_in-words words (Define set members) s odd =
-    ap call_in s.spelled ∙ define_in-words set members s.textual.0 s.lawful s.textual.1
-call_in-words words (MembersOf set) s odd = ap call_in s.spelled ∙ members_in-words set s.textual
+    ap call_of_words s.spelled ∙ define_in-words set members s.textual.0 s.lawful s.textual.1
+call_in-words words (MembersOf set) s odd = ap call_of_words s.spelled ∙ members_in-words set s.textual
 call_in-words words (Delete sets) s odd =
-    ap call_in s.spelled ∙ delete_in-words sets s.lawful s.textual
+    ap call_of_words s.spelled ∙ delete_in-words sets s.lawful s.textual
 call_in-words words (DeleteScope scope) s odd =
-    ap call_in s.spelled ∙ delete_scope_in-words scope s.textual s.lawful
+    ap call_of_words s.spelled ∙ delete_scope_in-words scope s.textual s.lawful
 call_in-words words (NameList class scope after) s odd =
-    ap call_in s.spelled ∙ list_in-words class scope after s.textual s.lawful.0 s.lawful.1
+    ap call_of_words s.spelled ∙ list_in-words class scope after s.textual s.lawful.0 s.lawful.1
 call_in-words words (Odd kind code) s odd = absurd cc
 
-pub call_in-spelled : (words : List (List ℕ)) (call : CallKind) → (call_in words ≡ Some call)
+pub call_in-spelled : (words : List (List ℕ)) (call : CallKind) → (call_of_words words ≡ Some call)
     ↔ Said words call
 call_in-spelled words call = (
   call_in-found words call,
@@ -269,7 +270,7 @@ call_in-spelled words call = (
 )
 
 call_in-odd : (words : List (List ℕ)) (call : CallKind) → SpellsCall words call
-    → is_odd call ≡ true → call_in words ≡ None
+    → is_odd call ≡ true → call_of_words words ≡ None
 call_in-odd words Identify s odd = absurd cc
 call_in-odd words (Read names echo) s odd = absurd cc
 call_in-odd words (Write names values) s odd = absurd cc
@@ -280,21 +281,21 @@ call_in-odd words (Define set members) s odd = absurd cc
 call_in-odd words (MembersOf set) s odd = absurd cc
 call_in-odd words (Delete sets) s odd = absurd cc
 call_in-odd words (DeleteScope scope) s odd = absurd cc
-call_in-odd words (Odd kind code) s odd = ap call_in s.spelled
+call_in-odd words (Odd kind code) s odd = ap call_of_words s.spelled
 
 -- of words that spell a call
 pub call_in-read : (words : List (List ℕ)) (call : CallKind) → SpellsCall words call
-    → (if is_odd call then None else Some call) ≡ call_in words
+    → (if is_odd call then None else Some call) ≡ call_of_words words
 call_in-read words call s = by (is_odd call) refl
   where
-    by : (b : Bool) → is_odd call ≡ b → (if b then None else Some call) ≡ call_in words
+    by : (b : Bool) → is_odd call ≡ b → (if b then None else Some call) ≡ call_of_words words
     by true odd = sym (call_in-odd words call s odd)
     by false even = sym (call_in-words words call s even)
 
 -- of words that spell none
-pub call_in-none : (words : List (List ℕ)) → (AreCallWords words → ⊥) → None ≡ call_in words
-call_in-none words unspelled = by (call_in words) refl
+pub call_in-none : (words : List (List ℕ)) → (AreCallWords words → ⊥) → None ≡ call_of_words words
+call_in-none words unspelled = by (call_of_words words) refl
   where
-    by : (found : Option CallKind) → call_in words ≡ found → None ≡ found
+    by : (found : Option CallKind) → call_of_words words ≡ found → None ≡ found
     by None e = refl
     by (Some call) e = absurd (unspelled (call, (call_in-found words call e).0))

@@ -16,28 +16,28 @@ use Rattle.tase_replay.specs.declared.playing.ReplayEnd.{ReplayEnd}
 use Rattle.tase_replay.specs.declared.playing.ReplayEnd.TheVariants.{Done, BadLine, Full}
 use Rattle.tase_replay.specs.declared.playing.ReplayEnd.TheVariants.{SinkFault, Memory}
 use Rattle.tase_replay.specs.Links.{Asking, asking_in}
-use Rattle.tase_replay.specs.Play.{Step, Scene, step_of, printed_of, Meaning, bad, gives}
-use Rattle.tase_replay.specs.Play.{meaning_of, accepted, means, line_in, play_line, ends_there, done}
+use Rattle.tase_replay.specs.Play.{Step, Scene, step_of, printed_of, LineMeaning, bad, gives}
+use Rattle.tase_replay.specs.Play.{meaning_of, entry_meaning, means, line_meaning, play_line, ends_there, done}
 use Rattle.tase_replay.specs.Play.{steps_of, entries_in, printed_in, with_taken, is_linked}
 use Rattle.tase_replay.specs.Ends.{TakesAll, IsPlayed, IsShown, end_of_refusal}
 use Rattle.tase_replay.proofs.Taking.{TakesAll-none, TakesPart-none}
 
 -- a bad line leaves all as it was
-pub IsPlayed-bad : (line : List ℕ) (number : ℕ) (meaning : Meaning)
+pub IsPlayed-bad : (line : List ℕ) (number : ℕ) (meaning : LineMeaning)
     (history : List Entry) (sink : SinkTold) → meaning ≡ bad
     → IsPlayed (play_line line number meaning ends_there) history history sink sink
     (BadLine number)
 IsPlayed-bad line number meaning history sink is = rw is (refl, TakesAll-none history sink)
 
 -- so does a line at which memory ran out at once
-pub IsPlayed-none : (line : List ℕ) (number : ℕ) (meaning : Meaning)
+pub IsPlayed-none : (line : List ℕ) (number : ℕ) (meaning : LineMeaning)
     (history : List Entry) (sink : SinkTold)
     → IsPlayed (play_line line number meaning ends_there) history history sink sink Memory
 IsPlayed-none line number meaning history sink =
     TakesPart-none (steps_of (play_line line number meaning ends_there)) history sink
 
 -- and a line that is skipped
-pub IsPlayed-skipped : (line : List ℕ) (number : ℕ) (scene : Scene) (meaning : Meaning)
+pub IsPlayed-skipped : (line : List ℕ) (number : ℕ) (scene : Scene) (meaning : LineMeaning)
     (history : List Entry) (sink : SinkTold) → meaning ≡ gives [] scene
     → IsPlayed (play_line line number meaning ends_there) history history sink sink Done
 IsPlayed-skipped line number scene meaning history sink is =
@@ -86,7 +86,7 @@ IsPlayed-shown line number steps scene history now before after Memory grown sho
 pub accepted_so : (setup : Setup) (scene : Scene) (entry : Entry) (refusal : Option StepFault)
     → is_linked entry.who scene ≡ false
     → refusal_of setup scene.past entry.who entry.event ≡ refusal
-    → accepted setup scene entry
+    → entry_meaning setup scene entry
     ≡ meaning_of (with_taken entry scene) (step_of setup scene.past entry) refusal
 accepted_so setup scene entry refusal own is =
     ap (λ (b : Bool). if b then bad
@@ -102,12 +102,12 @@ pub IsPlayed-taken : (setup : Setup) (line : List ℕ) (number : ℕ) (scene : S
     → refusal_of setup scene.past entry.who entry.event ≡ None
     → answer ≡ answer_of setup scene.past entry.who entry.event
     → now ≡ history ++ entry ∷ [] → IsShown (printed_of entry.who answer) before after end
-    → IsPlayed (play_line line number (accepted setup scene entry) ends_there) history
+    → IsPlayed (play_line line number (entry_meaning setup scene entry) ends_there) history
     now before after end
 IsPlayed-taken setup line number scene entry answer history now before after end own allowed is
     grown shown =
     let step : Step = step_of setup scene.past entry in
-    subst (λ (m : Meaning). IsPlayed (play_line line number m ends_there) history now before after
+    subst (λ (m : LineMeaning). IsPlayed (play_line line number m ends_there) history now before after
     end) (sym (accepted_so setup scene entry None own allowed))
     (IsPlayed-shown line number (step ∷ []) (with_taken entry scene) history now before after end
     grown (subst (λ (t : List ℕ). IsShown t before after end) (sym (append-nil step.printed))
@@ -118,33 +118,33 @@ pub IsPlayed-refused : (setup : Setup) (line : List ℕ) (number : ℕ) (scene :
     (entry : Entry) (fault : StepFault) (history : List Entry) (sink : SinkTold)
     → is_linked entry.who scene ≡ false
     → IsRefusal entry.event (refusal_of setup scene.past entry.who entry.event) fault
-    → IsPlayed (play_line line number (accepted setup scene entry) ends_there) history
+    → IsPlayed (play_line line number (entry_meaning setup scene entry) ends_there) history
     history sink sink (end_of_refusal number fault)
 IsPlayed-refused setup line number scene entry faults.Memory history sink own refused =
-    IsPlayed-none line number (accepted setup scene entry) history sink
+    IsPlayed-none line number (entry_meaning setup scene entry) history sink
 IsPlayed-refused setup line number scene entry (faults.Stopped place) history sink own refused =
-    IsPlayed-bad line number (accepted setup scene entry) history sink
+    IsPlayed-bad line number (entry_meaning setup scene entry) history sink
     (accepted_so setup scene entry (Some (faults.Stopped place)) own refused)
 IsPlayed-refused setup line number scene entry (faults.HistoryFull weight limit) history sink own
     refused =
-    subst (λ (m : Meaning). IsPlayed (play_line line number m ends_there) history history sink sink
+    subst (λ (m : LineMeaning). IsPlayed (play_line line number m ends_there) history history sink sink
     (Full weight limit))
     (sym (accepted_so setup scene entry (Some (faults.HistoryFull weight limit)) own refused))
     (refl, TakesAll-none history sink)
 IsPlayed-refused setup line number scene entry faults.NoAssociation history sink own refused =
-    IsPlayed-bad line number (accepted setup scene entry) history sink
+    IsPlayed-bad line number (entry_meaning setup scene entry) history sink
     (accepted_so setup scene entry (Some faults.NoAssociation) own refused)
 IsPlayed-refused setup line number scene entry faults.Already history sink own refused =
-    IsPlayed-bad line number (accepted setup scene entry) history sink
+    IsPlayed-bad line number (entry_meaning setup scene entry) history sink
     (accepted_so setup scene entry (Some faults.Already) own refused)
 IsPlayed-refused setup line number scene entry faults.UnknownName history sink own refused =
-    IsPlayed-bad line number (accepted setup scene entry) history sink
+    IsPlayed-bad line number (entry_meaning setup scene entry) history sink
     (accepted_so setup scene entry (Some faults.UnknownName) own refused)
 
 -- ---- what a line means
 
 pub line_in-skipped : (setup : Setup) (line : List ℕ) (scene : Scene)
-    → is_skipped line ≡ true → line_in setup scene line ≡ gives [] scene
+    → is_skipped line ≡ true → line_meaning setup scene line ≡ gives [] scene
 line_in-skipped setup line scene skipped =
     ap (λ (b : Bool). if b then gives [] scene
     else means setup scene (asking_in setup.centre line)) skipped
@@ -152,7 +152,7 @@ line_in-skipped setup line scene skipped =
 -- of a line that isn't skipped, by what is read of it
 pub line_in-read : (setup : Setup) (line : List ℕ) (scene : Scene) (found : Option Asking)
     → is_skipped line ≡ false → asking_in setup.centre line ≡ found
-    → line_in setup scene line ≡ means setup scene found
+    → line_meaning setup scene line ≡ means setup scene found
 line_in-read setup line scene found words is =
     ap (λ (b : Bool). if b then gives [] scene
     else means setup scene (asking_in setup.centre line)) words
@@ -173,18 +173,18 @@ meaning_done line number after step (Some faults.UnknownName) e = absurd cc
 
 pub accepted_done : (setup : Setup) (line : List ℕ) (number : ℕ) (scene : Scene) (entry : Entry)
     → is_linked entry.who scene ≡ false
-    → (play_line line number (accepted setup scene entry) ends_there).end ≡ done
-    → accepted setup scene entry
+    → (play_line line number (entry_meaning setup scene entry) ends_there).end ≡ done
+    → entry_meaning setup scene entry
     ≡ gives (step_of setup scene.past entry ∷ []) (with_taken entry scene)
 accepted_done setup line number scene entry own e =
     let refusal = refusal_of setup scene.past entry.who entry.event in
     let same = accepted_so setup scene entry refusal own refl in
     same ∙ meaning_done line number (with_taken entry scene) (step_of setup scene.past entry)
-    refusal (sym (ap (λ (m : Meaning). (play_line line number m ends_there).end) same) ∙ e)
+    refusal (sym (ap (λ (m : LineMeaning). (play_line line number m ends_there).end) same) ∙ e)
 
 -- a line of a link's seat is bad
 pub accepted_bad : (setup : Setup) (scene : Scene) (entry : Entry)
-    → is_linked entry.who scene ≡ true → accepted setup scene entry ≡ bad
+    → is_linked entry.who scene ≡ true → entry_meaning setup scene entry ≡ bad
 accepted_bad setup scene entry linked =
     ap (λ (b : Bool). if b then bad
     else meaning_of (with_taken entry scene) (step_of setup scene.past entry)

@@ -31,15 +31,15 @@ use Rattle.tase_conn.specs.declared.stage.ConnEnd.{ConnEnd}
 use Rattle.tase_conn.specs.declared.stage.ConnEnd.TheVariants as conn_ends
 use Rattle.conn_laws.specs.Serving.{with_event}
 use Rattle.conn_laws.proofs.Seats.{event_here}
-use Rattle.conn_service.specs.Attending.{Takes, HasTaken, with_closed}
+use Rattle.conn_service.specs.Attending.{TakesEvents, HasTaken, with_closed}
 use Rattle.conn_service.specs.Linked.{peer_end, link_octets}
 use Rattle.conn_service.proofs.Attended.{events_taken}
 use Rattle.tase_replay.specs.declared.playing.ReplayEnd.{ReplayEnd}
 use Rattle.tase_replay.specs.declared.playing.ReplayEnd.TheVariants.{Full, Memory}
 use Rattle.tase_replay.specs.Lines.{entry_by}
-use Rattle.tase_replay.specs.Links.{Given, items_of, item_by, asks_more}
+use Rattle.tase_replay.specs.Links.{SeatItem, items_of, item_by, asks_more}
 use Rattle.tase_replay.specs.Links.{line_of_out, line_of_end}
-use Rattle.tase_replay.specs.Play.{Step, Scene, Meaning, bad, too_heavy, Served, Halt, through}
+use Rattle.tase_replay.specs.Play.{Step, Scene, LineMeaning, bad, too_heavy, Served, Halt, through}
 use Rattle.tase_replay.specs.Play.{stopped, full, refused, halts, entry_step, closes}
 use Rattle.tase_replay.specs.Play.{serves, serves_by, served_item, received, is_unfit, linked}
 use Rattle.tase_replay.specs.Play.{linked_by, link_step, octets_between, behind_link, play_line}
@@ -109,7 +109,7 @@ Quietly-append who past between after first next one two = record {
 
 -- those that a node took
 pub takes_quietly : (setup : Setup) (who : ℕ) (past : Past) (taken : List EventKind)
-    (after : Past) → Takes setup who past taken after
+    (after : Past) → TakesEvents setup who past taken after
     → Quietly who past after (entry_steps who taken)
 takes_quietly setup who past [] after t =
     subst (λ (p : Past). Quietly who past p []) (sym t) (Quietly-none who past)
@@ -144,7 +144,7 @@ asks_more_so rows items item had taken rest e f =
 -- ---- what a node takes of them
 
 -- the steps of the events that it took, and then the others
-pub served_so : (setup : Setup) (scene : Scene) (given : Given) (between : Past)
+pub served_so : (setup : Setup) (scene : Scene) (given : SeatItem) (between : Past)
     (rest : List EventKind)
     → reverse (events_by given.who scene.past)
     ≡ asks_of setup.centre (items_of given.who scene.given)
@@ -158,7 +158,7 @@ served_so setup scene given between rest e h =
     (reverse (events_by given.who scene.past)) h.taken rest e h.asks_are)
     ∙ serves_taken setup given.who scene.past h.taken rest between h.takes
 
-pub received_so : (setup : Setup) (scene : Scene) (given : Given) (served : Served)
+pub received_so : (setup : Setup) (scene : Scene) (given : SeatItem) (served : Served)
     → is_unfit given.who scene ≡ false → served_item setup scene given ≡ served
     → received setup scene given ≡ linked_by setup.centre scene given
     (items_of given.who scene.given ++ given.item ∷ []) served served.halt
@@ -169,7 +169,7 @@ received_so setup scene given served fit is =
     ∙ ap (λ (s : Served). linked_by setup.centre scene given items s s.halt) is
 
 -- all were taken
-pub through_so : (setup : Setup) (scene : Scene) (given : Given) (after : Past)
+pub through_so : (setup : Setup) (scene : Scene) (given : SeatItem) (after : Past)
     → is_unfit given.who scene ≡ false
     → reverse (events_by given.who scene.past)
     ≡ asks_of setup.centre (items_of given.who scene.given)
@@ -187,7 +187,7 @@ through_so setup scene given after fit e h =
     (append-nil steps)
 
 -- one was refused, since the history would weigh too much
-pub full_so : (setup : Setup) (scene : Scene) (given : Given) (after : Past) (event : EventKind)
+pub full_so : (setup : Setup) (scene : Scene) (given : SeatItem) (after : Past) (event : EventKind)
     (later : List EventKind) (weight limit : ℕ) → is_unfit given.who scene ≡ false
     → reverse (events_by given.who scene.past)
     ≡ asks_of setup.centre (items_of given.who scene.given)
@@ -237,7 +237,7 @@ abbrev pub stopped_steps : ℕ → List EventKind → Past → List Step
 stopped_steps who taken between =
     entry_steps who taken ++ close_steps who (association_in between who)
 
-pub stopped_so : (setup : Setup) (scene : Scene) (given : Given) (between after : Past)
+pub stopped_so : (setup : Setup) (scene : Scene) (given : SeatItem) (between after : Past)
     (event : EventKind) (later : List EventKind) (place : ℕ) → is_unfit given.who scene ≡ false
     → reverse (events_by given.who scene.past)
     ≡ asks_of setup.centre (items_of given.who scene.given)
@@ -265,7 +265,7 @@ stopped_so setup scene given between after event later place fit e h is closed =
     between) p (Some conn_ends.Stopped)) (sym (closed ∙ closed_so between who found))
 
 pub stopped_quietly : (setup : Setup) (who : ℕ) (past between after : Past)
-    (taken : List EventKind) → Takes setup who past taken between
+    (taken : List EventKind) → TakesEvents setup who past taken between
     → after ≡ with_closed who between
     → Quietly who past after (stopped_steps who taken between)
 stopped_quietly setup who past between after taken takes closed =
@@ -390,7 +390,7 @@ serves_usual setup who past (event ∷ asked) t =
 
 -- ---- memory was wanting
 
-begun_by : (rows : CentreRows) (scene : Scene) (given : Given) (items : List Item)
+begun_by : (rows : CentreRows) (scene : Scene) (given : SeatItem) (items : List Item)
     (steps : List Step) (served : Served) (halt : Halt) (line : List ℕ) (number : ℕ)
     → IsNotRefused halt → (more : List Step)
     × (steps_of (play_line line number
@@ -415,7 +415,7 @@ begun_by rows scene given items steps served (full weight limit) line number n =
 begun_by rows scene given items steps served refused line number n = absurd n
 
 -- the first events were taken, and nothing was printed
-pub IsPlayed-begun : (setup : Setup) (line : List ℕ) (number : ℕ) (scene : Scene) (given : Given)
+pub IsPlayed-begun : (setup : Setup) (line : List ℕ) (number : ℕ) (scene : Scene) (given : SeatItem)
     (history now : List Entry) (sink : SinkTold) (between : Past) (rest : List EventKind)
     → scene.past ≡ reverse history → between ≡ reverse now → is_unfit given.who scene ≡ false
     → reverse (events_by given.who scene.past)
@@ -439,7 +439,7 @@ IsPlayed-begun setup line number scene given history now sink between rest e f f
     let b = begun_by setup.centre scene given items steps served served.halt line number goes in
     let same : steps_of (play_line line number (received setup scene given) ends_there)
     ≡ steps ++ b.0 =
-    ap (λ (m : Meaning). steps_of (play_line line number m ends_there))
+    ap (λ (m : LineMeaning). steps_of (play_line line number m ends_there))
     (received_so setup scene given (behind_steps steps served) fit
     (served_so setup scene given between rest asked h)) ∙ b.1 in
     let grown : now ≡ history ++ entries_in steps =
@@ -455,7 +455,7 @@ IsPlayed-begun setup line number scene given history now sink between rest e f f
 
 -- ---- the history is full
 
-pub IsPlayed-full : (setup : Setup) (line : List ℕ) (number : ℕ) (scene : Scene) (given : Given)
+pub IsPlayed-full : (setup : Setup) (line : List ℕ) (number : ℕ) (scene : Scene) (given : SeatItem)
     (history now : List Entry) (sink : SinkTold) (between : Past) (event : EventKind)
     (later : List EventKind) (weight limit : ℕ)
     → scene.past ≡ reverse history → between ≡ reverse now → is_unfit given.who scene ≡ false
@@ -471,7 +471,7 @@ IsPlayed-full setup line number scene given history now sink between event later
     let who = given.who in
     let steps = entry_steps who h.taken in
     let q = takes_quietly setup who scene.past h.taken between h.takes in
-    subst (λ (m : Meaning). IsPlayed (play_line line number m ends_there) history now sink sink
+    subst (λ (m : LineMeaning). IsPlayed (play_line line number m ends_there) history now sink sink
     (Full weight limit))
     (sym (full_so setup scene given between event later weight limit fit asked h is)) (
       refl,
@@ -486,7 +486,7 @@ IsPlayed-full setup line number scene given history now sink between event later
 
 -- its last step has no entry
 pub IsPlayed-linked : (rows : CentreRows) (line : List ℕ) (number : ℕ) (scene : Scene)
-    (given : Given) (history now : List Entry) (before after : SinkTold) (end : ReplayEnd)
+    (given : SeatItem) (history now : List Entry) (before after : SinkTold) (end : ReplayEnd)
     (steps : List Step) (past : Past) (ended : Option ConnEnd)
     → scene.past ≡ reverse history → past ≡ reverse now → Quietly given.who scene.past past steps
     → IsShown (link_step rows scene (behind_link scene past given ended) given ended).printed
@@ -508,7 +508,7 @@ IsPlayed-linked rows line number scene given history now before after end steps 
     (subst (λ (os : List ℕ). IsShown os before after end) (sym text) shown)
 
 -- what the link has given then
-item_here : (who : ℕ) (given : Given) → given.who ≡ who → items_of who (given ∷ []) ≡ given.item ∷ []
+item_here : (who : ℕ) (given : SeatItem) → given.who ≡ who → items_of who (given ∷ []) ≡ given.item ∷ []
 item_here who given e = by (given.who == who) (eq-eqb given.who who e)
   where
     by : (b : Bool) → b ≡ true
@@ -516,13 +516,13 @@ item_here who given e = by (given.who == who) (eq-eqb given.who who e)
     by true e = refl
     by false e = absurd cc
 
-pub items_behind : (who : ℕ) (lines : List Given) (given : Given) → given.who ≡ who
+pub items_behind : (who : ℕ) (lines : List SeatItem) (given : SeatItem) → given.who ≡ who
     → items_of who (lines ++ given ∷ []) ≡ items_of who lines ++ given.item ∷ []
 items_behind who lines given e = filter_map-append (item_by who) lines (given ∷ [])
     ∙ ap (λ (is : List Item). items_of who lines ++ is) (item_here who given e)
 
 -- the octets that were added
-pub between_so : (rows : CentreRows) (scene : Scene) (given : Given) (past : Past)
+pub between_so : (rows : CentreRows) (scene : Scene) (given : SeatItem) (past : Past)
     (ended : Option ConnEnd) (added : List ℕ)
     → link_octets rows scene.past given.who (items_of given.who scene.given) ++ added
     ≡ link_octets rows past given.who (items_of given.who scene.given ++ given.item ∷ [])
@@ -537,7 +537,7 @@ between_so rows scene given past ended added e =
     ap (λ (os : List ℕ). drop (length said) os) all ∙ drop-append_seam said added
 
 -- and the end
-pub link_text : (rows : CentreRows) (scene : Scene) (given : Given) (past : Past)
+pub link_text : (rows : CentreRows) (scene : Scene) (given : SeatItem) (past : Past)
     (ended : Option ConnEnd) (added : List ℕ)
     → link_octets rows scene.past given.who (items_of given.who scene.given) ++ added
     ≡ link_octets rows past given.who (items_of given.who scene.given ++ given.item ∷ [])

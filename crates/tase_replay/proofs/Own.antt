@@ -10,34 +10,34 @@ use Rattle.outside.specs.Sink.{SinkTold}
 use Rattle.tase_views.specs.Setup.{Setup}
 use Rattle.tase_views.specs.declared.event.Entry.{Entry}
 use Rattle.node_core.proofs.Outcomes.{reverse_push}
-use Rattle.tase_replay.specs.declared.entries.Asked.{Asked}
+use Rattle.tase_replay.specs.declared.entries.LineRequest.{LineRequest}
 use Rattle.tase_replay.specs.declared.links.Seats.{Seats}
 use Rattle.tase_replay.specs.declared.playing.ReplayEnd.{ReplayEnd}
 use Rattle.tase_replay.specs.declared.playing.ReplayEnd.TheVariants.{Done}
-use Rattle.tase_replay.specs.Links.{Given, Asking, asking_in, asking_seen, items_of}
-use Rattle.tase_replay.specs.Play.{Scene, Step, Meaning, gives, accepted, scene_by, with_taken}
+use Rattle.tase_replay.specs.Links.{SeatItem, Asking, asking_in, asking_seen, items_of}
+use Rattle.tase_replay.specs.Play.{Scene, Step, LineMeaning, gives, entry_meaning, scene_by, with_taken}
 use Rattle.tase_replay.specs.Play.{step_of, play_line, play_alone, ends_there, steps_of, bad}
 use Rattle.tase_replay.specs.Play.{means, scene_behind, received, is_unfit, linked_by, served_item}
 use Rattle.tase_replay.specs.Ends.{IsPlayed, TakesAll}
-use Rattle.tase_replay.specs.Standing.{IsScene, Notes, Finds, Awaits, GoesOn}
+use Rattle.tase_replay.specs.Standing.{IsScene, NotesUse, Finds, Awaits, LinkGoesOn}
 use Rattle.tase_replay.proofs.Entering.{accepted_done, line_in-read, line_in-skipped}
 use Rattle.tase_replay.proofs.Seating.{own_unlinked, own_sits}
 
 pub own_scene : (setup : Setup) (line : List ℕ) (number : ℕ) (scene : Scene) (entry : Entry)
     (history now : List Entry) (before after : SinkTold) (old new : Seats)
-    → IsScene setup.centre history scene old → Notes entry.who old true new
-    → IsPlayed (play_line line number (accepted setup scene entry) ends_there) history now before
+    → IsScene setup.centre history scene old → NotesUse entry.who old true new
+    → IsPlayed (play_line line number (entry_meaning setup scene entry) ends_there) history now before
     after Done
-    → IsScene setup.centre now (scene_by scene (accepted setup scene entry)) new
+    → IsScene setup.centre now (scene_by scene (entry_meaning setup scene entry)) new
 own_scene setup line number scene entry history now before after old new s n played =
     let own = own_unlinked setup.centre scene entry.who old new n s.sits in
     let step : Step = step_of setup scene.past entry in
-    let same : accepted setup scene entry ≡ gives (step ∷ []) (with_taken entry scene) =
+    let same : entry_meaning setup scene entry ≡ gives (step ∷ []) (with_taken entry scene) =
     accepted_done setup line number scene entry own played.0 in
     let takes : TakesAll (((step ∷ []) ++ []) ++ []) history now before after =
-    subst (λ (m : Meaning). TakesAll (steps_of (play_line line number m ends_there)) history now
+    subst (λ (m : LineMeaning). TakesAll (steps_of (play_line line number m ends_there)) history now
     before after) same played.1 in
-    subst (λ (m : Meaning). IsScene setup.centre now (scene_by scene m) new) (sym same) (record {
+    subst (λ (m : LineMeaning). IsScene setup.centre now (scene_by scene m) new) (sym same) (record {
       past_is = ap (λ (p : List Entry). entry ∷ p) s.past_is ∙ sym (reverse_push history entry)
           ∙ ap reverse (sym takes.entries);
       sits = own_sits setup.centre scene entry old new n s.sits;
@@ -52,7 +52,7 @@ pub read_played : (setup : Setup) (line : List ℕ) (number : ℕ) (scene : Scen
     after end
     → IsPlayed (play_alone setup line scene number) history now before after end
 read_played setup line number scene found history now before after end words is played =
-    subst (λ (m : Meaning). IsPlayed (play_line line number m ends_there) history now before after
+    subst (λ (m : LineMeaning). IsPlayed (play_line line number m ends_there) history now before after
     end) (sym (line_in-read setup line scene found words is)) played
 
 pub read_scene : (setup : Setup) (line : List ℕ) (scene : Scene) (found : Option Asking)
@@ -61,33 +61,33 @@ pub read_scene : (setup : Setup) (line : List ℕ) (scene : Scene) (found : Opti
     → IsScene setup.centre now (scene_by scene (means setup scene found)) new
     → IsScene setup.centre now (scene_behind setup line scene) new
 read_scene setup line scene found now new words is s =
-    subst (λ (m : Meaning). IsScene setup.centre now (scene_by scene m) new)
+    subst (λ (m : LineMeaning). IsScene setup.centre now (scene_by scene m) new)
     (sym (line_in-read setup line scene found words is)) s
 
 -- what was read of it is what it asks
-pub asked_so : (rows centre : CentreRows) (line : List ℕ) (found : Option Asked) (asked : Asked)
+pub asked_so : (rows centre : CentreRows) (line : List ℕ) (found : Option LineRequest) (asked : LineRequest)
     → centre ≡ rows → found ≡ Some asked → option_map asking_seen found ≡ asking_in centre line
     → asking_in rows line ≡ Some (asking_seen asked)
 asked_so rows centre line found asked e f is =
     ap (λ (r : CentreRows). asking_in r line) (sym e) ∙ sym is
-    ∙ ap (λ (o : Option Asked). option_map asking_seen o) f
+    ∙ ap (λ (o : Option LineRequest). option_map asking_seen o) f
 
-pub unasked_so : (rows centre : CentreRows) (line : List ℕ) (found : Option Asked)
+pub unasked_so : (rows centre : CentreRows) (line : List ℕ) (found : Option LineRequest)
     → centre ≡ rows → found ≡ None → option_map asking_seen found ≡ asking_in centre line
     → asking_in rows line ≡ None
 unasked_so rows centre line found e f is =
     ap (λ (r : CentreRows). asking_in r line) (sym e) ∙ sym is
-    ∙ ap (λ (o : Option Asked). option_map asking_seen o) f
+    ∙ ap (λ (o : Option LineRequest). option_map asking_seen o) f
 
 pub skipped_scene : (setup : Setup) (line : List ℕ) (scene : Scene) (now : List Entry)
     (new : Seats) → is_skipped line ≡ true → IsScene setup.centre now scene new
     → IsScene setup.centre now (scene_behind setup line scene) new
 skipped_scene setup line scene now new words s =
-    subst (λ (m : Meaning). IsScene setup.centre now (scene_by scene m) new)
+    subst (λ (m : LineMeaning). IsScene setup.centre now (scene_by scene m) new)
     (sym (line_in-skipped setup line scene words)) s
 
 -- a link's line, whose seat may not be used by one
-pub received_bad : (setup : Setup) (scene : Scene) (given : Given)
+pub received_bad : (setup : Setup) (scene : Scene) (given : SeatItem)
     → is_unfit given.who scene ≡ true → received setup scene given ≡ bad
 received_bad setup scene given unfit =
     let items = items_of given.who scene.given ++ given.item ∷ [] in
@@ -97,11 +97,11 @@ received_bad setup scene given unfit =
 -- the connection of a seat at its place
 pub goes_there : (rows : CentreRows) (scene : Scene) (who place : ℕ) (seats : Seats)
     (conn : Talking) → (a : Awaits rows scene seats who place)
-    → conn ≡ get_or seats.conns.items place conn → GoesOn rows scene who conn
+    → conn ≡ get_or seats.conns.items place conn → LinkGoesOn rows scene who conn
 goes_there rows scene who place seats conn a e =
     let same : get_or seats.conns.items place conn ≡ a.conn =
     get_or_from_slice_get seats.conns.items place a.conn conn a.there in
-    subst (λ (v : Talking). GoesOn rows scene who v) (sym (e ∙ same)) a.goes
+    subst (λ (v : Talking). LinkGoesOn rows scene who v) (sym (e ∙ same)) a.goes
 
 -- what a seat has, where it was looked for by the rows of a centre
 pub found_so : (rows centre : CentreRows) (scene : Scene) (who : ℕ) (seats : Seats)

@@ -9,7 +9,7 @@ use Rattle.tase_views.specs.declared.event.Entry.{Entry}
 use Rattle.tase_replay.specs.declared.playing.ReplayEnd.{ReplayEnd}
 use Rattle.tase_replay.specs.declared.playing.ReplayEnd.TheVariants.{Done, BadLine, Full}
 use Rattle.tase_replay.specs.declared.playing.ReplayEnd.TheVariants.{SinkFault, Memory}
-use Rattle.tase_replay.specs.Play.{Step, Scene, Meaning, bad, too_heavy, gives, Taken, End, done}
+use Rattle.tase_replay.specs.Play.{Step, Scene, LineMeaning, bad, too_heavy, gives, TakenLine, PlayEnd, done}
 use Rattle.tase_replay.specs.Play.{bad_line, history_full, Played}
 use Rattle.tase_replay.specs.Play.{play_line, ends_there, steps_in, steps_of}
 use Rattle.tase_replay.specs.Ends.{TakesAll, TakesPart, IsPlayed}
@@ -17,13 +17,13 @@ use Rattle.tase_replay.proofs.Taking.{TakesAll-none, TakesAll-append, TakesPart-
 use Rattle.tase_replay.proofs.Taking.{TakesPart-front}
 
 -- lines that were taken, and then a play
-abbrev pub continued : List Taken → Played → Played
+abbrev pub continued : List TakenLine → Played → Played
 continued lines rest = record rest { taken = lines ++ rest.taken }
 
 -- the lines taken so far, and then those of the rest, are all
 pub record Reached (all rest : Played) (history now : List Entry)
     (before after : SinkTold) : Type 0 where
-  pub lines : List Taken
+  pub lines : List TakenLine
   pub whole : all ≡ continued lines rest
   pub takes : TakesAll (steps_in lines) history now before after
 
@@ -36,12 +36,12 @@ Reached-none all history sink = record {
       TakesAll-none history sink;
 }
 
-steps_of-continued : (all rest : Played) (lines : List Taken) → all ≡ continued lines rest
+steps_of-continued : (all rest : Played) (lines : List TakenLine) → all ≡ continued lines rest
     → steps_of all ≡ steps_in lines ++ steps_of rest
 steps_of-continued all rest lines whole =
     ap (λ (played : Played). steps_of played) whole
     ∙ ap (λ (steps : List Step). steps ++ rest.last)
-    (flat_map-append (λ (taken : Taken). taken.steps) lines rest.taken)
+    (flat_map-append (λ (taken : TakenLine). taken.steps) lines rest.taken)
     ∙ append_assoc (steps_in lines) (steps_in rest.taken) rest.last
 
 -- at the end of the lines
@@ -70,15 +70,15 @@ abbrev pub Reached-taken : (line : List ℕ) (number : ℕ) (steps : List Step) 
     → Reached all (rest behind) history later before next
 Reached-taken line number steps behind rest all history now later before after next reached
     played =
-    let taken : Taken = record { line = line; steps = steps } in
+    let taken : TakenLine = record { line = line; steps = steps } in
     record {
       lines = reached.lines ++ taken ∷ [];
       whole = reached.whole
-          ∙ ap (λ (lines : List Taken). let p : Played =
+          ∙ ap (λ (lines : List TakenLine). let p : Played =
           record (rest behind) { taken = lines } in p)
           (sym (append_assoc reached.lines (taken ∷ []) (rest behind).taken));
       takes = subst (λ (these : List Step). TakesAll these history later before next)
-          (sym (flat_map-append (λ (t : Taken). t.steps) reached.lines (taken ∷ [])))
+          (sym (flat_map-append (λ (t : TakenLine). t.steps) reached.lines (taken ∷ [])))
           (TakesAll-append (steps_in reached.lines) (steps ++ []) history now later before after
           next reached.takes
           (subst (λ (these : List Step). TakesAll these now later after next)
@@ -86,7 +86,7 @@ Reached-taken line number steps behind rest all history now later before after n
     }
 
 -- what a line gives alone comes first
-steps_of-line : (line : List ℕ) (number : ℕ) (meaning : Meaning) (rest : Scene → Played)
+steps_of-line : (line : List ℕ) (number : ℕ) (meaning : LineMeaning) (rest : Scene → Played)
     → (more : List Step) × (steps_of (play_line line number meaning rest)
     ≡ steps_of (play_line line number meaning ends_there) ++ more)
 steps_of-line line number bad rest = ([], refl)
@@ -97,7 +97,7 @@ steps_of-line line number (gives steps behind) rest = (
       ∙ ap (λ (these : List Step). these ++ steps_of (rest behind)) (sym (alone_steps steps)),
 )
 
-Reached-part : (line : List ℕ) (number : ℕ) (meaning : Meaning) (rest : Scene → Played)
+Reached-part : (line : List ℕ) (number : ℕ) (meaning : LineMeaning) (rest : Scene → Played)
     (all : Played) (history now later : List Entry) (before after next : SinkTold) (failed : Bool)
     → Reached all (play_line line number meaning rest) history now before after
     → TakesPart (steps_of (play_line line number meaning ends_there)) now later after next failed
@@ -114,8 +114,8 @@ Reached-part line number meaning rest all history now later before after next fa
     (TakesPart-front alone first.0 now later after next failed part))
 
 -- a line that isn't taken is the last
-Reached-ended : (line : List ℕ) (number : ℕ) (meaning : Meaning) (rest : Scene → Played)
-    (all : Played) (history now later : List Entry) (before after next : SinkTold) (end : End)
+Reached-ended : (line : List ℕ) (number : ℕ) (meaning : LineMeaning) (rest : Scene → Played)
+    (all : Played) (history now later : List Entry) (before after next : SinkTold) (end : PlayEnd)
     → (end ≡ done → ⊥) → Reached all (play_line line number meaning rest) history now before after
     → (play_line line number meaning ends_there).end ≡ end
     → TakesAll (steps_of (play_line line number meaning ends_there)) now later after next
@@ -143,7 +143,7 @@ Reached-ended line number (gives steps behind) rest all history now later before
     other reached ends takes = absurd (other (sym ends))
 
 -- a line that ends the play ends all so
-pub Reached-last : (line : List ℕ) (number : ℕ) (meaning : Meaning) (rest : Scene → Played)
+pub Reached-last : (line : List ℕ) (number : ℕ) (meaning : LineMeaning) (rest : Scene → Played)
     (all : Played) (history now later : List Entry) (before after next : SinkTold) (end : ReplayEnd)
     → (end ≡ Done → ⊥) → Reached all (play_line line number meaning rest) history now before after
     → IsPlayed (play_line line number meaning ends_there) now later after next end

@@ -16,18 +16,18 @@ use Rattle.tase_map.specs.Inputs.{Item}
 use Rattle.tase_map.specs.Sent.{events_by}
 use Rattle.tase_conn.specs.declared.stage.ConnEnd.{ConnEnd}
 use Rattle.tase_conn.specs.declared.stage.Progress.{Progress}
-use Rattle.tase_conn.specs.Talking.{Talking, end_in}
+use Rattle.tase_conn.specs.Talking.{Talking, conn_end_in}
 use Rattle.conn_laws.specs.Serving.{Serves, AreOthers}
 use Rattle.conn_laws.proofs.Kept.{begun_serves, others_serve}
 use Rattle.conn_service.specs.Linked.{link_octets}
 use Rattle.tase_replay.specs.declared.links.Seats.{Seats}
 use Rattle.tase_replay.specs.declared.links.Use.{Use}
 use Rattle.tase_replay.specs.declared.links.Use.TheVariants as uses
-use Rattle.tase_replay.specs.Links.{Given, items_of, item_by}
-use Rattle.tase_replay.specs.Play.{Scene, is_linked, is_seated, has_ended, is_unfit, with_taken}
-use Rattle.tase_replay.specs.Play.{first_scene, behind_link, ended_by}
-use Rattle.tase_replay.specs.Standing.{GoesOn, IsOver, Holds, SitsBy, Sits, AreApart, use_by}
-use Rattle.tase_replay.specs.Standing.{Notes, Awaits, Finds, Begun, going_at, place_going}
+use Rattle.tase_replay.specs.Links.{SeatItem, items_of, item_by}
+use Rattle.tase_replay.specs.Play.{Scene, is_linked, is_seated, conn_has_ended, is_unfit, with_taken}
+use Rattle.tase_replay.specs.Play.{first_scene, behind_link, ended_with}
+use Rattle.tase_replay.specs.Standing.{LinkGoesOn, LinkIsOver, LinkStands, IsSeatUsedAs, AreSeatsUsed, AreApart, use_by}
+use Rattle.tase_replay.specs.Standing.{NotesUse, Awaits, Finds, Begun, going_at, place_going}
 use Rattle.tase_replay.specs.Standing.{AreOf, IsBehind, IsScene, noted_with}
 use Rattle.tase_replay.proofs.Still.{octets_still, none_sent}
 
@@ -43,7 +43,7 @@ pub record Beside (other : ℕ) (scene after : Scene) : Type 0 where
   pub past_is : after.past ≡ entries ++ scene.past
   pub items_are : items_of other after.given ≡ items_of other scene.given
   pub linked_is : is_linked other after ≡ is_linked other scene
-  pub ended_is : has_ended other after ≡ has_ended other scene
+  pub ended_is : conn_has_ended other after ≡ conn_has_ended other scene
 
 pub any_apart : (other : ℕ) (entries past : Past) → AreOthers other entries
     → any_of other (entries ++ past) ≡ any_of other past
@@ -61,7 +61,7 @@ seated_beside other scene after b =
     ∙ any_apart other b.entries scene.past b.apart)
 
 goes_beside : (rows : CentreRows) (scene after : Scene) (other : ℕ) (v : Talking)
-    → Beside other scene after → GoesOn rows scene other v → GoesOn rows after other v
+    → Beside other scene after → LinkGoesOn rows scene other v → LinkGoesOn rows after other v
 goes_beside rows scene after other v b g =
     let items = items_of other scene.given in
     let said = link_octets rows scene.past other items in
@@ -82,15 +82,15 @@ goes_beside rows scene after other v b g =
     }
 
 over_beside : (scene after : Scene) (other : ℕ) (v : Talking) → Beside other scene after
-    → IsOver scene other v → IsOver after other v
+    → LinkIsOver scene other v → LinkIsOver after other v
 over_beside scene after other v b o = record {
   ended = o.ended;
   shown = b.ended_is ∙ o.shown;
 }
 
 pub sits_beside : (rows : CentreRows) (scene after : Scene) (conns : List Talking) (other : ℕ)
-    (kind : Option Use) → Beside other scene after → SitsBy rows scene conns other kind
-    → SitsBy rows after conns other kind
+    (kind : Option Use) → Beside other scene after → IsSeatUsedAs rows scene conns other kind
+    → IsSeatUsedAs rows after conns other kind
 sits_beside rows scene after conns other None b s = (
   b.linked_is ∙ s.0,
   ap (λ (p : Past). any_of other p) b.past_is ∙ any_apart other b.entries scene.past b.apart ∙ s.1,
@@ -110,7 +110,7 @@ sits_beside rows scene after conns other (Some (uses.Link place)) b s = record {
 pub sits_among : (rows : CentreRows) (scene : Scene) (conns others : List Talking) (who : ℕ)
     (kind : Option Use) → ((place : ℕ) (conn : Talking) → kind ≡ Some (uses.Link place)
     → slice_get conns place ≡ Some conn → slice_get others place ≡ Some conn)
-    → SitsBy rows scene conns who kind → SitsBy rows scene others who kind
+    → IsSeatUsedAs rows scene conns who kind → IsSeatUsedAs rows scene others who kind
 sits_among rows scene conns others who None f s = s
 sits_among rows scene conns others who (Some uses.Own) f s = s
 sits_among rows scene conns others who (Some (uses.Link place)) f s = record {
@@ -171,7 +171,7 @@ own_here scene entry own =
 
 -- a seat that lines of its own may use isn't a link's
 own_by : (rows : CentreRows) (scene : Scene) (conns : List Talking) (who : ℕ) (kind : Option Use)
-    → ((place : ℕ) → kind ≡ Some (uses.Link place) → ⊥) → SitsBy rows scene conns who kind
+    → ((place : ℕ) → kind ≡ Some (uses.Link place) → ⊥) → IsSeatUsedAs rows scene conns who kind
     → is_linked who scene ≡ false
 own_by rows scene conns who None n s = s.0
 own_by rows scene conns who (Some uses.Own) n s =
@@ -184,14 +184,14 @@ own_by rows scene conns who (Some uses.Own) n s =
 own_by rows scene conns who (Some (uses.Link place)) n s = absurd (n place refl)
 
 pub own_unlinked : (rows : CentreRows) (scene : Scene) (who : ℕ) (old new : Seats)
-    → Notes who old true new → Sits rows scene old → is_linked who scene ≡ false
+    → NotesUse who old true new → AreSeatsUsed rows scene old → is_linked who scene ≡ false
 own_unlinked rows scene who old new n s =
     own_by rows scene old.conns.items who (use_by old who) n.1 (s.each who)
 
 sits_here : (rows : CentreRows) (scene : Scene) (conns : List Talking) (entry : Entry)
     (other : ℕ) (b : Bool) (kind : Option Use) → (entry.who == other) ≡ b
-    → is_linked entry.who scene ≡ false → SitsBy rows scene conns other kind
-    → SitsBy rows (with_taken entry scene) conns other (if b then Some uses.Own else kind)
+    → is_linked entry.who scene ≡ false → IsSeatUsedAs rows scene conns other kind
+    → IsSeatUsedAs rows (with_taken entry scene) conns other (if b then Some uses.Own else kind)
 sits_here rows scene conns entry other true kind e own s =
     ap (λ (who : ℕ). is_seated who (with_taken entry scene)) (sym (eqb-true entry.who other e))
     ∙ own_here scene entry own
@@ -208,8 +208,8 @@ noted_by false kind place e = e
 
 -- behind its entry
 pub own_sits : (rows : CentreRows) (scene : Scene) (entry : Entry) (old new : Seats)
-    → Notes entry.who old true new → Sits rows scene old
-    → Sits rows (with_taken entry scene) new
+    → NotesUse entry.who old true new → AreSeatsUsed rows scene old
+    → AreSeatsUsed rows (with_taken entry scene) new
 own_sits rows scene entry old new n s =
     let own = own_unlinked rows scene entry.who old new n s in
     let after = with_taken entry scene in
@@ -219,9 +219,9 @@ own_sits rows scene entry old new n s =
     (sym (n.2 other) ∙ e) in
     record {
       each = λ other.
-          subst (λ (cs : List Talking). SitsBy rows after cs other (use_by new other))
+          subst (λ (cs : List Talking). IsSeatUsedAs rows after cs other (use_by new other))
           (sym (ap (λ c. c.items) n.0))
-          (subst (λ (u : Option Use). SitsBy rows after old.conns.items other u) (sym (n.2 other))
+          (subst (λ (u : Option Use). IsSeatUsedAs rows after old.conns.items other u) (sym (n.2 other))
           (sits_here rows scene old.conns.items entry other (entry.who == other)
           (use_by old other) refl own (s.each other)));
       apart = λ who other place e f.
@@ -230,10 +230,10 @@ own_sits rows scene entry old new n s =
 
 -- a seat that is a link's has a link's line
 pub link_linked : (rows : CentreRows) (scene : Scene) (who : ℕ) (old new : Seats)
-    → Notes who old false new → Sits rows scene old → is_linked who scene ≡ true
+    → NotesUse who old false new → AreSeatsUsed rows scene old → is_linked who scene ≡ true
 link_linked rows scene who old new n s =
-    let h : Holds rows scene old.conns.items who n.0 =
-    subst (λ (u : Option Use). SitsBy rows scene old.conns.items who u) n.1 (s.each who) in
+    let h : LinkStands rows scene old.conns.items who n.0 =
+    subst (λ (u : Option Use). IsSeatUsedAs rows scene old.conns.items who u) n.1 (s.each who) in
     h.linked
 
 -- ---- the seats of the node's history
@@ -315,7 +315,7 @@ used_step who history place (Some entry) old new e f g =
 
 first_by : (rows : CentreRows) (history : List Entry) (conns : List Talking) (who : ℕ) (b : Bool)
     → any_of who (reverse history) ≡ b
-    → SitsBy rows (first_scene (reverse history)) conns who (if b then Some uses.Own else None)
+    → IsSeatUsedAs rows (first_scene (reverse history)) conns who (if b then Some uses.Own else None)
 first_by rows history conns who true e = ap (λ (b : Bool). b && true) e
 first_by rows history conns who false e = (refl, e, refl)
 
@@ -326,9 +326,9 @@ unlinked_by false place e = absurd cc
 
 pub first_sits : (rows : CentreRows) (history : List Entry) (seats : Seats)
     → ((who : ℕ) → use_by seats who ≡ used_by who history)
-    → Sits rows (first_scene (reverse history)) seats
+    → AreSeatsUsed rows (first_scene (reverse history)) seats
 first_sits rows history seats f = record {
-  each = λ who. subst (λ (u : Option Use). SitsBy rows (first_scene (reverse history))
+  each = λ who. subst (λ (u : Option Use). IsSeatUsedAs rows (first_scene (reverse history))
       seats.conns.items who u) (sym (f who))
       (first_by rows history seats.conns.items who (any_of who history) (any_turned who history));
   apart = λ who other place e g.
@@ -339,24 +339,24 @@ first_sits rows history seats f = record {
 
 -- one that lines of its own use
 pub own_unfit : (rows : CentreRows) (scene : Scene) (who : ℕ) (seats : Seats)
-    → Sits rows scene seats → use_by seats who ≡ Some uses.Own → is_unfit who scene ≡ true
+    → AreSeatsUsed rows scene seats → use_by seats who ≡ Some uses.Own → is_unfit who scene ≡ true
 own_unfit rows scene who seats s e =
     let seated : is_seated who scene ≡ true =
-    subst (λ (u : Option Use). SitsBy rows scene seats.conns.items who u) e (s.each who) in
-    ap (λ (b : Bool). b || has_ended who scene) seated
+    subst (λ (u : Option Use). IsSeatUsedAs rows scene seats.conns.items who u) e (s.each who) in
+    ap (λ (b : Bool). b || conn_has_ended who scene) seated
 
 pub link_holds : (rows : CentreRows) (scene : Scene) (who place : ℕ) (seats : Seats)
-    → Sits rows scene seats → use_by seats who ≡ Some (uses.Link place)
-    → Holds rows scene seats.conns.items who place
+    → AreSeatsUsed rows scene seats → use_by seats who ≡ Some (uses.Link place)
+    → LinkStands rows scene seats.conns.items who place
 link_holds rows scene who place seats s e =
-    subst (λ (u : Option Use). SitsBy rows scene seats.conns.items who u) e (s.each who)
+    subst (λ (u : Option Use). IsSeatUsedAs rows scene seats.conns.items who u) e (s.each who)
 
 -- one whose connection has begun
-going_fit : (scene : Scene) (who : ℕ) → is_linked who scene ≡ true → has_ended who scene ≡ false
+going_fit : (scene : Scene) (who : ℕ) → is_linked who scene ≡ true → conn_has_ended who scene ≡ false
     → is_unfit who scene ≡ false
 going_fit scene who l e =
-    ap (λ (b : Bool). (any_of who scene.past && not b) || has_ended who scene) l
-    ∙ ap (λ (b : Bool). b || has_ended who scene) (and_false (any_of who scene.past)) ∙ e
+    ap (λ (b : Bool). (any_of who scene.past && not b) || conn_has_ended who scene) l
+    ∙ ap (λ (b : Bool). b || conn_has_ended who scene) (and_false (any_of who scene.past)) ∙ e
   where
     and_false : (b : Bool) → (b && false) ≡ false
     and_false true = refl
@@ -367,8 +367,8 @@ or_true true = refl
 or_true false = refl
 
 found_goes : (rows : CentreRows) (scene : Scene) (who place : ℕ) (seats : Seats)
-    → Sits rows scene seats → use_by seats who ≡ Some (uses.Link place)
-    → (h : Holds rows scene seats.conns.items who place) → GoesOn rows scene who h.conn
+    → AreSeatsUsed rows scene seats → use_by seats who ≡ Some (uses.Link place)
+    → (h : LinkStands rows scene seats.conns.items who place) → LinkGoesOn rows scene who h.conn
     → Finds rows scene who seats (going_at place (Some h.conn))
 found_goes rows scene who place seats s e h g =
     subst (λ (end : Option ConnEnd). Finds rows scene who seats
@@ -383,13 +383,13 @@ found_goes rows scene who place seats s e h g =
     })
 
 found_over : (rows : CentreRows) (scene : Scene) (who place : ℕ) (seats : Seats) (conn : Talking)
-    → IsOver scene who conn → Finds rows scene who seats (going_at place (Some conn))
+    → LinkIsOver scene who conn → Finds rows scene who seats (going_at place (Some conn))
 found_over rows scene who place seats conn o =
     subst (λ (b : Bool). Finds rows scene who seats (if b then None else Some place)) (sym o.ended)
     (ap (λ (b : Bool). is_seated who scene || b) o.shown ∙ or_true (is_seated who scene))
 
 pub found_link : (rows : CentreRows) (scene : Scene) (who place : ℕ) (seats : Seats)
-    → Sits rows scene seats → use_by seats who ≡ Some (uses.Link place)
+    → AreSeatsUsed rows scene seats → use_by seats who ≡ Some (uses.Link place)
     → Finds rows scene who seats (place_going seats.conns.items place)
 found_link rows scene who place seats s e =
     let h = link_holds rows scene who place seats s e in
@@ -406,7 +406,7 @@ going_within conns place found e =
     by : (there : Option Talking) → slice_get conns place ≡ there
         → IfSome (going_at place there) (λ p. p < length conns)
     by None f = tt
-    by (Some conn) f = by_end (end_in conn.progress) conn f
+    by (Some conn) f = by_end (conn_end_in conn.progress) conn f
       where
         by_end : (end : Option ConnEnd) (conn : Talking) → slice_get conns place ≡ Some conn
             → IfSome (if is_some end then None else Some place) (λ p. p < length conns)
@@ -425,7 +425,7 @@ none_of who (entry ∷ past) e =
     by true f g = absurd (false≢true (sym f))
     by false f g = g f
 
-pub none_given : (who : ℕ) (lines : List Given)
+pub none_given : (who : ℕ) (lines : List SeatItem)
     → list_any (λ given. given.who == who) lines ≡ false → items_of who lines ≡ []
 none_given who [] e = refl
 none_given who (given ∷ lines) e = by (given.who == who) e (none_given who lines)
@@ -439,7 +439,7 @@ none_given who (given ∷ lines) e = by (given.who == who) e (none_given who lin
 begun_goes : (rows : CentreRows) (scene : Scene) (who : ℕ) (old : Seats) (place : ℕ) (new : Seats)
     → (b : Begun rows who old place new)
     → (is_linked who scene ≡ false) × (any_of who scene.past ≡ false)
-    × (has_ended who scene ≡ false) → GoesOn rows scene who b.conn
+    × (conn_has_ended who scene ≡ false) → LinkGoesOn rows scene who b.conn
 begun_goes rows scene who old place new b s =
     let none = none_of who scene.past s.1 in
     let items : items_of who scene.given ≡ [] = none_given who scene.given s.0 in
@@ -452,14 +452,14 @@ begun_goes rows scene who old place new b s =
           (subst (λ (os : List ℕ). Serves rows scene.past who [] os None b.conn) said serves);
       resting = b.resting;
       printed = b.silent;
-      unended = ap (λ (p : Progress). end_in p) b.running;
+      unended = ap (λ (p : Progress). conn_end_in p) b.running;
       shown = s.2;
     }
 
 new_fit : (scene : Scene) (who : ℕ) → any_of who scene.past ≡ false
-    → has_ended who scene ≡ false → is_unfit who scene ≡ false
+    → conn_has_ended who scene ≡ false → is_unfit who scene ≡ false
 new_fit scene who e f =
-    ap (λ (b : Bool). (b && not (is_linked who scene)) || has_ended who scene) e ∙ f
+    ap (λ (b : Bool). (b && not (is_linked who scene)) || conn_has_ended who scene) e ∙ f
 
 used_apart : (who other : ℕ) (place at : ℕ) (b : Bool) (kind : Option Use) → (who == other) ≡ b
     → (if b then Some (uses.Link place) else kind) ≡ Some (uses.Link at)
@@ -471,7 +471,7 @@ used_apart who other place at true kind e f = inl (eqb-true who other e, same f)
 used_apart who other place at false kind e f = inr f
 
 begun_apart : (rows : CentreRows) (scene : Scene) (who : ℕ) (old : Seats) (place : ℕ)
-    (new : Seats) → Sits rows scene old → Begun rows who old place new → AreApart new
+    (new : Seats) → AreSeatsUsed rows scene old → Begun rows who old place new → AreApart new
 begun_apart rows scene who old place new s b one two at e f =
     let first = used_apart who one place at (who == one) (use_by old one) refl
     (sym (b.used one) ∙ e) in
@@ -487,12 +487,12 @@ begun_apart rows scene who old place new s b one two at e f =
     (λ x. ⊎_elim (λ y. absurd (never one x y.1)) (λ y. s.apart one two at x y) second) first
 
 pub found_begun : (rows : CentreRows) (scene : Scene) (who : ℕ) (old : Seats) (place : ℕ)
-    (new : Seats) → Sits rows scene old → use_by old who ≡ None → Begun rows who old place new
+    (new : Seats) → AreSeatsUsed rows scene old → use_by old who ≡ None → Begun rows who old place new
     → Awaits rows scene new who place
 found_begun rows scene who old place new s e b =
     let free : (is_linked who scene ≡ false) × (any_of who scene.past ≡ false)
-    × (has_ended who scene ≡ false) =
-    subst (λ (u : Option Use). SitsBy rows scene old.conns.items who u) e (s.each who) in
+    × (conn_has_ended who scene ≡ false) =
+    subst (λ (u : Option Use). IsSeatUsedAs rows scene old.conns.items who u) e (s.each who) in
     record {
       fit = new_fit scene who free.1 free.2;
       conn = b.conn;
@@ -506,8 +506,8 @@ found_begun rows scene who old place new s e b =
           let same : use_by new other ≡ use_by old other = b.used other
           ∙ ap (λ (t : Bool). if t then Some (uses.Link place) else use_by old other)
           (ne_eqb who other (λ f. n (sym f))) in
-          subst (λ (cs : List Talking). SitsBy rows scene cs other (use_by new other)) (sym b.conns)
-          (subst (λ (u : Option Use). SitsBy rows scene (old.conns.items ++ b.conn ∷ []) other u)
+          subst (λ (cs : List Talking). IsSeatUsedAs rows scene cs other (use_by new other)) (sym b.conns)
+          (subst (λ (u : Option Use). IsSeatUsedAs rows scene (old.conns.items ++ b.conn ∷ []) other u)
           (sym same)
           (sits_among rows scene old.conns.items (old.conns.items ++ b.conn ∷ []) other
           (use_by old other) (λ at conn u g. get_front old.conns.items (b.conn ∷ []) at conn g)
@@ -517,15 +517,15 @@ found_begun rows scene who old place new s e b =
 
 -- ---- behind a link's line
 
-linked_here : (who : ℕ) (lines : List Given) (given : Given) (b : Bool) → (given.who == who) ≡ b
+linked_here : (who : ℕ) (lines : List SeatItem) (given : SeatItem) (b : Bool) → (given.who == who) ≡ b
     → list_any (λ g. g.who == who) (lines ++ given ∷ [])
     ≡ (list_any (λ g. g.who == who) lines || b)
-linked_here who lines given b e = list_any-append (λ (g : Given). g.who == who) lines (given ∷ [])
-    ∙ ap (λ (t : Bool). list_any (λ (g : Given). g.who == who) lines || t)
+linked_here who lines given b e = list_any-append (λ (g : SeatItem). g.who == who) lines (given ∷ [])
+    ∙ ap (λ (t : Bool). list_any (λ (g : SeatItem). g.who == who) lines || t)
     (or_false (given.who == who) ∙ e)
 
 ended_here : (who : ℕ) (other : ℕ) (end : Option ConnEnd) (over : List ℕ) → (who ≡ other → ⊥)
-    → list_any (λ w. w == other) (ended_by who end over) ≡ list_any (λ w. w == other) over
+    → list_any (λ w. w == other) (ended_with who end over) ≡ list_any (λ w. w == other) over
 ended_here who other None over n = refl
 ended_here who other (Some end) over n =
     ap (λ (b : Bool). b || list_any (λ (w : ℕ). w == other) over) (ne_eqb who other n)
@@ -536,12 +536,12 @@ others_of who other [] n a = tt
 others_of who other (entry ∷ entries) n a =
     (λ f. n (sym a.0 ∙ f), others_of who other entries n a.1)
 
-item_elsewhere : (who : ℕ) (given : Given) (b : Bool) → b ≡ false
+item_elsewhere : (who : ℕ) (given : SeatItem) (b : Bool) → b ≡ false
     → cons_option (if b then Some given.item else None) [] ≡ []
 item_elsewhere who given true e = absurd (false≢true (sym e))
 item_elsewhere who given false e = refl
 
-pub behind_beside : (scene : Scene) (given : Given) (entries : Past) (end : Option ConnEnd)
+pub behind_beside : (scene : Scene) (given : SeatItem) (entries : Past) (end : Option ConnEnd)
     (other : ℕ) → (given.who ≡ other → ⊥) → AreOf given.who entries
     → Beside other scene (behind_link scene (entries ++ scene.past) given end)
 behind_beside scene given entries end other n a =
@@ -562,18 +562,18 @@ behind_beside scene given entries end other n a =
 link_by : (rows : CentreRows) (scene after : Scene) (conns : List Talking) (who other place : ℕ)
     (conn : Talking) (kind : Option Use) (b : Bool) → (who == other) ≡ b
     → (b ≡ true → kind ≡ Some (uses.Link place))
-    → (b ≡ true → Holds rows after (set conns place conn) other place)
+    → (b ≡ true → LinkStands rows after (set conns place conn) other place)
     → ((at : ℕ) → b ≡ false → kind ≡ Some (uses.Link at) → at ≡ place → ⊥)
-    → (b ≡ false → SitsBy rows after conns other kind)
-    → SitsBy rows after (set conns place conn) other kind
+    → (b ≡ false → IsSeatUsedAs rows after conns other kind)
+    → IsSeatUsedAs rows after (set conns place conn) other kind
 link_by rows scene after conns who other place conn kind true e f h n s =
-    subst (λ (u : Option Use). SitsBy rows after (set conns place conn) other u) (sym (f refl))
+    subst (λ (u : Option Use). IsSeatUsedAs rows after (set conns place conn) other u) (sym (f refl))
     (h refl)
 link_by rows scene after conns who other place conn kind false e f h n s =
     sits_among rows after conns (set conns place conn) other kind
     (λ at there u g. get_other conns place at conn there (n at refl u) g) (s refl)
 
-pub link_sits : (rows : CentreRows) (scene : Scene) (given : Given) (place : ℕ)
+pub link_sits : (rows : CentreRows) (scene : Scene) (given : SeatItem) (place : ℕ)
     (old new : Seats) (conn : Talking) (after : Scene) (history : List Entry)
     → Awaits rows scene old given.who place → IsBehind rows scene given after history conn
     → ((other : ℕ) → use_by new other ≡ use_by old other)
@@ -586,7 +586,7 @@ link_sits rows scene given place old new conn after history a b used conns =
     ap (λ (s : Scene). is_linked who s) b.after_is
     ∙ linked_here who scene.given given true (eq-eqb who who refl)
     ∙ or_true (is_linked who scene) in
-    let holds : Holds rows after (set cs place conn) who place = record {
+    let holds : LinkStands rows after (set cs place conn) who place = record {
       linked = linked;
       conn = conn;
       there = get_set cs place a.conn conn a.there;
@@ -596,18 +596,18 @@ link_sits rows scene given place old new conn after history a b used conns =
       past_is = b.past_is;
       sits = record {
         each = λ other.
-            subst (λ (these : List Talking). SitsBy rows after these other (use_by new other))
+            subst (λ (these : List Talking). IsSeatUsedAs rows after these other (use_by new other))
             (sym conns)
-            (subst (λ (u : Option Use). SitsBy rows after (set cs place conn) other u)
+            (subst (λ (u : Option Use). IsSeatUsedAs rows after (set cs place conn) other u)
             (sym (used other))
             (link_by rows scene after cs who other place conn (use_by old other) (who == other) refl
             (λ e. ap (λ (w : ℕ). use_by old w) (sym (eqb-true who other e)) ∙ a.used)
-            (λ e. subst (λ (w : ℕ). Holds rows after (set cs place conn) w place)
+            (λ e. subst (λ (w : ℕ). LinkStands rows after (set cs place conn) w place)
             (eqb-true who other e) holds)
             (λ at e u f. absurd (false≢true (sym e ∙ eq-eqb who other
             (a.apart who other place a.used
             (subst (λ (p : ℕ). use_by old other ≡ Some (uses.Link p)) f u)))))
-            (λ e. subst (λ (s : Scene). SitsBy rows s cs other (use_by old other)) (sym b.after_is)
+            (λ e. subst (λ (s : Scene). IsSeatUsedAs rows s cs other (use_by old other)) (sym b.after_is)
             (sits_beside rows scene (behind_link scene (b.entries ++ scene.past) given b.end) cs
             other (use_by old other)
             (behind_beside scene given b.entries b.end other

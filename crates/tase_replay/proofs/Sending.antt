@@ -22,14 +22,14 @@ use Rattle.tase_conn.specs.Talking.{Talking}
 use Rattle.conn_laws.specs.Serving.{AreOthers}
 use Rattle.conn_service.specs.Attending.{Attends}
 use Rattle.conn_service.specs.Linked.{link_octets}
-use Rattle.tase_replay.specs.Links.{Given, Asking, asking_in, items_of}
-use Rattle.tase_replay.specs.Play.{Step, Scene, Meaning, bad, with_taken, step_of, meaning_of}
-use Rattle.tase_replay.specs.Play.{accepted, is_linked, is_unfit, received, behind_link, link_step}
-use Rattle.tase_replay.specs.Play.{scene_by, steps_by, means, scene_behind, steps_behind, has_ended}
-use Rattle.tase_replay.specs.Play.{ended_by}
+use Rattle.tase_replay.specs.Links.{SeatItem, Asking, asking_in, items_of}
+use Rattle.tase_replay.specs.Play.{Step, Scene, LineMeaning, bad, with_taken, step_of, meaning_of}
+use Rattle.tase_replay.specs.Play.{entry_meaning, is_linked, is_unfit, received, behind_link, link_step}
+use Rattle.tase_replay.specs.Play.{scene_by, steps_by, means, scene_behind, steps_behind, conn_has_ended}
+use Rattle.tase_replay.specs.Play.{ended_with}
 use Rattle.tase_replay.specs.AllSent.{Printed, over, printed_all, printed_to}
 use Rattle.tase_replay.specs.AllSent.{SentBy, IsSentAll}
-use Rattle.tase_replay.specs.Standing.{GoesOn, is_over, AreSentIn, StaySent}
+use Rattle.tase_replay.specs.Standing.{LinkGoesOn, is_over, AreSentIn, StaySent}
 use Rattle.tase_replay.proofs.Acted.{acted_still, said_whole}
 use Rattle.tase_replay.proofs.Entering.{line_in-read, line_in-skipped}
 use Rattle.tase_replay.proofs.Linking.{items_behind, between_so}
@@ -148,7 +148,7 @@ meaning_stays setup scene after step (Some faults.NoAssociation) s = none_stays 
 meaning_stays setup scene after step (Some faults.Already) s = none_stays setup scene
 meaning_stays setup scene after step (Some faults.UnknownName) s = none_stays setup scene
 
-unless_linked : (setup : Setup) (scene : Scene) (b : Bool) (meaning : Meaning)
+unless_linked : (setup : Setup) (scene : Scene) (b : Bool) (meaning : LineMeaning)
     → (b ≡ false → StaySent setup scene (scene_by scene meaning) (steps_by meaning))
     → StaySent setup scene (scene_by scene (if b then bad else meaning))
     (steps_by (if b then bad else meaning))
@@ -156,8 +156,8 @@ unless_linked setup scene true meaning s = none_stays setup scene
 unless_linked setup scene false meaning s = s refl
 
 pub accepted_stays : (setup : Setup) (scene : Scene) (entry : Entry)
-    → StaySent setup scene (scene_by scene (accepted setup scene entry))
-    (steps_by (accepted setup scene entry))
+    → StaySent setup scene (scene_by scene (entry_meaning setup scene entry))
+    (steps_by (entry_meaning setup scene entry))
 accepted_stays setup scene entry =
     let step : Step = step_of setup scene.past entry in
     let after : Scene = with_taken entry scene in
@@ -177,8 +177,8 @@ unasked rows es items asked none =
     (asked ∙ ap (λ (is : List Item). asks_of rows is) none)
 
 -- what such a line prints for its own seat, behind what was printed before
-printed_here : (setup : Setup) (scene : Scene) (given : Given) (old conn : Talking) (past : Past)
-    (added : List ℕ) (steps : List Step) → GoesOn setup.centre scene given.who old
+printed_here : (setup : Setup) (scene : Scene) (given : SeatItem) (old conn : Talking) (past : Past)
+    (added : List ℕ) (steps : List Step) → LinkGoesOn setup.centre scene given.who old
     → (c : Came setup scene given past conn added) → AreSentIn setup scene steps
     → printed_to given.who (steps ++ (c.steps
     ++ link_step setup.centre scene (behind_link scene past given c.end) given c.end ∷ []))
@@ -206,8 +206,8 @@ printed_here setup scene given old conn past added steps g c s =
     ∙ printed_all-append had added c.end
     ∙ ap (λ (os : List ℕ). printed_all os c.end) c.octets
 
-sent_here : (setup : Setup) (scene : Scene) (given : Given) (old conn : Talking) (past : Past)
-    (added : List ℕ) (steps : List Step) → GoesOn setup.centre scene given.who old
+sent_here : (setup : Setup) (scene : Scene) (given : SeatItem) (old conn : Talking) (past : Past)
+    (added : List ℕ) (steps : List Step) → LinkGoesOn setup.centre scene given.who old
     → (c : Came setup scene given past conn added) → AreSentIn setup scene steps
     → SentBy setup past
     (steps ++ (c.steps ++ link_step setup.centre scene (behind_link scene past given c.end) given
@@ -232,22 +232,22 @@ sent_here setup scene given old conn past added steps g c s =
 
 -- whether its connection has ended
 ended_here : (who : ℕ) (end : Option ConnEnd) (scene after : Scene)
-    → after.ended ≡ ended_by who end scene.ended → has_ended who scene ≡ false
-    → has_ended who after ≡ is_some end
+    → after.ended ≡ ended_with who end scene.ended → conn_has_ended who scene ≡ false
+    → conn_has_ended who after ≡ is_some end
 ended_here who None scene after e going =
     ap (λ (over : List ℕ). list_any (λ ended. ended == who) over) e ∙ going
 ended_here who (Some end) scene after e going =
     ap (λ (over : List ℕ). list_any (λ ended. ended == who) over) e
-    ∙ ap (λ (b : Bool). b || has_ended who scene) (eq-eqb who who refl)
+    ∙ ap (λ (b : Bool). b || conn_has_ended who scene) (eq-eqb who who refl)
 
 -- another seat
-record StaysBeside (setup : Setup) (scene : Scene) (given : Given) (past : Past)
+record StaysBeside (setup : Setup) (scene : Scene) (given : SeatItem) (past : Past)
     (end : Option ConnEnd) (steps more : List Step) (who : ℕ) : Type 0 where
   sent : SentBy setup past (steps ++ more) who (items_of who (scene.given ++ given ∷ []))
-  ended : has_ended who (behind_link scene past given end)
+  ended : conn_has_ended who (behind_link scene past given end)
       ≡ list_any is_over (printed_to who (steps ++ more))
 
-sent_beside : (setup : Setup) (scene : Scene) (given : Given) (conn : Talking) (past : Past)
+sent_beside : (setup : Setup) (scene : Scene) (given : SeatItem) (conn : Talking) (past : Past)
     (added : List ℕ) (steps : List Step) (who : ℕ) → (given.who == who) ≡ false
     → (c : Came setup scene given past conn added) → AreSentIn setup scene steps
     → StaysBeside setup scene given past c.end steps (c.steps
@@ -277,9 +277,9 @@ sent_beside setup scene given conn past added steps who e c s =
     }
 
 -- any seat
-stays_by : (setup : Setup) (scene : Scene) (given : Given) (old conn : Talking) (past : Past)
+stays_by : (setup : Setup) (scene : Scene) (given : SeatItem) (old conn : Talking) (past : Past)
     (added : List ℕ) (steps : List Step) (who : ℕ) (b : Bool) → (given.who == who) ≡ b
-    → GoesOn setup.centre scene given.who old
+    → LinkGoesOn setup.centre scene given.who old
     → (c : Came setup scene given past conn added) → AreSentIn setup scene steps
     → StaysBeside setup scene given past c.end steps (c.steps
     ++ link_step setup.centre scene (behind_link scene past given c.end) given c.end ∷ []) who
@@ -300,8 +300,8 @@ stays_by setup scene given old conn past added steps who true e g c s =
 stays_by setup scene given old conn past added steps who false e g c s =
     sent_beside setup scene given conn past added steps who e c s
 
-pub came_stays : (setup : Setup) (scene : Scene) (given : Given) (old conn : Talking)
-    (past : Past) → GoesOn setup.centre scene given.who old → is_unfit given.who scene ≡ false
+pub came_stays : (setup : Setup) (scene : Scene) (given : SeatItem) (old conn : Talking)
+    (past : Past) → LinkGoesOn setup.centre scene given.who old → is_unfit given.who scene ≡ false
     → Attends setup scene.past given.who (items_of given.who scene.given ++ given.item ∷ [])
     (link_octets setup.centre scene.past given.who (items_of given.who scene.given)) old (Ok tt)
     past conn
@@ -311,7 +311,7 @@ came_stays setup scene given old conn past g fit a =
     let c = came setup scene given old conn past g fit a in
     let at = λ (steps : List Step) (s : AreSentIn setup scene steps) (who : ℕ).
     stays_by setup scene given old conn past a.0.added steps who (given.who == who) refl g c s in
-    subst (λ (m : Meaning). StaySent setup scene (scene_by scene m) (steps_by m))
+    subst (λ (m : LineMeaning). StaySent setup scene (scene_by scene m) (steps_by m))
     (sym c.received_is) (λ steps s. record {
       sent = λ who. (at steps s who).sent;
       ended = λ who. (at steps s who).ended;
@@ -325,11 +325,11 @@ pub read_stays : (setup : Setup) (line : List ℕ) (scene : Scene) (found : Opti
     (steps_by (means setup scene found))
     → StaySent setup scene (scene_behind setup line scene) (steps_behind setup line scene)
 read_stays setup line scene found words is s =
-    subst (λ (m : Meaning). StaySent setup scene (scene_by scene m) (steps_by m))
+    subst (λ (m : LineMeaning). StaySent setup scene (scene_by scene m) (steps_by m))
     (sym (line_in-read setup line scene found words is)) s
 
 pub skipped_stays : (setup : Setup) (line : List ℕ) (scene : Scene) → is_skipped line ≡ true
     → StaySent setup scene (scene_behind setup line scene) (steps_behind setup line scene)
 skipped_stays setup line scene words =
-    subst (λ (m : Meaning). StaySent setup scene (scene_by scene m) (steps_by m))
+    subst (λ (m : LineMeaning). StaySent setup scene (scene_by scene m) (steps_by m))
     (sym (line_in-skipped setup line scene words)) (none_stays setup scene)

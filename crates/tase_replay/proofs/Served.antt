@@ -7,7 +7,7 @@ use Rattle.tase_views.specs.Outcomes.{refusal_of}
 use Rattle.tase_views.specs.declared.event.EventKind.{EventKind}
 use Rattle.tase_views.specs.declared.fault.StepFault.{StepFault}
 use Rattle.conn_laws.specs.Serving.{with_event}
-use Rattle.conn_service.specs.Attending.{Takes}
+use Rattle.conn_service.specs.Attending.{TakesEvents}
 use Rattle.tase_replay.specs.Lines.{entry_by}
 use Rattle.tase_replay.specs.Play.{Step, Served, entry_step, behind_step, serves, serves_by}
 
@@ -21,7 +21,7 @@ behind_steps steps served = record served { steps = steps ++ served.steps }
 
 -- those that were taken, and then the others
 pub serves_taken : (setup : Setup) (who : ℕ) (past : Past) (taken more : List EventKind)
-    (between : Past) → Takes setup who past taken between
+    (between : Past) → TakesEvents setup who past taken between
     → serves setup who past (taken ++ more)
     ≡ behind_steps (entry_steps who taken) (serves setup who between more)
 serves_taken setup who past [] more between t =

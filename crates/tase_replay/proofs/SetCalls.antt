@@ -28,7 +28,8 @@ use Rattle.tase_views.specs.declared.call.CallKind.TheVariants.{ReadSet, WriteSe
 use Rattle.tase_views.specs.declared.call.CallKind.TheVariants.{Delete, DeleteScope}
 use Rattle.tase_views.specs.EventTexts.{read_set_verb}
 use Rattle.event_text.specs.CallWords.{SpellsCall}
-use Rattle.tase_replay.specs.CallIn.{datum_in, some_in, class_in, is_odd, sole_in, read_set_in}
+use Rattle.tase_map.specs.Asked.{is_odd}
+use Rattle.tase_replay.specs.CallIn.{datum_in, some_in, signed_64_in, sole_in, read_set_in}
 use Rattle.tase_replay.specs.CallIn.{write_set_in, define_in, delete_in, if_other, delete_scope_in}
 use Rattle.tase_replay.specs.CallIn.{set_call_in}
 use Rattle.tase_replay.proofs.CallParts.{datum_in-found, datum_in-text, class_in-found}
@@ -160,7 +161,7 @@ delete_scope_in-found : (words : List (List ℕ)) (call : CallKind) → delete_s
     → Said (codes "deletescope" ∷ words) call
 delete_scope_in-found [] call e = absurd (none-some call e)
 delete_scope_in-found (word ∷ []) call e =
-    option_and_then_some if_other (class_in word) call e
+    option_and_then_some if_other (signed_64_in word) call e
     (λ scope is k.
     let found = class_in-found word scope is in
     let other = other-found scope (int_eq scope (pos 0)) call refl k in

@@ -19,12 +19,12 @@ use Rattle.tase_map.specs.Inputs.{Item}
 use Rattle.tase_replay.specs.declared.playing.ReplayEnd.{ReplayEnd}
 use Rattle.tase_replay.specs.declared.playing.ReplayEnd.TheVariants.{Done, BadLine, Full}
 use Rattle.tase_replay.specs.declared.playing.ReplayEnd.TheVariants.{SinkFault, Memory}
-use Rattle.tase_replay.specs.Links.{Given, Asking, an_event, an_item, asking_in, items_of}
-use Rattle.tase_replay.specs.Play.{Step, Scene, Meaning, bad, gives, too_heavy, Played, done}
-use Rattle.tase_replay.specs.Play.{bad_line, history_full, Taken, steps_in}
+use Rattle.tase_replay.specs.Links.{SeatItem, Asking, an_event, an_item, asking_in, items_of}
+use Rattle.tase_replay.specs.Play.{Step, Scene, LineMeaning, bad, gives, too_heavy, Played, done}
+use Rattle.tase_replay.specs.Play.{bad_line, history_full, TakenLine, steps_in}
 use Rattle.tase_replay.specs.Play.{Halt, through, stopped, full, refused}
 use Rattle.tase_replay.specs.Play.{Served, step_of, with_taken, meaning_of, is_linked}
-use Rattle.tase_replay.specs.Play.{is_unfit, served_item, linked_by, means, line_in}
+use Rattle.tase_replay.specs.Play.{is_unfit, served_item, linked_by, means, line_meaning}
 use Rattle.tase_replay.specs.Play.{play_line, ends_there, scene_by, steps_by, first_scene}
 use Rattle.tase_replay.specs.AllSent.{given_asked, given_by_line, given_by_lines, AreSentTo}
 use Rattle.tase_replay.specs.AllSent.{AreSentSoFar, is_played_out}
@@ -54,14 +54,14 @@ meaning_given scene after step (Some faults.NoAssociation) e = refl
 meaning_given scene after step (Some faults.Already) e = refl
 meaning_given scene after step (Some faults.UnknownName) e = refl
 
-own_given : (scene : Scene) (b : Bool) (meaning : Meaning)
+own_given : (scene : Scene) (b : Bool) (meaning : LineMeaning)
     → (scene_by scene meaning).given ≡ scene.given
     → (scene_by scene (if b then bad else meaning)).given ≡ scene.given
 own_given scene true meaning e = refl
 own_given scene false meaning e = e
 
 -- a line of a link gives its item
-halt_given : (rows : CentreRows) (scene : Scene) (given : Given) (items : List Item)
+halt_given : (rows : CentreRows) (scene : Scene) (given : SeatItem) (items : List Item)
     (served : Served) (halt : Halt) (line : List ℕ) (number : ℕ)
     → (play_line line number (linked_by rows scene given items served halt) ends_there).end ≡ done
     → (scene_by scene (linked_by rows scene given items served halt)).given
@@ -73,7 +73,7 @@ halt_given rows scene given items served (full weight limit) line number e =
 halt_given rows scene given items served refused line number e =
     absurd (never_bad line number e)
 
-link_given : (rows : CentreRows) (scene : Scene) (given : Given) (items : List Item)
+link_given : (rows : CentreRows) (scene : Scene) (given : SeatItem) (items : List Item)
     (served : Served) (halt : Halt) (b : Bool) (line : List ℕ) (number : ℕ)
     → (play_line line number (if b then bad else linked_by rows scene given items served halt)
     ends_there).end ≡ done
@@ -84,14 +84,14 @@ link_given rows scene given items served halt true line number e =
 link_given rows scene given items served halt false line number e =
     halt_given rows scene given items served halt line number e
 
-means_given : (setup : Setup) (scene : Scene) (found : Option Asking) (tail : List Given)
+means_given : (setup : Setup) (scene : Scene) (found : Option Asking) (tail : List SeatItem)
     (line : List ℕ) (number : ℕ)
     → (play_line line number (means setup scene found) ends_there).end ≡ done
     → scene.given ++ cons_option (given_asked found) tail
     ≡ (scene_by scene (means setup scene found)).given ++ tail
 means_given setup scene None tail line number e = absurd (never_bad line number e)
 means_given setup scene (Some (an_event entry)) tail line number e =
-    ap (λ (gs : List Given). gs ++ tail)
+    ap (λ (gs : List SeatItem). gs ++ tail)
     (sym (own_given scene (is_linked entry.who scene)
     (meaning_of (with_taken entry scene) (step_of setup scene.past entry)
     (refusal_of setup scene.past entry.who entry.event))
@@ -100,12 +100,12 @@ means_given setup scene (Some (an_event entry)) tail line number e =
 means_given setup scene (Some (an_item given)) tail line number e =
     let items = items_of given.who scene.given ++ given.item ∷ [] in
     sym (append_assoc scene.given (given ∷ []) tail)
-    ∙ ap (λ (gs : List Given). gs ++ tail)
+    ∙ ap (λ (gs : List SeatItem). gs ++ tail)
     (sym (link_given setup.centre scene given items (served_item setup scene given)
     (served_item setup scene given).halt (is_unfit given.who scene) line number e))
 
 line_given : (setup : Setup) (scene : Scene) (skipped : Bool) (found : Option Asking)
-    (tail : List Given) (line : List ℕ) (number : ℕ)
+    (tail : List SeatItem) (line : List ℕ) (number : ℕ)
     → (play_line line number (if skipped then gives [] scene else means setup scene found)
     ends_there).end ≡ done
     → scene.given ++ cons_option (if skipped then None else given_asked found) tail
@@ -117,7 +117,7 @@ line_given setup scene false found tail line number e =
 -- ---- the lines so far
 
 -- of these lines, behind which this scene is
-pub record SentSoFar (setup : Setup) (lines : List Taken) (scene : Scene) : Type 0 where
+pub record SentSoFar (setup : Setup) (lines : List TakenLine) (scene : Scene) : Type 0 where
   pub given : given_by_lines setup.centre (map (λ line. line.line) lines) ≡ scene.given
   pub sent : AreSentIn setup scene (steps_in lines)
 
@@ -133,23 +133,23 @@ pub record Further (setup : Setup) (all rest : Played) (history now : List Entry
   pub reached : Reached all rest history now before after
   pub sent : SentSoFar setup reached.lines scene
 
-more_given : (rows : CentreRows) (lines : List Taken) (line : List ℕ) (steps : List Step)
-    (before after : List Given)
+more_given : (rows : CentreRows) (lines : List TakenLine) (line : List ℕ) (steps : List Step)
+    (before after : List SeatItem)
     → given_by_lines rows (map (λ taken. taken.line) lines) ≡ before
     → before ++ cons_option (given_by_line rows line) [] ≡ after ++ []
     → given_by_lines rows (map (λ taken. taken.line)
     (lines ++ record { line = line; steps = steps } ∷ [])) ≡ after
 more_given rows lines line steps before after e f =
-    let taken : Taken = record { line = line; steps = steps } in
+    let taken : TakenLine = record { line = line; steps = steps } in
     ap (λ (texts : List (List ℕ)). given_by_lines rows texts)
-    (map-append (λ (t : Taken). t.line) lines (taken ∷ []))
-    ∙ filter_map-append (given_by_line rows) (map (λ (t : Taken). t.line) lines) (line ∷ [])
-    ∙ ap (λ (gs : List Given). gs ++ cons_option (given_by_line rows line) []) e
+    (map-append (λ (t : TakenLine). t.line) lines (taken ∷ []))
+    ∙ filter_map-append (given_by_line rows) (map (λ (t : TakenLine). t.line) lines) (line ∷ [])
+    ∙ ap (λ (gs : List SeatItem). gs ++ cons_option (given_by_line rows line) []) e
     ∙ f ∙ append-nil after
 
 pub SentSoFar-more : (setup : Setup) (line : List ℕ) (number : ℕ) (scene : Scene)
-    (meaning : Meaning) (rest : Scene → Played) (all : Played) (history now later : List Entry)
-    (before after next : SinkTold) → line_in setup scene line ≡ meaning
+    (meaning : LineMeaning) (rest : Scene → Played) (all : Played) (history now later : List Entry)
+    (before after next : SinkTold) → line_meaning setup scene line ≡ meaning
     → (r : Reached all (play_line line number meaning rest) history now before after)
     → SentSoFar setup r.lines scene
     → IsPlayed (play_line line number meaning ends_there) now later after next Done
@@ -163,18 +163,18 @@ SentSoFar-more setup line number scene (too_heavy steps weight limit) rest all h
     absurd (never_heavy steps weight limit line number played.0)
 SentSoFar-more setup line number scene (gives steps behind) rest all history now later before
     after next is r s played stays =
-    let taken : Taken = record { line = line; steps = steps } in
-    let ends : (play_line line number (line_in setup scene line) ends_there).end ≡ done =
-    ap (λ (m : Meaning). (play_line line number m ends_there).end) is in
+    let taken : TakenLine = record { line = line; steps = steps } in
+    let ends : (play_line line number (line_meaning setup scene line) ends_there).end ≡ done =
+    ap (λ (m : LineMeaning). (play_line line number m ends_there).end) is in
     record {
       reached = Reached-taken line number steps behind rest all history now later before after
           next r played;
       sent = record {
         given = more_given setup.centre r.lines line steps scene.given behind.given s.given
             (line_given setup scene (is_skipped line) (asking_in setup.centre line) [] line number
-            ends ∙ ap (λ (m : Meaning). (scene_by scene m).given ++ []) is);
+            ends ∙ ap (λ (m : LineMeaning). (scene_by scene m).given ++ []) is);
         sent = subst (λ (these : List Step). AreSentIn setup behind these)
-            (sym (flat_map-append (λ (t : Taken). t.steps) r.lines (taken ∷ [])
+            (sym (flat_map-append (λ (t : TakenLine). t.steps) r.lines (taken ∷ [])
             ∙ ap (λ (these : List Step). steps_in r.lines ++ these) (append-nil steps)))
             (stays (steps_in r.lines) s.sent);
       };
@@ -183,7 +183,7 @@ SentSoFar-more setup line number scene (gives steps behind) rest all history now
 -- ---- at the end
 
 -- a line with which a play ends isn't taken
-pub untaken : (line : List ℕ) (number : ℕ) (meaning : Meaning) (rest : Scene → Played)
+pub untaken : (line : List ℕ) (number : ℕ) (meaning : LineMeaning) (rest : Scene → Played)
     (history now : List Entry) (before after : SinkTold) (end : ReplayEnd) → (end ≡ Done → ⊥)
     → IsPlayed (play_line line number meaning ends_there) history now before after end
     → is_played_out end ≡ true → (play_line line number meaning rest).taken ≡ []
@@ -212,9 +212,9 @@ SentSoFar-end setup all rest history now before after scene whole r s e none = r
   lines = ap (λ (played : Played). played.taken) r.whole;
   all = none;
   sent = subst (λ (p : Past). AreSentTo setup (given_by_lines setup.centre
-      (map (λ (line : Taken). line.line) r.lines)) p (steps_in r.lines))
+      (map (λ (line : TakenLine). line.line) r.lines)) p (steps_in r.lines))
       (e ∙ ap (λ (entries : List Entry). reverse entries) r.takes.entries)
-      (subst (λ (gs : List Given). AreSentTo setup gs scene.past (steps_in r.lines))
+      (subst (λ (gs : List SeatItem). AreSentTo setup gs scene.past (steps_in r.lines))
       (sym s.given) s.sent.sent);
 }
 

@@ -12,7 +12,7 @@ use Rattle.tase_views.specs.declared.event.EventKind.{EventKind}
 use Rattle.tase_views.specs.declared.event.EventKind.TheVariants as events
 use Rattle.tase_views.specs.History.{Past, association_in, association_after}
 use Rattle.tase_map.specs.Closed.{is_closed}
-use Rattle.tase_map.specs.Inputs.{Item, text_of, has_ended}
+use Rattle.tase_map.specs.Inputs.{Item, text_given, link_has_ended}
 use Rattle.tase_map.specs.Readings.{Reading, reading_of}
 use Rattle.tase_map.specs.Out.{refusal_octets}
 use Rattle.tase_map.specs.Sent.{events_by}
@@ -102,9 +102,9 @@ octets_beside : (rows : CentreRows) (who : ℕ) (others past : Past) (items : Li
     → octets_by rows (others ++ past) items found ≡ octets_by rows past items found
 octets_beside rows who others past items None a s = refl
 octets_beside rows who others past items (Some key) a (inl seat) =
-    (others_sent rows who others past key (text_of items) (has_ended items) a seat).0
+    (others_sent rows who others past key (text_given items) (link_has_ended items) a seat).0
 octets_beside rows who others past items (Some key) a (inr closed) =
-    (closed_still rows key others past (text_of items) (has_ended items) closed).1
+    (closed_still rows key others past (text_given items) (link_has_ended items) closed).1
 
 pub octets_still : (rows : CentreRows) (who : ℕ) (others past : Past) (items : List Item)
     → AreOthers who others

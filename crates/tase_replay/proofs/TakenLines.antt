@@ -1,19 +1,19 @@
 -- The lines that are taken are the first of a scenario.
 use Rattle.std.proofs.Common.{◌≡◌, ℕ, ◌+◌, List, [], ◌∷◌, ◌++◌, map, refl, ap}
 use Rattle.tase_views.specs.Setup.{Setup}
-use Rattle.tase_replay.specs.Play.{Scene, Meaning, bad, too_heavy, gives, line_in, Taken, Played}
+use Rattle.tase_replay.specs.Play.{Scene, LineMeaning, bad, too_heavy, gives, line_meaning, TakenLine, Played}
 use Rattle.tase_replay.specs.Play.{done, play_line, play}
 
 abbrev taken_lines : Played → List (List ℕ)
-taken_lines played = map (λ (taken : Taken). taken.line) played.taken
+taken_lines played = map (λ (taken : TakenLine). taken.line) played.taken
 
 pub first_taken : (setup : Setup) (lines : List (List ℕ)) (scene : Scene) (at : ℕ)
     → (rest : List (List ℕ)) × (taken_lines (play setup lines scene at) ++ rest ≡ lines)
 first_taken setup [] scene at = ([], refl)
 first_taken setup (line ∷ more) scene at =
-    one (line_in setup scene line) (λ after. first_taken setup more after (at + 1))
+    one (line_meaning setup scene line) (λ after. first_taken setup more after (at + 1))
   where
-    one : (meaning : Meaning)
+    one : (meaning : LineMeaning)
         → ((after : Scene) → (rest : List (List ℕ))
         × (taken_lines (play setup more after (at + 1)) ++ rest ≡ more))
         → (rest : List (List ℕ)) × (taken_lines (play_line line at meaning
@@ -29,9 +29,9 @@ pub all_taken : (setup : Setup) (lines : List (List ℕ)) (scene : Scene) (at : 
     → (play setup lines scene at).end ≡ done → taken_lines (play setup lines scene at) ≡ lines
 all_taken setup [] scene at e = refl
 all_taken setup (line ∷ more) scene at e =
-    one (line_in setup scene line) e (λ after ends. all_taken setup more after (at + 1) ends)
+    one (line_meaning setup scene line) e (λ after ends. all_taken setup more after (at + 1) ends)
   where
-    one : (meaning : Meaning) → (play_line line at meaning
+    one : (meaning : LineMeaning) → (play_line line at meaning
         (λ after. play setup more after (at + 1))).end ≡ done
         → ((after : Scene) → (play setup more after (at + 1)).end ≡ done
         → taken_lines (play setup more after (at + 1)) ≡ more)

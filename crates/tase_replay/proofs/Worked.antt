@@ -17,7 +17,7 @@ use Rattle.tase_views.specs.declared.event.Entry.{Entry}
 use Rattle.tase_replay.specs.CallIn.{datum_in}
 use Rattle.tase_replay.specs.Links.{Asking, an_event, asking_in}
 use Rattle.tase_replay.specs.Play.{Played, done, bad_line, history_full, shown_of, scenario_of}
-use Rattle.tase_replay.specs.Play.{Scene, first_scene, means, line_in, play_line, ends_there}
+use Rattle.tase_replay.specs.Play.{Scene, first_scene, means, line_meaning, play_line, ends_there}
 use Rattle.tase_replay.proofs.CallParts.{datum_in-text}
 
 -- lines, each with its end
@@ -192,7 +192,7 @@ written-shown : shown_of (played (codes "open 1 A" ∷ write_line ∷ []))
 unfolding digits
 written-shown =
     ap (λ (found : Option Asking). shown_of (play_line (codes "open 1 A") 1
-    (line_in setup (first_scene []) (codes "open 1 A"))
+    (line_meaning setup (first_scene []) (codes "open 1 A"))
     (λ (after : Scene). play_line write_line 2 (means setup after found) ends_there)))
     write_line-asking
 
@@ -239,7 +239,7 @@ set_written-shown : shown_of (played (codes "open 1 A" ∷ define_line ∷ write
 unfolding digits
 set_written-shown =
     ap (λ (found : Option Asking). shown_of (play_line (codes "open 1 A") 1
-    (line_in setup (first_scene []) (codes "open 1 A"))
-    (λ (opened : Scene). play_line define_line 2 (line_in setup opened define_line)
+    (line_meaning setup (first_scene []) (codes "open 1 A"))
+    (λ (opened : Scene). play_line define_line 2 (line_meaning setup opened define_line)
     (λ (after : Scene). play_line write_set_line 3 (means setup after found) ends_there))))
     write_set_line-asking

@@ -26,10 +26,10 @@ use Rattle.tase_conn.specs.declared.stage.ConnEnd.TheVariants as conn_ends
 use Rattle.stack_messages.proofs.Worked.{wanted}
 use Rattle.tase_map.proofs.WorkedStream.{read_none}
 use Rattle.tase_replay.specs.Lines.{entry_by}
-use Rattle.tase_replay.specs.Links.{Asking, an_item, asking_in, Given, given_by}
-use Rattle.tase_replay.specs.Play.{Scene, Step, entry_step, Meaning, gives, too_heavy, means}
-use Rattle.tase_replay.specs.Play.{line_in}
-use Rattle.tase_replay.specs.Play.{Played, End, done, bad_line, history_full, ends_by, play_line}
+use Rattle.tase_replay.specs.Links.{Asking, an_item, asking_in, SeatItem, given_by}
+use Rattle.tase_replay.specs.Play.{Scene, Step, entry_step, LineMeaning, gives, too_heavy, means}
+use Rattle.tase_replay.specs.Play.{line_meaning}
+use Rattle.tase_replay.specs.Play.{Played, PlayEnd, done, bad_line, history_full, ends_by, play_line}
 use Rattle.tase_replay.specs.Play.{play, first_scene, shown_of, scenario_of}
 use Rattle.tase_replay.proofs.Worked.{text_of, rows_of, setup, played}
 use Rattle.tase_replay.proofs.WorkedReadings.{octets_of, call_digits, connect_digits}
@@ -92,7 +92,7 @@ to_stop =
     in_line call_digits ∷ in_line connect_digits ∷ codes "stop" ∷ in_line identify_digits ∷ []
 
 -- all that is printed, and the end
-abbrev said : Played → List ℕ × End
+abbrev said : Played → List ℕ × PlayEnd
 said played = (shown_of played, played.end)
 
 -- ---- one line, and the lines behind it
@@ -103,19 +103,19 @@ with_line line steps later =
 
 taken : {after : Scene} {steps : List Step} {later : Played} (setup : Setup) (line : List ℕ)
     (more : List (List ℕ)) (scene : Scene) (number : ℕ)
-    → line_in setup scene line ≡ gives steps after → play setup more after (number + 1) ≡ later
+    → line_meaning setup scene line ≡ gives steps after → play setup more after (number + 1) ≡ later
     → play setup (line ∷ more) scene number ≡ with_line line steps later
 taken {after} {steps} {later} setup line more scene number given rest =
-    ap (λ (m : Meaning). play_line line number m (λ s. play setup more s (number + 1))) given
+    ap (λ (m : LineMeaning). play_line line number m (λ s. play setup more s (number + 1))) given
     ∙ ap (λ (p : Played). with_line line steps p) rest
 
 -- nothing comes of the lines behind one that is too heavy
 filled : {steps : List Step} {weight limit : ℕ} (setup : Setup) (line : List ℕ)
     (more : List (List ℕ)) (scene : Scene) (number : ℕ)
-    → line_in setup scene line ≡ too_heavy steps weight limit
+    → line_meaning setup scene line ≡ too_heavy steps weight limit
     → play setup (line ∷ more) scene number ≡ ends_by steps (history_full weight limit)
 filled setup line more scene number heavy =
-    ap (λ (m : Meaning). play_line line number m (λ s. play setup more s (number + 1))) heavy
+    ap (λ (m : LineMeaning). play_line line number m (λ s. play setup more s (number + 1))) heavy
 
 -- ---- what lines give
 
@@ -129,7 +129,7 @@ sends end sent more = record {
   printed = out_line sent ++ 10 ∷ more;
 }
 
-abbrev given : List ℕ → Given
+abbrev given : List ℕ → SeatItem
 given octets = given_by (piece octets) 1
 
 -- where these pieces were given
@@ -159,7 +159,7 @@ cut_asking rows = refl
 abbrev called : Scene
 called = scene [] (call ∷ []) []
 
-call_line : (setup : Setup) → line_in setup (first_scene []) (in_line call_digits)
+call_line : (setup : Setup) → line_meaning setup (first_scene []) (in_line call_digits)
     ≡ gives (sends None confirm_digits [] ∷ []) called
 unfolding writes
 call_line setup =
@@ -181,7 +181,7 @@ open_steps =
     entry_step (entry_by (Open 0) 1) ∷ entry_step (entry_by Take 1)
     ∷ sends None accept_digits [] ∷ []
 
-connect_line : line_in setup called (in_line connect_digits) ≡ gives open_steps accepted
+connect_line : line_meaning setup called (in_line connect_digits) ≡ gives open_steps accepted
 unfolding writes
 connect_line =
     ap (λ (asking : Option Asking). means setup called asking) (connect_asking setup.centre)
@@ -196,7 +196,7 @@ answer_steps =
     entry_step (entry_by (Request Identify) 1)
     ∷ entry_step (entry_by Take 1) ∷ sends None identified_digits [] ∷ []
 
-identify_line : line_in setup accepted (in_line identify_digits) ≡ gives answer_steps
+identify_line : line_meaning setup accepted (in_line identify_digits) ≡ gives answer_steps
     (scene (entry_by Take 1 ∷ requested) (call ∷ connect ∷ identify ∷ []) [])
 unfolding writes
 identify_line =
@@ -210,7 +210,7 @@ cut_steps =
     ∷ sends (Some (conn_ends.Refused broken_length)) abort_digits
     (codes "ended 1 refused presentation 5 length" ++ 10 ∷ []) ∷ []
 
-cut_line : line_in setup accepted (in_line cut_digits) ≡ gives cut_steps
+cut_line : line_meaning setup accepted (in_line cut_digits) ≡ gives cut_steps
     (scene (entry_by Close 1 ∷ associated) (call ∷ connect ∷ cut ∷ []) (1 ∷ []))
 unfolding writes
 cut_line =
@@ -225,7 +225,7 @@ abbrev stop_steps : List Step
 stop_steps =
     record { who = 0; entries = entry_by Stop 0 ∷ []; octets = []; end = None; printed = [] } ∷ []
 
-stop_line : line_in setup accepted (codes "stop")
+stop_line : line_meaning setup accepted (codes "stop")
     ≡ gives stop_steps (scene stopped (call ∷ connect ∷ []) [])
 stop_line = refl
 
@@ -234,7 +234,7 @@ refused_steps =
     entry_step (entry_by Close 1)
     ∷ sends (Some conn_ends.Stopped) abort_digits (codes "ended 1 stopped" ++ 10 ∷ []) ∷ []
 
-refused_line : line_in setup (scene stopped (call ∷ connect ∷ []) []) (in_line identify_digits)
+refused_line : line_meaning setup (scene stopped (call ∷ connect ∷ []) []) (in_line identify_digits)
     ≡ gives refused_steps
     (scene (entry_by Close 1 ∷ stopped) (call ∷ connect ∷ identify ∷ []) (1 ∷ []))
 unfolding writes
@@ -249,7 +249,7 @@ strange = record {
   limit = 2 ^ 31;
 }
 
-declined_line : line_in strange called (in_line connect_digits)
+declined_line : line_meaning strange called (in_line connect_digits)
     ≡ gives (sends (Some conn_ends.Declined) refusal_digits (codes "ended 1 declined" ++ 10 ∷ []) ∷ [])
     (scene [] (call ∷ connect ∷ []) (1 ∷ []))
 unfolding writes
@@ -261,7 +261,7 @@ declined_line =
 abbrev light : Setup
 light = record { centre = setup.centre; limit = 8 }
 
-full_line : line_in light called (in_line connect_digits)
+full_line : line_meaning light called (in_line connect_digits)
     ≡ too_heavy (entry_step (entry_by (Open 0) 1) ∷ []) 10 8
 unfolding writes
 full_line =

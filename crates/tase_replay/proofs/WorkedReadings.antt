@@ -30,7 +30,7 @@ use Rattle.stack_messages.specs.Meanings.{inside}
 use Rattle.stack_messages.specs.Layers.{octets_at, in_layer, fault_of, spdu_of, ppdu_at}
 use Rattle.stack_messages.specs.Messages.{carry_at, message}
 use Rattle.stack_assoc.proofs.FrontsKept.{stopped_front}
-use Rattle.tase_map.specs.Inputs.{Item, piece, text_of}
+use Rattle.tase_map.specs.Inputs.{Item, piece, text_given}
 use Rattle.tase_map.specs.Readings.{reading_of}
 use Rattle.tase_map.proofs.ReadingLaws.{reading_only}
 use Rattle.stack_messages.proofs.Worked.{span, connecting_octets, identify_octets, answering}
@@ -101,15 +101,15 @@ broken = offered ++ piece cut ∷ []
 
 -- ---- whole messages
 
-pub call_read : reading_of (text_of called) ≡ reads one
+pub call_read : reading_of (text_given called) ≡ reads one
 unfolding call first
 call_read = read_first
 
-pub offered_read : reading_of (text_of offered) ≡ reads two
+pub offered_read : reading_of (text_given offered) ≡ reads two
 unfolding call connect first second connecting_octets
 offered_read = read_second
 
-pub asked_read : reading_of (text_of asked) ≡ reads three
+pub asked_read : reading_of (text_given asked) ≡ reads three
 unfolding call connect identify first second third connecting_octets identify_octets
 asked_read = read_third
 
@@ -168,18 +168,18 @@ cut_broken = inr (
 )
 
 -- the octet behind the short TPKT begins no other
-broken_stops : Stops roles.Called (text_of broken)
+broken_stops : Stops roles.Called (text_given broken)
     (asks opener ∷ tsdu 22 connecting_octets ∷ tsdu 199 cut_octets ∷ [])
     (record { place = 225; why = whys.Value })
 unfolding call connect cut cut_octets connecting_octets reads_transport
 broken_stops =
-    stopped_stops roles.Called (text_of broken) (record { place = 225; why = whys.Value }) refl
+    stopped_stops roles.Called (text_given broken) (record { place = 225; why = whys.Value }) refl
 
-pub broken_read : reading_of (text_of broken) ≡ record { told = two; broken = Some broken_length }
-broken_read = reading_only (text_of broken) two (Some broken_length) (inr (record {
+pub broken_read : reading_of (text_given broken) ≡ record { told = two; broken = Some broken_length }
+broken_read = reading_only (text_given broken) two (Some broken_length) (inr (record {
   messages = asks opener ∷ tsdu 22 connecting_octets ∷ [];
   next = tsdu 199 cut_octets;
-  starts = stopped_front roles.Called (text_of broken) _ _ broken_stops;
+  starts = stopped_front roles.Called (text_given broken) _ _ broken_stops;
   tell = (refl, (connect_heard, tt));
   breaks = cut_broken;
 }))

@@ -14,22 +14,22 @@ use Rattle.conn_service.specs.Linked.{link_octets}
 use Rattle.conn_service.specs.Sends.{Sends}
 use Rattle.tase_replay.specs.declared.playing.ReplayEnd.{ReplayEnd}
 use Rattle.tase_replay.specs.declared.playing.ReplayEnd.TheVariants as replay_ends
-use Rattle.tase_replay.specs.Links.{Given, Asking, an_event, an_item, asking_in, items_of}
-use Rattle.tase_replay.specs.Play.{Step, Taken, Played, entries_in, steps_in}
+use Rattle.tase_replay.specs.Links.{SeatItem, Asking, an_event, an_item, asking_in, items_of}
+use Rattle.tase_replay.specs.Play.{Step, TakenLine, Played, entries_in, steps_in}
 
 -- ---- what lines give to links
 
 -- what a line gives to a link, if it is a link's
-abbrev pub given_asked : Option Asking → Option Given
+abbrev pub given_asked : Option Asking → Option SeatItem
 given_asked None = None
 given_asked (Some (an_event entry)) = None
 given_asked (Some (an_item given)) = Some given
 
-abbrev pub given_by_line : CentreRows → List ℕ → Option Given
+abbrev pub given_by_line : CentreRows → List ℕ → Option SeatItem
 given_by_line rows line = if is_skipped line then None else given_asked (asking_in rows line)
 
 -- what these lines give to links, in order
-abbrev pub given_by_lines : CentreRows → List (List ℕ) → List Given
+abbrev pub given_by_lines : CentreRows → List (List ℕ) → List SeatItem
 given_by_lines rows lines = filter_map (given_by_line rows) lines
 
 -- ---- what is printed for their peers
@@ -69,11 +69,11 @@ SentBy setup past steps who [] = printed_to who steps ≡ []
 SentBy setup past steps who (item ∷ items) = IsSentAll setup past steps who (item ∷ items)
 
 -- so for each seat, over a history and what was given to links
-abbrev pub AreSentTo : Setup → List Given → Past → List Step → Type 0
+abbrev pub AreSentTo : Setup → List SeatItem → Past → List Step → Type 0
 AreSentTo setup given past steps = (who : ℕ) → SentBy setup past steps who (items_of who given)
 
 -- over the lines that were taken behind a history
-abbrev pub AreSentOver : Setup → List Entry → List Taken → Type 0
+abbrev pub AreSentOver : Setup → List Entry → List TakenLine → Type 0
 AreSentOver setup history taken =
     AreSentTo setup (given_by_lines setup.centre (map (λ line. line.line) taken))
     (reverse (history ++ entries_in (steps_in taken))) (steps_in taken)
@@ -91,8 +91,8 @@ is_played_out replay_ends.Memory = false
 -- each seat its peer was sent what it is owed for these
 pub record AreSentSoFar (setup : Setup) (history : List Entry) (played : Played)
     (whole : Bool) : Type 0 where
-  pub taken : List Taken
-  pub others : List Taken
+  pub taken : List TakenLine
+  pub others : List TakenLine
   pub lines : played.taken ≡ taken ++ others
   pub all : whole ≡ true → others ≡ []
   pub sent : AreSentOver setup history taken

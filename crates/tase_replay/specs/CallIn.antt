@@ -57,8 +57,8 @@ write_in words =
     (some_in assigned_in words)
 
 -- a number of 64 bits
-abbrev pub class_in : List ℕ → Option ℤ
-class_in word = integer_word_within (negsuc (2 ^ 63 - 1)) (pos (2 ^ 63 - 1)) word
+abbrev pub signed_64_in : List ℕ → Option ℤ
+signed_64_in word = integer_word_within (negsuc (2 ^ 63 - 1)) (pos (2 ^ 63 - 1)) word
 
 -- a scope that ends with the separator at a place
 abbrev pub scope_at : List ℕ → ℕ → Option Scope
@@ -76,12 +76,12 @@ after_in (word ∷ []) = option_map Some (identifier_in word)
 after_in (word ∷ next ∷ more) = None
 
 -- `CLASS SCOPE` or `CLASS SCOPE AFTER` behind `names`
-abbrev pub list_in : List (List ℕ) → Option CallKind
-list_in [] = None
-list_in (class ∷ []) = None
-list_in (class ∷ scope ∷ more) =
+abbrev pub names_call_in : List (List ℕ) → Option CallKind
+names_call_in [] = None
+names_call_in (class ∷ []) = None
+names_call_in (class ∷ scope ∷ more) =
     option_and_then (λ c. option_and_then (λ s. option_map (λ a. NameList c s a) (after_in more))
-    (scope_of_word scope)) (class_in class)
+    (scope_of_word scope)) (signed_64_in class)
 
 -- nothing behind `identify`
 abbrev pub identify_in : List (List ℕ) → Option CallKind
@@ -121,7 +121,7 @@ if_other scope = if int_eq scope (pos 0) then None else Some (DeleteScope scope)
 -- `SCOPE` behind `deletescope`
 abbrev pub delete_scope_in : List (List ℕ) → Option CallKind
 delete_scope_in [] = None
-delete_scope_in (word ∷ []) = option_and_then if_other (class_in word)
+delete_scope_in (word ∷ []) = option_and_then if_other (signed_64_in word)
 delete_scope_in (word ∷ next ∷ more) = None
 
 -- the call of data sets that a verb and the words behind it spell
@@ -136,26 +136,12 @@ set_call_in verb words =
     else (if bytes_eq verb (codes "deletescope") then delete_scope_in words else None))))))
 
 -- the call that words spell, but an odd one
-abbrev pub call_in : List (List ℕ) → Option CallKind
-call_in [] = None
-call_in (verb ∷ words) =
+abbrev pub call_of_words : List (List ℕ) → Option CallKind
+call_of_words [] = None
+call_of_words (verb ∷ words) =
     if bytes_eq verb (codes "read") then read_in false words
     else (if bytes_eq verb (codes "read+") then read_in true words
     else (if bytes_eq verb (codes "write") then write_in words
-    else (if bytes_eq verb (codes "names") then list_in words
+    else (if bytes_eq verb (codes "names") then names_call_in words
     else (if bytes_eq verb (codes "identify") then identify_in words
     else set_call_in verb words))))
-
--- a reject's kind and code in place of a call
-abbrev pub is_odd : CallKind → Bool
-is_odd Identify = false
-is_odd (Read names echo) = false
-is_odd (Write names values) = false
-is_odd (ReadSet set echo) = false
-is_odd (WriteSet set values) = false
-is_odd (NameList class scope after) = false
-is_odd (Define set members) = false
-is_odd (MembersOf set) = false
-is_odd (Delete sets) = false
-is_odd (DeleteScope scope) = false
-is_odd (Odd kind code) = true

@@ -9,7 +9,7 @@ use Rattle.tase_views.specs.declared.event.EventKind.TheVariants.{Open, Request,
 use Rattle.tase_views.specs.declared.event.Entry.{Entry}
 use Rattle.event_text.specs.FeedLines.{feed_words_in}
 use Rattle.tase_replay.specs.declared.entries.TheConstants.{SEAT_LIMIT}
-use Rattle.tase_replay.specs.CallIn.{call_in}
+use Rattle.tase_replay.specs.CallIn.{call_of_words}
 
 -- a peer's seat, from 1 on
 abbrev pub seat_in : List ℕ → Option ℕ
@@ -30,7 +30,8 @@ open_in rows words = None
 abbrev pub say_in : List (List ℕ) → Option Entry
 say_in [] = None
 say_in (seat ∷ call) =
-    option_and_then (λ w. option_map (λ c. entry_by (Request c) w) (call_in call)) (seat_in seat)
+    option_and_then (λ w. option_map (λ c. entry_by (Request c) w) (call_of_words call))
+    (seat_in seat)
 
 -- `take W` or `close W`, less its first word
 abbrev pub seated_in : EventKind → List (List ℕ) → Option Entry

@@ -22,19 +22,19 @@ use Rattle.tase_views.specs.declared.event.Entry.{Entry}
 use Rattle.tase_replay.specs.declared.links.TheConstants.{LINE_OCTETS}
 use Rattle.tase_replay.specs.declared.links.LinkItem.{LinkItem}
 use Rattle.tase_replay.specs.declared.links.LinkItem.TheVariants as link_items
-use Rattle.tase_replay.specs.declared.links.Given.{Given as Read}
-use Rattle.tase_replay.specs.declared.entries.Asked.{Asked}
-use Rattle.tase_replay.specs.declared.entries.Asked.TheVariants as askeds
+use Rattle.tase_replay.specs.declared.links.LineItem.{LineItem as Read}
+use Rattle.tase_replay.specs.declared.entries.LineRequest.{LineRequest}
+use Rattle.tase_replay.specs.declared.entries.LineRequest.TheVariants as askeds
 use Rattle.tase_replay.specs.Lines.{seat_in, entry_of}
 
 -- ---- the lines
 
 -- an item that the link of a seat gives
-pub record Given : Type 0 where
+pub record SeatItem : Type 0 where
   pub who : ℕ
   pub item : Item
 
-abbrev pub given_by : Item → ℕ → Given
+abbrev pub given_by : Item → ℕ → SeatItem
 given_by item who = record { who = who; item = item }
 
 -- 1 to 16,384 octets
@@ -46,13 +46,13 @@ abbrev pub piece_in : List ℕ → Option Item
 piece_in word = option_map piece (option_and_then (if_passes is_piece) (result_ok (decode_of word)))
 
 -- `in W HEX`, less its first word
-abbrev pub piece_given : List (List ℕ) → Option Given
+abbrev pub piece_given : List (List ℕ) → Option SeatItem
 piece_given (seat ∷ digits ∷ []) =
     option_and_then (λ w. option_map (λ item. given_by item w) (piece_in digits)) (seat_in seat)
 piece_given words = None
 
 -- `idle W` or `end W`, less its first word
-abbrev pub item_given : Item → List (List ℕ) → Option Given
+abbrev pub item_given : Item → List (List ℕ) → Option SeatItem
 item_given item (seat ∷ []) = option_map (given_by item) (seat_in seat)
 item_given item words = None
 
@@ -62,7 +62,7 @@ is_link_word verb =
     bytes_eq verb (codes "in") || bytes_eq verb (codes "idle") || bytes_eq verb (codes "end")
 
 -- what such a line gives
-abbrev pub given_of : List (List ℕ) → Option Given
+abbrev pub given_of : List (List ℕ) → Option SeatItem
 given_of [] = None
 given_of (verb ∷ words) =
     if bytes_eq verb (codes "in") then piece_given words
@@ -72,7 +72,7 @@ given_of (verb ∷ words) =
 -- what a line asks for: an event of a seat, or that a link gives something
 pub data Asking : Type 0 where
   an_event : Entry → Asking
-  an_item : Given → Asking
+  an_item : SeatItem → Asking
 
 abbrev pub asking_of : CentreRows → List (List ℕ) → Option Asking
 asking_of rows [] = None
@@ -91,10 +91,10 @@ item_seen (link_items.Piece octets) = piece octets.items
 item_seen link_items.Idle = idle
 item_seen link_items.End = ended
 
-abbrev pub given_seen : Read → Given
+abbrev pub given_seen : Read → SeatItem
 given_seen given = record { who = given.who; item = item_seen given.item }
 
-abbrev pub asking_seen : Asked → Asking
+abbrev pub asking_seen : LineRequest → Asking
 asking_seen (askeds.Event entry) = an_event entry
 asking_seen (askeds.Item given) = an_item (given_seen given)
 
@@ -105,17 +105,17 @@ IsFit (link_items.Piece octets) =
 IsFit link_items.Idle = Unit {0}
 IsFit link_items.End = Unit {0}
 
-abbrev pub IsFitting : Asked → Type 0
+abbrev pub IsFitting : LineRequest → Type 0
 IsFitting (askeds.Event entry) = Unit {0}
 IsFitting (askeds.Item given) = IsFit given.item
 
 -- ---- the input of a link
 
-abbrev pub item_by : ℕ → Given → Option Item
+abbrev pub item_by : ℕ → SeatItem → Option Item
 item_by who given = if given.who == who then Some given.item else None
 
 -- what the lines so far gave to the link of a seat
-abbrev pub items_of : ℕ → List Given → List Item
+abbrev pub items_of : ℕ → List SeatItem → List Item
 items_of who given = filter_map (item_by who) given
 
 -- which events one more item asks, behind those that the items before it ask

@@ -29,7 +29,7 @@ use Rattle.tase_views.specs.Outcomes.{refusal_of, answer_of}
 use Rattle.event_text.specs.ReplyTexts.{reply_text}
 use Rattle.tase_replay.specs.Lines.{entry_by}
 use Rattle.conn_service.specs.Linked.{peer_end, link_octets}
-use Rattle.tase_replay.specs.Links.{Given, Asking, an_event, an_item, asking_in}
+use Rattle.tase_replay.specs.Links.{SeatItem, Asking, an_event, an_item, asking_in}
 use Rattle.tase_replay.specs.Links.{items_of, asks_more}
 use Rattle.tase_replay.specs.Links.{line_of_out, line_of_end}
 
@@ -77,7 +77,7 @@ step_of setup past entry =
 -- the history so far, what links have given, and the seats whose connections have ended
 pub record Scene : Type 0 where
   pub past : Past
-  pub given : List Given
+  pub given : List SeatItem
   pub ended : List ℕ
 
 -- the scene with an entry more
@@ -92,21 +92,21 @@ abbrev pub is_seated : ℕ → Scene → Bool
 is_seated who scene =
     list_any (λ entry. entry.who == who) scene.past && not (is_linked who scene)
 
-abbrev pub has_ended : ℕ → Scene → Bool
-has_ended who scene = list_any (λ ended. ended == who) scene.ended
+abbrev pub conn_has_ended : ℕ → Scene → Bool
+conn_has_ended who scene = list_any (λ ended. ended == who) scene.ended
 
 -- what a line means behind the lines before it: that it is bad; that with one of its events, behind
 -- these steps, the history would weigh so much, which is more than its limit; or what it gives, in
 -- order, and the scene behind it
-pub data Meaning : Type 0 where
-  bad : Meaning
-  too_heavy : List Step → ℕ → ℕ → Meaning
-  gives : List Step → Scene → Meaning
+pub data LineMeaning : Type 0 where
+  bad : LineMeaning
+  too_heavy : List Step → ℕ → ℕ → LineMeaning
+  gives : List Step → Scene → LineMeaning
 
 -- ---- a line of a seat
 
 -- a step that the node takes, or why it refuses it
-abbrev pub meaning_of : Scene → Step → Option StepFault → Meaning
+abbrev pub meaning_of : Scene → Step → Option StepFault → LineMeaning
 meaning_of after step None = gives (step ∷ []) after
 meaning_of after step (Some Memory) = bad
 meaning_of after step (Some (Stopped place)) = bad
@@ -116,8 +116,8 @@ meaning_of after step (Some Already) = bad
 meaning_of after step (Some UnknownName) = bad
 
 -- an entry that the node doesn't refuse, of a seat that isn't a link's
-abbrev pub accepted : Setup → Scene → Entry → Meaning
-accepted setup scene entry = if is_linked entry.who scene then bad
+abbrev pub entry_meaning : Setup → Scene → Entry → LineMeaning
+entry_meaning setup scene entry = if is_linked entry.who scene then bad
     else meaning_of (with_taken entry scene) (step_of setup scene.past entry)
     (refusal_of setup scene.past entry.who entry.event)
 
@@ -183,7 +183,7 @@ octets_between rows who before after =
     (link_octets rows after.past who (items_of who after.given))
 
 -- what is printed at a line of a link: these octets, and the end of the connection, where it came
-abbrev pub link_step : CentreRows → Scene → Scene → Given → Option ConnEnd → Step
+abbrev pub link_step : CentreRows → Scene → Scene → SeatItem → Option ConnEnd → Step
 link_step rows before after given end = record {
   who = given.who;
   entries = [];
@@ -194,23 +194,23 @@ link_step rows before after given end = record {
 }
 
 -- the scene behind such a line
-abbrev pub ended_by : ℕ → Option ConnEnd → List ℕ → List ℕ
-ended_by who None ended = ended
-ended_by who (Some end) ended = who ∷ ended
+abbrev pub ended_with : ℕ → Option ConnEnd → List ℕ → List ℕ
+ended_with who None ended = ended
+ended_with who (Some end) ended = who ∷ ended
 
-abbrev pub behind_link : Scene → Past → Given → Option ConnEnd → Scene
+abbrev pub behind_link : Scene → Past → SeatItem → Option ConnEnd → Scene
 behind_link scene past given end = record {
   past = past;
   given = scene.given ++ given ∷ [];
-  ended = ended_by given.who end scene.ended;
+  ended = ended_with given.who end scene.ended;
 }
 
-abbrev pub linked : CentreRows → Scene → Given → List Step → Past → Option ConnEnd → Meaning
+abbrev pub linked : CentreRows → Scene → SeatItem → List Step → Past → Option ConnEnd → LineMeaning
 linked rows scene given steps past end =
     let after : Scene = behind_link scene past given end in
     gives (steps ++ link_step rows scene after given end ∷ []) after
 
-abbrev pub linked_by : CentreRows → Scene → Given → List Item → Served → Halt → Meaning
+abbrev pub linked_by : CentreRows → Scene → SeatItem → List Item → Served → Halt → LineMeaning
 linked_by rows scene given items served through =
     linked rows scene given served.steps served.past (peer_end rows items)
 linked_by rows scene given items served stopped =
@@ -220,54 +220,54 @@ linked_by rows scene given items served refused = bad
 
 -- an item of a link, of a seat that no other line uses, and whose connection hasn't ended
 abbrev pub is_unfit : ℕ → Scene → Bool
-is_unfit who scene = is_seated who scene || has_ended who scene
+is_unfit who scene = is_seated who scene || conn_has_ended who scene
 
-abbrev pub served_item : Setup → Scene → Given → Served
+abbrev pub served_item : Setup → Scene → SeatItem → Served
 served_item setup scene given = serves setup given.who scene.past
     (asks_more setup.centre (items_of given.who scene.given) given.item)
 
-abbrev pub received : Setup → Scene → Given → Meaning
+abbrev pub received : Setup → Scene → SeatItem → LineMeaning
 received setup scene given = if is_unfit given.who scene then bad
     else linked_by setup.centre scene given (items_of given.who scene.given ++ given.item ∷ [])
     (served_item setup scene given) (served_item setup scene given).halt
 
 -- ---- a line
 
-abbrev pub means : Setup → Scene → Option Asking → Meaning
+abbrev pub means : Setup → Scene → Option Asking → LineMeaning
 means setup scene None = bad
-means setup scene (Some (an_event entry)) = accepted setup scene entry
+means setup scene (Some (an_event entry)) = entry_meaning setup scene entry
 means setup scene (Some (an_item given)) = received setup scene given
 
-abbrev pub line_in : Setup → Scene → List ℕ → Meaning
-line_in setup scene line = if is_skipped line then gives [] scene
+abbrev pub line_meaning : Setup → Scene → List ℕ → LineMeaning
+line_meaning setup scene line = if is_skipped line then gives [] scene
     else means setup scene (asking_in setup.centre line)
 
 -- ---- a scenario
 
 -- a line that was taken, and what it gave
-pub record Taken : Type 0 where
+pub record TakenLine : Type 0 where
   pub line : List ℕ
   pub steps : List Step
 
 -- how a scenario ends: after its last line; at its first bad one, by its number; or at an event
 -- with which the history would weigh so much, which is more than its limit
-pub data End : Type 0 where
-  done : End
-  bad_line : ℕ → End
-  history_full : ℕ → ℕ → End
+pub data PlayEnd : Type 0 where
+  done : PlayEnd
+  bad_line : ℕ → PlayEnd
+  history_full : ℕ → ℕ → PlayEnd
 
 -- the lines that are taken, the steps of a line before its event for which the history has no room,
 -- and the end
 pub record Played : Type 0 where
-  pub taken : List Taken
+  pub taken : List TakenLine
   pub last : List Step
-  pub end : End
+  pub end : PlayEnd
 
-abbrev pub ends_by : List Step → End → Played
+abbrev pub ends_by : List Step → PlayEnd → Played
 ends_by steps end = record { taken = []; last = steps; end = end }
 
 -- a line with this number and then the rest, which `rest` plays from a scene
-abbrev pub play_line : List ℕ → ℕ → Meaning → (Scene → Played) → Played
+abbrev pub play_line : List ℕ → ℕ → LineMeaning → (Scene → Played) → Played
 play_line line number bad rest = ends_by [] (bad_line number)
 play_line line number (too_heavy steps weight limit) rest =
     ends_by steps (history_full weight limit)
@@ -279,7 +279,7 @@ play_line line number (gives steps after) rest =
 abbrev pub play : Setup → List (List ℕ) → Scene → ℕ → Played
 play setup [] scene number = ends_by [] done
 play setup (line ∷ more) scene number =
-    play_line line number (line_in setup scene line)
+    play_line line number (line_meaning setup scene line)
     (λ after. play setup more after (number + 1))
 
 -- nothing more
@@ -288,28 +288,29 @@ ends_there scene = ends_by [] done
 
 -- a line and nothing after it
 abbrev pub play_alone : Setup → List ℕ → Scene → ℕ → Played
-play_alone setup line scene number = play_line line number (line_in setup scene line) ends_there
+play_alone setup line scene number = play_line line number
+    (line_meaning setup scene line) ends_there
 
 -- the scene behind a line that is taken
-abbrev pub scene_by : Scene → Meaning → Scene
+abbrev pub scene_by : Scene → LineMeaning → Scene
 scene_by scene bad = scene
 scene_by scene (too_heavy steps weight limit) = scene
 scene_by scene (gives steps after) = after
 
 abbrev pub scene_behind : Setup → List ℕ → Scene → Scene
-scene_behind setup line scene = scene_by scene (line_in setup scene line)
+scene_behind setup line scene = scene_by scene (line_meaning setup scene line)
 
 -- what such a line gives
-abbrev pub steps_by : Meaning → List Step
+abbrev pub steps_by : LineMeaning → List Step
 steps_by bad = []
 steps_by (too_heavy steps weight limit) = []
 steps_by (gives steps after) = steps
 
 abbrev pub steps_behind : Setup → List ℕ → Scene → List Step
-steps_behind setup line scene = steps_by (line_in setup scene line)
+steps_behind setup line scene = steps_by (line_meaning setup scene line)
 
 -- the steps of lines that were taken
-abbrev pub steps_in : List Taken → List Step
+abbrev pub steps_in : List TakenLine → List Step
 steps_in taken = flat_map (λ line. line.steps) taken
 
 -- all that was taken, in order

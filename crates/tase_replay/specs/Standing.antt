@@ -6,19 +6,19 @@ use Rattle.std.specs.List.{list_any}
 use Rattle.std.specs.HashMap.{get}
 use Rattle.bilateral.specs.Rows.{CentreRows}
 use Rattle.tase_views.specs.declared.event.Entry.{Entry}
-use Rattle.tase_conn.specs.Talking.{Talking, pending_of, end_in, IsResting}
+use Rattle.tase_conn.specs.Talking.{Talking, pending_of, conn_end_in, IsResting}
 use Rattle.conn_laws.specs.Serving.{Serves}
 use Rattle.tase_views.specs.History.{Past}
-use Rattle.tase_map.specs.Inputs.{Item, IsInput}
-use Rattle.tase_conn.specs.Places.{StandsAt}
-use Rattle.tase_conn.specs.declared.stage.Asked.TheVariants as askeds
+use Rattle.tase_map.specs.Inputs.{Item, IsLinkInput}
+use Rattle.tase_conn.specs.Places.{ConnStandsAt}
+use Rattle.tase_conn.specs.declared.stage.PendingEvent.TheVariants as askeds
 use Rattle.tase_conn.specs.declared.stage.Progress.TheVariants as progresses
 use Rattle.tase_replay.specs.declared.links.Seats.{Seats}
 use Rattle.tase_replay.specs.declared.links.Use.{Use}
 use Rattle.tase_replay.specs.declared.links.Use.TheVariants as uses
 use Rattle.conn_service.specs.Linked.{link_octets}
-use Rattle.tase_replay.specs.Links.{Given, items_of}
-use Rattle.tase_replay.specs.Play.{Scene, is_linked, is_seated, has_ended, is_unfit, Step}
+use Rattle.tase_replay.specs.Links.{SeatItem, items_of}
+use Rattle.tase_replay.specs.Play.{Scene, is_linked, is_seated, conn_has_ended, is_unfit, Step}
 use Rattle.tase_replay.specs.Play.{behind_link}
 use Rattle.tase_conn.specs.declared.stage.ConnEnd.{ConnEnd}
 use Rattle.tase_views.specs.Setup.{Setup}
@@ -26,26 +26,26 @@ use Rattle.tase_replay.specs.AllSent.{Printed, octet, over, printed_to, AreSentT
 
 -- a connection that goes on: a seat of the node serves it, all that its link gave was acted on, and
 -- all that its peer is sent was printed
-pub record GoesOn (rows : CentreRows) (scene : Scene) (who : ℕ) (v : Talking) : Type 0 where
+pub record LinkGoesOn (rows : CentreRows) (scene : Scene) (who : ℕ) (v : Talking) : Type 0 where
   pub serves : Serves rows scene.past who (items_of who scene.given)
       (link_octets rows scene.past who (items_of who scene.given)) None v
   pub resting : IsResting v
   pub printed : pending_of v ≡ []
-  pub unended : end_in v.progress ≡ None
-  pub shown : has_ended who scene ≡ false
+  pub unended : conn_end_in v.progress ≡ None
+  pub shown : conn_has_ended who scene ≡ false
 
 -- or it has ended, which was printed
-pub record IsOver (scene : Scene) (who : ℕ) (v : Talking) : Type 0 where
-  pub ended : is_some (end_in v.progress) ≡ true
-  pub shown : has_ended who scene ≡ true
+pub record LinkIsOver (scene : Scene) (who : ℕ) (v : Talking) : Type 0 where
+  pub ended : is_some (conn_end_in v.progress) ≡ true
+  pub shown : conn_has_ended who scene ≡ true
 
 -- a link's connection stands at this place
-pub record Holds (rows : CentreRows) (scene : Scene) (conns : List Talking) (who place : ℕ) :
+pub record LinkStands (rows : CentreRows) (scene : Scene) (conns : List Talking) (who place : ℕ) :
     Type 0 where
   pub linked : is_linked who scene ≡ true
   pub conn : Talking
   pub there : slice_get conns place ≡ Some conn
-  pub stands : GoesOn rows scene who conn ⊎ IsOver scene who conn
+  pub stands : LinkGoesOn rows scene who conn ⊎ LinkIsOver scene who conn
 
 abbrev pub use_by : Seats → ℕ → Option Use
 use_by seats who = get nat_eq seats.uses who
@@ -56,11 +56,11 @@ noted_with None who before = before
 noted_with (Some entry) who before = if entry.who == who then Some uses.Own else before
 
 -- what a seat is used for: nothing yet, lines of its own, or a link
-abbrev pub SitsBy : CentreRows → Scene → List Talking → ℕ → Option Use → Type 0
-SitsBy rows scene conns who None = (is_linked who scene ≡ false)
-    × (list_any (λ entry. entry.who == who) scene.past ≡ false) × (has_ended who scene ≡ false)
-SitsBy rows scene conns who (Some uses.Own) = is_seated who scene ≡ true
-SitsBy rows scene conns who (Some (uses.Link place)) = Holds rows scene conns who place
+abbrev pub IsSeatUsedAs : CentreRows → Scene → List Talking → ℕ → Option Use → Type 0
+IsSeatUsedAs rows scene conns who None = (is_linked who scene ≡ false)
+    × (list_any (λ entry. entry.who == who) scene.past ≡ false) × (conn_has_ended who scene ≡ false)
+IsSeatUsedAs rows scene conns who (Some uses.Own) = is_seated who scene ≡ true
+IsSeatUsedAs rows scene conns who (Some (uses.Link place)) = LinkStands rows scene conns who place
 
 -- no two links have one connection
 abbrev pub AreApart : Seats → Type 0
@@ -68,22 +68,22 @@ AreApart seats = (who other place : ℕ) → use_by seats who ≡ Some (uses.Lin
     → use_by seats other ≡ Some (uses.Link place) → who ≡ other
 
 -- the seats are used as the lines so far say
-pub record Sits (rows : CentreRows) (scene : Scene) (seats : Seats) : Type 0 where
-  pub each : (who : ℕ) → SitsBy rows scene seats.conns.items who (use_by seats who)
+pub record AreSeatsUsed (rows : CentreRows) (scene : Scene) (seats : Seats) : Type 0 where
+  pub each : (who : ℕ) → IsSeatUsedAs rows scene seats.conns.items who (use_by seats who)
   pub apart : AreApart seats
 
 -- a scene over a node whose history is this
 pub record IsScene (rows : CentreRows) (history : List Entry) (scene : Scene) (seats : Seats) :
     Type 0 where
   pub past_is : scene.past ≡ reverse history
-  pub sits : Sits rows scene seats
+  pub sits : AreSeatsUsed rows scene seats
 
 -- ---- one line
 
 -- the place of a connection that goes on
 abbrev pub going_at : ℕ → Option Talking → Option ℕ
 going_at place None = None
-going_at place (Some conn) = if is_some (end_in conn.progress) then None else Some place
+going_at place (Some conn) = if is_some (conn_end_in conn.progress) then None else Some place
 
 abbrev pub place_going : List Talking → ℕ → Option ℕ
 place_going conns place = going_at place (slice_get conns place)
@@ -96,7 +96,7 @@ pub record Begun (rows : CentreRows) (who : ℕ) (old : Seats) (place : ℕ) (ne
   pub place_is : place ≡ length old.conns.items
   pub used : (other : ℕ) → use_by new other
       ≡ (if who == other then Some (uses.Link place) else use_by old other)
-  pub stands : StandsAt rows [] [] [] conn
+  pub stands : ConnStandsAt rows [] [] [] conn
   pub resting : IsResting conn
   pub running : conn.progress ≡ progresses.Running askeds.Nothing
   pub silent : pending_of conn ≡ []
@@ -104,15 +104,15 @@ pub record Begun (rows : CentreRows) (who : ℕ) (old : Seats) (place : ℕ) (ne
 -- a seat serves a connection that may take this item in
 abbrev pub IsAwaiting : CentreRows → Past → ℕ → Item → Talking → Type 0
 IsAwaiting rows past who item v = (items : List Item) × (said : List ℕ)
-    × Serves rows past who items said None v × IsInput (items ++ item ∷ []) × IsResting v
+    × Serves rows past who items said None v × IsLinkInput (items ++ item ∷ []) × IsResting v
 
 -- a line of its own may use a seat, and it is noted; or the seat is a link's
-abbrev pub Notes : ℕ → Seats → Bool → Seats → Type 0
-Notes who old true new = (new.conns ≡ old.conns)
+abbrev pub NotesUse : ℕ → Seats → Bool → Seats → Type 0
+NotesUse who old true new = (new.conns ≡ old.conns)
     × ((place : ℕ) → use_by old who ≡ Some (uses.Link place) → ⊥)
     × ((other : ℕ) → use_by new other
     ≡ (if who == other then Some uses.Own else use_by old other))
-Notes who old false new = (place : ℕ) × (use_by old who ≡ Some (uses.Link place))
+NotesUse who old false new = (place : ℕ) × (use_by old who ≡ Some (uses.Link place))
 
 -- the connection at this place may take in what a seat's link gives, and the other seats are used as
 -- the lines so far say
@@ -121,10 +121,10 @@ pub record Awaits (rows : CentreRows) (scene : Scene) (seats : Seats) (who place
   pub fit : is_unfit who scene ≡ false
   pub conn : Talking
   pub there : slice_get seats.conns.items place ≡ Some conn
-  pub goes : GoesOn rows scene who conn
+  pub goes : LinkGoesOn rows scene who conn
   pub used : use_by seats who ≡ Some (uses.Link place)
   pub others : (other : ℕ) → (other ≡ who → ⊥)
-      → SitsBy rows scene seats.conns.items other (use_by seats other)
+      → IsSeatUsedAs rows scene seats.conns.items other (use_by seats other)
   pub apart : AreApart seats
 
 -- a seat has such a connection, or none may be used
@@ -134,7 +134,7 @@ Finds rows scene who seats (Some place) = Awaits rows scene seats who place
 
 -- where a seat's connection stands behind such a line
 abbrev pub StandsOn : CentreRows → Scene → ℕ → Talking → Type 0
-StandsOn rows scene who conn = GoesOn rows scene who conn ⊎ IsOver scene who conn
+StandsOn rows scene who conn = LinkGoesOn rows scene who conn ⊎ LinkIsOver scene who conn
 
 -- none of these entries is of another seat
 abbrev pub AreOf : ℕ → Past → Type 0
@@ -143,7 +143,7 @@ AreOf who (entry ∷ entries) = (entry.who ≡ who) × AreOf who entries
 
 -- the scene behind a line of a link, and its connection there: the node has taken events of that
 -- seat alone
-pub record IsBehind (rows : CentreRows) (scene : Scene) (given : Given) (after : Scene)
+pub record IsBehind (rows : CentreRows) (scene : Scene) (given : SeatItem) (after : Scene)
     (history : List Entry) (conn : Talking) : Type 0 where
   pub entries : Past
   pub own : AreOf given.who entries
@@ -161,7 +161,7 @@ is_over (over end) = true
 -- so in a scene, whose ended connections are those whose ends are printed
 pub record AreSentIn (setup : Setup) (scene : Scene) (steps : List Step) : Type 0 where
   pub sent : AreSentTo setup scene.given scene.past steps
-  pub ended : (who : ℕ) → has_ended who scene ≡ list_any is_over (printed_to who steps)
+  pub ended : (who : ℕ) → conn_has_ended who scene ≡ list_any is_over (printed_to who steps)
 
 -- where it is so in one scene, it is so in another, with these steps behind those before
 abbrev pub StaySent : Setup → Scene → Scene → List Step → Type 0

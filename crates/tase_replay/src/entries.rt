@@ -3,10 +3,11 @@ ghost use Rattle.plain_text.specs.Words.{words};
 ghost use Rattle.std.specs.Prelude.{IfSome};
 ghost use Rattle.tase_replay.specs.Links.{an_item, an_event, asking_in, asking_seen, given_seen};
 ghost use Rattle.tase_replay.specs.Links.{IsFit, IsFitting};
-ghost use Rattle.tase_replay.specs.CallIn.{call_in, is_odd};
+ghost use Rattle.tase_map.specs.Asked.{is_odd};
+ghost use Rattle.tase_replay.specs.CallIn.{call_of_words};
 ghost use Rattle.tase_replay.specs.Lines.{seat_in, entry_by, open_in, say_in, seated_in, entry_in};
 
-use crate::links::{Given, is_link_word, read_given};
+use crate::links::{LineItem, is_link_word, read_given};
 use bilateral::Centre;
 use event_text::{read_call_words, read_feed_line};
 use plain_text::{is_spaced, next_word, read_number};
@@ -15,11 +16,11 @@ use tase_views::{Call, CallKind, Entry, Event, EventKind};
 
 /// What a line asks for.
 #[derive(Drop)]
-pub(crate) enum Asked {
+pub(crate) enum LineRequest {
     /// An event of a seat.
     Event(Entry),
     /// That the link of a seat gives something.
-    Item(Given),
+    Item(LineItem),
 }
 
 /// The highest number of a peer's seat.
@@ -33,7 +34,7 @@ pub(crate) fn read_asked(
     alloc: Global,
     centre: &Centre,
     line: &[u8],
-) -> Result<Option<Asked>, AllocError>
+) -> Result<Option<LineRequest>, AllocError>
     ensures asked { IfOk result (λ found.
         option_map asking_seen found ≡ asking_in centre.now line.now) }
     ensures fits { IfOk result (λ found. IfSome found IsFitting) }
@@ -51,20 +52,20 @@ pub(crate) fn read_asked(
     }
 }
 
-fn as_item(given: Option<Given>) -> Option<Asked>
+fn as_item(given: Option<LineItem>) -> Option<LineRequest>
     requires { IfSome given (λ g. IsFit g.item) }
     ensures asked { option_map asking_seen result
         ≡ option_map (λ g. an_item (given_seen g)) given }
     ensures fits { IfSome result IsFitting }
 {
-    Some(Asked::Item(given?))
+    Some(LineRequest::Item(given?))
 }
 
-fn as_event(entry: Option<Entry>) -> Option<Asked>
+fn as_event(entry: Option<Entry>) -> Option<LineRequest>
     ensures asked { option_map asking_seen result ≡ option_map an_event entry }
     ensures fits { IfSome result IsFitting }
 {
-    Some(Asked::Event(entry?))
+    Some(LineRequest::Event(entry?))
 }
 
 /// The entry that a line asks for, where it is one of the forms and names what the centre has.
@@ -156,7 +157,7 @@ fn read_say(alloc: Global, text: &[u8]) -> Result<Option<Entry>, AllocError>
 
 /// The call that words are, where they are one that may be said.
 fn read_said(alloc: Global, text: &[u8]) -> Result<Option<Call>, AllocError>
-    ensures { IfOk result (λ call. call ≡ call_in (words text.now)) }
+    ensures { IfOk result (λ call. call ≡ call_of_words (words text.now)) }
 {
     match read_call_words(alloc, text)? {
         Ok(call) => Ok(unless_odd(call)),

@@ -3,13 +3,14 @@ ghost use Rattle.std.specs.Prelude.{◌≡◌, ◌↔◌, ℕ, false, List, ◌+
 ghost use Rattle.tase_views.specs.declared.call.CallKind.{CallKind as AnyCall};
 ghost use Rattle.tase_views.specs.Setup.{Setup};
 ghost use Rattle.event_text.specs.CallWords.{SpellsCall};
-ghost use Rattle.tase_replay.specs.CallIn.{call_in, is_odd};
+ghost use Rattle.tase_map.specs.Asked.{is_odd};
+ghost use Rattle.tase_replay.specs.CallIn.{call_of_words};
 ghost use Rattle.tase_replay.specs.Play.{Played, done, played_of};
 
 /// The call of a `say` line is the one that its words spell; only an odd one isn't taken.
 pub fn calls_are_spelled()
     ensures { (words : List (List ℕ)) (call : AnyCall)
-        → (call_in words ≡ Some call) ↔ (SpellsCall words call × (is_odd call ≡ false)) }
+        → (call_of_words words ≡ Some call) ↔ (SpellsCall words call × (is_odd call ≡ false)) }
 {}
 
 /// The lines that are taken are the first of a scenario; all of them are where it ends as done.

@@ -6,11 +6,11 @@ ghost use Rattle.std.specs.HashMap.{get};
 ghost use Rattle.std.specs.Arc.{arc_value};
 ghost use Rattle.plain_text.specs.Numbers.{if_passes};
 ghost use Rattle.plain_text.specs.Words.{words};
-ghost use Rattle.tase_map.specs.Inputs.{Item, IsInput, piece as a_piece};
+ghost use Rattle.tase_map.specs.Inputs.{Item, IsLinkInput, piece as a_piece};
 ghost use Rattle.tase_map.specs.Turns.{Turn};
 ghost use Rattle.stack_assoc.specs.Arrivals.{Arrival};
 ghost use Rattle.bilateral.specs.Rows.{CentreRows};
-ghost use Rattle.tase_conn.specs.Places.{StandsAt, IsPlaced};
+ghost use Rattle.tase_conn.specs.Places.{ConnStandsAt, IsPlaced};
 ghost use Rattle.tase_conn.specs.Taken.{TakesIn};
 ghost use Rattle.tase_conn.specs.Talking.{IsResting};
 ghost use Rattle.conn_laws.specs.Serving.{Serves};
@@ -18,7 +18,7 @@ ghost use Rattle.conn_service.specs.Attending.{Attends};
 ghost use Rattle.tase_replay.specs.Links as spec;
 ghost use Rattle.tase_replay.specs.Links.{given_seen, item_seen, IsFit};
 ghost use Rattle.tase_replay.specs.Play.{Scene, first_scene};
-ghost use Rattle.tase_replay.specs.Standing.{Sits, Notes, Finds, Begun, IsAwaiting};
+ghost use Rattle.tase_replay.specs.Standing.{AreSeatsUsed, NotesUse, Finds, Begun, IsAwaiting};
 ghost use Rattle.tase_replay.specs.Standing.{noted_with, place_going};
 
 use crate::entries::read_seat;
@@ -52,7 +52,7 @@ pub(crate) enum LinkItem {
 
 /// An item that the link of a seat gives.
 #[derive(Drop)]
-pub(crate) struct Given {
+pub(crate) struct LineItem {
     pub(crate) who: u64,
     pub(crate) item: LinkItem,
 }
@@ -69,7 +69,7 @@ pub(crate) fn read_given(
     alloc: Global,
     verb: &[u8],
     text: &[u8],
-) -> Result<Option<Given>, AllocError>
+) -> Result<Option<LineItem>, AllocError>
     ensures given { IfOk result (λ found.
         option_map given_seen found ≡ spec.given_of (verb.now ∷ words text.now)) }
     ensures fits { IfOk result (λ found. IfSome found (λ given. IsFit given.item)) }
@@ -86,7 +86,7 @@ pub(crate) fn read_given(
 }
 
 /// `W HEX` behind `in`.
-fn read_piece_given(alloc: Global, text: &[u8]) -> Result<Option<Given>, AllocError>
+fn read_piece_given(alloc: Global, text: &[u8]) -> Result<Option<LineItem>, AllocError>
     ensures given { IfOk result (λ found.
         option_map given_seen found ≡ spec.piece_given (words text.now)) }
     ensures fits { IfOk result (λ found. IfSome found (λ given. IsFit given.item)) }
@@ -106,7 +106,7 @@ fn read_piece_given(alloc: Global, text: &[u8]) -> Result<Option<Given>, AllocEr
     let Some(item) = read_piece(alloc, digits)? else {
         return Ok(None);
     };
-    Ok(Some(Given { who, item }))
+    Ok(Some(LineItem { who, item }))
 }
 
 /// The 1 to 16,384 octets that pairs of hexadecimal digits in either case are.
@@ -137,7 +137,7 @@ fn if_piece(octets: Vec<u8>) -> Option<LinkItem>
 }
 
 /// `W` behind `idle` or `end`.
-fn read_item_given(text: &[u8], item: LinkItem) -> Option<Given>
+fn read_item_given(text: &[u8], item: LinkItem) -> Option<LineItem>
     requires { IsFit item }
     ensures given { option_map given_seen result
         ≡ spec.item_given (item_seen item) (words text.now) }
@@ -148,7 +148,7 @@ fn read_item_given(text: &[u8], item: LinkItem) -> Option<Given>
         return None;
     }
     let who = read_seat(seat)?;
-    Some(Given { who, item })
+    Some(LineItem { who, item })
 }
 
 /// What a seat is used for.
@@ -208,7 +208,7 @@ impl Seats {
 
     /// The seats that a node's history has are used already.
     pub(crate) fn of(alloc: Global, node: &Node) -> Result<Seats, AllocError>
-        ensures { IfOk result (λ seats. Sits node.now.setup.centre
+        ensures { IfOk result (λ seats. AreSeatsUsed node.now.setup.centre
             (first_scene (reverse node.now.history)) seats) }
     {
         let mut seats = Seats::new(alloc);
@@ -220,7 +220,7 @@ impl Seats {
 
     /// Notes that a line of its own uses a seat. Whether it may: a link doesn't use it.
     pub(crate) fn note_own(&mut self, who: u64) -> Result<bool, AllocError>
-        ensures { IfOk result (λ own. Notes who self.old own self.new) }
+        ensures { IfOk result (λ own. NotesUse who self.old own self.new) }
     {
         match use_of(&self.uses, who) {
             Some(Use::Own) => Ok(true),
@@ -240,8 +240,8 @@ impl Seats {
         centre: &Arc<Centre>,
         who: u64,
     ) -> Result<Option<usize>, AllocError>
-        requires sits { (scene : Scene) × Sits (arc_value centre.now) scene self.old }
-        ensures found { (scene : Scene) → Sits (arc_value centre.now) scene self.old
+        requires sits { (scene : Scene) × AreSeatsUsed (arc_value centre.now) scene self.old }
+        ensures found { (scene : Scene) → AreSeatsUsed (arc_value centre.now) scene self.old
             → IfOk result (λ place. Finds (arc_value centre.now) scene who self.new place) }
         ensures within { IfOk result (λ place.
             IfSome place (λ p. p < length self.new.conns.items)) }
@@ -283,8 +283,8 @@ fn take_item(conn: &mut Conn, item: &LinkItem) -> Result<(), AllocError>
     requires resting { IsResting conn.old }
     requires placed { IsPlaced conn.old }
     ensures stands { (rows : CentreRows) (items : List Item) (told : List Arrival)
-        (turns : List Turn) → StandsAt rows items told turns conn.old
-        → OnOk result (StandsAt rows (items ++ item_seen item.now ∷ []) told turns conn.new) }
+        (turns : List Turn) → ConnStandsAt rows items told turns conn.old
+        → OnOk result (ConnStandsAt rows (items ++ item_seen item.now ∷ []) told turns conn.new) }
     ensures same { OnOk result (TakesIn conn.old conn.new) }
 {
     match item {
@@ -313,7 +313,7 @@ pub(crate) fn receive(
         (item_seen item.now) conn.old }
     ensures received { (items : List Item) (said : List ℕ)
         → Serves node.old.setup.centre (reverse node.old.history) who items said None conn.old
-        → IsInput (items ++ item_seen item.now ∷ [])
+        → IsLinkInput (items ++ item_seen item.now ∷ [])
         → Attends node.old.setup (reverse node.old.history) who (items ++ item_seen item.now ∷ [])
         said conn.old result (reverse node.new.history) conn.new }
     ensures setup { node.new.setup ≡ node.old.setup }

@@ -1,17 +1,18 @@
 ghost use Rattle.std.specs.Prelude.{◌≡◌, ℕ, List, reverse, false};
 ghost use Rattle.tase_replay.specs.declared.playing.ReplayEnd.TheVariants.{Done};
 ghost use Rattle.std.specs.Str.Lines.{lines};
-ghost use Rattle.tase_replay.specs.Play.{play, play_alone, play_line, accepted, printed_of, Scene};
+ghost use Rattle.tase_replay.specs.Play.{play, play_alone, play_line, entry_meaning, printed_of};
+ghost use Rattle.tase_replay.specs.Play.{Scene};
 ghost use Rattle.tase_replay.specs.Play.{ends_there, first_scene, scene_by, scene_behind};
 ghost use Rattle.tase_replay.specs.Play.{received, is_linked, is_unfit, steps_by};
 ghost use Rattle.tase_replay.specs.Play.{steps_behind};
 ghost use Rattle.tase_replay.specs.AllSent.{AreSentSoFar, is_played_out};
 ghost use Rattle.tase_replay.specs.Links.{given_seen, IsFit};
-ghost use Rattle.tase_replay.specs.Standing.{IsScene, GoesOn, IsBehind, StaySent};
+ghost use Rattle.tase_replay.specs.Standing.{IsScene, LinkGoesOn, IsBehind, StaySent};
 ghost use Rattle.tase_replay.specs.Ends.{IsPlayed, IsShown, end_of_refusal};
 
-use crate::entries::{Asked, read_asked};
-use crate::links::{Given, Seats, receive};
+use crate::entries::{LineRequest, read_asked};
+use crate::links::{LineItem, Seats, receive};
 use crate::printing::{print_reply, print_sent};
 use node_core::Node;
 use outside::Sink;
@@ -118,8 +119,12 @@ fn play_line<K: Sink>(
         return ReplayEnd::Done;
     }
     match read_asked(alloc, node.centre(), line) {
-        Ok(Some(Asked::Event(entry))) => play_own(alloc, node, seats, entry, number, sink, text),
-        Ok(Some(Asked::Item(given))) => play_given(alloc, node, seats, given, number, sink, text),
+        Ok(Some(LineRequest::Event(entry))) => play_own(
+            alloc, node, seats, entry, number, sink, text,
+        ),
+        Ok(Some(LineRequest::Item(given))) => play_given(
+            alloc, node, seats, given, number, sink, text,
+        ),
         Ok(None) => ReplayEnd::BadLine { line: number },
         Err(_) => ReplayEnd::Memory,
     }
@@ -137,12 +142,12 @@ fn play_own<K: Sink>(
 ) -> ReplayEnd
     ensures played { (line : List ℕ) (scene : Scene)
         → IsScene node.old.setup.centre node.old.history scene seats.old
-        → IsPlayed (play_line line number (accepted node.old.setup scene entry) ends_there)
+        → IsPlayed (play_line line number (entry_meaning node.old.setup scene entry) ends_there)
         node.old.history node.new.history (K.told sink.old) (K.told sink.new) result }
     ensures stands { (scene : Scene)
         → IsScene node.old.setup.centre node.old.history scene seats.old → result ≡ Done
         → IsScene node.old.setup.centre node.new.history
-        (scene_by scene (accepted node.old.setup scene entry)) seats.new }
+        (scene_by scene (entry_meaning node.old.setup scene entry)) seats.new }
     ensures setup { node.new.setup ≡ node.old.setup }
 {
     match seats.note_own(entry.who) {
@@ -158,7 +163,7 @@ fn play_given<K: Sink>(
     alloc: Global,
     node: &mut Node,
     seats: &mut Seats,
-    given: Given,
+    given: LineItem,
     number: u64,
     sink: &mut K,
     text: &mut Vec<u8>,
@@ -196,27 +201,27 @@ fn serve<K: Sink>(
     alloc: Global,
     node: &mut Node,
     conn: &mut Conn,
-    given: &Given,
+    given: &LineItem,
     number: u64,
     sink: &mut K,
     text: &mut Vec<u8>,
 ) -> ReplayEnd
     requires fits { IsFit given.now.item }
     requires goes { (scene : Scene) × (scene.past ≡ reverse node.old.history)
-        × GoesOn node.old.setup.centre scene given.now.who conn.old }
+        × LinkGoesOn node.old.setup.centre scene given.now.who conn.old }
     ensures played { (line : List ℕ) (scene : Scene) → scene.past ≡ reverse node.old.history
-        → GoesOn node.old.setup.centre scene given.now.who conn.old
+        → LinkGoesOn node.old.setup.centre scene given.now.who conn.old
         → is_unfit given.now.who scene ≡ false
         → IsPlayed (play_line line number (received node.old.setup scene (given_seen given.now))
         ends_there) node.old.history node.new.history (K.told sink.old) (K.told sink.new) result }
     ensures stands { (scene : Scene) → scene.past ≡ reverse node.old.history
-        → GoesOn node.old.setup.centre scene given.now.who conn.old
+        → LinkGoesOn node.old.setup.centre scene given.now.who conn.old
         → is_unfit given.now.who scene ≡ false → result ≡ Done
         → IsBehind node.old.setup.centre scene (given_seen given.now)
         (scene_by scene (received node.old.setup scene (given_seen given.now)))
         node.new.history conn.new }
     ensures sent { (scene : Scene) → scene.past ≡ reverse node.old.history
-        → GoesOn node.old.setup.centre scene given.now.who conn.old
+        → LinkGoesOn node.old.setup.centre scene given.now.who conn.old
         → is_unfit given.now.who scene ≡ false → result ≡ Done
         → StaySent node.old.setup scene
         (scene_by scene (received node.old.setup scene (given_seen given.now)))
@@ -240,7 +245,7 @@ fn play_entry<K: Sink>(
 ) -> ReplayEnd
     ensures played { (line : List ℕ) (scene : Scene) → scene.past ≡ reverse node.old.history
         → is_linked entry.who scene ≡ false
-        → IsPlayed (play_line line number (accepted node.old.setup scene entry) ends_there)
+        → IsPlayed (play_line line number (entry_meaning node.old.setup scene entry) ends_there)
         node.old.history node.new.history (K.told sink.old) (K.told sink.new) result }
     ensures setup { node.new.setup ≡ node.old.setup }
 {

@@ -5,9 +5,9 @@ ghost use Rattle.bilateral.specs.Rows.{CentreRows};
 ghost use Rattle.stack_assoc.specs.Arrivals.{Arrival};
 ghost use Rattle.tase_map.specs.Inputs.{Item};
 ghost use Rattle.tase_map.specs.Turns.{Turn};
-ghost use Rattle.tase_conn.specs.Talking.{pending_of, next_of, end_in};
-ghost use Rattle.tase_conn.specs.Places.{StandsAt};
-ghost use Rattle.tase_conn.specs.Taken.{IsSent};
+ghost use Rattle.tase_conn.specs.Talking.{pending_of, next_pending, conn_end_in};
+ghost use Rattle.tase_conn.specs.Places.{ConnStandsAt};
+ghost use Rattle.tase_conn.specs.Taken.{SendsSome};
 ghost use Rattle.tase_replay.specs.declared.playing.ReplayEnd.TheVariants.{Done};
 ghost use Rattle.tase_replay.specs.Links.{line_of_out, line_of_end, end_text, fault_text};
 ghost use Rattle.tase_replay.specs.Play.{line_of_reply};
@@ -78,13 +78,13 @@ pub(crate) fn print_sent<K: Sink>(
     text: &mut Vec<u8>,
 ) -> ReplayEnd
     ensures shown { IsShown (line_of_out who (pending_of conn.old)
-        ++ line_of_end who (end_in conn.old.progress))
+        ++ line_of_end who (conn_end_in conn.old.progress))
         (K.told sink.old) (K.told sink.new) result }
     ensures sent { result ≡ Done → pending_of conn.new ≡ [] }
     ensures stands { (rows : CentreRows) (items : List Item) (heard : List Arrival)
-        (turns : List Turn) → StandsAt rows items heard turns conn.old
-        → StandsAt rows items heard turns conn.new }
-    ensures same { IsSent conn.old conn.new }
+        (turns : List Turn) → ConnStandsAt rows items heard turns conn.old
+        → ConnStandsAt rows items heard turns conn.new }
+    ensures same { SendsSome conn.old conn.new }
 {
     if spell_sent(text, who, conn).is_err() {
         return ReplayEnd::Memory;
@@ -95,12 +95,12 @@ pub(crate) fn print_sent<K: Sink>(
 /// Puts these lines into `text`, in place of what that held.
 fn spell_sent(text: &mut Vec<u8>, who: u64, conn: &mut Conn) -> Result<(), AllocError>
     ensures lines { OnOk result (text.new.items ≡ line_of_out who (pending_of conn.old)
-        ++ line_of_end who (end_in conn.old.progress)) }
+        ++ line_of_end who (conn_end_in conn.old.progress)) }
     ensures sent { OnOk result (pending_of conn.new ≡ []) }
     ensures stands { (rows : CentreRows) (items : List Item) (heard : List Arrival)
-        (turns : List Turn) → StandsAt rows items heard turns conn.old
-        → StandsAt rows items heard turns conn.new }
-    ensures same { IsSent conn.old conn.new }
+        (turns : List Turn) → ConnStandsAt rows items heard turns conn.old
+        → ConnStandsAt rows items heard turns conn.new }
+    ensures same { SendsSome conn.old conn.new }
 {
     text.clear();
     put_any_out(text, who, conn)?;
@@ -114,9 +114,9 @@ fn put_any_out(text: &mut Vec<u8>, who: u64, conn: &mut Conn) -> Result<(), Allo
         ≡ text.old.items ++ line_of_out who (pending_of conn.old)) }
     ensures sent { OnOk result (pending_of conn.new ≡ []) }
     ensures stands { (rows : CentreRows) (items : List Item) (heard : List Arrival)
-        (turns : List Turn) → StandsAt rows items heard turns conn.old
-        → StandsAt rows items heard turns conn.new }
-    ensures same { IsSent conn.old conn.new }
+        (turns : List Turn) → ConnStandsAt rows items heard turns conn.old
+        → ConnStandsAt rows items heard turns conn.new }
+    ensures same { SendsSome conn.old conn.new }
 {
     if conn.pending().is_empty() {
         return Ok(());
@@ -128,7 +128,7 @@ fn put_any_out(text: &mut Vec<u8>, who: u64, conn: &mut Conn) -> Result<(), Allo
 /// Appends the line of a connection's end, if it has ended.
 fn put_any_end(text: &mut Vec<u8>, who: u64, conn: &Conn) -> Result<(), AllocError>
     ensures { OnOk result (text.new.items
-        ≡ text.old.items ++ line_of_end who (end_in conn.now.progress)) }
+        ≡ text.old.items ++ line_of_end who (conn_end_in conn.now.progress)) }
 {
     match conn.ended() {
         Some(end) => put_ended(text, who, *end),
@@ -142,9 +142,9 @@ fn put_out(text: &mut Vec<u8>, who: u64, conn: &mut Conn) -> Result<(), AllocErr
         ++ 32 ∷ hex_text (pending_of conn.old) ++ 10 ∷ []) }
     ensures sent { OnOk result (pending_of conn.new ≡ []) }
     ensures stands { (rows : CentreRows) (items : List Item) (heard : List Arrival)
-        (turns : List Turn) → StandsAt rows items heard turns conn.old
-        → StandsAt rows items heard turns conn.new }
-    ensures same { IsSent conn.old conn.new }
+        (turns : List Turn) → ConnStandsAt rows items heard turns conn.old
+        → ConnStandsAt rows items heard turns conn.new }
+    ensures same { SendsSome conn.old conn.new }
 {
     text.extend_from_slice(b"out ")?;
     push_decimal(text, who)?;
@@ -161,9 +161,9 @@ fn put_all(text: &mut Vec<u8>, conn: &mut Conn) -> Result<(), AllocError>
         ≡ text.old.items ++ hex_text (pending_of conn.old)) }
     ensures sent { OnOk result (pending_of conn.new ≡ []) }
     ensures stands { (rows : CentreRows) (items : List Item) (heard : List Arrival)
-        (turns : List Turn) → StandsAt rows items heard turns conn.old
-        → StandsAt rows items heard turns conn.new }
-    ensures same { IsSent conn.old conn.new }
+        (turns : List Turn) → ConnStandsAt rows items heard turns conn.old
+        → ConnStandsAt rows items heard turns conn.new }
+    ensures same { SendsSome conn.old conn.new }
 {
     while !conn.pending().is_empty() {
         put_pending(text, conn)?;
@@ -173,13 +173,14 @@ fn put_all(text: &mut Vec<u8>, conn: &mut Conn) -> Result<(), AllocError>
 
 /// Appends the octets that are to be sent next; they count as sent then.
 fn put_pending(text: &mut Vec<u8>, conn: &mut Conn) -> Result<(), AllocError>
-    ensures digits { OnOk result (text.new.items ≡ text.old.items ++ hex_text (next_of conn.old)) }
+    ensures digits { OnOk result (text.new.items
+        ≡ text.old.items ++ hex_text (next_pending conn.old)) }
     ensures sent { OnOk result (pending_of conn.new
-        ≡ drop (length (next_of conn.old)) (pending_of conn.old)) }
+        ≡ drop (length (next_pending conn.old)) (pending_of conn.old)) }
     ensures stands { (rows : CentreRows) (items : List Item) (heard : List Arrival)
-        (turns : List Turn) → StandsAt rows items heard turns conn.old
-        → StandsAt rows items heard turns conn.new }
-    ensures same { IsSent conn.old conn.new }
+        (turns : List Turn) → ConnStandsAt rows items heard turns conn.old
+        → ConnStandsAt rows items heard turns conn.new }
+    ensures same { SendsSome conn.old conn.new }
 {
     let octets = conn.pending();
     let count = octets.len();

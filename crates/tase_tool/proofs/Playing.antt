@@ -16,7 +16,7 @@ use Rattle.command_io.specs.declared.status.Status.TheVariants.{Memory}
 use Rattle.command_io.specs.declared.input.Refusal.TheVariants.{BadLine}
 use Rattle.command_io.specs.Saying.{Said, prints, refusal_text, full_text}
 use Rattle.command_io.specs.Runs.{TellsSaid}
-use Rattle.tase_replay.specs.Play.{Step, Played, End, done, bad_line, history_full, printed_in}
+use Rattle.tase_replay.specs.Play.{Step, Played, PlayEnd, done, bad_line, history_full, printed_in}
 use Rattle.tase_replay.specs.Play.{shown_of, steps_of}
 use Rattle.tase_replay.specs.Ends.{IsPlayed}
 use Rattle.tase_replay.specs.declared.playing.ReplayEnd.{ReplayEnd}
@@ -26,13 +26,13 @@ use Rattle.tase_tool.specs.Saying.{said_at, played_said}
 use Rattle.tase_tool.specs.Playing.{EndsPlay}
 
 -- nothing but standard output is written
-pub plays_alone : (shown : List ℕ) (end : End) → (said_at shown end).files ≡ []
+pub plays_alone : (shown : List ℕ) (end : PlayEnd) → (said_at shown end).files ≡ []
 plays_alone shown done = refl
 plays_alone shown (bad_line line) = refl
 plays_alone shown (history_full weight limit) = refl
 
 -- a play is no answer to words that are no command
-pub plays_command : (shown : List ℕ) (end : End) (k l : SinkTold) (status : Status)
+pub plays_command : (shown : List ℕ) (end : PlayEnd) (k l : SinkTold) (status : Status)
     → TellsSaid (said_at shown end) k l status → status ≢ Usage
 plays_command shown done k l Done tells = λ same. absurd cc
 plays_command shown done k l Usage tells = absurd (let e = tells.0 in cc)
@@ -71,7 +71,7 @@ Tells-after answer k m l shown refusal Memory all tells =
     AppendsPart-append k m l shown refusal false all tells
 
 -- a front part of what is shown is one of what is said
-said_front : (k l : SinkTold) (shown : List ℕ) (end : End) (failed : Bool)
+said_front : (k l : SinkTold) (shown : List ℕ) (end : PlayEnd) (failed : Bool)
     → AppendsPart k l shown failed → AppendsPart k l (said_at shown end).text failed
 said_front k l shown done failed part = part
 said_front k l shown (bad_line line) failed part =

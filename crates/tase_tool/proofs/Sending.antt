@@ -20,7 +20,7 @@ use Rattle.tase_views.specs.declared.event.Entry.{Entry}
 use Rattle.node_core.specs.NodeState.{NodeState}
 use Rattle.tase_replay.specs.declared.playing.ReplayEnd.{ReplayEnd}
 use Rattle.tase_replay.specs.declared.playing.ReplayEnd.TheVariants as plays
-use Rattle.tase_replay.specs.Play.{Taken, Played}
+use Rattle.tase_replay.specs.Play.{TakenLine, Played}
 use Rattle.tase_replay.specs.AllSent.{AreSentSoFar, AreSentOver, is_played_out}
 use Rattle.tase_tool.specs.Playing.{EndsPlay}
 use Rattle.tase_tool.specs.Sent.{is_told, SendsWithin, OnTold}
@@ -41,8 +41,8 @@ pub sent_all : (setup : Setup) (history : List Entry) (played : Played) (whole :
     → AreSentSoFar setup history played whole → whole ≡ true
     → AreSentOver setup history played.taken
 sent_all setup history played whole s e =
-    subst (λ (taken : List Taken). AreSentOver setup history taken)
-    (sym (s.lines ∙ ap (λ (others : List Taken). s.taken ++ others) (s.all e)
+    subst (λ (taken : List TakenLine). AreSentOver setup history taken)
+    (sym (s.lines ∙ ap (λ (others : List TakenLine). s.taken ++ others) (s.all e)
     ∙ append-nil s.taken)) s.sent
 
 -- of a text that was read

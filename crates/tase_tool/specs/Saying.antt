@@ -13,7 +13,7 @@ use Rattle.bilateral.specs.Rows.{CentreRows}
 use Rattle.bilateral.specs.Reading.{centre_in}
 use Rattle.bilateral.specs.declared.fault.TableFault.{TableFault}
 use Rattle.tase_views.specs.Setup.{Setup}
-use Rattle.tase_replay.specs.Play.{Played, End, done, bad_line, history_full, shown_of}
+use Rattle.tase_replay.specs.Play.{Played, PlayEnd, done, bad_line, history_full, shown_of}
 use Rattle.tase_replay.specs.Play.{scenario_of}
 use Rattle.tase_tool.specs.Words.{Task, replays, lists_stream, decodes_pdu}
 use Rattle.tase_tool.specs.Decoding.{capture_said}
@@ -37,7 +37,7 @@ tables_read text =
 
 -- all that a scenario shows; at its first bad line, or where the history is full, what the lines
 -- before it show, and the refusal
-abbrev pub said_at : List ℕ → End → Said
+abbrev pub said_at : List ℕ → PlayEnd → Said
 said_at shown done = prints Done shown
 said_at shown (bad_line line) =
     prints Input (shown ++ refusal_text (codes "scenario") (BadLine line))

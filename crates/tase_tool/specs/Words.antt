@@ -37,7 +37,7 @@ is_file_name (first ∷ more) = not (first == 45) || bytes_eq more []
 -- `replay TABLES SCENARIO`
 abbrev pub is_replay : List ℕ → List ℕ → List ℕ → Bool
 is_replay verb tables scenario =
-    bytes_eq verb (codes "replay") && is_name tables && is_name scenario
+    bytes_eq verb (codes "replay") && is_file_name tables && is_file_name scenario
 
 -- `--limit N`: from 1 to 268,435,456
 abbrev pub limit_word_in : List ℕ → List ℕ → Option ℕ
@@ -47,12 +47,12 @@ limit_word_in option word = if bytes_eq option (codes "--limit")
 
 -- `decode IN`
 abbrev pub is_decode : List ℕ → List ℕ → Bool
-is_decode verb capture = bytes_eq verb (codes "decode") && is_name capture
+is_decode verb capture = bytes_eq verb (codes "decode") && is_file_name capture
 
 -- `decode --pdu IN`
 abbrev pub is_decode_pdu : List ℕ → List ℕ → List ℕ → Bool
 is_decode_pdu verb option capture =
-    bytes_eq verb (codes "decode") && bytes_eq option (codes "--pdu") && is_name capture
+    bytes_eq verb (codes "decode") && bytes_eq option (codes "--pdu") && is_file_name capture
 
 -- no other words are a command
 abbrev pub task_in : List (List ℕ) → Option Task

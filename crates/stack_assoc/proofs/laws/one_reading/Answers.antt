@@ -1,8 +1,8 @@
-use Rattle.stack_assoc.proofs.StreamLaws.{always, tells_once, stops_once, never_both}
+use Rattle.stack_assoc.proofs.StreamLaws.{tells_or_stops, tells_once, stops_once, never_both}
 use Rattle.stack_assoc.proofs.laws.one_reading.Goals as goal
 
 pub returns-clause-always : goal.returns-clause-always
-returns-clause-always c = always c.messages_have_one_reading.ensures
+returns-clause-always c = tells_or_stops c.messages_have_one_reading.ensures
 
 pub returns-clause-tells : goal.returns-clause-tells
 returns-clause-tells c = tells_once c.messages_have_one_reading.ensures

@@ -3,7 +3,7 @@ use Rattle.std.specs.Arc.{arc_value}
 use Rattle.bilateral.specs.Rows.{CentreRows}
 use Rattle.tase_replay.specs.Links.{given_seen}
 use Rattle.tase_replay.specs.Play.{received, scene_by}
-use Rattle.tase_replay.specs.Standing.{Sits}
+use Rattle.tase_replay.specs.Standing.{AreSeatsUsed}
 use Rattle.tase_replay.proofs.Entering.{IsPlayed-bad}
 use Rattle.tase_replay.proofs.Seating.{link_sits}
 use Rattle.tase_replay.proofs.Own.{received_bad, goes_there, found_so, none_so}
@@ -15,7 +15,7 @@ place_of-requires g c =
     record {
       sits = (
         a.0,
-        subst (λ (rows : CentreRows). Sits rows a.0 c.args.seats.now) (sym c.shared_centre.ensures)
+        subst (λ (rows : CentreRows). AreSeatsUsed rows a.0 c.args.seats.now) (sym c.shared_centre.ensures)
             a.1.sits,
       );
     }
@@ -24,7 +24,7 @@ pub serve-requires : goal.serve-requires
 serve-requires g c =
     let node = c.args.node.now in
     let a = c.requires.stands in
-    let sits = subst (λ (rows : CentreRows). Sits rows a.0 c.args.seats.now)
+    let sits = subst (λ (rows : CentreRows). AreSeatsUsed rows a.0 c.args.seats.now)
     (sym c.shared_centre.ensures) a.1.sits in
     let awaits = found_so node.setup.centre (arc_value c.shared_centre.result.now) a.0
     c.args.given.who c.place_of.new.self _ c.in-Ok-Some.place c.shared_centre.ensures
@@ -37,7 +37,7 @@ serve-requires g c =
 pub returns-in-Ok-Some-clause-played : goal.returns-in-Ok-Some-clause-played
 returns-in-Ok-Some-clause-played g c = λ line scene s.
     let node = c.args.node.now in
-    let sits = subst (λ (rows : CentreRows). Sits rows scene c.args.seats.now)
+    let sits = subst (λ (rows : CentreRows). AreSeatsUsed rows scene c.args.seats.now)
     (sym c.shared_centre.ensures) s.sits in
     let awaits = found_so node.setup.centre (arc_value c.shared_centre.result.now) scene
     c.args.given.who c.place_of.new.self _ c.in-Ok-Some.place c.shared_centre.ensures
@@ -51,7 +51,7 @@ pub returns-in-Ok-Some-clause-stands : goal.returns-in-Ok-Some-clause-stands
 returns-in-Ok-Some-clause-stands g c = λ scene s done.
     let node = c.args.node.now in
     let given = given_seen c.args.given in
-    let sits = subst (λ (rows : CentreRows). Sits rows scene c.args.seats.now)
+    let sits = subst (λ (rows : CentreRows). AreSeatsUsed rows scene c.args.seats.now)
     (sym c.shared_centre.ensures) s.sits in
     let awaits = found_so node.setup.centre (arc_value c.shared_centre.result.now) scene
     c.args.given.who c.place_of.new.self _ c.in-Ok-Some.place c.shared_centre.ensures
@@ -66,7 +66,7 @@ returns-in-Ok-Some-clause-stands g c = λ scene s done.
 pub returns-in-Ok-Some-clause-sent : goal.returns-in-Ok-Some-clause-sent
 returns-in-Ok-Some-clause-sent g c = λ scene s done.
     let node = c.args.node.now in
-    let sits = subst (λ (rows : CentreRows). Sits rows scene c.args.seats.now)
+    let sits = subst (λ (rows : CentreRows). AreSeatsUsed rows scene c.args.seats.now)
     (sym c.shared_centre.ensures) s.sits in
     let awaits = found_so node.setup.centre (arc_value c.shared_centre.result.now) scene
     c.args.given.who c.place_of.new.self _ c.in-Ok-Some.place c.shared_centre.ensures
@@ -79,7 +79,7 @@ returns-in-Ok-Some-clause-sent g c = λ scene s done.
 pub returns-in-Ok-None-clause-played : goal.returns-in-Ok-None-clause-played
 returns-in-Ok-None-clause-played g c = λ line scene s.
     let node = c.args.node.now in
-    let sits = subst (λ (rows : CentreRows). Sits rows scene c.args.seats.now)
+    let sits = subst (λ (rows : CentreRows). AreSeatsUsed rows scene c.args.seats.now)
     (sym c.shared_centre.ensures) s.sits in
     IsPlayed-bad line c.args.number (received node.setup scene (given_seen c.args.given))
     node.history (g.K.Sink.told c.args.sink.now)

@@ -1,10 +1,10 @@
 use Rattle.std.proofs.Common.{◌≡◌, true, false, sym, ap, ◌∙◌, subst, Option, Some, None}
 use Rattle.std.specs.Prelude.{IfSome}
 use Rattle.plain_text.specs.Lines.{is_skipped}
-use Rattle.tase_replay.specs.declared.entries.Asked.{Asked}
-use Rattle.tase_replay.specs.declared.entries.Asked.TheVariants as askeds
+use Rattle.tase_replay.specs.declared.entries.LineRequest.{LineRequest}
+use Rattle.tase_replay.specs.declared.entries.LineRequest.TheVariants as askeds
 use Rattle.tase_replay.specs.Links.{an_event, an_item, given_seen, IsFitting}
-use Rattle.tase_replay.specs.Play.{line_in}
+use Rattle.tase_replay.specs.Play.{line_meaning}
 use Rattle.tase_replay.proofs.Entering.{IsPlayed-skipped, IsPlayed-bad, IsPlayed-none, line_in-skipped}
 use Rattle.tase_replay.proofs.Entering.{line_in-read}
 use Rattle.tase_replay.proofs.Own.{read_played, read_scene, skipped_scene, asked_so, unasked_so}
@@ -14,16 +14,16 @@ use Rattle.tase_replay.proofs.playing.play_line.Goals as goal
 pub play_given-requires : goal.play_given-requires
 play_given-requires g c =
     let is = c.in-Ok-Some-Item.field-0-is
-    ∙ ap (λ (a : Asked). Some a) c.in-Ok-Some-Item.field-0-0-is in
+    ∙ ap (λ (a : LineRequest). Some a) c.in-Ok-Some-Item.field-0-0-is in
     record {
-      fits = subst (λ (o : Option Asked). IfSome o IsFitting) is c.in-Ok-Some-Item.ensures.fits;
+      fits = subst (λ (o : Option LineRequest). IfSome o IsFitting) is c.in-Ok-Some-Item.ensures.fits;
       stands = c.requires;
     }
 
 pub returns-then-is_skipped-clause-played : goal.returns-then-is_skipped-clause-played
 returns-then-is_skipped-clause-played g c = λ scene s.
     IsPlayed-skipped c.args.line.now c.args.number scene
-    (line_in c.args.node.now.setup scene c.args.line.now) c.args.node.now.history
+    (line_meaning c.args.node.now.setup scene c.args.line.now) c.args.node.now.history
     (g.K.Sink.told c.args.sink.now)
     (line_in-skipped c.args.node.now.setup c.args.line.now scene
     (sym c.is_skipped.ensures ∙ c.if-is_skipped.true))
@@ -42,7 +42,7 @@ pub returns-in-Ok-Some-Event-clause-played : goal.returns-in-Ok-Some-Event-claus
 returns-in-Ok-Some-Event-clause-played g c = λ scene s.
     let node = c.args.node.now in
     let is = c.in-Ok-Some-Event.field-0-is
-    ∙ ap (λ (a : Asked). Some a) c.in-Ok-Some-Event.field-0-0-is in
+    ∙ ap (λ (a : LineRequest). Some a) c.in-Ok-Some-Event.field-0-0-is in
     let asked = asked_so node.setup.centre c.centre.result.now c.args.line.now _
     (askeds.Event c.in-Ok-Some-Event.entry) c.centre.ensures is
     c.in-Ok-Some-Event.ensures.asked in
@@ -57,7 +57,7 @@ pub returns-in-Ok-Some-Event-clause-stands : goal.returns-in-Ok-Some-Event-claus
 returns-in-Ok-Some-Event-clause-stands g c = λ scene s done.
     let node = c.args.node.now in
     let is = c.in-Ok-Some-Event.field-0-is
-    ∙ ap (λ (a : Asked). Some a) c.in-Ok-Some-Event.field-0-0-is in
+    ∙ ap (λ (a : LineRequest). Some a) c.in-Ok-Some-Event.field-0-0-is in
     let asked = asked_so node.setup.centre c.centre.result.now c.args.line.now _
     (askeds.Event c.in-Ok-Some-Event.entry) c.centre.ensures is
     c.in-Ok-Some-Event.ensures.asked in
@@ -71,7 +71,7 @@ pub returns-in-Ok-Some-Event-clause-sent : goal.returns-in-Ok-Some-Event-clause-
 returns-in-Ok-Some-Event-clause-sent g c = λ scene s done.
     let node = c.args.node.now in
     let is = c.in-Ok-Some-Event.field-0-is
-    ∙ ap (λ (a : Asked). Some a) c.in-Ok-Some-Event.field-0-0-is in
+    ∙ ap (λ (a : LineRequest). Some a) c.in-Ok-Some-Event.field-0-0-is in
     let asked = asked_so node.setup.centre c.centre.result.now c.args.line.now _
     (askeds.Event c.in-Ok-Some-Event.entry) c.centre.ensures is
     c.in-Ok-Some-Event.ensures.asked in
@@ -85,7 +85,7 @@ pub returns-in-Ok-Some-Item-clause-played : goal.returns-in-Ok-Some-Item-clause-
 returns-in-Ok-Some-Item-clause-played g c = λ scene s.
     let node = c.args.node.now in
     let is = c.in-Ok-Some-Item.field-0-is
-    ∙ ap (λ (a : Asked). Some a) c.in-Ok-Some-Item.field-0-0-is in
+    ∙ ap (λ (a : LineRequest). Some a) c.in-Ok-Some-Item.field-0-0-is in
     let asked = asked_so node.setup.centre c.centre.result.now c.args.line.now _
     (askeds.Item c.in-Ok-Some-Item.given) c.centre.ensures is
     c.in-Ok-Some-Item.ensures.asked in
@@ -101,7 +101,7 @@ pub returns-in-Ok-Some-Item-clause-stands : goal.returns-in-Ok-Some-Item-clause-
 returns-in-Ok-Some-Item-clause-stands g c = λ scene s done.
     let node = c.args.node.now in
     let is = c.in-Ok-Some-Item.field-0-is
-    ∙ ap (λ (a : Asked). Some a) c.in-Ok-Some-Item.field-0-0-is in
+    ∙ ap (λ (a : LineRequest). Some a) c.in-Ok-Some-Item.field-0-0-is in
     let asked = asked_so node.setup.centre c.centre.result.now c.args.line.now _
     (askeds.Item c.in-Ok-Some-Item.given) c.centre.ensures is
     c.in-Ok-Some-Item.ensures.asked in
@@ -115,7 +115,7 @@ pub returns-in-Ok-Some-Item-clause-sent : goal.returns-in-Ok-Some-Item-clause-se
 returns-in-Ok-Some-Item-clause-sent g c = λ scene s done.
     let node = c.args.node.now in
     let is = c.in-Ok-Some-Item.field-0-is
-    ∙ ap (λ (a : Asked). Some a) c.in-Ok-Some-Item.field-0-0-is in
+    ∙ ap (λ (a : LineRequest). Some a) c.in-Ok-Some-Item.field-0-0-is in
     let asked = asked_so node.setup.centre c.centre.result.now c.args.line.now _
     (askeds.Item c.in-Ok-Some-Item.given) c.centre.ensures is
     c.in-Ok-Some-Item.ensures.asked in
@@ -132,7 +132,7 @@ returns-in-Ok-None-clause-played g c = λ scene s.
     c.centre.ensures c.in-Ok-None.field-0-is c.in-Ok-None.ensures.asked in
     let words : is_skipped c.args.line.now ≡ false = sym c.is_skipped.ensures
     ∙ c.if-is_skipped.false in
-    IsPlayed-bad c.args.line.now c.args.number (line_in node.setup scene c.args.line.now)
+    IsPlayed-bad c.args.line.now c.args.number (line_meaning node.setup scene c.args.line.now)
     node.history (g.K.Sink.told c.args.sink.now)
     (line_in-read node.setup c.args.line.now scene None words unasked)
 
@@ -145,5 +145,5 @@ returns-in-Ok-None-clause-sent g c = λ scene s done. absurd cc
 pub returns-in-Err-clause-played : goal.returns-in-Err-clause-played
 returns-in-Err-clause-played g c = λ scene s.
     let node = c.args.node.now in
-    IsPlayed-none c.args.line.now c.args.number (line_in node.setup scene c.args.line.now)
+    IsPlayed-none c.args.line.now c.args.number (line_meaning node.setup scene c.args.line.now)
     node.history (g.K.Sink.told c.args.sink.now)

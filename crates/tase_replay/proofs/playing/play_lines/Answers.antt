@@ -2,7 +2,7 @@ use Rattle.std.proofs.Common.{◌+◌, reverse, arith, ◌∙◌, refl, subst}
 use Rattle.std.specs.Str.Lines.{lines}
 use Rattle.tase_views.specs.Setup.{Setup}
 use Rattle.tase_replay.specs.AllSent.{AreSentSoFar, is_played_out}
-use Rattle.tase_replay.specs.Play.{Scene, play, play_line, line_in, first_scene, scene_behind}
+use Rattle.tase_replay.specs.Play.{Scene, play, play_line, line_meaning, first_scene, scene_behind}
 use Rattle.tase_replay.proofs.Reached.{Reached-none, Reached-last}
 use Rattle.tase_replay.proofs.SoFar.{SentSoFar-none, SentSoFar-more, SentSoFar-end, untaken}
 use Rattle.tase_replay.proofs.playing.play_lines.Goals as goal
@@ -34,7 +34,7 @@ returns-in_default-play_line g c =
     (c.loop-line.number + 1) in
     let all = play first.setup (lines c.args.scenario.now) (first_scene (reverse first.history)) 1
     in
-    let meaning = line_in node.setup scene c.in-Some.line.now in
+    let meaning = line_meaning node.setup scene c.in-Some.line.now in
     let so_far = rw c.in-Some.ensures.some at c.loop-line.invariant.1 in
     let played = c.play_line.ensures.played scene c.loop-line.invariant.2 in
     record {
@@ -66,7 +66,7 @@ loop-line-preserved g c =
     (c.loop-line.number + 1) in
     let so_far = rw c.in-Some.ensures.some at c.loop-line.invariant.1 in
     let further = SentSoFar-more node.setup c.in-Some.line.now c.loop-line.number scene
-    (line_in node.setup scene c.in-Some.line.now) rest
+    (line_meaning node.setup scene c.in-Some.line.now) rest
     (play first.setup (lines c.args.scenario.now) (first_scene (reverse first.history)) 1)
     first.history node.history c.play_line.new.node.history
     (g.K.Sink.told c.args.sink.now) (g.K.Sink.told c.loop-line.sink)

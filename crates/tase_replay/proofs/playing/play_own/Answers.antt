@@ -1,6 +1,6 @@
 use Rattle.std.proofs.Common.{Bool, subst, []}
-use Rattle.tase_replay.specs.Play.{accepted, play_line, ends_there}
-use Rattle.tase_replay.specs.Standing.{Notes}
+use Rattle.tase_replay.specs.Play.{entry_meaning, play_line, ends_there}
+use Rattle.tase_replay.specs.Standing.{NotesUse}
 use Rattle.tase_replay.specs.Ends.{IsPlayed}
 use Rattle.tase_replay.specs.declared.playing.ReplayEnd.{ReplayEnd}
 use Rattle.tase_replay.proofs.Entering.{IsPlayed-bad, IsPlayed-none, accepted_bad}
@@ -11,7 +11,7 @@ use Rattle.tase_replay.proofs.playing.play_own.Goals as goal
 pub returns-in-Ok-true-clause-played : goal.returns-in-Ok-true-clause-played
 returns-in-Ok-true-clause-played g c = λ line scene s.
     let node = c.args.node.now in
-    let notes = subst (λ (b : Bool). Notes c.args.entry.who c.args.seats.now b c.note_own.new.self)
+    let notes = subst (λ (b : Bool). NotesUse c.args.entry.who c.args.seats.now b c.note_own.new.self)
     c.in-Ok-true.field-0-test c.in-Ok-true.ensures in
     c.play_entry.ensures.played line scene s.past_is
     (own_unlinked node.setup.centre scene c.args.entry.who c.args.seats.now c.note_own.new.self
@@ -20,13 +20,13 @@ returns-in-Ok-true-clause-played g c = λ line scene s.
 pub returns-in-Ok-true-clause-stands : goal.returns-in-Ok-true-clause-stands
 returns-in-Ok-true-clause-stands g c = λ scene s done.
     let node = c.args.node.now in
-    let notes = subst (λ (b : Bool). Notes c.args.entry.who c.args.seats.now b c.note_own.new.self)
+    let notes = subst (λ (b : Bool). NotesUse c.args.entry.who c.args.seats.now b c.note_own.new.self)
     c.in-Ok-true.field-0-test c.in-Ok-true.ensures in
     own_scene node.setup [] c.args.number scene c.args.entry node.history
     c.play_entry.new.node.history (g.K.Sink.told c.args.sink.now)
     (g.K.Sink.told c.play_entry.new.sink) c.args.seats.now c.note_own.new.self s notes
     (subst (λ (end : ReplayEnd). IsPlayed (play_line [] c.args.number
-    (accepted node.setup scene c.args.entry) ends_there) node.history
+    (entry_meaning node.setup scene c.args.entry) ends_there) node.history
     c.play_entry.new.node.history (g.K.Sink.told c.args.sink.now)
     (g.K.Sink.told c.play_entry.new.sink) end) done
     (c.play_entry.ensures.played [] scene s.past_is
@@ -36,9 +36,9 @@ returns-in-Ok-true-clause-stands g c = λ scene s done.
 pub returns-in-Ok-false-clause-played : goal.returns-in-Ok-false-clause-played
 returns-in-Ok-false-clause-played g c = λ line scene s.
     let node = c.args.node.now in
-    let notes = subst (λ (b : Bool). Notes c.args.entry.who c.args.seats.now b c.note_own.new.self)
+    let notes = subst (λ (b : Bool). NotesUse c.args.entry.who c.args.seats.now b c.note_own.new.self)
     c.in-Ok-false.field-0-test c.in-Ok-false.ensures in
-    IsPlayed-bad line c.args.number (accepted node.setup scene c.args.entry) node.history
+    IsPlayed-bad line c.args.number (entry_meaning node.setup scene c.args.entry) node.history
     (g.K.Sink.told c.args.sink.now)
     (accepted_bad node.setup scene c.args.entry (link_linked node.setup.centre scene
     c.args.entry.who c.args.seats.now c.note_own.new.self notes s.sits))
@@ -48,5 +48,5 @@ returns-in-Ok-false-clause-stands g c = λ scene s done. absurd cc
 
 pub returns-in-Err-clause-played : goal.returns-in-Err-clause-played
 returns-in-Err-clause-played g c = λ line scene s.
-    IsPlayed-none line c.args.number (accepted c.args.node.now.setup scene c.args.entry)
+    IsPlayed-none line c.args.number (entry_meaning c.args.node.now.setup scene c.args.entry)
     c.args.node.now.history (g.K.Sink.told c.args.sink.now)

@@ -5,8 +5,8 @@ use Rattle.stack_assoc.specs.Arrivals.{Arrival}
 use Rattle.tase_map.specs.Inputs.{Item}
 use Rattle.tase_map.specs.Turns.{Turn}
 use Rattle.tase_conn.specs.Talking.{pending_of}
-use Rattle.tase_conn.specs.Places.{StandsAt}
-use Rattle.tase_conn.specs.Taken.{IsSent}
+use Rattle.tase_conn.specs.Places.{ConnStandsAt}
+use Rattle.tase_conn.specs.Taken.{SendsSome}
 use Rattle.tase_replay.proofs.printing.put_all.Given as goal
 
 abbrev pub invariant-loop-text : goal.invariant-loop-text
@@ -14,9 +14,9 @@ invariant-loop-text l = record {
   digits : l.text.items ++ hex_text (pending_of l.conn)
       ≡ l.fn.text.items ++ hex_text (pending_of l.fn.conn);
   stands : (rows : CentreRows) (items : List Item) (heard : List Arrival)
-      (turns : List Turn) → StandsAt rows items heard turns l.fn.conn
-      → StandsAt rows items heard turns l.conn;
-  same : IsSent l.fn.conn l.conn;
+      (turns : List Turn) → ConnStandsAt rows items heard turns l.fn.conn
+      → ConnStandsAt rows items heard turns l.conn;
+  same : SendsSome l.fn.conn l.conn;
 }
 
 abbrev pub decreases-loop-text : goal.decreases-loop-text

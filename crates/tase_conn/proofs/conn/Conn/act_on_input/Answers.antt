@@ -8,7 +8,7 @@ use Rattle.tase_conn.specs.declared.stage.ConnEnd.TheVariants as conn_ends
 use Rattle.tase_conn.specs.declared.stage.Progress.TheVariants as progresses
 use Rattle.tase_conn.specs.declared.stage.Step.{Step}
 use Rattle.tase_conn.specs.declared.stage.Step.TheVariants as steps
-use Rattle.tase_conn.specs.Leaving.{Adds, finished}
+use Rattle.tase_conn.specs.Leaving.{AddsAnswer, finished}
 use Rattle.tase_conn.specs.Wanting.{refusal_said}
 use Rattle.tase_conn.specs.Acting.{ActsOn}
 use Rattle.tase_conn.proofs.Stepping.{requests_badly, declines_bad, if_ok}
@@ -17,7 +17,7 @@ use Rattle.tase_conn.proofs.conn.Conn.act_on_input.Goals as goal
 pub returns-in-BadOffer-clause-ok : goal.returns-in-BadOffer-clause-ok
 returns-in-BadOffer-clause-ok c =
     let old = c.args.self.now in
-    rw c.in-BadOffer.is (if_ok Step AllocError (Adds (refusal_said old.course.setup)
+    rw c.in-BadOffer.is (if_ok Step AllocError (AddsAnswer (refusal_said old.course.setup)
     (finished (progresses.Ended conn_ends.Declined) old) c.decline.new.self)
     (λ step. step ≡ steps.Ends)
     (λ step. ActsOn (comings.Input inputs.BadOffer) old step c.decline.new.self) c.decline.result

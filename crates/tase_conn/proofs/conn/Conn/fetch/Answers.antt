@@ -3,7 +3,7 @@ use Rattle.std.proofs.lemmas.Result.{err_from_is_err_and}
 use Rattle.stack_messages.specs.declared.fault.StackFault.{StackFault}
 use Rattle.stack_assoc.specs.declared.input.StackIn.{StackIn}
 use Rattle.stack_assoc.specs.Arrivals.{called}
-use Rattle.tase_map.specs.Inputs.{text_of}
+use Rattle.tase_map.specs.Inputs.{text_given}
 use Rattle.tase_conn.specs.contracts.conn.Conn.{the_view}
 use Rattle.tase_conn.proofs.Fetched.{fetched_by, passes_fetched, lighter_fetched}
 use Rattle.tase_conn.proofs.Fetched.{stands_again}
@@ -33,7 +33,7 @@ returns-clause-ok c = λ rows items told turns s.
     passes_fetched rows items told turns c.in_ok-input.field-0 (the_view c.self.inside)
     c.args.self.now c.match-branch-2.self c.next.new.self c.next.new.out.items c.self.view_is
     c.requires.idle c.requires.empty c.requires.more s c.in_ok-input.ensures.broken
-    (λ stands. c.in_ok-input.ensures.ok called (text_of items) told stands) (fetched_now c)
+    (λ stands. c.in_ok-input.ensures.ok called (text_given items) told stands) (fetched_now c)
 
 pub returns-clause-shorter : goal.returns-clause-shorter
 returns-clause-shorter c =
@@ -47,7 +47,7 @@ returns-in_err-input-clause-err c = λ rows items told turns s.
     let view = the_view c.self.inside in
     rw p.1 (stands_again rows items told turns view c.args.self.now _ c.next.new.self
     c.self.view_is c.requires.idle c.requires.empty c.requires.more s
-    (λ stands. c.in_err-input.ensures.kept called (text_of items) told stands)
+    (λ stands. c.in_err-input.ensures.kept called (text_given items) told stands)
     c.in_err-input.ensures.stays c.in_err-input.ensures.state
     (ap (λ (out : List ℕ). record view { course = c.next.new.self; out = out })
     c.in_err-input.ensures.out))

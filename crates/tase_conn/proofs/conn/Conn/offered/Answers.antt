@@ -7,7 +7,7 @@ use Rattle.tase_conn.specs.declared.stage.ConnEnd.TheVariants as conn_ends
 use Rattle.tase_conn.specs.declared.stage.Progress.TheVariants as progresses
 use Rattle.tase_conn.specs.declared.stage.Step.{Step}
 use Rattle.tase_conn.specs.declared.stage.Step.TheVariants as steps
-use Rattle.tase_conn.specs.Leaving.{Adds, finished}
+use Rattle.tase_conn.specs.Leaving.{AddsAnswer, finished}
 use Rattle.tase_conn.specs.Wanting.{refusal_said}
 use Rattle.tase_conn.specs.Acting.{ActsOn}
 use Rattle.tase_conn.proofs.Stepping.{opens_so, declines_so, if_ok}
@@ -25,7 +25,7 @@ pub returns-in-None-clause-ok : goal.returns-in-None-clause-ok
 returns-in-None-clause-ok c =
     let old = c.args.self.now in
     let place : place_of_title old.rows c.args.title.now ≡ None = search rules in
-    if_ok Step AllocError (Adds (refusal_said old.course.setup)
+    if_ok Step AllocError (AddsAnswer (refusal_said old.course.setup)
     (finished (progresses.Ended conn_ends.Declined) old) c.decline-in-None.new.self)
     (λ step. step ≡ steps.Ends)
     (λ step. ActsOn (comings.Input (inputs.Offer c.args.title.now c.args.initiate.now)) old step

@@ -1,6 +1,6 @@
 use Rattle.std.proofs.Common.{◌++◌, refl, sym, subst, ◌∙◌}
 use Rattle.tase_conn.specs.declared.stage.Step.{Step}
-use Rattle.tase_conn.specs.Acting.{Steps, StaysIdle}
+use Rattle.tase_conn.specs.Acting.{StepsBy, StaysIdle}
 use Rattle.tase_conn.proofs.Composed.{passes_none, passes_then, reads_event, reads_end, reads_all}
 use Rattle.tase_conn.proofs.Composed.{placed_then}
 use Rattle.tase_conn.proofs.conn.Conn.read_on.Goals as goal
@@ -17,7 +17,7 @@ loop-self-init c = record {
 pub returns-in-Asks-clause-ok : goal.returns-in-Asks-clause-ok
 returns-in-Asks-clause-ok c = λ rows items told turns s.
     let p = c.loop-self.invariant.passes rows items told turns s in
-    let P : Step → Type 0 = λ step. Steps rows items (told ++ p.later) (turns ++ p.more) step
+    let P : Step → Type 0 = λ step. StepsBy rows items (told ++ p.later) (turns ++ p.more) step
     c.loop-self.self c.step.new.self in
     reads_event rows items told turns c.in-Asks.event c.args.self.now c.loop-self.self
     c.step.new.self p
@@ -27,7 +27,7 @@ returns-in-Asks-clause-ok c = λ rows items told turns s.
 pub returns-in-Ends-clause-ok : goal.returns-in-Ends-clause-ok
 returns-in-Ends-clause-ok c = λ rows items told turns s.
     let p = c.loop-self.invariant.passes rows items told turns s in
-    let P : Step → Type 0 = λ step. Steps rows items (told ++ p.later) (turns ++ p.more) step
+    let P : Step → Type 0 = λ step. StepsBy rows items (told ++ p.later) (turns ++ p.more) step
     c.loop-self.self c.step.new.self in
     reads_end rows items told turns c.args.self.now c.loop-self.self c.step.new.self p
     (subst P c.in-Ends.is (c.in_ok-event.ensures.ok rows items (told ++ p.later) (turns ++ p.more)
@@ -36,7 +36,7 @@ returns-in-Ends-clause-ok c = λ rows items told turns s.
 pub loop-self-preserved : goal.loop-self-preserved
 loop-self-preserved c =
     let here = c.loop-self.invariant.placed in
-    let P : Step → Type 0 = λ step. Steps here.rows here.items here.told here.turns step
+    let P : Step → Type 0 = λ step. StepsBy here.rows here.items here.told here.turns step
     c.loop-self.self c.step.new.self in
     let went = subst P c.in-GoesOn.is (c.in_ok-event.ensures.ok here.rows here.items here.told
     here.turns here.stands) in
@@ -48,7 +48,7 @@ loop-self-preserved c =
       stage = c.step.ensures.stage ∙ c.loop-self.invariant.stage;
       passes = λ rows items told turns s.
           let p = c.loop-self.invariant.passes rows items told turns s in
-          let Q : Step → Type 0 = λ step. Steps rows items (told ++ p.later) (turns ++ p.more) step
+          let Q : Step → Type 0 = λ step. StepsBy rows items (told ++ p.later) (turns ++ p.more) step
           c.loop-self.self c.step.new.self in
           passes_then rows items told turns c.args.self.now c.loop-self.self c.step.new.self p
           (subst Q c.in-GoesOn.is (c.in_ok-event.ensures.ok rows items (told ++ p.later)

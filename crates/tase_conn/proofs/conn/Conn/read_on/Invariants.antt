@@ -3,9 +3,9 @@ use Rattle.tase_map.specs.Inputs.{Item}
 use Rattle.tase_map.specs.Turns.{Turn}
 use Rattle.bilateral.specs.Rows.{CentreRows}
 use Rattle.stack_assoc.specs.Arrivals.{Arrival}
-use Rattle.tase_conn.specs.Places.{StandsAt, IsPlaced}
+use Rattle.tase_conn.specs.Places.{ConnStandsAt, IsPlaced}
 use Rattle.tase_conn.specs.Wanting.{Passes, IsIdle}
-use Rattle.tase_conn.specs.Acting.{weight}
+use Rattle.tase_conn.specs.Acting.{steps_left}
 use Rattle.tase_conn.proofs.conn.Conn.read_on.Given as goal
 
 abbrev pub invariant-loop-self : goal.invariant-loop-self
@@ -14,9 +14,9 @@ invariant-loop-self l = record {
   idle : IsIdle l.self.progress;
   stage : l.self.stage ≡ l.initial.self.stage;
   passes : (rows : CentreRows) (items : List Item) (told : List Arrival) (turns : List Turn)
-      → StandsAt rows items told turns l.initial.self
+      → ConnStandsAt rows items told turns l.initial.self
       → Passes rows items told turns l.initial.self l.self;
 }
 
 abbrev pub decreases-loop-self : goal.decreases-loop-self
-decreases-loop-self l = weight l.self
+decreases-loop-self l = steps_left l.self

@@ -1,6 +1,6 @@
 use Rattle.std.proofs.Common.{◌≡◌, false, true, sym, ◌∙◌}
 use Rattle.stack_assoc.specs.Arrivals.{called}
-use Rattle.tase_map.specs.Inputs.{piece, text_of}
+use Rattle.tase_map.specs.Inputs.{piece, text_given}
 use Rattle.tase_conn.specs.contracts.conn.Conn.{the_view}
 use Rattle.tase_conn.specs.Talking.{is_running}
 use Rattle.tase_conn.proofs.Placing.{dropped, taken_view}
@@ -21,7 +21,7 @@ returns-clause-ok c =
     taken_view rows items told turns (piece c.args.piece.now) (the_view c.self.inside)
     c.args.self.now c.feed.new.self c.self.view_is c.requires.resting e
     (record {
-      stands = c.in_ok-feed.ensures.ok called (text_of items) told;
+      stands = c.in_ok-feed.ensures.ok called (text_given items) told;
       standing = c.in_ok-feed.ensures.standing;
       state = c.in_ok-feed.ensures.state;
     }) s

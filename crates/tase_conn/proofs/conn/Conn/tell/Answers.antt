@@ -3,10 +3,10 @@ use Rattle.tase_views.specs.declared.reply.Answer.{Answer}
 use Rattle.tase_views.specs.declared.fault.StepFault.{StepFault}
 use Rattle.std.specs.declared.alloc.AllocError.{AllocError}
 use Rattle.tase_conn.specs.Talking.{pending_of}
-use Rattle.tase_conn.specs.Places.{StandsAt}
+use Rattle.tase_conn.specs.Places.{ConnStandsAt}
 use Rattle.tase_conn.specs.Answering.{IsAnswerFor, told_said, progress_told, stage_told}
 use Rattle.tase_conn.specs.declared.stage.Progress.TheVariants as progresses
-use Rattle.tase_conn.specs.Noting.{Notes}
+use Rattle.tase_conn.specs.Noting.{NotesAnswer}
 use Rattle.tase_conn.proofs.Placing.{left_stands}
 use Rattle.tase_conn.proofs.AnswersNoted.{on_ok, told_stands, told_octets, told_goes, answer_room}
 use Rattle.tase_conn.proofs.AnswersNoted.{refused_octets, refused_goes, refused_stays, told_stage}
@@ -16,8 +16,8 @@ use Rattle.tase_conn.proofs.conn.Conn.tell.Goals as goal
 pub returns-in-Ok-clause-ok : goal.returns-in-Ok-clause-ok
 returns-in-Ok-clause-ok c = λ rows items heard turns s.
     on_ok (Unit {0}) AllocError
-    (Notes c.args.self.now.progress c.in-Ok.answer c.args.self.now c.note_or_refuse.new.self)
-    (StandsAt rows items heard turns c.note_or_refuse.new.self) c.note_or_refuse.result
+    (NotesAnswer c.args.self.now.progress c.in-Ok.answer c.args.self.now c.note_or_refuse.new.self)
+    (ConnStandsAt rows items heard turns c.note_or_refuse.new.self) c.note_or_refuse.result
     (λ n. told_stands c.args.told c.in-Ok.answer rows items heard turns c.args.self.now
     c.note_or_refuse.new.self c.in-Ok.is c.requires.right n s) c.note_or_refuse.ensures.ok
 
@@ -25,7 +25,7 @@ pub returns-in-Ok-clause-said : goal.returns-in-Ok-clause-said
 returns-in-Ok-clause-said c =
     let old = c.args.self.now in
     on_ok (Unit {0}) AllocError
-    (Notes old.progress c.in-Ok.answer old c.note_or_refuse.new.self)
+    (NotesAnswer old.progress c.in-Ok.answer old c.note_or_refuse.new.self)
     (pending_of c.note_or_refuse.new.self
     ≡ pending_of old ++ told_said old.progress old.stage old.course c.args.told)
     c.note_or_refuse.result
@@ -36,7 +36,7 @@ pub returns-in-Ok-clause-progress : goal.returns-in-Ok-clause-progress
 returns-in-Ok-clause-progress c =
     let old = c.args.self.now in
     on_ok (Unit {0}) AllocError
-    (Notes old.progress c.in-Ok.answer old c.note_or_refuse.new.self)
+    (NotesAnswer old.progress c.in-Ok.answer old c.note_or_refuse.new.self)
     (c.note_or_refuse.new.self.progress ≡ progress_told old.progress old.stage c.args.told)
     c.note_or_refuse.result
     (λ n. told_goes c.args.told c.in-Ok.answer old c.note_or_refuse.new.self c.in-Ok.is
@@ -81,7 +81,7 @@ returns-in-Ok-clause-kept c = λ rows items heard turns s.
     on_err (Unit {0}) AllocError (c.note_or_refuse.new.self ≡ record c.args.self.now {
       progress = progresses.Refused;
       stage = stage_told c.args.self.now.progress (Ok c.in-Ok.answer) c.args.self.now.stage;
-    }) (StandsAt rows items heard turns c.note_or_refuse.new.self)
+    }) (ConnStandsAt rows items heard turns c.note_or_refuse.new.self)
     c.note_or_refuse.result
     (λ e. refused_stands (Ok c.in-Ok.answer) rows items heard turns c.args.self.now
     c.note_or_refuse.new.self
