@@ -2,12 +2,12 @@
 use Rattle.std.specs.Prelude.{ℕ, List, [], ◌∷◌, ◌++◌, codes, decimal, ◌==◌, if◌then◌else◌}
 use Rattle.stack_messages.specs.declared.fault.StackFault.{StackFault}
 use Rattle.stream_listing.specs.declared.names.MessageName.{MessageName}
-use Rattle.stream_listing.specs.Names.{layer_name, why_name}
+use Rattle.stream_listing.specs.Names.{message_name_text, layer_name, why_name}
 
 -- `at PLACE NAME LENGTH`
 abbrev pub at_line : ℕ → MessageName → ℕ → List ℕ
-at_line place name size = codes "at " ++ decimal place ++ 32 ∷ [] ++ name_text name ++ 32 ∷ []
-    ++ decimal size ++ 10 ∷ []
+at_line place name size = codes "at " ++ decimal place ++ 32 ∷ [] ++ message_name_text name
+    ++ 32 ∷ [] ++ decimal size ++ 10 ∷ []
 
 -- `rest COUNT`, where octets are left
 abbrev pub rest_line : ℕ → List ℕ
