@@ -36,7 +36,7 @@ use Rattle.bilateral.specs.Reasons.{has_see, has_control}
 use Rattle.bilateral.specs.Spelling.{AllStand, told}
 use Rattle.bilateral.specs.Writing.{empty_table, see_line_of, control_line_of, table_lines}
 use Rattle.bilateral.specs.Writing.{centre_lines}
-use Rattle.bilateral.proofs.Told.{told-push}
+use Rattle.bilateral.proofs.Told.{told-push, so_far_by, given_by}
 
 -- lines that can be taken one after another, from rows to rows
 abbrev pub Grows : SoFar → List TableLine → SoFar → Type 0
@@ -167,10 +167,6 @@ same_titles (Some a) (Some b) same = ap Some (same_octets a b same)
 abbrev rows_by : List PointRow → List DeviceRow → List Table → CentreRows
 rows_by points devices tables = record { points = points; devices = devices; tables = tables }
 
-abbrev so_far_by : List PointRow → List DeviceRow → List Table → LimitRows → SoFar
-so_far_by points devices tables given =
-    record { rows = rows_by points devices tables; given = given }
-
 -- the points of a centre, one after another
 points_grow : (points : List PointRow) → AllPairs (λ a b. a.name ≢ b.name) points
     → length points ≤ POINT_LIMIT
@@ -248,9 +244,6 @@ module _ (points : List PointRow) (devices : List DeviceRow) (done : List Table)
       (g (get_or (done ++ table ∷ []) (length (done ++ table ∷ []) - 1) no_table))) last_place
       ∙ ap (λ t. set (done ++ table ∷ []) (length done) (g t)) last_is
       ∙ set_at done table [] (g table) (length done) refl)
-
-abbrev given_by : Bool → Bool → Bool → LimitRows
-given_by slots sets pending = record { slots = slots; sets = sets; pending = pending }
 
 -- a table with these rows and limits, and all else of another
 abbrev with_sees : Table → List SeeRow → Table

@@ -31,7 +31,7 @@ use Rattle.bilateral.proofs.Sections.{on_last, with_own, sections-push_line, sec
 use Rattle.bilateral.proofs.Sections.{map-on_last, on_last-at, last_or-push, last_own-push}
 use Rattle.bilateral.proofs.Sections.{with_some, filter_map-push}
 
-abbrev given_by : Bool → Bool → Bool → LimitRows
+abbrev pub given_by : Bool → Bool → Bool → LimitRows
 given_by slots sets pending = record { slots = slots; sets = sets; pending = pending }
 
 any-push : {X : Type 0} (p : X → Bool) (xs : List X) (x : X)
@@ -57,20 +57,6 @@ given-push own line =
     let sets = any-push is_sets own line in
     let pending = any-push is_pending own line in
     cc
-
-same_filled : (table : Table) (sees sees_new : List SeeRow)
-    (controls controls_new : List ControlRow)
-    (slots slots_new sets sets_new pending pending_new : ℕ) → sees_new ≡ sees
-    → controls_new ≡ controls → slots_new ≡ slots → sets_new ≡ sets → pending_new ≡ pending
-    → filled table sees_new controls_new slots_new sets_new pending_new
-    ≡ filled table sees controls slots sets pending
-same_filled table sees sees_new controls controls_new slots slots_new sets sets_new pending
-    pending_new a b c d e =
-    ap (λ x. filled table x controls_new slots_new sets_new pending_new) a
-    ∙ ap (λ x. filled table sees x slots_new sets_new pending_new) b
-    ∙ ap (λ x. filled table sees controls x sets_new pending_new) c
-    ∙ ap (λ x. filled table sees controls slots x pending_new) d
-    ∙ ap (filled table sees controls slots sets) e
 
 -- a section's table, with what a line more gives it
 abbrev gained : List PointRow → List DeviceRow → TableLine → Table → Table
@@ -106,14 +92,14 @@ table-push : (points : List PointRow) (devices : List DeviceRow) (line : TableLi
     → table_in points devices (with_own line part)
     ≡ gained points devices line (table_in points devices part)
 table-push points devices line part =
-    same_filled part.0 _ _ _ _ _ _ _ _ _ _
-    (rows-push (see_in points) part.0.sees part.1 line)
-    (rows-push (control_in devices) part.0.controls part.1 line)
-    (number-push slots_in part.0.slots part.1 line)
-    (number-push sets_in part.0.sets part.1 line)
-    (number-push pending_in part.0.pending part.1 line)
+    let sees = rows-push (see_in points) part.0.sees part.1 line in
+    let controls = rows-push (control_in devices) part.0.controls part.1 line in
+    let slots = number-push slots_in part.0.slots part.1 line in
+    let sets = number-push sets_in part.0.sets part.1 line in
+    let pending = number-push pending_in part.0.pending part.1 line in
+    cc
 
-abbrev so_far_by : List PointRow → List DeviceRow → List Table → LimitRows → SoFar
+abbrev pub so_far_by : List PointRow → List DeviceRow → List Table → LimitRows → SoFar
 so_far_by points devices tables given =
     record { rows = record { points = points; devices = devices; tables = tables }; given = given }
 
@@ -198,8 +184,9 @@ told-push_first said line no_peer empty =
 new_table : (points : List PointRow) (devices : List DeviceRow) (table : Table)
     → table_in points devices (table, []) ≡ table
 new_table points devices table =
-    same_filled table table.sees _ table.controls _ table.slots _ table.sets _ table.pending _
-    (append-nil table.sees) (append-nil table.controls) refl refl refl
+    ap (λ sees. record table { sees = sees; controls = table.controls ++ [] })
+    (append-nil table.sees)
+    ∙ ap (λ controls. record table { controls = controls }) (append-nil table.controls)
 
 told-push_peer : (said : List TableLine) (table : Table)
     → told (said ++ Peer table ∷ []) ≡ with_row (told said) (Peer table)
