@@ -36,6 +36,7 @@ use Rattle.bilateral.specs.Reasons.{has_see, has_control}
 use Rattle.bilateral.specs.Spelling.{AllStand, told}
 use Rattle.bilateral.specs.Writing.{empty_table, see_line_of, control_line_of, table_lines}
 use Rattle.bilateral.specs.Writing.{centre_lines}
+use Rattle.bilateral.proofs.Positions.{absent, found}
 use Rattle.bilateral.proofs.Told.{told-push, so_far_by, given_by}
 
 -- lines that can be taken one after another, from rows to rows
@@ -71,37 +72,6 @@ no_fault false true again too_much a b c d = absurd cc
 no_fault false false true too_much a b c d = absurd cc
 no_fault false false false true a b c d = absurd cc
 no_fault false false false false a b c d = refl
-
--- where nothing passes, nothing is found
-from-absent : {X : Type 0} (p : X → Bool) (n : ℕ) (xs : List X)
-    → ((k : ℕ) (d : X) → k < length xs → p (get_or xs k d) ≡ false)
-    → position_from p n xs ≡ None
-from-absent p n [] out = refl
-from-absent p n (x ∷ xs) out =
-    cond-false (p x) _ _ (out 0 x (omega arith))
-    ∙ from-absent p (n + 1) xs (λ k d below. out (suc k) d (omega arith))
-
-absent : {X : Type 0} (p : X → Bool) (xs : List X)
-    → ((k : ℕ) (d : X) → k < length xs → p (get_or xs k d) ≡ false) → position p xs ≡ None
-absent p xs out = position_from-zero p xs ∙ from-absent p 0 xs out
-
--- the only place where something passes is found
-from-found : {X : Type 0} (p : X → Bool) (n : ℕ) (xs : List X) (i : ℕ) (d : X) → i < length xs
-    → p (get_or xs i d) ≡ true → ((k : ℕ) → k < i → p (get_or xs k d) ≡ false)
-    → position_from p n xs ≡ Some (n + i)
-from-found p n [] i d below here before = absurd (omega arith)
-from-found p n (x ∷ xs) zero d below here before =
-    cond-true (p x) (Some n) _ here ∙ ap Some (omega arith)
-from-found p n (x ∷ xs) (suc i) d below here before =
-    cond-false (p x) (Some n) _ (before 0 (omega arith))
-    ∙ from-found p (n + 1) xs i d (omega arith) here (λ k early. before (suc k) (omega arith))
-    ∙ ap Some (omega arith)
-
-found : {X : Type 0} (p : X → Bool) (xs : List X) (i : ℕ) (d : X) → i < length xs
-    → p (get_or xs i d) ≡ true → ((k : ℕ) → k < i → p (get_or xs k d) ≡ false)
-    → position p xs ≡ Some i
-found p xs i d below here before =
-    position_from-zero p xs ∙ from-found p 0 xs i d below here before ∙ ap Some (omega arith)
 
 -- a test that passes for equals alone
 abbrev Decides : {V : Type 0} → (V → V → Bool) → Type 0

@@ -33,7 +33,7 @@ use Rattle.bilateral.specs.Reading.{with_see, with_control, with_slots, with_set
 use Rattle.bilateral.specs.Reading.{with_pending, with_last, last_peer, last_table}
 use Rattle.bilateral.specs.Lines.{IsLawfulLine}
 use Rattle.plain_text.proofs.Parts.{position-None}
-use Rattle.bilateral.proofs.Positions.{position-push_here, position-push_other}
+use Rattle.bilateral.proofs.Positions.{position-by}
 use Rattle.bilateral.proofs.Taken.{IsNewPoint, IsNewDevice, IsNewPeer}
 
 -- what is found nowhere differs from every row's
@@ -363,22 +363,6 @@ pub kept_with_peer : {V : Type 0} (f : Table → List V) (rows : CentreRows) (ta
     ≡ f (table_of rows peer)
 kept_with_peer f rows table none default peer = pushed f rows.tables table none default peer
 
--- a row at the end, or the rows before it
-here_or_later : {X : Type 0} (number : X → ℕ) (rows : List X) (row : X) (q : ℕ)
-    → position (λ r. number r == number row) rows ≡ None
-    → cond (number row == q) (Some (length rows)) (position (λ r. number r == q) rows)
-    ≡ position (λ r. number r == q) (rows ++ row ∷ [])
-here_or_later number rows row q fresh =
-    elim (cases_Bool (eqb (number row) q)) [
-      | inl same ↦ cond-true (eqb (number row) q) _ _ same
-          ∙ sym (position-push_here (λ r. number r == q) rows row
-          (ap (λ p. position (λ r. number r == p) rows) (sym (eqb-true (number row) q same))
-          ∙ fresh)
-          same)
-      | inr differs ↦ cond-false (eqb (number row) q) _ _ differs
-          ∙ sym (position-push_other (λ r. number r == q) rows row differs)
-    ]
-
 -- the place of a new row of the last table is found, and all others where they were
 pub place-with_row : {X : Type 0} (list : Table → List X) (number : X → ℕ) (rows : CentreRows)
     (table : Table) (row : X) → 0 < length rows.tables
@@ -397,7 +381,9 @@ place-with_row list number rows table row some grown fresh p q =
           ≡ position (λ r. number r == q) (list (table_of (with_last rows table) k))) (sym here)
           (ap (λ b. cond (b && eqb (number row) q) (Some (length (list (last_table rows))))
           (position (λ r. number r == q) (list (last_table rows))))
-          (eq-eqb last last refl) ∙ here_or_later number (list (last_table rows)) row q fresh
+          (eq-eqb last last refl)
+          ∙ position-by (λ a b. eqb a b) (λ a b same. eqb-true a b same) number
+          (list (last_table rows)) row fresh q
           ∙ ap (position (λ r. number r == q)) (sym grown)
           ∙ ap (λ t. position (λ r. number r == q) (list t))
           (sym (get_or-set_same rows.tables last table no_table within)))
