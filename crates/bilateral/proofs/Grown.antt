@@ -392,13 +392,3 @@ place-with_row list number rows table row some grown fresh p q =
           ∙ ap (λ t. position (λ r. number r == q) (list t))
           (sym (get_or-set_other rows.tables last p table no_table other))
     ]
-
-pub point_known : (rows : CentreRows) (name : List ℕ) (point : ℕ)
-    → place_of_point rows name ≡ Some point → point < length rows.points
-point_known rows name point found =
-    (position-Some (λ row. bytes_eq row.name name) rows.points point no_point found).0
-
-pub device_known : (rows : CentreRows) (name : List ℕ) (device : ℕ)
-    → place_of_device rows name ≡ Some device → device < length rows.devices
-device_known rows name device found =
-    (position-Some (λ row. bytes_eq row.name name) rows.devices device no_device found).0

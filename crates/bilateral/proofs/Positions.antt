@@ -37,11 +37,6 @@ from-push_other p n [] y fails = cond-false (p y) (Some n) None fails
 from-push_other p n (x ∷ xs) y fails =
     ap (cond (p x) (Some n)) (from-push_other p (n + 1) xs y fails)
 
-pub found_later : {X : Type 0} (p : X → Bool) (n : ℕ) (x : X) (rest : Option ℕ) (test : Bool)
-    → p x ≡ test → cond test (Some n) rest ≡ None → (test ≡ false) × (rest ≡ None)
-found_later p n x rest true is none = absurd cc
-found_later p n x rest false is none = (refl, none)
-
 -- an element more that doesn't pass
 pub position-push_other : {X : Type 0} (p : X → Bool) (xs : List X) (y : X) → p y ≡ false
     → position p (xs ++ y ∷ []) ≡ position p xs
