@@ -6,13 +6,13 @@ use Rattle.std.proofs.Common.{AllPairs, All, IsTrue, Option, Some, None, positio
 use Rattle.std.proofs.Common.{sym, ap, subst, ◌∙◌, inl, inr, arith, bytes_eq}
 use Rattle.std.specs.Option.{option_eq}
 use Rattle.std.specs.Cmp.Lexicographic.{bytes_decides}
-use Rattle.std.proofs.lemmas.Bool.{cases_eq, cases_Bool, cond-true, cond-false, both_ways, eq-eqb}
+use Rattle.std.proofs.lemmas.Bool.{cases_eq, cond-false, both_ways, eq-eqb}
 use Rattle.std.proofs.lemmas.Bool.{ne_eqb, eqb-true, and_left, and_parts, not-false, leb-true}
 use Rattle.std.proofs.lemmas.Bool.{false≢true}
 use Rattle.std.proofs.lemmas.List.{length-set, length_push, get_or-set_same, get_or-set_other}
 use Rattle.std.proofs.lemmas.List.{get_or_default}
 use Rattle.std.proofs.lemmas.List.Elements.{All-push, All-set, All-get_or}
-use Rattle.std.proofs.lemmas.List.Quantifiers.{all_pairs_push, position-Some}
+use Rattle.std.proofs.lemmas.List.Quantifiers.{all_pairs_push}
 use Rattle.bilateral.specs.declared.line.TableLine.TheVariants.{Device, Peer}
 use Rattle.bilateral.specs.declared.rows.PointRow.{PointRow}
 use Rattle.bilateral.specs.declared.rows.DeviceRow.{DeviceRow}
@@ -26,9 +26,8 @@ use Rattle.bilateral.specs.declared.rows.TheConstants.{PENDING_LIMIT}
 use Rattle.tase_points.specs.Layouts.{IsLayout}
 use Rattle.table_words.specs.Words.{is_name}
 use Rattle.bilateral.specs.Rows.{CentreRows, IsCentre, IsTable, IsControlling, IsDevice}
-use Rattle.bilateral.specs.Rows.{place_of_point}
-use Rattle.bilateral.specs.Rows.{place_of_device, place_of_see, place_of_control, table_of}
-use Rattle.bilateral.specs.Rows.{no_table, no_point, no_device}
+use Rattle.bilateral.specs.Rows.{place_of_see, place_of_control, table_of}
+use Rattle.bilateral.specs.Rows.{no_table}
 use Rattle.bilateral.specs.Reading.{with_see, with_control, with_slots, with_sets}
 use Rattle.bilateral.specs.Reading.{with_pending, with_last, last_peer, last_table}
 use Rattle.bilateral.specs.Lines.{IsLawfulLine}
@@ -129,22 +128,24 @@ IsCentre-with_device rows device lawful words new = record {
 
 -- a new table has no rows, and limits within bounds
 IsTable-new : (points : ℕ) (table : Table) → IsLawfulLine (Peer table) → IsTable points table
-IsTable-new points table lawful = let none : length table.sees ≡ 0 = ap length lawful.3.0 in record {
-  known = λ k d below. absurd (omega arith);
-  once = λ i j d before below. absurd (omega arith);
-  limit = omega arith;
-  layouts = λ k d below. absurd (omega arith);
-  key = lawful.0;
-  title = lawful.4;
-  domain = lawful.1;
-  id = lawful.2;
-  slots_least = omega (arith, lawful.3.2);
-  slots = omega (arith, lawful.3.2);
-  sets_least = omega (arith, lawful.3.3);
-  sets = omega (arith, lawful.3.3);
-  pending_least = omega (arith, lawful.3.4);
-  pending = omega (arith, lawful.3.4);
-}
+IsTable-new points table lawful =
+    let none : length table.sees ≡ 0 = ap length lawful.3.0 in
+    record {
+      known = λ k d below. absurd (omega arith);
+      once = λ i j d before below. absurd (omega arith);
+      limit = omega arith;
+      layouts = λ k d below. absurd (omega arith);
+      key = lawful.0;
+      title = lawful.4;
+      domain = lawful.1;
+      id = lawful.2;
+      slots_least = omega (arith, lawful.3.2);
+      slots = omega (arith, lawful.3.2);
+      sets_least = omega (arith, lawful.3.3);
+      sets = omega (arith, lawful.3.3);
+      pending_least = omega (arith, lawful.3.4);
+      pending = omega (arith, lawful.3.4);
+    }
 
 IsControlling-new : (devices : ℕ) (table : Table) → IsLawfulLine (Peer table)
     → IsControlling devices table

@@ -1,11 +1,11 @@
 -- Names in the order of the file: where one stands, and one more at the end.
-use Rattle.std.proofs.Common.{◌≡◌, ℕ, ◌+◌, Bool, true, false, cond, List, [], ◌∷◌, ◌++◌}
+use Rattle.std.proofs.Common.{◌≡◌, ℕ, ◌+◌, Bool, false, cond, List, [], ◌∷◌, ◌++◌}
 use Rattle.std.proofs.Common.{map, Some, None, position, refl, sym, ap, ◌∙◌}
-use Rattle.std.proofs.Common.{bytes_eq, nat_eq, Vec, Global, ◌||◌}
+use Rattle.std.proofs.Common.{bytes_eq, nat_eq, Vec, Global}
 use Rattle.std.specs.List.{position_from, list_any}
 use Rattle.std.specs.Cmp.Lexicographic.{pointwise, nat_list_eq_equiv}
 use Rattle.std.proofs.lemmas.Iterator.Adapters.{position_from-zero}
-use Rattle.std.proofs.lemmas.Bool.{false≢true, cond-false}
+use Rattle.std.proofs.lemmas.Bool.{cond-false}
 use Rattle.std.proofs.lemmas.List.{map-append}
 use Rattle.indexmap.specs.IndexSet.{insert_key}
 use Rattle.bilateral.specs.Index.{place_among}

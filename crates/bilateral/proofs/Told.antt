@@ -1,8 +1,8 @@
 -- What the reader has after a line is what the lines say with this one at the end.
 use Rattle.std.proofs.Common.{◌≡◌, ℕ, ◌-◌, ◌<◌, Bool, true, false, ◌||◌, List, [], ◌∷◌, ◌++◌}
-use Rattle.std.proofs.Common.{length, map, set, get_or, Option, Some, None, unwrap_or, position}
+use Rattle.std.proofs.Common.{length, map, set, get_or, Option, Some, None, unwrap_or}
 use Rattle.std.proofs.Common.{refl}
-use Rattle.std.proofs.Common.{sym, ap, ◌∙◌, arith, bytes_eq, append_assoc}
+use Rattle.std.proofs.Common.{sym, ap, ◌∙◌, arith, append_assoc}
 use Rattle.std.specs.Prelude.{filter_map, option_and_then}
 use Rattle.std.specs.Option.{option_map}
 use Rattle.std.specs.List.{list_any}
@@ -19,7 +19,7 @@ use Rattle.bilateral.specs.declared.rows.See.{See as SeeRow}
 use Rattle.bilateral.specs.declared.rows.Control.{Control as ControlRow}
 use Rattle.bilateral.specs.declared.rows.Table.{Table}
 use Rattle.bilateral.specs.Rows.{no_table, place_of_point, place_of_device}
-use Rattle.bilateral.specs.Reading.{SoFar, row_fault, with_row, with_last, with_see, with_control}
+use Rattle.bilateral.specs.Reading.{SoFar, row_fault, with_row, with_last}
 use Rattle.bilateral.specs.Reading.{with_slots, with_sets, with_pending, last_table}
 use Rattle.bilateral.specs.Spelling.{point_of_line, device_of_line, peer_in, see_in, control_in, slots_in}
 use Rattle.bilateral.specs.Spelling.{sets_in, pending_in, sections, TableSection, last_or, filled}
@@ -176,7 +176,8 @@ told-push_first said line no_peer empty =
     let points = filter_map point_of_line said in
     let devices = filter_map device_of_line said in
     let none = no_parts (table_in points devices) (sections said) empty in
-    told-push_by said line [] (sections-push_line line no_peer said ∙ ap (on_last (with_own line)) none)
+    told-push_by said line []
+    (sections-push_line line no_peer said ∙ ap (on_last (with_own line)) none)
     ∙ sym (ap (λ parts. so_far_by (with_some points (point_of_line line))
     (with_some devices (device_of_line line)) (map (table_in points devices) parts)
     (given_among (last_or [] (map (λ p. p.1) parts)))) none)
