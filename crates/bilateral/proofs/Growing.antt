@@ -1,19 +1,17 @@
 -- The lines of a lawful centre stand one behind another, and say its rows.
-use Rattle.std.proofs.Common.{◌≡◌, ◌≢◌, ℕ, zero, suc, ◌+◌, ◌-◌, ◌<◌, ◌≤◌, Bool, true, false, not}
+use Rattle.std.proofs.Common.{◌≡◌, ◌≢◌, ℕ, ◌-◌, ◌<◌, ◌≤◌, Bool, true, false, not}
 use Rattle.std.proofs.Common.{◌&&◌, ◌||◌, ◌==◌, eqb, leb, List, [], ◌∷◌, ◌++◌, length, map}
 use Rattle.std.proofs.Common.{get_or, set, All, AllPairs, Option, Some, None, is_some, unwrap_or}
 use Rattle.std.proofs.Common.{position}
 use Rattle.std.proofs.Common.{refl, sym, ap, subst, ◌∙◌, inl, inr, arith, bytes_eq, append_assoc}
 use Rattle.std.specs.Prelude.{is_none}
 use Rattle.std.specs.Option.{option_eq}
-use Rattle.std.specs.List.{position_from, flat_map}
+use Rattle.std.specs.List.{flat_map}
 use Rattle.std.specs.Cmp.Lexicographic.{bytes_decides}
-use Rattle.std.proofs.lemmas.Bool.{cases_Bool, cond-true, cond-false, ne_eqb, eqb-true, and_from}
+use Rattle.std.proofs.lemmas.Bool.{cases_Bool, ne_eqb, eqb-true, and_from}
 use Rattle.std.proofs.lemmas.Bool.{le-leb, lt-leb, false≢true}
 use Rattle.std.proofs.lemmas.List.{append-nil, length-append, length_push, get_or_append_left}
 use Rattle.std.proofs.lemmas.List.{get_or_at, get_or_push, set_at}
-use Rattle.std.proofs.lemmas.List.Elements.{All-head, All-tail}
-use Rattle.std.proofs.lemmas.Iterator.Adapters.{position_from-zero}
 use Rattle.bilateral.specs.declared.limit_rows.LimitRows.{LimitRows}
 use Rattle.bilateral.specs.declared.line.TableLine.{TableLine}
 use Rattle.bilateral.specs.declared.line.TableLine.TheVariants.{Point, Device, Peer, Slots, Sets}
@@ -37,7 +35,8 @@ use Rattle.bilateral.specs.Reasons.{has_see, has_control}
 use Rattle.bilateral.specs.Spelling.{AllStand, told}
 use Rattle.bilateral.specs.Writing.{empty_table, see_line_of, control_line_of, table_lines}
 use Rattle.bilateral.specs.Writing.{centre_lines}
-use Rattle.bilateral.proofs.Told.{told-push}
+use Rattle.bilateral.proofs.Positions.{absent, found}
+use Rattle.bilateral.proofs.Told.{told-push, so_far_by, given_by}
 
 -- lines that can be taken one after another, from rows to rows
 abbrev pub Grows : SoFar → List TableLine → SoFar → Type 0
@@ -73,37 +72,6 @@ no_fault false false true too_much a b c d = absurd cc
 no_fault false false false true a b c d = absurd cc
 no_fault false false false false a b c d = refl
 
--- where nothing passes, nothing is found
-from-absent : {X : Type 0} (p : X → Bool) (n : ℕ) (xs : List X)
-    → ((k : ℕ) (d : X) → k < length xs → p (get_or xs k d) ≡ false)
-    → position_from p n xs ≡ None
-from-absent p n [] out = refl
-from-absent p n (x ∷ xs) out =
-    cond-false (p x) _ _ (out 0 x (omega arith))
-    ∙ from-absent p (n + 1) xs (λ k d below. out (suc k) d (omega arith))
-
-absent : {X : Type 0} (p : X → Bool) (xs : List X)
-    → ((k : ℕ) (d : X) → k < length xs → p (get_or xs k d) ≡ false) → position p xs ≡ None
-absent p xs out = position_from-zero p xs ∙ from-absent p 0 xs out
-
--- the only place where something passes is found
-from-found : {X : Type 0} (p : X → Bool) (n : ℕ) (xs : List X) (i : ℕ) (d : X) → i < length xs
-    → p (get_or xs i d) ≡ true → ((k : ℕ) → k < i → p (get_or xs k d) ≡ false)
-    → position_from p n xs ≡ Some (n + i)
-from-found p n [] i d below here before = absurd (omega arith)
-from-found p n (x ∷ xs) zero d below here before =
-    cond-true (p x) (Some n) _ here ∙ ap Some (omega arith)
-from-found p n (x ∷ xs) (suc i) d below here before =
-    cond-false (p x) (Some n) _ (before 0 (omega arith))
-    ∙ from-found p (n + 1) xs i d (omega arith) here (λ k early. before (suc k) (omega arith))
-    ∙ ap Some (omega arith)
-
-found : {X : Type 0} (p : X → Bool) (xs : List X) (i : ℕ) (d : X) → i < length xs
-    → p (get_or xs i d) ≡ true → ((k : ℕ) → k < i → p (get_or xs k d) ≡ false)
-    → position p xs ≡ Some i
-found p xs i d below here before =
-    position_from-zero p xs ∙ from-found p 0 xs i d below here before ∙ ap Some (omega arith)
-
 -- a test that passes for equals alone
 abbrev Decides : {V : Type 0} → (V → V → Bool) → Type 0
 Decides {V} test = (a b : V) → test a b ≡ true → a ≡ b
@@ -113,16 +81,45 @@ fails test decides a b apart =
     elim (cases_Bool (test a b))
     [ inl same ↦ absurd (apart (decides a b same)) | inr other ↦ other ]
 
--- what stands behind others that differ from it isn't found among them
-absent_before : {X V : Type 0} (f : X → V) (test : V → V → Bool) → Decides test
-    → (done : List X) (x : X) (more : List X) → AllPairs (λ a b. f a ≢ f b) (done ++ x ∷ more)
-    → position (λ r. test (f r) (f x)) done ≡ None
-absent_before f test decides done x more pairs =
-    absent (λ r. test (f r) (f x)) done
-    (λ k d below. fails test decides (f (get_or done k d)) (f x)
-    (λ same. pairs k (length done) d below (omega (arith, length-append done (x ∷ more)))
-    (ap f (get_or_append_left done (x ∷ more) d k below) ∙ same
-    ∙ sym (ap f (get_or_at done x more d (length done) refl)))))
+-- a row of a list, behind those before it
+module _ {X : Type 0} (rows done : List X) (x : X) (more : List X)
+    (parts : rows ≡ done ++ x ∷ more) where
+  -- what differs from all others isn't found among those before it
+  absent_before : {V : Type 0} (f : X → V) (test : V → V → Bool) → Decides test
+      → AllPairs (λ a b. f a ≢ f b) rows → position (λ r. test (f r) (f x)) done ≡ None
+  absent_before f test decides pairs =
+      let apart = subst (AllPairs (λ a b. f a ≢ f b)) parts pairs in
+      absent (λ r. test (f r) (f x)) done
+      (λ k d below. fails test decides (f (get_or done k d)) (f x)
+      (λ same. apart k (length done) d below (omega (arith, length-append done (x ∷ more)))
+      (ap f (get_or_append_left done (x ∷ more) d k below) ∙ same
+      ∙ sym (ap f (get_or_at done x more d (length done) refl)))))
+
+  -- it is as all are
+  as_all : (P : X → Type 0) → All P rows → P x
+  as_all P all =
+      subst P (get_or_at done x more x (length done) refl)
+      (subst (All P) parts all (length done) x (omega (arith, length-append done (x ∷ more))))
+
+  -- there is room for it
+  has_room : (limit : ℕ) → length rows ≤ limit → leb limit (length done) ≡ false
+  has_room limit few =
+      let size : length rows ≡ length (done ++ x ∷ more) = ap length parts in
+      lt-leb limit (length done) (omega (arith, length-append done (x ∷ more), few))
+
+-- rows that lines add one after another
+each_grows : {X : Type 0} (after : List X → SoFar) (line : X → TableLine) (rows : List X)
+    → ((done : List X) (x : X) (more : List X) → rows ≡ done ++ x ∷ more
+    → (row_fault (after done) (line x) ≡ None)
+    × (with_row (after done) (line x) ≡ after (done ++ x ∷ [])))
+    → (done more : List X) → rows ≡ done ++ more → Grows (after done) (map line more) (after rows)
+each_grows after line rows each done [] parts = ap after (sym (parts ∙ append-nil done))
+each_grows after line rows each done (x ∷ more) parts =
+    let here = each done x more parts in
+    Grows-line (after done) (after (done ++ x ∷ [])) (after rows) (line x) (map line more) here.0
+    here.1
+    (each_grows after line rows each (done ++ x ∷ []) more
+    (parts ∙ sym (append_assoc done (x ∷ []) more)))
 
 same_octets : Decides bytes_eq
 same_octets a b same = (bytes_decides a b).0 same
@@ -139,31 +136,18 @@ same_titles (Some a) (Some b) same = ap Some (same_octets a b same)
 abbrev rows_by : List PointRow → List DeviceRow → List Table → CentreRows
 rows_by points devices tables = record { points = points; devices = devices; tables = tables }
 
-abbrev so_far_by : List PointRow → List DeviceRow → List Table → LimitRows → SoFar
-so_far_by points devices tables given =
-    record { rows = rows_by points devices tables; given = given }
-
 -- the points of a centre, one after another
-points_grow : (done more : List PointRow) → AllPairs (λ a b. a.name ≢ b.name) (done ++ more)
-    → length (done ++ more) ≤ POINT_LIMIT
-    → Grows (so_far_by done [] [] nothing_given) (map Point more)
-    (so_far_by (done ++ more) [] [] nothing_given)
-points_grow done [] names limit =
-    ap (λ ps. so_far_by ps [] [] nothing_given) (sym (append-nil done))
-points_grow done (point ∷ more) names limit =
-    let same = append_assoc done (point ∷ []) more in (
+points_grow : (points : List PointRow) → AllPairs (λ a b. a.name ≢ b.name) points
+    → length points ≤ POINT_LIMIT
+    → Grows at_start (map Point points) (so_far_by points [] [] nothing_given)
+points_grow points names limit =
+    each_grows (λ ps. so_far_by ps [] [] nothing_given) Point points (λ done point more parts. (
       no_fault _ _ _ _ refl refl
           (ap (λ o. is_some o || false)
-          (absent_before (λ r. r.name) bytes_eq same_octets done point more names))
-          (lt-leb POINT_LIMIT (length done)
-          (omega (arith, length-append done (point ∷ more), limit))),
-      subst
-          (λ ps. Grows (so_far_by (done ++ point ∷ []) [] [] nothing_given) (map Point more)
-          (so_far_by ps [] [] nothing_given)) same
-          (points_grow (done ++ point ∷ []) more
-          (subst (AllPairs (λ (a b : PointRow). a.name ≢ b.name)) (sym same) names)
-          (subst (λ (ps : List PointRow). length ps ≤ POINT_LIMIT) (sym same) limit)),
-    )
+          (absent_before points done point more parts (λ r. r.name) bytes_eq same_octets names))
+          (has_room points done point more parts POINT_LIMIT limit),
+      refl,
+    )) [] points refl
 
 right_span : (direct : Bool) (span : ℕ) → (direct ≡ false → 1 ≤ span) → span ≤ SPAN_LIMIT
     → (not direct && not (leb 1 span && leb span SPAN_LIMIT)) ≡ false
@@ -177,40 +161,30 @@ either_absent a b first second =
     ap (λ o. is_some o || is_some b) first ∙ ap (λ o. false || is_some o) second
 
 -- the devices of a centre, one after another
-devices_grow : (points : List PointRow) (done more : List DeviceRow)
-    → AllPairs (λ a b. a.name ≢ b.name) (done ++ more) → All IsDevice more
-    → All (λ device. All (λ point. point.name ≢ device.name) points) more
-    → length (done ++ more) ≤ DEVICE_LIMIT
-    → Grows (so_far_by points done [] nothing_given) (map Device more)
-    (so_far_by points (done ++ more) [] nothing_given)
-devices_grow points done [] names lawful apart limit =
-    ap (λ ds. so_far_by points ds [] nothing_given) (sym (append-nil done))
-devices_grow points done (device ∷ more) names lawful apart limit =
-    let same = append_assoc done (device ∷ []) more in
-    let is = All-head IsDevice device more lawful in
+devices_grow : (points : List PointRow) (devices : List DeviceRow)
+    → AllPairs (λ a b. a.name ≢ b.name) devices → All IsDevice devices
+    → All (λ device. All (λ point. point.name ≢ device.name) points) devices
+    → length devices ≤ DEVICE_LIMIT
+    → Grows (so_far_by points [] [] nothing_given) (map Device devices)
+    (so_far_by points devices [] nothing_given)
+devices_grow points devices names lawful apart limit =
+    each_grows (λ ds. so_far_by points ds [] nothing_given) Device devices
+    (λ done device more parts.
+    let is = as_all devices done device more parts IsDevice lawful in
     let other =
-    All-head (λ (d : DeviceRow). All (λ (point : PointRow). point.name ≢ d.name) points) device
-    more apart in (
+    as_all devices done device more parts
+    (λ (d : DeviceRow). All (λ (point : PointRow). point.name ≢ d.name) points) apart in (
       no_fault _ _ _ _ refl refl
           (either_absent _ _
           (absent (λ r. bytes_eq r.name device.name) points
           (λ k d below. fails bytes_eq same_octets (get_or points k d).name device.name
           (other k d below)))
-          (absent_before (λ r. r.name) bytes_eq same_octets done device more names))
+          (absent_before devices done device more parts (λ r. r.name) bytes_eq same_octets names))
           (ap (λ b. b || is_wrong_span device)
-          (lt-leb DEVICE_LIMIT (length done)
-          (omega (arith, length-append done (device ∷ more), limit)))
+          (has_room devices done device more parts DEVICE_LIMIT limit)
           ∙ right_span device.direct device.span is.some_span is.span),
-      subst
-          (λ ds. Grows (so_far_by points (done ++ device ∷ []) [] nothing_given)
-          (map Device more) (so_far_by points ds [] nothing_given)) same
-          (devices_grow points (done ++ device ∷ []) more
-          (subst (AllPairs (λ (a b : DeviceRow). a.name ≢ b.name)) (sym same) names)
-          (All-tail IsDevice device more lawful)
-          (All-tail (λ (d : DeviceRow). All (λ (point : PointRow). point.name ≢ d.name) points)
-          device more apart)
-          (subst (λ (ds : List DeviceRow). length ds ≤ DEVICE_LIMIT) (sym same) limit)),
-    )
+      refl,
+    )) [] devices refl
 
 -- the last of some tables
 module _ (points : List PointRow) (devices : List DeviceRow) (done : List Table)
@@ -240,9 +214,6 @@ module _ (points : List PointRow) (devices : List DeviceRow) (done : List Table)
       ∙ ap (λ t. set (done ++ table ∷ []) (length done) (g t)) last_is
       ∙ set_at done table [] (g table) (length done) refl)
 
-abbrev given_by : Bool → Bool → Bool → LimitRows
-given_by slots sets pending = record { slots = slots; sets = sets; pending = pending }
-
 -- a table with these rows and limits, and all else of another
 abbrev with_sees : Table → List SeeRow → Table
 with_sees table sees = record table { sees = sees }
@@ -268,97 +239,66 @@ control_of device row = record row { device = device }
 
 -- the rows of a table, one after another
 sees_grow : (rows : CentreRows) → AllPairs (λ a b. a.name ≢ b.name) rows.points
-    → (done : List Table) (table : Table) (given : LimitRows) (before more : List SeeRow)
-    → All (λ see. see.point < length rows.points) more
-    → AllPairs (λ a b. a.point ≢ b.point) (before ++ more) → length (before ++ more) ≤ SEE_LIMIT
-    → Grows (so_far_by rows.points rows.devices (done ++ with_sees table before ∷ []) given)
-    (map (see_line_of rows) more)
-    (so_far_by rows.points rows.devices (done ++ with_sees table (before ++ more) ∷ []) given)
-sees_grow rows names done table given before [] known once limit =
-    ap (λ sees. so_far_by rows.points rows.devices (done ++ with_sees table sees ∷ []) given)
-    (sym (append-nil before))
-sees_grow rows names done table given before (see ∷ more) known once limit =
+    → (done : List Table) (table : Table) (given : LimitRows) (sees : List SeeRow)
+    → All (λ see. see.point < length rows.points) sees → AllPairs (λ a b. a.point ≢ b.point) sees
+    → length sees ≤ SEE_LIMIT
+    → Grows (so_far_by rows.points rows.devices (done ++ with_sees table [] ∷ []) given)
+    (map (see_line_of rows) sees)
+    (so_far_by rows.points rows.devices (done ++ with_sees table sees ∷ []) given)
+sees_grow rows names done table given sees known once limit =
     let points = rows.points in
     let devices = rows.devices in
+    each_grows (λ ss. so_far_by points devices (done ++ with_sees table ss ∷ []) given)
+    (see_line_of rows) sees (λ before see more parts.
     let own = with_sees table before in
-    let same = append_assoc before (see ∷ []) more in
     let start = so_far_by points devices (done ++ own ∷ []) given in
     let here = found_name (λ (r : PointRow). r.name) points see.point no_point
-    (All-head (λ (s : SeeRow). s.point < length points) see more known) names in
-    Grows-line start
-    (so_far_by points devices (done ++ with_sees table (before ++ see ∷ []) ∷ []) given)
-    (so_far_by points devices (done ++ with_sees table (before ++ see ∷ more) ∷ []) given)
-    (see_line_of rows see) (map (see_line_of rows) more)
-    (no_fault _ _ _ _ (some_tables points devices done own) (ap is_none here)
-    (ap (has_see (last_table start.rows)) here
-    ∙ ap (λ t. is_some (place_of_see t see.point)) (last_is points devices done own)
-    ∙ ap is_some
-    (absent_before (λ (s : SeeRow). s.point) (λ a b. eqb a b) same_numbers before see more once))
-    (ap (λ (t : Table). leb SEE_LIMIT (length t.sees)) (last_is points devices done own)
-    ∙ lt-leb SEE_LIMIT (length before) (omega (arith, length-append before (see ∷ more), limit))))
-    (ap (λ o. record start { rows = seen_in_last start.rows (see_of (unwrap_or o 0) see) }) here
-    ∙ ap (λ rs. record start { rows = rs })
-    (last_changed points devices done own (λ t. with_see t see)))
-    (subst
-    (λ sees. Grows
-    (so_far_by points devices (done ++ with_sees table (before ++ see ∷ []) ∷ []) given)
-    (map (see_line_of rows) more)
-    (so_far_by points devices (done ++ with_sees table sees ∷ []) given)) same
-    (sees_grow rows names done table given (before ++ see ∷ []) more
-    (All-tail (λ (s : SeeRow). s.point < length points) see more known)
-    (subst (AllPairs (λ (a b : SeeRow). a.point ≢ b.point)) (sym same) once)
-    (subst (λ (ss : List SeeRow). length ss ≤ SEE_LIMIT) (sym same) limit)))
+    (as_all sees before see more parts (λ (s : SeeRow). s.point < length points) known) names in (
+      no_fault _ _ _ _ (some_tables points devices done own) (ap is_none here)
+          (ap (has_see (last_table start.rows)) here
+          ∙ ap (λ t. is_some (place_of_see t see.point)) (last_is points devices done own)
+          ∙ ap is_some
+          (absent_before sees before see more parts (λ (s : SeeRow). s.point) (λ a b. eqb a b)
+          same_numbers once))
+          (ap (λ (t : Table). leb SEE_LIMIT (length t.sees)) (last_is points devices done own)
+          ∙ has_room sees before see more parts SEE_LIMIT limit),
+      ap (λ o. record start { rows = seen_in_last start.rows (see_of (unwrap_or o 0) see) }) here
+          ∙ ap (λ rs. record start { rows = rs })
+          (last_changed points devices done own (λ t. with_see t see)),
+    )) [] sees refl
 
 controls_grow : (rows : CentreRows) → AllPairs (λ a b. a.name ≢ b.name) rows.devices
-    → (done : List Table) (table : Table) (given : LimitRows) (before more : List ControlRow)
-    → All (λ row. row.device < length rows.devices) more
-    → AllPairs (λ a b. a.device ≢ b.device) (before ++ more)
-    → length (before ++ more) ≤ DEVICE_LIMIT
-    → Grows (so_far_by rows.points rows.devices (done ++ with_controls table before ∷ []) given)
-    (map (control_line_of rows) more)
-    (so_far_by rows.points rows.devices (done ++ with_controls table (before ++ more) ∷ []) given)
-controls_grow rows names done table given before [] known once limit =
-    ap (λ ks. so_far_by rows.points rows.devices (done ++ with_controls table ks ∷ []) given)
-    (sym (append-nil before))
-controls_grow rows names done table given before (row ∷ more) known once limit =
+    → (done : List Table) (table : Table) (given : LimitRows) (controls : List ControlRow)
+    → All (λ row. row.device < length rows.devices) controls
+    → AllPairs (λ a b. a.device ≢ b.device) controls → length controls ≤ DEVICE_LIMIT
+    → Grows (so_far_by rows.points rows.devices (done ++ with_controls table [] ∷ []) given)
+    (map (control_line_of rows) controls)
+    (so_far_by rows.points rows.devices (done ++ with_controls table controls ∷ []) given)
+controls_grow rows names done table given controls known once limit =
     let points = rows.points in
     let devices = rows.devices in
+    each_grows (λ ks. so_far_by points devices (done ++ with_controls table ks ∷ []) given)
+    (control_line_of rows) controls (λ before row more parts.
     let own = with_controls table before in
-    let same = append_assoc before (row ∷ []) more in
     let start = so_far_by points devices (done ++ own ∷ []) given in
     let here = found_name (λ (r : DeviceRow). r.name) devices row.device no_device
-    (All-head (λ (s : ControlRow). s.device < length devices) row more known) names in
-    Grows-line start
-    (so_far_by points devices (done ++ with_controls table (before ++ row ∷ []) ∷ []) given)
-    (so_far_by points devices (done ++ with_controls table (before ++ row ∷ more) ∷ []) given)
-    (control_line_of rows row) (map (control_line_of rows) more)
-    (no_fault _ _ _ _ (some_tables points devices done own) (ap is_none here)
-    (ap (has_control (last_table start.rows)) here
-    ∙ ap (λ t. is_some (place_of_control t row.device)) (last_is points devices done own)
-    ∙ ap is_some
-    (absent_before (λ (s : ControlRow). s.device) (λ a b. eqb a b) same_numbers before row more
-    once))
-    (ap (λ (t : Table). leb DEVICE_LIMIT (length t.controls)) (last_is points devices done own)
-    ∙ lt-leb DEVICE_LIMIT (length before)
-    (omega (arith, length-append before (row ∷ more), limit))))
-    (ap (λ o. record start {
-      rows = controlled_in_last start.rows (control_of (unwrap_or o 0) row);
-    }) here
-    ∙ ap (λ rs. record start { rows = rs })
-    (last_changed points devices done own (λ t. with_control t row)))
-    (subst
-    (λ ks. Grows
-    (so_far_by points devices (done ++ with_controls table (before ++ row ∷ []) ∷ []) given)
-    (map (control_line_of rows) more)
-    (so_far_by points devices (done ++ with_controls table ks ∷ []) given)) same
-    (controls_grow rows names done table given (before ++ row ∷ []) more
-    (All-tail (λ (s : ControlRow). s.device < length devices) row more known)
-    (subst (AllPairs (λ (a b : ControlRow). a.device ≢ b.device)) (sym same) once)
-    (subst (λ (ss : List ControlRow). length ss ≤ DEVICE_LIMIT) (sym same) limit)))
-
-All_behind : {X : Type 0} (P : X → Type 0) (xs ys : List X) → All P (xs ++ ys) → All P ys
-All_behind P [] ys all = all
-All_behind P (x ∷ xs) ys all = All_behind P xs ys (All-tail P x (xs ++ ys) all)
+    (as_all controls before row more parts (λ (s : ControlRow). s.device < length devices) known)
+    names in (
+      no_fault _ _ _ _ (some_tables points devices done own) (ap is_none here)
+          (ap (has_control (last_table start.rows)) here
+          ∙ ap (λ t. is_some (place_of_control t row.device)) (last_is points devices done own)
+          ∙ ap is_some
+          (absent_before controls before row more parts (λ (s : ControlRow). s.device)
+          (λ a b. eqb a b) same_numbers once))
+          (ap (λ (t : Table). leb DEVICE_LIMIT (length t.controls))
+          (last_is points devices done own)
+          ∙ has_room controls before row more parts DEVICE_LIMIT limit),
+      ap (λ o. record start {
+        rows = controlled_in_last start.rows (control_of (unwrap_or o 0) row);
+      }) here
+          ∙ ap (λ rs. record start { rows = rs })
+          (last_changed points devices done own (λ t. with_control t row)),
+    )) [] controls refl
 
 -- a limit's line, which the last table wasn't given yet
 limit_free : (points : List PointRow) (devices : List DeviceRow) (done : List Table)
@@ -411,15 +351,13 @@ module _ (rows : CentreRows) (lawful : IsCentre rows) (done : List Table) (table
       → row_fault (so_far_by rows.points rows.devices done given) (Peer (empty_table table))
       ≡ None
   peer_free given =
-      let few : length (done ++ table ∷ more) ≤ PEER_LIMIT =
-      subst (λ (ts : List Table). length ts ≤ PEER_LIMIT) parts lawful.peer_limit in
       no_fault _ _ _ _ refl refl
       (either_absent _ _
-      (absent_before (λ (t : Table). t.key) bytes_eq same_octets done table more
-      (subst (AllPairs (λ (a b : Table). a.key ≢ b.key)) parts lawful.keys))
-      (absent_before (λ (t : Table). t.title) (option_eq bytes_eq) same_titles done table more
-      (subst (AllPairs (λ (a b : Table). a.title ≢ b.title)) parts lawful.titles)))
-      (lt-leb PEER_LIMIT (length done) (omega (arith, length-append done (table ∷ more), few)))
+      (absent_before rows.tables done table more parts (λ (t : Table). t.key) bytes_eq same_octets
+      lawful.keys)
+      (absent_before rows.tables done table more parts (λ (t : Table). t.title)
+      (option_eq bytes_eq) same_titles lawful.titles))
+      (has_room rows.tables done table more parts PEER_LIMIT lawful.peer_limit)
 
   rows_grow : Grows
       (so_far_by rows.points rows.devices (done ++ limited table ∷ []) (given_by true true true))
@@ -428,19 +366,17 @@ module _ (rows : CentreRows) (lawful : IsCentre rows) (done : List Table) (table
   rows_grow =
       let given = given_by true true true in
       let seen = with_sees (limited table) table.sees in
-      let own = All-head (IsTable (length rows.points)) table more
-      (All_behind (IsTable (length rows.points)) done (table ∷ more)
-      (subst (All (IsTable (length rows.points))) parts lawful.tables)) in
-      let controlling = All-head (IsControlling (length rows.devices)) table more
-      (All_behind (IsControlling (length rows.devices)) done (table ∷ more)
-      (subst (All (IsControlling (length rows.devices))) parts lawful.controls)) in
+      let own = as_all rows.tables done table more parts (IsTable (length rows.points))
+      lawful.tables in
+      let controlling = as_all rows.tables done table more parts
+      (IsControlling (length rows.devices)) lawful.controls in
       Grows-append (so_far_by rows.points rows.devices (done ++ limited table ∷ []) given)
       (so_far_by rows.points rows.devices (done ++ seen ∷ []) given)
       (so_far_by rows.points rows.devices (done ++ table ∷ []) given)
       (map (see_line_of rows) table.sees) (map (control_line_of rows) table.controls)
-      (sees_grow rows lawful.names done (limited table) given [] table.sees own.known own.once
+      (sees_grow rows lawful.names done (limited table) given table.sees own.known own.once
       own.limit)
-      (controls_grow rows lawful.device_names done seen given [] table.controls
+      (controls_grow rows lawful.device_names done seen given table.controls
       controlling.known controlling.once controlling.limit)
 
   table_grows : (given : LimitRows)
@@ -494,10 +430,10 @@ centre_told rows lawful =
     (Grows-append at_start (so_far_by rows.points [] [] nothing_given) end
     (map Point rows.points)
     (map Device rows.devices ++ flat_map (table_lines rows) rows.tables)
-    (points_grow [] rows.points lawful.names lawful.point_limit)
+    (points_grow rows.points lawful.names lawful.point_limit)
     (Grows-append (so_far_by rows.points [] [] nothing_given)
     (so_far_by rows.points rows.devices [] nothing_given) end
     (map Device rows.devices) (flat_map (table_lines rows) rows.tables)
-    (devices_grow rows.points [] rows.devices lawful.device_names lawful.devices lawful.apart
+    (devices_grow rows.points rows.devices lawful.device_names lawful.devices lawful.apart
     lawful.device_limit) tables.1)) in
     (all.0, ap (λ (s : SoFar). s.rows) all.1)

@@ -6,13 +6,13 @@ use Rattle.std.proofs.Common.{AllPairs, All, IsTrue, Option, Some, None, positio
 use Rattle.std.proofs.Common.{sym, ap, subst, ◌∙◌, inl, inr, arith, bytes_eq}
 use Rattle.std.specs.Option.{option_eq}
 use Rattle.std.specs.Cmp.Lexicographic.{bytes_decides}
-use Rattle.std.proofs.lemmas.Bool.{cases_eq, cases_Bool, cond-true, cond-false, both_ways, eq-eqb}
+use Rattle.std.proofs.lemmas.Bool.{cases_eq, cond-false, both_ways, eq-eqb}
 use Rattle.std.proofs.lemmas.Bool.{ne_eqb, eqb-true, and_left, and_parts, not-false, leb-true}
 use Rattle.std.proofs.lemmas.Bool.{false≢true}
 use Rattle.std.proofs.lemmas.List.{length-set, length_push, get_or-set_same, get_or-set_other}
 use Rattle.std.proofs.lemmas.List.{get_or_default}
 use Rattle.std.proofs.lemmas.List.Elements.{All-push, All-set, All-get_or}
-use Rattle.std.proofs.lemmas.List.Quantifiers.{all_pairs_push, position-Some}
+use Rattle.std.proofs.lemmas.List.Quantifiers.{all_pairs_push}
 use Rattle.bilateral.specs.declared.line.TableLine.TheVariants.{Device, Peer}
 use Rattle.bilateral.specs.declared.rows.PointRow.{PointRow}
 use Rattle.bilateral.specs.declared.rows.DeviceRow.{DeviceRow}
@@ -26,58 +26,60 @@ use Rattle.bilateral.specs.declared.rows.TheConstants.{PENDING_LIMIT}
 use Rattle.tase_points.specs.Layouts.{IsLayout}
 use Rattle.table_words.specs.Words.{is_name}
 use Rattle.bilateral.specs.Rows.{CentreRows, IsCentre, IsTable, IsControlling, IsDevice}
-use Rattle.bilateral.specs.Rows.{place_of_point}
-use Rattle.bilateral.specs.Rows.{place_of_device, place_of_see, place_of_control, table_of}
-use Rattle.bilateral.specs.Rows.{no_table, no_point, no_device}
+use Rattle.bilateral.specs.Rows.{place_of_see, place_of_control, table_of}
+use Rattle.bilateral.specs.Rows.{no_table}
 use Rattle.bilateral.specs.Reading.{with_see, with_control, with_slots, with_sets}
 use Rattle.bilateral.specs.Reading.{with_pending, with_last, last_peer, last_table}
 use Rattle.bilateral.specs.Lines.{IsLawfulLine}
 use Rattle.plain_text.proofs.Parts.{position-None}
-use Rattle.bilateral.proofs.Positions.{position-push_here, position-push_other}
+use Rattle.bilateral.proofs.Positions.{position-by}
 use Rattle.bilateral.proofs.Taken.{IsNewPoint, IsNewDevice, IsNewPeer}
 
--- a key that is found nowhere differs from every row's
-fresh_key : {X : Type 0} (key : X → List ℕ) (rows : List X) (wanted : List ℕ)
-    → position (λ r. bytes_eq (key r) wanted) rows ≡ None → (k : ℕ) (d : X) → k < length rows
-    → key (get_or rows k d) ≢ wanted
-fresh_key key rows wanted none k d below same =
-    both_ways (bytes_eq (key (get_or rows k d)) wanted)
-    (position-None (λ r. bytes_eq (key r) wanted) rows none k d below)
-    ((bytes_decides (key (get_or rows k d)) wanted).1 same)
+-- what is found nowhere differs from every row's
+fresh : {X V : Type 0} (test : V → V → Bool) → ((v : V) → test v v ≡ true) → (f : X → V)
+    (rows : List X) (wanted : V) → position (λ r. test (f r) wanted) rows ≡ None
+    → (k : ℕ) (d : X) → k < length rows → f (get_or rows k d) ≢ wanted
+fresh test passes f rows wanted none k d below same =
+    both_ways (test (f (get_or rows k d)) wanted)
+    (position-None (λ r. test (f r) wanted) rows none k d below)
+    (ap (λ v. test v wanted) same ∙ passes wanted)
 
-option_eq-same : (title : Option (List ℕ)) → option_eq bytes_eq title title ≡ true
-option_eq-same None = refl
-option_eq-same (Some octets) = (bytes_decides octets octets).1 refl
+-- so rows differ with one more whose own is found nowhere
+still_differ : {X V : Type 0} (test : V → V → Bool) → ((v : V) → test v v ≡ true) → (f : X → V)
+    (rows : List X) (row : X) → AllPairs (λ a b. f a ≢ f b) rows
+    → position (λ r. test (f r) (f row)) rows ≡ None
+    → AllPairs (λ a b. f a ≢ f b) (rows ++ row ∷ [])
+still_differ test passes f rows row differ none =
+    all_pairs_push (λ a b. f a ≢ f b) rows row differ (fresh test passes f rows (f row) none)
 
-fresh_title : (tables : List Table) (title : Option (List ℕ))
-    → position (λ table. option_eq bytes_eq table.title title) tables ≡ None → (k : ℕ) (d : Table)
-    → k < length tables → (get_or tables k d).title ≢ title
-fresh_title tables title none k d below same =
-    both_ways (option_eq bytes_eq (get_or tables k d).title title)
-    (position-None (λ table. option_eq bytes_eq table.title title) tables none k d below)
-    (ap (λ t. option_eq bytes_eq t title) same ∙ option_eq-same title)
+same_octets : (octets : List ℕ) → bytes_eq octets octets ≡ true
+same_octets octets = (bytes_decides octets octets).1 refl
 
-no_tables_all : (P : Table → Type 0) (tables : List Table) → length tables ≡ 0 → All P tables
-no_tables_all P tables none = λ k d below. absurd (omega arith)
+same_title : (title : Option (List ℕ)) → option_eq bytes_eq title title ≡ true
+same_title None = refl
+same_title (Some octets) = same_octets octets
+
+same_number : (n : ℕ) → eqb n n ≡ true
+same_number n = eq-eqb n n refl
 
 -- a point more
 pub IsCentre-with_point : (rows : CentreRows) (point : PointRow) → IsCentre rows
     → IsTrue (is_name point.name) → IsNewPoint rows point
     → IsCentre (record rows { points = rows.points ++ point ∷ [] })
 IsCentre-with_point rows point lawful named new = record {
-  names = all_pairs_push (λ a b. a.name ≢ b.name) rows.points point lawful.names
-      (fresh_key (λ r. r.name) rows.points point.name new.fresh);
+  names =
+      still_differ bytes_eq same_octets (λ r. r.name) rows.points point lawful.names new.fresh;
   named = All-push (λ row. IsTrue (is_name row.name)) rows.points point lawful.named named;
   device_names = lawful.device_names;
   devices = lawful.devices;
   apart = λ k d below.
       All-push (λ p. p.name ≢ (get_or rows.devices k d).name) rows.points point
       (lawful.apart k d below)
-      (λ same. fresh_key (λ r. r.name) rows.devices point.name new.apart k d below (sym same));
+      (λ same. fresh bytes_eq same_octets (λ r. r.name) rows.devices point.name new.apart k d below
+      (sym same));
   keys = lawful.keys;
   titles = lawful.titles;
-  tables =
-      no_tables_all (IsTable (length (rows.points ++ point ∷ []))) rows.tables new.no_tables;
+  tables = λ k d below. absurd (omega (arith, new.no_tables));
   controls = lawful.controls;
   point_limit = omega (arith, length_push rows.points point, new.room);
   device_limit = lawful.device_limit;
@@ -107,19 +109,18 @@ pub IsCentre-with_device : (rows : CentreRows) (device : DeviceRow) → IsCentre
 IsCentre-with_device rows device lawful words new = record {
   names = lawful.names;
   named = lawful.named;
-  device_names = all_pairs_push (λ a b. a.name ≢ b.name) rows.devices device lawful.device_names
-      (fresh_key (λ r. r.name) rows.devices device.name new.fresh);
+  device_names =
+      still_differ bytes_eq same_octets (λ r. r.name) rows.devices device lawful.device_names
+      new.fresh;
   devices =
       All-push IsDevice rows.devices device lawful.devices (IsDevice-new device words rows new);
   apart =
       All-push (λ d. All (λ p. p.name ≢ d.name) rows.points) rows.devices device lawful.apart
-      (fresh_key (λ r. r.name) rows.points device.name new.apart);
+      (fresh bytes_eq same_octets (λ r. r.name) rows.points device.name new.apart);
   keys = lawful.keys;
   titles = lawful.titles;
   tables = lawful.tables;
-  controls =
-      no_tables_all (IsControlling (length (rows.devices ++ device ∷ []))) rows.tables
-      new.no_tables;
+  controls = λ k d below. absurd (omega (arith, new.no_tables));
   point_limit = lawful.point_limit;
   device_limit = omega (arith, length_push rows.devices device, new.room);
   peer_limit = lawful.peer_limit;
@@ -127,35 +128,34 @@ IsCentre-with_device rows device lawful words new = record {
 
 -- a new table has no rows, and limits within bounds
 IsTable-new : (points : ℕ) (table : Table) → IsLawfulLine (Peer table) → IsTable points table
-IsTable-new points table lawful = record {
-  known = subst (λ sees. All (λ see. see.point < points) sees) (sym lawful.3.0)
-      (λ k d below. absurd (omega arith));
-  once = subst (λ sees. AllPairs (λ a b. a.point ≢ b.point) sees) (sym lawful.3.0)
-      (λ i j d before below. absurd (omega arith));
-  limit = subst (λ sees. length sees ≤ SEE_LIMIT) (sym lawful.3.0) (omega arith);
-  layouts = subst (λ sees. All (λ see. IsLayout see.layout) sees) (sym lawful.3.0)
-      (λ k d below. absurd (omega arith));
-  key = lawful.0;
-  title = lawful.4;
-  domain = lawful.1;
-  id = lawful.2;
-  slots_least = omega (arith, lawful.3.2);
-  slots = omega (arith, lawful.3.2);
-  sets_least = omega (arith, lawful.3.3);
-  sets = omega (arith, lawful.3.3);
-  pending_least = omega (arith, lawful.3.4);
-  pending = omega (arith, lawful.3.4);
-}
+IsTable-new points table lawful =
+    let none : length table.sees ≡ 0 = ap length lawful.3.0 in
+    record {
+      known = λ k d below. absurd (omega arith);
+      once = λ i j d before below. absurd (omega arith);
+      limit = omega arith;
+      layouts = λ k d below. absurd (omega arith);
+      key = lawful.0;
+      title = lawful.4;
+      domain = lawful.1;
+      id = lawful.2;
+      slots_least = omega (arith, lawful.3.2);
+      slots = omega (arith, lawful.3.2);
+      sets_least = omega (arith, lawful.3.3);
+      sets = omega (arith, lawful.3.3);
+      pending_least = omega (arith, lawful.3.4);
+      pending = omega (arith, lawful.3.4);
+    }
 
 IsControlling-new : (devices : ℕ) (table : Table) → IsLawfulLine (Peer table)
     → IsControlling devices table
-IsControlling-new devices table lawful = record {
-  known = subst (λ controls. All (λ c. c.device < devices) controls) (sym lawful.3.1)
-      (λ k d below. absurd (omega arith));
-  once = subst (λ controls. AllPairs (λ a b. a.device ≢ b.device) controls) (sym lawful.3.1)
-      (λ i j d before below. absurd (omega arith));
-  limit = subst (λ controls. length controls ≤ DEVICE_LIMIT) (sym lawful.3.1) (omega arith);
-}
+IsControlling-new devices table lawful =
+    let none : length table.controls ≡ 0 = ap length lawful.3.1 in
+    record {
+      known = λ k d below. absurd (omega arith);
+      once = λ i j d before below. absurd (omega arith);
+      limit = omega arith;
+    }
 
 -- a peer more
 pub IsCentre-with_peer : (rows : CentreRows) (table : Table) → IsCentre rows
@@ -167,11 +167,10 @@ IsCentre-with_peer rows table lawful words new = record {
   device_names = lawful.device_names;
   devices = lawful.devices;
   apart = lawful.apart;
-  keys = all_pairs_push (λ a b. a.key ≢ b.key) rows.tables table lawful.keys
-      (fresh_key (λ t. t.key) rows.tables table.key new.fresh);
+  keys = still_differ bytes_eq same_octets (λ t. t.key) rows.tables table lawful.keys new.fresh;
   titles =
-      all_pairs_push (λ a b. a.title ≢ b.title) rows.tables table lawful.titles
-      (fresh_title rows.tables table.title new.title);
+      still_differ (option_eq bytes_eq) same_title (λ t. t.title) rows.tables table lawful.titles
+      new.title;
   tables =
       All-push (IsTable (length rows.points)) rows.tables table lawful.tables
       (IsTable-new (length rows.points) table words);
@@ -186,8 +185,8 @@ IsCentre-with_peer rows table lawful words new = record {
 -- what a table's change leaves as it was is so in every table
 kept : {V : Type 0} (f : Table → V) (tables : List Table) (i : ℕ) (table : Table)
     → i < length tables → f table ≡ f (get_or tables i no_table) → (j : ℕ) (d : Table)
-    → j < length tables → f (get_or (set tables i table) j d) ≡ f (get_or tables j d)
-kept f tables i table within same j d below =
+    → f (get_or (set tables i table) j d) ≡ f (get_or tables j d)
+kept f tables i table within same j d =
     elim (cases_eq j i) [
       | inl here ↦ subst (λ k. f (get_or (set tables i table) k d) ≡ f (get_or tables k d))
           (sym here)
@@ -202,8 +201,7 @@ AllPairs-kept : {V : Type 0} (f : Table → V) (tables : List Table) (i : ℕ) (
 AllPairs-kept f tables i table within same pairs = λ j k d before below equal.
     let length_same : length (set tables i table) ≡ length tables = length-set tables i table in
     pairs j k d before (omega arith)
-    (sym (kept f tables i table within same j d (omega arith)) ∙ equal
-    ∙ kept f tables i table within same k d (omega arith))
+    (sym (kept f tables i table within same j d) ∙ equal ∙ kept f tables i table within same k d)
 
 -- the last table is lawful
 pub IsTable-last : (rows : CentreRows) → IsCentre rows → 0 < length rows.tables
@@ -259,9 +257,8 @@ pub IsTable-with_see : (points : ℕ) (table : Table) (see : SeeRow) → IsTable
     → IsLayout see.layout → IsTable points (with_see table see)
 IsTable-with_see points table see lawful known fresh room layout = record {
   known = All-push (λ s. s.point < points) table.sees see lawful.known known;
-  once = all_pairs_push (λ a b. a.point ≢ b.point) table.sees see lawful.once
-      (λ k d below same. both_ways (eqb (get_or table.sees k d).point see.point)
-      (position-None (λ s. s.point == see.point) table.sees fresh k d below) (eq-eqb _ _ same));
+  once =
+      still_differ (λ a b. eqb a b) same_number (λ s. s.point) table.sees see lawful.once fresh;
   limit = omega (arith, length_push table.sees see, room);
   layouts = All-push (λ s. IsLayout s.layout) table.sees see lawful.layouts layout;
   key = lawful.key;
@@ -283,10 +280,9 @@ pub IsControlling-with_control : (devices : ℕ) (table : Table) (row : ControlR
     → IsControlling devices (with_control table row)
 IsControlling-with_control devices table row lawful known fresh room = record {
   known = All-push (λ s. s.device < devices) table.controls row lawful.known known;
-  once = all_pairs_push (λ a b. a.device ≢ b.device) table.controls row lawful.once
-      (λ k d below same. both_ways (eqb (get_or table.controls k d).device row.device)
-      (position-None (λ s. s.device == row.device) table.controls fresh k d below)
-      (eq-eqb _ _ same));
+  once =
+      still_differ (λ a b. eqb a b) same_number (λ s. s.device) table.controls row lawful.once
+      fresh;
   limit = omega (arith, length_push table.controls row, room);
 }
 
@@ -351,14 +347,7 @@ pub kept_of : {V : Type 0} (f : Table → V) (rows : CentreRows) (table : Table)
     → 0 < length rows.tables → f table ≡ f (last_table rows) → (peer : ℕ)
     → f (table_of (with_last rows table) peer) ≡ f (table_of rows peer)
 kept_of f rows table some same peer =
-    let last = length rows.tables - 1 in
-    let within : length rows.tables - 1 < length rows.tables = omega arith in
-    elim (cases_eq peer last) [
-      | inl here ↦ subst (λ k. f (get_or (set rows.tables last table) k no_table)
-          ≡ f (get_or rows.tables k no_table)) (sym here)
-          (ap f (get_or-set_same rows.tables last table no_table within) ∙ same)
-      | inr other ↦ ap f (get_or-set_other rows.tables last peer table no_table other)
-    ]
+    kept f rows.tables (length rows.tables - 1) table (omega arith) same peer no_table
 
 -- the rows of tables, where one without rows is added
 pushed : {V : Type 0} (f : Table → List V) (tables : List Table) (table : Table) → f table ≡ []
@@ -374,22 +363,6 @@ pub kept_with_peer : {V : Type 0} (f : Table → List V) (rows : CentreRows) (ta
     → f (table_of (record rows { tables = rows.tables ++ table ∷ [] }) peer)
     ≡ f (table_of rows peer)
 kept_with_peer f rows table none default peer = pushed f rows.tables table none default peer
-
--- a row at the end, or the rows before it
-here_or_later : {X : Type 0} (number : X → ℕ) (rows : List X) (row : X) (q : ℕ)
-    → position (λ r. number r == number row) rows ≡ None
-    → cond (number row == q) (Some (length rows)) (position (λ r. number r == q) rows)
-    ≡ position (λ r. number r == q) (rows ++ row ∷ [])
-here_or_later number rows row q fresh =
-    elim (cases_Bool (eqb (number row) q)) [
-      | inl same ↦ cond-true (eqb (number row) q) _ _ same
-          ∙ sym (position-push_here (λ r. number r == q) rows row
-          (ap (λ p. position (λ r. number r == p) rows) (sym (eqb-true (number row) q same))
-          ∙ fresh)
-          same)
-      | inr differs ↦ cond-false (eqb (number row) q) _ _ differs
-          ∙ sym (position-push_other (λ r. number r == q) rows row differs)
-    ]
 
 -- the place of a new row of the last table is found, and all others where they were
 pub place-with_row : {X : Type 0} (list : Table → List X) (number : X → ℕ) (rows : CentreRows)
@@ -409,7 +382,9 @@ place-with_row list number rows table row some grown fresh p q =
           ≡ position (λ r. number r == q) (list (table_of (with_last rows table) k))) (sym here)
           (ap (λ b. cond (b && eqb (number row) q) (Some (length (list (last_table rows))))
           (position (λ r. number r == q) (list (last_table rows))))
-          (eq-eqb last last refl) ∙ here_or_later number (list (last_table rows)) row q fresh
+          (eq-eqb last last refl)
+          ∙ position-by (λ a b. eqb a b) (λ a b same. eqb-true a b same) number
+          (list (last_table rows)) row fresh q
           ∙ ap (position (λ r. number r == q)) (sym grown)
           ∙ ap (λ t. position (λ r. number r == q) (list t))
           (sym (get_or-set_same rows.tables last table no_table within)))
@@ -418,13 +393,3 @@ place-with_row list number rows table row some grown fresh p q =
           ∙ ap (λ t. position (λ r. number r == q) (list t))
           (sym (get_or-set_other rows.tables last p table no_table other))
     ]
-
-pub point_known : (rows : CentreRows) (name : List ℕ) (point : ℕ)
-    → place_of_point rows name ≡ Some point → point < length rows.points
-point_known rows name point found =
-    (position-Some (λ row. bytes_eq row.name name) rows.points point no_point found).0
-
-pub device_known : (rows : CentreRows) (name : List ℕ) (device : ℕ)
-    → place_of_device rows name ≡ Some device → device < length rows.devices
-device_known rows name device found =
-    (position-Some (λ row. bytes_eq row.name name) rows.devices device no_device found).0

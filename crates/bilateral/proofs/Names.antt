@@ -1,15 +1,16 @@
 -- Names in the order of the file: where one stands, and one more at the end.
-use Rattle.std.proofs.Common.{◌≡◌, ℕ, ◌+◌, Bool, true, false, cond, List, [], ◌∷◌, ◌++◌}
+use Rattle.std.proofs.Common.{◌≡◌, ℕ, ◌+◌, Bool, false, cond, List, [], ◌∷◌, ◌++◌}
 use Rattle.std.proofs.Common.{map, Some, None, position, refl, sym, ap, ◌∙◌}
-use Rattle.std.proofs.Common.{bytes_eq, nat_eq, Vec, Global, ◌||◌}
+use Rattle.std.proofs.Common.{bytes_eq, nat_eq, Vec, Global}
 use Rattle.std.specs.List.{position_from, list_any}
 use Rattle.std.specs.Cmp.Lexicographic.{pointwise, nat_list_eq_equiv}
 use Rattle.std.proofs.lemmas.Iterator.Adapters.{position_from-zero}
-use Rattle.std.proofs.lemmas.Bool.{false≢true, cond-false}
+use Rattle.std.proofs.lemmas.Bool.{cond-false}
 use Rattle.std.proofs.lemmas.List.{map-append}
 use Rattle.indexmap.specs.IndexSet.{insert_key}
 use Rattle.bilateral.specs.Index.{place_among}
-use Rattle.bilateral.proofs.Positions.{found_later}
+use Rattle.plain_text.proofs.Parts.{position-None}
+use Rattle.std.proofs.lemmas.List.Folds.{list_any_none}
 
 from-mapped : {X Y : Type 0} (f : X → Y) (p : Y → Bool) (q : X → Bool) → ((x : X) → p (f x) ≡ q x)
     → (n : ℕ) (xs : List X) → position_from p n (map f xs) ≡ position_from q n xs
@@ -40,20 +41,9 @@ place-in_set keys name =
     sym (position-mapped (λ (key : Vec ℕ Global). key.items) (λ other. bytes_eq other name)
     (λ key. bytes_eq name key.items) (λ key. nat_list_eq_equiv.symm key.items name) keys)
 
-none-any : {X : Type 0} (p : X → Bool) (n : ℕ) (xs : List X) → position_from p n xs ≡ None
-    → list_any p xs ≡ false
-none-any p n [] none = refl
-none-any p n (x ∷ xs) none =
-    let parts = found_later p n x (position_from p (n + 1) xs) (p x) refl none in
-    both_false (p x) (list_any p xs) parts.0 (none-any p (n + 1) xs parts.1)
-  where
-    both_false : (a b : Bool) → a ≡ false → b ≡ false → (a || b) ≡ false
-    both_false true b first second = absurd (false≢true (sym first))
-    both_false false b first second = second
-
 pub position-none_any : {X : Type 0} (p : X → Bool) (xs : List X) → position p xs ≡ None
     → list_any p xs ≡ false
-position-none_any p xs none = none-any p 0 xs (sym (position_from-zero p xs) ∙ none)
+position-none_any p xs none = list_any_none p xs (position-None p xs none)
 
 -- the names of rows, with one row more
 pub names-pushed : {X : Type 0} (key : X → List ℕ) (old new : List X) (row : X)

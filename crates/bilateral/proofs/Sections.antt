@@ -133,20 +133,16 @@ last_own-push line d (p ∷ []) part more there = refl
 last_own-push line d (p ∷ q ∷ rest) part more there =
     last_own-push line p.1 (q ∷ rest) q rest refl
 
-pub filter_map-push_none : {X Y : Type 0} (h : X → Option Y) (xs : List X) (x : X) → h x ≡ None
-    → filter_map h (xs ++ x ∷ []) ≡ filter_map h xs
-filter_map-push_none h xs x none =
-    filter_map-append h xs (x ∷ []) ∙ ap (λ ys. filter_map h xs ++ ys) (of_one h x none)
-    ∙ append-nil (filter_map h xs)
-  where
-    of_one : {X Y : Type 0} (h : X → Option Y) (x : X) → h x ≡ None → filter_map h (x ∷ []) ≡ []
-    of_one h x none = ap (λ o. cons_option o []) none
+-- a list with one more at its end, or with none
+abbrev pub with_some : {X : Type 0} → List X → Option X → List X
+with_some xs None = xs
+with_some xs (Some x) = xs ++ x ∷ []
 
-pub filter_map-push_some : {X Y : Type 0} (h : X → Option Y) (xs : List X) (x : X) (y : Y)
-    → h x ≡ Some y → filter_map h (xs ++ x ∷ []) ≡ filter_map h xs ++ y ∷ []
-filter_map-push_some h xs x y some =
-    filter_map-append h xs (x ∷ []) ∙ ap (λ ys. filter_map h xs ++ ys) (of_one h x y some)
+-- what a line at the end gives stands at the end
+pub filter_map-push : {X Y : Type 0} (h : X → Option Y) (xs : List X) (x : X)
+    → filter_map h (xs ++ x ∷ []) ≡ with_some (filter_map h xs) (h x)
+filter_map-push h xs x = filter_map-append h xs (x ∷ []) ∙ joined (filter_map h xs) (h x)
   where
-    of_one : {X Y : Type 0} (h : X → Option Y) (x : X) (y : Y) → h x ≡ Some y
-        → filter_map h (x ∷ []) ≡ y ∷ []
-    of_one h x y some = ap (λ o. cons_option o []) some
+    joined : {Y : Type 0} (ys : List Y) (o : Option Y) → ys ++ cons_option o [] ≡ with_some ys o
+    joined ys None = append-nil ys
+    joined ys (Some y) = refl
