@@ -131,7 +131,7 @@ verb_in-found word verb e =
     verb_or word verb verbs.Odd (codes "odd") _ refl k (λ k.
     set_verb_in-found word verb k))))))
 
--- each name is a word
+-- each name's text is a name's word
 names_each : (names : List ObjectName) → All IsName names → EachWord IsNameWord (map name_text names)
 names_each [] all = tt
 names_each (name ∷ names) all = (
@@ -144,7 +144,7 @@ pub names_are : (names : List ObjectName) → 0 < length names → All IsName na
 names_are [] some all = absurd (omega (arith, some))
 names_are (name ∷ names) some all = names_each (name ∷ names) all
 
--- so is each value
+-- each value's text is a value's word
 pub values_each : (values : List Datum) → All IsLawful values → All HasText values
     → EachWord IsValueWord (map data_text values)
 values_each [] lawful textual = tt
@@ -167,7 +167,7 @@ values_are (value ∷ values) some lawful textual = values_each (value ∷ value
 name_is : (name : ObjectName) → IsName name → IsNameWord (name_text name)
 name_is name named = record { name = name; spelled = refl; named = named }
 
--- so is each name with its value
+-- each name with its value is a word that assigns
 pub assigned_each : (names : List ObjectName) (values : List Datum) → All IsName names
     → All IsLawful values → All HasText values → EachWord IsAssignedWord (assigned_words names values)
 assigned_each [] values all lawful textual = tt
@@ -231,7 +231,7 @@ others-behind (NameList class scope after) h k = (
 )
 others-behind (Odd kind code) h k = (odd_kind kind h.0, (ap decimal h.1 ∙ one-is, tt))
 
--- so what stands behind a verb in a call may stand there
+-- words of a call are the word of its verb and its other words
 pub spells-verb : (verb : Verb) (words : List (List ℕ)) (call : CallKind)
     → SpellsCall (verb_text verb ∷ words) call → (verb ≡ verb_of call) × (words ≡ others_of call)
 spells-verb verb words call s =
@@ -347,7 +347,7 @@ read_set_words echo word w = (
   record { spelled = λ i. read_set_verb echo ∷ w.spelled i ∷ []; lawful = tt; textual = w.named },
 )
 
--- and what may stand behind a verb makes a call
+-- the word of a verb and words that may stand behind this verb are a call
 pub behind-spells : (verb : Verb) (words : List (List ℕ)) → Behind verb words
     → AreCallWords (verb_text verb ∷ words)
 behind-spells verbs.Identify [] b = (Identify, record { spelled = refl; lawful = tt; textual = tt })

@@ -87,7 +87,7 @@ pub one_break : (P : Words → Type 0) (words : Words) (a b : ℕ) → Breaks P 
     → Breaks P words b → a ≡ b
 one_break P words a b x y = order a b (not_below P words a b x y) (not_below P words b a y x)
 
--- the same for why a reading stopped
+-- where a reading of words stopped, if not for want of memory, is one further behind one more word
 pub halts-behind : (P Q : Words → Type 0) (word : List ℕ) (words : Words) (halt : Halt)
     → ((more : Words) → P more → Q (word ∷ more)) → ((more : Words) → Q (word ∷ more) → P more)
     → HaltsAtWords halt (λ count. Breaks P words count)

@@ -15,7 +15,7 @@ pub record IsPrinted (word : List ℕ) : Type 0 where
   pub some : 0 < length word
   pub graphic : AreGraphic word
 
--- each of them is one
+-- each word has printing characters alone, and at least one
 abbrev pub ArePrinted : List (List ℕ) → Type 0
 ArePrinted [] = Unit {0}
 ArePrinted (word ∷ words) = IsPrinted word × ArePrinted words

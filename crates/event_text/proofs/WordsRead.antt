@@ -14,8 +14,7 @@ use Rattle.std.proofs.lemmas.Bool.Decides.{nat_tests}
 use Rattle.std.proofs.lemmas.List.{length-append}
 use Rattle.std.proofs.lemmas.List.Folds.{list_all-append}
 use Rattle.std.proofs.lemmas.Slice.Eq.{bytes_eq-Decides}
-use Rattle.plain_text.specs.Octets.{hex_digit}
-use Rattle.plain_text.specs.Escaped.{is_octet, is_plain, escaped_octet, escaped_text}
+use Rattle.plain_text.specs.Escaped.{is_octet, escaped_text}
 use Rattle.plain_text.proofs.EscapedText.{option_map-found}
 use Rattle.mms_data.specs.declared.object_name.Scope.{Scope}
 use Rattle.mms_data.specs.declared.object_name.Scope.TheVariants.{Vmd, Domain, Association}
@@ -26,7 +25,7 @@ use Rattle.mms_text.specs.Texts.{data_text, name_text, scope_text}
 use Rattle.mms_text.specs.TextRead.{HasText}
 use Rattle.mms_text.proofs.ReadName.{name_in-name_text, identifier_in-found, position-append}
 use Rattle.mms_text.proofs.ReadName.{identifier_in-escaped_text, octets_from_visible}
-use Rattle.mms_text.proofs.Marks.{small_octet}
+use Rattle.mms_text.proofs.WordOctets.{is_word_octet, each_passes, escaped_octets}
 use Rattle.mms_text.proofs.LeafRead.{integer-read}
 use Rattle.mms_text.proofs.WordText.{word-found, chosen, is_same}
 use Rattle.mms_text.proofs.TextBreaks.{one_datum}
@@ -113,7 +112,7 @@ domain_read escaped domain e =
       e,
     ) refl
 
--- and a scope's word is read as that scope
+-- a scope's text is read as this scope
 pub scope_in-scope_text : (scope : Scope) → IsScope scope → scope_word_in (scope_text scope) ≡ Some scope
 scope_in-scope_text Vmd h = refl
 scope_in-scope_text (Domain domain) h =
@@ -128,28 +127,13 @@ same_scope a b h k e =
 abbrev pub HasNoEquals : List ℕ → Type 0
 HasNoEquals octets = list_all (λ c. not (c == 61)) octets ≡ true
 
-plain_is_none : (octet : ℕ) → is_plain octet ≡ true → not (octet == 61) ≡ true
-plain_is_none octet e = grind (arith, nat_tests)
-
-digit_is_none : (value : ℕ) → value < 16 → not (hex_digit value == 61) ≡ true
-digit_is_none value h = grind (arith, nat_tests)
-
-octet_is_none : (octet : ℕ) (plain : Bool) → is_plain octet ≡ plain → octet < 256
-    → HasNoEquals (escaped_octet octet)
-octet_is_none octet true e h = rw (e, plain_is_none octet e) refl
-octet_is_none octet false e h =
-    rw (e, digit_is_none (octet / 16) (omega arith), digit_is_none (octet % 16) (omega arith)) refl
+octet_is_none : (c : ℕ) → is_word_octet c ≡ true → not (c == 61) ≡ true
+octet_is_none c e = grind (arith, nat_tests)
 
 escaped_has_none : (octets : List ℕ) → list_all is_octet octets ≡ true
     → HasNoEquals (escaped_text octets)
-escaped_has_none [] h = refl
-escaped_has_none (octet ∷ rest) h =
-    let parts = and_parts (is_octet octet) _ h in
-    rw (
-      list_all-append (λ c. not (c == 61)) (escaped_octet octet) (escaped_text rest),
-      octet_is_none octet _ refl (small_octet octet parts.0),
-      escaped_has_none rest parts.1,
-    ) refl
+escaped_has_none octets h =
+    each_passes (λ c. not (c == 61)) octet_is_none (escaped_text octets) (escaped_octets octets h)
 
 scope_has_none : (scope : Scope) → IsScope scope → HasNoEquals (scope_text scope)
 scope_has_none Vmd h = refl

@@ -156,14 +156,7 @@ assigned_printed (name ∷ names) (value ∷ values) all textual =
 data_some : (d : Datum) → 0 < length (data_text d)
 data_some (boolean true) = omega arith
 data_some (boolean false) = omega arith
-data_some (integer z) = omega arith
-data_some (unsigned n) = omega arith
-data_some (bits b) = omega arith
-data_some (real o) = omega arith
-data_some (octets o) = omega arith
-data_some (text o) = omega arith
-data_some (structure ds) = omega arith
-data_some (array ds) = omega arith
+data_some _ = omega arith
 
 data_printed : (d : Datum) → HasText d → IsPrinted (data_text d)
 data_printed d h = record { some = data_some d; graphic = data_graphic d h }

@@ -29,7 +29,7 @@ use Rattle.mms_data.specs.Datum.{structure, array}
 use Rattle.mms_text.specs.Texts.{data_text}
 use Rattle.mms_text.specs.WordValue as own
 use Rattle.mms_text.specs.TextRead.{IsLeaf, IsTextual, AreOctets}
-use Rattle.mms_text.proofs.Marks.{small_octet}
+use Rattle.mms_text.proofs.WordOctets.{small_octet}
 use Rattle.mms_text.proofs.ReadName.{position-append, octets_from_visible}
 
 hex_pair-read : (octet : ℕ) → octet < 256

@@ -1,4 +1,5 @@
 pub mod Spelled
+pub mod WordOctets
 pub mod ReadName
 pub mod Marks
 pub mod LeafRead

@@ -1,5 +1,5 @@
 -- A name is read from its own text, and from no other.
-use Rattle.std.proofs.Common.{◌≡◌, ℕ, ◌+◌, ◌/◌, ◌%◌, ◌<◌, ◌≤◌, Bool, true, false, not, cond, eqb}
+use Rattle.std.proofs.Common.{◌≡◌, ℕ, ◌+◌, ◌<◌, ◌≤◌, Bool, true, false, not, cond, eqb}
 use Rattle.std.proofs.Common.{nat_lt, nat_le, List, [], ◌∷◌, ◌++◌, length, take, drop, slice_index}
 use Rattle.std.proofs.Common.{Option, Some, None, option_map, Result, Ok, Err, IfOk, IfSome, refl}
 use Rattle.std.proofs.Common.{sym, ap, ◌∙◌, append_assoc, length-append, add-one, arith, codes}
@@ -8,12 +8,10 @@ use Rattle.std.specs.Str.{bytes_eq}
 use Rattle.std.proofs.Math.Seq.{take-append_seam, get_or-append_seam, drop-append-add, split_at}
 use Rattle.std.proofs.lemmas.Bool.{and_parts}
 use Rattle.std.proofs.lemmas.Bool.Decides.{nat_tests}
-use Rattle.std.proofs.lemmas.List.Folds.{list_all-append}
 use Rattle.std.proofs.lemmas.List.Quantifiers.{position-Some}
 use Rattle.std.proofs.lemmas.Option.{option_and_then_some}
 use Rattle.std.proofs.lemmas.Slice.Eq.{bytes_eq-Decides}
-use Rattle.plain_text.specs.Octets.{hex_digit}
-use Rattle.plain_text.specs.Escaped.{is_octet, is_plain, escaped_octet, escaped_text, unescaped}
+use Rattle.plain_text.specs.Escaped.{is_octet, escaped_text, unescaped}
 use Rattle.plain_text.proofs.EscapedText.{option_map-found, unescaped-found, unescaped-escaped_text}
 use Rattle.ber_values.specs.Visible.{is_visible_octet}
 use Rattle.ber_values.specs.declared.visible_string.TheConstants.{VISIBLE_LIMIT}
@@ -23,6 +21,7 @@ use Rattle.mms_data.specs.ObjectName.{ObjectName, IsIdentifier, IsScope, IsName}
 use Rattle.mms_text.specs.NameIn.{if_identifier, identifier_in, is_separator, scope_in}
 use Rattle.mms_text.specs.NameIn.{name_of_parts, name_in}
 use Rattle.mms_text.specs.Texts.{scope_text, name_text}
+use Rattle.mms_text.proofs.WordOctets.{is_word_octet, each_passes, escaped_octets}
 
 -- visible octets are octets
 pub octets_from_visible : (octets : List ℕ) → list_all is_visible_octet octets ≡ true
@@ -161,36 +160,15 @@ name_in-parts before separator after none e =
           (separator ∷ after) 1,
     ) refl
 
-plain_separates_not : (octet : ℕ) → is_plain octet ≡ true → not (is_separator octet) ≡ true
-plain_separates_not octet e = grind (arith, nat_tests)
-
-digit_separates_not : (value : ℕ) → value < 16 → not (is_separator (hex_digit value)) ≡ true
-digit_separates_not value h = grind (arith, nat_tests)
-
-octet_separates_not : (octet : ℕ) (plain : Bool) → is_plain octet ≡ plain → octet < 256
-    → list_all (λ c. not (is_separator c)) (escaped_octet octet) ≡ true
-octet_separates_not octet true e h = rw (e, plain_separates_not octet e) refl
-octet_separates_not octet false e h =
-    rw (
-      e,
-      digit_separates_not (octet / 16) (omega arith),
-      digit_separates_not (octet % 16)
-          (omega arith),
-    ) refl
+octet_separates_not : (c : ℕ) → is_word_octet c ≡ true → not (is_separator c) ≡ true
+octet_separates_not c e = grind (arith, nat_tests)
 
 -- escaped text has no separator
 escaped_text_separates_not : (octets : List ℕ) → list_all is_octet octets ≡ true
     → list_all (λ c. not (is_separator c)) (escaped_text octets) ≡ true
-escaped_text_separates_not [] h = refl
-escaped_text_separates_not (octet ∷ rest) h =
-    let parts = and_parts (is_octet octet) _ h in
-    rw (
-      list_all-append (λ c. not (is_separator c)) (escaped_octet octet)
-          (escaped_text rest),
-      octet_separates_not octet _ refl
-          (grind (arith, nat_tests, parts.0)),
-      escaped_text_separates_not rest parts.1,
-    ) refl
+escaped_text_separates_not octets h =
+    each_passes (λ c. not (is_separator c)) octet_separates_not (escaped_text octets)
+    (escaped_octets octets h)
 
 pub name_in-name_text : (name : ObjectName) → IsName name → name_in (name_text name) ≡ Some name
 name_in-name_text name h = by_scope name.scope name.item h.0 h.1
@@ -216,7 +194,7 @@ found_from_exact (Ok None) escaped exact = tt
 found_from_exact (Ok (Some name)) escaped exact = name_in-found escaped name (sym exact)
 found_from_exact (Err e) escaped exact = tt
 
--- and a name whose text it is is that name
+-- where the name that was read is the text's, each name with this text is the one that was read
 pub only_from_exact : {E : Type 0} (read : Result (Option ObjectName) E) (escaped : List ℕ)
     → IfOk read (λ name. name ≡ name_in escaped) → (n : ObjectName) → IsName n
     → escaped ≡ name_text n → IfOk read (λ name. name ≡ Some n)

@@ -2,8 +2,7 @@
 use Rattle.std.proofs.Common.{◌≡◌, ◌≢◌, ◌⊎◌, ℕ, ◌+◌, List, [], ◌∷◌, ◌++◌, true}
 use Rattle.std.proofs.Common.{drop, get_or, Some, None, refl, sym, ap, ◌∙◌, inl, inr, append_assoc, subst, arith}
 use Rattle.std.proofs.lemmas.List.{append_cancel_left}
-use Rattle.mms_data.specs.Datum.{Datum, boolean, integer, unsigned, bits, real, octets, text}
-use Rattle.mms_data.specs.Datum.{structure, array, Data, no_data, datum, depth, deepest}
+use Rattle.mms_data.specs.Datum.{Datum, structure, array, Data, no_data, datum, depth, deepest}
 use Rattle.mms_text.specs.Texts.{data_text, members_text, further_text}
 use Rattle.mms_text.specs.WordValue.{is_mark, word_of, word_value}
 use Rattle.mms_text.specs.TextRead.{IsLeaf, IsEnd, IsTextual, AreTextual, IsClosing}
@@ -32,20 +31,22 @@ leaf_opens : (d : Datum) (c : ℕ) (x s : List ℕ) → IsLeaf d → IsTextual d
     → data_text d ++ s ≡ c ∷ x → ⊥
 leaf_opens d c x s leaf t none e = word_opens (data_text d) d c x s (leaf_stands d leaf t) none e
 
+-- a text of a datum that begins with no letter is that of a structure or of an array
+members_first : (d : Datum) (c : ℕ) (x s : List ℕ) → IsTextual d → IsNoLetter c
+    → data_text d ++ s ≡ c ∷ x
+    → (ds : Data) × (((d ≡ structure ds) × (123 ≡ c)) ⊎ ((d ≡ array ds) × (91 ≡ c)))
+members_first (structure ds) c x s t none e = (ds, inl (refl, first_octet 123 c _ x e))
+members_first (array ds) c x s t none e = (ds, inr (refl, first_octet 91 c _ x e))
+members_first d c x s t none e = absurd (leaf_opens d c x s tt t none e)
+
 -- the text of a datum begins with a letter or with an opening bracket
 pub datum_opens : (d : Datum) (c : ℕ) (x s : List ℕ) → IsTextual d → IsNoLetter c → c ≢ 123
     → c ≢ 91 → data_text d ++ s ≡ c ∷ x → ⊥
-datum_opens (structure ds) c x s t none brace bracket e =
-    absurd (brace (sym (first_octet 123 c _ x e)))
-datum_opens (array ds) c x s t none brace bracket e =
-    absurd (bracket (sym (first_octet 91 c _ x e)))
-datum_opens (boolean b) c x s t none brace bracket e = leaf_opens (boolean b) c x s tt t none e
-datum_opens (integer z) c x s t none brace bracket e = leaf_opens (integer z) c x s tt t none e
-datum_opens (unsigned n) c x s t none brace bracket e = leaf_opens (unsigned n) c x s tt t none e
-datum_opens (bits b) c x s t none brace bracket e = leaf_opens (bits b) c x s tt t none e
-datum_opens (real o) c x s t none brace bracket e = leaf_opens (real o) c x s tt t none e
-datum_opens (octets o) c x s t none brace bracket e = leaf_opens (octets o) c x s tt t none e
-datum_opens (text o) c x s t none brace bracket e = leaf_opens (text o) c x s tt t none e
+datum_opens d c x s t none brace bracket e =
+    elim ((members_first d c x s t none e).1) [
+      | inl k ↦ brace (sym k.1)
+      | inr k ↦ bracket (sym k.1)
+    ]
 
 -- what is known of a closing bracket
 pub record Closes (close : ℕ) : Type 0 where
@@ -105,14 +106,7 @@ leaf_first d (structure es) r s leaf t u end behind k =
     absurd (leaf_opens d 123 _ r leaf t (λ held. refl) k)
 leaf_first d (array es) r s leaf t u end behind k =
     absurd (leaf_opens d 91 _ r leaf t (λ held. refl) k)
-leaf_first d (boolean b) r s leaf t u end behind k = same_leaf d _ r s leaf tt t u end (behind tt) k
-leaf_first d (integer z) r s leaf t u end behind k = same_leaf d _ r s leaf tt t u end (behind tt) k
-leaf_first d (unsigned n) r s leaf t u end behind k =
-    same_leaf d _ r s leaf tt t u end (behind tt) k
-leaf_first d (bits b) r s leaf t u end behind k = same_leaf d _ r s leaf tt t u end (behind tt) k
-leaf_first d (real o) r s leaf t u end behind k = same_leaf d _ r s leaf tt t u end (behind tt) k
-leaf_first d (octets o) r s leaf t u end behind k = same_leaf d _ r s leaf tt t u end (behind tt) k
-leaf_first d (text o) r s leaf t u end behind k = same_leaf d _ r s leaf tt t u end (behind tt) k
+leaf_first d e r s leaf t u end behind k = same_leaf d e r s leaf tt t u end (behind tt) k
 
 -- members in brackets and what stands behind them, without the opening bracket
 inside : (t u : List ℕ) (close : ℕ) (r s : List ℕ)
@@ -134,27 +128,21 @@ pub record Brackets (open_ close : ℕ) (of : Data → Datum) : Type 0 where
 
 in_braces : (d : Datum) (x s : List ℕ) → IsTextual d → data_text d ++ s ≡ 123 ∷ x
     → (ds : Data) × (d ≡ structure ds)
-in_braces (structure ds) x s t k = (ds, refl)
-in_braces (array ds) x s t k = absurd (omega (arith, first_octet 91 123 _ x k))
-in_braces (boolean b) x s t k = absurd (leaf_opens (boolean b) 123 x s tt t (λ held. refl) k)
-in_braces (integer z) x s t k = absurd (leaf_opens (integer z) 123 x s tt t (λ held. refl) k)
-in_braces (unsigned n) x s t k = absurd (leaf_opens (unsigned n) 123 x s tt t (λ held. refl) k)
-in_braces (bits b) x s t k = absurd (leaf_opens (bits b) 123 x s tt t (λ held. refl) k)
-in_braces (real o) x s t k = absurd (leaf_opens (real o) 123 x s tt t (λ held. refl) k)
-in_braces (octets o) x s t k = absurd (leaf_opens (octets o) 123 x s tt t (λ held. refl) k)
-in_braces (text o) x s t k = absurd (leaf_opens (text o) 123 x s tt t (λ held. refl) k)
+in_braces d x s t e =
+    let found = members_first d 123 x s t (λ held. refl) e in
+    elim found.1 [
+      | inl k ↦ (found.0, k.0)
+      | inr k ↦ absurd (omega (arith, k.1))
+    ]
 
 in_brackets : (d : Datum) (x s : List ℕ) → IsTextual d → data_text d ++ s ≡ 91 ∷ x
     → (ds : Data) × (d ≡ array ds)
-in_brackets (array ds) x s t k = (ds, refl)
-in_brackets (structure ds) x s t k = absurd (omega (arith, first_octet 123 91 _ x k))
-in_brackets (boolean b) x s t k = absurd (leaf_opens (boolean b) 91 x s tt t (λ held. refl) k)
-in_brackets (integer z) x s t k = absurd (leaf_opens (integer z) 91 x s tt t (λ held. refl) k)
-in_brackets (unsigned n) x s t k = absurd (leaf_opens (unsigned n) 91 x s tt t (λ held. refl) k)
-in_brackets (bits b) x s t k = absurd (leaf_opens (bits b) 91 x s tt t (λ held. refl) k)
-in_brackets (real o) x s t k = absurd (leaf_opens (real o) 91 x s tt t (λ held. refl) k)
-in_brackets (octets o) x s t k = absurd (leaf_opens (octets o) 91 x s tt t (λ held. refl) k)
-in_brackets (text o) x s t k = absurd (leaf_opens (text o) 91 x s tt t (λ held. refl) k)
+in_brackets d x s t e =
+    let found = members_first d 91 x s t (λ held. refl) e in
+    elim found.1 [
+      | inl k ↦ absurd (omega (arith, k.1))
+      | inr k ↦ (found.0, k.0)
+    ]
 
 pub braces : Brackets 123 125 structure
 braces = record {
@@ -208,14 +196,7 @@ mutual
   same_datum (array ds) e r s t u end behind k =
       bracketed 91 93 array brackets ds e r s u k
       (λ es v q. same_members 93 closing_bracket ds es r s t v q)
-  same_datum (boolean b) e r s t u end behind k = leaf_first (boolean b) e r s tt t u (end tt) behind k
-  same_datum (integer z) e r s t u end behind k = leaf_first (integer z) e r s tt t u (end tt) behind k
-  same_datum (unsigned n) e r s t u end behind k =
-      leaf_first (unsigned n) e r s tt t u (end tt) behind k
-  same_datum (bits b) e r s t u end behind k = leaf_first (bits b) e r s tt t u (end tt) behind k
-  same_datum (real o) e r s t u end behind k = leaf_first (real o) e r s tt t u (end tt) behind k
-  same_datum (octets o) e r s t u end behind k = leaf_first (octets o) e r s tt t u (end tt) behind k
-  same_datum (text o) e r s t u end behind k = leaf_first (text o) e r s tt t u (end tt) behind k
+  same_datum d e r s t u end behind k = leaf_first d e r s tt t u (end tt) behind k
 
   same_members : (close : ℕ) → Closes close → (ds es : Data) (r s : List ℕ) → AreTextual ds
       → AreTextual es → members_text ds ++ close ∷ r ≡ members_text es ++ close ∷ s
@@ -264,10 +245,4 @@ pub leaf_or_bracket : (d : Datum)
     → IsLeaf d ⊎ ((rest : List ℕ) × ((data_text d ≡ 123 ∷ rest) ⊎ (data_text d ≡ 91 ∷ rest)))
 leaf_or_bracket (structure ds) = inr (members_text ds ++ 125 ∷ [], inl refl)
 leaf_or_bracket (array ds) = inr (members_text ds ++ 93 ∷ [], inr refl)
-leaf_or_bracket (boolean b) = inl tt
-leaf_or_bracket (integer z) = inl tt
-leaf_or_bracket (unsigned n) = inl tt
-leaf_or_bracket (bits b) = inl tt
-leaf_or_bracket (real o) = inl tt
-leaf_or_bracket (octets o) = inl tt
-leaf_or_bracket (text o) = inl tt
+leaf_or_bracket _ = inl tt

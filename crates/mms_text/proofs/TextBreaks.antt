@@ -11,7 +11,7 @@ use Rattle.std.proofs.lemmas.List.{length-append, length-drop, take-append-drop}
 use Rattle.std.proofs.lemmas.List.Folds.{list_all-append}
 use Rattle.std.proofs.lemmas.List.Quantifiers.{position-Some}
 use Rattle.mms_data.specs.declared.data.octets.TheConstants.{MOST_DEPTH}
-use Rattle.mms_data.specs.Datum.{Datum, boolean, integer, unsigned, bits, real, octets, text}
+use Rattle.mms_data.specs.Datum.{Datum, unsigned}
 use Rattle.mms_data.specs.Datum.{structure, array, Data, no_data, datum}
 use Rattle.mms_data.specs.Lawful.{IsLawful, KeepsUnsigned, KeepUnsigned}
 use Rattle.mms_text.specs.Texts.{data_text}
@@ -281,22 +281,17 @@ after_breaks os d rest b more = whole_breaks os (length rest) (record {
 pub one_datum : (d e : Datum) → IsTextual d → IsTextual e → data_text d ≡ data_text e → d ≡ e
 one_datum d e t u k = (same_datum d e [] [] t u (λ leaf. tt) (λ leaf. tt) (ap (λ o. o ++ []) k)).0
 
--- and breaks at one place at most
+-- a text breaks at one place at most
 pub one_place : (os : List ℕ) (p q : ℕ) → BreaksAt os p → BreaksAt os q → p ≡ q
 one_place os p q a b =
     omega (arith, a.longest q b.within b.begins, b.longest p a.within a.begins)
 
 mutual
   keeps : (d : Datum) → IsTextual d → KeepsUnsigned d
-  keeps (boolean b) t = tt
-  keeps (integer z) t = tt
   keeps (unsigned n) t = t
-  keeps (bits b) t = tt
-  keeps (real o) t = tt
-  keeps (octets o) t = tt
-  keeps (text o) t = tt
   keeps (structure ds) t = keep ds t
   keeps (array ds) t = keep ds t
+  keeps _ t = tt
 
   keep : (ds : Data) → AreTextual ds → KeepUnsigned ds
   keep no_data t = tt

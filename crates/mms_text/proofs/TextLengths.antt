@@ -1,13 +1,11 @@
 -- Lengths of the texts of data: of values without members, and of members one by one.
-use Rattle.std.proofs.Common.{◌≡◌, ◌==◌, ℕ, zero, suc, ◌+◌, ◌*◌, ◌<◌, ◌≤◌, Bool, true, false, List}
-use Rattle.std.proofs.Common.{[], ◌∷◌, ◌++◌, length, take, get_or, refl, sym, ap, ◌∙◌, arith}
-use Rattle.std.specs.Prelude.{if◌then◌else◌, decimal}
-use Rattle.std.specs.Fmt.{signed_decimal}
+use Rattle.std.proofs.Common.{◌≡◌, ◌==◌, ℕ, zero, suc, ◌+◌, ◌<◌, false, List}
+use Rattle.std.proofs.Common.{[], ◌∷◌, ◌++◌, length, take, get_or, refl, ap, ◌∙◌, arith}
+use Rattle.std.specs.Prelude.{if◌then◌else◌}
 use Rattle.std.proofs.lemmas.Bool.{ne_eqb}
 use Rattle.std.proofs.lemmas.List.{length-append}
-use Rattle.plain_text.specs.Octets.{hex_text}
 use Rattle.plain_text.specs.Lengths.{capped_len}
-use Rattle.mms_data.specs.Datum.{Datum, data_of, structure, array}
+use Rattle.mms_data.specs.Datum.{Datum, data_of}
 use Rattle.mms_text.specs.Texts.{data_text, members_text}
 use Rattle.mms_text.proofs.Spelled.{members_text-take_one, members_text-take_more}
 

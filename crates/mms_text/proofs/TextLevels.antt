@@ -7,7 +7,7 @@ use Rattle.std.proofs.lemmas.Bool.Decides.{nat_tests}
 use Rattle.std.proofs.lemmas.List.{length-append}
 use Rattle.mms_text.specs.declared.data_text.Halt.{Halt}
 use Rattle.mms_text.specs.declared.data_text.Halt.TheVariants as halts
-use Rattle.mms_data.specs.Datum.{Datum, boolean, integer, unsigned, bits, real, octets, text}
+use Rattle.mms_data.specs.Datum.{Datum}
 use Rattle.mms_data.specs.Datum.{structure, array, Data, no_data, datum, data_of, depth, deepest}
 use Rattle.mms_text.specs.Texts.{data_text, members_text, further_text}
 use Rattle.mms_text.specs.TextRead.{IsEnd, IsTextual, AreTextual, IsClosing, IsTextWithin}
@@ -35,15 +35,8 @@ halts_as halts.Memory P Q each k = tt
 halts_as (halts.Bad left) P Q each k = each left k
 
 pub some_depth : (d : Datum) → 0 < depth d
-some_depth (boolean b) = omega arith
-some_depth (integer z) = omega arith
-some_depth (unsigned n) = omega arith
-some_depth (bits b) = omega arith
-some_depth (real o) = omega arith
-some_depth (octets o) = omega arith
-some_depth (text o) = omega arith
 some_depth (structure ds) = omega arith
-some_depth (array ds) = omega arith
+some_depth _ = omega arith
 
 -- a front part of one text that is one of another, cut where both go on alike
 pub split : (xs ys fs rs : List ℕ) → xs ++ ys ≡ fs ++ rs → length xs ≤ length fs
@@ -326,7 +319,7 @@ longest_so_far n close os before rest c s left few next ds tail w l share =
         absurd (not_first close rest (fs ++ others) open_
         (parts ∙ ap (λ o. o ∷ (fs ++ others)) same))
 
--- and it is no text of members
+-- a text is none of members, where none of what is still to be read is
 unspelled_so_far : (n close : ℕ) (os : List ℕ) (before : List Datum) (rest : List ℕ)
     → Closes close → SoFar n close os before rest
     → ((d : Datum) (behind : List ℕ) → IsTextWithin n d → GoesOn close behind → IsEnd behind
@@ -437,7 +430,7 @@ so_far-more n close os ds rest d after more s b e =
       shorter = omega (arith, s.shorter, len);
     }
 
--- behind a datum stands what fits behind none
+-- octets that begin with no comma and no closing bracket don't stand behind a member
 goes_on_not : (close : ℕ) (after behind : List ℕ) → begins_with close after ≡ false
     → begins_with 44 after ≡ false → GoesOn close behind → after ≡ behind → ⊥
 goes_on_not close after behind closing comma on e =
@@ -446,7 +439,8 @@ goes_on_not close after behind closing comma on e =
       | inr k ↦ not_first close after on.0 closing (e ∙ k)
     ]
 
--- nor does what begins with the same octet
+-- octets that begin with no comma and no closing bracket begin otherwise than what stands behind a
+-- member
 goes_on_no_first : (close : ℕ) (after behind : List ℕ) → begins_with close after ≡ false
     → begins_with 44 after ≡ false → GoesOn close behind
     → (c : ℕ) × (t u : List ℕ) × (after ≡ c ∷ t) × (behind ≡ c ∷ u) → ⊥

@@ -586,7 +586,7 @@ fits_passes (c ∷ cs) s f =
     subst (λ (o : Option Next). PassesIn (λ t. Passes cs t) o) (sym k.is)
     (fits_passes cs k.state k.fits)
 
--- The other way: a state that an octet leads to, and what may come behind it.
+-- A state that an octet leads to, and what may come behind it.
 
 -- what is known of states that are reached
 abbrev pub Lives : Next → Type 0

@@ -20,7 +20,7 @@ use Rattle.mms_text.specs.declared.word_front.Next.{Next}
 use Rattle.mms_text.specs.declared.word_front.Next.TheVariants as next
 use Rattle.mms_text.specs.WordFront.{next_of_kind, and_behind, front_of, word_front}
 use Rattle.mms_text.specs.TextRead.{IsLeaf, IsTextual, AreOctets}
-use Rattle.mms_text.proofs.Marks.{small_octet}
+use Rattle.mms_text.proofs.WordOctets.{small_octet}
 use Rattle.mms_text.proofs.WordText.{is_same}
 use Rattle.mms_text.proofs.ReadName.{octets_from_visible}
 use Rattle.mms_text.proofs.WordFits.{Passes, passes_far, passes_front, front_passes, completes}

@@ -317,13 +317,7 @@ word-found (kind ∷ held) d e = kind-found kind held d e
 shallow : (d : Datum) → IsLeaf d → depth d ≡ 1
 shallow (structure ds) leaf = absurd leaf
 shallow (array ds) leaf = absurd leaf
-shallow (boolean b) leaf = refl
-shallow (integer z) leaf = refl
-shallow (unsigned n) leaf = refl
-shallow (bits b) leaf = refl
-shallow (real o) leaf = refl
-shallow (octets o) leaf = refl
-shallow (text o) leaf = refl
+shallow _ leaf = refl
 
 -- a text that begins with a word begins with its value
 pub word_begins : (n : ℕ) (os word rest : List ℕ) (d : Datum) → n ≢ 0 → os ≡ word ++ rest

@@ -80,13 +80,7 @@ HasOneTextReading os =
 abbrev pub IsLeaf : Datum → Type 0
 IsLeaf (structure ds) = ⊥
 IsLeaf (array ds) = ⊥
-IsLeaf (boolean b) = Unit {0}
-IsLeaf (integer z) = Unit {0}
-IsLeaf (unsigned n) = Unit {0}
-IsLeaf (bits b) = Unit {0}
-IsLeaf (real o) = Unit {0}
-IsLeaf (octets o) = Unit {0}
-IsLeaf (text o) = Unit {0}
+IsLeaf _ = Unit {0}
 
 -- nothing, or a mark first
 abbrev pub IsEnd : List ℕ → Type 0

@@ -7,8 +7,8 @@ use Rattle.tase_points.specs.declared.kind.Kind.{Kind}
 use Rattle.tase_points.specs.declared.kind.Kind.TheVariants.{State}
 use Rattle.tase_points.specs.declared.layout.Component.{Component}
 use Rattle.tase_points.specs.declared.layout.Component.TheVariants.{Value, Flags}
-use Rattle.mms_data.specs.Datum.{Datum, boolean, integer, unsigned, bits, real, octets, text}
-use Rattle.mms_data.specs.Datum.{structure, array, Data, no_data, datum}
+use Rattle.mms_data.specs.Datum.{Datum, integer, unsigned, bits, real, structure}
+use Rattle.mms_data.specs.Datum.{Data, no_data, datum}
 
 -- a layout has a component
 abbrev pub HasComponent : List Component → Component → Type 0
@@ -25,15 +25,8 @@ list_of (datum d ds) = d ∷ list_of ds
 
 -- the members of a structure
 abbrev pub structure_members : Datum → List Datum
-structure_members (boolean b) = []
-structure_members (integer z) = []
-structure_members (unsigned n) = []
-structure_members (bits b) = []
-structure_members (real o) = []
-structure_members (octets o) = []
-structure_members (text o) = []
 structure_members (structure ds) = list_of ds
-structure_members (array ds) = []
+structure_members _ = []
 
 -- the datum at a place of a layout: one component stands bare
 abbrev pub member_in : List Component → Datum → ℕ → Option Datum
@@ -43,45 +36,23 @@ member_in (component ∷ next ∷ more) value place = slice_get (structure_membe
 
 -- the number of an integer
 abbrev pub integer_part : Datum → Option ℤ
-integer_part (boolean b) = None
 integer_part (integer z) = Some z
-integer_part (unsigned n) = None
-integer_part (bits b) = None
-integer_part (real o) = None
-integer_part (octets o) = None
-integer_part (text o) = None
-integer_part (structure ds) = None
-integer_part (array ds) = None
+integer_part _ = None
 
 -- the number of an unsigned integer
 abbrev pub unsigned_part : Datum → Option ℕ
-unsigned_part (boolean b) = None
-unsigned_part (integer z) = None
 unsigned_part (unsigned n) = Some n
-unsigned_part (bits b) = None
-unsigned_part (real o) = None
-unsigned_part (octets o) = None
-unsigned_part (text o) = None
-unsigned_part (structure ds) = None
-unsigned_part (array ds) = None
+unsigned_part _ = None
 
 -- the octets of a real value
 abbrev pub real_part : Datum → Option (List ℕ)
-real_part (boolean b) = None
-real_part (integer z) = None
-real_part (unsigned n) = None
-real_part (bits b) = None
 real_part (real o) = Some o
-real_part (octets o) = None
-real_part (text o) = None
-real_part (structure ds) = None
-real_part (array ds) = None
+real_part _ = None
 
 -- the only octet
 abbrev pub only_octet : List ℕ → Option ℕ
-only_octet [] = None
 only_octet (octet ∷ []) = Some octet
-only_octet (octet ∷ next ∷ more) = None
+only_octet _ = None
 
 -- the octet of eight bits
 abbrev pub octet_of_bits : Bits → Option ℕ
@@ -89,12 +60,5 @@ octet_of_bits b = if b.count == 8 then only_octet b.octets else None
 
 -- the octet of a string of eight bits
 abbrev pub octet_part : Datum → Option ℕ
-octet_part (boolean b) = None
-octet_part (integer z) = None
-octet_part (unsigned n) = None
 octet_part (bits b) = octet_of_bits b
-octet_part (real o) = None
-octet_part (octets o) = None
-octet_part (text o) = None
-octet_part (structure ds) = None
-octet_part (array ds) = None
+octet_part _ = None

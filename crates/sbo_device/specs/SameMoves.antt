@@ -12,7 +12,7 @@ abbrev pub renumbered_hold : (ℕ → ℕ) → Hold → Hold
 renumbered_hold number hold =
     record { key = renumbered_key number hold.key; until = hold.until }
 
--- the same move of a peer with another number
+-- a move in which peers have other numbers
 abbrev pub renumbered : (ℕ → ℕ) → ControlMove → ControlMove
 renumbered number (selects key) = selects (renumbered_key number key)
 renumbered number (operates key value) = operates (renumbered_key number key) value

@@ -86,7 +86,7 @@ is_distinct (component ∷ more) = not (list_any (same_component component) more
 abbrev pub layout_of : List Component → Result (List Component) LayoutWhy
 layout_of components = if is_distinct components then Ok components else Err Twice
 
--- the same of parts, unless one of them names no component
+-- the layout that the components named by parts are, unless a part names none or two name one
 abbrev pub layout_from : Option (List Component) → Result (List Component) LayoutWhy
 layout_from None = Err Part
 layout_from (Some components) = layout_of components

@@ -75,48 +75,21 @@ form_read d p form =
 
 -- what stands behind a getter that found something
 text_found : (d : Datum) (o : List ℕ) → text_part d ≡ Some o → d ≡ text o
-text_found (boolean b) o e = cc
-text_found (integer z) o e = cc
-text_found (unsigned n) o e = cc
-text_found (bits b) o e = cc
-text_found (real r) o e = cc
-text_found (octets r) o e = cc
 text_found (text r) o e = cc
-text_found (structure ds) o e = cc
-text_found (array ds) o e = cc
+text_found _ o e = absurd cc
 
 integer_found : (d : Datum) (z : ℤ) → integer_part d ≡ Some z → d ≡ integer z
-integer_found (boolean b) o e = cc
 integer_found (integer z) o e = cc
-integer_found (unsigned n) o e = cc
-integer_found (bits b) o e = cc
-integer_found (real r) o e = cc
-integer_found (octets r) o e = cc
-integer_found (text r) o e = cc
-integer_found (structure ds) o e = cc
-integer_found (array ds) o e = cc
+integer_found _ o e = absurd cc
 
 boolean_found : (d : Datum) (b : Bool) → boolean_part d ≡ Some b → d ≡ boolean b
 boolean_found (boolean b) o e = cc
-boolean_found (integer z) o e = cc
-boolean_found (unsigned n) o e = cc
-boolean_found (bits b) o e = cc
-boolean_found (real r) o e = cc
-boolean_found (octets r) o e = cc
-boolean_found (text r) o e = cc
-boolean_found (structure ds) o e = cc
-boolean_found (array ds) o e = cc
+boolean_found _ o e = absurd cc
 
 scope_found : (d : Datum) → is_scope d ≡ true → IsAnyNumber d
-scope_found (boolean b) e = absurd cc
 scope_found (integer z) e = inl (z, refl)
 scope_found (unsigned n) e = inr (n, refl)
-scope_found (bits b) e = absurd cc
-scope_found (real r) e = absurd cc
-scope_found (octets r) e = absurd cc
-scope_found (text r) e = absurd cc
-scope_found (structure ds) e = absurd cc
-scope_found (array ds) e = absurd cc
+scope_found _ e = absurd cc
 
 five_found : (b : Bits) (five : ℕ) → five_of b.count b.octets ≡ Some five
     → (5 ≤ b.count) × (0 < length b.octets)
@@ -134,15 +107,8 @@ five_found b five e = by b.count b.octets e
 
 conditions_found : (d : Datum) (five : ℕ) → conditions_in d ≡ Some five
     → (b : Bits) × (d ≡ bits b) × (5 ≤ b.count) × (0 < length b.octets)
-conditions_found (boolean b) five e = absurd cc
-conditions_found (integer z) five e = absurd cc
-conditions_found (unsigned n) five e = absurd cc
 conditions_found (bits b) five e = let found = five_found b five e in (b, refl, found.0, found.1)
-conditions_found (real r) five e = absurd cc
-conditions_found (octets r) five e = absurd cc
-conditions_found (text r) five e = absurd cc
-conditions_found (structure ds) five e = absurd cc
-conditions_found (array ds) five e = absurd cc
+conditions_found _ five e = absurd cc
 
 -- data are the data of their list
 data_of-list_of : (ds : Data) → data_of (list_of ds) ≡ ds
@@ -152,16 +118,9 @@ data_of-list_of (datum d ds) = ap (datum d) (data_of-list_of ds)
 -- a datum with members is a structure of them
 structure_found : (d x : Datum) (xs : List Datum) → structure_members d ≡ x ∷ xs
     → d ≡ structure (data_of (x ∷ xs))
-structure_found (boolean b) x xs e = absurd cc
-structure_found (integer z) x xs e = absurd cc
-structure_found (unsigned n) x xs e = absurd cc
-structure_found (bits b) x xs e = absurd cc
-structure_found (real r) x xs e = absurd cc
-structure_found (octets r) x xs e = absurd cc
-structure_found (text r) x xs e = absurd cc
 structure_found (structure ds) x xs e =
     ap structure (sym (data_of-list_of ds) ∙ ap data_of e)
-structure_found (array ds) x xs e = absurd cc
+structure_found _ x xs e = absurd cc
 
 -- three and thirteen members
 pub record Three (xs : List Datum) : Type 0 where
@@ -579,7 +538,7 @@ shown_ranged w is = record {
   event_code = is.event_code;
 }
 
--- and is read back as itself
+-- the datum that shows a wish is read as this wish
 pub shown_read : (w : Wish) → IsWish w → wish_in (shown_wish w) ≡ Ok w
 shown_read w is =
     let five : w.conditions / 8 * 8 / 8 * 8 ≡ w.conditions = (let f = is.five in omega arith) in

@@ -62,12 +62,13 @@ after_the_buffer = refl
 told_by_its_report : has_untold (reports ∷ changed) (codes "LOAD1") ≡ false
 told_by_its_report = refl
 
--- the same wish with status true is a new enabling: the times count anew, no change is noted
+-- a wish with status true enables anew, though the slot has this very wish: the times count from
+-- then, and no change is noted
 enabled_anew : slot (wishes on_change 22500 ∷ changed)
     ≡ record { wish = on_change; base = 22500; noted = None }
 enabled_anew = refl
 
--- with status false it is kept, and nothing is due
+-- a wish with status false is kept, and nothing is due
 abbrev switched_off : List SlotMove
 switched_off = wishes (with_status false each_two) 11000 ∷ running
 

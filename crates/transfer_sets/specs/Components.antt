@@ -4,8 +4,7 @@ use Rattle.std.specs.Prelude.{false, ◌&&◌, if◌then◌else◌, List, [], �
 use Rattle.std.specs.Prelude.{option_and_then, Result, Ok, Err}
 use Rattle.std.specs.Option.{option_map_or}
 use Rattle.std.specs.List.{slice_get}
-use Rattle.mms_data.specs.Datum.{Datum, boolean, integer, unsigned, bits, real, octets, text}
-use Rattle.mms_data.specs.Datum.{structure, array}
+use Rattle.mms_data.specs.Datum.{Datum, boolean, integer, unsigned, bits, text}
 use Rattle.point_data.specs.Parts.{structure_members, integer_part}
 use Rattle.transfer_sets.specs.declared.parts.Numbers.{Numbers}
 use Rattle.transfer_sets.specs.declared.parts.Ranged.{Ranged}
@@ -17,53 +16,29 @@ use Rattle.transfer_sets.specs.declared.wish.TheConstants.{NUMBER_LIMIT}
 
 -- whether a datum is an integer or an unsigned integer
 abbrev pub is_scope : Datum → Bool
-is_scope (boolean b) = false
 is_scope (integer z) = true
 is_scope (unsigned n) = true
-is_scope (bits b) = false
-is_scope (real o) = false
-is_scope (octets o) = false
-is_scope (text o) = false
-is_scope (structure ds) = false
-is_scope (array ds) = false
+is_scope _ = false
 
+-- the octets of a text
 abbrev pub text_part : Datum → Option (List ℕ)
-text_part (boolean b) = None
-text_part (integer z) = None
-text_part (unsigned n) = None
-text_part (bits b) = None
-text_part (real o) = None
-text_part (octets o) = None
 text_part (text o) = Some o
-text_part (structure ds) = None
-text_part (array ds) = None
+text_part _ = None
 
+-- the value of a boolean
 abbrev pub boolean_part : Datum → Option Bool
 boolean_part (boolean b) = Some b
-boolean_part (integer z) = None
-boolean_part (unsigned n) = None
-boolean_part (bits b) = None
-boolean_part (real o) = None
-boolean_part (octets o) = None
-boolean_part (text o) = None
-boolean_part (structure ds) = None
-boolean_part (array ds) = None
+boolean_part _ = None
 
 -- the first five of at least five bits, as the sum of the conditions
 abbrev pub five_of : ℕ → List ℕ → Option ℕ
 five_of count [] = None
 five_of count (octet ∷ more) = if nat_le 5 count then Some (octet / 8 * 8) else None
 
+-- the conditions of a string of bits
 abbrev pub conditions_in : Datum → Option ℕ
-conditions_in (boolean b) = None
-conditions_in (integer z) = None
-conditions_in (unsigned n) = None
 conditions_in (bits b) = five_of b.count b.octets
-conditions_in (real o) = None
-conditions_in (octets o) = None
-conditions_in (text o) = None
-conditions_in (structure ds) = None
-conditions_in (array ds) = None
+conditions_in _ = None
 
 -- whether there is a number at a place
 abbrev pub is_scope_at : List Datum → ℕ → Bool

@@ -8,8 +8,8 @@ use Rattle.transfer_sets.specs.Wishes.{empty_wish, base_of}
 use Rattle.transfer_sets.specs.SlotState.{SlotState, IsSlotLike, noted_at}
 
 -- what befalls a transfer set, at a moment in milliseconds since 1970: it is handed out to an
--- association; it is wished something, or the same with another status; a point changes, by its
--- name; a report of it is made
+-- association; a wish is made of it, be it the last one with another status; a point changes, by
+-- its name; a report of it is made
 pub data SlotMove : Type 0 where
   handed_out : ℕ → SlotMove
   wishes : Wish → ℕ → SlotMove

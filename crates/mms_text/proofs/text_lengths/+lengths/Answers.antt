@@ -1,5 +1,5 @@
 -- A container's length, by that of its members; a value is deeper than its members.
-use Rattle.std.proofs.Common.{◌≡◌, ◌<◌, length, sym, ap, ◌∙◌, arith}
+use Rattle.std.proofs.Common.{◌≡◌, length, sym, ap, ◌∙◌, arith}
 use Rattle.plain_text.specs.Lengths.{capped_len}
 use Rattle.mms_data.specs.Datum.{data_of, depth, deepest, structure, array}
 use Rattle.mms_data.specs.DatumOf.{datum_of}
