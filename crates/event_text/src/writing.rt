@@ -7,6 +7,7 @@ mod calls;
 mod events;
 mod replies;
 
+use ber_values::or_undo;
 use calls::put_call;
 use events::put_event;
 use replies::put_reply;
@@ -23,10 +24,7 @@ pub fn spell_call(out: &mut Vec<u8>, call: &Call) -> Result<(), AllocError>
 {
     let before = out.len();
     let spelled = put_call(out, call);
-    if spelled.is_err() {
-        out.truncate(before);
-    }
-    spelled
+    or_undo(out, before, spelled)
 }
 
 /// Appends the text of an event: `open PEER`, `call CALL`, `take`, `close`,
@@ -38,10 +36,7 @@ pub fn spell_event(out: &mut Vec<u8>, event: &Event) -> Result<(), AllocError>
 {
     let before = out.len();
     let spelled = put_event(out, event);
-    if spelled.is_err() {
-        out.truncate(before);
-    }
-    spelled
+    or_undo(out, before, spelled)
 }
 
 /// Appends the text of a reply: `identify`; `read OUTCOME ..`, or `read+ OUTCOME ..` where the
@@ -54,8 +49,5 @@ pub fn spell_reply(out: &mut Vec<u8>, reply: &Reply) -> Result<(), AllocError>
 {
     let before = out.len();
     let spelled = put_reply(out, reply);
-    if spelled.is_err() {
-        out.truncate(before);
-    }
-    spelled
+    or_undo(out, before, spelled)
 }

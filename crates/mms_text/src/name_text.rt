@@ -7,7 +7,7 @@ ghost use Rattle.mms_text.specs.NameIn.{name_in, name_of_parts, is_separator, sc
 ghost use Rattle.mms_text.specs.NameIn.{identifier_in};
 ghost use Rattle.mms_text.specs.Texts.{name_text, scope_text};
 
-use ber_values::{Visible, is_visible};
+use ber_values::{Visible, is_visible, or_undo};
 use mms_data::{Name, Scope};
 use plain_text::{push_escaped, read_escaped};
 use std::alloc::{AllocError, Global};
@@ -86,10 +86,7 @@ pub fn spell_name(out: &mut Vec<u8>, name: &Name) -> Result<(), AllocError>
 {
     let before = out.len();
     let spelled = spell_parts(out, name);
-    if spelled.is_err() {
-        out.truncate(before);
-    }
-    spelled
+    or_undo(out, before, spelled)
 }
 
 fn spell_parts(out: &mut Vec<u8>, name: &Name) -> Result<(), AllocError>

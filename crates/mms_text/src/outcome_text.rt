@@ -4,6 +4,7 @@ ghost use Rattle.mms_data.specs.declared.outcome.Outcome.{Outcome};
 ghost use Rattle.mms_text.specs.Texts.{outcome_text};
 
 use crate::spelling::spell_data;
+use ber_values::or_undo;
 use mms_data::Outcome;
 use plain_text::push_decimal;
 use std::alloc::AllocError;
@@ -27,8 +28,5 @@ fn spell_reason(out: &mut Vec<u8>, reason: u8) -> Result<(), AllocError>
     let before = out.len();
     out.push(b'!')?;
     let spelled = push_decimal(out, u64::from(reason));
-    if spelled.is_err() {
-        out.truncate(before);
-    }
-    spelled
+    or_undo(out, before, spelled)
 }

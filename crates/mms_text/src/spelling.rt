@@ -5,7 +5,7 @@ ghost use Rattle.plain_text.specs.Octets.{hex_text};
 ghost use Rattle.mms_data.specs.Datum.{Datum, data_of};
 ghost use Rattle.mms_text.specs.Texts.{data_text, members_text};
 
-use ber_values::BitString;
+use ber_values::{BitString, or_undo};
 use mms_data::{DataKind, DataList, MmsData};
 use plain_text::{push_decimal, push_escaped, push_hex, push_signed_decimal};
 use std::alloc::AllocError;
@@ -18,10 +18,7 @@ pub fn spell_data(out: &mut Vec<u8>, value: &MmsData) -> Result<(), AllocError>
 {
     let before = out.len();
     let spelled = spell(out, value);
-    if spelled.is_err() {
-        out.truncate(before);
-    }
-    spelled
+    or_undo(out, before, spelled)
 }
 
 #[cycle(depth)]
