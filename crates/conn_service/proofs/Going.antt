@@ -289,7 +289,7 @@ asked_by (progresses.Ended end) l c = absurd l
 asked_by (progresses.Cut end) l c = absurd l
 
 -- what a connection is that wants the close of its association
-pub record WantsClose (rows : CentreRows) (past : Past) (who : ℕ) (items : List Item)
+pub record WantsItsClose (rows : CentreRows) (past : Past) (who : ℕ) (items : List Item)
     (said : List ℕ) (event : EventKind) (old new : Talking) : Type 0 where
   pub event_is : event ≡ events.Close
   pub leaving : is_leaving old.progress ≡ true
@@ -316,7 +316,7 @@ pub wants_close : (rows : CentreRows) (past : Past) (who : ℕ) (items : List It
     (said : List ℕ) (event : EventKind) (standing : EndState) (old new : Talking)
     → (h : HasLeft true conn_ends.Stopped standing rows past who items said None old)
     → Wants rows items h.told h.turns (Some event) old new
-    → WantsClose rows past who items said event old new
+    → WantsItsClose rows past who items said event old new
 wants_close rows past who items said event standing old new h w =
     let l = want_by old.progress rows items h.told h.turns event old new h.waits w in
     let a = asked_by old.progress l.0 h.waits in
@@ -340,7 +340,7 @@ pub parting_wants : (rows : CentreRows) (past : Past) (who : ℕ) (event : Event
     (old new : Talking) → (p : IsParting rows past who old)
     → ((rows : CentreRows) (items : List Item) (told : List Arrival) (turns : List Turn)
     → ConnStandsAt rows items told turns old → Wants rows items told turns (Some event) old new)
-    → WantsClose rows past who p.0 p.1 event old new
+    → WantsItsClose rows past who p.0 p.1 event old new
 parting_wants rows past who event old new p wants =
     let h = p.2.1 in
     wants_close rows past who p.0 p.1 event p.2.0 old new h
@@ -399,7 +399,7 @@ closes_by false setup past who items said old after new e c = absurd cc
 
 pub closed_on : (before after : NodeState) (who : ℕ) (items : List Item) (said : List ℕ)
     (event : EventKind) (answer : Answer) (old between new : Talking)
-    → WantsClose before.setup.centre (reverse before.history) who items said event old between
+    → WantsItsClose before.setup.centre (reverse before.history) who items said event old between
     → after ≡ with_entry before who event → StaysAt between new
     → pending_of new ≡ pending_of between
     ++ told_said between.progress between.stage between.course (Ok answer)
