@@ -36,6 +36,7 @@ use Rattle.tase_map.proofs.InTurn.{asked_in_turn}
 use Rattle.conn_service.specs.Linked.{link_octets, octets_by, opened_in, peer_end}
 use Rattle.conn_service.proofs.Opened.{none_opened, one_opened}
 use Rattle.conn_service.proofs.PeerEnds.{ended_so, unended_so}
+use Rattle.conn_service.specs.Attending.{IsFullAt}
 use Rattle.conn_service.specs.Attending.{TakesEvents, AddsPending, HasTaken, IsRefused}
 use Rattle.conn_service.specs.Attending.{Attends, AnswersEvent, IsLeftFor, IsServed, IsAsking, remaining}
 use Rattle.conn_service.proofs.AllRead.{wanted_read}
@@ -204,10 +205,14 @@ pub goes_full : (setup : Setup) (past between after : Past) (who weight limit : 
     (Err (faults.HistoryFull weight limit)) after new
     → Attends setup past who items said old (Err (faults.HistoryFull weight limit)) after new
 goes_full setup past between after who weight limit items said event old v new g a =
-    subst (λ (p : Past). IsRefused setup past who items (faults.HistoryFull weight limit) p)
-    (sym a.1)
-    (refused_so setup past between who items said event (faults.HistoryFull weight limit) old v g
-    a.0)
+    subst (λ (p : Past). IsFullAt setup past who items said weight limit old p new) (sym a.1)
+    (subst (λ (w : Talking). IsFullAt setup past who items said weight limit old between w)
+    (sym a.2) (record {
+      adds = g.adds;
+      refused = refused_so setup past between who items said event
+          (faults.HistoryFull weight limit) old v g a.0;
+      serves = g.serves;
+    }))
 
 pub goes_unanswered : (setup : Setup) (past between after : Past) (who : ℕ) (items : List Item)
     (said : List ℕ) (event : EventKind) (old v new : Talking)

@@ -179,13 +179,13 @@ undone_on before after who items said event old new result e same =
 -- ---- an event that was refused
 
 pub full_on : (before after : NodeState) (who weight limit : ℕ) (items : List Item)
-    (said : List ℕ) (event : EventKind) (old new : Talking) → after ≡ before
+    (said : List ℕ) (event : EventKind) (v : Talking) → after ≡ before
     → IsRightOutcome before.setup (reverse before.history) who event
     (Err (faults.HistoryFull weight limit))
-    → AnswersEvent before.setup (reverse before.history) who items said event old
-    (Err (faults.HistoryFull weight limit)) (reverse after.history) new
-full_on before after who weight limit items said event old new is right =
-    (right, same_past before after is)
+    → AnswersEvent before.setup (reverse before.history) who items said event v
+    (Err (faults.HistoryFull weight limit)) (reverse after.history) v
+full_on before after who weight limit items said event v is right =
+    (right, same_past before after is, refl)
 
 -- nothing else is refused
 pub never_on : (setup : Setup) (past : Past) (who : ℕ) (items : List Item) (said : List ℕ)

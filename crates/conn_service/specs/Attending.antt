@@ -106,6 +106,14 @@ pub record AddsPending (old new : Talking) : Type 0 where
   pub added : List ℕ
   pub pending : pending_of new ≡ pending_of old ++ added
 
+-- the history is full: the event that it has no room for waits still, and all octets that are owed
+-- for what the node took were said
+pub record IsFullAt (setup : Setup) (past : Past) (who : ℕ) (items : List Item) (said : List ℕ)
+    (weight limit : ℕ) (old : Talking) (after : Past) (new : Talking) : Type 0 where
+  pub adds : AddsPending old new
+  pub refused : IsRefused setup past who items (faults.HistoryFull weight limit) after
+  pub serves : Serves setup.centre after who items (said ++ adds.added) (Some refused.event) new
+
 -- what comes of a connection: all that its link gave was acted on, or up to an event that the node
 -- refused since it was stopped; a full history refuses an event exactly where its cause holds, and
 -- where memory was wanting some events of the link were taken
@@ -115,7 +123,7 @@ Attends setup past who items said old (Ok done) after new = (a : AddsPending old
     × (IsAllServed setup past who items (said ++ a.added) after new
     ⊎ IsStopped setup past who items (said ++ a.added) after new)
 Attends setup past who items said old (Err (faults.HistoryFull weight limit)) after new =
-    IsRefused setup past who items (faults.HistoryFull weight limit) after
+    IsFullAt setup past who items said weight limit old after new
 Attends setup past who items said old (Err faults.Memory) after new =
     (rest : List EventKind) × HasTaken setup past who items rest after
 Attends setup past who items said old (Err fault) after new = ⊥
@@ -138,6 +146,7 @@ AnswersEvent setup past who items said event old (Ok false) after new =
     × (new.progress ≡ progresses.Cut conn_ends.Stopped)
 AnswersEvent setup past who items said event old (Err (faults.HistoryFull weight limit)) after new =
     (refusal_of setup past who event ≡ Some (faults.HistoryFull weight limit)) × (after ≡ past)
+    × (new ≡ old)
 AnswersEvent setup past who items said event old (Err faults.Memory) after new =
     (after ≡ past) ⊎ ((refusal_of setup past who event ≡ None)
     × (after ≡ with_event who event past))

@@ -138,7 +138,14 @@ attends_on setup past who items said old between new (Ok done) after e a = (
   a.1,
 )
 attends_on setup past who items said old between new (Err (faults.HistoryFull weight limit)) after
-    e a = a
+    e a = record {
+      adds = record {
+        added = a.adds.added;
+        pending = a.adds.pending ∙ ap (λ (os : List ℕ). os ++ a.adds.added) e;
+      };
+      refused = a.refused;
+      serves = a.serves;
+    }
 attends_on setup past who items said old between new (Err faults.Memory) after e a = a
 attends_on setup past who items said old between new (Err (faults.Stopped place)) after e a =
     absurd a
@@ -358,8 +365,9 @@ pub refused_played : (setup : Setup) (line : List ℕ) (number : ℕ) (scene : S
     sink (end_of_refusal number fault)
 refused_played setup line number scene given history now sink (faults.HistoryFull weight limit)
     old conn past e f g fit a =
-    IsPlayed-full setup line number scene given history now sink past a.event a.later weight limit
-    e f fit (asked_so setup.centre scene given.who old g) a.has a.refused
+    let r = a.refused in
+    IsPlayed-full setup line number scene given history now sink past r.event r.later weight limit
+    e f fit (asked_so setup.centre scene given.who old g) r.has r.refused
 refused_played setup line number scene given history now sink faults.Memory old conn past e f g fit
     a =
     IsPlayed-begun setup line number scene given history now sink past a.0 e f fit

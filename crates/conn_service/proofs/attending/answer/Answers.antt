@@ -97,7 +97,7 @@ returns-in_ok-close-in-Err-Stopped-clause-answers c = λ items said s.
 pub returns-in-Err-HistoryFull-clause-answers : goal.returns-in-Err-HistoryFull-clause-answers
 returns-in-Err-HistoryFull-clause-answers c = λ items said s.
     full_on c.args.node.now c.step.new.self c.args.who c.in-Err-HistoryFull.weight
-    c.in-Err-HistoryFull.limit items said c.args.event c.args.conn.now c.args.conn.now
+    c.in-Err-HistoryFull.limit items said c.args.event c.args.conn.now
     c.in-Err-HistoryFull.ensures.err (subst (λ (f : StepFault). IsRightOutcome c.args.node.now.setup
     (reverse c.args.node.now.history) c.args.who c.args.event (Err f))
     c.in-Err-HistoryFull.field-0-is c.in-Err-HistoryFull.ensures.right)
