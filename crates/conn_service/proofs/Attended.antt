@@ -164,7 +164,7 @@ asked_next setup past between who items said event old v g =
           (events_taken setup who past g.taken between g.takes),
     )
 
-refused_so : (setup : Setup) (past between : Past) (who : ℕ) (items : List Item)
+abbrev refused_so : (setup : Setup) (past between : Past) (who : ℕ) (items : List Item)
     (said : List ℕ) (event : EventKind) (fault : StepFault) (old v : Talking)
     → (g : Goes setup past who items said (Some event) old between v)
     → refusal_of setup between who event ≡ Some fault
