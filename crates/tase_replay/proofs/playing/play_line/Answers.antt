@@ -38,92 +38,51 @@ returns-then-is_skipped-clause-sent g c = λ scene s done.
     skipped_stays c.args.node.now.setup c.args.line.now scene
     (sym c.is_skipped.ensures ∙ c.if-is_skipped.true)
 
-pub returns-in-Ok-Some-Event-clause-played : goal.returns-in-Ok-Some-Event-clause-played
-returns-in-Ok-Some-Event-clause-played g c = λ scene s.
+pub returns-in-Ok-Some-Event : goal.returns-in-Ok-Some-Event
+returns-in-Ok-Some-Event g c =
     let node = c.args.node.now in
-    let is = c.in-Ok-Some-Event.field-0-is
-    ∙ ap (λ (a : LineRequest). Some a) c.in-Ok-Some-Event.field-0-0-is in
-    let asked = asked_so node.setup.centre c.centre.result.now c.args.line.now _
-    (askeds.Event c.in-Ok-Some-Event.entry) c.centre.ensures is
-    c.in-Ok-Some-Event.ensures.asked in
-    let words : is_skipped c.args.line.now ≡ false = sym c.is_skipped.ensures
-    ∙ c.if-is_skipped.false in
-    read_played node.setup c.args.line.now c.args.number scene
-    (Some (an_event c.in-Ok-Some-Event.entry)) node.history c.play_own.new.node.history
-    (g.K.Sink.told c.args.sink.now) (g.K.Sink.told c.play_own.new.sink) c.play_own.result words
-    asked (c.play_own.ensures.played c.args.line.now scene s)
+    let line = c.args.line.now in
+    let event = c.in-Ok-Some-Event in
+    let went = c.play_own in
+    let found = Some (an_event event.entry) in
+    let asked = asked_so node.setup.centre c.centre.result.now line _
+    (askeds.Event event.entry) c.centre.ensures
+    (event.field-0-is ∙ ap (λ (a : LineRequest). Some a) event.field-0-0-is)
+    event.ensures.asked in
+    let words : is_skipped line ≡ false = sym c.is_skipped.ensures ∙ c.if-is_skipped.false in
+    record {
+      played = λ scene s. read_played node.setup line c.args.number scene found node.history
+          went.new.node.history (g.K.Sink.told c.args.sink.now) (g.K.Sink.told went.new.sink)
+          went.result words asked (went.ensures.played line scene s);
+      stands = λ scene s done. read_scene node.setup line scene found went.new.node.history
+          went.new.seats words asked (went.ensures.stands scene s done);
+      sent = λ scene s done. read_stays node.setup line scene found words asked
+          (accepted_stays node.setup scene event.entry);
+      setup = went.ensures.setup;
+    }
 
-pub returns-in-Ok-Some-Event-clause-stands : goal.returns-in-Ok-Some-Event-clause-stands
-returns-in-Ok-Some-Event-clause-stands g c = λ scene s done.
+pub returns-in-Ok-Some-Item : goal.returns-in-Ok-Some-Item
+returns-in-Ok-Some-Item g c =
     let node = c.args.node.now in
-    let is = c.in-Ok-Some-Event.field-0-is
-    ∙ ap (λ (a : LineRequest). Some a) c.in-Ok-Some-Event.field-0-0-is in
-    let asked = asked_so node.setup.centre c.centre.result.now c.args.line.now _
-    (askeds.Event c.in-Ok-Some-Event.entry) c.centre.ensures is
-    c.in-Ok-Some-Event.ensures.asked in
-    let words : is_skipped c.args.line.now ≡ false = sym c.is_skipped.ensures
-    ∙ c.if-is_skipped.false in
-    read_scene node.setup c.args.line.now scene (Some (an_event c.in-Ok-Some-Event.entry))
-    c.play_own.new.node.history c.play_own.new.seats words
-    asked (c.play_own.ensures.stands scene s done)
-
-pub returns-in-Ok-Some-Event-clause-sent : goal.returns-in-Ok-Some-Event-clause-sent
-returns-in-Ok-Some-Event-clause-sent g c = λ scene s done.
-    let node = c.args.node.now in
-    let is = c.in-Ok-Some-Event.field-0-is
-    ∙ ap (λ (a : LineRequest). Some a) c.in-Ok-Some-Event.field-0-0-is in
-    let asked = asked_so node.setup.centre c.centre.result.now c.args.line.now _
-    (askeds.Event c.in-Ok-Some-Event.entry) c.centre.ensures is
-    c.in-Ok-Some-Event.ensures.asked in
-    let words : is_skipped c.args.line.now ≡ false = sym c.is_skipped.ensures
-    ∙ c.if-is_skipped.false in
-    read_stays node.setup c.args.line.now scene
-    (Some (an_event c.in-Ok-Some-Event.entry)) words asked
-    (accepted_stays node.setup scene c.in-Ok-Some-Event.entry)
-
-pub returns-in-Ok-Some-Item-clause-played : goal.returns-in-Ok-Some-Item-clause-played
-returns-in-Ok-Some-Item-clause-played g c = λ scene s.
-    let node = c.args.node.now in
-    let is = c.in-Ok-Some-Item.field-0-is
-    ∙ ap (λ (a : LineRequest). Some a) c.in-Ok-Some-Item.field-0-0-is in
-    let asked = asked_so node.setup.centre c.centre.result.now c.args.line.now _
-    (askeds.Item c.in-Ok-Some-Item.given) c.centre.ensures is
-    c.in-Ok-Some-Item.ensures.asked in
-    let words : is_skipped c.args.line.now ≡ false = sym c.is_skipped.ensures
-    ∙ c.if-is_skipped.false in
-    read_played node.setup c.args.line.now c.args.number scene
-    (Some (an_item (given_seen c.in-Ok-Some-Item.given))) node.history
-    c.play_given.new.node.history (g.K.Sink.told c.args.sink.now)
-    (g.K.Sink.told c.play_given.new.sink) c.play_given.result words
-    asked (c.play_given.ensures.played c.args.line.now scene s)
-
-pub returns-in-Ok-Some-Item-clause-stands : goal.returns-in-Ok-Some-Item-clause-stands
-returns-in-Ok-Some-Item-clause-stands g c = λ scene s done.
-    let node = c.args.node.now in
-    let is = c.in-Ok-Some-Item.field-0-is
-    ∙ ap (λ (a : LineRequest). Some a) c.in-Ok-Some-Item.field-0-0-is in
-    let asked = asked_so node.setup.centre c.centre.result.now c.args.line.now _
-    (askeds.Item c.in-Ok-Some-Item.given) c.centre.ensures is
-    c.in-Ok-Some-Item.ensures.asked in
-    let words : is_skipped c.args.line.now ≡ false = sym c.is_skipped.ensures
-    ∙ c.if-is_skipped.false in
-    read_scene node.setup c.args.line.now scene
-    (Some (an_item (given_seen c.in-Ok-Some-Item.given))) c.play_given.new.node.history
-    c.play_given.new.seats words asked (c.play_given.ensures.stands scene s done)
-
-pub returns-in-Ok-Some-Item-clause-sent : goal.returns-in-Ok-Some-Item-clause-sent
-returns-in-Ok-Some-Item-clause-sent g c = λ scene s done.
-    let node = c.args.node.now in
-    let is = c.in-Ok-Some-Item.field-0-is
-    ∙ ap (λ (a : LineRequest). Some a) c.in-Ok-Some-Item.field-0-0-is in
-    let asked = asked_so node.setup.centre c.centre.result.now c.args.line.now _
-    (askeds.Item c.in-Ok-Some-Item.given) c.centre.ensures is
-    c.in-Ok-Some-Item.ensures.asked in
-    let words : is_skipped c.args.line.now ≡ false = sym c.is_skipped.ensures
-    ∙ c.if-is_skipped.false in
-    read_stays node.setup c.args.line.now scene
-    (Some (an_item (given_seen c.in-Ok-Some-Item.given))) words asked
-    (c.play_given.ensures.sent scene s done)
+    let line = c.args.line.now in
+    let item = c.in-Ok-Some-Item in
+    let went = c.play_given in
+    let found = Some (an_item (given_seen item.given)) in
+    let asked = asked_so node.setup.centre c.centre.result.now line _
+    (askeds.Item item.given) c.centre.ensures
+    (item.field-0-is ∙ ap (λ (a : LineRequest). Some a) item.field-0-0-is)
+    item.ensures.asked in
+    let words : is_skipped line ≡ false = sym c.is_skipped.ensures ∙ c.if-is_skipped.false in
+    record {
+      played = λ scene s. read_played node.setup line c.args.number scene found node.history
+          went.new.node.history (g.K.Sink.told c.args.sink.now) (g.K.Sink.told went.new.sink)
+          went.result words asked (went.ensures.played line scene s);
+      stands = λ scene s done. read_scene node.setup line scene found went.new.node.history
+          went.new.seats words asked (went.ensures.stands scene s done);
+      sent = λ scene s done. read_stays node.setup line scene found words asked
+          (went.ensures.sent scene s done);
+      setup = went.ensures.setup;
+    }
 
 pub returns-in-Ok-None-clause-played : goal.returns-in-Ok-None-clause-played
 returns-in-Ok-None-clause-played g c = λ scene s.
