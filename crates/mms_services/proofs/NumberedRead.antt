@@ -20,12 +20,12 @@ front_reads {X} g one head octets =
     IsReading-map (Taken X) X (g.begins head.body octets) (g.fault head.body octets)
     (g.reading head.body octets) (λ t. t.value) (one head.body octets)
 
-numbered_reads : IsGrammar numbered_request
+pub numbered_reads : IsGrammar numbered_request
 unfolding numbered_request
 numbered_reads = whole_reads _ (part_reads 160 _ (front_reads _ invoke_reads))
 
 -- what the reading takes is a request with its number
-number_begun : (octets : List ℕ) (u : Taken ℕ) → numbered_request.begins 0 octets u
+pub number_begun : (octets : List ℕ) (u : Taken ℕ) → numbered_request.begins 0 octets u
     → HasInvoke octets u.value
 unfolding numbered_request whole_in part_in front_in
 number_begun octets u h =
@@ -46,7 +46,7 @@ number_begun octets u h =
     }
 
 -- and each request with a number is taken
-number_taken : (octets : List ℕ) (invoke : ℕ) (h : HasInvoke octets invoke)
+pub number_taken : (octets : List ℕ) (invoke : ℕ) (h : HasInvoke octets invoke)
     → numbered_request.begins 0 octets (taken invoke h.request.head.next h.request.rest)
 unfolding numbered_request whole_in part_in front_in
 number_taken octets invoke h =

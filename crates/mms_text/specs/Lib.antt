@@ -3,3 +3,4 @@ pub mod NameIn
 pub mod WordValue
 pub mod WordFront
 pub mod TextRead
+pub mod DatumIn

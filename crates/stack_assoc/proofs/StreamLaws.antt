@@ -88,32 +88,33 @@ abbrev Outcome : Role → List ℕ → Type 0
 Outcome role octets = ((told : List Arrival) × (rest : List ℕ) × Tells role octets told rest)
     ⊎ ((told : List Arrival) × (fault : StackFault) × StopsTelling role octets told fault)
 
-abbrev Broken : Role → List Message → Type 0
+abbrev pub Broken : Role → List Message → Type 0
 Broken role ms = BrokenTurn {B = StackFault} (TellsNext role) (BreaksNext role) [] ms
 
-above_of : (role : Role) (octets : List ℕ) (ms : List Message) → StartsWith (end_of role) octets ms
-    → Broken role ms → Outcome role octets
+pub above_of : (role : Role) (octets : List ℕ) (ms : List Message)
+    → StartsWith (end_of role) octets ms → (b : Broken role ms)
+    → StopsAbove role octets b.told b.fault
 above_of role octets ms s b =
     let P : List Message → Type 0 = StartsWith (end_of role) octets in
-    inr (
-      b.told,
-      b.fault,
-      inr (record {
-        messages = b.passed;
-        next = b.item;
-        starts = front_front (end_of role) octets (b.passed ++ b.item ∷ []) b.left
-            (subst P (b.is ∙ sym (one_of b.passed b.item b.left)) s);
-        tell = b.spelled;
-        breaks = b.breaks;
-      }),
-    )
+    record {
+      messages = b.passed;
+      next = b.item;
+      starts = front_front (end_of role) octets (b.passed ++ b.item ∷ []) b.left
+          (subst P (b.is ∙ sym (one_of b.passed b.item b.left)) s);
+      tell = b.spelled;
+      breaks = b.breaks;
+    }
+
+stops_above : (role : Role) (octets : List ℕ) (ms : List Message)
+    → StartsWith (end_of role) octets ms → Broken role ms → Outcome role octets
+stops_above role octets ms s b = inr (b.told, b.fault, inr (above_of role octets ms s b))
 
 pub tells_or_stops : (one : OneMeaning) (role : Role) (octets : List ℕ) → Outcome role octets
 tells_or_stops one role octets = elim (below.always (end_of role) octets) [
   | inl said ↦ elim (spelled_or_broken (TellsNext role) (BreaksNext role) (one_each one role).each
       [] said.0) [
         | inl told ↦ inl (told.0, said.1, record { messages = said.0; said = said.2; tell = told.1 })
-        | inr b ↦ above_of role octets said.0 (said_front (end_of role) octets said.1 said.0 said.2) b
+        | inr b ↦ stops_above role octets said.0 (said_front (end_of role) octets said.1 said.0 said.2) b
       ]
   | inr stopped ↦ elim (spelled_or_broken (TellsNext role) (BreaksNext role)
       (one_each one role).each [] stopped.0) [
@@ -128,7 +129,7 @@ tells_or_stops one role octets = elim (below.always (end_of role) octets) [
             is = refl;
           }),
         )
-        | inr b ↦ above_of role octets stopped.0
+        | inr b ↦ stops_above role octets stopped.0
             (stopped_front (end_of role) octets stopped.0 stopped.1 stopped.2) b
       ]
 ]

@@ -9,7 +9,7 @@ shifted : {T : Type 0} (P : List T → Type 0) (before : List T) (t : T) (ts : L
     → P (before ++ t ∷ ts) → P ((before ++ t ∷ []) ++ ts)
 shifted {T = T} P before t ts p = subst P (sym (append_assoc before (t ∷ []) ts)) p
 
-unshifted : {T : Type 0} (P : List T → Type 0) (before : List T) (t : T) (ts : List T)
+pub unshifted : {T : Type 0} (P : List T → Type 0) (before : List T) (t : T) (ts : List T)
     → P ((before ++ t ∷ []) ++ ts) → P (before ++ t ∷ ts)
 unshifted {T = T} P before t ts p = subst P (append_assoc before (t ∷ []) ts) p
 
@@ -88,6 +88,37 @@ pub record BrokenTurn {X T B : Type 0} (S : List T → T → X → Type 0) (F : 
   pub spelled : SpellInTurn S before told passed
   pub breaks : F (before ++ told) item fault
 
+-- the first item breaks one
+abbrev pub broken_first : {X T B : Type 0} (S : List T → T → X → Type 0)
+    (F : List T → X → B → Type 0) (before : List T) (m : X) (ms : List X) (fault : B)
+    → F before m fault → BrokenTurn S F before (m ∷ ms)
+broken_first {X = X} {T = T} S F before m ms fault breaks = record {
+  told = [];
+  passed = [];
+  item = m;
+  left = ms;
+  fault = fault;
+  is = refl;
+  spelled = tt;
+  breaks = let P : List T → Type 0 = λ v. F v m fault in
+      subst P (sym (append-nil before)) breaks;
+}
+
+-- the first item is spelled, and one behind it breaks one
+abbrev pub broken_later : {X T B : Type 0} (S : List T → T → X → Type 0)
+    (F : List T → X → B → Type 0) (before : List T) (t : T) (m : X) (ms : List X) → S before t m
+    → BrokenTurn S F (before ++ t ∷ []) ms → BrokenTurn S F before (m ∷ ms)
+broken_later {X = X} {T = T} S F before t m ms spelled b = record {
+  told = t ∷ b.told;
+  passed = m ∷ b.passed;
+  item = b.item;
+  left = b.left;
+  fault = b.fault;
+  is = ap (λ (xs : List X). m ∷ xs) b.is;
+  spelled = (spelled, b.spelled);
+  breaks = unshifted (λ (v : List T). F v b.item b.fault) before t b.told b.breaks;
+}
+
 -- all are spelled, or one breaks a rule
 pub spelled_or_broken : {X T B : Type 0} (S : List T → T → X → Type 0)
     (F : List T → X → B → Type 0)
@@ -99,28 +130,9 @@ spelled_or_broken {X = X} {T = T} {B = B} S F each before (m ∷ ms) =
     elim (each before m) [
       | inl found ↦ elim (spelled_or_broken S F each (before ++ found.0 ∷ []) ms) [
         | inl all ↦ inl (found.0 ∷ all.0, (found.1, all.1))
-        | inr b ↦ inr (record {
-          told = found.0 ∷ b.told;
-          passed = m ∷ b.passed;
-          item = b.item;
-          left = b.left;
-          fault = b.fault;
-          is = ap (λ (xs : List X). m ∷ xs) b.is;
-          spelled = (found.1, b.spelled);
-          breaks = unshifted (λ (v : List T). F v b.item b.fault) before found.0 b.told b.breaks;
-        })
+        | inr b ↦ inr (broken_later S F before found.0 m ms found.1 b)
       ]
-      | inr fault ↦ inr (record {
-        told = [];
-        passed = [];
-        item = m;
-        left = ms;
-        fault = fault.0;
-        is = refl;
-        spelled = tt;
-        breaks = let P : List T → Type 0 = λ v. F v m fault.0 in
-            subst P (sym (append-nil before)) fault.1;
-      })
+      | inr fault ↦ inr (broken_first S F before m ms fault.0 fault.1)
     ]
 
 -- what the laws of turns rest on: an item is a value in one way, or breaks one rule, and not both

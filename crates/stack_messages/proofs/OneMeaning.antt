@@ -1,15 +1,16 @@
--- Each message has one reading.
-use Rattle.std.proofs.Common.{◌≡◌, ℕ, List, Bool, true, false, Option, Some, None, refl, sym, ap, subst, ◌∙◌, inl, inr}
-use Rattle.std.proofs.lemmas.Bool.{false≢true}
+-- Each message is read exactly, so that it has one reading.
+use Rattle.std.proofs.Common.{◌≡◌, ℕ, List, Bool, true, false, Option, Some, None, Result, Ok, Err, refl, sym, ap, subst, ◌∙◌, inl, inr}
 use Rattle.std.specs.Option.{option_map}
 use Rattle.ber_values.specs.declared.external.External.{External}
 use Rattle.ber_values.specs.declared.fault.BerFault.{BerFault}
 use Rattle.ber_values.specs.declared.fault.Span.{Span}
-use Rattle.ber_values.specs.Grammars.{Grammar}
-use Rattle.ber_values.specs.Reading.{Taken, IsOne, HasOneReading}
+use Rattle.ber_values.specs.Faults.{◌>>=◌}
+use Rattle.ber_values.specs.Grammars.{Grammar, IsGrammar, taken}
+use Rattle.ber_values.specs.Reading.{Taken, IsReading}
+use Rattle.ber_values.proofs.Reading as ber
 use Rattle.session_profile.specs.declared.spdu.Spdu.{Spdu}
 use Rattle.session_profile.specs.declared.spdu.Spdu.TheVariants as spdus
-use Rattle.session_profile.specs.Spdus.{SpellsSpdu, SpduFault}
+use Rattle.session_profile.specs.Spdus.{SpellsSpdu, SpduFault, spdu_in}
 use Rattle.presentation_profile.specs.declared.offers.Offered.{Offered}
 use Rattle.presentation_profile.specs.declared.expected.Expected as presentation
 use Rattle.presentation_profile.specs.declared.expected.Expected.TheVariants as expects
@@ -21,209 +22,214 @@ use Rattle.acse_assoc.specs.declared.apdu.Apdu.{Apdu}
 use Rattle.acse_assoc.specs.declared.apdu.Apdu.TheVariants as apdus
 use Rattle.acse_assoc.specs.Apdus.{apdu}
 use Rattle.mms_services.specs.declared.pdu.MmsPdu.{MmsPdu}
-use Rattle.mms_services.specs.OneNumber.{HasOneNumber}
-use Rattle.mms_services.specs.Pdus.{pdu}
+use Rattle.mms_services.specs.Numbered.{numbered_request}
+use Rattle.mms_services.specs.Pdus.{pdu, HasInvoke, IsInvokeOf}
+use Rattle.mms_services.proofs.NumberedRead.{number_begun, number_taken}
 use Rattle.stack_messages.specs.declared.expecting.Expecting.{Expecting}
 use Rattle.stack_messages.specs.declared.fault.Layer.{Layer}
 use Rattle.stack_messages.specs.declared.fault.Layer.TheVariants as layers
 use Rattle.stack_messages.specs.declared.fault.StackFault.{StackFault}
 use Rattle.stack_messages.specs.declared.heard.Heard.TheVariants as heard
-use Rattle.stack_messages.specs.Meanings.{Meaning, says_just, says_nothing, says_some, inside, where_allowed, HasOneMeaning}
-use Rattle.stack_messages.specs.Turns.{spdu_may_come, pdu_may_come, may_ask, offered_by}
-use Rattle.stack_messages.specs.Layers.{fault_of, out_of_order, octets_at, place_after, in_layer, spdu_of, ppdu_at, apdu_at, pdu_at}
+use Rattle.stack_messages.specs.Meanings.{Meaning, says_just, says_nothing, says_some, read_then, inside, where_allowed, IsReadAs, HasOneMeaning}
+use Rattle.stack_messages.specs.Turns.{spdu_may_come, may_ask, offered_by}
+use Rattle.stack_messages.specs.Layers.{fault_of, out_of_order, octets_at, place_after, read_in_layer, in_layer, spdu_of, ppdu_at, apdu_at, pdu_at}
 use Rattle.stack_messages.specs.Setting.{connecting, initiate_in_pdu, initiate_in, aarq_in, request_expected, offers_in, connect_at, accepting, initiated_of, initiated_in, user_in, aare_in, answer_expected, results_in, accept_at}
-use Rattle.stack_messages.specs.Messages.{IsBadRequest, data_at, user_data_in, carry_at, said_by, said_in_turn, message}
+use Rattle.stack_messages.specs.Messages.{bad_request_read, heard_of_pdu, data_at, user_data_in, carry_at, said_by, said_in_turn, message}
+use Rattle.stack_messages.proofs.Exact.{read-ok, read-err, only_one, no_fault, breaks_so, one_fault, says_none, just_read, nothing-read, inside-read, inside-broken}
+use Rattle.stack_messages.proofs.LayersRead.{data-read, bad-read, fault-read, no_number}
 
-pub just-one : {X : Type 0} (x : X) → HasOneMeaning (says_just x)
+-- what is read exactly has one meaning
+pub one_of_read : {X : Type 0} (m : Meaning X) (read : Result X StackFault) → IsReadAs m read → HasOneMeaning m
+one_of_read m (Ok x) r = inl ((x, r.found, λ y s. sym (only_one m x r y s)), no_fault m x r)
+one_of_read m (Err f) r = inr (says_none m f r, (f, breaks_so m f r, λ g b. sym (one_fault m f r g b)))
+
+-- and is read in one way
+pub read_alike : {X : Type 0} (m : Meaning X) (one other : Result X StackFault) → IsReadAs m one → IsReadAs m other → one ≡ other
+read_alike m one (Ok x) r s = r.only x s.found
+read_alike m one (Err f) r s = (r.fault f).1 (breaks_so m f s)
+
+-- ---- the pieces
+
+-- the reading is exact
+abbrev pub IsExact : {X : Type 0} → Meaning X → Type 0
+IsExact meaning = IsReadAs meaning meaning.reading
+
+just_exact : {X : Type 0} (x : X) → IsExact (says_just x)
 unfolding says_just
-just-one x = inl ((x, refl, λ y e. e), λ f b. b)
+just_exact x = just_read x
 
-pub nothing-one : {X : Type 0} (f : StackFault) → HasOneMeaning (says_nothing {X = X} f)
+nothing_exact : {X : Type 0} (f : StackFault) → IsExact (says_nothing {X = X} f)
 unfolding says_nothing
-nothing-one f = inr (λ x b. b, (f, refl, λ g e. e))
+nothing_exact f = nothing-read f
 
-pub allowed-one : {X : Type 0} (may : Bool) (f : StackFault) (m : Meaning X) → HasOneMeaning m → HasOneMeaning (where_allowed may f m)
-allowed-one true f m one = one
-allowed-one false f m one = nothing-one f
+some_exact : {X : Type 0} (f : StackFault) (o : Option X) → IsExact (says_some f o)
+some_exact f None = nothing_exact f
+some_exact f (Some x) = just_exact x
 
-pub inside-one : {X Y : Type 0} (outer : Meaning X) (inner : X → Meaning Y) → HasOneMeaning outer → ((x : X) → HasOneMeaning (inner x)) → HasOneMeaning (inside outer inner)
+allowed_exact : {X : Type 0} (may : Bool) (f : StackFault) (m : Meaning X) → IsExact m → IsExact (where_allowed may f m)
+allowed_exact true f m exact = exact
+allowed_exact false f m exact = nothing_exact f
+
+inside_by : {X Y : Type 0} (outer : Meaning X) (inner : X → Meaning Y) (read : Result X StackFault) → IsReadAs outer read → ((x : X) → IsExact (inner x)) → IsReadAs (inside outer inner) (read_then read (λ x. (inner x).reading))
+inside_by outer inner (Ok x) o i = inside-read outer inner x (inner x).reading o (i x)
+inside_by outer inner (Err f) o i = inside-broken outer inner f o
+
+inside_exact : {X Y : Type 0} (outer : Meaning X) (inner : X → Meaning Y) → IsExact outer → ((x : X) → IsExact (inner x)) → IsExact (inside outer inner)
 unfolding inside
-inside-one {X} {Y} outer inner (inl o) each = within (each o.0.0)
-  where
-    within : HasOneMeaning (inner o.0.0) → HasOneMeaning (inside outer inner)
-    within (inl i) = inl (
-      (i.0.0, (o.0.0, o.0.1, i.0.1), λ y h. i.0.2 y (subst (λ (w : X). (inner w).says y) (o.0.2 h.0 h.1) h.2)),
-      λ f h. elim h [ inl a ↦ o.1 f a | inr b ↦ i.1 f (subst (λ (w : X). (inner w).breaks f) (o.0.2 b.0 b.1) b.2) ],
-    )
-    within (inr i) = inr (
-      λ y h. i.0 y (subst (λ (w : X). (inner w).says y) (o.0.2 h.0 h.1) h.2),
-      (i.1.0, inr (o.0.0, o.0.1, i.1.1), λ f h. elim h [ inl a ↦ absurd (o.1 f a) | inr b ↦ i.1.2 f (subst (λ (w : X). (inner w).breaks f) (o.0.2 b.0 b.1) b.2) ]),
-    )
-inside-one outer inner (inr o) each = inr (
-  λ y h. o.0 h.0 h.1,
-  (o.1.0, inl o.1.1, λ f h. elim h [ inl a ↦ o.1.2 f a | inr b ↦ absurd (o.0 b.0 b.1) ]),
-)
+inside_exact outer inner o i = inside_by outer inner outer.reading o i
 
-pub layer-one : {X : Type 0} (layer : Layer) (placed : ℕ → ℕ) (g : Grammar X) (at : ℕ) (octets : List ℕ) → HasOneReading (Taken X) (g.begins at octets) (g.fault at octets) → HasOneMeaning (in_layer layer placed g at octets)
+layer_by : {X : Type 0} (layer : Layer) (placed : ℕ → ℕ) (g : Grammar X) (at : ℕ) (octets : List ℕ) (r : Result (Taken X) BerFault) → IsReading (Taken X) (g.begins at octets) (g.fault at octets) r → IsReadAs (in_layer layer placed g at octets) (read_in_layer layer placed (r >>= λ t. Ok t.value))
 unfolding in_layer
-layer-one {X} layer placed g at octets (inl o) = inl (
-  (o.0.0.value, (o.0.0, o.0.1, refl), λ y h. sym h.2 ∙ ap (λ (t : Taken X). t.value) (o.0.2 h.0 h.1)),
-  λ f h. o.1 h.0 h.1,
-)
-layer-one {X} layer placed g at octets (inr o) = inr (
-  λ y h. o.0 h.0 h.1,
-  (fault_of layer (placed o.1.0.place) o.1.0.why, (o.1.0, o.1.1, refl), λ f h. h.2 ∙ ap (λ (b : BerFault). fault_of layer (placed b.place) b.why) (o.1.2 h.0 h.1)),
-)
+layer_by {X} layer placed g at octets (Ok t) r =
+    read-ok (in_layer layer placed g at octets) t.value (t, r.found t refl, refl)
+    (λ y h. ap (λ (u : Taken X). u.value) (ber.Ok_is t h.0 (r.only h.0 h.1)) ∙ h.2)
+    (λ f h. ber.not_both t h.0 (r.first h.0 h.1))
+layer_by {X} layer placed g at octets (Err b) r =
+    read-err (in_layer layer placed g at octets) (fault_of layer (placed b.place) b.why) (b, r.fault b refl, refl)
+    (λ f h. ap (λ (d : BerFault). fault_of layer (placed d.place) d.why) (ber.Err_is {X = Taken X} b h.0 (r.first h.0 h.1)) ∙ sym h.2)
+    (λ y h. ber.not_both h.0 b (sym (r.only h.0 h.1)))
 
-pub some-one : {X : Type 0} (f : StackFault) (o : Option X) → HasOneMeaning (says_some f o)
-some-one f None = nothing-one f
-some-one f (Some x) = just-one x
+layer_exact : {X : Type 0} (layer : Layer) (placed : ℕ → ℕ) (g : Grammar X) (at : ℕ) (octets : List ℕ) → IsGrammar g → IsExact (in_layer layer placed g at octets)
+unfolding in_layer
+layer_exact layer placed g at octets exact = layer_by layer placed g at octets (g.reading at octets) (exact at octets)
 
 -- ---- the laws of the layers
 
 pub record Laws : Type 0 where
-  pub spdus : (tsdu : List ℕ) → HasOneReading Spdu (λ spdu. SpellsSpdu spdu tsdu) (SpduFault tsdu)
-  pub ppdus : (e : presentation.Expected) (at : ℕ) (octets : List ℕ) → HasOneReading (Taken Ppdu) ((ppdu e).begins at octets) ((ppdu e).fault at octets)
-  pub apdus : (e : acse.Expected) (at : ℕ) (octets : List ℕ) → HasOneReading (Taken Apdu) ((apdu e).begins at octets) ((apdu e).fault at octets)
-  pub mms : (at : ℕ) (octets : List ℕ) → HasOneReading (Taken MmsPdu) (pdu.begins at octets) (pdu.fault at octets)
-  pub numbers : (octets : List ℕ) → HasOneNumber octets
+  pub spdus : (tsdu : List ℕ) → IsReading Spdu (λ spdu. SpellsSpdu spdu tsdu) (SpduFault tsdu) (spdu_in tsdu)
+  pub ppdus : (e : presentation.Expected) → IsGrammar (ppdu e)
+  pub apdus : (e : acse.Expected) → IsGrammar (apdu e)
+  pub mms : IsGrammar pdu
+  pub numbers : IsGrammar numbered_request
 
-spdu-one : Laws → (tsdu : List ℕ) → HasOneMeaning (spdu_of tsdu)
+spdu_by : (tsdu : List ℕ) (r : Result Spdu BerFault) → IsReading Spdu (λ spdu. SpellsSpdu spdu tsdu) (SpduFault tsdu) r → IsReadAs (spdu_of tsdu) (read_in_layer layers.Session (λ n. n) r)
 unfolding spdu_of
-spdu-one laws tsdu = from (laws.spdus tsdu)
-  where
-    from : HasOneReading Spdu (λ spdu. SpellsSpdu spdu tsdu) (SpduFault tsdu) → HasOneMeaning (spdu_of tsdu)
-    from (inl o) = inl (o.0, λ f h. o.1 h.0 h.1)
-    from (inr o) = inr (
-      o.0,
-      (fault_of layers.Session o.1.0.place o.1.0.why, (o.1.0, o.1.1, refl), λ f h. h.2 ∙ ap (λ (b : BerFault). fault_of layers.Session b.place b.why) (o.1.2 h.0 h.1)),
-    )
+spdu_by tsdu (Ok s) r =
+    read-ok (spdu_of tsdu) s (r.found s refl) (λ t h. ber.Ok_is s t (r.only t h)) (λ f h. ber.not_both s h.0 (r.first h.0 h.1))
+spdu_by tsdu (Err b) r =
+    read-err (spdu_of tsdu) (fault_of layers.Session b.place b.why) (b, r.fault b refl, refl)
+    (λ f h. ap (λ (d : BerFault). fault_of layers.Session d.place d.why) (ber.Err_is {X = Spdu} b h.0 (r.first h.0 h.1)) ∙ sym h.2)
+    (λ t h. ber.not_both t b (sym (r.only t h)))
 
-ppdu-one : Laws → (e : presentation.Expected) (tsdu : List ℕ) (body : Span) → HasOneMeaning (ppdu_at e tsdu body)
+spdu_exact : Laws → (tsdu : List ℕ) → IsExact (spdu_of tsdu)
+unfolding spdu_of
+spdu_exact laws tsdu = spdu_by tsdu (spdu_in tsdu) (laws.spdus tsdu)
+
+ppdu_exact : Laws → (e : presentation.Expected) (tsdu : List ℕ) (body : Span) → IsExact (ppdu_at e tsdu body)
 unfolding ppdu_at
-ppdu-one laws e tsdu body = layer-one layers.Presentation (λ n. n) (ppdu e) body.from (octets_at tsdu body) (laws.ppdus e body.from (octets_at tsdu body))
+ppdu_exact laws e tsdu body = layer_exact layers.Presentation (λ n. n) (ppdu e) body.from (octets_at tsdu body) (laws.ppdus e)
 
-apdu-one : Laws → (e : acse.Expected) (tsdu : List ℕ) (body : Span) → HasOneMeaning (apdu_at e tsdu body)
+apdu_exact : Laws → (e : acse.Expected) (tsdu : List ℕ) (body : Span) → IsExact (apdu_at e tsdu body)
 unfolding apdu_at
-apdu-one laws e tsdu body = layer-one layers.Acse (λ n. n) (apdu e) body.from (octets_at tsdu body) (laws.apdus e body.from (octets_at tsdu body))
+apdu_exact laws e tsdu body = layer_exact layers.Acse (λ n. n) (apdu e) body.from (octets_at tsdu body) (laws.apdus e)
 
-mms-one : Laws → (tsdu : List ℕ) (body : Span) → HasOneMeaning (pdu_at tsdu body)
+mms_exact : Laws → (tsdu : List ℕ) (body : Span) → IsExact (pdu_at tsdu body)
 unfolding pdu_at
-mms-one laws tsdu body = layer-one layers.Mms (place_after body.from) pdu 0 (octets_at tsdu body) (laws.mms 0 (octets_at tsdu body))
+mms_exact laws tsdu body = layer_exact layers.Mms (place_after body.from) pdu 0 (octets_at tsdu body) laws.mms
 
 -- ---- a connect
 
-aarq-one : Laws → (tsdu : List ℕ) (session called : Option (List ℕ)) (contexts : List Offered) (a : Apdu) → HasOneMeaning (aarq_in tsdu session called contexts a)
-aarq-one laws tsdu session called contexts (apdus.Aarq request) =
-    inside-one (pdu_at tsdu request.user.body) (initiate_in session called contexts request) (mms-one laws tsdu request.user.body)
-    (λ p. some-one (out_of_order layers.Mms) (option_map (connecting session called contexts request) (initiate_in_pdu p)))
-aarq-one laws tsdu session called contexts _ = nothing-one (out_of_order layers.Acse)
+aarq_exact : Laws → (tsdu : List ℕ) (session called : Option (List ℕ)) (contexts : List Offered) (a : Apdu) → IsExact (aarq_in tsdu session called contexts a)
+aarq_exact laws tsdu session called contexts (apdus.Aarq request) =
+    inside_exact (pdu_at tsdu request.user.body) (initiate_in session called contexts request) (mms_exact laws tsdu request.user.body)
+    (λ p. some_exact (out_of_order layers.Mms) (option_map (connecting session called contexts request) (initiate_in_pdu p)))
+aarq_exact laws tsdu session called contexts _ = nothing_exact (out_of_order layers.Acse)
 
-offers-one : Laws → (tsdu : List ℕ) (session : Option (List ℕ)) (p : Ppdu) → HasOneMeaning (offers_in tsdu session p)
-offers-one laws tsdu session (ppdus.Connect called contexts id body) =
-    inside-one (apdu_at (request_expected contexts) tsdu body) (aarq_in tsdu session called contexts) (apdu-one laws (request_expected contexts) tsdu body) (aarq-one laws tsdu session called contexts)
-offers-one laws tsdu session _ = nothing-one (out_of_order layers.Presentation)
+offers_exact : Laws → (tsdu : List ℕ) (session : Option (List ℕ)) (p : Ppdu) → IsExact (offers_in tsdu session p)
+offers_exact laws tsdu session (ppdus.Connect called contexts id body) =
+    inside_exact (apdu_at (request_expected contexts) tsdu body) (aarq_in tsdu session called contexts) (apdu_exact laws (request_expected contexts) tsdu body) (aarq_exact laws tsdu session called contexts)
+offers_exact laws tsdu session _ = nothing_exact (out_of_order layers.Presentation)
 
-connect-one : Laws → (tsdu : List ℕ) (session : Option (List ℕ)) (body : Span) → HasOneMeaning (connect_at tsdu session body)
+connect_exact : Laws → (tsdu : List ℕ) (session : Option (List ℕ)) (body : Span) → IsExact (connect_at tsdu session body)
 unfolding connect_at
-connect-one laws tsdu session body = inside-one (ppdu_at expects.Connect tsdu body) (offers_in tsdu session) (ppdu-one laws expects.Connect tsdu body) (offers-one laws tsdu session)
+connect_exact laws tsdu session body = inside_exact (ppdu_at expects.Connect tsdu body) (offers_in tsdu session) (ppdu_exact laws expects.Connect tsdu body) (offers_exact laws tsdu session)
 
 -- ---- an accept
 
-user-one : Laws → (tsdu : List ℕ) (acse : ℕ) (user : Option External) → HasOneMeaning (user_in tsdu acse user)
-user-one laws tsdu acse (Some user) =
-    inside-one (pdu_at tsdu user.body) (initiated_in acse user.id) (mms-one laws tsdu user.body)
-    (λ p. some-one (out_of_order layers.Mms) (option_map (accepting acse user.id) (initiated_of p)))
-user-one laws tsdu acse None = nothing-one (out_of_order layers.Acse)
+user_exact : Laws → (tsdu : List ℕ) (acse : ℕ) (user : Option External) → IsExact (user_in tsdu acse user)
+user_exact laws tsdu acse (Some user) =
+    inside_exact (pdu_at tsdu user.body) (initiated_in acse user.id) (mms_exact laws tsdu user.body)
+    (λ p. some_exact (out_of_order layers.Mms) (option_map (accepting acse user.id) (initiated_of p)))
+user_exact laws tsdu acse None = nothing_exact (out_of_order layers.Acse)
 
-aare-one : Laws → (tsdu : List ℕ) (acse : ℕ) (a : Apdu) → HasOneMeaning (aare_in tsdu acse a)
-aare-one laws tsdu acse (apdus.Aare response) = user-one laws tsdu acse response.user
-aare-one laws tsdu acse _ = nothing-one (out_of_order layers.Acse)
+aare_exact : Laws → (tsdu : List ℕ) (acse : ℕ) (a : Apdu) → IsExact (aare_in tsdu acse a)
+aare_exact laws tsdu acse (apdus.Aare response) = user_exact laws tsdu acse response.user
+aare_exact laws tsdu acse _ = nothing_exact (out_of_order layers.Acse)
 
-results-one : Laws → (e : Expecting) (tsdu : List ℕ) (p : Ppdu) → HasOneMeaning (results_in e tsdu p)
-results-one laws e tsdu (ppdus.Accept called results id body) =
-    inside-one (apdu_at (answer_expected e) tsdu body) (aare_in tsdu id) (apdu-one laws (answer_expected e) tsdu body) (aare-one laws tsdu id)
-results-one laws e tsdu _ = nothing-one (out_of_order layers.Presentation)
+results_exact : Laws → (e : Expecting) (tsdu : List ℕ) (p : Ppdu) → IsExact (results_in e tsdu p)
+results_exact laws e tsdu (ppdus.Accept called results id body) =
+    inside_exact (apdu_at (answer_expected e) tsdu body) (aare_in tsdu id) (apdu_exact laws (answer_expected e) tsdu body) (aare_exact laws tsdu id)
+results_exact laws e tsdu _ = nothing_exact (out_of_order layers.Presentation)
 
-accept-one : Laws → (e : Expecting) (tsdu : List ℕ) (body : Span) → HasOneMeaning (accept_at e tsdu body)
+accept_exact : Laws → (e : Expecting) (tsdu : List ℕ) (body : Span) → IsExact (accept_at e tsdu body)
 unfolding accept_at
-accept-one laws e tsdu body =
+accept_exact laws e tsdu body =
     let expected = expects.Accept (offered_by e.side e.acse) in
-    inside-one (ppdu_at expected tsdu body) (results_in e tsdu) (ppdu-one laws expected tsdu body) (results-one laws e tsdu)
+    inside_exact (ppdu_at expected tsdu body) (results_in e tsdu) (ppdu_exact laws expected tsdu body) (results_exact laws e tsdu)
 
 -- ---- data
 
--- a PDU that may come, or not
-pdu-one : (e : Expecting) (tsdu : List ℕ) (body : Span) (o : IsOne MmsPdu (pdu_at tsdu body).says × ((f : StackFault) → (pdu_at tsdu body).breaks f → ⊥)) (may : Bool) → pdu_may_come e o.0.0 ≡ may → HasOneMeaning (data_at e tsdu body)
-unfolding data_at
-pdu-one e tsdu body o true may = inl (
-  (
-    heard.Pdu o.0.0,
-    inl (o.0.0, o.0.1, may, refl),
-    λ h s. elim s [ inl a ↦ a.3 ∙ ap (λ (p : MmsPdu). heard.Pdu p) (o.0.2 a.0 a.1) | inr b ↦ absurd (o.1 b.1.broken.0 b.1.broken.1) ],
-  ),
-  λ f s. elim s [ inl a ↦ false≢true (sym a.2 ∙ ap (λ (p : MmsPdu). pdu_may_come e p) (o.0.2 a.0 a.1) ∙ may) | inr b ↦ o.1 f b.1 ],
-)
-pdu-one e tsdu body o false may = inr (
-  λ h s. elim s [ inl a ↦ false≢true (sym may ∙ ap (λ (p : MmsPdu). pdu_may_come e p) (sym (o.0.2 a.0 a.1)) ∙ a.2) | inr b ↦ o.1 b.1.broken.0 b.1.broken.1 ],
-  (
-    out_of_order layers.Mms,
-    inl (o.0.0, o.0.1, may, refl),
-    λ f s. elim s [ inl a ↦ a.3 | inr b ↦ absurd (o.1 f b.1) ],
-  ),
-)
+-- the number that was read, or none
+abbrev number_read : Result (Taken ℕ) BerFault → Option ℕ
+number_read (Ok t) = Some t.value
+number_read (Err f) = None
 
--- a fault that isn't told by a number
-fault-one : (e : Expecting) (tsdu : List ℕ) (body : Span) → ((p : MmsPdu) → (pdu_at tsdu body).says p → ⊥) → IsOne StackFault (pdu_at tsdu body).breaks → ((invoke : ℕ) → IsBadRequest e tsdu body invoke → ⊥) → HasOneMeaning (data_at e tsdu body)
-unfolding data_at
-fault-one e tsdu body none one bad = inr (
-  λ h s. elim s [ inl a ↦ none a.0 a.1 | inr b ↦ bad b.0 b.1 ],
-  (one.0, inr (bad, one.1), λ f s. elim s [ inl a ↦ absurd (none a.0 a.1) | inr b ↦ one.2 f b.1 ]),
+some_is : (n m : ℕ) → Some n ≡ Some m → n ≡ m
+some_is n m e = cc
+
+none_is : (n : ℕ) → None ≡ Some n → ⊥
+none_is n e = cc
+
+invoke_by : (octets : List ℕ) (r : Result (Taken ℕ) BerFault) → IsReading (Taken ℕ) (numbered_request.begins 0 octets) (numbered_request.fault 0 octets) r → IsInvokeOf octets (number_read r)
+invoke_by octets (Ok t) r invoke = (
+  λ e. subst (HasInvoke octets) (some_is t.value invoke e) (number_begun octets t (r.found t refl)),
+  λ h. let u = taken invoke h.request.head.next h.request.rest in
+      ap (λ (v : Taken ℕ). Some v.value) (ber.Ok_is t u (r.only u (number_taken octets invoke h))),
+)
+invoke_by octets (Err f) r invoke = (
+  λ e. absurd (none_is invoke e),
+  λ h. let u = taken invoke h.request.head.next h.request.rest in
+      absurd (ber.not_both u f (sym (r.only u (number_taken octets invoke h)))),
 )
 
-bad-one : (e : Expecting) (tsdu : List ℕ) (body : Span) → ((p : MmsPdu) → (pdu_at tsdu body).says p → ⊥) → IsOne StackFault (pdu_at tsdu body).breaks → (ask : Bool) → may_ask e.side e.phase ≡ ask → HasOneNumber (octets_at tsdu body) → HasOneMeaning (data_at e tsdu body)
+-- a PDU with a fault, whose number was read or not
+bad_by : (e : Expecting) (tsdu : List ℕ) (body : Span) (f : StackFault) → IsReadAs (pdu_at tsdu body) (Err f) → (ask : Bool) → may_ask e.side e.phase ≡ ask → (r : Result (Taken ℕ) BerFault) → IsInvokeOf (octets_at tsdu body) (number_read r) → IsReadAs (data_at e tsdu body) (bad_request_read ask f r)
+bad_by e tsdu body f p true may (Ok t) number = bad-read e tsdu body f t.value may number p
+bad_by e tsdu body f p true may (Err other) number = fault-read e tsdu body f (no_number e tsdu body true None may number refl) p
+bad_by e tsdu body f p false may r number = fault-read e tsdu body f (no_number e tsdu body false (number_read r) may number refl) p
+
+data_by : Laws → (e : Expecting) (tsdu : List ℕ) (body : Span) (r : Result MmsPdu StackFault) → IsReadAs (pdu_at tsdu body) r → IsReadAs (data_at e tsdu body) (heard_of_pdu e (octets_at tsdu body) r)
+data_by laws e tsdu body (Ok p) r = data-read e tsdu body p r
+data_by laws e tsdu body (Err f) r =
+    let octets = octets_at tsdu body in
+    let read = numbered_request.reading 0 octets in
+    bad_by e tsdu body f r (may_ask e.side e.phase) refl read (invoke_by octets read (laws.numbers 0 octets))
+
+data_exact : Laws → (e : Expecting) (tsdu : List ℕ) (body : Span) → IsExact (data_at e tsdu body)
 unfolding data_at
-bad-one e tsdu body none one true may (inl number) =
-    let bad : IsBadRequest e tsdu body number.0 = record { may = may; number = number.1; broken = (one.0, one.1) } in
-    inl (
-      (
-        heard.BadRequest number.0,
-        inr (number.0, bad, refl),
-        λ h s. elim s [ inl a ↦ absurd (none a.0 a.1) | inr b ↦ b.2 ∙ ap (λ (n : ℕ). heard.BadRequest n) (number.2 b.0 b.1.number) ],
-      ),
-      λ f s. elim s [ inl a ↦ none a.0 a.1 | inr b ↦ b.0 number.0 bad ],
-    )
-bad-one e tsdu body none one true may (inr number) = fault-one e tsdu body none one (λ invoke bad. number invoke bad.number)
-bad-one e tsdu body none one false may number = fault-one e tsdu body none one (λ invoke bad. false≢true (sym may ∙ bad.may))
+data_exact laws e tsdu body = data_by laws e tsdu body (pdu_at tsdu body).reading (mms_exact laws tsdu body)
 
-data-one : Laws → (e : Expecting) (tsdu : List ℕ) (body : Span) → HasOneMeaning (data_at e tsdu body)
-data-one laws e tsdu body = from (mms-one laws tsdu body)
-  where
-    from : HasOneMeaning (pdu_at tsdu body) → HasOneMeaning (data_at e tsdu body)
-    from (inl o) = pdu-one e tsdu body o (pdu_may_come e o.0.0) refl
-    from (inr o) = bad-one e tsdu body o.0 o.1 (may_ask e.side e.phase) refl (laws.numbers (octets_at tsdu body))
+user_data_exact : Laws → (e : Expecting) (tsdu : List ℕ) (p : Ppdu) → IsExact (user_data_in e tsdu p)
+user_data_exact laws e tsdu (ppdus.Carry id body) = data_exact laws e tsdu body
+user_data_exact laws e tsdu _ = nothing_exact (out_of_order layers.Presentation)
 
-user_data-one : Laws → (e : Expecting) (tsdu : List ℕ) (p : Ppdu) → HasOneMeaning (user_data_in e tsdu p)
-user_data-one laws e tsdu (ppdus.Carry id body) = data-one laws e tsdu body
-user_data-one laws e tsdu _ = nothing-one (out_of_order layers.Presentation)
-
-carry-one : Laws → (e : Expecting) (tsdu : List ℕ) (body : Span) → HasOneMeaning (carry_at e tsdu body)
+carry_exact : Laws → (e : Expecting) (tsdu : List ℕ) (body : Span) → IsExact (carry_at e tsdu body)
 unfolding carry_at
-carry-one laws e tsdu body = inside-one (ppdu_at (expects.Carry e.mms) tsdu body) (user_data_in e tsdu) (ppdu-one laws (expects.Carry e.mms) tsdu body) (user_data-one laws e tsdu)
+carry_exact laws e tsdu body = inside_exact (ppdu_at (expects.Carry e.mms) tsdu body) (user_data_in e tsdu) (ppdu_exact laws (expects.Carry e.mms) tsdu body) (user_data_exact laws e tsdu)
 
 -- ---- the whole
 
-said-one : Laws → (e : Expecting) (tsdu : List ℕ) (s : Spdu) → HasOneMeaning (said_by e tsdu s)
-said-one laws e tsdu (spdus.Connect called body) = connect-one laws tsdu called body
-said-one laws e tsdu (spdus.Accept called body) = accept-one laws e tsdu body
-said-one laws e tsdu (spdus.Carry body) = carry-one laws e tsdu body
-said-one laws e tsdu spdus.Refuse = just-one heard.Refuse
-said-one laws e tsdu spdus.Finish = just-one heard.Finish
-said-one laws e tsdu spdus.Disconnect = just-one heard.Disconnect
-said-one laws e tsdu spdus.Abort = just-one heard.Abort
-said-one laws e tsdu spdus.AbortAccept = just-one heard.AbortAccept
+said_exact : Laws → (e : Expecting) (tsdu : List ℕ) (s : Spdu) → IsExact (said_by e tsdu s)
+said_exact laws e tsdu (spdus.Connect called body) = connect_exact laws tsdu called body
+said_exact laws e tsdu (spdus.Accept called body) = accept_exact laws e tsdu body
+said_exact laws e tsdu (spdus.Carry body) = carry_exact laws e tsdu body
+said_exact laws e tsdu spdus.Refuse = just_exact heard.Refuse
+said_exact laws e tsdu spdus.Finish = just_exact heard.Finish
+said_exact laws e tsdu spdus.Disconnect = just_exact heard.Disconnect
+said_exact laws e tsdu spdus.Abort = just_exact heard.Abort
+said_exact laws e tsdu spdus.AbortAccept = just_exact heard.AbortAccept
 
-pub message-one : Laws → (e : Expecting) (tsdu : List ℕ) → HasOneMeaning (message e tsdu)
+pub message_exact : Laws → (e : Expecting) (tsdu : List ℕ) → IsExact (message e tsdu)
 unfolding message
-message-one laws e tsdu = inside-one (spdu_of tsdu) (said_in_turn e tsdu) (spdu-one laws tsdu)
-    (λ s. allowed-one (spdu_may_come e.side e.phase s) (out_of_order layers.Session) (said_by e tsdu s) (said-one laws e tsdu s))
+message_exact laws e tsdu = inside_exact (spdu_of tsdu) (said_in_turn e tsdu) (spdu_exact laws tsdu)
+    (λ s. allowed_exact (spdu_may_come e.side e.phase s) (out_of_order layers.Session) (said_by e tsdu s) (said_exact laws e tsdu s))

@@ -1,14 +1,15 @@
 -- What stands in one layer of a message.
-use Rattle.std.specs.Prelude.{◌≡◌, ℕ, ◌+◌, ◌-◌, ◌^◌, min, List}
+use Rattle.std.specs.Prelude.{◌≡◌, ℕ, ◌+◌, ◌-◌, ◌^◌, min, List, Result, Ok, Err}
 use Rattle.std.specs.List.{slice_range}
 use Rattle.ber_values.specs.declared.fault.BerFault.{BerFault}
 use Rattle.ber_values.specs.declared.fault.Span.{Span}
 use Rattle.ber_values.specs.declared.fault.Why.{Why}
 use Rattle.ber_values.specs.declared.fault.Why.TheVariants as whys
+use Rattle.ber_values.specs.Faults.{◌>>=◌}
 use Rattle.ber_values.specs.Reading.{Taken}
 use Rattle.ber_values.specs.Grammars.{Grammar}
 use Rattle.session_profile.specs.declared.spdu.Spdu.{Spdu}
-use Rattle.session_profile.specs.Spdus.{SpellsSpdu, SpduFault}
+use Rattle.session_profile.specs.Spdus.{SpellsSpdu, SpduFault, spdu_in}
 use Rattle.presentation_profile.specs.declared.expected.Expected as presentation
 use Rattle.presentation_profile.specs.declared.ppdu.Ppdu.{Ppdu}
 use Rattle.presentation_profile.specs.Ppdus.{ppdu}
@@ -38,11 +39,17 @@ octets_at tsdu span = slice_range tsdu span.from span.to
 abbrev pub place_after : ℕ → ℕ → ℕ
 place_after from place = min (from + place) (2 ^ 64 - 1)
 
+-- what was read, with a fault as one of a layer, whose places are told by a function
+abbrev pub read_in_layer : {X : Type 0} → Layer → (ℕ → ℕ) → Result X BerFault → Result X StackFault
+read_in_layer layer placed (Ok x) = Ok x
+read_in_layer layer placed (Err b) = Err (fault_of layer (placed b.place) b.why)
+
 -- the SPDU that a TSDU is
 unfoldable pub spdu_of : List ℕ → Meaning Spdu
 spdu_of tsdu = record {
   says = λ spdu. SpellsSpdu spdu tsdu;
   breaks = λ f. (b : BerFault) × SpduFault tsdu b × (f ≡ fault_of layers.Session b.place b.why);
+  reading = read_in_layer layers.Session (λ n. n) (spdu_in tsdu);
 }
 
 -- what a grammar makes of octets, with its faults as those of a layer, whose places are told by a
@@ -52,6 +59,7 @@ in_layer {X} layer placed g at octets = record {
   says = λ x. (t : Taken X) × g.begins at octets t × (t.value ≡ x);
   breaks = λ f. (b : BerFault) × g.fault at octets b
       × (f ≡ fault_of layer (placed b.place) b.why);
+  reading = read_in_layer layer placed (g.reading at octets >>= λ t. Ok t.value);
 }
 
 -- the PPDU that these octets are, and are alone

@@ -8,25 +8,35 @@ use Rattle.stack_messages.specs.declared.fault.StackFault.{StackFault}
 pub record Meaning (X : Type 0) : Type 1 where
   pub says : X → Type 0
   pub breaks : StackFault → Type 0
+  -- reading from the left, which tells both
+  pub reading : Result X StackFault
 
 -- a value that is known already
 unfoldable pub says_just : {X : Type 0} → X → Meaning X
-says_just x = record { says = λ y. y ≡ x; breaks = λ f. ⊥ }
+says_just x = record { says = λ y. y ≡ x; breaks = λ f. ⊥; reading = Ok x }
 
 -- what may not stand there
 unfoldable pub says_nothing : {X : Type 0} → StackFault → Meaning X
-says_nothing fault = record { says = λ y. ⊥; breaks = λ f. f ≡ fault }
+says_nothing fault =
+    record { says = λ y. ⊥; breaks = λ f. f ≡ fault; reading = Err fault }
 
 -- a value, where there is one; else this fault
 abbrev pub says_some : {X : Type 0} → StackFault → Option X → Meaning X
 says_some fault None = says_nothing fault
 says_some fault (Some x) = says_just x
 
+-- what was read, and then what is read behind it
+abbrev pub read_then : {X Y : Type 0} → Result X StackFault → (X → Result Y StackFault)
+    → Result Y StackFault
+read_then (Ok x) next = next x
+read_then (Err fault) next = Err fault
+
 -- one layer, then the next inside it
 unfoldable pub inside : {X Y : Type 0} → Meaning X → (X → Meaning Y) → Meaning Y
 inside {X} outer inner = record {
   says = λ y. (x : X) × outer.says x × (inner x).says y;
   breaks = λ f. outer.breaks f ⊎ ((x : X) × outer.says x × (inner x).breaks f);
+  reading = read_then outer.reading (λ x. (inner x).reading);
 }
 
 -- what may come now, else this fault

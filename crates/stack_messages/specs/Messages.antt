@@ -1,6 +1,9 @@
 -- What a message says: one TSDU through session, presentation, ACSE and MMS.
-use Rattle.std.specs.Prelude.{◌≡◌, ℕ, true, false, List, ◌⊎◌}
+use Rattle.std.specs.Prelude.{◌≡◌, ℕ, Bool, true, false, List, ◌⊎◌, Result, Ok, Err}
+use Rattle.std.specs.Prelude.{if◌then◌else◌}
+use Rattle.ber_values.specs.declared.fault.BerFault.{BerFault}
 use Rattle.ber_values.specs.declared.fault.Span.{Span}
+use Rattle.ber_values.specs.Reading.{Taken}
 use Rattle.session_profile.specs.declared.spdu.Spdu.{Spdu}
 use Rattle.session_profile.specs.declared.spdu.Spdu.TheVariants as spdus
 use Rattle.presentation_profile.specs.declared.expected.Expected.TheVariants as expects
@@ -8,6 +11,7 @@ use Rattle.presentation_profile.specs.declared.ppdu.Ppdu.{Ppdu}
 use Rattle.presentation_profile.specs.declared.ppdu.Ppdu.TheVariants as ppdus
 use Rattle.mms_services.specs.declared.pdu.MmsPdu.{MmsPdu}
 use Rattle.mms_services.specs.Pdus.{HasInvoke}
+use Rattle.mms_services.specs.Numbered.{numbered_request}
 use Rattle.stack_messages.specs.declared.expecting.Expecting.{Expecting}
 use Rattle.stack_messages.specs.declared.fault.Layer.TheVariants as layers
 use Rattle.stack_messages.specs.declared.fault.StackFault.{StackFault}
@@ -26,6 +30,21 @@ pub record IsBadRequest (e : Expecting) (tsdu : List ℕ) (body : Span) (invoke 
   pub number : HasInvoke (octets_at tsdu body) invoke
   pub broken : (f : StackFault) × (pdu_at tsdu body).breaks f
 
+-- what is heard where a PDU has a fault: its number, where a request may come and the octets are
+-- one with a number; else the fault
+abbrev pub bad_request_read : Bool → StackFault → Result (Taken ℕ) BerFault
+    → Result Heard StackFault
+bad_request_read true fault (Ok number) = Ok (heard.BadRequest number.value)
+bad_request_read true fault (Err other) = Err fault
+bad_request_read false fault number = Err fault
+
+-- what is heard of a PDU that was read of these octets
+abbrev pub heard_of_pdu : Expecting → List ℕ → Result MmsPdu StackFault → Result Heard StackFault
+heard_of_pdu e octets (Ok p) =
+    if pdu_may_come e p then Ok (heard.Pdu p) else Err (out_of_order layers.Mms)
+heard_of_pdu e octets (Err fault) =
+    bad_request_read (may_ask e.side e.phase) fault (numbered_request.reading 0 octets)
+
 -- a PDU that may come now, or a faulty request that may be answered; else the fault of the PDU
 unfoldable pub data_at : Expecting → List ℕ → Span → Meaning Heard
 data_at e tsdu body = record {
@@ -36,6 +55,7 @@ data_at e tsdu body = record {
       ((p : MmsPdu) × (pdu_at tsdu body).says p × (pdu_may_come e p ≡ false)
       × (f ≡ out_of_order layers.Mms))
       ⊎ (((invoke : ℕ) → IsBadRequest e tsdu body invoke → ⊥) × (pdu_at tsdu body).breaks f);
+  reading = heard_of_pdu e (octets_at tsdu body) (pdu_at tsdu body).reading;
 }
 
 -- user data in a data transfer of the session

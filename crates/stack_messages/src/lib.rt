@@ -15,5 +15,5 @@ mod turns;
 pub use expecting::{Expecting, Phase, Side};
 pub use fault::{Layer, StackFault};
 pub use heard::{Accepting, Connecting, Heard};
-pub use laws::messages_have_one_reading;
+pub use laws::{messages_are_read_exactly, messages_have_one_reading};
 pub use message::read_message;

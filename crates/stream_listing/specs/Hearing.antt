@@ -1,7 +1,6 @@
 -- What is told of the messages of a captured stream.
 use Rattle.std.specs.Prelude.{ℕ, false, List, [], ◌∷◌, Option, Some, None, unwrap_or, Result, Ok}
 use Rattle.std.specs.Prelude.{Err}
-use Rattle.std.proofs.Common.{inl, inr}
 use Rattle.tpkt_cotp.specs.Streams.{Message, asks, confirms, gone, tsdu}
 use Rattle.presentation_profile.specs.Agreements.{mms_of}
 use Rattle.stack_messages.specs.declared.expecting.Expecting.{Expecting}
@@ -10,22 +9,14 @@ use Rattle.stack_messages.specs.declared.expecting.Phase.TheVariants.{Associated
 use Rattle.stack_messages.specs.declared.fault.StackFault.{StackFault}
 use Rattle.stack_messages.specs.declared.heard.Heard.{Heard}
 use Rattle.stack_messages.specs.declared.heard.Heard.TheVariants as heard
-use Rattle.stack_messages.specs.Meanings.{Meaning, HasOneMeaning}
 use Rattle.stack_messages.specs.Messages.{message}
 use Rattle.stream_listing.specs.declared.hearing.ListedMessage.{ListedMessage}
 use Rattle.stream_listing.specs.declared.names.MessageName.TheVariants as names
 use Rattle.stream_listing.specs.Names.{heard_name}
-use Rattle.stack_messages.proofs.OneMessage.{one_message}
-
--- the one thing that octets say, or their first fault
-abbrev pub the_one : {X : Type 0} (meaning : Meaning X) → HasOneMeaning meaning
-    → Result X StackFault
-the_one meaning (inl says) = Ok says.0.0
-the_one meaning (inr breaks) = Err breaks.1.0
 
 -- what a TSDU says, or where it breaks a rule first
 unfoldable pub message_in : Expecting → List ℕ → Result Heard StackFault
-message_in e octets = the_one (message e octets) (one_message e octets)
+message_in e octets = (message e octets).reading
 
 -- a reader of captures takes the messages of both ends in any order; the id of the context of MMS
 -- counts, and is 3 before any is told

@@ -1,7 +1,7 @@
 -- The parts of calls: each is read from its own text, and from no other.
 use Rattle.std.proofs.Common.{◌≡◌, ℕ, ℤ, ◌+◌, ◌<◌, ◌==◌, Bool, true, List, [], ◌∷◌, ◌++◌}
 use Rattle.std.proofs.Common.{length, take, drop, map, slice_index, Option, Some, None, option_map}
-use Rattle.std.proofs.Common.{refl, sym, ap, ◌∙◌, subst, inl, inr, arith, add-one, length-append}
+use Rattle.std.proofs.Common.{refl, sym, ap, ◌∙◌, subst, arith, add-one, length-append}
 use Rattle.std.specs.Prelude.{IfSome}
 use Rattle.std.specs.Fmt.{signed_decimal}
 use Rattle.std.specs.Int.{w64}
@@ -21,39 +21,20 @@ use Rattle.mms_data.specs.Datum.{Datum, integer}
 use Rattle.mms_data.specs.ObjectName.{ObjectName, IsIdentifier, IsScope, IsName}
 use Rattle.mms_data.specs.declared.object_name.Scope.{Scope}
 use Rattle.mms_data.specs.declared.object_name.Scope.TheVariants.{Vmd, Domain, Association}
+use Rattle.mms_text.specs.DatumIn.{datum_in}
 use Rattle.mms_text.specs.NameIn.{identifier_in, is_separator, scope_in, name_in}
 use Rattle.mms_text.specs.Texts.{data_text, scope_text, name_text}
-use Rattle.mms_text.specs.TextRead.{HasText, HasOneTextReading}
+use Rattle.mms_text.specs.TextRead.{HasText}
 use Rattle.mms_text.proofs.LeafRead.{integer-read}
 use Rattle.mms_text.proofs.ReadName.{identifier_in-found, identifier_in-escaped_text}
 use Rattle.mms_text.proofs.ReadName.{scope_in-found, name_in-found, name_in-name_text}
 use Rattle.mms_text.proofs.ReadName.{position-append}
-use Rattle.mms_text.proofs.TextReading.{one_text_reading}
+use Rattle.mms_text.proofs.TextReading.{datum_in-found, datum_in-text}
 use Rattle.mms_text.proofs.WordText.{word-found, is_same, chosen}
 use Rattle.event_text.specs.CallWords.{assigned_word, after_words}
-use Rattle.tase_replay.specs.CallIn.{datum_read, datum_in, assigned_at, assigned_in, if_some}
+use Rattle.tase_replay.specs.CallIn.{assigned_at, assigned_in, if_some}
 use Rattle.tase_replay.specs.CallIn.{signed_64_in, scope_at, scope_of_word, after_in}
 use Rattle.tase_replay.proofs.Foreign.{name_foreign, identifier_foreign, separator_foreign}
-
-datum_read-found : (text : List ℕ) (reading : HasOneTextReading text) (d : Datum)
-    → datum_read text reading ≡ Some d → HasText d × (text ≡ data_text d)
-datum_read-found text (inl one) d e =
-    subst (λ x. HasText x × (text ≡ data_text x)) (same_Some one.0.0 d e) one.0.1
-datum_read-found text (inr broken) d e = absurd (none-some d e)
-
-datum_read-text : (text : List ℕ) (reading : HasOneTextReading text) (d : Datum) → HasText d
-    → text ≡ data_text d → datum_read text reading ≡ Some d
-datum_read-text text (inl one) d h e = ap Some (sym (one.0.2 d (h, e)))
-datum_read-text text (inr broken) d h e = absurd (broken.0 d h e)
-
-pub datum_in-found : (text : List ℕ) (d : Datum) → datum_in text ≡ Some d
-    → HasText d × (text ≡ data_text d)
-unfolding datum_in
-datum_in-found text d e = datum_read-found text (one_text_reading text) d e
-
-pub datum_in-text : (d : Datum) → HasText d → datum_in (data_text d) ≡ Some d
-unfolding datum_in
-datum_in-text d h = datum_read-text (data_text d) (one_text_reading (data_text d)) d h refl
 
 -- a name and the value that it is to have
 abbrev pub Assigned : Type 0

@@ -17,10 +17,12 @@ use Rattle.plain_text.proofs.EscapedText.{option_map-found}
 use Rattle.mms_data.specs.Datum.{Datum}
 use Rattle.mms_data.specs.Lawful.{IsLawful}
 use Rattle.mms_data.specs.ObjectName.{ObjectName, IsName}
+use Rattle.mms_text.specs.DatumIn.{datum_in}
 use Rattle.mms_text.specs.NameIn.{name_in}
 use Rattle.mms_text.specs.Texts.{name_text, data_text}
 use Rattle.mms_text.specs.TextRead.{HasText}
 use Rattle.mms_text.proofs.ReadName.{name_in-found, name_in-name_text}
+use Rattle.mms_text.proofs.TextReading.{datum_in-found, datum_in-text}
 use Rattle.mms_text.proofs.TextBreaks as breaks
 use Rattle.mms_text.proofs.WordText.{chosen}
 use Rattle.tase_views.specs.declared.call.CallKind.{CallKind}
@@ -29,11 +31,11 @@ use Rattle.tase_views.specs.declared.call.CallKind.TheVariants.{Delete, DeleteSc
 use Rattle.tase_views.specs.EventTexts.{read_set_verb}
 use Rattle.event_text.specs.CallWords.{SpellsCall}
 use Rattle.tase_map.specs.Asked.{is_odd}
-use Rattle.tase_replay.specs.CallIn.{datum_in, some_in, signed_64_in, sole_in, read_set_in}
+use Rattle.tase_replay.specs.CallIn.{some_in, signed_64_in, sole_in, read_set_in}
 use Rattle.tase_replay.specs.CallIn.{write_set_in, define_in, delete_in, if_other, delete_scope_in}
 use Rattle.tase_replay.specs.CallIn.{set_call_in}
-use Rattle.tase_replay.proofs.CallParts.{datum_in-found, datum_in-text, class_in-found}
-use Rattle.tase_replay.proofs.CallParts.{class_in-text, each_in-found, each_in-words}
+use Rattle.tase_replay.proofs.CallParts.{class_in-found, class_in-text, each_in-found}
+use Rattle.tase_replay.proofs.CallParts.{each_in-words}
 use Rattle.tase_replay.proofs.CallParts.{if_some-found, if_some-whole}
 
 -- words spell a call that isn't odd

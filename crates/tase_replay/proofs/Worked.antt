@@ -11,14 +11,14 @@ use Rattle.tase_views.specs.Setup.{Setup}
 use Rattle.mms_data.specs.Datum.{integer, bits}
 use Rattle.mms_data.specs.declared.object_name.Scope.TheVariants.{Domain}
 use Rattle.mms_data.specs.ObjectName.{ObjectName}
+use Rattle.mms_text.specs.DatumIn.{datum_in}
+use Rattle.mms_text.proofs.TextReading.{datum_in-text}
 use Rattle.tase_views.specs.declared.call.CallKind.TheVariants.{Write, WriteSet}
 use Rattle.tase_views.specs.declared.event.EventKind.TheVariants.{Request}
 use Rattle.tase_views.specs.declared.event.Entry.{Entry}
-use Rattle.tase_replay.specs.CallIn.{datum_in}
 use Rattle.tase_replay.specs.Links.{Asking, an_event, asking_in}
 use Rattle.tase_replay.specs.Play.{Played, done, bad_line, history_full, shown_of, scenario_of}
 use Rattle.tase_replay.specs.Play.{Scene, first_scene, means, line_meaning, play_line, ends_there}
-use Rattle.tase_replay.proofs.CallParts.{datum_in-text}
 
 -- lines, each with its end
 abbrev pub text_of : List (List ℕ) → List ℕ

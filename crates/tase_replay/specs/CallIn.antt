@@ -2,7 +2,7 @@
 use Rattle.std.specs.Prelude.{ℕ, ℤ, ◌+◌, ◌^◌, ◌-◌, ◌==◌, if◌then◌else◌, Bool, true, false, pos}
 use Rattle.std.specs.Prelude.{negsuc, List, [], ◌∷◌, length, map, slice_index, Option, Some, None}
 use Rattle.std.specs.Prelude.{option_map, option_and_then, codes, bytes_eq}
-use Rattle.std.proofs.Common.{take, drop, inl, inr}
+use Rattle.std.proofs.Common.{take, drop}
 use Rattle.std.specs.List.{position}
 use Rattle.std.specs.Ordering.{int_eq}
 use Rattle.plain_text.specs.Numbers.{integer_word_within}
@@ -11,21 +11,11 @@ use Rattle.mms_data.specs.Datum.{Datum}
 use Rattle.mms_data.specs.ObjectName.{ObjectName}
 use Rattle.mms_data.specs.declared.object_name.Scope.{Scope}
 use Rattle.mms_text.specs.NameIn.{identifier_in, is_separator, scope_in, name_in}
-use Rattle.mms_text.specs.TextRead.{HasOneTextReading}
-use Rattle.mms_text.proofs.TextReading.{one_text_reading}
+use Rattle.mms_text.specs.DatumIn.{datum_in}
 use Rattle.tase_views.specs.declared.call.CallKind.{CallKind}
 use Rattle.tase_views.specs.declared.call.CallKind.TheVariants.{Identify, Read, ReadSet, Write}
 use Rattle.tase_views.specs.declared.call.CallKind.TheVariants.{WriteSet, NameList, Define}
 use Rattle.tase_views.specs.declared.call.CallKind.TheVariants.{MembersOf, Delete, DeleteScope, Odd}
-
--- the datum of a text that is the text of one
-abbrev pub datum_read : (text : List ℕ) → HasOneTextReading text → Option Datum
-datum_read text (inl one) = Some one.0.0
-datum_read text (inr broken) = None
-
--- the datum whose text this is: each text is that of one datum, or of none
-unfoldable pub datum_in : List ℕ → Option Datum
-datum_in text = datum_read text (one_text_reading text)
 
 -- a name before a place, and a datum behind it
 abbrev pub assigned_at : List ℕ → ℕ → Option (ObjectName × Datum)
