@@ -8,7 +8,6 @@ use Rattle.mms_services.specs.declared.initiate.Initiate.{Initiate}
 use Rattle.tpkt_cotp.specs.Written.{wire}
 use Rattle.stack_wire.specs.Tsdus.{accept_tsdu}
 use Rattle.stack_assoc.specs.Arrivals.{Arrival}
-use Rattle.stack_assoc.specs.Courses.{Course}
 use Rattle.bilateral.specs.Rows.{CentreRows, place_of_title}
 use Rattle.sbo_device.specs.declared.key.Key.{Key}
 use Rattle.tase_views.specs.declared.event.EventKind.{EventKind}
@@ -19,12 +18,12 @@ use Rattle.tase_views.specs.History.{Past, next_key, key_at}
 use Rattle.tase_views.specs.Outcomes.{answer_by, IsRightOutcome}
 use Rattle.tase_views.specs.OwnTable.{own_table}
 use Rattle.tase_views.specs.View.{view_of}
-use Rattle.tase_views.specs.Answers.{reply_to}
+use Rattle.tase_views.specs.Answers.{reply_to, reports_for}
 use Rattle.tase_views.specs.Setup.{Setup}
 use Rattle.tase_map.specs.Inputs.{Item}
 use Rattle.tase_map.specs.Turns.{Turn, offers, asks, pauses}
 use Rattle.tase_map.specs.Asks.{is_last, is_open_behind, event_if, open_of, asks_at, asks_behind}
-use Rattle.tase_map.specs.Sent.{events_by}
+use Rattle.tase_map.specs.Sent.{events_by, with_event}
 use Rattle.tase_conn.specs.declared.stage.PendingEvent.{PendingEvent}
 use Rattle.tase_conn.specs.declared.stage.PendingEvent.TheVariants as askeds
 use Rattle.tase_conn.specs.declared.stage.Cause.{Cause}
@@ -37,13 +36,13 @@ use Rattle.tase_conn.specs.declared.stage.Stage.TheVariants as stages
 use Rattle.tase_conn.specs.Talking.{Talking}
 use Rattle.tase_conn.specs.Places.{Runs, GoesBy, EndsWithTurn, IsAskedAt, turn_for}
 use Rattle.tase_conn.specs.Places.{is_connected, standing_by, served_standing, IsAgreed}
-use Rattle.tase_conn.specs.Answering.{told_said, stage_told, progress_told, progress_closed}
+use Rattle.tase_conn.specs.Answering.{told_said, stage_told, progress_told, progress_by}
 use Rattle.tase_conn.specs.Answering.{detail_in}
-use Rattle.tase_conn.specs.Answering.{answer_said, closed_said, stage_closed}
+use Rattle.tase_conn.specs.Answering.{progress_closed, answer_said, closed_said, stage_closed}
 use Rattle.tase_map.proofs.AskedOn.{asks_join}
-use Rattle.conn_laws.specs.Serving.{with_event, AsksLast, IsWaiting, SaysOpen, SaysClosed, SaysBy}
+use Rattle.conn_laws.specs.Serving.{AsksLast, IsWaiting, SaysOpen, SaysClosed, SaysBy}
 use Rattle.conn_laws.specs.Serving.{Serves, HasTold}
-use Rattle.conn_laws.proofs.Seats.{event_here}
+use Rattle.conn_laws.proofs.Seats.{event_here, says_at}
 use Rattle.conn_laws.proofs.Steps.{answer_octets, opened_says, requested_says, taken_says}
 use Rattle.conn_laws.proofs.Steps.{closed_says}
 use Rattle.conn_laws.proofs.TurnLists.{same_ends}
@@ -219,12 +218,7 @@ opened_follows rows past who items octets event answer old peer offered s p r ri
     let title = r.last.0 in
     let a = asked_turn rows s.answered s.turns event (offers title) s.are r.last.1 in
     let ev = open_event rows title peer event r.last.2 a.asks in
-    let before : SaysBy stages.Early (progresses.Running asked) rows past who items s.told
-    s.answered octets =
-    subst (λ (x : Stage). SaysBy x (progresses.Running asked) rows past who items s.told s.answered
-    octets) early
-    (subst (λ (x : Progress). SaysBy old.stage x rows past who items s.told s.answered octets) p
-    s.says) in
+    let before = says_at s early p in
     let none : asks_behind rows [] s.answered ≡ [] =
     sym s.asked ∙ ap (λ (es : List EventKind). reverse es) before.0 in
     let answer_is : answer ≡ answers.Opened (next_key past peer) =
@@ -251,16 +245,6 @@ opened_follows rows past who items octets event answer old peer offered s p r ri
           items ts (octets ++ accept)) (sym a.is) says));
     }
 
--- what was said while the association is open
-open_before : (rows : CentreRows) (past : Past) (who : ℕ) (items : List Item)
-    (octets : List ℕ) (event : EventKind) (old : Talking) (peer : ℕ) (detail : ℤ)
-    → (s : Serves rows past who items octets (Some event) old)
-    → old.stage ≡ stages.Open peer detail
-    → SaysOpen rows past who items s.answered octets
-open_before rows past who items octets event old peer detail s st =
-    subst (λ (x : Stage). SaysBy x old.progress rows past who items s.told s.answered octets) st
-    s.says
-
 requested_follows : (rows : CentreRows) (past : Past) (who : ℕ) (items : List Item)
     (octets : List ℕ) (event : EventKind) (answer : Answer) (old : Talking) (invoke : ℕ)
     → (s : Serves rows past who items octets (Some event) old)
@@ -274,7 +258,7 @@ requested_follows rows past who items octets event answer old invoke s p r right
     let call = r.last.0 in
     let a = asked_turn rows s.answered s.turns event (asks invoke call) s.are r.last.1 in
     let ev = sym (first_event (events.Request call) event [] [] a.asks) in
-    let o = open_before rows past who items octets event old w.peer w.detail s w.stage_is in
+    let o = says_at s w.stage_is refl in
     let answer_is : answer ≡ answers.Reply (reply_to (own_table rows o.key.peer)
     (view_of rows o.key.peer past) o.key.ordinal call) =
     right_by rows past who event (events.Request call) answer right ev
@@ -314,14 +298,19 @@ taken_follows rows past who items octets event answer old s p r right =
     let w = take_served old.stage old.held r.waits in
     let a = asked_turn rows s.answered s.turns event pauses s.are r.last in
     let ev = if_event (is_open_behind rows s.answered) events.Take event a.asks in
-    let o = open_before rows past who items octets event old w.peer w.detail s w.stage_is in
+    let o = says_at s w.stage_is refl in
+    let answer_is : answer ≡ answers.Reports (reports_for (own_table rows o.key.peer)
+    (view_of rows o.key.peer past) o.key.ordinal) =
+    right_by rows past who event events.Take answer right ev
+    ∙ ap (λ (k : Option Key). answer_by rows past events.Take k) o.seat in
     let said_is : told_said old.progress old.stage old.course (Ok answer) ≡ [] =
     ap (λ (x : Progress). told_said x old.stage old.course (Ok answer)) p
-    ∙ nothing_said old.course old.stage answer in
+    ∙ ap (λ (x : Answer). answer_said old.course old.stage askeds.Taking x) answer_is in
     record {
       progress = progresses.Running askeds.Nothing;
       stage = stages.Open w.peer w.detail;
-      progress_is = ap (λ (x : Progress). progress_told x old.stage (Ok answer)) p;
+      progress_is = ap (λ (x : Progress). progress_told x old.stage (Ok answer)) p
+          ∙ ap (λ (x : Answer). progress_by old.stage askeds.Taking x) answer_is;
       stage_is = ap (λ (x : Progress). stage_told x (Ok answer) old.stage) p ∙ w.stage_is;
       waits = tt;
       says = subst (λ (os : List ℕ). SaysOpen rows (with_event who event past) who items s.turns os)
@@ -331,14 +320,6 @@ taken_follows rows past who items octets event answer old s p r right =
           (subst (λ (ts : List Turn). SaysOpen rows (with_event who events.Take past) who items ts
           octets) (sym a.is) (taken_says rows past who items s.answered octets o)));
     }
-  where
-    nothing_said : (course : Course) (stage : Stage) (answer : Answer)
-        → answer_said course stage askeds.Taking answer ≡ []
-    nothing_said course stage (answers.Opened key) = refl
-    nothing_said course stage (answers.Reply reply) = refl
-    nothing_said course stage (answers.Reports reports) = refl
-    nothing_said course stage answers.Closed = refl
-    nothing_said course stage answers.Noted = refl
 
 none_waits : (cause : Cause) → IsWaiting (progress_closed cause) None
 none_waits causes.Concluded = tt
@@ -359,7 +340,7 @@ closed_follows rows past who items octets event answer old cause s p r right =
     let w = close_served cause old.stage old.held r.waits in
     let a = asked_turn rows s.answered s.turns event (turn_for cause) s.are r.last.0 in
     let ev = close_event rows s.answered cause event a.asks in
-    let o = open_before rows past who items octets event old w.peer w.detail s w.stage_is in
+    let o = says_at s w.stage_is refl in
     let answer_is : answer ≡ answers.Closed =
     right_by rows past who event events.Close answer right ev
     ∙ ap (λ (k : Option Key). answer_by rows past events.Close k) o.seat in

@@ -24,7 +24,7 @@ use Rattle.tase_map.specs.Asks.{is_last, is_open_behind, begins, finishes, event
 use Rattle.tase_map.specs.Asks.{asks_behind, is_peers, without_pauses}
 use Rattle.tase_map.specs.Out.{talk_of, concluded_octets, early_octets}
 use Rattle.tase_map.specs.Out.{is_declined, end_turns}
-use Rattle.tase_map.specs.Sent.{events_by, association_octets}
+use Rattle.tase_map.specs.Sent.{events_by}
 use Rattle.tase_map.proofs.ReadingLaws.{reading, reading_found, reading_only}
 use Rattle.tase_map.proofs.TurnOrder.{offered, Follows, AllFollow, turns_follow}
 use Rattle.tase_map.proofs.Uncut.{any_kept, without-append}
@@ -37,17 +37,18 @@ use Rattle.tase_conn.specs.declared.stage.Progress.TheVariants as progresses
 use Rattle.tase_conn.specs.declared.stage.Stage.{Stage}
 use Rattle.tase_conn.specs.declared.stage.Stage.TheVariants as stages
 use Rattle.tase_conn.specs.Talking.{Talking, pending_of, IsFree}
-use Rattle.tase_conn.specs.Places.{Runs, GoesBy, EndsBy, EndsWithTurn, IsCause, is_connected}
+use Rattle.tase_conn.specs.Places.{Runs, EndsBy, EndsWithTurn, IsCause, is_connected}
 use Rattle.tase_conn.specs.Places.{has_begun, has_finished}
-use Rattle.tase_conn.specs.Wanting.{quiet_at, quiet_behind, behind_close, refusal_said, ReadsOn}
+use Rattle.tase_conn.specs.Wanting.{quiet_at, quiet_behind, refusal_said, ReadsOn}
 use Rattle.tase_conn.specs.Wanting.{Passes, IsIdle, AreAllTurns, StaysEnded, WantsBy, Wants}
 use Rattle.tase_conn.specs.Wanting as wanting
 use Rattle.tase_conn.proofs.Composed.{quiet_join}
 use Rattle.tase_map.proofs.AskedOn.{asks_join}
 use Rattle.tase_conn.proofs.LastTurns.{last_of_cause}
-use Rattle.conn_laws.specs.Serving.{IsWaiting, SaysClosed, SaysBy, Serves, HoldsOfAllInput}
+use Rattle.conn_laws.specs.Serving.{IsWaiting, SaysClosed, SaysBy, Serves, HoldsOfAllInput, IsSaidButOwed}
 use Rattle.tase_map.proofs.Fronts.{HasFront, whole_front, front_read, size_first, setup_kept}
 use Rattle.tase_map.proofs.Fronts.{setup_fixed, answers_told}
+use Rattle.conn_laws.proofs.Seats.{goes_at, says_now}
 use Rattle.conn_laws.proofs.Served.{kept_front, at_end}
 use Rattle.conn_laws.proofs.Texts.{answers-append, longer_front, text-append, text_turns}
 use Rattle.conn_laws.proofs.Texts.{fixed_over}
@@ -457,15 +458,11 @@ closed_end rows past who items told later turns more octets octets_more end old 
     let is = last_of_cause rows items end last e.cause in
     let goes : list_any (is_last rows) (turns ++ n.quiet_front) ≡ false =
     ap (λ (ts : List Turn). list_any (is_last rows) ts) (sym n.front_is) ∙ e.ends.goes in
-    let moved : HoldsOfAllInput items front (λ text ended rest.
-    octets ++ concluded_octets (talk_of (reading_of text) ended).setup rest
-    ≡ association_octets rows past key text ended) =
-    subst (λ (ts : List Turn). HoldsOfAllInput items ts (λ text ended rest.
-    octets ++ concluded_octets (talk_of (reading_of text) ended).setup rest
-    ≡ association_octets rows past key text ended)) (sym n.front_is)
-    (behind_silent (λ text ended rest.
-    octets ++ concluded_octets (talk_of (reading_of text) ended).setup rest
-    ≡ association_octets rows past key text ended) rows items turns n.quiet_front
+    let Owes : List ℕ → Bool → List Turn → Type 0 =
+    IsSaidButOwed (progresses.Running askeds.Nothing) rows past key octets in
+    let moved : HoldsOfAllInput items front Owes =
+    subst (λ (ts : List Turn). HoldsOfAllInput items ts Owes) (sym n.front_is)
+    (behind_silent Owes rows items turns n.quiet_front
     (any_front (is_last rows) turns n.quiet_front goes)
     (any_back (is_last rows) turns n.quiet_front goes) n.none says.octets) in
     record {
@@ -568,9 +565,8 @@ ends_on rows past who items octets octets_more end old new s p st q g pending =
     let idle = progresses.Running askeds.Nothing in
     let told = s.told ++ g.later in
     let turns = s.turns ++ g.more in
-    let r : Runs rows items s.told s.turns askeds.Nothing old =
-    subst (λ (x : Progress). GoesBy x rows items s.told s.turns old) p s.stands.goes in
-    let e = (subst (λ (x : Progress). GoesBy x rows items told turns new) q g.stands.goes).0 in
+    let r = goes_at s.stands p in
+    let e = (goes_at g.stands q).0 in
     let is = last_of_cause rows items end e.last e.cause in
     let n = ending rows s.turns g.more e.last e.ends is r.ending g.asks_are in
     let a = at_end rows items told turns end e in
@@ -589,10 +585,7 @@ ends_on rows past who items octets octets_more end old new s p st q g pending =
     (ap (λ (ts : List Turn). ts ++ e.last ∷ a.rest) n.front_is
     ∙ append_assoc s.turns n.quiet_front (e.last ∷ a.rest)) follow)) n.none in
     let asked = s.asked ∙ ap (λ (ts : List Turn). asks_behind rows [] ts) (sym s.are) in
-    let before : SaysBy old.stage idle rows past who items s.told s.turns octets =
-    subst (λ (x : Progress). SaysBy old.stage x rows past who items s.told s.turns octets) p
-    (subst (λ (ts : List Turn). SaysBy old.stage old.progress rows past who items s.told ts octets)
-    (sym s.are) s.says) in
+    let before = says_now s p in
     let says = says_end rows past who items s.told g.later s.turns g.more octets octets_more end
     old.stage old s.input e n r refl asked alone
     (follow_behind [] e.ends.front (e.last ∷ a.rest) follow).0
@@ -628,8 +621,7 @@ rests_running : (rows : CentreRows) (past : Past) (who : ℕ) (items : List Item
 rests_running rows past who items octets octets_more old new s p st q g pending =
     let told = s.told ++ g.later in
     let turns = s.turns ++ g.more in
-    let n : Runs rows items told turns askeds.Nothing new =
-    subst (λ (x : Progress). GoesBy x rows items told turns new) q g.stands.goes in
+    let n = goes_at g.stands q in
     let none = quiet_none rows (setup_after told) s.turns g.more
     (any_back (is_last rows) s.turns g.more n.ending) in
     goes_on rows past who items octets octets_more old new s g.later g.more p q st g.stands

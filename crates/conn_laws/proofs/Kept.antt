@@ -7,20 +7,20 @@ use Rattle.bilateral.specs.Rows.{CentreRows}
 use Rattle.tase_views.specs.declared.event.EventKind.{EventKind}
 use Rattle.tase_views.specs.History.{Past}
 use Rattle.tase_map.specs.Inputs.{Item, IsLinkInput, text_given, link_has_ended}
-use Rattle.tase_map.specs.Readings.{reading_of}
 use Rattle.tase_map.specs.Turns.{Turn}
-use Rattle.tase_map.specs.Out.{talk_of, early_octets}
-use Rattle.tase_map.specs.Sent.{events_by, association_octets, turns_left}
+use Rattle.tase_map.specs.Out.{early_octets}
+use Rattle.tase_map.specs.Sent.{events_by}
 use Rattle.tase_conn.specs.declared.stage.PendingEvent.TheVariants as askeds
 use Rattle.tase_conn.specs.declared.stage.Progress.{Progress}
 use Rattle.tase_conn.specs.declared.stage.Progress.TheVariants as progresses
 use Rattle.tase_conn.specs.declared.stage.Stage.{Stage}
 use Rattle.tase_conn.specs.declared.stage.Stage.TheVariants as stages
 use Rattle.tase_conn.specs.Talking.{Talking}
-use Rattle.tase_conn.specs.Places.{ConnStandsAt, Runs, GoesBy, has_begun}
+use Rattle.tase_conn.specs.Places.{ConnStandsAt, has_begun}
 use Rattle.tase_conn.specs.Taken.{TakesIn}
-use Rattle.conn_laws.specs.Serving.{AreOthers, IsWaiting, SaysEarly, SaysOpen, SaysBy, Serves, owed}
-use Rattle.conn_laws.proofs.Seats.{others_none, others_seat, others_sent, still_opened}
+use Rattle.conn_laws.specs.Serving.{AreOthers, IsWaiting, SaysEarly, SaysOpen, SaysBy, Serves, IsAllSaid}
+use Rattle.conn_laws.specs.Serving.{IsSaidButOwed}
+use Rattle.conn_laws.proofs.Seats.{others_none, others_seat, others_sent, others_opened, goes_at}
 use Rattle.conn_laws.proofs.Seats.{closed_still}
 use Rattle.conn_laws.proofs.TurnLists.{one_item_more}
 
@@ -35,8 +35,7 @@ pub begun_serves : (rows : CentreRows) (past : Past) (who : ℕ) (v : Talking)
     → events_by who past ≡ [] → ConnStandsAt rows [] [] [] v
     → v.progress ≡ progresses.Running askeds.Nothing → Serves rows past who [] [] None v
 begun_serves rows past who v none stands p =
-    let r : Runs rows [] [] [] askeds.Nothing v =
-    subst (λ (x : Progress). GoesBy x rows [] [] [] v) p stands.goes in
+    let r = goes_at stands p in
     let early = unbegun v.stage r.begun in
     record {
       told = [];
@@ -70,10 +69,8 @@ pub open_more : (rows : CentreRows) (past : Past) (who : ℕ) (items : List Item
     → SaysOpen rows past who (items ++ item ∷ []) answered octets
 open_more rows past who items item answered octets says = record {
   key = says.key;
-  opened = says.opened;
   seat = says.seat;
-  octets = one_item_more (λ text ended rest. (octets ≡ association_octets rows past says.key text ended)
-      × (turns_left rows past says.key text ended ≡ rest)) items item answered says.octets;
+  octets = one_item_more (IsAllSaid rows past says.key octets) items item answered says.octets;
 }
 
 says_more : (stage : Stage) (progress : Progress) (rows : CentreRows) (past : Past) (who : ℕ)
@@ -89,9 +86,8 @@ says_more (stages.Closed peer) progress rows past who items item told answered o
       key = says.key;
       opened = says.opened;
       closed = says.closed;
-      octets = one_item_more (λ text ended rest.
-          octets ++ owed progress (talk_of (reading_of text) ended).setup rest
-          ≡ association_octets rows past says.key text ended) items item answered says.octets;
+      octets = one_item_more (IsSaidButOwed progress rows past says.key octets) items item answered
+          says.octets;
     }
 
 pub taken_serves : (rows : CentreRows) (past : Past) (who : ℕ) (items : List Item) (item : Item)
@@ -129,7 +125,6 @@ open_beside rows past others who items answered octets a says =
     let key = says.key in
     record {
       key = key;
-      opened = still_opened others past who key says.opened;
       seat = others_seat who others past a ∙ says.seat;
       octets = λ more i rest t.
           let before = says.octets more i rest t in
@@ -151,7 +146,7 @@ says_beside (stages.Closed peer) progress rows past others who items told answer
     let key = says.key in
     record {
       key = key;
-      opened = still_opened others past who key says.opened;
+      opened = others_opened who others past a ∙ says.opened;
       closed = (closed_still rows key others past [] false says.closed).0;
       octets = λ more i rest t. says.octets more i rest t
           ∙ sym (closed_still rows key others past (text_given (items ++ more))

@@ -23,9 +23,9 @@ use Rattle.tase_map.specs.Inputs.{Item, IsLinkInput, text_given, link_has_ended}
 use Rattle.tase_map.specs.Readings.{reading_of}
 use Rattle.tase_map.specs.Turns.{Turn, turns_of}
 use Rattle.tase_map.specs.Asks.{is_last, up_to_last, asks_behind, without_pauses}
-use Rattle.tase_map.specs.Out.{talk_of, concluded_octets, close_octets, early_octets}
+use Rattle.tase_map.specs.Out.{talk_of, concluded_octets, close_octets}
 use Rattle.tase_map.specs.Out.{refusal_octets}
-use Rattle.tase_map.specs.Sent.{events_by, turns_left}
+use Rattle.tase_map.specs.Sent.{events_by, turns_left, with_event}
 use Rattle.tase_map.proofs.Adding.{close_adds}
 use Rattle.tase_conn.specs.declared.stage.PendingEvent.{PendingEvent}
 use Rattle.tase_conn.specs.declared.stage.PendingEvent.TheVariants as askeds
@@ -37,21 +37,22 @@ use Rattle.tase_conn.specs.declared.stage.Progress.TheVariants as progresses
 use Rattle.tase_conn.specs.declared.stage.Stage.{Stage}
 use Rattle.tase_conn.specs.declared.stage.Stage.TheVariants as stages
 use Rattle.tase_conn.specs.Talking.{Talking, pending_of, is_open_stage}
-use Rattle.tase_conn.specs.Places.{ConnStandsAt, Runs, GoesBy, BeginsTurns, is_connected, early_standing}
+use Rattle.tase_conn.specs.Places.{ConnStandsAt, Runs, BeginsTurns, is_connected, early_standing}
 use Rattle.tase_conn.specs.Places.{standing_by}
 use Rattle.tase_conn.specs.Answering.{told_said, end_of_fault, aborts, aborted, parting_octets, IsAnswerFor}
 use Rattle.tase_conn.specs.Answering.{stage_closed}
 use Rattle.tase_conn.specs.Answering.{progress_told, stage_told}
 use Rattle.tase_conn.specs.Leaving.{IsLeft, Parts}
 use Rattle.tase_conn.specs.Wanting.{WantsClose, progress_closing, IsLeaving}
-use Rattle.conn_laws.specs.Cutting.{IsClosingFor, parting, LeftOpen, LeftClosed}
+use Rattle.conn_laws.specs.Cutting.{IsClosingFor, parting, LeftOpen, LeftClosed, IsSaidEarly, HasSetupOf}
 use Rattle.conn_laws.specs.Cutting.{LeftBy, HasLeft, left_said, is_leaving}
-use Rattle.conn_laws.specs.Serving.{with_event, SaysBy, SaysOpen, SaysClosed, Serves, HasTold}
+use Rattle.conn_laws.specs.Serving.{SaysBy, SaysOpen, SaysClosed, Serves, HasTold}
 use Rattle.conn_laws.specs.Serving.{HoldsOfAllInput}
 use Rattle.conn_laws.proofs.Answered.{opens_early, request_served, take_served, IsServedAt}
+use Rattle.conn_laws.proofs.Seats.{goes_at, says_at, says_now}
 use Rattle.conn_laws.proofs.Texts.{answers-append}
 use Rattle.tase_map.proofs.Fronts.{HasFront, has_front, front_read}
-use Rattle.conn_laws.proofs.Seats.{event_here, still_opened, close_closes}
+use Rattle.conn_laws.proofs.Seats.{event_here, opened_here, seat_opened, close_closes}
 use Rattle.conn_laws.proofs.Served.{begins_turns, goes_front}
 use Rattle.conn_laws.proofs.Texts.{fixed_over, longer_front}
 use Rattle.conn_laws.proofs.Wanted.{waiting_of, answered_goes}
@@ -61,8 +62,7 @@ use Rattle.conn_laws.proofs.Wanted.{waiting_of, answered_goes}
 early_front : (rows : CentreRows) (items : List Item) (told : List Arrival) (answered : List Turn)
     (octets : List ℕ) (v : Course) → HasFront (text_given items) told
     → octets ≡ answers_to called told
-    → HoldsOfAllInput items answered (λ text ended rest. (others : List ℕ)
-    × (early_octets rows text ≡ octets ++ others))
+    → HoldsOfAllInput items answered (IsSaidEarly rows octets)
 early_front rows items told answered octets v front said = λ more i rest t.
     let text = text_given (items ++ more) in
     let r = reading_of text in
@@ -90,13 +90,12 @@ answered_read rows past who items octets event asked v s r =
 pub setup_known : (items : List Item) (told : List Arrival) (answered : List Turn) (rows : CentreRows)
     (turns : List Turn) (asked : PendingEvent) (v : Talking) → Runs rows items told turns asked v
     → is_some (first_in connect_in told) ≡ true
-    → HoldsOfAllInput items answered (λ text ended rest.
-    v.course.setup ≡ (talk_of (reading_of text) ended).setup)
+    → HoldsOfAllInput items answered (HasSetupOf v.course)
 setup_known items told answered rows turns asked v r connect = λ more i rest t.
     let x = fixed_over items more told v.course r.stands connect in x.course_setup ∙ sym x.setup
 
 -- an association that doesn't stand isn't aborted
-unparted : (course : Course) (end : ConnEnd) → is_accepted course.standing ≡ false
+pub unparted : (course : Course) (end : ConnEnd) → is_accepted course.standing ≡ false
     → parting_octets course end ≡ []
 unparted course end e =
     let none : aborted course ≡ [] = rw e refl in
@@ -160,18 +159,30 @@ open_kept : (rows : CentreRows) (past : Past) (who : ℕ) (items : List Item)
 open_kept rows past who items octets event end old peer offered s p r =
     let asked = askeds.Opening peer offered in
     let early = opens_early peer offered old.stage old.held r.waits in
-    let before : SaysBy stages.Early (progresses.Running asked) rows past who items s.told
-    s.answered octets =
-    subst (λ (x : Stage). SaysBy x (progresses.Running asked) rows past who items s.told s.answered
-    octets) early
-    (subst (λ (x : Progress). SaysBy old.stage x rows past who items s.told s.answered octets) p
-    s.says) in
+    let before = says_at s early p in
     early_kept rows past who items s.told s.answered octets end old early
     (ap (λ (x : EndState). is_accepted x)
     (r.standing ∙ ap (λ (x : Stage). standing_by x asked old.held) early)) before.0 s.asked
     (has_front (text_given items) s.told old.course r.stands) before.1
 
--- while its association is open
+-- of what it is sent while its association is open nothing is missing
+pub open_left : (rows : CentreRows) (past : Past) (who : ℕ) (items : List Item)
+    (answered : List Turn) (octets : List ℕ) (course : Course)
+    → reverse (events_by who past) ≡ asks_behind rows [] answered
+    → HoldsOfAllInput items answered (HasSetupOf course)
+    → SaysOpen rows past who items answered octets
+    → LeftOpen true course.standing course rows past who items answered octets
+open_left rows past who items answered octets course asked setup says = record {
+  key = says.key;
+  seat = says.seat;
+  asked = asked;
+  stood = refl;
+  setup = setup;
+  octets = λ more i rest t.
+      let b = says.octets more i rest t in
+      ([], sym b.0 ∙ sym (append-nil octets), b.1, λ w. refl);
+}
+
 served_kept : (rows : CentreRows) (past : Past) (who : ℕ) (items : List Item)
     (told : List Arrival) (turns answered : List Turn) (octets : List ℕ) (end : ConnEnd)
     (asked : PendingEvent) (peer : ℕ) (detail : ℤ) (old : Talking)
@@ -192,17 +203,8 @@ served_kept rows past who items told turns answered octets end asked peer detail
     (subst (λ (x : Stage). LeftBy true x end standing old.course rows past who items answered
     octets)
     (sym st)
-    (record {
-      key = says.key;
-      opened = says.opened;
-      seat = says.seat;
-      asked = before;
-      stood = refl;
-      setup = setup_known items told answered rows turns asked old r connect;
-      octets = λ more i rest t.
-          let b = says.octets more i rest t in
-          ([], sym b.0 ∙ sym (append-nil octets), b.1, λ w. refl);
-    }))
+    (open_left rows past who items answered octets old.course before
+    (setup_known items told answered rows turns asked old r connect) says))
 
 asked_kept : (rows : CentreRows) (past : Past) (who : ℕ) (items : List Item)
     (octets : List ℕ) (event : EventKind) (end : ConnEnd) (old : Talking) (asked : PendingEvent)
@@ -212,8 +214,7 @@ asked_kept : (rows : CentreRows) (past : Past) (who : ℕ) (items : List Item)
 asked_kept rows past who items octets event end old asked s r w =
     served_kept rows past who items s.told s.turns s.answered octets end asked w.peer w.detail old r
     w.stage_is s.asked
-    (subst (λ (x : Stage). SaysBy x old.progress rows past who items s.told s.answered octets)
-    w.stage_is s.says)
+    (says_at s w.stage_is refl)
 
 running_kept : (rows : CentreRows) (past : Past) (who : ℕ) (items : List Item)
     (octets : List ℕ) (event : EventKind) (fault : StepFault) (end : ConnEnd) (old : Talking)
@@ -342,8 +343,7 @@ refused_leaves rows past who items octets octets_more event fault old new s righ
     pending =
     let found = waiting_of old.progress event s.waits in
     let asked = found.0 in
-    let r : Runs rows items s.told s.turns asked old =
-    subst (λ (x : Progress). GoesBy x rows items s.told s.turns old) found.1 s.stands.goes in
+    let r = goes_at s.stands found.1 in
     leaves true rows past who items s.told s.turns s.answered octets octets_more (end_of_fault fault) old
     new s.input stands left pending
     (up_to_read rows items s.answered (answered_goes rows past who items octets event old s)
@@ -412,12 +412,8 @@ pub given_up : (rows : CentreRows) (past : Past) (who : ℕ) (items : List Item)
     → HasLeft true end old.course.standing rows past who items (octets ++ octets_more) None new
 given_up rows past who items octets octets_more end old new s p stands left pending =
     let idle = progresses.Running askeds.Nothing in
-    let r : Runs rows items s.told s.turns askeds.Nothing old =
-    subst (λ (x : Progress). GoesBy x rows items s.told s.turns old) p s.stands.goes in
-    let says : SaysBy old.stage idle rows past who items s.told s.turns octets =
-    subst (λ (x : Progress). SaysBy old.stage x rows past who items s.told s.turns octets) p
-    (subst (λ (ts : List Turn). SaysBy old.stage old.progress rows past who items s.told ts octets)
-    (sym s.are) s.says) in
+    let r = goes_at s.stands p in
+    let says = says_now s p in
     leaves true rows past who items s.told s.turns s.turns octets octets_more end old new s.input
     stands left pending
     (up_to_read rows items s.turns r.ending
@@ -496,7 +492,7 @@ close_of (progresses.Leaving left true) events.Stop end old p w = absurd w
 close_of (progresses.Ended left) event end old p w = absurd w
 close_of (progresses.Cut left) event end old p w = absurd w
 
-closed_says : (whole : Bool) (rows : CentreRows) (past : Past) (who : ℕ) (items : List Item)
+pub closed_says : (whole : Bool) (rows : CentreRows) (past : Past) (who : ℕ) (items : List Item)
     (answered : List Turn) (octets : List ℕ) (end : ConnEnd) (standing : EndState) (course : Course)
     → LeftOpen whole standing course rows past who items answered octets
     → LeftClosed whole end standing rows (with_event who events.Close past) who items answered
@@ -505,7 +501,7 @@ closed_says whole rows past who items answered octets end standing course o =
     let key = o.key in
     record {
       key = key;
-      opened = still_opened (with_event who events.Close []) past who key o.opened;
+      opened = opened_here events.Close past who ∙ seat_opened past who key o.seat;
       closed = close_closes past who key o.seat;
       asked = ap (λ (es : List EventKind). reverse es) (event_here events.Close past who)
           ∙ reverse-append (events.Close ∷ []) (events_by who past)
@@ -556,8 +552,7 @@ pub closed_leaves : (rows : CentreRows) (past : Past) (who : ℕ) (items : List 
 closed_leaves rows past who items octets event answer whole end standing old new h t =
     let c = close_of old.progress event end old refl h.waits in
     let p = c.progress in
-    let is_open : is_open_stage old.stage ≡ true =
-    subst (λ (x : Progress). GoesBy x rows items h.told h.turns old) p h.stands.goes in
+    let is_open = goes_at h.stands p in
     let said : told_said old.progress old.stage old.course (Ok answer) ≡ parting_octets old.course end =
     ap (λ (x : Progress). told_said x old.stage old.course (Ok answer)) p in
     let stage : new.stage ≡ stage_closed old.stage =

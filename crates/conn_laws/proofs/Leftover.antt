@@ -16,8 +16,9 @@ use Rattle.tase_map.specs.Readings.{reading_of}
 use Rattle.tase_map.specs.Turns.{Turn, offers, offers_badly, asks, concludes, releases, aborts}
 use Rattle.tase_map.specs.Turns.{breaks, ends, pauses, turns_of}
 use Rattle.tase_map.specs.Asks.{is_last, up_to_last, asks_behind, without_pauses}
-use Rattle.tase_map.specs.Out.{talk_of, close_octets, abort_wire, early_octets}
-use Rattle.tase_map.specs.Sent.{events_by, association_octets, turns_left}
+use Rattle.tase_map.specs.Out.{talk_of, close_octets, abort_wire}
+use Rattle.tase_map.specs.Sent.{events_by}
+use Rattle.tase_map.specs.Linked.{octets_by, link_octets}
 use Rattle.tase_conn.specs.declared.stage.ConnEnd.{ConnEnd}
 use Rattle.tase_conn.specs.declared.stage.Progress.{Progress}
 use Rattle.tase_conn.specs.declared.stage.Progress.TheVariants as progresses
@@ -31,11 +32,12 @@ use Rattle.tase_map.proofs.AskedOn.{turns_on}
 use Rattle.tase_map.proofs.AskedOn.{asks_join}
 use Rattle.conn_laws.specs.Cutting.{IsClosingFor, parting, LeftClosed}
 use Rattle.conn_laws.specs.Cutting.{LeftBy, HasLeft, HasSaidSome, WasLeft, IsUnexplained}
-use Rattle.conn_laws.specs.Cutting.{is_leaving}
+use Rattle.conn_laws.specs.Cutting.{is_leaving, IsSaidEarly, HasSetupOf, IsSaidButMissing}
+use Rattle.conn_laws.specs.Cutting.{IsSaidToClose, IsSaidAndParted}
 use Rattle.conn_laws.proofs.Left.{kept_on}
 use Rattle.conn_laws.specs.Serving.{AreOthers}
-use Rattle.conn_laws.proofs.Seats.{others_none, others_seat, others_sent, still_opened}
-use Rattle.conn_laws.proofs.Seats.{closed_still}
+use Rattle.conn_laws.proofs.Seats.{others_none, others_seat, others_sent, others_opened}
+use Rattle.conn_laws.proofs.Seats.{closed_still, none_opened}
 use Rattle.conn_laws.proofs.Served.{over_all, kept_front}
 use Rattle.conn_laws.proofs.TurnLists.{one_item_more}
 
@@ -57,7 +59,6 @@ left_beside whole (stages.Open peer detail) end standing course rows past others
     a k =
     record {
       key = k.key;
-      opened = still_opened others past who k.key k.opened;
       seat = others_seat who others past a ∙ k.seat;
       asked = ap (λ (es : List EventKind). reverse es) (others_none who others past a) ∙ k.asked;
       stood = k.stood;
@@ -73,7 +74,7 @@ left_beside whole (stages.Closed peer) end standing course rows past others who 
     (inl k) =
     inl (record {
       key = k.key;
-      opened = still_opened others past who k.key k.opened;
+      opened = others_opened who others past a ∙ k.opened;
       closed = (closed_still rows k.key others past [] false k.closed).0;
       asked = ap (λ (es : List EventKind). reverse es) (others_none who others past a) ∙ k.asked;
       before = k.before;
@@ -91,7 +92,7 @@ left_beside whole (stages.Closed peer) end standing course rows past others who 
     (inr k) =
     inr (record {
       key = k.key;
-      opened = still_opened others past who k.key k.opened;
+      opened = others_opened who others past a ∙ k.opened;
       closed = (closed_still rows k.key others past [] false k.closed).0;
       asked = ap (λ (es : List EventKind). reverse es) (others_none who others past a) ∙ k.asked;
       before = k.before;
@@ -148,23 +149,17 @@ left_more whole stages.Early end standing course rows past who items item answer
     record {
       none = k.none;
       asked = k.asked;
-      octets = one_item_more (λ text ended rest. (others : List ℕ)
-          × (early_octets rows text ≡ octets ++ others)) items item answered k.octets;
+      octets = one_item_more (IsSaidEarly rows octets) items item answered k.octets;
     }
 left_more whole (stages.Open peer detail) end standing course rows past who items item answered
     octets k =
     record {
       key = k.key;
-      opened = k.opened;
       seat = k.seat;
       asked = k.asked;
       stood = k.stood;
-      setup = one_item_more (λ text ended rest.
-          course.setup ≡ (talk_of (reading_of text) ended).setup) items item answered k.setup;
-      octets = one_item_more (λ text ended rest. (missing : List ℕ)
-          × (association_octets rows past k.key text ended ≡ octets ++ missing)
-          × (turns_left rows past k.key text ended ≡ rest) × (whole ≡ true → missing ≡ [])) items
-          item answered k.octets;
+      setup = one_item_more (HasSetupOf course) items item answered k.setup;
+      octets = one_item_more (IsSaidButMissing whole rows past k.key octets) items item answered k.octets;
     }
 left_more whole (stages.Closed peer) end standing course rows past who items item answered octets
     (inl k) =
@@ -174,11 +169,8 @@ left_more whole (stages.Closed peer) end standing course rows past who items ite
       closed = k.closed;
       asked = k.asked;
       before = k.before;
-      octets = one_item_more (λ text ended rest.
-          (octets ≡ k.before ++ parting end standing (talk_of (reading_of text) ended).setup)
-          × (missing : List ℕ) × (association_octets rows past k.key text ended
-          ≡ (k.before ++ missing) ++ close_octets (talk_of (reading_of text) ended).setup rest)
-          × (whole ≡ true → missing ≡ [])) items item answered k.octets;
+      octets = one_item_more (IsSaidToClose whole end standing rows past k.key k.before octets) items item
+          answered k.octets;
     })
 left_more whole (stages.Closed peer) end standing course rows past who items item answered octets
     (inr k) =
@@ -188,9 +180,7 @@ left_more whole (stages.Closed peer) end standing course rows past who items ite
       closed = k.closed;
       asked = k.asked;
       before = k.before;
-      octets = one_item_more (λ text ended rest.
-          (octets ≡ k.before ++ parting end standing (talk_of (reading_of text) ended).setup)
-          × (others : List ℕ) × (association_octets rows past k.key text ended ≡ k.before ++ others)) items item
+      octets = one_item_more (IsSaidAndParted end standing rows past k.key k.before octets) items item
           answered k.octets;
     })
 
@@ -245,9 +235,15 @@ said_some : (whole : Bool) (stage : Stage) (end : ConnEnd) (standing : EndState)
     ⊎ (reverse (events_by who past) ≡ asks_behind rows [] answered ++ events.Close ∷ []))
     × HasSaidSome end standing rows past who items octets
 said_some whole stages.Early end standing course rows past who items answered rest octets i t o k =
-    let e = over_all (λ text ended rest. (others : List ℕ)
-    × (early_octets rows text ≡ octets ++ others)) items answered rest i t k.octets in
-    (inl k.asked, inr (k.none, e.0, e.1))
+    let e = over_all (IsSaidEarly rows octets) items answered rest i t k.octets in (
+      inl k.asked,
+      record {
+        before = octets;
+        others = e.0;
+        sent = ap (octets_by rows past items) (none_opened past who k.none) ∙ e.1;
+        parted = inr (k.none, refl);
+      },
+    )
 said_some whole (stages.Open peer detail) end standing course rows past who items answered rest
     octets i t
     o k =
@@ -255,32 +251,32 @@ said_some whole (stages.Open peer detail) end standing course rows past who item
 said_some whole (stages.Closed peer) end standing course rows past who items answered rest octets i
     t o
     (inl k) =
-    let e = over_all (λ text ended rest.
-    (octets ≡ k.before ++ parting end standing (talk_of (reading_of text) ended).setup)
-    × (missing : List ℕ) × (association_octets rows past k.key text ended
-    ≡ (k.before ++ missing) ++ close_octets (talk_of (reading_of text) ended).setup rest)
-    × (whole ≡ true → missing ≡ [])) items answered rest i t k.octets in
+    let e = over_all (IsSaidToClose whole end standing rows past k.key k.before octets) items answered
+    rest i t k.octets in
     let close = close_octets (talk_of (reading_of (text_given items)) (link_has_ended items)).setup
     (without_pauses rest) in (
       inr k.asked,
-      inl (
-        k.key,
-        k.opened,
-        k.closed,
-        k.before,
-        e.1 ++ close,
-        e.0,
-        e.2 ∙ append_assoc k.before e.1 close,
-      ),
+      record {
+        before = k.before;
+        others = e.1 ++ close;
+        sent = ap (octets_by rows past items) k.opened ∙ e.2
+            ∙ append_assoc k.before e.1 close;
+        parted = inl ((k.key, k.opened, k.closed), e.0);
+      },
     )
 said_some whole (stages.Closed peer) end standing course rows past who items answered rest octets i
     t o
     (inr k) =
-    let e = over_all (λ text ended rest.
-    (octets ≡ k.before ++ parting end standing (talk_of (reading_of text) ended).setup)
-    × (others : List ℕ) × (association_octets rows past k.key text ended ≡ k.before ++ others)) items answered
-    rest i t k.octets in
-    (inl k.asked, inl (k.key, k.opened, k.closed, k.before, e.1, e.0, e.2))
+    let e = over_all (IsSaidAndParted end standing rows past k.key k.before octets) items answered rest
+    i t k.octets in (
+      inl k.asked,
+      record {
+        before = k.before;
+        others = e.1;
+        sent = ap (octets_by rows past items) k.opened ∙ e.2;
+        parted = inl ((k.key, k.opened, k.closed), e.0);
+      },
+    )
 
 -- once it has ended
 pub was_left : (whole : Bool) (end : ConnEnd) (standing : EndState) (rows : CentreRows)
@@ -305,7 +301,7 @@ was_left whole end standing rows past who items octets v h p =
       octets = s.1;
     }
 
-unexplained : (setup : AssociationSetup) (rest : List Turn) → IsUnexplained rest
+pub unexplained : (setup : AssociationSetup) (rest : List Turn) → IsUnexplained rest
     → close_octets setup rest ≡ abort_wire setup
 unexplained setup [] u = refl
 unexplained setup (offers title ∷ rest) u = refl
@@ -327,17 +323,15 @@ pub all_said : (end : ConnEnd) (standing : EndState) (rows : CentreRows) (past :
     (items : List Item) (answered rest : List Turn) (octets : List ℕ) → IsLinkInput items
     → turns_of items ≡ answered ++ rest → IsUnexplained (without_pauses rest)
     → answering.aborts end ≡ true → is_accepted standing ≡ true
-    → (l : LeftClosed true end standing rows past who items answered octets)
-    → octets ≡ association_octets rows past l.key (text_given items) (link_has_ended items)
+    → LeftClosed true end standing rows past who items answered octets
+    → octets ≡ link_octets rows past who items
 all_said end standing rows past who items answered rest octets i t u a s l =
     let setup = (talk_of (reading_of (text_given items)) (link_has_ended items)).setup in
-    let e = over_all (λ text ended rest.
-    (octets ≡ l.before ++ parting end standing (talk_of (reading_of text) ended).setup)
-    × (missing : List ℕ) × (association_octets rows past l.key text ended
-    ≡ (l.before ++ missing) ++ close_octets (talk_of (reading_of text) ended).setup rest)
-    × (true ≡ true → missing ≡ [])) items answered rest i t l.octets in
+    let e = over_all (IsSaidToClose true end standing rows past l.key l.before octets) items answered
+    rest i t l.octets in
     let close = close_octets setup (without_pauses rest) in
     e.0 ∙ ap (λ (os : List ℕ). l.before ++ os) (parts end standing setup a s
     ∙ sym (unexplained setup (without_pauses rest) u))
     ∙ ap (λ (os : List ℕ). os ++ close) (sym (append-nil l.before)
-    ∙ ap (λ (os : List ℕ). l.before ++ os) (sym (e.3 refl))) ∙ sym e.2
+    ∙ ap (λ (os : List ℕ). l.before ++ os) (sym (e.3 refl)))
+    ∙ sym (ap (octets_by rows past items) l.opened ∙ e.2)

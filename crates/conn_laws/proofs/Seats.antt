@@ -1,10 +1,10 @@
--- The association of a seat, and entries of other seats.
+-- The association of a seat, entries of other seats, and where a connection stands.
 use Rattle.std.proofs.Common.{◌≡◌, ◌==◌, ℕ, ◌<◌, Bool, true, false, List, [], ◌∷◌, ◌++◌}
-use Rattle.std.proofs.Common.{Option, Some, None, refl, sym, ap, ◌∙◌}
-use Rattle.std.proofs.Common.{append_assoc}
+use Rattle.std.proofs.Common.{Option, Some, None, refl, sym, ap, subst, ◌∙◌}
 use Rattle.std.specs.Prelude.{if◌then◌else◌, ◌||◌}
 use Rattle.std.specs.List.{list_any, cons_option}
 use Rattle.std.proofs.lemmas.Bool.{false≢true, eq-eqb, ne_eqb}
+use Rattle.stack_assoc.specs.Arrivals.{Arrival}
 use Rattle.sbo_device.specs.declared.key.Key.{Key}
 use Rattle.bilateral.specs.Rows.{CentreRows}
 use Rattle.tase_views.specs.declared.event.EventKind.{EventKind}
@@ -16,14 +16,21 @@ use Rattle.tase_views.specs.History.{association_in, key_at, is_key, entries_of}
 use Rattle.tase_views.specs.OwnTable.{own_table}
 use Rattle.tase_views.specs.Outcomes.{is_close}
 use Rattle.tase_map.specs.Closed.{is_closed}
+use Rattle.tase_map.specs.Inputs.{Item}
 use Rattle.tase_map.specs.Readings.{reading_of}
+use Rattle.tase_map.specs.Turns.{Turn}
 use Rattle.tase_map.specs.Out.{talk_of, turns_behind}
-use Rattle.tase_map.specs.Sent.{events_by, association_octets, turns_left}
+use Rattle.tase_map.specs.Sent.{events_by, association_octets, turns_left, with_event}
+use Rattle.tase_map.specs.Linked.{opened_in, opened_by}
 use Rattle.tase_map.proofs.Closing.{issued, closed_spent, octets_kept, at_other, next_new}
 use Rattle.tase_map.proofs.Closing.{one_seat}
 use Rattle.tase_map.proofs.Adding.{other_adds}
 use Rattle.tase_map.proofs.Passing.{made_apart}
-use Rattle.conn_laws.specs.Serving.{with_event, HasOpened, AreOthers}
+use Rattle.tase_conn.specs.declared.stage.Progress.{Progress}
+use Rattle.tase_conn.specs.declared.stage.Stage.{Stage}
+use Rattle.tase_conn.specs.Talking.{Talking}
+use Rattle.tase_conn.specs.Places.{ConnStandsAt, GoesBy}
+use Rattle.conn_laws.specs.Serving.{AreOthers, SaysBy, Serves}
 
 -- ---- entries of a seat
 
@@ -43,6 +50,13 @@ at_seat event past who =
     if_true (who == who) (association_after event past (association_in past who))
     (association_in past who) (eq-eqb who who refl)
 
+-- and the one that it has opened last
+pub opened_here : (event : EventKind) (past : Past) (who : ℕ)
+    → opened_in (with_event who event past) who ≡ opened_by event past (opened_in past who)
+opened_here event past who =
+    if_true (who == who) (opened_by event past (opened_in past who)) (opened_in past who)
+    (eq-eqb who who refl)
+
 pub event_here : (event : EventKind) (past : Past) (who : ℕ)
     → events_by who (with_event who event past) ≡ event ∷ events_by who past
 event_here event past who =
@@ -55,19 +69,52 @@ event_elsewhere entry past who other =
     ap (λ (o : Option EventKind). cons_option o (events_by who past))
     (if_false (entry.who == who) (Some entry.event) None (ne_eqb entry.who who other))
 
-nothing_chosen : (b : Bool) (entry : Entry) (past : Past) (before : Option Key)
-    (es : List EventKind) → cons_option (if b then Some entry.event else None) es ≡ []
-    → (es ≡ [] → before ≡ None)
-    → (if b then association_after entry.event past before else before) ≡ None
-nothing_chosen true entry past before es e g = absurd cc
-nothing_chosen false entry past before es e g = g e
+nothing_chosen : (b : Bool) (event : EventKind) (after before : Option Key) (es : List EventKind)
+    → cons_option (if b then Some event else None) es ≡ [] → (es ≡ [] → before ≡ None)
+    → (if b then after else before) ≡ None
+nothing_chosen true event after before es e g = absurd cc
+nothing_chosen false event after before es e g = g e
 
 -- a seat without events has no association
 pub none_open : (past : Past) (who : ℕ) → events_by who past ≡ [] → association_in past who ≡ None
 none_open [] who e = refl
 none_open (entry ∷ past) who e =
-    nothing_chosen (entry.who == who) entry past (association_in past who) (events_by who past) e
-    (none_open past who)
+    nothing_chosen (entry.who == who) entry.event
+    (association_after entry.event past (association_in past who)) (association_in past who)
+    (events_by who past) e (none_open past who)
+
+-- and has opened none
+pub none_opened : (past : Past) (who : ℕ) → events_by who past ≡ [] → opened_in past who ≡ None
+none_opened [] who e = refl
+none_opened (entry ∷ past) who e =
+    nothing_chosen (entry.who == who) entry.event
+    (opened_by entry.event past (opened_in past who)) (opened_in past who) (events_by who past) e
+    (none_opened past who)
+
+after_opened : (event : EventKind) (past : Past) (before found : Option Key) (key : Key)
+    → (before ≡ Some key → found ≡ Some key) → association_after event past before ≡ Some key
+    → opened_by event past found ≡ Some key
+after_opened (Open peer) past before found key g e = e
+after_opened (Request call) past before found key g e = g e
+after_opened Take past before found key g e = g e
+after_opened Close past before found key g e = absurd cc
+after_opened (Update point value) past before found key g e = g e
+after_opened Stop past before found key g e = g e
+
+seat_by : (b : Bool) (event : EventKind) (past : Past) (before found : Option Key) (key : Key)
+    → (before ≡ Some key → found ≡ Some key)
+    → (if b then association_after event past before else before) ≡ Some key
+    → (if b then opened_by event past found else found) ≡ Some key
+seat_by true event past before found key g e = after_opened event past before found key g e
+seat_by false event past before found key g e = g e
+
+-- the association of a seat is the one that it has opened last
+pub seat_opened : (past : Past) (who : ℕ) (key : Key) → association_in past who ≡ Some key
+    → opened_in past who ≡ Some key
+seat_opened [] who key e = absurd cc
+seat_opened (entry ∷ past) who key e =
+    seat_by (entry.who == who) entry.event past (association_in past who) (opened_in past who) key
+    (seat_opened past who key) e
 
 -- ---- keys
 
@@ -101,6 +148,14 @@ others_seat who [] past a = refl
 others_seat who (entry ∷ others) past a =
     at_other entry (others ++ past) who a.0 ∙ others_seat who others past a.1
 
+pub others_opened : (who : ℕ) (others past : Past) → AreOthers who others
+    → opened_in (others ++ past) who ≡ opened_in past who
+others_opened who [] past a = refl
+others_opened who (entry ∷ others) past a =
+    let before = opened_in (others ++ past) who in
+    if_false (entry.who == who) (opened_by entry.event (others ++ past) before) before
+    (ne_eqb entry.who who a.0) ∙ others_opened who others past a.1
+
 pub others_sent : (rows : CentreRows) (who : ℕ) (others past : Past) (key : Key) (text : List ℕ)
     (ended : Bool) → AreOthers who others → association_in past who ≡ Some key
     → (association_octets rows (others ++ past) key text ended ≡ association_octets rows past key text ended)
@@ -117,17 +172,6 @@ others_sent rows who (entry ∷ others) past key text ended a e =
       ap (λ m. turns_behind (talk_of (reading_of text) ended).turns m)
           (made_apart rows key entry.who entry.event all apart) ∙ r.1,
     )
-
-pub still_opened : (later past : Past) (who : ℕ) (key : Key) → HasOpened past who key
-    → HasOpened (later ++ past) who key
-still_opened later past who key o = record {
-  later = later ++ o.later;
-  earlier = o.earlier;
-  peer = o.peer;
-  is = ap (λ (p : Past). later ++ p) o.is
-      ∙ sym (append_assoc later o.later (with_event who (Open o.peer) o.earlier));
-  key_is = o.key_is;
-}
 
 -- ---- a close
 
@@ -170,3 +214,29 @@ closed_still rows key later past text ended c = (
   octets_kept rows (own_table rows key.peer) (talk_of (reading_of text) ended) key later past
       (closed_spent key past c),
 )
+
+-- ---- where a connection stands
+
+pub goes_at : {rows : CentreRows} {items : List Item} {told : List Arrival} {turns : List Turn}
+    {v : Talking} {progress : Progress} → ConnStandsAt rows items told turns v
+    → v.progress ≡ progress → GoesBy progress rows items told turns v
+goes_at {rows} {items} {told} {turns} {v} s p =
+    subst (λ (x : Progress). GoesBy x rows items told turns v) p s.goes
+
+-- what it says there
+pub says_at : {rows : CentreRows} {past : Past} {who : ℕ} {items : List Item} {octets : List ℕ}
+    {waiting : Option EventKind} {v : Talking} {stage : Stage} {progress : Progress}
+    → (s : Serves rows past who items octets waiting v) → v.stage ≡ stage
+    → v.progress ≡ progress
+    → SaysBy stage progress rows past who items s.told s.answered octets
+says_at {rows} {past} {who} {items} {octets} {waiting} {v} {stage} {progress} s st p =
+    subst (λ (x : Stage). SaysBy x progress rows past who items s.told s.answered octets) st
+    (subst (λ (x : Progress). SaysBy v.stage x rows past who items s.told s.answered octets) p s.says)
+
+-- and where no event waits
+pub says_now : {rows : CentreRows} {past : Past} {who : ℕ} {items : List Item} {octets : List ℕ}
+    {v : Talking} {progress : Progress} → (s : Serves rows past who items octets None v)
+    → v.progress ≡ progress → SaysBy v.stage progress rows past who items s.told s.turns octets
+says_now {rows} {past} {who} {items} {octets} {v} {progress} s p =
+    subst (λ (ts : List Turn). SaysBy v.stage progress rows past who items s.told ts octets)
+    (sym s.are) (says_at s refl p)

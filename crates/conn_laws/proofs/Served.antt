@@ -1,6 +1,6 @@
 -- What a connection that serves has been asked, and has said.
 use Rattle.std.proofs.Common.{◌≡◌, ℕ, Bool, true, false, List, [], ◌∷◌, ◌++◌, Option, Some, None}
-use Rattle.std.proofs.Common.{refl, sym, ap, subst, ◌∙◌, append_assoc, reverse, inl, inr}
+use Rattle.std.proofs.Common.{refl, sym, ap, subst, ◌∙◌, append_assoc, reverse}
 use Rattle.std.proofs.Common.{MatchOption}
 use Rattle.std.specs.Prelude.{if◌then◌else◌}
 use Rattle.std.specs.List.{list_any}
@@ -22,9 +22,10 @@ use Rattle.tase_map.specs.Turns.{Turn, offers, offers_badly, asks, concludes, re
 use Rattle.tase_map.specs.Turns.{breaks, ends, pauses, turns_told, turns_of}
 use Rattle.tase_map.specs.Asks.{is_last, up_to_last, asks_at, asks_behind, asks_of, without_pauses}
 use Rattle.tase_map.specs.Asks.{AreInTurn}
-use Rattle.tase_map.specs.Out.{talk_of, concluded_octets, early_octets, is_declined, refusal_octets}
+use Rattle.tase_map.specs.Out.{early_octets, is_declined, refusal_octets}
 use Rattle.tase_map.specs.Out.{end_turns}
-use Rattle.tase_map.specs.Sent.{events_by, association_octets, turns_left}
+use Rattle.tase_map.specs.Sent.{events_by}
+use Rattle.tase_map.specs.Linked.{octets_by, link_octets}
 use Rattle.tase_map.proofs.InTurn.{asked_in_turn}
 use Rattle.tase_map.proofs.Uncut.{any_kept}
 use Rattle.tase_map.proofs.Unrefused.{unrefused}
@@ -38,14 +39,15 @@ use Rattle.tase_conn.specs.declared.stage.Progress.TheVariants as progresses
 use Rattle.tase_conn.specs.declared.stage.Stage.{Stage}
 use Rattle.tase_conn.specs.declared.stage.Stage.TheVariants as stages
 use Rattle.tase_conn.specs.Talking.{Talking, IsResting}
-use Rattle.tase_conn.specs.Places.{Runs, GoesBy, EndsBy, IsDone, ReadsBy}
+use Rattle.tase_conn.specs.Places.{Runs, EndsBy, IsDone, ReadsBy}
 use Rattle.tase_conn.specs.Places.{BeginsTurns, turns_held, fault_seen}
 use Rattle.tase_conn.proofs.LastTurns.{last_of_cause}
 use Rattle.tase_map.proofs.AskedOn.{turns_on}
 use Rattle.tase_map.proofs.AskedOn.{asks_join}
-use Rattle.conn_laws.specs.Serving.{IsWaiting, SaysBy, Serves, HasSaid}
+use Rattle.conn_laws.specs.Serving.{IsWaiting, SaysBy, Serves, IsAllSaid, IsSaidButOwed}
 use Rattle.conn_laws.specs.Serving.{HasServed, HoldsOfAllInput}
 use Rattle.tase_conn.proofs.SeenTurns.{seen_front}
+use Rattle.conn_laws.proofs.Seats.{none_opened, seat_opened, goes_at, says_now}
 use Rattle.conn_laws.proofs.Texts.{text_turns}
 use Rattle.conn_laws.proofs.TurnLists.{any_front, or_left, or_right}
 use Rattle.conn_laws.proofs.Wanted.{waiting_of, answered_goes}
@@ -116,8 +118,7 @@ pub next_asked : (rows : CentreRows) (past : Past) (who : ℕ) (items : List Ite
 next_asked rows past who items octets event v s =
     let found = waiting_of v.progress event s.waits in
     let goes = answered_goes rows past who items octets event v s in
-    let r : Runs rows items s.told s.turns found.0 v =
-    subst (λ (x : Progress). GoesBy x rows items s.told s.turns v) found.1 s.stands.goes in
+    let r = goes_at s.stands found.1 in
     let f = begins_turns rows items s.told s.turns found.0 v r in
     let last = s.are.last in
     let k = first_kept rows last f.0 in
@@ -208,38 +209,30 @@ running_said : (rows : CentreRows) (past : Past) (who : ℕ) (items : List Item)
     → turns_of items ≡ turns → told ≡ (reading_of (text_given items)).told
     → list_any (is_last rows) turns ≡ false
     → SaysBy stage (progresses.Running askeds.Nothing) rows past who items told turns octets
-    → HasSaid rows past who items octets
+    → octets ≡ link_octets rows past who items
 running_said rows past who items told turns octets stages.Early i t all l says =
-    inr (
-      says.0,
-      says.1 ∙ ap (λ (ts : List Arrival). answers_to called ts) all
-          ∙ early_said rows items i (ap (λ (ts : List Turn). list_any (is_last rows) ts) t ∙ l),
-    )
+    says.1 ∙ ap (λ (ts : List Arrival). answers_to called ts) all
+    ∙ early_said rows items i (ap (λ (ts : List Turn). list_any (is_last rows) ts) t ∙ l)
+    ∙ sym (ap (octets_by rows past items) (none_opened past who says.0))
 running_said rows past who items told turns octets (stages.Open peer detail) i t all l says =
-    let o = over_all (λ text ended rest. (octets ≡ association_octets rows past says.key text ended)
-    × (turns_left rows past says.key text ended ≡ rest)) items turns [] i
+    let o = over_all (IsAllSaid rows past says.key octets) items turns [] i
     (t ∙ sym (append-nil turns)) says.octets in
-    inl (says.key, says.opened, o.0)
+    o.0 ∙ sym (ap (octets_by rows past items) (seat_opened past who says.key says.seat))
 running_said rows past who items told turns octets (stages.Closed peer) i t all l says =
-    let o = over_all (λ text ended rest. octets ++ concluded_octets
-    (talk_of (reading_of text) ended).setup rest ≡ association_octets rows past says.key text ended)
-    items turns [] i (t ∙ sym (append-nil turns)) says.octets in
-    inl (says.key, says.opened, sym (append-nil octets) ∙ o)
+    let o = over_all (IsSaidButOwed (progresses.Running askeds.Nothing) rows past says.key octets) items
+    turns [] i (t ∙ sym (append-nil turns)) says.octets in
+    sym (append-nil octets) ∙ o
+    ∙ sym (ap (octets_by rows past items) says.opened)
 
 running_served : (rows : CentreRows) (past : Past) (who : ℕ) (items : List Item)
     (octets : List ℕ) (v : Talking) → (s : Serves rows past who items octets None v)
     → v.progress ≡ progresses.Running askeds.Nothing → IsResting v
     → HasServed rows past who items octets
 running_served rows past who items octets v s p at =
-    let r : Runs rows items s.told s.turns askeds.Nothing v =
-    subst (λ (x : Progress). GoesBy x rows items s.told s.turns v) p s.stands.goes in
+    let r = goes_at s.stands p in
     let d = all_done rows items s.told s.turns v at r in
     let t : turns_of items ≡ s.turns = sym d.seen_is ∙ append-nil s.turns in
-    let says : SaysBy v.stage (progresses.Running askeds.Nothing) rows past who items s.told s.turns
-    octets =
-    subst (λ (x : Progress). SaysBy v.stage x rows past who items s.told s.turns octets) p
-    (subst (λ (ts : List Turn). SaysBy v.stage v.progress rows past who items s.told ts octets)
-    (sym s.are) s.says) in
+    let says = says_now s p in
     record {
       asked = s.asked ∙ ap (λ (ts : List Turn). asks_behind rows [] ts)
           (sym s.are ∙ sym (all_kept rows s.turns r.ending)
@@ -293,33 +286,27 @@ ended_said : (rows : CentreRows) (past : Past) (who : ℕ) (items : List Item)
     (told : List Arrival) (turns rest : List Turn) (octets : List ℕ) (end : ConnEnd) (stage : Stage)
     → IsLinkInput items → turns_of items ≡ turns ++ rest
     → (is_running : SaysBy stage (progresses.Ended end) rows past who items told turns octets)
-    → HasSaid rows past who items octets
+    → octets ≡ link_octets rows past who items
 ended_said rows past who items told turns rest octets end stages.Early i t says =
-    inr (
-      says.0,
-      over_all (λ text ended rest. octets ≡ early_octets rows text) items turns rest i t
-          says.1,
-    )
+    over_all (λ text ended rest. octets ≡ early_octets rows text) items turns rest i t says.1
+    ∙ sym (ap (octets_by rows past items) (none_opened past who says.0))
 ended_said rows past who items told turns rest octets end (stages.Open peer detail) i t says =
-    let o = over_all (λ text ended rest. (octets ≡ association_octets rows past says.key text ended)
-    × (turns_left rows past says.key text ended ≡ rest)) items turns rest i t says.octets in
-    inl (says.key, says.opened, o.0)
+    let o = over_all (IsAllSaid rows past says.key octets) items turns rest i t says.octets in
+    o.0 ∙ sym (ap (octets_by rows past items) (seat_opened past who says.key says.seat))
 ended_said rows past who items told turns rest octets end (stages.Closed peer) i t says =
-    let o = over_all (λ text ended rest. octets ++ [] ≡ association_octets rows past says.key text ended)
-    items turns rest i t says.octets in
-    inl (says.key, says.opened, sym (append-nil octets) ∙ o)
+    let o = over_all (IsSaidButOwed (progresses.Ended end) rows past says.key octets) items turns rest
+    i t says.octets in
+    sym (append-nil octets) ∙ o
+    ∙ sym (ap (octets_by rows past items) says.opened)
 
 ended_served : (rows : CentreRows) (past : Past) (who : ℕ) (items : List Item)
     (octets : List ℕ) (end : ConnEnd) (v : Talking)
     → (s : Serves rows past who items octets None v) → v.progress ≡ progresses.Ended end
     → HasServed rows past who items octets
 ended_served rows past who items octets end v s p =
-    let e = (subst (λ (x : Progress). GoesBy x rows items s.told s.turns v) p s.stands.goes).0 in
+    let e = (goes_at s.stands p).0 in
     let a = at_end rows items s.told s.turns end e in
-    let says : SaysBy v.stage (progresses.Ended end) rows past who items s.told s.turns octets =
-    subst (λ (x : Progress). SaysBy v.stage x rows past who items s.told s.turns octets) p
-    (subst (λ (ts : List Turn). SaysBy v.stage v.progress rows past who items s.told ts octets)
-    (sym s.are) s.says) in
+    let says = says_now s p in
     record {
       asked = s.asked ∙ ap (λ (ts : List Turn). asks_behind rows [] ts) (sym s.are ∙ sym a.whole);
       octets = ended_said rows past who items s.told s.turns a.rest octets end v.stage s.input a.is

@@ -33,7 +33,7 @@ use Rattle.tase_map.specs.Asks.{is_last, asks_behind, without_pauses}
 use Rattle.tase_map.specs.Out.{talk_of, accept_wire, detail_of, behind_offer, said, within}
 use Rattle.tase_map.specs.Out.{reply_octets, close_octets, concluded_octets, release_wire}
 use Rattle.tase_map.specs.Out.{abort_wire, turns_behind}
-use Rattle.tase_map.specs.Sent.{association_octets}
+use Rattle.tase_map.specs.Sent.{association_octets, with_event}
 use Rattle.tase_map.proofs.Adding.{open_adds, take_adds, close_adds, asked_adds}
 use Rattle.tase_map.proofs.Passing.{left_asked, quiet_event, none_sent, all_left}
 use Rattle.tase_map.proofs.Uncut.{without-append}
@@ -42,9 +42,9 @@ use Rattle.tase_conn.specs.declared.stage.Cause.TheVariants as causes
 use Rattle.tase_conn.specs.declared.stage.PendingEvent.TheVariants as askeds
 use Rattle.tase_conn.specs.Places.{IsGranted, turn_for, served_standing}
 use Rattle.tase_conn.specs.Answering.{closed_said, progress_closed, aborted}
-use Rattle.conn_laws.specs.Serving.{with_event, SaysOpen, SaysClosed, owed}
+use Rattle.conn_laws.specs.Serving.{SaysOpen, SaysClosed, owed}
 use Rattle.conn_laws.proofs.AskedCalls.{input_calls}
-use Rattle.conn_laws.proofs.Seats.{at_seat, still_opened, close_closes}
+use Rattle.conn_laws.proofs.Seats.{at_seat, opened_here, seat_opened, close_closes}
 use Rattle.conn_laws.proofs.Texts.{IsFixed, fixed_over, text_turns}
 use Rattle.conn_laws.proofs.TurnLists.{silent, input_follows}
 
@@ -96,7 +96,6 @@ opened_says rows past who items told answered title peer offered octets v s conn
     let yet : opens_in past peer ≤ opens_in past peer = omega arith in
     record {
       key = key;
-      opened = record { later = []; earlier = past; peer = peer; is = refl; key_is = refl };
       seat = at_seat (events.Open peer) past who;
       octets = λ more i rest t.
           let text = text_given (items ++ more) in
@@ -148,7 +147,6 @@ requested_says rows past who items told answered invoke call detail octets v s c
     let key = o.key in
     record {
       key = key;
-      opened = still_opened (with_event who (events.Request call) []) past who key o.opened;
       seat = at_seat (events.Request call) past who ∙ o.seat;
       octets = λ more i rest t.
           let text = text_given (items ++ more) in
@@ -180,7 +178,6 @@ taken_says rows past who items answered octets o =
     let key = o.key in
     record {
       key = key;
-      opened = still_opened (with_event who events.Take []) past who key o.opened;
       seat = at_seat events.Take past who ∙ o.seat;
       octets = λ more i rest t.
           let talk = talk_of (reading_of (text_given (items ++ more))) (link_has_ended (items ++ more)) in
@@ -229,7 +226,7 @@ closed_says rows past who items told answered cause octets v s connect a o =
     let key = o.key in
     record {
       key = key;
-      opened = still_opened (with_event who events.Close []) past who key o.opened;
+      opened = opened_here events.Close past who ∙ seat_opened past who key o.seat;
       closed = close_closes past who key o.seat;
       octets = λ more i rest t.
           let text = text_given (items ++ more) in

@@ -16,7 +16,7 @@ use Rattle.tase_map.specs.Readings.{reading_of}
 use Rattle.tase_map.specs.Turns.{Turn, turns_of}
 use Rattle.tase_map.specs.Asks.{up_to_last, asks_behind, without_pauses}
 use Rattle.tase_map.specs.Out.{talk_of}
-use Rattle.tase_map.specs.Sent.{events_by}
+use Rattle.tase_map.specs.Sent.{events_by, with_event}
 use Rattle.tase_conn.specs.declared.stage.PendingEvent.{PendingEvent}
 use Rattle.tase_conn.specs.declared.stage.PendingEvent.TheVariants as askeds
 use Rattle.tase_conn.specs.declared.stage.ConnEnd.{ConnEnd}
@@ -25,15 +25,15 @@ use Rattle.tase_conn.specs.declared.stage.Progress.TheVariants as progresses
 use Rattle.tase_conn.specs.declared.stage.Stage.{Stage}
 use Rattle.tase_conn.specs.declared.stage.Stage.TheVariants as stages
 use Rattle.tase_conn.specs.Talking.{Talking, pending_of}
-use Rattle.tase_conn.specs.Places.{ConnStandsAt, Runs, GoesBy, BeginsTurns, is_connected}
+use Rattle.tase_conn.specs.Places.{ConnStandsAt, Runs, BeginsTurns, is_connected}
 use Rattle.tase_conn.specs.Answering.{stage_told, told_said}
 use Rattle.tase_conn.specs.Leaving.{IsLeft}
-use Rattle.conn_laws.specs.Cutting.{HasLeft, LeftBy, LeftOpen, left_said, parting}
-use Rattle.conn_laws.specs.Serving.{with_event, IsWaiting, SaysBy, Serves, HoldsOfAllInput, owed}
+use Rattle.conn_laws.specs.Cutting.{HasLeft, LeftBy, LeftOpen, HasSetupOf, left_said, parting}
+use Rattle.conn_laws.specs.Serving.{IsWaiting, SaysBy, Serves, HoldsOfAllInput, owed}
 use Rattle.conn_laws.proofs.Answered.{follows_by, asked_more, opens_early, request_served}
 use Rattle.conn_laws.proofs.Answered.{take_served, close_served}
 use Rattle.conn_laws.proofs.Left.{leaves, setup_known}
-use Rattle.conn_laws.proofs.Seats.{event_here}
+use Rattle.conn_laws.proofs.Seats.{event_here, goes_at}
 use Rattle.conn_laws.proofs.Served.{begins_turns, goes_front, first_kept}
 use Rattle.conn_laws.proofs.TurnLists.{never_empty}
 use Rattle.conn_laws.proofs.Wanted.{waiting_of, answered_goes}
@@ -85,8 +85,7 @@ some_kept : (stage : Stage) (progress : Progress) (rows : CentreRows) (past : Pa
     (items : List Item) (told : List Arrival) (turns : List Turn) (event : EventKind)
     (octets missing : List ℕ) (end : ConnEnd) (v : Talking)
     → reverse (events_by who (with_event who event past)) ≡ asks_behind rows [] turns
-    → HoldsOfAllInput items turns (λ text ended rest.
-    v.course.setup ≡ (talk_of (reading_of text) ended).setup)
+    → HoldsOfAllInput items turns (HasSetupOf v.course)
     → SaysBy stage progress rows (with_event who event past) who items told turns
     (octets ++ missing)
     → LeftBy false stage end v.course.standing v.course rows (with_event who event past) who items
@@ -101,7 +100,6 @@ some_kept (stages.Open peer detail) progress rows past who items told turns even
     (with_event who event past) who items turns os) (sym (append-nil octets))
     (record {
       key = says.key;
-      opened = says.opened;
       seat = says.seat;
       asked = asked;
       stood = refl;
@@ -141,8 +139,7 @@ unnoted_leaves setup past who items octets octets_more event answer end old new 
     let rows = setup.centre in
     let found = waiting_of old.progress event s.waits in
     let asked = found.0 in
-    let r : Runs rows items s.told s.turns asked old =
-    subst (λ (x : Progress). GoesBy x rows items s.told s.turns old) found.1 s.stands.goes in
+    let r = goes_at s.stands found.1 in
     let connect = connected_asked rows items s.told s.turns asked event old
     (subst (λ (x : Progress). IsWaiting x (Some event)) found.1 s.waits) r in
     let f = follows_by rows past who items octets event answer old old.progress s refl s.waits

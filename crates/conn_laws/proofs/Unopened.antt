@@ -1,4 +1,4 @@
--- A connection whose open waits has said all that one without an association is sent.
+-- A connection whose open waits has said all that its peer is sent.
 use Rattle.std.proofs.Common.{◌≡◌, ℕ, Bool, false, List, [], ◌∷◌, ◌++◌, Option, Some}
 use Rattle.std.proofs.Common.{refl, sym, ap, subst, ◌∙◌, append_assoc, reverse}
 use Rattle.std.specs.Prelude.{is_some, if◌then◌else◌, not}
@@ -17,7 +17,8 @@ use Rattle.tase_map.specs.Inputs.{Item, text_given, link_has_ended}
 use Rattle.tase_map.specs.Readings.{reading_of}
 use Rattle.tase_map.specs.Turns.{Turn, offers, turns_told, turns_of}
 use Rattle.tase_map.specs.Asks.{asks_behind, without_pauses}
-use Rattle.tase_map.specs.Out.{early_octets, is_declined, refusal_octets}
+use Rattle.tase_map.specs.Out.{is_declined, refusal_octets}
+use Rattle.tase_map.specs.Linked.{octets_by, link_octets}
 use Rattle.tase_map.proofs.TurnOrder.{AllFollow, turns_follow}
 use Rattle.tase_map.proofs.Uncut.{without-append}
 use Rattle.tase_conn.specs.declared.stage.PendingEvent.{PendingEvent}
@@ -25,12 +26,12 @@ use Rattle.tase_conn.specs.declared.stage.PendingEvent.TheVariants as askeds
 use Rattle.tase_conn.specs.declared.stage.Progress.{Progress}
 use Rattle.tase_conn.specs.declared.stage.Progress.TheVariants as progresses
 use Rattle.tase_conn.specs.declared.stage.Stage.{Stage}
-use Rattle.tase_conn.specs.declared.stage.Stage.TheVariants as stages
 use Rattle.tase_conn.specs.Talking.{Talking}
-use Rattle.tase_conn.specs.Places.{Runs, GoesBy, is_connected}
-use Rattle.conn_laws.specs.Serving.{IsWaiting, SaysBy, Serves}
+use Rattle.tase_conn.specs.Places.{Runs, is_connected}
+use Rattle.conn_laws.specs.Serving.{IsWaiting, Serves}
 use Rattle.conn_laws.proofs.Answered.{asked_turn, opens_early}
 use Rattle.conn_laws.proofs.Ended.{declined_told}
+use Rattle.conn_laws.proofs.Seats.{none_opened, goes_at, says_at}
 use Rattle.conn_laws.proofs.Served.{begins_turns}
 use Rattle.conn_laws.proofs.Texts.{fixed_over, text_turns}
 use Rattle.conn_laws.proofs.TurnLists.{silent}
@@ -41,18 +42,13 @@ opening_said : (rows : CentreRows) (past : Past) (who : ℕ) (items : List Item)
     → (s : Serves rows past who items octets (Some event) v)
     → v.progress ≡ progresses.Running (askeds.Opening peer offered)
     → Runs rows items s.told s.turns (askeds.Opening peer offered) v
-    → octets ≡ early_octets rows (text_given items)
+    → octets ≡ link_octets rows past who items
 opening_said rows past who items octets event v peer offered s p r =
     let asked = askeds.Opening peer offered in
     let early = opens_early peer offered v.stage v.held r.waits in
     let title = r.last.0 in
     let a = asked_turn rows s.answered s.turns event (offers title) s.are r.last.1 in
-    let before : SaysBy stages.Early (progresses.Running asked) rows past who items s.told
-    s.answered octets =
-    subst (λ (x : Stage). SaysBy x (progresses.Running asked) rows past who items s.told s.answered
-    octets) early
-    (subst (λ (x : Progress). SaysBy v.stage x rows past who items s.told s.answered octets) p
-    s.says) in
+    let before = says_at s early p in
     let none : asks_behind rows [] s.answered ≡ [] =
     sym s.asked ∙ ap (λ (es : List EventKind). reverse es) before.0 in
     let connect = r.connected ∙ ap (λ (x : Stage). is_connected x asked v.held) early in
@@ -81,13 +77,14 @@ opening_said rows past who items octets event v peer offered s p r =
     (refusal_tsdu (setup_after whole.told).acse) else []) accepted in
     before.1 ∙ sym answers ∙ sym (append-nil (answers_to called whole.told))
     ∙ ap (λ (os : List ℕ). answers_to called whole.told ++ os) (sym unrefused)
+    ∙ sym (ap (octets_by rows past items) (none_opened past who before.0))
 
 opening_by : (rows : CentreRows) (past : Past) (who : ℕ) (items : List Item)
     (octets : List ℕ) (peer : ℕ) (v : Talking) (asked : PendingEvent)
     → (s : Serves rows past who items octets (Some (events.Open peer)) v)
     → v.progress ≡ progresses.Running asked
     → IsWaiting (progresses.Running asked) (Some (events.Open peer))
-    → Runs rows items s.told s.turns asked v → octets ≡ early_octets rows (text_given items)
+    → Runs rows items s.told s.turns asked v → octets ≡ link_octets rows past who items
 opening_by rows past who items octets peer v askeds.Nothing s p w r = absurd w
 opening_by rows past who items octets peer v (askeds.Opening other offered) s p w r =
     opening_said rows past who items octets (events.Open peer) v other offered s p r
@@ -98,9 +95,9 @@ opening_by rows past who items octets peer v (askeds.Closing cause) s p w r = ab
 pub unopened_said : (rows : CentreRows) (past : Past) (who : ℕ) (items : List Item)
     (octets : List ℕ) (peer : ℕ) (v : Talking)
     → Serves rows past who items octets (Some (events.Open peer)) v
-    → octets ≡ early_octets rows (text_given items)
+    → octets ≡ link_octets rows past who items
 unopened_said rows past who items octets peer v s =
     let found = waiting_of v.progress (events.Open peer) s.waits in
     opening_by rows past who items octets peer v found.0 s found.1
     (subst (λ (x : Progress). IsWaiting x (Some (events.Open peer))) found.1 s.waits)
-    (subst (λ (x : Progress). GoesBy x rows items s.told s.turns v) found.1 s.stands.goes)
+    (goes_at s.stands found.1)

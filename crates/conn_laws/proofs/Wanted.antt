@@ -14,13 +14,10 @@ use Rattle.tase_views.specs.declared.event.EventKind.{EventKind}
 use Rattle.tase_views.specs.declared.event.EventKind.TheVariants as events
 use Rattle.tase_views.specs.History.{Past}
 use Rattle.tase_map.specs.Inputs.{Item, text_given}
-use Rattle.tase_map.specs.Readings.{reading_of}
 use Rattle.tase_map.specs.Turns.{Turn, offers, offers_badly, asks, concludes, releases, aborts}
 use Rattle.tase_map.specs.Turns.{breaks, ends, pauses}
 use Rattle.tase_map.specs.Asks.{is_last, is_open_behind, begins, finishes, event_if, open_of, asks_at}
 use Rattle.tase_map.specs.Asks.{asks_behind}
-use Rattle.tase_map.specs.Out.{talk_of}
-use Rattle.tase_map.specs.Sent.{association_octets, turns_left}
 use Rattle.tase_conn.specs.declared.stage.PendingEvent.{PendingEvent}
 use Rattle.tase_conn.specs.declared.stage.PendingEvent.TheVariants as askeds
 use Rattle.tase_conn.specs.declared.stage.Cause.{Cause}
@@ -30,13 +27,15 @@ use Rattle.tase_conn.specs.declared.stage.Progress.TheVariants as progresses
 use Rattle.tase_conn.specs.declared.stage.Stage.{Stage}
 use Rattle.tase_conn.specs.declared.stage.Stage.TheVariants as stages
 use Rattle.tase_conn.specs.Talking.{Talking, pending_of}
-use Rattle.tase_conn.specs.Places.{ConnStandsAt, Runs, GoesBy, EndsWithTurn, is_connected, turn_for}
+use Rattle.tase_conn.specs.Places.{ConnStandsAt, Runs, EndsWithTurn, is_connected, turn_for}
 use Rattle.tase_conn.specs.Places.{has_begun, has_finished}
 use Rattle.tase_conn.specs.Wanting.{quiet_at, quiet_behind, ReadsOn, WaitsFor}
 use Rattle.tase_conn.proofs.Composed.{quiet_join}
 use Rattle.tase_map.proofs.AskedOn.{asks_join}
-use Rattle.conn_laws.specs.Serving.{IsWaiting, SaysOpen, SaysClosed, SaysBy, Serves, owed}
+use Rattle.conn_laws.specs.Serving.{IsWaiting, SaysOpen, SaysClosed, SaysBy, Serves, IsAllSaid}
+use Rattle.conn_laws.specs.Serving.{IsSaidButOwed}
 use Rattle.conn_laws.proofs.Answered.{take_served, close_served}
+use Rattle.conn_laws.proofs.Seats.{goes_at, says_now}
 use Rattle.conn_laws.proofs.Texts.{answers-append, connected_once}
 use Rattle.tase_map.proofs.Fronts.{has_front}
 use Rattle.conn_laws.proofs.TurnLists.{quiet_none, any_front, any_back}
@@ -85,11 +84,8 @@ says_on rows past who items told later turns more front asked (stages.Open peer 
     subst (λ (os : List ℕ). SaysOpen rows past who items (turns ++ front) os) (sym same)
     (record {
       key = says.key;
-      opened = says.opened;
       seat = says.seat;
-      octets = behind_silent (λ text ended rest.
-          (octets ≡ association_octets rows past says.key text ended)
-          × (turns_left rows past says.key text ended ≡ rest)) rows items turns front l f e
+      octets = behind_silent (IsAllSaid rows past says.key octets) rows items turns front l f e
           says.octets;
     })
 says_on rows past who items told later turns more front asked (stages.Closed peer) octets
@@ -102,9 +98,8 @@ says_on rows past who items told later turns more front asked (stages.Closed pee
       key = says.key;
       opened = says.opened;
       closed = says.closed;
-      octets = behind_silent (λ text ended rest.
-          octets ++ owed (progresses.Running asked) (talk_of (reading_of text) ended).setup rest
-          ≡ association_octets rows past says.key text ended) rows items turns front l f e says.octets;
+      octets = behind_silent (IsSaidButOwed (progresses.Running asked) rows past says.key octets) rows
+          items turns front l f e says.octets;
     })
 
 -- ---- it goes on, and nothing is asked
@@ -121,14 +116,9 @@ goes_on rows past who items octets octets_more old new s later more p q st stand
     let idle = progresses.Running askeds.Nothing in
     let told = s.told ++ later in
     let turns = s.turns ++ more in
-    let r : Runs rows items s.told s.turns askeds.Nothing old =
-    subst (λ (x : Progress). GoesBy x rows items s.told s.turns old) p s.stands.goes in
-    let n : Runs rows items told turns askeds.Nothing new =
-    subst (λ (x : Progress). GoesBy x rows items told turns new) q stands.goes in
-    let before : SaysBy old.stage idle rows past who items s.told s.turns octets =
-    subst (λ (x : Progress). SaysBy old.stage x rows past who items s.told s.turns octets) p
-    (subst (λ (ts : List Turn). SaysBy old.stage old.progress rows past who items s.told ts octets)
-    (sym s.are) s.says) in
+    let r = goes_at s.stands p in
+    let n = goes_at stands q in
+    let before = says_now s p in
     let says = says_on rows past who items s.told later s.turns turns more askeds.Nothing old.stage
     octets octets_more old new r n refl before said
     (any_front (is_last rows) s.turns more n.ending)
@@ -362,18 +352,13 @@ asks_on rows past who items octets octets_more event old new s p st w g pending 
     let turns = s.turns ++ g.more in
     let waits : WaitsFor (progresses.Running asked) event =
     subst (λ (x : Progress). WaitsFor x event) found.1 w in
-    let r : Runs rows items s.told s.turns askeds.Nothing old =
-    subst (λ (x : Progress). GoesBy x rows items s.told s.turns old) p s.stands.goes in
-    let n : Runs rows items told turns asked new =
-    subst (λ (x : Progress). GoesBy x rows items told turns new) found.1 g.stands.goes in
+    let r = goes_at s.stands p in
+    let n = goes_at g.stands found.1 in
     let a = asks_one rows items told turns asked event new waits n in
     let b = behind rows s.turns g.more event a g.asks_are in
     let goes : list_any (is_last rows) (s.turns ++ b.silent) ≡ false =
     ap (λ (ts : List Turn). list_any (is_last rows) ts) (sym b.front_is) ∙ a.ends.goes in
-    let before : SaysBy old.stage idle rows past who items s.told s.turns octets =
-    subst (λ (x : Progress). SaysBy old.stage x rows past who items s.told s.turns octets) p
-    (subst (λ (ts : List Turn). SaysBy old.stage old.progress rows past who items s.told ts octets)
-    (sym s.are) s.says) in
+    let before = says_now s p in
     let says = says_on rows past who items s.told g.later s.turns turns b.silent asked old.stage
     octets octets_more old new r n refl before
     (asking_said rows items s.told s.turns event octets_more old new g a b pending)
@@ -430,8 +415,7 @@ pub answered_goes : (rows : CentreRows) (past : Past) (who : ℕ) (items : List 
     → list_any (is_last rows) s.answered ≡ false
 answered_goes rows past who items octets event v s =
     let found = waiting_of v.progress event s.waits in
-    let r : Runs rows items s.told s.turns found.0 v =
-    subst (λ (x : Progress). GoesBy x rows items s.told s.turns v) found.1 s.stands.goes in
+    let r = goes_at s.stands found.1 in
     let a = asks_one rows items s.told s.turns found.0 event v
     (waits_for found.0 event
     (subst (λ (x : Progress). IsWaiting x (Some event)) found.1 s.waits)) r in

@@ -18,6 +18,7 @@ use Rattle.tase_map.specs.Asks.{up_to_last, asks_behind, asks_of}
 use Rattle.tase_map.specs.Out.{talk_of, abort_wire, close_octets, early_octets}
 use Rattle.tase_map.specs.Closed.{is_closed}
 use Rattle.tase_map.specs.Sent.{events_by, association_octets, turns_left}
+use Rattle.tase_map.specs.Linked.{opened_in, link_octets}
 use Rattle.tase_conn.specs.declared.stage.ConnEnd.{ConnEnd}
 use Rattle.tase_conn.specs.declared.stage.Stage.{Stage}
 use Rattle.tase_conn.specs.declared.stage.Stage.TheVariants as stages
@@ -26,7 +27,7 @@ use Rattle.tase_conn.specs.declared.stage.Progress.TheVariants as progresses
 use Rattle.tase_conn.specs.Talking.{Talking, is_open_stage}
 use Rattle.tase_conn.specs.Places.{ConnStandsAt, BeginsTurns}
 use Rattle.tase_conn.specs.Answering.{aborts, parting_octets}
-use Rattle.conn_laws.specs.Serving.{HasOpened, HoldsOfAllInput}
+use Rattle.conn_laws.specs.Serving.{HoldsOfAllInput}
 
 -- which event waits of a connection that was left for this end: none, or once it was asked the
 -- close of its association
@@ -51,13 +52,28 @@ parting end standing setup =
 abbrev pub left_said : Stage → Course → ConnEnd → List ℕ
 left_said stage course end = if is_open_stage stage then [] else parting_octets course end
 
--- before an open: no more than a connection without one is sent
+-- what its connect fixed is what the connect of its text fixes
+abbrev pub HasSetupOf : Course → List ℕ → Bool → List Turn → Type 0
+HasSetupOf course text ended rest = course.setup ≡ (talk_of (reading_of text) ended).setup
+
+-- no more than a connection without an association is sent
+abbrev pub IsSaidEarly : CentreRows → List ℕ → List ℕ → Bool → List Turn → Type 0
+IsSaidEarly rows said text ended rest =
+    (others : List ℕ) × (early_octets rows text ≡ said ++ others)
+
+-- before an open
 pub record LeftEarly (rows : CentreRows) (past : Past) (who : ℕ) (items : List Item)
     (answered : List Turn) (said : List ℕ) : Type 0 where
   pub none : events_by who past ≡ []
   pub asked : reverse (events_by who past) ≡ asks_behind rows [] answered
-  pub octets : HoldsOfAllInput items answered (λ text ended rest. (others : List ℕ)
-      × (early_octets rows text ≡ said ++ others))
+  pub octets : HoldsOfAllInput items answered (IsSaidEarly rows said)
+
+-- all that an association is sent, but for what is missing: nothing where what was said is whole
+abbrev pub IsSaidButMissing : Bool → CentreRows → Past → Key → List ℕ → List ℕ → Bool → List Turn
+    → Type 0
+IsSaidButMissing whole rows past key said text ended rest = (missing : List ℕ)
+    × (association_octets rows past key text ended ≡ said ++ missing)
+    × (turns_left rows past key text ended ≡ rest) × (whole ≡ true → missing ≡ [])
 
 -- its association is still open: all that it is sent was said, or where memory was wanting for the
 -- last answer, all but that
@@ -65,42 +81,50 @@ pub record LeftOpen (whole : Bool) (standing : EndState) (course : Course) (rows
     (past : Past) (who : ℕ) (items : List Item) (answered : List Turn) (said : List ℕ) :
     Type 0 where
   pub key : Key
-  pub opened : HasOpened past who key
   pub seat : association_in past who ≡ Some key
   pub asked : reverse (events_by who past) ≡ asks_behind rows [] answered
   pub stood : course.standing ≡ standing
-  pub setup : HoldsOfAllInput items answered (λ text ended rest.
-      course.setup ≡ (talk_of (reading_of text) ended).setup)
-  pub octets : HoldsOfAllInput items answered (λ text ended rest. (missing : List ℕ)
-      × (association_octets rows past key text ended ≡ said ++ missing)
-      × (turns_left rows past key text ended ≡ rest) × (whole ≡ true → missing ≡ []))
+  pub setup : HoldsOfAllInput items answered (HasSetupOf course)
+  pub octets : HoldsOfAllInput items answered (IsSaidButMissing whole rows past key said)
+
+-- what it was sent before its close, but for what is missing, and then the parting
+abbrev pub IsSaidToClose : Bool → ConnEnd → EndState → CentreRows → Past → Key → List ℕ → List ℕ
+    → List ℕ → Bool → List Turn → Type 0
+IsSaidToClose whole end standing rows past key before said text ended rest =
+    (said ≡ before ++ parting end standing (talk_of (reading_of text) ended).setup)
+    × (missing : List ℕ) × (association_octets rows past key text ended
+    ≡ (before ++ missing) ++ close_octets (talk_of (reading_of text) ended).setup rest)
+    × (whole ≡ true → missing ≡ [])
 
 -- it was closed then: all that it was sent before that close was said, and the parting
 pub record LeftClosed (whole : Bool) (end : ConnEnd) (standing : EndState) (rows : CentreRows)
     (past : Past) (who : ℕ) (items : List Item) (answered : List Turn) (said : List ℕ) :
     Type 0 where
   pub key : Key
-  pub opened : HasOpened past who key
+  pub opened : opened_in past who ≡ Some key
   pub closed : is_closed key past ≡ true
   pub asked : reverse (events_by who past) ≡ asks_behind rows [] answered ++ events.Close ∷ []
   pub before : List ℕ
-  pub octets : HoldsOfAllInput items answered (λ text ended rest.
-      (said ≡ before ++ parting end standing (talk_of (reading_of text) ended).setup)
-      × (missing : List ℕ) × (association_octets rows past key text ended
-      ≡ (before ++ missing) ++ close_octets (talk_of (reading_of text) ended).setup rest)
-      × (whole ≡ true → missing ≡ []))
+  pub octets : HoldsOfAllInput items answered
+      (IsSaidToClose whole end standing rows past key before said)
+
+-- no more than it is sent, and then the parting
+abbrev pub IsSaidAndParted : ConnEnd → EndState → CentreRows → Past → Key → List ℕ → List ℕ
+    → List ℕ → Bool → List Turn → Type 0
+IsSaidAndParted end standing rows past key before said text ended rest =
+    (said ≡ before ++ parting end standing (talk_of (reading_of text) ended).setup)
+    × (others : List ℕ) × (association_octets rows past key text ended ≡ before ++ others)
 
 -- it was closed before, at the peer's asking: no more than it is sent was said, and the parting
 pub record LeftConcluded (end : ConnEnd) (standing : EndState) (rows : CentreRows) (past : Past)
     (who : ℕ) (items : List Item) (answered : List Turn) (said : List ℕ) : Type 0 where
   pub key : Key
-  pub opened : HasOpened past who key
+  pub opened : opened_in past who ≡ Some key
   pub closed : is_closed key past ≡ true
   pub asked : reverse (events_by who past) ≡ asks_behind rows [] answered
   pub before : List ℕ
-  pub octets : HoldsOfAllInput items answered (λ text ended rest.
-      (said ≡ before ++ parting end standing (talk_of (reading_of text) ended).setup)
-      × (others : List ℕ) × (association_octets rows past key text ended ≡ before ++ others))
+  pub octets : HoldsOfAllInput items answered
+      (IsSaidAndParted end standing rows past key before said)
 
 abbrev pub LeftBy : Bool → Stage → ConnEnd → EndState → Course → CentreRows → Past → ℕ → List Item
     → List Turn → List ℕ → Type 0
@@ -135,17 +159,21 @@ IsUnexplained [] = Unit {0}
 IsUnexplained (asks invoke call ∷ turns) = Unit {0}
 IsUnexplained (turn ∷ turns) = ⊥
 
--- the association is closed, and no more than it is sent was said, and the parting; or without one
--- no more than a connection without one is sent
-abbrev pub HasSaidSome : ConnEnd → EndState → CentreRows → Past → ℕ → List Item → List ℕ → Type 0
-HasSaidSome end standing rows past who items said =
-    ((key : Key) × HasOpened past who key × (is_closed key past ≡ true) × (before : List ℕ)
-    × (others : List ℕ) × (said ≡ before
-    ++ parting end standing (talk_of (reading_of (text_given items)) (link_has_ended items)).setup)
-    × (association_octets rows past key (text_given items) (link_has_ended items)
-    ≡ before ++ others))
-    ⊎ ((events_by who past ≡ []) × (others : List ℕ)
-    × (early_octets rows (text_given items) ≡ said ++ others))
+-- the association that a seat has opened last is closed
+abbrev pub HasShut : Past → ℕ → Type 0
+HasShut past who =
+    (key : Key) × (opened_in past who ≡ Some key) × (is_closed key past ≡ true)
+
+-- no more than is sent was said, and then the parting, once the association is closed; or without
+-- one no parting
+pub record HasSaidSome (end : ConnEnd) (standing : EndState) (rows : CentreRows) (past : Past)
+    (who : ℕ) (items : List Item) (said : List ℕ) : Type 0 where
+  pub before : List ℕ
+  pub others : List ℕ
+  pub sent : link_octets rows past who items ≡ before ++ others
+  pub parted : (HasShut past who × (said ≡ before ++ parting end standing
+      (talk_of (reading_of (text_given items)) (link_has_ended items)).setup))
+      ⊎ ((events_by who past ≡ []) × (said ≡ before))
 
 -- the seat has had the first of the events that the input asks, and then the close of an
 -- association that was open

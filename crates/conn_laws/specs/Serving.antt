@@ -1,18 +1,16 @@
 -- A connection as a seat of a node over its history: which events of the seat have come of what the
 -- link gave, and which octets were said.
-use Rattle.std.specs.Prelude.{◌≡◌, ℕ, Bool, true, ◌⊎◌, List, [], ◌∷◌, ◌++◌, reverse, Option, Some}
-use Rattle.std.specs.Prelude.{None}
-use Rattle.std.specs.Prelude.{Result}
+use Rattle.std.specs.Prelude.{◌≡◌, ℕ, Bool, true, List, [], ◌∷◌, ◌++◌, reverse, Option, Some}
+use Rattle.std.specs.Prelude.{None, Result}
 use Rattle.stack_wire.specs.declared.setup.AssociationSetup.{AssociationSetup}
 use Rattle.stack_assoc.specs.Arrivals.{Arrival, called}
 use Rattle.stack_assoc.specs.Handing.{answers_to}
 use Rattle.bilateral.specs.Rows.{CentreRows}
 use Rattle.sbo_device.specs.declared.key.Key.{Key}
 use Rattle.tase_views.specs.declared.event.EventKind.{EventKind}
-use Rattle.tase_views.specs.declared.event.EventKind.TheVariants as events
 use Rattle.tase_views.specs.declared.fault.StepFault.{StepFault}
 use Rattle.tase_views.specs.declared.reply.Answer.{Answer}
-use Rattle.tase_views.specs.History.{Past, next_key, association_in}
+use Rattle.tase_views.specs.History.{Past, association_in}
 use Rattle.tase_map.specs.Inputs.{Item, IsLinkInput, text_given, link_has_ended}
 use Rattle.tase_map.specs.Readings.{reading_of}
 use Rattle.tase_map.specs.Turns.{Turn, turns_of}
@@ -20,6 +18,7 @@ use Rattle.tase_map.specs.Asks.{asks_at, asks_behind, asks_of, without_pauses}
 use Rattle.tase_map.specs.Out.{talk_of, concluded_octets, early_octets}
 use Rattle.tase_map.specs.Closed.{is_closed}
 use Rattle.tase_map.specs.Sent.{events_by, association_octets, turns_left}
+use Rattle.tase_map.specs.Linked.{opened_in, link_octets}
 use Rattle.tase_conn.specs.declared.stage.Stage.{Stage}
 use Rattle.tase_conn.specs.declared.stage.Stage.TheVariants as stages
 use Rattle.tase_conn.specs.declared.stage.PendingEvent.TheVariants as askeds
@@ -30,19 +29,7 @@ use Rattle.tase_conn.specs.Places.{ConnStandsAt}
 use Rattle.tase_conn.specs.Wanting.{WaitsFor}
 use Rattle.tase_conn.specs.Answering.{progress_told, stage_told}
 
--- ---- the association of a seat
-
--- the history with an event of a seat more
-abbrev pub with_event : ℕ → EventKind → Past → Past
-with_event who event past = record { who = who; event = event } ∷ past
-
--- a seat has opened this association
-pub record HasOpened (past : Past) (who : ℕ) (key : Key) : Type 0 where
-  pub later : Past
-  pub earlier : Past
-  pub peer : ℕ
-  pub is : past ≡ later ++ with_event who (events.Open peer) earlier
-  pub key_is : next_key earlier peer ≡ key
+-- ---- the history of a seat
 
 -- none of these entries is of this seat
 abbrev pub AreOthers : ℕ → Past → Type 0
@@ -89,30 +76,37 @@ SaysEarly (progresses.Ended end) rows items told answered said =
     HoldsOfAllInput items answered (λ text ended rest. said ≡ early_octets rows text)
 SaysEarly _ rows items told answered said = ⊥
 
+-- all that an association is sent over its text, which has this behind the requests that were made
+abbrev pub IsAllSaid : CentreRows → Past → Key → List ℕ → List ℕ → Bool → List Turn → Type 0
+IsAllSaid rows past key said text ended rest = (said ≡ association_octets rows past key text ended)
+    × (turns_left rows past key text ended ≡ rest)
+
 -- while its association is open: all that it is sent
 pub record SaysOpen (rows : CentreRows) (past : Past) (who : ℕ) (items : List Item)
     (answered : List Turn) (said : List ℕ) : Type 0 where
   pub key : Key
-  pub opened : HasOpened past who key
   pub seat : association_in past who ≡ Some key
-  pub octets : HoldsOfAllInput items answered (λ text ended rest.
-      (said ≡ association_octets rows past key text ended)
-      × (turns_left rows past key text ended ≡ rest))
+  pub octets : HoldsOfAllInput items answered (IsAllSaid rows past key said)
 
 -- what is still owed behind the response to conclude
 abbrev pub owed : Progress → AssociationSetup → List Turn → List ℕ
 owed (progresses.Running asked) setup rest = concluded_octets setup rest
 owed _ setup rest = []
 
--- once it is closed: all that it is sent, but for what is owed
+-- all that it is sent, but for what is owed
+abbrev pub IsSaidButOwed : Progress → CentreRows → Past → Key → List ℕ → List ℕ → Bool → List Turn
+    → Type 0
+IsSaidButOwed progress rows past key said text ended rest =
+    said ++ owed progress (talk_of (reading_of text) ended).setup rest
+    ≡ association_octets rows past key text ended
+
+-- once it is closed
 pub record SaysClosed (progress : Progress) (rows : CentreRows) (past : Past) (who : ℕ)
     (items : List Item) (answered : List Turn) (said : List ℕ) : Type 0 where
   pub key : Key
-  pub opened : HasOpened past who key
+  pub opened : opened_in past who ≡ Some key
   pub closed : is_closed key past ≡ true
-  pub octets : HoldsOfAllInput items answered (λ text ended rest.
-      said ++ owed progress (talk_of (reading_of text) ended).setup rest
-      ≡ association_octets rows past key text ended)
+  pub octets : HoldsOfAllInput items answered (IsSaidButOwed progress rows past key said)
 
 abbrev pub SaysBy : Stage → Progress → CentreRows → Past → ℕ → List Item → List Arrival → List Turn
     → List ℕ → Type 0
@@ -148,16 +142,8 @@ pub record HasTold (rows : CentreRows) (items : List Item) (told : List Arrival)
 
 -- ---- what that means
 
--- all octets: those of the association that the seat has opened, or those of a connection without
--- one
-abbrev pub HasSaid : CentreRows → Past → ℕ → List Item → List ℕ → Type 0
-HasSaid rows past who items said =
-    ((key : Key) × HasOpened past who key
-    × (said ≡ association_octets rows past key (text_given items) (link_has_ended items)))
-    ⊎ ((events_by who past ≡ []) × (said ≡ early_octets rows (text_given items)))
-
 -- the seat has had all events that the input asks, and all octets were said
 pub record HasServed (rows : CentreRows) (past : Past) (who : ℕ) (items : List Item)
     (said : List ℕ) : Type 0 where
   pub asked : reverse (events_by who past) ≡ asks_of rows items
-  pub octets : HasSaid rows past who items said
+  pub octets : said ≡ link_octets rows past who items

@@ -11,11 +11,11 @@ ghost use Rattle.tase_views.specs.declared.fault.StepFault.{StepFault};
 ghost use Rattle.tase_views.specs.declared.reply.Answer.{Answer};
 ghost use Rattle.tase_views.specs.History.{Past, association_in};
 ghost use Rattle.tase_views.specs.Outcomes.{IsRightOutcome, seat_refusal, name_refusal};
-ghost use Rattle.tase_map.specs.Inputs.{Item, IsLinkInput, text_given, link_has_ended};
+ghost use Rattle.tase_map.specs.Inputs.{Item, IsLinkInput};
 ghost use Rattle.tase_map.specs.Turns.{Turn, turns_of};
 ghost use Rattle.tase_map.specs.Asks.{asks_of, without_pauses};
-ghost use Rattle.tase_map.specs.Out.{early_octets};
-ghost use Rattle.tase_map.specs.Sent.{events_by, association_octets};
+ghost use Rattle.tase_map.specs.Sent.{events_by, with_event};
+ghost use Rattle.tase_map.specs.Linked.{link_octets};
 ghost use Rattle.tase_conn.specs.declared.stage.ConnEnd.{ConnEnd as AnyEnd};
 ghost use Rattle.tase_conn.specs.declared.stage.PendingEvent.TheVariants as askeds;
 ghost use Rattle.tase_conn.specs.declared.stage.Progress.TheVariants as progresses;
@@ -28,7 +28,6 @@ ghost use Rattle.tase_conn.specs.Answering.{told_said, stage_told, IsAnswerFor, 
 ghost use Rattle.tase_conn.specs.Answering.{aborts};
 ghost use Rattle.conn_laws.specs.Cutting.{HasLeft, LeftClosed, WasLeft, IsUnexplained};
 ghost use Rattle.conn_laws.specs.Serving.{Serves, AreOthers, HasTold, HasServed};
-ghost use Rattle.conn_laws.specs.Serving.{with_event};
 
 /// A connection serves a seat of the node: it does from its beginning on, with each item that its
 /// link gives, whatever other seats do and however its octets are sent, where it asks for an event
@@ -174,10 +173,10 @@ pub fn connections_leave()
         → IsLinkInput items → turns_of items ≡ answered ++ rest
         → IsUnexplained (without_pauses rest)
         → aborts end ≡ true → is_accepted standing ≡ true
-        → (l : LeftClosed true end standing rows past who items answered octets)
-        → octets ≡ association_octets rows past l.key (text_given items) (link_has_ended items) }
+        → LeftClosed true end standing rows past who items answered octets
+        → octets ≡ link_octets rows past who items }
     ensures unopened { (rows : CentreRows) (past : Past) (who : ℕ) (items : List Item)
         (octets : List ℕ) (peer : ℕ) (v : Talking)
         → Serves rows past who items octets (Some (Open peer)) v
-        → octets ≡ early_octets rows (text_given items) }
+        → octets ≡ link_octets rows past who items }
 {}

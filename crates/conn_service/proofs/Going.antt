@@ -1,12 +1,12 @@
 -- What comes of an event that a connection wants, by what the node and the connection did.
-use Rattle.std.proofs.Common.{◌≡◌, ℕ, Bool, true, false, List, ◌++◌, reverse}
+use Rattle.std.proofs.Common.{◌≡◌, ℕ, Bool, true, false, List, [], ◌++◌, reverse}
+use Rattle.std.proofs.lemmas.List.{append-nil}
 use Rattle.std.proofs.Common.{Option}
 use Rattle.std.proofs.Common.{Some, None, Result, Ok, Err, is_some, refl, sym, ap, subst, ◌∙◌, inl}
 use Rattle.std.proofs.Common.{inr}
-use Rattle.std.specs.Prelude.{MatchBool, unwrap_or}
+use Rattle.std.specs.Prelude.{MatchBool, unwrap_or, if◌then◌else◌, OnOk, IsOk}
+use Rattle.std.specs.declared.alloc.AllocError.{AllocError}
 use Rattle.std.proofs.lemmas.Bool.{false≢true, true≢false}
-use Rattle.std.specs.Result.{IsErrAnd}
-use Rattle.std.proofs.lemmas.Result.{err_from_is_err_and}
 use Rattle.stack_assoc.specs.Arrivals.{Arrival}
 use Rattle.stack_assoc.specs.Courses.{Course}
 use Rattle.stack_assoc.specs.declared.end_state.EndState.{EndState}
@@ -35,23 +35,26 @@ use Rattle.tase_conn.specs.declared.stage.Stage.{Stage}
 use Rattle.tase_conn.specs.declared.stage.Stage.TheVariants as stages
 use Rattle.tase_conn.specs.declared.stage.Progress.{Progress}
 use Rattle.tase_conn.specs.declared.stage.Progress.TheVariants as progresses
-use Rattle.tase_conn.specs.Talking.{Talking, pending_of, is_open_stage, IsFree}
-use Rattle.tase_conn.specs.Places.{ConnStandsAt, IsPlaced, GoesBy, Runs, IsAskedAt}
-use Rattle.tase_conn.specs.Wanting.{Wants, WantsBy, WantsClose, IsLeaving, progress_closing}
+use Rattle.tase_conn.specs.Talking.{Talking, pending_of, is_open_stage, is_running, IsFree}
+use Rattle.tase_conn.specs.Places.{ConnStandsAt, IsPlaced, GoesBy, Runs, IsAskedAt, KeepsPlace}
+use Rattle.tase_conn.specs.Wanting.{Wants, WantsBy, WantsSo, WantsClose, IsLeaving}
+use Rattle.tase_conn.specs.Wanting.{progress_closing}
 use Rattle.tase_conn.specs.Leaving.{IsLeft, Parts}
-use Rattle.tase_conn.specs.Answering.{told_said, stage_told, progress_told, IsAnswerFor, parting_octets}
-use Rattle.conn_laws.specs.Serving.{Serves, SaysBy, IsWaiting, with_event}
-use Rattle.conn_laws.specs.Cutting.{HasLeft, IsClosingFor, is_leaving, LeftBy}
+use Rattle.tase_conn.specs.Answering.{told_said, progress_told, IsAnswerFor, TellsAnswer}
+use Rattle.tase_conn.specs.Answering.{parting_octets, end_of_fault}
+use Rattle.conn_laws.specs.Serving.{Serves, SaysBy, IsWaiting}
+use Rattle.tase_map.specs.Sent.{with_event}
+use Rattle.conn_laws.specs.Cutting.{HasLeft, IsClosingFor, is_leaving, LeftBy, left_said}
 use Rattle.conn_laws.proofs.Answered.{answered_serves}
-use Rattle.conn_laws.proofs.Left.{refused_leaves, closing_leaves, closed_leaves}
+use Rattle.conn_laws.proofs.Left.{refused_leaves, closing_leaves, closed_leaves, stands_by}
 use Rattle.conn_laws.proofs.Seats.{none_open}
 use Rattle.conn_laws.proofs.Served.{never_refused}
 use Rattle.conn_laws.proofs.Wanted.{waiting_of}
-use Rattle.conn_service.specs.Attending.{AnswersEvent, Closes, IsLeftFor, IsServed}
-use Rattle.conn_service.specs.Attending.{IsAsking}
-use Rattle.conn_service.specs.Attending.{IsParting, ClosesLeft, WasCut}
-use Rattle.conn_service.proofs.Told.{waits_free, closing_free, refused_ours, close_taken, IsOurs}
-use Rattle.conn_service.proofs.Told.{right_told, waiting_stop, nothing_waits}
+use Rattle.conn_service.specs.Attending.{AnswersEvent, IsServed, IsAsking, IsParting}
+use Rattle.conn_service.specs.Attending.{ClosesLeft, closing_said, AsksClose, IsAskingClose}
+use Rattle.conn_service.proofs.Closed.{seat_left}
+use Rattle.conn_service.proofs.Told.{waits_free, closing_free, right_told, waiting_refused}
+use Rattle.conn_service.proofs.Told.{nothing_waits}
 
 -- ---- what a connection stands for
 
@@ -74,11 +77,11 @@ asking_placed rows past who event v s = placed_of s.2.stands
 
 pub parting_free : (rows : CentreRows) (past : Past) (who : ℕ) (v : Talking)
     → IsParting rows past who v → IsFree v.progress
-parting_free rows past who v p = closing_free v.progress conn_ends.Stopped p.2.1.waits
+parting_free rows past who v p = closing_free v.progress p.3 p.5.waits
 
 pub parting_placed : (rows : CentreRows) (past : Past) (who : ℕ) (v : Talking)
     → IsParting rows past who v → IsPlaced v
-parting_placed rows past who v p = placed_of p.2.1.stands
+parting_placed rows past who v p = placed_of p.5.stands
 
 -- the answer to the event that waits may be told
 pub asking_told : (rows : Setup) (past : Past) (who : ℕ) (event : EventKind) (answer : Answer)
@@ -88,21 +91,20 @@ asking_told setup past who event answer v s right =
     let n = never_refused setup.centre past who s.0 s.1 event v s.2 in
     right_told setup past who event v.progress answer s.2.waits n.0 right
 
-pub serving_stopped : (setup : Setup) (past : Past) (who place : ℕ) (items : List Item)
-    (said : List ℕ) (event : EventKind) (v : Talking)
+-- and its refusal
+pub serving_refused : (setup : Setup) (past : Past) (who : ℕ) (items : List Item)
+    (said : List ℕ) (event : EventKind) (fault : StepFault) (v : Talking)
     → Serves setup.centre past who items said (Some event) v
-    → IsRightOutcome setup past who event (Err (faults.Stopped place))
-    → IsAnswerFor v.progress (Err (faults.Stopped place))
-serving_stopped setup past who place items said event v s right =
+    → IsRightOutcome setup past who event (Err fault) → IsAnswerFor v.progress (Err fault)
+serving_refused setup past who items said event fault v s right =
     let n = never_refused setup.centre past who items said event v s in
-    waiting_stop setup past who place event v.progress s.waits n.0 right
+    waiting_refused setup past who event fault v.progress s.waits n.0 n.1 right
 
-pub asking_stopped : (setup : Setup) (past : Past) (who place : ℕ) (event : EventKind)
-    (v : Talking) → IsAsking setup.centre past who event v
-    → IsRightOutcome setup past who event (Err (faults.Stopped place))
-    → IsAnswerFor v.progress (Err (faults.Stopped place))
-asking_stopped setup past who place event v s right =
-    serving_stopped setup past who place s.0 s.1 event v s.2 right
+pub asking_refused : (setup : Setup) (past : Past) (who : ℕ) (event : EventKind)
+    (fault : StepFault) (v : Talking) → IsAsking setup.centre past who event v
+    → IsRightOutcome setup past who event (Err fault) → IsAnswerFor v.progress (Err fault)
+asking_refused setup past who event fault v s right =
+    serving_refused setup past who s.0 s.1 event fault v s.2 right
 
 -- ---- the history
 
@@ -118,85 +120,36 @@ same_past before after is = ap (λ (n : NodeState). reverse n.history) is
 
 -- ---- an event that was answered
 
-abbrev pub StaysAt : Talking → Talking → Type 0
-StaysAt old new = (rows : CentreRows) (items : List Item) (heard : List Arrival) (turns : List Turn)
-    → ConnStandsAt rows items heard turns old → ConnStandsAt rows items heard turns new
+-- what holds where no memory was wanting
+pub told_ok : (P : Type 0) (result : Result (Unit {0}) AllocError) → IsOk result → OnOk result P → P
+told_ok P (Ok told) is p = p
+told_ok P (Err error) is p = absurd (false≢true is)
 
 pub answered_on : (before after : NodeState) (who : ℕ) (items : List Item) (said : List ℕ)
     (event : EventKind) (answer : Answer) (old new : Talking)
     → after ≡ with_entry before who event
     → IsRightOutcome before.setup (reverse before.history) who event (Ok answer)
-    → StaysAt old new
-    → pending_of new ≡ pending_of old ++ told_said old.progress old.stage old.course (Ok answer)
-    → new.progress ≡ progress_told old.progress old.stage (Ok answer)
-    → new.stage ≡ stage_told old.progress (Ok answer) old.stage
+    → KeepsPlace old new → TellsAnswer (Ok answer) old new
     → Serves before.setup.centre (reverse before.history) who items said (Some event) old
-    → AnswersEvent before.setup (reverse before.history) who items said event old (Ok true)
+    → AnswersEvent before.setup (reverse before.history) who items said event old true
     (reverse after.history) new
-answered_on before after who items said event answer old new is right stays pending progress stage
-    s =
+answered_on before after who items said event answer old new is right stays tells s =
     let past = reverse before.history in
     let more = told_said old.progress old.stage old.course (Ok answer) in
     let g = grown before after who event is in (
       right.0,
       g,
-      record { added = more; pending = pending },
+      record { added = more; pending = tells.said },
       subst (λ (p : Past). Serves before.setup.centre p who items (said ++ more) None new) (sym g)
           (answered_serves before.setup past who items said event answer old new s right
           (record {
             stands = stays before.setup.centre items s.told s.turns s.stands;
-            progress = progress;
-            stage = stage;
+            progress = tells.progress;
+            stage = tells.stage;
           })),
     )
 
--- the connection had no room for what it is to say
-pub unnoted_on : (before after : NodeState) (who : ℕ) (items : List Item) (said : List ℕ)
-    (event : EventKind) (answer : Answer) (old new : Talking) (result : Result Bool StepFault)
-    → IsErrAnd result (λ fault. fault ≡ faults.Memory) → after ≡ with_entry before who event
-    → IsRightOutcome before.setup (reverse before.history) who event (Ok answer)
-    → AnswersEvent before.setup (reverse before.history) who items said event old result
-    (reverse after.history) new
-unnoted_on before after who items said event answer old new result e is right =
-    let p = err_from_is_err_and result e in
-    subst (λ (r : Result Bool StepFault). AnswersEvent before.setup (reverse before.history) who items
-    said event old r (reverse after.history) new) (sym (p.1 ∙ ap (λ (f : StepFault). Err f) p.2))
-    (inr (right.0, grown before after who event is))
-
--- or a refusal found none
-pub undone_on : (before after : NodeState) (who : ℕ) (items : List Item) (said : List ℕ)
-    (event : EventKind) (old new : Talking) (result : Result Bool StepFault)
-    → IsErrAnd result (λ fault. fault ≡ faults.Memory)
-    → reverse after.history ≡ reverse before.history
-    → AnswersEvent before.setup (reverse before.history) who items said event old result
-    (reverse after.history) new
-undone_on before after who items said event old new result e same =
-    let p = err_from_is_err_and result e in
-    subst (λ (r : Result Bool StepFault). AnswersEvent before.setup (reverse before.history) who items
-    said event old r (reverse after.history) new) (sym (p.1 ∙ ap (λ (f : StepFault). Err f) p.2))
-    (inl same)
-
--- ---- an event that was refused
-
-pub full_on : (before after : NodeState) (who weight limit : ℕ) (items : List Item)
-    (said : List ℕ) (event : EventKind) (v : Talking) → after ≡ before
-    → IsRightOutcome before.setup (reverse before.history) who event
-    (Err (faults.HistoryFull weight limit))
-    → AnswersEvent before.setup (reverse before.history) who items said event v
-    (Err (faults.HistoryFull weight limit)) (reverse after.history) v
-full_on before after who weight limit items said event v is right =
-    (right, same_past before after is, refl)
-
--- nothing else is refused
-pub never_on : (setup : Setup) (past : Past) (who : ℕ) (items : List Item) (said : List ℕ)
-    (event : EventKind) (fault : StepFault) (v : Talking)
-    → Serves setup.centre past who items said (Some event) v
-    → refusal_of setup past who event ≡ Some fault → IsOurs (Some fault)
-never_on setup past who items said event fault v s e =
-    let n = never_refused setup.centre past who items said event v s in
-    subst (λ (o : Option StepFault). IsOurs o) e (refused_ours setup past who event n.0 n.1)
-
--- ---- the node was stopped
+-- ---- a connection that is left
 
 left_by : (b : Bool) (end : ConnEnd) (old new : Talking)
     → MatchBool b (new ≡ record old { progress = progresses.Leaving end false })
@@ -241,20 +194,20 @@ seat_open rows past who items said event v s =
     seat_by v.stage found.0 v.held event v.progress rows past who items s.told s.answered said
     r.waits (subst (λ (x : Progress). IsWaiting x (Some event)) found.1 s.waits) s.says
 
--- it was left then
-pub stopped_left : (setup : Setup) (past : Past) (who place : ℕ) (items : List Item)
-    (said more : List ℕ) (event : EventKind) (old new : Talking)
-    → IsRightOutcome setup past who event (Err (faults.Stopped place))
-    → StaysAt old new → IsLeft conn_ends.Stopped old new
-    → pending_of new ≡ pending_of old ++ more
+-- an event was refused, and what is said then
+pub refused_left : (setup : Setup) (past : Past) (who : ℕ) (items : List Item)
+    (said : List ℕ) (event : EventKind) (fault : StepFault) (old new : Talking)
+    → IsRightOutcome setup past who event (Err fault)
+    → KeepsPlace old new → IsLeft (end_of_fault fault) old new
     → Serves setup.centre past who items said (Some event) old
-    → IsLeftFor setup.centre past who items (said ++ more) new
-stopped_left setup past who place items said more event old new right stays left pending s = (
-  old.course.standing,
-  refused_leaves setup.centre past who items said more event (faults.Stopped place) old new s
-      (serving_stopped setup past who place items said event old s right)
-      (stays setup.centre items s.told s.turns s.stands) left pending,
-)
+    → HasLeft true (end_of_fault fault) old.course.standing setup.centre past who items
+    (said ++ left_said old.stage old.course (end_of_fault fault)) None new
+refused_left setup past who items said event fault old new right stays left s =
+    refused_leaves setup.centre past who items said
+    (left_said old.stage old.course (end_of_fault fault)) event fault old new s
+    (serving_refused setup past who items said event fault old s right)
+    (stays setup.centre items s.told s.turns s.stands) left
+    (stands_by (is_open_stage old.stage) (end_of_fault fault) old new refl left).pending
 
 -- ---- the close of a connection that was left
 
@@ -264,41 +217,28 @@ some_close event e = ap (λ (o : Option EventKind). unwrap_or o events.Stop) e
 some_none : {event : EventKind} → Some event ≡ None → ⊥
 some_none e = absurd cc
 
-want_by : (p : Progress) (rows : CentreRows) (items : List Item) (told : List Arrival)
-    (turns : List Turn) (event : EventKind) (old new : Talking)
-    → IsClosingFor p None conn_ends.Stopped
-    → WantsBy p rows items told turns (Some event) old new
+want_by : (p : Progress) (left : ConnEnd) (rows : CentreRows) (items : List Item)
+    (told : List Arrival) (turns : List Turn) (event : EventKind) (old new : Talking)
+    → IsClosingFor p None left → WantsBy p rows items told turns (Some event) old new
     → IsLeaving p × (WantsClose (Some event) old new × ConnStandsAt rows items told turns new)
-want_by (progresses.Running asked) rows items told turns event old new c w = absurd c
-want_by progresses.Refused rows items told turns event old new c w = absurd c
-want_by (progresses.Leaving end true) rows items told turns event old new c w = absurd c
-want_by (progresses.Leaving end false) rows items told turns event old new c w = (tt, w)
-want_by (progresses.Ended end) rows items told turns event old new c w = absurd c
-want_by (progresses.Cut end) rows items told turns event old new c w =
+want_by (progresses.Running asked) left rows items told turns event old new c w = absurd c
+want_by progresses.Refused left rows items told turns event old new c w = absurd c
+want_by (progresses.Leaving end true) left rows items told turns event old new c w = absurd c
+want_by (progresses.Leaving end false) left rows items told turns event old new c w = (tt, w)
+want_by (progresses.Ended end) left rows items told turns event old new c w = absurd c
+want_by (progresses.Cut end) left rows items told turns event old new c w =
     absurd (some_none w.none)
 
 -- the progress of a connection whose close is asked
-asked_by : (p : Progress) → IsLeaving p → IsClosingFor p None conn_ends.Stopped
-    → (is_leaving p ≡ true) × (p ≡ progresses.Leaving conn_ends.Stopped false)
-asked_by (progresses.Running asked) l c = absurd l
-asked_by progresses.Refused l c = absurd l
-asked_by (progresses.Leaving end true) l c = absurd c
-asked_by (progresses.Leaving end false) l c =
+asked_by : (p : Progress) (left : ConnEnd) → IsLeaving p → IsClosingFor p None left
+    → (is_leaving p ≡ true) × (p ≡ progresses.Leaving left false)
+asked_by (progresses.Running asked) left l c = absurd l
+asked_by progresses.Refused left l c = absurd l
+asked_by (progresses.Leaving end true) left l c = absurd c
+asked_by (progresses.Leaving end false) left l c =
     (refl, ap (λ (e : ConnEnd). progresses.Leaving e false) c)
-asked_by (progresses.Ended end) l c = absurd l
-asked_by (progresses.Cut end) l c = absurd l
-
--- what a connection is that wants the close of its association
-pub record WantsItsClose (rows : CentreRows) (past : Past) (who : ℕ) (items : List Item)
-    (said : List ℕ) (event : EventKind) (old new : Talking) : Type 0 where
-  pub event_is : event ≡ events.Close
-  pub leaving : is_leaving old.progress ≡ true
-  pub progress : new.progress ≡ progresses.Leaving conn_ends.Stopped true
-  pub pending : pending_of new ≡ pending_of old
-  pub course : new.course ≡ old.course
-  pub seat : is_some (association_in past who) ≡ true
-  pub standing : EndState
-  pub left : HasLeft true conn_ends.Stopped standing rows past who items said (Some event) new
+asked_by (progresses.Ended end) left l c = absurd l
+asked_by (progresses.Cut end) left l c = absurd l
 
 left_seat : (stage : Stage) (whole : Bool) (end : ConnEnd) (standing : EndState) (course : Course)
     (rows : CentreRows) (past : Past) (who : ℕ) (items : List Item) (answered : List Turn)
@@ -312,15 +252,15 @@ left_seat (stages.Open peer detail) whole end standing course rows past who item
 left_seat (stages.Closed peer) whole end standing course rows past who items answered said o l =
     absurd (false≢true o)
 
-pub wants_close : (rows : CentreRows) (past : Past) (who : ℕ) (items : List Item)
-    (said : List ℕ) (event : EventKind) (standing : EndState) (old new : Talking)
-    → (h : HasLeft true conn_ends.Stopped standing rows past who items said None old)
+pub wants_close : (whole : Bool) (end : ConnEnd) (standing : EndState) (rows : CentreRows)
+    (past : Past) (who : ℕ) (items : List Item) (said : List ℕ) (event : EventKind)
+    (old new : Talking) → (h : HasLeft whole end standing rows past who items said None old)
     → Wants rows items h.told h.turns (Some event) old new
-    → WantsItsClose rows past who items said event old new
-wants_close rows past who items said event standing old new h w =
-    let l = want_by old.progress rows items h.told h.turns event old new h.waits w in
-    let a = asked_by old.progress l.0 h.waits in
-    let is : new ≡ record old { progress = progresses.Leaving conn_ends.Stopped true } =
+    → AsksClose whole end standing rows past who items said event old new
+wants_close whole end standing rows past who items said event old new h w =
+    let l = want_by old.progress end rows items h.told h.turns event old new h.waits w in
+    let a = asked_by old.progress end l.0 h.waits in
+    let is : new ≡ record old { progress = progresses.Leaving end true } =
     l.1.0.is ∙ ap (λ (p : Progress). progress_closing old p) a.1 in
     record {
       event_is = some_close event l.1.0.event_is;
@@ -328,47 +268,40 @@ wants_close rows past who items said event standing old new h w =
       progress = ap (λ (v : Talking). v.progress) is;
       pending = ap (λ (v : Talking). pending_of v) is;
       course = ap (λ (v : Talking). v.course) is;
-      seat = left_seat old.stage true conn_ends.Stopped standing old.course rows past who items
-          h.answered said (h.owes ∙ a.0) h.says;
-      standing = standing;
-      left = closing_leaves rows past who items said (Some event) true conn_ends.Stopped standing
-          old new h l.0 l.1;
+      seat = left_seat old.stage whole end standing old.course rows past who items h.answered said
+          (h.owes ∙ a.0) h.says;
+      left = closing_leaves rows past who items said (Some event) whole end standing old new h l.0
+          l.1;
     }
 
 -- whatever the link gave
 pub parting_wants : (rows : CentreRows) (past : Past) (who : ℕ) (event : EventKind)
-    (old new : Talking) → (p : IsParting rows past who old)
-    → ((rows : CentreRows) (items : List Item) (told : List Arrival) (turns : List Turn)
-    → ConnStandsAt rows items told turns old → Wants rows items told turns (Some event) old new)
-    → WantsItsClose rows past who p.0 p.1 event old new
+    (old new : Talking) → IsParting rows past who old
+    → WantsSo (Some event) old new → IsAskingClose rows past who event new
 parting_wants rows past who event old new p wants =
-    let h = p.2.1 in
-    wants_close rows past who p.0 p.1 event p.2.0 old new h
-    (wants rows p.0 h.told h.turns h.stands)
+    let h = p.5 in (
+      p.2,
+      p.3,
+      p.4,
+      p.0,
+      p.1,
+      old,
+      wants_close p.2 p.3 p.4 rows past who p.0 p.1 event old new h
+          (wants rows p.0 h.told h.turns h.stands),
+    )
 
-pub close_leaves : (v : Talking) → v.progress ≡ progresses.Leaving conn_ends.Stopped true
+-- no memory is taken
+pub parting_over : (p : Progress) (left : ConnEnd) → IsClosingFor p None left
+    → is_running p ≡ false
+parting_over (progresses.Running asked) left c = absurd c
+parting_over progresses.Refused left c = refl
+parting_over (progresses.Leaving end asked) left c = refl
+parting_over (progresses.Ended end) left c = refl
+parting_over (progresses.Cut end) left c = refl
+
+pub close_leaves : (v : Talking) (end : ConnEnd) → v.progress ≡ progresses.Leaving end true
     → IsLeaving v.progress
-close_leaves v e = subst (λ (p : Progress). IsLeaving p) (sym e) tt
-
-none_is : {f : StepFault} → None ≡ Some f → ⊥
-none_is e = absurd cc
-
--- it is taken
-pub close_right : (setup : Setup) (past : Past) (who : ℕ) (event : EventKind) (fault : StepFault)
-    → event ≡ events.Close → is_some (association_in past who) ≡ true
-    → IsRightOutcome setup past who event (Err fault) → ⊥
-close_right setup past who event fault is there right =
-    never_refuses (close_taken setup past who there) fault
-    (subst (λ (e : EventKind). IsRightOutcome setup past who e (Err fault)) is right)
-  where
-    never_refuses : refusal_of setup past who events.Close ≡ None → (f : StepFault)
-        → IsRightOutcome setup past who events.Close (Err f) → ⊥
-    never_refuses none faults.Memory r = true≢false r
-    never_refuses none (faults.Stopped place) r = none_is (sym none ∙ r)
-    never_refuses none (faults.HistoryFull weight limit) r = none_is (sym none ∙ r)
-    never_refuses none faults.NoAssociation r = none_is (sym none ∙ r)
-    never_refuses none faults.Already r = none_is (sym none ∙ r)
-    never_refuses none faults.UnknownName r = none_is (sym none ∙ r)
+close_leaves v end e = subst (λ (p : Progress). IsLeaving p) (sym e) tt
 
 closed_answer : (setup : Setup) (past : Past) (who : ℕ) (found : Option Key)
     → association_in past who ≡ found → is_some found ≡ true
@@ -378,110 +311,99 @@ closed_answer setup past who (Some key) f there =
     ap (λ (k : Option Key). answer_by setup.centre past events.Close k) f
 
 pub close_told : (setup : Setup) (past : Past) (who : ℕ) (event : EventKind) (answer : Answer)
-    (v : Talking) → event ≡ events.Close → is_some (association_in past who) ≡ true
-    → v.progress ≡ progresses.Leaving conn_ends.Stopped true
+    (end : ConnEnd) (v : Talking) → event ≡ events.Close
+    → is_some (association_in past who) ≡ true → v.progress ≡ progresses.Leaving end true
     → IsRightOutcome setup past who event (Ok answer) → IsAnswerFor v.progress (Ok answer)
-close_told setup past who event answer v is there progress right =
+close_told setup past who event answer end v is there progress right =
     let answer_is : answer ≡ answers.Closed = right.1
     ∙ ap (λ (e : EventKind). answer_of setup past who e) is
     ∙ closed_answer setup past who (association_in past who) refl there in
     subst (λ (p : Progress). IsAnswerFor p (Ok answer)) (sym progress)
-    (subst (λ (a : Answer). IsAnswerFor (progresses.Leaving conn_ends.Stopped true) (Ok a))
-    (sym answer_is) tt)
+    (subst (λ (a : Answer). IsAnswerFor (progresses.Leaving end true) (Ok a)) (sym answer_is) tt)
 
-closes_by : (b : Bool) (setup : Setup) (past : Past) (who : ℕ) (items : List Item)
-    (said : List ℕ) (old : Talking) (after : Past) (new : Talking) → b ≡ true
-    → ClosesLeft setup past who items said old after new
-    → MatchBool b (ClosesLeft setup past who items said old after new)
-    (WasCut past old after new)
-closes_by true setup past who items said old after new e c = c
-closes_by false setup past who items said old after new e c = absurd cc
+pub close_placed : {whole : Bool} {end : ConnEnd} {standing : EndState} {rows : CentreRows}
+    {past : Past} {who : ℕ} {items : List Item} {said : List ℕ} {event : EventKind}
+    {old new : Talking} → AsksClose whole end standing rows past who items said event old new
+    → IsPlaced new
+close_placed a = placed_of a.left.stands
 
-pub closed_on : (before after : NodeState) (who : ℕ) (items : List Item) (said : List ℕ)
-    (event : EventKind) (answer : Answer) (old between new : Talking)
-    → WantsItsClose before.setup.centre (reverse before.history) who items said event old between
-    → after ≡ with_entry before who event → StaysAt between new
-    → pending_of new ≡ pending_of between
-    ++ told_said between.progress between.stage between.course (Ok answer)
-    → new.progress ≡ progress_told between.progress between.stage (Ok answer)
-    → new.stage ≡ stage_told between.progress (Ok answer) between.stage
-    → Closes before.setup (reverse before.history) who items said old (Ok tt)
+-- its close was asked, and taken
+pub closed_on : (before after : NodeState) (whole : Bool) (end : ConnEnd) (standing : EndState)
+    (who : ℕ) (items : List Item) (said : List ℕ) (event : EventKind) (answer : Answer)
+    (old between new : Talking)
+    → AsksClose whole end standing before.setup.centre (reverse before.history) who items said event
+    old between → after ≡ with_entry before who event → KeepsPlace between new
+    → TellsAnswer (Ok answer) between new
+    → ClosesLeft whole end standing before.setup.centre (reverse before.history) who items said old
     (reverse after.history) new
-closed_on before after who items said event answer old between new c is stays pending progress
-    stage =
+closed_on before after whole end standing who items said event answer old between new c is stays
+    tells =
+    let rows = before.setup.centre in
     let past = reverse before.history in
     let more = told_said between.progress between.stage between.course (Ok answer) in
     let g : reverse after.history ≡ with_event who event past = grown before after who event is in
-    let said_is : more ≡ parting_octets old.course conn_ends.Stopped =
+    let said_is : more ≡ closing_said old end =
     ap (λ (p : Progress). told_said p between.stage between.course (Ok answer)) c.progress
-    ∙ ap (λ (k : Course). parting_octets k conn_ends.Stopped) c.course in
-    let left : HasLeft true conn_ends.Stopped c.standing before.setup.centre
-    (with_event who event past) who items (said ++ more) None new =
-    closed_leaves before.setup.centre past who items said event answer true conn_ends.Stopped
-    c.standing between new c.left
+    ∙ ap (λ (k : Course). parting_octets k end) c.course
+    ∙ ap (λ (b : Bool). if b then parting_octets old.course end else []) (sym c.leaving) in
+    let left : HasLeft whole end standing rows (with_event who event past) who items
+    (said ++ more) None new =
+    closed_leaves rows past who items said event answer whole end standing between new c.left
     (record {
-      stands = stays before.setup.centre items c.left.told c.left.turns c.left.stands;
-      progress = progress;
-      stage = stage;
+      stands = stays rows items c.left.told c.left.turns c.left.stands;
+      progress = tells.progress;
+      stage = tells.stage;
     }) in
-    closes_by (is_leaving old.progress) before.setup past who items said old
-    (reverse after.history) new c.leaving
-    (record {
-      after_is = g ∙ ap (λ (e : EventKind). with_event who e past) c.event_is;
-      pending = pending ∙ ap (λ (os : List ℕ). os ++ more) c.pending
+    record {
+      after_is = g ∙ ap (λ (e : EventKind). with_event who e past) c.event_is
+          ∙ ap (λ (b : Bool). if b then with_event who events.Close past else past) (sym c.seat);
+      pending = tells.said ∙ ap (λ (os : List ℕ). os ++ more) c.pending
           ∙ ap (λ (os : List ℕ). pending_of old ++ os) said_is;
-      left = (
-        c.standing,
-        subst (λ (os : List ℕ). HasLeft true conn_ends.Stopped c.standing before.setup.centre
-            (reverse after.history) who items (said ++ os) None new) said_is
-            (subst (λ (p : Past). HasLeft true conn_ends.Stopped c.standing
-            before.setup.centre p who items (said ++ more) None new) (sym g) left),
-      );
-      ended = progress
+      left = subst (λ (os : List ℕ). HasLeft whole end standing rows (reverse after.history) who
+          items (said ++ os) None new) said_is
+          (subst (λ (p : Past). HasLeft whole end standing rows p who items (said ++ more) None new)
+          (sym g) left);
+      ended = tells.progress
           ∙ ap (λ (p : Progress). progress_told p between.stage (Ok answer)) c.progress;
-    })
+    }
 
 none_event : None ≡ Some events.Close → ⊥
 none_event e = absurd cc
 
 -- where it was cut at once nothing is wanted
-none_by : (p : Progress) (rows : CentreRows) (items : List Item) (told : List Arrival)
-    (turns : List Turn) (old new : Talking) → IsClosingFor p None conn_ends.Stopped
+none_by : (p : Progress) (left : ConnEnd) (rows : CentreRows) (items : List Item)
+    (told : List Arrival) (turns : List Turn) (old new : Talking) → IsClosingFor p None left
     → WantsBy p rows items told turns None old new
-    → (is_leaving p ≡ false) × (p ≡ progresses.Cut conn_ends.Stopped) × (new ≡ old)
-none_by (progresses.Running asked) rows items told turns old new c w = absurd c
-none_by progresses.Refused rows items told turns old new c w = absurd c
-none_by (progresses.Leaving end true) rows items told turns old new c w = absurd c
-none_by (progresses.Leaving end false) rows items told turns old new c w =
+    → (is_leaving p ≡ false) × (p ≡ progresses.Cut left) × (new ≡ old)
+none_by (progresses.Running asked) left rows items told turns old new c w = absurd c
+none_by progresses.Refused left rows items told turns old new c w = absurd c
+none_by (progresses.Leaving end true) left rows items told turns old new c w = absurd c
+none_by (progresses.Leaving end false) left rows items told turns old new c w =
     absurd (none_event w.0.event_is)
-none_by (progresses.Ended end) rows items told turns old new c w = absurd c
-none_by (progresses.Cut end) rows items told turns old new c w =
+none_by (progresses.Ended end) left rows items told turns old new c w = absurd c
+none_by (progresses.Cut end) left rows items told turns old new c w =
     (refl, ap (λ (e : ConnEnd). progresses.Cut e) c, w.is)
 
-cut_by : (b : Bool) (setup : Setup) (past : Past) (who : ℕ) (items : List Item)
-    (said : List ℕ) (old : Talking) (after : Past) (new : Talking) → b ≡ false
-    → WasCut past old after new
-    → MatchBool b (ClosesLeft setup past who items said old after new)
-    (WasCut past old after new)
-cut_by true setup past who items said old after new e c = absurd cc
-cut_by false setup past who items said old after new e c = c
-
-pub uncut_on : (setup : Setup) (past after : Past) (who : ℕ) (items : List Item)
-    (said : List ℕ) (standing : EndState) (old new : Talking) → after ≡ past
-    → (h : HasLeft true conn_ends.Stopped standing setup.centre past who items said None old)
-    → Wants setup.centre items h.told h.turns None old new
-    → Closes setup past who items said old (Ok tt) after new
-uncut_on setup past after who items said standing old new is h w =
-    let n = none_by old.progress setup.centre items h.told h.turns old new h.waits w in
-    cut_by (is_leaving old.progress) setup past who items said old after new n.0
-    (record { after_is = is; is = n.2; ended = n.1 })
-
--- want of memory
-pub unclosed_on : (setup : Setup) (past after : Past) (who : ℕ) (items : List Item)
-    (said : List ℕ) (old new : Talking) (result : Result (Unit {0}) StepFault)
-    → IsErrAnd result (λ fault. fault ≡ faults.Memory) → after ≡ past
-    → Closes setup past who items said old result after new
-unclosed_on setup past after who items said old new result e same =
-    let p = err_from_is_err_and result e in
-    subst (λ (r : Result (Unit {0}) StepFault). Closes setup past who items said old r after new)
-    (sym (p.1 ∙ ap (λ (f : StepFault). Err f) p.2)) same
+pub uncut_on : (whole : Bool) (end : ConnEnd) (standing : EndState) (rows : CentreRows)
+    (past after : Past) (who : ℕ) (items : List Item) (said : List ℕ) (old new : Talking)
+    → after ≡ past → (h : HasLeft whole end standing rows past who items said None old)
+    → Wants rows items h.told h.turns None old new
+    → ClosesLeft whole end standing rows past who items said old after new
+uncut_on whole end standing rows past after who items said old new is h w =
+    let n = none_by old.progress end rows items h.told h.turns old new h.waits w in
+    let none : closing_said old end ≡ [] =
+    ap (λ (b : Bool). if b then parting_octets old.course end else []) n.0 in
+    let seat : is_some (association_in past who) ≡ false =
+    seat_left whole end standing rows past who items said None old h ∙ n.0 in
+    record {
+      after_is = is
+          ∙ ap (λ (b : Bool). if b then with_event who events.Close past else past) (sym seat);
+      pending = ap (λ (v : Talking). pending_of v) n.2 ∙ sym (append-nil (pending_of old))
+          ∙ ap (λ (os : List ℕ). pending_of old ++ os) (sym none);
+      left = subst (λ (os : List ℕ). HasLeft whole end standing rows after who items os None new)
+          (sym (append-nil said) ∙ ap (λ (os : List ℕ). said ++ os) (sym none))
+          (subst (λ (p : Past). HasLeft whole end standing rows p who items said None new) (sym is)
+          (subst (λ (v : Talking). HasLeft whole end standing rows past who items said None v)
+          (sym n.2) h));
+      ended = ap (λ (v : Talking). v.progress) n.2 ∙ n.1;
+    }

@@ -1,9 +1,11 @@
-pub mod Opened
 pub mod Worlds
 pub mod PeerEnds
 pub mod Told
-pub mod AllRead
 pub mod Remaining
+pub mod Closed
+pub mod Takes
+pub mod Wanted
 pub mod Going
-pub mod Stopped
+pub mod Refused
+pub mod Memory
 pub mod Attended

@@ -17,7 +17,7 @@ use Rattle.tase_conn.specs.Places.{EndsBy, IsCause}
 use Rattle.tase_conn.proofs.LastTurns.{last_of_cause}
 use Rattle.conn_laws.proofs.Served.{at_end}
 use Rattle.conn_laws.proofs.TurnLists.{or_left, or_right}
-use Rattle.conn_service.specs.Linked.{end_at, last_turn, peer_end}
+use Rattle.conn_service.specs.PeerEnd.{end_at, last_turn, peer_end}
 
 -- ---- the first that passes a test
 

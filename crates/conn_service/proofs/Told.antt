@@ -2,6 +2,7 @@
 use Rattle.std.proofs.Common.{◌≡◌, ℕ, ◌+◌, Bool, true, false, [], ◌∷◌, Option, Some, None}
 use Rattle.std.proofs.Common.{Ok, Err, is_some, refl, sym, ap, subst, ◌∙◌}
 use Rattle.std.specs.Prelude.{if◌then◌else◌, not, ◌&&◌, nat_lt, option_map}
+use Rattle.std.proofs.lemmas.Bool.{true≢false}
 use Rattle.sbo_device.specs.declared.key.Key.{Key}
 use Rattle.tase_views.specs.Setup.{Setup}
 use Rattle.tase_views.specs.History.{Past, association_in, stop_in}
@@ -17,12 +18,13 @@ use Rattle.tase_views.specs.declared.fault.StepFault.{StepFault}
 use Rattle.tase_views.specs.declared.fault.StepFault.TheVariants as faults
 use Rattle.tase_conn.specs.declared.stage.PendingEvent.{PendingEvent}
 use Rattle.tase_conn.specs.declared.stage.PendingEvent.TheVariants as askeds
+use Rattle.tase_conn.specs.declared.stage.Cause.{Cause}
 use Rattle.tase_conn.specs.declared.stage.ConnEnd.{ConnEnd}
 use Rattle.tase_conn.specs.declared.stage.Progress.{Progress}
 use Rattle.tase_conn.specs.declared.stage.Progress.TheVariants as progresses
 use Rattle.tase_conn.specs.Talking.{IsFree}
 use Rattle.tase_conn.specs.Wanting.{WaitsFor}
-use Rattle.tase_conn.specs.Answering.{IsAnswerTo, IsAnswerFor}
+use Rattle.tase_conn.specs.Answering.{IsAnswerTo, IsAnswerFor, IsCutFault}
 use Rattle.conn_laws.specs.Serving.{IsWaiting}
 use Rattle.conn_laws.specs.Cutting.{IsClosingFor}
 
@@ -217,66 +219,52 @@ right_told setup past who event p answer w s right =
     subst (λ (a : Answer). IsAnswerFor p (Ok a)) (sym right.1)
     (waits_told setup past who event p w s)
 
+-- ---- the refusal
+
+-- the event that a cause of the peer asks for
+closing_close : (cause : Cause) (event : EventKind)
+    → WaitsFor (progresses.Running (askeds.Closing cause)) event → event ≡ events.Close
+closing_close cause (events.Open opened) w = absurd w
+closing_close cause (events.Request call) w = absurd w
+closing_close cause events.Take w = absurd w
+closing_close cause events.Close w = refl
+closing_close cause (events.Update point value) w = absurd w
+closing_close cause events.Stop w = absurd w
+
+-- that of an event other than a close may be told
+refusal_told : (event : EventKind) (fault : StepFault) (p : Progress)
+    → IsWaiting p (Some event) → (event ≡ events.Close → ⊥) → IsCutFault fault
+    → IsAnswerFor p (Err fault)
+refusal_told event fault (progresses.Running askeds.Nothing) w c f = absurd (nothing_waits event w)
+refusal_told event fault (progresses.Running (askeds.Opening peer granted)) w c f = f
+refusal_told event fault (progresses.Running (askeds.Requesting invoke)) w c f = f
+refusal_told event fault (progresses.Running askeds.Taking) w c f = f
+refusal_told event fault (progresses.Running (askeds.Closing cause)) w c f =
+    absurd (c (closing_close cause event w))
+refusal_told event fault progresses.Refused w c f = absurd w
+refusal_told event fault (progresses.Leaving end asked) w c f = absurd w
+refusal_told event fault (progresses.Ended end) w c f = absurd w
+refusal_told event fault (progresses.Cut end) w c f = absurd w
+
 none_some : {f : StepFault} → None ≡ Some f → ⊥
 none_some e = absurd cc
 
--- and that the node was stopped: a close isn't refused so
-stop_told : (setup : Setup) (past : Past) (who place : ℕ) (event : EventKind) (asked : PendingEvent)
-    → WaitsFor (progresses.Running asked) event → (r : Option StepFault)
-    → (event ≡ events.Close → r ≡ None) → r ≡ Some (faults.Stopped place)
-    → IsAnswerTo asked (Err (faults.Stopped place))
-stop_told setup past who place (events.Open opened) askeds.Nothing w r c s = absurd w
-stop_told setup past who place (events.Request call) askeds.Nothing w r c s = absurd w
-stop_told setup past who place events.Take askeds.Nothing w r c s = absurd w
-stop_told setup past who place events.Close askeds.Nothing w r c s = absurd w
-stop_told setup past who place (events.Update point value) askeds.Nothing w r c s = absurd w
-stop_told setup past who place events.Stop askeds.Nothing w r c s = absurd w
-stop_told setup past who place (events.Open opened) (askeds.Opening peer granted) w r c s = tt
-stop_told setup past who place (events.Request call) (askeds.Opening peer granted) w r c s =
-    absurd w
-stop_told setup past who place events.Take (askeds.Opening peer granted) w r c s = absurd w
-stop_told setup past who place events.Close (askeds.Opening peer granted) w r c s = absurd w
-stop_told setup past who place (events.Update point value) (askeds.Opening peer granted) w r c s =
-    absurd w
-stop_told setup past who place events.Stop (askeds.Opening peer granted) w r c s = absurd w
-stop_told setup past who place (events.Open opened) (askeds.Requesting invoke) w r c s = absurd w
-stop_told setup past who place (events.Request call) (askeds.Requesting invoke) w r c s = tt
-stop_told setup past who place events.Take (askeds.Requesting invoke) w r c s = absurd w
-stop_told setup past who place events.Close (askeds.Requesting invoke) w r c s = absurd w
-stop_told setup past who place (events.Update point value) (askeds.Requesting invoke) w r c s =
-    absurd w
-stop_told setup past who place events.Stop (askeds.Requesting invoke) w r c s = absurd w
-stop_told setup past who place (events.Open opened) askeds.Taking w r c s = absurd w
-stop_told setup past who place (events.Request call) askeds.Taking w r c s = absurd w
-stop_told setup past who place events.Take askeds.Taking w r c s = tt
-stop_told setup past who place events.Close askeds.Taking w r c s = absurd w
-stop_told setup past who place (events.Update point value) askeds.Taking w r c s = absurd w
-stop_told setup past who place events.Stop askeds.Taking w r c s = absurd w
-stop_told setup past who place (events.Open opened) (askeds.Closing cause) w r c s = absurd w
-stop_told setup past who place (events.Request call) (askeds.Closing cause) w r c s = absurd w
-stop_told setup past who place events.Take (askeds.Closing cause) w r c s = absurd w
-stop_told setup past who place events.Close (askeds.Closing cause) w r c s =
-    absurd (none_some (sym (c refl) ∙ s))
-stop_told setup past who place (events.Update point value) (askeds.Closing cause) w r c s = absurd w
-stop_told setup past who place events.Stop (askeds.Closing cause) w r c s = absurd w
-
-stop_waits : (setup : Setup) (past : Past) (who place : ℕ) (event : EventKind) (p : Progress)
-    → IsWaiting p (Some event) → (r : Option StepFault) → (event ≡ events.Close → r ≡ None)
-    → r ≡ Some (faults.Stopped place) → IsAnswerFor p (Err (faults.Stopped place))
-stop_waits setup past who place event (progresses.Running askeds.Nothing) w r c s =
-    absurd (nothing_waits event w)
-stop_waits setup past who place event (progresses.Running (askeds.Opening peer granted)) w r c s =
-    stop_told setup past who place event (askeds.Opening peer granted) w r c s
-stop_waits setup past who place event (progresses.Running (askeds.Requesting invoke)) w r c s =
-    stop_told setup past who place event (askeds.Requesting invoke) w r c s
-stop_waits setup past who place event (progresses.Running askeds.Taking) w r c s =
-    stop_told setup past who place event askeds.Taking w r c s
-stop_waits setup past who place event (progresses.Running (askeds.Closing cause)) w r c s =
-    stop_told setup past who place event (askeds.Closing cause) w r c s
-stop_waits setup past who place event progresses.Refused w r c s = absurd w
-stop_waits setup past who place event (progresses.Leaving end asked) w r c s = absurd w
-stop_waits setup past who place event (progresses.Ended end) w r c s = absurd w
-stop_waits setup past who place event (progresses.Cut end) w r c s = absurd w
+-- a close is taken
+pub close_right : (setup : Setup) (past : Past) (who : ℕ) (event : EventKind) (fault : StepFault)
+    → event ≡ events.Close → is_some (association_in past who) ≡ true
+    → IsRightOutcome setup past who event (Err fault) → ⊥
+close_right setup past who event fault is there right =
+    never_refuses (close_taken setup past who there) fault
+    (subst (λ (e : EventKind). IsRightOutcome setup past who e (Err fault)) is right)
+  where
+    never_refuses : refusal_of setup past who events.Close ≡ None → (f : StepFault)
+        → IsRightOutcome setup past who events.Close (Err f) → ⊥
+    never_refuses none faults.Memory r = true≢false r
+    never_refuses none (faults.Stopped place) r = none_some (sym none ∙ r)
+    never_refuses none (faults.HistoryFull weight limit) r = none_some (sym none ∙ r)
+    never_refuses none faults.NoAssociation r = none_some (sym none ∙ r)
+    never_refuses none faults.Already r = none_some (sym none ∙ r)
+    never_refuses none faults.UnknownName r = none_some (sym none ∙ r)
 
 -- a seat that a close has
 close_there : (found : Option Key) → seat_refusal found events.Close ≡ None
@@ -284,13 +272,27 @@ close_there : (found : Option Key) → seat_refusal found events.Close ≡ None
 close_there None e = absurd cc
 close_there (Some key) e = refl
 
-pub waiting_stop : (setup : Setup) (past : Past) (who place : ℕ) (event : EventKind)
-    (p : Progress) → IsWaiting p (Some event)
-    → seat_refusal (association_in past who) event ≡ None
-    → IsRightOutcome setup past who event (Err (faults.Stopped place))
-    → IsAnswerFor p (Err (faults.Stopped place))
-waiting_stop setup past who place event p w seat right =
-    stop_waits setup past who place event p w (refusal_of setup past who event)
-    (λ is. ap (λ (e : EventKind). refusal_of setup past who e) is
-    ∙ close_taken setup past who (close_there (association_in past who)
-    (subst (λ (e : EventKind). seat_refusal (association_in past who) e ≡ None) is seat))) right
+-- an event that has its seat and its names is refused for a stop, a full history or want of memory
+cut_fault : (setup : Setup) (past : Past) (who : ℕ) (event : EventKind) (fault : StepFault)
+    → IsOurs (refusal_of setup past who event)
+    → IsRightOutcome setup past who event (Err fault) → IsCutFault fault
+cut_fault setup past who event faults.Memory ours right = tt
+cut_fault setup past who event (faults.Stopped place) ours right = tt
+cut_fault setup past who event (faults.HistoryFull weight limit) ours right = tt
+cut_fault setup past who event faults.NoAssociation ours right =
+    absurd (subst (λ (o : Option StepFault). IsOurs o) right ours)
+cut_fault setup past who event faults.Already ours right =
+    absurd (subst (λ (o : Option StepFault). IsOurs o) right ours)
+cut_fault setup past who event faults.UnknownName ours right =
+    absurd (subst (λ (o : Option StepFault). IsOurs o) right ours)
+
+-- and that may be told
+pub waiting_refused : (setup : Setup) (past : Past) (who : ℕ) (event : EventKind)
+    (fault : StepFault) (p : Progress) → IsWaiting p (Some event)
+    → seat_refusal (association_in past who) event ≡ None → name_refusal setup.centre event ≡ None
+    → IsRightOutcome setup past who event (Err fault) → IsAnswerFor p (Err fault)
+waiting_refused setup past who event fault p w seat name right =
+    refusal_told event fault p w
+    (λ is. close_right setup past who event fault is (close_there (association_in past who)
+    (subst (λ (e : EventKind). seat_refusal (association_in past who) e ≡ None) is seat)) right)
+    (cut_fault setup past who event fault (refused_ours setup past who event seat name) right)

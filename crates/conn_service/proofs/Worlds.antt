@@ -18,7 +18,7 @@ use Rattle.tase_map.specs.Turns.{breaks, ends, pauses, turns_told}
 use Rattle.tase_map.specs.Asks.{is_peers}
 use Rattle.tase_map.specs.Out.{octets_out, is_declined, early_octets}
 use Rattle.tase_map.specs.Sent.{association_octets}
-use Rattle.conn_service.specs.Linked.{opened_in, link_octets}
+use Rattle.tase_map.specs.Linked.{opened_in, link_octets}
 
 -- an association is sent the same over the same own table and the same view
 sent-alike : (here there : CentreRows) (past other_past : Past) (key other : Key) (text : List ℕ)

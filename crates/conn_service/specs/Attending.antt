@@ -1,7 +1,6 @@
 -- What comes of a connection that a node attends to, with no other seat between.
 use Rattle.std.specs.Prelude.{◌≡◌, ℕ, ◌+◌, ◌-◌, ◌*◌, Bool, true, false, ◌⊎◌, if◌then◌else◌, List}
-use Rattle.std.specs.Prelude.{[], ◌∷◌, ◌++◌, reverse}
-use Rattle.std.specs.Prelude.{Option, Some, None, is_some, Result, Ok, Err, MatchBool}
+use Rattle.std.specs.Prelude.{[], ◌++◌, reverse, Option, Some, None, is_some}
 use Rattle.stack_assoc.specs.declared.end_state.EndState.{EndState}
 use Rattle.bilateral.specs.Rows.{CentreRows}
 use Rattle.sbo_device.specs.declared.key.Key.{Key}
@@ -11,169 +10,168 @@ use Rattle.tase_views.specs.History.{Past, association_in}
 use Rattle.tase_views.specs.Outcomes.{refusal_of}
 use Rattle.tase_views.specs.declared.event.EventKind.{EventKind}
 use Rattle.tase_views.specs.declared.event.EventKind.TheVariants as events
-use Rattle.tase_views.specs.declared.fault.StepFault.{StepFault}
-use Rattle.tase_views.specs.declared.fault.StepFault.TheVariants as faults
 use Rattle.tase_map.specs.Inputs.{Item}
 use Rattle.tase_map.specs.Asks.{asks_of}
-use Rattle.tase_map.specs.Sent.{events_by}
-use Rattle.tase_conn.specs.declared.stage.Behind.TheVariants as behinds
+use Rattle.tase_map.specs.Sent.{events_by, with_event}
+use Rattle.tase_conn.specs.declared.stage.ConnEnd.{ConnEnd}
 use Rattle.tase_conn.specs.declared.stage.ConnEnd.TheVariants as conn_ends
 use Rattle.tase_conn.specs.declared.stage.Progress.TheVariants as progresses
 use Rattle.tase_conn.specs.Talking.{Talking, pending_of, conn_end_in, IsResting}
 use Rattle.tase_conn.specs.Answering.{parting_octets}
-use Rattle.conn_laws.specs.Serving.{Serves, with_event}
-use Rattle.conn_service.specs.Linked.{link_octets, peer_end}
+use Rattle.conn_laws.specs.Serving.{Serves}
 use Rattle.conn_laws.specs.Cutting.{HasLeft, is_leaving}
+use Rattle.tase_map.specs.Linked.{link_octets}
+use Rattle.conn_service.specs.PeerEnd.{peer_end}
+use Rattle.conn_service.specs.Served.{served, with_closed}
+use Rattle.conn_service.specs.Sends.{Sends, IsCutFor, IsSaidByEnd, first_refused}
 
 -- a connection is served by a seat over this past, and no event waits
 abbrev pub IsServed : CentreRows → Past → ℕ → Talking → Type 0
 IsServed rows past who v =
     (items : List Item) × (said : List ℕ) × Serves rows past who items said None v
 
--- where a take waits, all that was taken in was read
-abbrev pub IsAllRead : EventKind → Talking → Type 0
-IsAllRead events.Take v = v.behind ≡ behinds.Nothing
-IsAllRead event v = Unit {0}
-
 -- and this event waits
 abbrev pub IsAsking : CentreRows → Past → ℕ → EventKind → Talking → Type 0
 IsAsking rows past who event v = (items : List Item) × (said : List ℕ)
-    × Serves rows past who items said (Some event) v × IsAllRead event v
-
--- ---- the history
-
--- a node takes these events of a seat, one after another
-abbrev pub TakesEvents : Setup → ℕ → Past → List EventKind → Past → Type 0
-TakesEvents setup who past [] after = after ≡ past
-TakesEvents setup who past (event ∷ events) after = (refusal_of setup past who event ≡ None)
-    × TakesEvents setup who (with_event who event past) events after
-
--- of what the link asks, some more events were taken, and these are left
-pub record HasTaken (setup : Setup) (past : Past) (who : ℕ) (items : List Item)
-    (rest : List EventKind) (after : Past) : Type 0 where
-  pub taken : List EventKind
-  pub asks_are : asks_of setup.centre items
-      ≡ (reverse (events_by who past) ++ taken) ++ rest
-  pub takes : TakesEvents setup who past taken after
-
--- the next event is refused so
-pub record IsRefused (setup : Setup) (past : Past) (who : ℕ) (items : List Item)
-    (fault : StepFault) (after : Past) : Type 0 where
-  pub event : EventKind
-  pub later : List EventKind
-  pub has : HasTaken setup past who items (event ∷ later) after
-  pub refused : refusal_of setup after who event ≡ Some fault
-
--- the association of a seat is closed, where it has one
-abbrev pub with_closed : ℕ → Past → Past
-with_closed who past =
-    if is_some (association_in past who) then with_event who events.Close past else past
-
--- ---- the connection
-
--- all that the link gave was acted on: it is served still, or the peer has ended it; the peer is
--- sent what the history and the link's items say, and no more
-pub record IsAllServed (setup : Setup) (past : Past) (who : ℕ) (items : List Item)
-    (said : List ℕ) (after : Past) (new : Talking) : Type 0 where
-  pub has : HasTaken setup past who items [] after
-  pub serves : Serves setup.centre after who items said None new
-  pub resting : IsResting new
-  pub octets : said ≡ link_octets setup.centre after who items
-  pub end : conn_end_in new.progress ≡ peer_end setup.centre items
-
--- it was left since the node was stopped
-abbrev pub IsLeftFor : CentreRows → Past → ℕ → List Item → List ℕ → Talking → Type 0
-IsLeftFor rows past who items said v = (standing : EndState)
-    × HasLeft true conn_ends.Stopped standing rows past who items said None v
-
-abbrev pub IsParting : CentreRows → Past → ℕ → Talking → Type 0
-IsParting rows past who v =
-    (items : List Item) × (said : List ℕ) × IsLeftFor rows past who items said v
-
--- the node was stopped: it was left, and its association closed
-pub record IsStopped (setup : Setup) (past : Past) (who : ℕ) (items : List Item)
-    (said : List ℕ) (after : Past) (new : Talking) : Type 0 where
-  pub place : ℕ
-  pub between : Past
-  pub refused : IsRefused setup past who items (faults.Stopped place) between
-  pub after_is : after ≡ with_closed who between
-  pub left : IsLeftFor setup.centre after who items said new
-  pub octets : said ≡ link_octets setup.centre after who items
-  pub ended : new.progress ≡ progresses.Cut conn_ends.Stopped
+    × Serves rows past who items said (Some event) v
 
 -- these octets more are to be sent
 pub record AddsPending (old new : Talking) : Type 0 where
   pub added : List ℕ
   pub pending : pending_of new ≡ pending_of old ++ added
 
--- the history is full: the event that it has no room for waits still, and all octets that are owed
--- for what the node took were said
-pub record IsFullAt (setup : Setup) (past : Past) (who : ℕ) (items : List Item) (said : List ℕ)
-    (weight limit : ℕ) (old : Talking) (after : Past) (new : Talking) : Type 0 where
-  pub adds : AddsPending old new
-  pub refused : IsRefused setup past who items (faults.HistoryFull weight limit) after
-  pub serves : Serves setup.centre after who items (said ++ adds.added) (Some refused.event) new
+-- ---- a connection that is cut
 
--- what comes of a connection: all that its link gave was acted on, or up to an event that the node
--- refused since it was stopped; a full history refuses an event exactly where its cause holds, and
--- where memory was wanting some events of the link were taken
-abbrev pub Attends : Setup → Past → ℕ → List Item → List ℕ → Talking
-    → Result (Unit {0}) StepFault → Past → Talking → Type 0
-Attends setup past who items said old (Ok done) after new = (a : AddsPending old new)
-    × (IsAllServed setup past who items (said ++ a.added) after new
-    ⊎ IsStopped setup past who items (said ++ a.added) after new)
-Attends setup past who items said old (Err (faults.HistoryFull weight limit)) after new =
-    IsFullAt setup past who items said weight limit old after new
-Attends setup past who items said old (Err faults.Memory) after new =
-    (rest : List EventKind) × HasTaken setup past who items rest after
-Attends setup past who items said old (Err fault) after new = ⊥
+-- a connection was left, and its association is closed next, if it is open
+abbrev pub IsParting : CentreRows → Past → ℕ → Talking → Type 0
+IsParting rows past who v = (items : List Item) × (said : List ℕ) × (whole : Bool)
+    × (end : ConnEnd) × (standing : EndState)
+    × HasLeft whole end standing rows past who items said None v
+
+-- the octets of an abort, where it is open
+abbrev pub closing_said : Talking → ConnEnd → List ℕ
+closing_said v end = if is_leaving v.progress then parting_octets v.course end else []
+
+-- the association of a connection that was left is closed, if it was open, and the connection has
+-- ended
+pub record ClosesLeft (whole : Bool) (end : ConnEnd) (standing : EndState) (rows : CentreRows)
+    (past : Past) (who : ℕ) (items : List Item) (said : List ℕ) (old : Talking) (after : Past)
+    (new : Talking) : Type 0 where
+  pub after_is : after ≡ with_closed who past
+  pub pending : pending_of new ≡ pending_of old ++ closing_said old end
+  pub left : HasLeft whole end standing rows after who items (said ++ closing_said old end) None new
+  pub ended : new.progress ≡ progresses.Cut end
+
+-- what a connection is that asks for the close of its association
+pub record AsksClose (whole : Bool) (end : ConnEnd) (standing : EndState) (rows : CentreRows)
+    (past : Past) (who : ℕ) (items : List Item) (said : List ℕ) (event : EventKind)
+    (old new : Talking) : Type 0 where
+  pub event_is : event ≡ events.Close
+  pub leaving : is_leaving old.progress ≡ true
+  pub progress : new.progress ≡ progresses.Leaving end true
+  pub pending : pending_of new ≡ pending_of old
+  pub course : new.course ≡ old.course
+  pub seat : is_some (association_in past who) ≡ true
+  pub left : HasLeft whole end standing rows past who items said (Some event) new
+
+abbrev pub IsAskingClose : CentreRows → Past → ℕ → EventKind → Talking → Type 0
+IsAskingClose rows past who event v = (whole : Bool) × (end : ConnEnd) × (standing : EndState)
+    × (items : List Item) × (said : List ℕ) × (first : Talking)
+    × AsksClose whole end standing rows past who items said event first v
+
+-- an end that a node brings
+abbrev pub IsNodesEnd : ConnEnd → Type 0
+IsNodesEnd conn_ends.Stopped = Unit {0}
+IsNodesEnd (conn_ends.Full weight limit) = Unit {0}
+IsNodesEnd conn_ends.Memory = Unit {0}
+IsNodesEnd end = ⊥
+
+-- over this past, which holds the first of the events that its link asks, a connection was cut: its
+-- association was closed, if it was open, and it has ended
+pub record IsCut (setup : Setup) (past : Past) (who : ℕ) (items : List Item) (said : List ℕ)
+    (old : Talking) (after : Past) (new : Talking) : Type 0 where
+  pub adds : AddsPending old new
+  pub end : ConnEnd
+  pub by_node : IsNodesEnd end
+  pub ended : new.progress ≡ progresses.Cut end
+  pub others : List EventKind
+  pub asks_are : asks_of setup.centre items ≡ reverse (events_by who past) ++ others
+  pub cause : IsCutFor setup past who items end (first_refused setup past who others)
+  pub after_is : after ≡ with_closed who past
+  pub none_open : association_in after who ≡ None
+  pub said_is : IsSaidByEnd setup items (Some end) (said ++ adds.added)
+      (link_octets setup.centre after who items)
+
+-- ---- all that its link gave
+
+-- a node takes these events of a seat, and refuses none
+abbrev pub TakesEvents : Setup → ℕ → Past → List EventKind → Past → Type 0
+TakesEvents setup who past taken after =
+    served setup who past taken ≡ record { taken = taken; past = after; refusal = None }
+
+-- all that the link asks was taken: it goes on, with nothing left of what the link gave, or the peer
+-- has ended it
+pub record IsAllServed (setup : Setup) (past : Past) (who : ℕ) (items : List Item)
+    (said : List ℕ) (old : Talking) (after : Past) (new : Talking) : Type 0 where
+  pub adds : AddsPending old new
+  pub taken : List EventKind
+  pub takes : TakesEvents setup who past taken after
+  pub asks_are : asks_of setup.centre items ≡ reverse (events_by who past) ++ taken
+  pub serves : Serves setup.centre after who items (said ++ adds.added) None new
+  pub resting : IsResting new
+  pub octets : said ++ adds.added ≡ link_octets setup.centre after who items
+  pub end : conn_end_in new.progress ≡ peer_end setup.centre items
+
+-- some of the events were taken, and then it was cut
+pub record IsServedTo (setup : Setup) (past : Past) (who : ℕ) (items : List Item)
+    (said : List ℕ) (old : Talking) (after : Past) (new : Talking) : Type 0 where
+  pub taken : List EventKind
+  pub between : Past
+  pub takes : TakesEvents setup who past taken between
+  pub cut : IsCut setup between who items said old after new
+
+-- one of both
+abbrev pub Attends : Setup → Past → ℕ → List Item → List ℕ → Talking → Past → Talking → Type 0
+Attends setup past who items said old after new =
+    IsAllServed setup past who items said old after new
+    ⊎ IsServedTo setup past who items said old after new
+
+-- what is owed to the peer stands
+pub record SendsOn (setup : Setup) (who : ℕ) (items : List Item) (said : List ℕ) (old : Talking)
+    (after : Past) (new : Talking) : Type 0 where
+  pub adds : AddsPending old new
+  pub sends : Sends setup after who items (conn_end_in new.progress) (said ++ adds.added)
 
 -- ---- one event
 
--- an event was answered, and the connection goes on; or it was left, since the node was stopped,
--- and its association closed; or the history is full, or memory was wanting before or behind the
--- event
-abbrev pub AnswersEvent : Setup → Past → ℕ → List Item → List ℕ → EventKind → Talking
-    → Result Bool StepFault → Past → Talking → Type 0
-AnswersEvent setup past who items said event old (Ok true) after new =
+-- nothing is left of what the link gave
+pub record IsAtRest (setup : Setup) (past : Past) (who : ℕ) (items : List Item)
+    (said : List ℕ) (old : Talking) (after : Past) (new : Talking) : Type 0 where
+  pub after_is : after ≡ past
+  pub adds : AddsPending old new
+  pub serves : Serves setup.centre past who items (said ++ adds.added) None new
+  pub resting : IsResting new
+
+-- an event is wanted, and waits; or none is, since nothing is left, or memory was wanting, so that
+-- the connection was cut
+abbrev pub IsWanted : Setup → Past → ℕ → List Item → List ℕ → Talking → Option EventKind → Past
+    → Talking → Type 0
+IsWanted setup past who items said old (Some event) after new = (after ≡ past)
+    × (a : AddsPending old new)
+    × Serves setup.centre past who items (said ++ a.added) (Some event) new
+IsWanted setup past who items said old None after new =
+    IsAtRest setup past who items said old after new ⊎ IsCut setup past who items said old after new
+
+-- the event that waited was answered; or it was refused, and the connection cut; or that was cut
+-- behind it, since memory was wanting for what is said
+abbrev pub AnswersEvent : Setup → Past → ℕ → List Item → List ℕ → EventKind → Talking → Bool → Past
+    → Talking → Type 0
+AnswersEvent setup past who items said event old true after new =
     (refusal_of setup past who event ≡ None) × (after ≡ with_event who event past)
     × (a : AddsPending old new) × Serves setup.centre after who items (said ++ a.added) None new
-AnswersEvent setup past who items said event old (Ok false) after new =
-    (place : ℕ) × (refusal_of setup past who event ≡ Some (faults.Stopped place))
-    × (after ≡ with_closed who past) × (a : AddsPending old new)
-    × (said ++ a.added ≡ link_octets setup.centre after who items)
-    × IsLeftFor setup.centre after who items (said ++ a.added) new
-    × (new.progress ≡ progresses.Cut conn_ends.Stopped)
-AnswersEvent setup past who items said event old (Err (faults.HistoryFull weight limit)) after new =
-    (refusal_of setup past who event ≡ Some (faults.HistoryFull weight limit)) × (after ≡ past)
-    × (new ≡ old)
-AnswersEvent setup past who items said event old (Err faults.Memory) after new =
-    (after ≡ past) ⊎ ((refusal_of setup past who event ≡ None)
-    × (after ≡ with_event who event past))
-AnswersEvent setup past who items said event old (Err fault) after new = ⊥
-
--- the octets of an abort more are to be sent, and the association was closed
-pub record ClosesLeft (setup : Setup) (past : Past) (who : ℕ) (items : List Item)
-    (said : List ℕ) (old : Talking) (after : Past) (new : Talking) : Type 0 where
-  pub after_is : after ≡ with_event who events.Close past
-  pub pending : pending_of new ≡ pending_of old ++ parting_octets old.course conn_ends.Stopped
-  pub left : IsLeftFor setup.centre after who items
-      (said ++ parting_octets old.course conn_ends.Stopped) new
-  pub ended : new.progress ≡ progresses.Cut conn_ends.Stopped
-
--- nothing was to be done
-pub record WasCut (past : Past) (old : Talking) (after : Past) (new : Talking) : Type 0 where
-  pub after_is : after ≡ past
-  pub is : new ≡ old
-  pub ended : old.progress ≡ progresses.Cut conn_ends.Stopped
-
--- the association of a connection that was left is closed, if it was open
-abbrev pub Closes : Setup → Past → ℕ → List Item → List ℕ → Talking
-    → Result (Unit {0}) StepFault → Past → Talking → Type 0
-Closes setup past who items said old (Ok done) after new = MatchBool (is_leaving old.progress)
-    (ClosesLeft setup past who items said old after new) (WasCut past old after new)
-Closes setup past who items said old (Err faults.Memory) after new = after ≡ past
-Closes setup past who items said old (Err fault) after new = ⊥
+AnswersEvent setup past who items said event old false after new =
+    IsCut setup past who items said old after new ⊎ ((refusal_of setup past who event ≡ None)
+    × IsCut setup (with_event who event past) who items said old after new)
 
 -- ---- how long it goes on
 

@@ -1,3 +1,4 @@
-pub mod Linked
+pub mod PeerEnd
+pub mod Served
 pub mod Sends
 pub mod Attending

@@ -1,23 +1,28 @@
 -- What is owed to the peer of a link, whoever serves its connection: which events of the seat have
 -- come of what the link gave, and which octets were said.
-use Rattle.std.specs.Prelude.{◌≡◌, ◌⊎◌, ℕ, List, [], ◌∷◌, ◌++◌, reverse, Option, Some, None}
+use Rattle.std.specs.Prelude.{◌≡◌, ◌⊎◌, ℕ, ◌<◌, List, [], ◌∷◌, ◌++◌, reverse, Option, Some, None}
+use Rattle.std.specs.Prelude.{ℤ, unsigned_abs}
 use Rattle.sbo_device.specs.declared.key.Key.{Key}
+use Rattle.stack_assoc.specs.Arrivals.{first_in, connect_in}
 use Rattle.stack_assoc.specs.Expectations.{setup_after}
 use Rattle.tase_views.specs.Setup.{Setup}
 use Rattle.tase_views.specs.History.{Past, association_in}
-use Rattle.tase_views.specs.Outcomes.{refusal_of}
+use Rattle.tase_views.specs.Outcomes.{refusal_of, answer_of}
 use Rattle.tase_views.specs.declared.event.EventKind.{EventKind}
 use Rattle.tase_views.specs.declared.event.EventKind.TheVariants as events
+use Rattle.tase_views.specs.declared.reply.Answer.TheVariants as answers
+use Rattle.tase_views.specs.declared.reply.Report.{Report}
 use Rattle.tase_views.specs.declared.fault.StepFault.{StepFault}
 use Rattle.tase_views.specs.declared.fault.StepFault.TheVariants as faults
 use Rattle.tase_map.specs.Inputs.{Item, text_given}
 use Rattle.tase_map.specs.Readings.{reading_of}
 use Rattle.tase_map.specs.Asks.{asks_of}
-use Rattle.tase_map.specs.Out.{abort_wire}
-use Rattle.tase_map.specs.Sent.{events_by}
+use Rattle.tase_map.specs.Out.{abort_wire, detail_of, first_too_long}
+use Rattle.tase_map.specs.Sent.{events_by, with_event}
 use Rattle.tase_conn.specs.declared.stage.ConnEnd.{ConnEnd}
 use Rattle.tase_conn.specs.declared.stage.ConnEnd.TheVariants as conn_ends
-use Rattle.conn_service.specs.Linked.{peer_end, link_octets}
+use Rattle.tase_map.specs.Linked.{link_octets}
+use Rattle.conn_service.specs.PeerEnd.{peer_end}
 
 -- ---- the events
 
@@ -27,36 +32,61 @@ pub record IsAllTaken (setup : Setup) (past : Past) (who : ℕ) (items : List It
   pub events : reverse (events_by who past) ≡ asks_of setup.centre items
   pub by_peer : peer_end setup.centre items ≡ end
 
--- why the node's part of a connection is ended at an event, by how the node refuses that: it was
--- stopped, or its history is full; each other end comes from outside, at any event
-abbrev pub IsCutFor : ConnEnd → Option StepFault → Type 0
-IsCutFor conn_ends.Stopped refusal = (place : ℕ) × (refusal ≡ Some (faults.Stopped place))
-IsCutFor (conn_ends.Full weight limit) refusal = refusal ≡ Some (faults.HistoryFull weight limit)
-IsCutFor (conn_ends.TooLong len detail) refusal = Unit {0}
-IsCutFor (conn_ends.Overflow pending limit) refusal = Unit {0}
-IsCutFor conn_ends.LinkFault refusal = Unit {0}
-IsCutFor conn_ends.Memory refusal = Unit {0}
-IsCutFor conn_ends.Finished refusal = ⊥
-IsCutFor conn_ends.PeerEnd refusal = ⊥
-IsCutFor conn_ends.Declined refusal = ⊥
-IsCutFor (conn_ends.Refused fault) refusal = ⊥
+-- how a node refuses the first of these events, if there is one
+abbrev pub first_refused : Setup → Past → ℕ → List EventKind → Option StepFault
+first_refused setup past who [] = None
+first_refused setup past who (event ∷ events) = refusal_of setup past who event
+
+-- the most octets of a PDU, as agreed on in what the link gave
+abbrev pub detail_given : List Item → ℤ
+detail_given items = detail_of (first_in connect_in (reading_of (text_given items)).told)
+
+-- the seat's last event was a take, and the first of its reports that is longer than was agreed on
+-- has so many octets
+pub record TakesTooLong (setup : Setup) (past : Past) (who : ℕ) (items : List Item)
+    (len detail : ℕ) : Type 0 where
+  pub later : Past
+  pub before : Past
+  pub past_is : past ≡ later ++ with_event who events.Take before
+  pub last : events_by who later ≡ []
+  pub reports : List Report
+  pub answer : answer_of setup before who events.Take ≡ answers.Reports reports
+  pub len_is : first_too_long (detail_given items) reports ≡ Some len
+  pub detail_is : detail ≡ unsigned_abs (detail_given items)
+
+-- why a connection is cut, by how the node refuses the next event: it was stopped, or its history is
+-- full; a report is too long; more octets wait than may; the link has failed, or memory ran out, at
+-- any event
+abbrev pub IsCutFor : Setup → Past → ℕ → List Item → ConnEnd → Option StepFault → Type 0
+IsCutFor setup past who items conn_ends.Stopped refusal =
+    (place : ℕ) × (refusal ≡ Some (faults.Stopped place))
+IsCutFor setup past who items (conn_ends.Full weight limit) refusal =
+    refusal ≡ Some (faults.HistoryFull weight limit)
+IsCutFor setup past who items (conn_ends.TooLong len detail) refusal =
+    TakesTooLong setup past who items len detail
+IsCutFor setup past who items (conn_ends.Overflow pending limit) refusal = limit < pending
+IsCutFor setup past who items conn_ends.LinkFault refusal = Unit {0}
+IsCutFor setup past who items conn_ends.Memory refusal = Unit {0}
+IsCutFor setup past who items conn_ends.Finished refusal = ⊥
+IsCutFor setup past who items conn_ends.PeerEnd refusal = ⊥
+IsCutFor setup past who items conn_ends.Declined refusal = ⊥
+IsCutFor setup past who items (conn_ends.Refused fault) refusal = ⊥
 
 -- a close, where an association is open
 abbrev pub close_of : Option Key → List EventKind
 close_of None = []
 close_of (Some key) = events.Close ∷ []
 
--- the events that the link asks were taken up to one, at which the connection was cut: its
--- association was closed then, if one was open, and none is open since
+-- the first events that the link asks were taken, and then the connection was cut: its association
+-- was closed, if one was open, and none is open since
 pub record IsCutOff (setup : Setup) (past : Past) (who : ℕ) (items : List Item)
     (end : ConnEnd) : Type 0 where
-  pub next : EventKind
-  pub others : List EventKind
   pub later : Past
   pub before : Past
   pub past_is : past ≡ later ++ before
-  pub asks_are : asks_of setup.centre items ≡ reverse (events_by who before) ++ next ∷ others
-  pub cause : IsCutFor end (refusal_of setup before who next)
+  pub others : List EventKind
+  pub asks_are : asks_of setup.centre items ≡ reverse (events_by who before) ++ others
+  pub cause : IsCutFor setup before who items end (first_refused setup before who others)
   pub closed : events_by who later ≡ close_of (association_in before who)
   pub none_open : association_in past who ≡ None
 

@@ -7,7 +7,7 @@ ghost use Rattle.tase_views.specs.OwnTable.{own_table};
 ghost use Rattle.tase_views.specs.View.{view_of};
 ghost use Rattle.tase_map.specs.Inputs.{Item};
 ghost use Rattle.tase_map.specs.Asks.{is_peers};
-ghost use Rattle.conn_service.specs.Linked.{opened_in, link_octets};
+ghost use Rattle.tase_map.specs.Linked.{opened_in, link_octets};
 
 /// Two worlds. Two centres with two histories, two links that give the same at any two seats: where
 /// the associations that these have opened last are of peers with the same own table and the same

@@ -21,11 +21,12 @@ use Rattle.tase_conn.specs.declared.stage.PendingEvent.TheVariants as askeds
 use Rattle.tase_conn.specs.declared.stage.Progress.{Progress}
 use Rattle.tase_conn.specs.declared.stage.Progress.TheVariants as progresses
 use Rattle.tase_conn.specs.Talking.{Talking, IsFree, MayLeave, IsResting, conn_end_in, is_open_stage}
-use Rattle.tase_conn.specs.Places.{ConnStandsAt, IsPlaced, GoesBy}
+use Rattle.tase_conn.specs.Places.{ConnStandsAt, IsPlaced, GoesBy, KeepsPlace, GainsItem}
 use Rattle.tase_conn.specs.Taken.{TakesIn, SendsSome}
-use Rattle.tase_conn.specs.Wanting.{Wants, WantsBy, WaitsFor, progress_closing}
+use Rattle.tase_conn.specs.Wanting.{WantsSo, WantsBy, WaitsFor, progress_closing}
 use Rattle.tase_conn.specs.Answering.{IsAnswerTo, IsAnswerFor, progress_told, progress_closed}
-use Rattle.tase_conn.specs.Answering.{progress_left, parting_octets}
+use Rattle.tase_conn.specs.Answering.{progress_left, progress_reported, parting_octets}
+use Rattle.tase_conn.specs.Answering.{TellsAnswer}
 use Rattle.tase_conn.specs.Leaving.{IsLeft, Parts}
 use Rattle.conn_tests.specs.Playing.{IsReady, IsAtRest, IsAwaited, HasWanted, IsAnswerOf}
 
@@ -166,12 +167,21 @@ left_free stages.Early end = tt
 left_free (stages.Open peer detail) end = tt
 left_free (stages.Closed peer) end = tt
 
+reported_free : (stage : Stage) (long : Option ℕ) → IsFree (progress_reported stage long)
+reported_free stage None = tt
+reported_free stage (Some len) = left_free stage _
+
 told_free : (progress : Progress) (stage : Stage) (told : Result Answer StepFault)
     → IsAnswerFor progress told → IsFree (progress_told progress stage told)
 told_free (progresses.Running askeds.Nothing) stage (Ok answer) f = tt
 told_free (progresses.Running (askeds.Opening peer granted)) stage (Ok answer) f = tt
 told_free (progresses.Running (askeds.Requesting invoke)) stage (Ok answer) f = tt
-told_free (progresses.Running askeds.Taking) stage (Ok answer) f = tt
+told_free (progresses.Running askeds.Taking) stage (Ok (answers.Reports reports)) f =
+    reported_free stage _
+told_free (progresses.Running askeds.Taking) stage (Ok (answers.Opened key)) f = absurd f
+told_free (progresses.Running askeds.Taking) stage (Ok (answers.Reply reply)) f = absurd f
+told_free (progresses.Running askeds.Taking) stage (Ok answers.Closed) f = absurd f
+told_free (progresses.Running askeds.Taking) stage (Ok answers.Noted) f = absurd f
 told_free (progresses.Running (askeds.Closing cause)) stage (Ok answer) f = closed_free cause
 told_free (progresses.Running asked) stage (Err fault) f = left_free stage _
 told_free progresses.Refused stage told f = absurd f
@@ -181,9 +191,7 @@ told_free (progresses.Cut end) stage told f = absurd f
 
 pub told_ready : {A E : Type 0} (r : Result A E) (old new : Talking)
     (told : Result Answer StepFault) → IsPlaced old → IsAnswerFor old.progress told
-    → ((rows : CentreRows) (items : List Item) (heard : List Arrival) (turns : List Turn)
-    → ConnStandsAt rows items heard turns old → OnOk r (ConnStandsAt rows items heard turns new))
-    → OnOk r (new.progress ≡ progress_told old.progress old.stage told) → OnOk r (IsReady new)
+    → KeepsPlace old new → OnOk r (TellsAnswer told old new) → OnOk r (IsReady new)
 told_ready (Ok x) old new told p f stands e = record {
   placed = record {
     rows = p.rows;
@@ -192,7 +200,7 @@ told_ready (Ok x) old new told p f stands e = record {
     turns = p.turns;
     stands = stands p.rows p.items p.told p.turns p.stands;
   };
-  free = subst IsFree (sym e) (told_free old.progress old.stage told f);
+  free = subst IsFree (sym e.progress) (told_free old.progress old.stage told f);
 }
 told_ready (Err x) old new told p f stands e = tt
 
@@ -282,9 +290,7 @@ wanted_by (progresses.Cut end) None rows items told turns old new e s f w =
     })
 
 pub wanted : {E : Type 0} (r : Result (Option EventKind) E) (old new : Talking) → IsReady old
-    → ((rows : CentreRows) (items : List Item) (told : List Arrival) (turns : List Turn)
-    → ConnStandsAt rows items told turns old
-    → IfOk r (λ event. Wants rows items told turns event old new))
+    → IfOk r (λ event. WantsSo event old new)
     → IfOk r (λ event. HasWanted event new)
 wanted (Ok event) old new r w = let p = r.placed in
     wanted_by old.progress event p.rows p.items p.told p.turns old new refl p.stands r.free
@@ -294,8 +300,7 @@ wanted (Err x) old new r w = tt
 -- ---- what is taken in, and what was sent
 
 stood : (item : Item) (old new : Talking) → IsPlaced old
-    → ((rows : CentreRows) (items : List Item) (told : List Arrival) (turns : List Turn)
-    → ConnStandsAt rows items told turns old → ConnStandsAt rows (items ++ item ∷ []) told turns new)
+    → GainsItem item old new
     → IsPlaced new
 stood item old new p s = record {
   rows = p.rows;
@@ -306,8 +311,7 @@ stood item old new p s = record {
 }
 
 pub taken_ready : (item : Item) (old new : Talking) → IsAtRest old
-    → ((rows : CentreRows) (items : List Item) (told : List Arrival) (turns : List Turn)
-    → ConnStandsAt rows items told turns old → ConnStandsAt rows (items ++ item ∷ []) told turns new)
+    → GainsItem item old new
     → TakesIn old new → IsReady new
 taken_ready item old new r s e = record {
   placed = stood item old new r.placed s;
@@ -315,9 +319,7 @@ taken_ready item old new r s e = record {
 }
 
 pub taken : {A E : Type 0} (r : Result A E) (item : Item) (old new : Talking) → IsAtRest old
-    → ((rows : CentreRows) (items : List Item) (told : List Arrival) (turns : List Turn)
-    → ConnStandsAt rows items told turns old
-    → OnOk r (ConnStandsAt rows (items ++ item ∷ []) told turns new))
+    → OnOk r (GainsItem item old new)
     → OnOk r (TakesIn old new) → OnOk r (IsReady new)
 taken (Ok x) item old new r s e = taken_ready item old new r s e
 taken (Err x) item old new r s e = tt
@@ -326,8 +328,7 @@ pub at_rest_ready : (v : Talking) → IsAtRest v → IsReady v
 at_rest_ready v r = record { placed = r.placed; free = r.resting.free }
 
 placed_on : (old new : Talking) → IsPlaced old
-    → ((rows : CentreRows) (items : List Item) (told : List Arrival) (turns : List Turn)
-    → ConnStandsAt rows items told turns old → ConnStandsAt rows items told turns new)
+    → KeepsPlace old new
     → IsPlaced new
 placed_on old new p s = record {
   rows = p.rows;
@@ -338,8 +339,7 @@ placed_on old new p s = record {
 }
 
 pub sent_rests : (old new : Talking) → IsAtRest old
-    → ((rows : CentreRows) (items : List Item) (told : List Arrival) (turns : List Turn)
-    → ConnStandsAt rows items told turns old → ConnStandsAt rows items told turns new)
+    → KeepsPlace old new
     → SendsSome old new → IsAtRest new
 sent_rests old new r s e = record {
   placed = placed_on old new r.placed s;
@@ -374,8 +374,7 @@ given_up false end octets old new e =
     subst IsFree (sym (ap (λ (v : Talking). v.progress) e.is)) tt
 
 pub left_ready : (end : ConnEnd) (old new : Talking) → IsAtRest old
-    → ((rows : CentreRows) (items : List Item) (told : List Arrival) (turns : List Turn)
-    → ConnStandsAt rows items told turns old → ConnStandsAt rows items told turns new)
+    → KeepsPlace old new
     → IsLeft end old new → IsReady new
 left_ready end old new r s l = record {
   placed = placed_on old new r.placed s;

@@ -135,6 +135,8 @@ pub record Asking (rows : CentreRows) (told : List Arrival) (turns : List Turn) 
   pub quiet : (setup : AssociationSetup) → quiet_at rows setup turns turn ≡ []
   pub waits : WaitsFor (progresses.Running asked) event
   pub due : IsAskedAt asked stage None
+  pub passed : (behind : Behind) → IsPassed (Some coming) behind askeds.Nothing
+      → IsPassed None behind asked
 
 -- what was read stays read
 read_on : (b : Behind) (items : List Item) (told : List Arrival) (seen : List Turn)
@@ -215,7 +217,7 @@ runs_asking rows items told turns turn event stage asked coming v at empty a r =
           (has_read items told turns (turn ∷ []) v.held (progresses.Running asked)
           (holding coming v) coming (ap (λ (t : Option Turn). turn_listed t) a.turn_is) r.reads);
       due = held (λ h. IfSome h (IsDue told v.stage)) tt;
-      passed = held (λ h. IsPassed h v.behind) tt;
+      passed = held (λ h. IsPassed h v.behind asked) (a.passed v.behind r.passed);
       begun = on (λ s. list_any (begins rows) (turns ++ turn ∷ []) ≡ has_begun s asked)
           (any_on (begins rows) turns turn (has_begun stage askeds.Nothing)
           (off (λ s. list_any (begins rows) turns ≡ has_begun s askeds.Nothing) r.begun)
@@ -385,7 +387,7 @@ runs_passing rows items told turns more coming v empty a r =
           (has_read items told turns more v.held v.progress (holding coming v) coming a.turns_are
           r.reads);
       due = held (λ h. IfSome h (IsDue told v.stage)) tt;
-      passed = held (λ h. IsPassed h v.behind) tt;
+      passed = held (λ h. IsPassed h v.behind askeds.Nothing) tt;
       begun = a.begun;
       finished = a.finished;
       ending = a.ending;

@@ -1,5 +1,5 @@
 -- Where a connection stands behind the node's answers.
-use Rattle.std.proofs.Common.{◌≡◌, ℕ, Bool, true, false, List, [], ◌++◌}
+use Rattle.std.proofs.Common.{◌≡◌, ℕ, Bool, true, false, List, [], ◌∷◌, ◌++◌}
 use Rattle.std.proofs.Common.{ℤ, ◌≤ℤ◌, Option, Some, None, Result, Ok, Err, MatchOption, MatchBool}
 use Rattle.std.proofs.Common.{refl, sym, ap, subst, ◌∙◌, append_assoc, inl, inr, arith}
 use Rattle.std.specs.Prelude.{Vec, if◌then◌else◌, IfSome, OnOk, OnErr, bytes_eq}
@@ -34,13 +34,14 @@ use Rattle.stack_assoc.specs.Saying.{leaving}
 use Rattle.stack_assoc.proofs.SaidMore.{stands_standing, stands_said}
 use Rattle.tase_views.specs.declared.reply.Answer.{Answer}
 use Rattle.tase_views.specs.declared.reply.Answer.TheVariants as answers
+use Rattle.tase_views.specs.declared.reply.Report.{Report}
 use Rattle.tase_views.specs.declared.fault.StepFault.{StepFault}
 use Rattle.tase_map.specs.Inputs.{Item, text_given}
 use Rattle.tase_map.specs.Readings.{Reading, reading_of}
 use Rattle.tase_map.specs.Turns.{Turn, turns_of}
 use Rattle.tase_map.specs.Asks.{is_last, up_to_last}
 use Rattle.tase_map.specs.Replied.{pdu_of_reply}
-use Rattle.tase_map.specs.Out.{said, within, release_wire, detail_of}
+use Rattle.tase_map.specs.Out.{said, within, release_wire, detail_of, reports_said, first_too_long}
 use Rattle.tase_map.proofs.ReadingLaws.{reading_only}
 use Rattle.tase_conn.specs.declared.stage.ConnEnd.{ConnEnd}
 use Rattle.tase_conn.specs.declared.stage.ConnEnd.TheVariants as conn_ends
@@ -62,10 +63,12 @@ use Rattle.tase_conn.specs.Places.{IsPeer, HasAbortRoom, RoomBy, ConnStandsAt, I
 use Rattle.tase_conn.specs.Wanting.{IsLeaving}
 use Rattle.tase_conn.specs.Answering.{IsAnswerTo, IsAnswerFor, detail_in, stage_closed, stage_told}
 use Rattle.tase_conn.specs.Answering.{end_of_fault, progress_closed, progress_by, progress_told, parting_octets}
-use Rattle.tase_conn.specs.Answering.{closed_said}
+use Rattle.tase_conn.specs.Answering.{closed_said, unnoted}
 use Rattle.tase_conn.specs.Answering.{detail_at, answer_said, told_said}
+use Rattle.tase_conn.specs.Answering.{progress_reported}
 use Rattle.tase_conn.specs.Leaving.{finished, Parts, IsLeft, MayAnswer, AddsAnswer, EndsFor}
 use Rattle.tase_conn.specs.Noting.{with_nothing_waiting, with_open, answered, NotesAsked, NotesAnswer}
+use Rattle.tase_conn.specs.Noting.{with_reports_said}
 use Rattle.tase_conn.proofs.LastTurns.{up_to_whole}
 use Rattle.tase_conn.proofs.SeenTurns.{seen_front}
 use Rattle.tase_conn.proofs.ToldAll.{told_open}
@@ -303,15 +306,49 @@ requesting_noted rows items told turns invoke pdu centre course held behind (sta
 
 -- ---- a take is answered
 
-taking_noted : (rows : CentreRows) (items : List Item) (told : List Arrival) (turns : List Turn)
+-- these octets were said, and one report was too long, or none
+abbrev with_octets : Option ℕ → List ℕ → Talking → Talking
+with_octets long octets v = record v {
+  progress = progress_reported v.stage long;
+  out = v.out ++ octets;
+}
+
+-- no kind of report is made yet, so nothing is said of any
+none_reported : (reports : List Report) (v : Talking)
+    → with_nothing_waiting v ≡ with_reports_said reports v
+none_reported [] v = ap (λ (out : List ℕ). record v {
+  progress = progresses.Running askeds.Nothing;
+  out = out;
+}) (sym (append-nil v.out))
+none_reported (report ∷ reports) v = elim report [ ]
+
+pub taking_said : (answer : Answer) (v : Talking) → IsAnswerTo askeds.Taking (Ok answer)
+    → NotesAsked askeds.Taking answer v (with_nothing_waiting v)
+taking_said (answers.Reports reports) v right = none_reported reports v
+taking_said (answers.Opened key) v right = absurd right
+taking_said (answers.Reply reply) v right = absurd right
+taking_said answers.Closed v right = absurd right
+taking_said answers.Noted v right = absurd right
+
+taking_noted : (long : Option ℕ) (octets : List ℕ) (rows : CentreRows) (items : List Item)
+    (told : List Arrival) (turns : List Turn)
     (centre : CentreRows) (course : Course) (held : Option Coming) (behind : Behind)
     (stage : Stage) (out : List ℕ) (farewell : Vec ℕ Global) (new : Talking)
     → ConnStandsAt rows items told turns
     (talking centre course held behind stage (progresses.Running askeds.Taking) out farewell)
-    → new ≡ with_nothing_waiting (talking centre course held behind stage (progresses.Running askeds.Taking) out
-    farewell) → ConnStandsAt rows items told turns new
-taking_noted rows items told turns centre course None behind (stages.Open peer detail) out farewell
-    new s e =
+    → new ≡ with_octets long octets
+    (talking centre course held behind stage (progresses.Running askeds.Taking) out farewell)
+    → ConnStandsAt rows items told turns new
+taking_noted (Some len) octets rows items told turns centre course None behind
+    (stages.Open peer detail) out farewell new s e =
+    subst (λ (v : Talking). ConnStandsAt rows items told turns v) (sym e) (record {
+      rows_are = s.rows_are;
+      peer = s.peer;
+      goes = refl;
+      room = record { room = s.room.room; unsaid = s.room.unsaid };
+    })
+taking_noted None octets rows items told turns centre course None behind
+    (stages.Open peer detail) out farewell new s e =
     let old : Talking = talking centre course None behind (stages.Open peer detail)
     (progresses.Running askeds.Taking) out farewell in
     subst (λ (v : Talking). ConnStandsAt rows items told turns v) (sym e) (record {
@@ -320,8 +357,8 @@ taking_noted rows items told turns centre course None behind (stages.Open peer d
       goes = record {
         stands = s.goes.stands;
         fault = s.goes.fault;
-        reads = reads_moved course.fault behind items told (turns ++ []) old (with_nothing_waiting old) (λ x. x)
-            refl s.goes.reads;
+        reads = reads_moved course.fault behind items told (turns ++ []) old
+            (with_octets None octets old) (λ x. x) refl s.goes.reads;
         due = tt;
         passed = tt;
         begun = s.goes.begun;
@@ -336,12 +373,12 @@ taking_noted rows items told turns centre course None behind (stages.Open peer d
       };
       room = record { room = s.room.room; unsaid = s.room.unsaid };
     })
-taking_noted rows items told turns centre course (Some coming) behind (stages.Open peer detail) out
+taking_noted long octets rows items told turns centre course (Some coming) behind
+    (stages.Open peer detail) out farewell new s e = absurd s.goes.waits
+taking_noted long octets rows items told turns centre course held behind stages.Early out farewell
+    new s e = absurd s.goes.waits
+taking_noted long octets rows items told turns centre course held behind (stages.Closed peer) out
     farewell new s e = absurd s.goes.waits
-taking_noted rows items told turns centre course held behind stages.Early out farewell new s e =
-    absurd s.goes.waits
-taking_noted rows items told turns centre course held behind (stages.Closed peer) out farewell new
-    s e = absurd s.goes.waits
 
 -- ---- a close is answered
 
@@ -532,9 +569,19 @@ noted_asked (askeds.Requesting invoke) answers.Closed rows items told turns cent
     behind stage out farewell new s right n = absurd right
 noted_asked (askeds.Requesting invoke) answers.Noted rows items told turns centre course held
     behind stage out farewell new s right n = absurd right
-noted_asked askeds.Taking answer rows items told turns centre course held behind stage out farewell
-    new s right n =
-    taking_noted rows items told turns centre course held behind stage out farewell new s n
+noted_asked askeds.Taking (answers.Reports reports) rows items told turns centre course held behind
+    stage out farewell new s right n =
+    taking_noted (first_too_long (detail_at stage) reports)
+    (reports_said course.setup (detail_at stage) reports) rows items told turns centre course held
+    behind stage out farewell new s n
+noted_asked askeds.Taking (answers.Opened key) rows items told turns centre course held behind stage
+    out farewell new s right n = absurd right
+noted_asked askeds.Taking (answers.Reply reply) rows items told turns centre course held behind
+    stage out farewell new s right n = absurd right
+noted_asked askeds.Taking answers.Closed rows items told turns centre course held behind stage out
+    farewell new s right n = absurd right
+noted_asked askeds.Taking answers.Noted rows items told turns centre course held behind stage out
+    farewell new s right n = absurd right
 noted_asked (askeds.Closing cause) answer rows items told turns centre course held behind stage
     out farewell new s right n =
     closing_noted cause rows items told turns centre course held behind stage out farewell new s n
@@ -639,7 +686,9 @@ asked_said (askeds.Requesting invoke) (answers.Reports reports) old new none rig
 asked_said (askeds.Requesting invoke) answers.Closed old new none right n = absurd right
 asked_said (askeds.Requesting invoke) answers.Noted old new none right n = absurd right
 asked_said askeds.Taking (answers.Reports reports) old new none right n =
-    ap (λ (v : Talking). pending_of v) n ∙ sym (append-nil (pending_of old))
+    ap (λ (v : Talking). pending_of v) n
+    ∙ behind_none old.out (reports_said old.course.setup (detail_at old.stage) reports)
+    old.farewell.items none
 asked_said askeds.Taking (answers.Opened key) old new none right n = absurd right
 asked_said askeds.Taking (answers.Reply reply) old new none right n = absurd right
 asked_said askeds.Taking answers.Closed old new none right n = absurd right
@@ -677,7 +726,7 @@ closed_progress (causes.Broken fault) old new n = ap (λ (v : Talking). v.progre
 
 asked_progress : (asked : PendingEvent) (answer : Answer) (old new : Talking)
     → IsAnswerTo asked (Ok answer) → NotesAsked asked answer old new
-    → new.progress ≡ progress_by asked
+    → new.progress ≡ progress_by old.stage asked answer
 asked_progress (askeds.Opening peer granted) answer old new right n =
     ap (λ (v : Talking). v.progress) n
 asked_progress (askeds.Requesting invoke) (answers.Reply reply) old new right n =
@@ -686,7 +735,12 @@ asked_progress (askeds.Requesting invoke) (answers.Opened key) old new right n =
 asked_progress (askeds.Requesting invoke) (answers.Reports reports) old new right n = absurd right
 asked_progress (askeds.Requesting invoke) answers.Closed old new right n = absurd right
 asked_progress (askeds.Requesting invoke) answers.Noted old new right n = absurd right
-asked_progress askeds.Taking answer old new right n = ap (λ (v : Talking). v.progress) n
+asked_progress askeds.Taking (answers.Reports reports) old new right n =
+    ap (λ (v : Talking). v.progress) n
+asked_progress askeds.Taking (answers.Opened key) old new right n = absurd right
+asked_progress askeds.Taking (answers.Reply reply) old new right n = absurd right
+asked_progress askeds.Taking answers.Closed old new right n = absurd right
+asked_progress askeds.Taking answers.Noted old new right n = absurd right
 asked_progress (askeds.Closing cause) answer old new right n =
     closed_progress cause (record old { stage = stage_closed old.stage }) new n
 asked_progress askeds.Nothing answer old new right n = absurd right
@@ -907,10 +961,8 @@ peer_told (progresses.Cut end) told rows items heard turns v g right p = absurd 
 -- where memory is wanting for an answer the connection may be given up
 pub refused_stands : (told : Result Answer StepFault) (rows : CentreRows) (items : List Item)
     (heard : List Arrival) (turns : List Turn) (old new : Talking) → IsAnswerFor old.progress told
-    → new ≡ record old {
-      progress = progresses.Refused;
-      stage = stage_told old.progress told old.stage;
-    } → ConnStandsAt rows items heard turns old → ConnStandsAt rows items heard turns new
+    → new ≡ unnoted told old → ConnStandsAt rows items heard turns old
+    → ConnStandsAt rows items heard turns new
 refused_stands told rows items heard turns old new right e s =
     let room = room_answered old.progress told old right s.room in
     subst (λ (v : Talking). ConnStandsAt rows items heard turns v) (sym e) (record {
@@ -939,6 +991,7 @@ refused_left told fault other end old new e f is l =
     (is ∙ ap (λ (x : StepFault). end_of_fault x) (ap (λ (r : Result Answer StepFault).
     fault_or fault r) (sym e ∙ f))) l
 
-pub on_err : (T E P Q : Type 0) (result : Result T E) → (P → Q) → OnErr result P → OnErr result Q
-on_err T E P Q (Ok x) f p = tt
-on_err T E P Q (Err e) f p = f p
+pub on_both : (T E P Q R : Type 0) (result : Result T E) → (P → R) → (Q → R) → OnOk result P
+    → OnErr result Q → R
+on_both T E P Q R (Ok x) f g p q = f p
+on_both T E P Q R (Err e) f g p q = g q

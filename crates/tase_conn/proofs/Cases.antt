@@ -77,6 +77,7 @@ asks_open rows told turns title initiate offered peer stages.Early due place g g
   quiet = λ setup. ap (λ (p : Option ℕ). if is_some p then [] else refusal_said setup) place;
   waits = refl;
   due = tt;
+  passed = λ b p. tt;
 }
 asks_open rows told turns title initiate offered peer (stages.Open p d) due place g goes =
     absurd due
@@ -153,6 +154,7 @@ asks_request rows told turns invoke request (stages.Open p d) due agreed goes = 
   quiet = λ setup. refl;
   waits = tt;
   due = tt;
+  passed = λ b p. tt;
 }
 
 pub asks_badly : (rows : CentreRows) (told : List Arrival) (turns : List Turn) (invoke : ℕ)
@@ -177,6 +179,7 @@ asks_badly rows told turns invoke (stages.Open p d) due agreed goes = record {
   quiet = λ setup. refl;
   waits = tt;
   due = tt;
+  passed = λ b p. tt;
 }
 
 pub asks_take : (rows : CentreRows) (told : List Arrival) (turns : List Turn) (peer : ℕ) (detail : ℤ)
@@ -199,6 +202,7 @@ asks_take rows told turns peer detail agreed is goes = record {
   quiet = λ setup. refl;
   waits = tt;
   due = tt;
+  passed = λ b p. p;
 }
 
 close_for : (b : Bool) → b ≡ true → event_if b events.Close ≡ events.Close ∷ []
@@ -231,6 +235,7 @@ asks_close rows told turns causes.Concluded peer detail agreed is goes shut = re
   quiet = λ setup. refl;
   waits = tt;
   due = tt;
+  passed = λ b p. tt;
 }
 asks_close rows told turns causes.Released peer detail agreed is goes shut = record {
   turn_is = refl;
@@ -247,6 +252,7 @@ asks_close rows told turns causes.Released peer detail agreed is goes shut = rec
   quiet = λ setup. quiet_open rows turns (release_wire setup) is;
   waits = tt;
   due = tt;
+  passed = λ b p. tt;
 }
 asks_close rows told turns causes.Aborted peer detail agreed is goes shut = record {
   turn_is = refl;
@@ -263,6 +269,7 @@ asks_close rows told turns causes.Aborted peer detail agreed is goes shut = reco
   quiet = λ setup. refl;
   waits = tt;
   due = tt;
+  passed = λ b p. tt;
 }
 asks_close rows told turns causes.LinkEnd peer detail agreed is goes shut = record {
   turn_is = refl;
@@ -279,6 +286,7 @@ asks_close rows told turns causes.LinkEnd peer detail agreed is goes shut = reco
   quiet = λ setup. refl;
   waits = tt;
   due = tt;
+  passed = λ b p. tt;
 }
 asks_close rows told turns (causes.Broken fault) peer detail agreed is goes shut = record {
   turn_is = refl;
@@ -295,6 +303,7 @@ asks_close rows told turns (causes.Broken fault) peer detail agreed is goes shut
   quiet = λ setup. quiet_open rows turns (abort_wire setup) is;
   waits = tt;
   due = tt;
+  passed = λ b p. tt;
 }
 
 -- ---- what ends the connection

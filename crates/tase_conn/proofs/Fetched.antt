@@ -121,7 +121,7 @@ pub record IsHeld (items : List Item) (told later : List Arrival) (turns : List 
   pub fault : new.course.fault ≡ fault_held (Some coming)
   pub reads : HasRead items (told ++ later) (turns ++ turns_held (Some coming)) new
   pub due : IsDue (told ++ later) stage coming
-  pub passed : IsPassed (Some coming) new.behind
+  pub passed : IsPassed (Some coming) new.behind askeds.Nothing
   pub standing : new.course.standing ≡ standing_by stage askeds.Nothing (Some coming)
   pub connect : connected (told ++ later) ≡ is_connected stage askeds.Nothing (Some coming)
   pub conclude : has_concluded stage askeds.Nothing (Some coming) ≡ true
@@ -330,7 +330,7 @@ due_always told stage (comings.Fault f) n = tt
 due_always told stage comings.Pause n = tt
 due_always told stage comings.End n = tt
 
-passed_always : (coming : Coming) → IsPassed (Some coming) behinds.Nothing
+passed_always : (coming : Coming) → IsPassed (Some coming) behinds.Nothing askeds.Nothing
 passed_always (comings.Input input) = tt
 passed_always (comings.Fault fault) = tt
 passed_always comings.Pause = refl

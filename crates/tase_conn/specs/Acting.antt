@@ -109,11 +109,15 @@ GoesDown _ before after = Unit {0}
 
 -- ---- acting
 
--- wherever it stands with this to be acted on, it goes a step from there
+-- wherever it stood, it has gone a step from there
+abbrev pub StepsSo : Step → Talking → Talking → Type 0
+StepsSo step old new = (rows : CentreRows) (items : List Item) (told : List Arrival)
+    (turns : List Turn) → ConnStandsAt rows items told turns old
+    → StepsBy rows items told turns step old new
+
+-- wherever it stood with this to be acted on
 abbrev pub ActsOn : Coming → Talking → Step → Talking → Type 0
-ActsOn coming old step new = (rows : CentreRows) (items : List Item) (told : List Arrival)
-    (turns : List Turn) → ConnStandsAt rows items told turns (holding coming old)
-    → StepsBy rows items told turns step (holding coming old) new
+ActsOn coming old step new = StepsSo step (holding coming old) new
 
 -- a step that goes on changes nothing
 abbrev pub StaysSo : Step → Talking → Talking → Type 0

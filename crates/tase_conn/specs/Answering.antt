@@ -1,5 +1,6 @@
 -- What a connection makes of the node's answers.
-use Rattle.std.specs.Prelude.{ℕ, ℤ, Bool, true, false, if◌then◌else◌, List, []}
+use Rattle.std.specs.Prelude.{◌≡◌, ℕ, ℤ, unsigned_abs, Bool, true, false}
+use Rattle.std.specs.Prelude.{if◌then◌else◌, List, [], ◌++◌}
 use Rattle.std.specs.Prelude.{Option, Some, None, Result, Ok, Err}
 use Rattle.tpkt_cotp.specs.Written.{wire}
 use Rattle.mms_services.specs.declared.initiate.Initiate.{Initiate}
@@ -10,10 +11,12 @@ use Rattle.stack_assoc.specs.Courses.{Course, is_accepted}
 use Rattle.bilateral.specs.Rows.{CentreRows, table_of}
 use Rattle.tase_views.specs.declared.reply.Answer.{Answer}
 use Rattle.tase_views.specs.declared.reply.Answer.TheVariants as answers
+use Rattle.tase_views.specs.declared.reply.Report.{Report}
 use Rattle.tase_views.specs.declared.fault.StepFault.{StepFault}
 use Rattle.tase_views.specs.declared.fault.StepFault.TheVariants as faults
 use Rattle.tase_map.specs.Replied.{pdu_of_reply}
-use Rattle.tase_map.specs.Out.{said, within, release_wire, abort_wire}
+use Rattle.tase_map.specs.Out.{said, within, reports_said, release_wire, abort_wire}
+use Rattle.tase_map.specs.Out.{first_too_long}
 use Rattle.tase_conn.specs.declared.stage.ConnEnd.{ConnEnd}
 use Rattle.tase_conn.specs.declared.stage.ConnEnd.TheVariants as conn_ends
 use Rattle.tase_conn.specs.declared.stage.Stage.{Stage}
@@ -24,7 +27,7 @@ use Rattle.tase_conn.specs.declared.stage.PendingEvent.{PendingEvent}
 use Rattle.tase_conn.specs.declared.stage.PendingEvent.TheVariants as askeds
 use Rattle.tase_conn.specs.declared.stage.Progress.{Progress}
 use Rattle.tase_conn.specs.declared.stage.Progress.TheVariants as progresses
-use Rattle.tase_conn.specs.Talking.{is_open_stage}
+use Rattle.tase_conn.specs.Talking.{Talking, pending_of, is_open_stage}
 
 -- ---- which answers may be told
 
@@ -60,6 +63,10 @@ detail_in granted = detail_or granted.detail
     detail_or None = MOST_DETAIL
     detail_or (Some detail) = detail
 
+abbrev pub detail_at : Stage → ℤ
+detail_at (stages.Open peer detail) = detail
+detail_at _ = MOST_DETAIL
+
 abbrev pub stage_closed : Stage → Stage
 stage_closed (stages.Open peer detail) = stages.Closed peer
 stage_closed stage = stage
@@ -90,17 +97,25 @@ progress_closed causes.Aborted = progresses.Ended conn_ends.PeerEnd
 progress_closed causes.LinkEnd = progresses.Ended conn_ends.PeerEnd
 progress_closed (causes.Broken fault) = progresses.Ended (conn_ends.Refused fault)
 
-abbrev pub progress_by : PendingEvent → Progress
-progress_by (askeds.Closing cause) = progress_closed cause
-progress_by _ = progresses.Running askeds.Nothing
-
 -- where it is left, an open association is closed first
 abbrev pub progress_left : Stage → ConnEnd → Progress
 progress_left stage end =
     if is_open_stage stage then progresses.Leaving end false else progresses.Cut end
 
+-- behind reports it goes on; it is left for one that is too long
+abbrev pub progress_reported : Stage → Option ℕ → Progress
+progress_reported stage None = progresses.Running askeds.Nothing
+progress_reported stage (Some len) =
+    progress_left stage (conn_ends.TooLong len (unsigned_abs (detail_at stage)))
+
+abbrev pub progress_by : Stage → PendingEvent → Answer → Progress
+progress_by stage askeds.Taking (answers.Reports reports) =
+    progress_reported stage (first_too_long (detail_at stage) reports)
+progress_by stage (askeds.Closing cause) answer = progress_closed cause
+progress_by stage _ answer = progresses.Running askeds.Nothing
+
 abbrev pub progress_told : Progress → Stage → Result Answer StepFault → Progress
-progress_told (progresses.Running asked) stage (Ok answer) = progress_by asked
+progress_told (progresses.Running asked) stage (Ok answer) = progress_by stage asked answer
 progress_told (progresses.Running asked) stage (Err fault) =
     progress_left stage (end_of_fault fault)
 progress_told (progresses.Leaving end asked) stage told = progresses.Cut end
@@ -129,15 +144,13 @@ closed_said course causes.Aborted = []
 closed_said course causes.LinkEnd = []
 closed_said course (causes.Broken fault) = aborted course
 
-abbrev pub detail_at : Stage → ℤ
-detail_at (stages.Open peer detail) = detail
-detail_at _ = MOST_DETAIL
-
 abbrev pub answer_said : Course → Stage → PendingEvent → Answer → List ℕ
 answer_said course stage (askeds.Opening peer granted) (answers.Opened key) =
     wire course.setup.size (accept_tsdu course.setup granted)
 answer_said course stage (askeds.Requesting invoke) (answers.Reply reply) =
     said course.setup (within (detail_at stage) invoke (pdu_of_reply invoke reply))
+answer_said course stage askeds.Taking (answers.Reports reports) =
+    reports_said course.setup (detail_at stage) reports
 answer_said course stage (askeds.Closing cause) answers.Closed = closed_said course cause
 answer_said course stage _ _ = []
 
@@ -157,3 +170,18 @@ abbrev pub limit_at : CentreRows → Stage → ℕ
 limit_at rows stages.Early = 1048576
 limit_at rows (stages.Open peer detail) = (table_of rows peer).pending
 limit_at rows (stages.Closed peer) = (table_of rows peer).pending
+
+-- ---- what becomes of a connection
+
+-- it was told an answer, or a refusal
+pub record TellsAnswer (told : Result Answer StepFault) (old new : Talking) : Type 0 where
+  pub said : pending_of new ≡ pending_of old ++ told_said old.progress old.stage old.course told
+  pub progress : new.progress ≡ progress_told old.progress old.stage told
+  pub stage : new.stage ≡ stage_told old.progress told old.stage
+
+-- memory was wanting for what is said: it is to be given up
+abbrev pub unnoted : Result Answer StepFault → Talking → Talking
+unnoted told v = record v {
+  progress = progresses.Refused;
+  stage = stage_told v.progress told v.stage;
+}

@@ -1,5 +1,5 @@
 -- What a connection is once an answer of the node was noted.
-use Rattle.std.specs.Prelude.{◌≡◌, ◌++◌, ℕ}
+use Rattle.std.specs.Prelude.{◌≡◌, ◌++◌, ℕ, List}
 use Rattle.tpkt_cotp.specs.Written.{wire}
 use Rattle.mms_services.specs.declared.initiate.Initiate.{Initiate}
 use Rattle.mms_services.specs.declared.pdu.MmsPdu.{MmsPdu}
@@ -8,8 +8,9 @@ use Rattle.stack_assoc.specs.declared.end_state.EndState.TheVariants as standing
 use Rattle.stack_assoc.specs.Saying.{with_standing, with_said}
 use Rattle.tase_views.specs.declared.reply.Answer.{Answer}
 use Rattle.tase_views.specs.declared.reply.Answer.TheVariants as answers
+use Rattle.tase_views.specs.declared.reply.Report.{Report}
 use Rattle.tase_map.specs.Replied.{pdu_of_reply}
-use Rattle.tase_map.specs.Out.{said, within}
+use Rattle.tase_map.specs.Out.{said, within, reports_said, first_too_long}
 use Rattle.tase_conn.specs.declared.stage.Stage.TheVariants as stages
 use Rattle.tase_conn.specs.declared.stage.PendingEvent.{PendingEvent}
 use Rattle.tase_conn.specs.declared.stage.PendingEvent.TheVariants as askeds
@@ -17,6 +18,7 @@ use Rattle.tase_conn.specs.declared.stage.Progress.{Progress}
 use Rattle.tase_conn.specs.declared.stage.Progress.TheVariants as progresses
 use Rattle.tase_conn.specs.Talking.{Talking}
 use Rattle.tase_conn.specs.Answering.{detail_in, detail_at, stage_closed, parting_octets}
+use Rattle.tase_conn.specs.Answering.{progress_reported}
 use Rattle.tase_conn.specs.Leaving.{Parts, EndsFor}
 
 -- nothing waits any more
@@ -40,11 +42,19 @@ answered pdu v = record v {
   out = v.out ++ said v.course.setup pdu;
 }
 
+-- these reports were said, up to one that is too long
+abbrev pub with_reports_said : List Report → Talking → Talking
+with_reports_said reports v = record v {
+  progress = progress_reported v.stage (first_too_long (detail_at v.stage) reports);
+  out = v.out ++ reports_said v.course.setup (detail_at v.stage) reports;
+}
+
 -- the answer to the event that waited
 abbrev pub NotesAsked : PendingEvent → Answer → Talking → Talking → Type 0
 NotesAsked (askeds.Opening peer granted) answer old new = new ≡ with_open peer granted old
 NotesAsked (askeds.Requesting invoke) (answers.Reply reply) old new =
     new ≡ answered (within (detail_at old.stage) invoke (pdu_of_reply invoke reply)) old
+NotesAsked askeds.Taking (answers.Reports reports) old new = new ≡ with_reports_said reports old
 NotesAsked (askeds.Closing cause) answer old new =
     EndsFor cause (record old { stage = stage_closed old.stage }) new
 NotesAsked asked answer old new = new ≡ with_nothing_waiting old

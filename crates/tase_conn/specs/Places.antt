@@ -138,11 +138,13 @@ abbrev pub IsDue : List Arrival → Stage → Coming → Type 0
 IsDue told stage (comings.Input input) = InputIsDue told stage input
 IsDue told stage _ = Unit {0}
 
--- where all messages were read nothing is left of what was taken in, nor where a rule was broken
-abbrev pub IsPassed : Option Coming → Behind → Type 0
-IsPassed (Some comings.Pause) behind = behind ≡ behinds.Nothing
-IsPassed (Some comings.End) behind = behind ≡ behinds.Nothing
-IsPassed held behind = Unit {0}
+-- where all messages were read nothing is left of what was taken in, nor where a take waits, which
+-- comes behind them
+abbrev pub IsPassed : Option Coming → Behind → PendingEvent → Type 0
+IsPassed (Some comings.Pause) behind asked = behind ≡ behinds.Nothing
+IsPassed (Some comings.End) behind asked = behind ≡ behinds.Nothing
+IsPassed None behind askeds.Taking = behind ≡ behinds.Nothing
+IsPassed held behind asked = Unit {0}
 
 -- ---- the association
 
@@ -258,7 +260,7 @@ pub record Runs (rows : CentreRows) (items : List Item) (told : List Arrival) (t
   pub fault : v.course.fault ≡ fault_seen v.held asked
   pub reads : HasRead items told (turns ++ turns_held v.held) v
   pub due : IfSome v.held (IsDue told v.stage)
-  pub passed : IsPassed v.held v.behind
+  pub passed : IsPassed v.held v.behind asked
   pub begun : list_any (begins rows) turns ≡ has_begun v.stage asked
   pub finished : list_any finishes turns ≡ has_finished v.stage asked
   pub ending : list_any (is_last rows) turns ≡ ends_connection asked
@@ -330,6 +332,18 @@ pub record ConnStandsAt (rows : CentreRows) (items : List Item) (told : List Arr
   pub peer : IfSome (stage_peer v.stage) (IsPeer rows)
   pub goes : GoesBy v.progress rows items told turns v
   pub room : RoomBy v.progress v
+
+-- wherever it stood, it stands there still
+abbrev pub KeepsPlace : Talking → Talking → Type 0
+KeepsPlace old new = (rows : CentreRows) (items : List Item) (told : List Arrival)
+    (turns : List Turn) → ConnStandsAt rows items told turns old
+    → ConnStandsAt rows items told turns new
+
+-- wherever it stood, it stands there with this item more
+abbrev pub GainsItem : Item → Talking → Talking → Type 0
+GainsItem item old new = (rows : CentreRows) (items : List Item) (told : List Arrival)
+    (turns : List Turn) → ConnStandsAt rows items told turns old
+    → ConnStandsAt rows (items ++ item ∷ []) told turns new
 
 -- it stands somewhere
 pub record IsPlaced (v : Talking) : Type 0 where

@@ -141,3 +141,23 @@ pub record Passes (rows : CentreRows) (items : List Item) (told : List Arrival) 
 -- it goes on with nothing waiting
 abbrev pub IsIdle : Progress → Type 0
 IsIdle progress = progress ≡ progresses.Running askeds.Nothing
+
+-- ---- wherever it stood, from there
+
+-- this event is the next that is asked, or none
+abbrev pub ReadsSo : Option EventKind → Talking → Talking → Type 0
+ReadsSo event old new = (rows : CentreRows) (items : List Item) (told : List Arrival)
+    (turns : List Turn) → ConnStandsAt rows items told turns old
+    → ReadsNext rows items told turns event old new
+
+-- this event is wanted, or none
+abbrev pub WantsSo : Option EventKind → Talking → Talking → Type 0
+WantsSo event old new = (rows : CentreRows) (items : List Item) (told : List Arrival)
+    (turns : List Turn) → ConnStandsAt rows items told turns old
+    → Wants rows items told turns event old new
+
+-- it goes on, and asks for no event
+abbrev pub PassesSo : Talking → Talking → Type 0
+PassesSo old new = (rows : CentreRows) (items : List Item) (told : List Arrival)
+    (turns : List Turn) → ConnStandsAt rows items told turns old
+    → Passes rows items told turns old new

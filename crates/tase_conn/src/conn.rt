@@ -1,20 +1,18 @@
 //! A connection to a peer, without input and output.
-ghost use Rattle.std.specs.Prelude.{◌≡◌, ◌+◌, ◌-◌, ◌≤◌, List, [], ◌∷◌, ◌++◌, length, drop, vec_len};
+ghost use Rattle.std.specs.Prelude.{◌≡◌, ◌+◌, ◌-◌, ◌≤◌, [], length, drop, vec_len};
 ghost use Rattle.std.specs.Prelude.{IfOk, OnOk, OnErr, option_copied};
 ghost use Rattle.std.specs.Arc.{arc_value};
 ghost use Rattle.tpkt_cotp.specs.declared.limits.TheConstants.{PIECE_LIMIT};
 ghost use Rattle.tpkt_cotp.specs.declared.limits.TheConstants.{TPKT_LIMIT, TSDU_LIMIT};
 ghost use Rattle.tpkt_cotp.specs.Streams.{stream_place};
-ghost use Rattle.bilateral.specs.Rows.{CentreRows};
+ghost use Rattle.ber_values.specs.Octets.{IsOctets};
 ghost use Rattle.stack_assoc.specs.Courses.{count_held};
-ghost use Rattle.stack_assoc.specs.Arrivals.{Arrival};
-ghost use Rattle.tase_map.specs.Inputs.{Item, piece as a_piece, idle, ended};
-ghost use Rattle.tase_map.specs.Turns.{Turn};
+ghost use Rattle.tase_map.specs.Inputs.{piece as a_piece, idle, ended};
 ghost use Rattle.tase_conn.specs.declared.stage.Progress.TheVariants as progresses;
 ghost use Rattle.tase_conn.specs.declared.stage.PendingEvent.TheVariants as askeds;
 ghost use Rattle.tase_conn.specs.Talking.{pending_of, next_pending, conn_end_in, IsResting};
 ghost use Rattle.tase_conn.specs.Talking.{is_running};
-ghost use Rattle.tase_conn.specs.Places.{ConnStandsAt, IsPlaced};
+ghost use Rattle.tase_conn.specs.Places.{ConnStandsAt, IsPlaced, KeepsPlace, GainsItem};
 ghost use Rattle.tase_conn.specs.Taken.{TakesIn, SendsSome};
 ghost use Rattle.tase_conn.specs.Answering.{limit_at};
 
@@ -106,10 +104,7 @@ impl Conn {
         requires small { length piece.now ≤ PIECE_LIMIT }
         requires resting { IsResting self.old }
         requires placed { IsPlaced self.old }
-        ensures ok { (rows : CentreRows) (items : List Item) (told : List Arrival)
-            (turns : List Turn) → ConnStandsAt rows items told turns self.old
-            → OnOk result
-            (ConnStandsAt rows (items ++ a_piece piece.now ∷ []) told turns self.new) }
+        ensures ok { OnOk result (GainsItem (a_piece piece.now) self.old self.new) }
         ensures same { OnOk result (TakesIn self.old self.new) }
         ensures err { OnErr result (self.new ≡ self.old) }
     {
@@ -126,9 +121,7 @@ impl Conn {
     pub fn idle_in(&mut self)
         requires resting { IsResting self.old }
         requires placed { IsPlaced self.old }
-        ensures stands { (rows : CentreRows) (items : List Item) (told : List Arrival)
-            (turns : List Turn) → ConnStandsAt rows items told turns self.old
-            → ConnStandsAt rows (items ++ idle ∷ []) told turns self.new }
+        ensures stands { GainsItem idle self.old self.new }
         ensures same { TakesIn self.old self.new }
     {
         if self.is_running() {
@@ -141,9 +134,7 @@ impl Conn {
     pub fn end_in(&mut self)
         requires resting { IsResting self.old }
         requires placed { IsPlaced self.old }
-        ensures stands { (rows : CentreRows) (items : List Item) (told : List Arrival)
-            (turns : List Turn) → ConnStandsAt rows items told turns self.old
-            → ConnStandsAt rows (items ++ ended ∷ []) told turns self.new }
+        ensures stands { GainsItem ended self.old self.new }
         ensures same { TakesIn self.old self.new }
     {
         if self.is_running() {
@@ -170,13 +161,19 @@ impl Conn {
         }
     }
 
+    /// What is to be sent are octets.
+    pub fn pending_are_octets(&self)
+        ensures { IsOctets (pending_of self.now) }
+    {
+        are_octets(self.out.as_slice());
+        are_octets(self.farewell.as_slice());
+    }
+
     /// Notes that so many of the pending octets were sent.
     pub fn sent(&mut self, n: usize)
         requires { n ≤ length (next_pending self.old) }
         ensures pending { pending_of self.new ≡ drop n (pending_of self.old) }
-        ensures stands { (rows : CentreRows) (items : List Item) (told : List Arrival)
-            (turns : List Turn) → ConnStandsAt rows items told turns self.old
-            → ConnStandsAt rows items told turns self.new }
+        ensures stands { KeepsPlace self.old self.new }
         ensures same { SendsSome self.old self.new }
     {
         if n == 0 {
@@ -224,6 +221,12 @@ impl Conn {
             _ => None,
         }
     }
+}
+
+fn are_octets(octets: &[u8])
+    ensures { IsOctets octets.now }
+{
+    let _ = octets;
 }
 
 /// Cuts off the first of these octets.

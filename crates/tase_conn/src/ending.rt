@@ -1,12 +1,8 @@
 //! How a connection ends.
-ghost use Rattle.std.specs.Prelude.{◌≡◌, ◌++◌, List, true, OnOk, OnErr, IsOk};
-ghost use Rattle.tase_map.specs.Inputs.{Item};
-ghost use Rattle.tase_map.specs.Turns.{Turn};
-ghost use Rattle.bilateral.specs.Rows.{CentreRows};
-ghost use Rattle.stack_assoc.specs.Arrivals.{Arrival};
+ghost use Rattle.std.specs.Prelude.{◌≡◌, ◌++◌, true, OnOk, OnErr, IsOk};
 ghost use Rattle.tase_conn.specs.declared.stage.Cause.TheVariants as causes;
 ghost use Rattle.tase_conn.specs.Talking.{MayLeave};
-ghost use Rattle.tase_conn.specs.Places.{ConnStandsAt, IsPlaced, HasAbortRoom};
+ghost use Rattle.tase_conn.specs.Places.{IsPlaced, HasAbortRoom, KeepsPlace};
 ghost use Rattle.tase_conn.specs.Answering.{aborts, aborted, parting_octets};
 ghost use Rattle.tase_conn.specs.Leaving.{IsLeft, Parts, finished, MayAnswer, EndsFor, is_quick};
 
@@ -32,9 +28,7 @@ impl Conn {
         requires free { MayLeave self.old.progress }
         requires placed { IsPlaced self.old }
         // Nothing more is read: it stands where it stood.
-        ensures stands { (rows : CentreRows) (items : List Item) (told : List Arrival)
-            (turns : List Turn) → ConnStandsAt rows items told turns self.old
-            → ConnStandsAt rows items told turns self.new }
+        ensures stands { KeepsPlace self.old self.new }
         ensures left { IsLeft end self.old self.new }
     {
         self.leave(end);

@@ -1,9 +1,6 @@
 //! What a connection wants of the node.
-ghost use Rattle.std.specs.Prelude.{◌≡◌, ◌<◌, ℕ, List, true, None, IfOk, OnOk, OnErr, IsOk};
-ghost use Rattle.tase_map.specs.Inputs.{Item};
-ghost use Rattle.tase_map.specs.Turns.{Turn};
-ghost use Rattle.bilateral.specs.Rows.{CentreRows};
-ghost use Rattle.stack_assoc.specs.Arrivals.{Arrival};
+ghost use Rattle.std.specs.Prelude.{◌≡◌, ◌<◌, true, false, None, IfOk, OnOk, OnErr};
+ghost use Rattle.std.specs.Prelude.{IsOk};
 ghost use Rattle.tase_conn.specs.declared.stage.Progress.TheVariants as progresses;
 ghost use Rattle.tase_conn.specs.declared.stage.PendingEvent.TheVariants as askeds;
 ghost use Rattle.tase_conn.specs.declared.stage.Coming.TheVariants as comings;
@@ -13,11 +10,11 @@ ghost use Rattle.stack_assoc.specs.declared.input.StackIn.TheVariants as inputs;
 ghost use Rattle.stack_assoc.specs.Courses.{is_offered};
 ghost use Rattle.mms_services.specs.declared.pdu.MmsPdu.TheVariants as pdus;
 ghost use Rattle.tase_views.specs.declared.event.EventKind.TheVariants as events;
-ghost use Rattle.tase_conn.specs.Talking.{IsFree};
-ghost use Rattle.tase_conn.specs.Places.{ConnStandsAt, IsPlaced};
-ghost use Rattle.tase_conn.specs.Wanting.{Wants, ReadsNext, Passes, IsIdle, IsLeaving};
+ghost use Rattle.tase_conn.specs.Talking.{IsFree, is_running};
+ghost use Rattle.tase_conn.specs.Places.{IsPlaced, KeepsPlace};
+ghost use Rattle.tase_conn.specs.Wanting.{WantsSo, ReadsSo, PassesSo, IsIdle};
 ghost use Rattle.tase_conn.specs.Wanting.{refusal_said};
-ghost use Rattle.tase_conn.specs.Acting.{StepsBy, StaysIdle, GoesDown, steps_left};
+ghost use Rattle.tase_conn.specs.Acting.{StepsSo, StaysIdle, GoesDown, steps_left};
 ghost use Rattle.tase_conn.specs.Acting.{ActsOn, StaysSo, holding, has_more, coming_by};
 ghost use Rattle.tase_conn.specs.Acting.{holding_behind, holding_fault};
 ghost use Rattle.tase_conn.specs.Leaving.{AddsAnswer, EndsFor, MayEnd, finished};
@@ -36,19 +33,15 @@ use tase_views::{Call, Event, EventKind};
 impl Conn {
     /// The next event that is asked of the node by what was taken in; none where nothing is left of
     /// it. It appends what is to be sent meanwhile. Where the connection was given up it is the
-    /// close of the association, and no memory is taken. After want of memory no event was lost:
-    /// `want` may be called again.
+    /// close of the association. No memory is taken then, nor once the connection has ended. After
+    /// want of memory no event was lost: `want` may be called again.
     pub fn want(&mut self) -> Result<Option<Event>, AllocError>
         requires free { IsFree self.old.progress }
         requires placed { IsPlaced self.old }
-        ensures ok { (rows : CentreRows) (items : List Item) (told : List Arrival)
-            (turns : List Turn) → ConnStandsAt rows items told turns self.old
-            → IfOk result (λ event. Wants rows items told turns event self.old self.new) }
-        ensures err { (rows : CentreRows) (items : List Item) (told : List Arrival)
-            (turns : List Turn) → ConnStandsAt rows items told turns self.old
-            → OnErr result (Passes rows items told turns self.old self.new) }
+        ensures ok { IfOk result (λ event. WantsSo event self.old self.new) }
+        ensures err { OnErr result (PassesSo self.old self.new) }
         ensures again { OnErr result (IsIdle self.new.progress) }
-        ensures left { IsLeaving self.old.progress → IsOk result }
+        ensures over { is_running self.old.progress ≡ false → IsOk result }
         ensures stage { self.new.stage ≡ self.old.stage }
     {
         match self.progress {
@@ -71,12 +64,8 @@ impl Conn {
     fn read_on(&mut self) -> Result<Option<Event>, AllocError>
         requires idle { IsIdle self.old.progress }
         requires placed { IsPlaced self.old }
-        ensures ok { (rows : CentreRows) (items : List Item) (told : List Arrival)
-            (turns : List Turn) → ConnStandsAt rows items told turns self.old
-            → IfOk result (λ event. ReadsNext rows items told turns event self.old self.new) }
-        ensures err { (rows : CentreRows) (items : List Item) (told : List Arrival)
-            (turns : List Turn) → ConnStandsAt rows items told turns self.old
-            → OnErr result (Passes rows items told turns self.old self.new) }
+        ensures ok { IfOk result (λ event. ReadsSo event self.old self.new) }
+        ensures err { OnErr result (PassesSo self.old self.new) }
         ensures again { OnErr result (IsIdle self.new.progress) }
         ensures stage { self.new.stage ≡ self.old.stage }
     {
@@ -105,12 +94,8 @@ impl Conn {
         requires idle { IsIdle self.old.progress }
         requires more { has_more self.old ≡ true }
         requires placed { IsPlaced self.old }
-        ensures ok { (rows : CentreRows) (items : List Item) (told : List Arrival)
-            (turns : List Turn) → ConnStandsAt rows items told turns self.old
-            → IfOk result (λ step. StepsBy rows items told turns step self.old self.new) }
-        ensures err { (rows : CentreRows) (items : List Item) (told : List Arrival)
-            (turns : List Turn) → ConnStandsAt rows items told turns self.old
-            → OnErr result (ConnStandsAt rows items told turns self.new) }
+        ensures ok { IfOk result (λ step. StepsSo step self.old self.new) }
+        ensures err { OnErr result (KeepsPlace self.old self.new) }
         ensures same { OnErr result (self.new ≡ record self.old { course = self.new.course }) }
         ensures idle { IfOk result (λ step. StaysIdle step self.new.progress) }
         ensures shorter { IfOk result (λ step. GoesDown step (steps_left self.old)
@@ -130,12 +115,8 @@ impl Conn {
         requires empty { self.old.held ≡ None }
         requires more { has_more self.old ≡ true }
         requires placed { IsPlaced self.old }
-        ensures ok { (rows : CentreRows) (items : List Item) (told : List Arrival)
-            (turns : List Turn) → ConnStandsAt rows items told turns self.old
-            → OnOk result (Passes rows items told turns self.old self.new) }
-        ensures err { (rows : CentreRows) (items : List Item) (told : List Arrival)
-            (turns : List Turn) → ConnStandsAt rows items told turns self.old
-            → OnErr result (ConnStandsAt rows items told turns self.new) }
+        ensures ok { OnOk result (PassesSo self.old self.new) }
+        ensures err { OnErr result (KeepsPlace self.old self.new) }
         ensures same { OnErr result (self.new ≡ record self.old { course = self.new.course }) }
         ensures step { IfOk result (λ step. step ≡ steps.GoesOn) }
         ensures idle { OnOk result (self.new.progress ≡ self.old.progress) }

@@ -1,29 +1,25 @@
 //! What a connection says of the node's answers.
-ghost use Rattle.std.specs.Prelude.{◌≡◌, ◌++◌, ◌≤◌, ◌≤ℤ◌, List, Ok, Err, OnOk, OnErr, IsOk};
+ghost use Rattle.std.specs.Prelude.{◌≡◌, ◌++◌, ◌≤◌, ◌≤ℤ◌, Ok, Err, OnOk, OnErr, IsOk};
 ghost use Rattle.mms_services.specs.Initiates.{IsFullInitiate};
 ghost use Rattle.mms_services.specs.PduOctets.{IsWritablePdu, pdu_len};
 ghost use Rattle.mms_services.specs.declared.initiate.TheConstants.{MOST_DETAIL};
 ghost use Rattle.stack_assoc.specs.declared.input.StackState.TheVariants as states;
 ghost use Rattle.stack_assoc.specs.declared.end_state.EndState.TheVariants as standings;
 ghost use Rattle.stack_assoc.specs.Courses.{stack_state_of};
-ghost use Rattle.stack_assoc.specs.Arrivals.{Arrival};
-ghost use Rattle.bilateral.specs.Rows.{CentreRows};
-ghost use Rattle.tase_map.specs.Inputs.{Item};
-ghost use Rattle.tase_map.specs.Turns.{Turn};
 ghost use Rattle.tase_map.specs.Replied.{pdu_of_reply};
 ghost use Rattle.tase_map.specs.Out.{within, too_long};
 ghost use Rattle.tase_conn.specs.declared.stage.PendingEvent.TheVariants as askeds;
 ghost use Rattle.tase_conn.specs.declared.stage.Stage.TheVariants as stages;
 ghost use Rattle.tase_conn.specs.declared.stage.Progress.TheVariants as progresses;
-ghost use Rattle.tase_conn.specs.Talking.{pending_of};
-ghost use Rattle.tase_conn.specs.Places.{ConnStandsAt, IsPlaced, HasAbortRoom};
+ghost use Rattle.tase_conn.specs.Places.{IsPlaced, HasAbortRoom, KeepsPlace};
 ghost use Rattle.tase_conn.specs.Wanting.{IsLeaving};
-ghost use Rattle.tase_conn.specs.Answering.{IsAnswerTo, IsAnswerFor, told_said, stage_by};
-ghost use Rattle.tase_conn.specs.Answering.{stage_told, progress_told, end_of_fault, detail_in};
+ghost use Rattle.tase_conn.specs.Answering.{IsAnswerTo, IsAnswerFor, TellsAnswer, unnoted};
+ghost use Rattle.tase_conn.specs.Answering.{stage_by, stage_told, end_of_fault, detail_in};
 ghost use Rattle.tase_conn.specs.Answering.{detail_at, stage_closed, parting_octets};
 ghost use Rattle.tase_views.specs.declared.fault.StepFault.{StepFault as AnyFault};
 ghost use Rattle.tase_conn.specs.Leaving.{IsLeft, Parts, MayAnswer, EndsFor};
 ghost use Rattle.tase_conn.specs.Noting.{NotesAnswer, NotesAsked, with_open, answered};
+ghost use Rattle.tase_conn.specs.Noting.{with_nothing_waiting};
 
 use crate::conn::Conn;
 use crate::stage::{Cause, ConnEnd, PendingEvent, Progress, Stage};
@@ -86,22 +82,9 @@ impl Conn {
     pub fn tell(&mut self, told: Result<Answer, StepFault>) -> Result<(), AllocError>
         requires right { IsAnswerFor self.old.progress told }
         requires placed { IsPlaced self.old }
-        ensures ok { (rows : CentreRows) (items : List Item) (heard : List Arrival)
-            (turns : List Turn) → ConnStandsAt rows items heard turns self.old
-            → OnOk result (ConnStandsAt rows items heard turns self.new) }
-        ensures said { OnOk result (pending_of self.new ≡ pending_of self.old
-            ++ told_said self.old.progress self.old.stage self.old.course told) }
-        ensures progress { OnOk result (self.new.progress
-            ≡ progress_told self.old.progress self.old.stage told) }
-        ensures stage { self.new.stage ≡ stage_told self.old.progress told self.old.stage }
-        ensures err { OnErr result (self.new ≡ record self.old {
-          progress = progresses.Refused;
-          stage = stage_told self.old.progress told self.old.stage;
-        }) }
-        // It stands where it stood, and may be given up.
-        ensures kept { (rows : CentreRows) (items : List Item) (heard : List Arrival)
-            (turns : List Turn) → ConnStandsAt rows items heard turns self.old
-            → OnErr result (ConnStandsAt rows items heard turns self.new) }
+        ensures stands { KeepsPlace self.old self.new }
+        ensures told { OnOk result (TellsAnswer told self.old self.new) }
+        ensures err { OnErr result (self.new ≡ unnoted told self.old) }
         // A refusal leaves the connection.
         ensures refused { (fault : AnyFault) → told ≡ Err fault
             → IsLeft (end_of_fault fault) self.old self.new }
@@ -123,10 +106,7 @@ impl Conn {
         ensures ok { OnOk result (NotesAnswer self.old.progress answer self.old self.new) }
         ensures stage { self.new.stage
             ≡ stage_told self.old.progress (Ok answer) self.old.stage }
-        ensures err { OnErr result (self.new ≡ record self.old {
-          progress = progresses.Refused;
-          stage = stage_told self.old.progress (Ok answer) self.old.stage;
-        }) }
+        ensures err { OnErr result (self.new ≡ unnoted (Ok answer) self.old) }
         ensures left { IsLeaving self.old.progress → IsOk result }
     {
         match self.note(answer) {
@@ -183,11 +163,20 @@ impl Conn {
             PendingEvent::Opening { peer, granted } => self.open(peer, granted),
             PendingEvent::Requesting { invoke } => self.note_reply(invoke, answer),
             PendingEvent::Closing(cause) => self.close(cause),
-            PendingEvent::Nothing | PendingEvent::Taking => {
-                self.progress = Progress::Running(PendingEvent::Nothing);
+            // No kind of report is made yet, so a take brings none to say.
+            PendingEvent::Taking => {
+                self.note_nothing();
                 Ok(())
             }
+            PendingEvent::Nothing => Ok(()),
         }
+    }
+
+    /// Nothing waits any more.
+    fn note_nothing(&mut self)
+        ensures { self.new ≡ with_nothing_waiting self.old }
+    {
+        self.progress = Progress::Running(PendingEvent::Nothing);
     }
 
     /// The association is open, and its offer is accepted.

@@ -7,4 +7,5 @@ pub mod Asks
 pub mod Out
 pub mod Closed
 pub mod Sent
+pub mod Linked
 pub mod LawfulTold

@@ -16,11 +16,12 @@ use Rattle.stack_assoc.specs.Expectations.{setup_after}
 use Rattle.stack_assoc.specs.Handing.{answers_to}
 use Rattle.bilateral.specs.Rows.{CentreRows}
 use Rattle.tase_views.specs.declared.reply.ReplyKind.{ReplyKind}
+use Rattle.tase_views.specs.declared.reply.Report.{Report}
 use Rattle.tase_views.specs.OwnTable.{OwnTable}
 use Rattle.tase_views.specs.View.{View, Seen, own, Act, acts_of_call}
 use Rattle.tase_views.specs.View as acts
-use Rattle.tase_views.specs.Answers.{reply_to}
-use Rattle.tase_map.specs.Replied.{pdu_of_reply}
+use Rattle.tase_views.specs.Answers.{reply_to, reports_for}
+use Rattle.tase_map.specs.Replied.{pdu_of_reply, pdu_of_report}
 use Rattle.tase_map.specs.Readings.{Reading, reading_of}
 use Rattle.tase_map.specs.Turns.{Turn, offers, offers_badly, asks, concludes, releases, aborts}
 use Rattle.tase_map.specs.Turns.{breaks, ends}
@@ -83,6 +84,21 @@ abbrev pub reply_octets : Talk → ℕ → ReplyKind → List ℕ
 reply_octets talk invoke reply = said talk.setup
     (within talk.detail invoke (pdu_of_reply invoke reply))
 
+-- reports, up to the first that is longer than was agreed on: neither that nor what follows it is
+-- said
+abbrev pub reports_said : AssociationSetup → ℤ → List Report → List ℕ
+reports_said setup detail [] = []
+reports_said setup detail (report ∷ reports) =
+    if int_lt detail (pos (pdu_len (pdu_of_report report))) then []
+    else said setup (pdu_of_report report) ++ reports_said setup detail reports
+
+-- how many octets the first report has that is longer than was agreed on, if there is one
+abbrev pub first_too_long : ℤ → List Report → Option ℕ
+first_too_long detail [] = None
+first_too_long detail (report ∷ reports) =
+    if int_lt detail (pos (pdu_len (pdu_of_report report)))
+    then Some (pdu_len (pdu_of_report report)) else first_too_long detail reports
+
 abbrev pub release_wire : AssociationSetup → List ℕ
 release_wire setup = wire setup.size (release_tsdu setup.acse)
 
@@ -142,10 +158,11 @@ first_reply table ordinal talk view (asks invoke call ∷ turns) =
 first_reply table ordinal talk view _ = []
 
 -- what an act of the association adds behind the view before it: the first act of a request its
--- reply; a take nothing, since no reports are made yet
+-- reply, a take the reports that were made
 abbrev pub act_octets : OwnTable → ℕ → Talk → View → Act → List ℕ
 act_octets table ordinal talk view acts.opens = talk.opening
-act_octets table ordinal talk view acts.takes = []
+act_octets table ordinal talk view acts.takes =
+    reports_said talk.setup talk.detail (reports_for table view ordinal)
 act_octets table ordinal talk view acts.closes =
     close_octets talk.setup (turns_behind talk.turns (acts_made ordinal view))
 act_octets table ordinal talk view _ =

@@ -12,6 +12,7 @@ use Rattle.tase_views.specs.declared.reply.ReadSpec.{ReadSpec}
 use Rattle.tase_views.specs.declared.reply.ReadSpec.TheVariants as named
 use Rattle.tase_views.specs.declared.reply.ReplyKind.{ReplyKind}
 use Rattle.tase_views.specs.declared.reply.ReplyKind.TheVariants as replies
+use Rattle.tase_views.specs.declared.reply.Report.{Report}
 
 -- what a read named, as the variables of a service
 abbrev pub spec_in : ReadSpec → Spec
@@ -37,6 +38,10 @@ pdu_of_reply invoke (replies.Error class code) =
     pdus.Error (record { invoke = invoke; class = class; code = code })
 pdu_of_reply invoke (replies.Reject kind code) =
     pdus.Reject (record { invoke = Some invoke; kind = kind; code = code })
+
+-- the PDU that a report is: no kind of report is made yet
+abbrev pub pdu_of_report : Report → MmsPdu
+pdu_of_report report = elim report [ ]
 
 -- the results of a read that named these variables or this data set, or doesn't repeat them
 abbrev pub results_reply : List Outcome → Option Spec → Option ReplyKind

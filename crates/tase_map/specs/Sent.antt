@@ -14,6 +14,10 @@ use Rattle.tase_map.specs.Readings.{reading_of}
 use Rattle.tase_map.specs.Turns.{Turn, concludes, ends}
 use Rattle.tase_map.specs.Out.{talk_of, acts_made, turns_behind, octets_out}
 
+-- the history with an event of a seat more
+abbrev pub with_event : ℕ → EventKind → Past → Past
+with_event who event past = record { who = who; event = event } ∷ past
+
 -- the event of an entry, where it is of this seat
 abbrev pub event_by : ℕ → Entry → Option EventKind
 event_by who entry = if entry.who == who then Some entry.event else None

@@ -65,7 +65,10 @@ IsPlayed-shown line number steps scene history now before after SinkFault grown 
     record {
       count = length steps;
       within = omega (arith, ap (λ (these : List Step). length these) same);
-      entries = grown ∙ ap (λ (these : List Step). history ++ entries_in these) (sym whole);
+      closing = [];
+      closes = tt;
+      entries = grown ∙ ap (λ (these : List Step). history ++ entries_in these) (sym whole)
+          ∙ sym (append-nil (history ++ entries_in (take (length steps) ((steps ++ []) ++ []))));
       shown = subst (λ (these : List Step). AppendsPart before after (printed_in these) true)
           (sym whole) shown;
     }
@@ -76,7 +79,10 @@ IsPlayed-shown line number steps scene history now before after Memory grown sho
     record {
       count = length steps;
       within = omega (arith, ap (λ (these : List Step). length these) same);
-      entries = grown ∙ ap (λ (these : List Step). history ++ entries_in these) (sym whole);
+      closing = [];
+      closes = tt;
+      entries = grown ∙ ap (λ (these : List Step). history ++ entries_in these) (sym whole)
+          ∙ sym (append-nil (history ++ entries_in (take (length steps) ((steps ++ []) ++ []))));
       shown = subst (λ (these : List Step). AppendsPart before after (printed_in these) false)
           (sym whole) shown;
     }

@@ -17,6 +17,12 @@ pub mod Pending
 pub mod Own
 pub mod TakenLines
 pub mod Reports
+pub mod Printable
+pub mod TextLines
+pub mod PrintedBack
+pub mod PlayPrints
+pub mod QuietLast
 mod Worked
 mod WorkedReadings
 mod WorkedLinks
+mod WorkedPrinted

@@ -18,6 +18,7 @@ use Rattle.tase_replay.specs.Links.{SeatItem, Asking, asking_in, asking_seen, it
 use Rattle.tase_replay.specs.Play.{Scene, Step, LineMeaning, gives, entry_meaning, scene_by, with_taken}
 use Rattle.tase_replay.specs.Play.{step_of, play_line, play_alone, ends_there, steps_of, bad}
 use Rattle.tase_replay.specs.Play.{means, scene_behind, received, is_unfit, linked_by, served_item}
+use Rattle.conn_service.specs.PeerEnd.{peer_end}
 use Rattle.tase_replay.specs.Ends.{IsPlayed, TakesAll}
 use Rattle.tase_replay.specs.Standing.{IsScene, NotesUse, Finds, Awaits, LinkGoesOn}
 use Rattle.tase_replay.proofs.Entering.{accepted_done, line_in-read, line_in-skipped}
@@ -91,8 +92,8 @@ pub received_bad : (setup : Setup) (scene : Scene) (given : SeatItem)
     → is_unfit given.who scene ≡ true → received setup scene given ≡ bad
 received_bad setup scene given unfit =
     let items = items_of given.who scene.given ++ given.item ∷ [] in
-    ap (λ (b : Bool). if b then bad else linked_by setup.centre scene given items
-    (served_item setup scene given) (served_item setup scene given).halt) unfit
+    ap (λ (b : Bool). if b then bad else linked_by setup.centre scene given (peer_end setup.centre items)
+    (served_item setup scene given) (served_item setup scene given).refusal) unfit
 
 -- the connection of a seat at its place
 pub goes_there : (rows : CentreRows) (scene : Scene) (who place : ℕ) (seats : Seats)

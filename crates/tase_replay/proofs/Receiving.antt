@@ -1,15 +1,16 @@
 -- What comes of an item that a link gives.
 use Rattle.std.proofs.Common.{◌≡◌, ℕ, Bool, true, false, List, [], ◌∷◌, ◌++◌, reverse}
-use Rattle.std.proofs.Common.{Option, Some, None, Result, Ok, Err, is_some, refl, sym, ap, subst, ◌∙◌}
-use Rattle.std.proofs.Common.{inl, inr, ⊎_elim}
-use Rattle.std.specs.Prelude.{◌||◌}
+use Rattle.std.proofs.Common.{Option, Some, None, is_some, refl, sym, ap, subst, ◌∙◌}
+use Rattle.std.proofs.Common.{inl, inr}
+use Rattle.std.specs.Prelude.{◌||◌, unwrap_or, option_and_then}
 use Rattle.std.specs.List.{list_any}
 use Rattle.std.proofs.lemmas.Bool.{eq-eqb, false≢true}
 use Rattle.std.proofs.lemmas.List.{append-nil}
 use Rattle.outside.specs.Sink.{SinkTold}
 use Rattle.bilateral.specs.Rows.{CentreRows}
 use Rattle.tase_views.specs.Setup.{Setup}
-use Rattle.tase_views.specs.History.{Past}
+use Rattle.tase_views.specs.History.{Past, association_in}
+use Rattle.tase_views.specs.Outcomes.{refusal_of}
 use Rattle.tase_views.specs.declared.event.Entry.{Entry}
 use Rattle.tase_views.specs.declared.event.EventKind.{EventKind}
 use Rattle.tase_views.specs.declared.fault.StepFault.{StepFault}
@@ -18,11 +19,12 @@ use Rattle.stack_assoc.specs.Arrivals.{Arrival}
 use Rattle.tase_map.specs.Inputs.{Item, piece, idle, ended, IsLinkInput, text_given}
 use Rattle.tase_map.specs.Inputs.{link_has_ended as items_end}
 use Rattle.tase_map.specs.Readings.{reading_of}
-use Rattle.tase_map.specs.Turns.{Turn, turns_of, turns_told}
+use Rattle.stack_messages.specs.declared.fault.StackFault.{StackFault}
+use Rattle.tase_map.specs.Turns.{Turn, offers, offers_badly, asks, concludes, releases, aborts}
+use Rattle.tase_map.specs.Turns.{breaks, ends as link_ends, pauses, turns_of, turns_told}
 use Rattle.tase_map.specs.Asks.{asks_of, is_last}
 use Rattle.tase_map.specs.Out.{end_turns}
 use Rattle.tase_map.specs.Sent.{events_by}
-use Rattle.tase_map.proofs.AskedOn.{asked_on}
 use Rattle.tase_map.proofs.InTurn.{asked_in_turn}
 use Rattle.tase_map.proofs.Uncut.{any_kept}
 use Rattle.tase_conn.specs.declared.stage.PendingEvent.TheVariants as askeds
@@ -39,21 +41,23 @@ use Rattle.conn_laws.proofs.Resumed.{sent_serves}
 use Rattle.conn_laws.proofs.Served.{has_served, all_done}
 use Rattle.conn_laws.proofs.Texts.{text_turns}
 use Rattle.conn_laws.proofs.TurnLists.{any_back}
-use Rattle.conn_service.specs.Attending.{Attends, HasTaken}
-use Rattle.conn_service.specs.Linked.{link_octets, peer_end}
+use Rattle.conn_service.specs.Attending.{AddsPending, Attends, IsServedTo, TakesEvents, IsNodesEnd}
+use Rattle.tase_map.specs.Linked.{link_octets}
+use Rattle.conn_service.specs.PeerEnd.{peer_end, end_at, last_turn}
+use Rattle.conn_service.proofs.Closed.{cut_sends}
+use Rattle.conn_service.proofs.Takes.{takes_each, events_taken}
 use Rattle.tase_replay.specs.declared.playing.ReplayEnd.{ReplayEnd}
-use Rattle.tase_replay.specs.declared.playing.ReplayEnd.TheVariants.{Memory}
+use Rattle.tase_replay.specs.declared.playing.ReplayEnd.TheVariants.{Done, Full, Memory}
 use Rattle.tase_replay.specs.Links.{SeatItem, items_of, line_of_out, line_of_end}
-use Rattle.tase_replay.specs.Play.{Step, Scene, LineMeaning, received, is_unfit, conn_has_ended, linked}
+use Rattle.tase_replay.specs.Play.{Scene, LineMeaning, received, is_unfit, conn_has_ended, linked}
 use Rattle.tase_replay.specs.Play.{behind_link, link_step, play_line, ends_there, scene_by}
-use Rattle.conn_service.specs.Sends.{HasEvents}
+use Rattle.tase_replay.specs.Play.{entry_steps}
+use Rattle.conn_service.specs.Sends.{HasEvents, IsCutFor, IsSaidByEnd, first_refused, close_of}
 use Rattle.tase_replay.specs.Standing.{LinkGoesOn, StandsOn, IsAwaiting, IsBehind}
-use Rattle.tase_replay.specs.Ends.{IsPlayed, IsShown, end_of_refusal}
-use Rattle.tase_replay.proofs.Linking.{Quietly, takes_quietly, stopped_quietly, through_so}
-use Rattle.tase_replay.proofs.Linking.{stopped_so, stopped_steps, IsPlayed-begun, IsPlayed-full}
+use Rattle.tase_replay.specs.Ends.{IsPlayed, IsShown, end_of_cut}
+use Rattle.tase_replay.proofs.Linking.{entries_by, entries_own, taken_past, cut_past, through_so}
+use Rattle.tase_replay.proofs.Linking.{refused_so, IsPlayed-begun, IsPlayed-full}
 use Rattle.tase_replay.proofs.Linking.{IsPlayed-linked, link_text, items_behind}
-use Rattle.tase_replay.proofs.Served.{entry_steps}
-use Rattle.tase_replay.proofs.Acted.{acted_through, acted_stopped}
 
 -- ---- an item more
 
@@ -125,78 +129,70 @@ going_awaits rows past scene who item v e g =
 -- ---- taken in
 
 -- what is to be sent is the same
+abbrev adds_on : (old between new : Talking) → pending_of between ≡ pending_of old
+    → AddsPending between new → AddsPending old new
+adds_on old between new e a = record {
+  added = a.added;
+  pending = a.pending ∙ ap (λ (os : List ℕ). os ++ a.added) e;
+}
+
 attends_on : (setup : Setup) (past : Past) (who : ℕ) (items : List Item) (said : List ℕ)
-    (old between new : Talking) (result : Result (Unit {0}) StepFault) (after : Past)
-    → pending_of between ≡ pending_of old
-    → Attends setup past who items said between result after new
-    → Attends setup past who items said old result after new
-attends_on setup past who items said old between new (Ok done) after e a = (
-  record {
-    added = a.0.added;
-    pending = a.0.pending ∙ ap (λ (os : List ℕ). os ++ a.0.added) e;
-  },
-  a.1,
-)
-attends_on setup past who items said old between new (Err (faults.HistoryFull weight limit)) after
-    e a = record {
-      adds = record {
-        added = a.adds.added;
-        pending = a.adds.pending ∙ ap (λ (os : List ℕ). os ++ a.adds.added) e;
-      };
-      refused = a.refused;
-      serves = a.serves;
-    }
-attends_on setup past who items said old between new (Err faults.Memory) after e a = a
-attends_on setup past who items said old between new (Err (faults.Stopped place)) after e a =
-    absurd a
-attends_on setup past who items said old between new (Err faults.NoAssociation) after e a =
-    absurd a
-attends_on setup past who items said old between new (Err faults.Already) after e a = absurd a
-attends_on setup past who items said old between new (Err faults.UnknownName) after e a = absurd a
+    (old between new : Talking) (after : Past) → pending_of between ≡ pending_of old
+    → Attends setup past who items said between after new
+    → Attends setup past who items said old after new
+attends_on setup past who items said old between new after e (inl a) = inl (record {
+  adds = adds_on old between new e a.adds;
+  taken = a.taken;
+  takes = a.takes;
+  asks_are = a.asks_are;
+  serves = a.serves;
+  resting = a.resting;
+  octets = a.octets;
+  end = a.end;
+})
+attends_on setup past who items said old between new after e (inr a) = inr (record {
+  taken = a.taken;
+  between = a.between;
+  takes = a.takes;
+  cut = record {
+    adds = adds_on old between new e a.cut.adds;
+    end = a.cut.end;
+    by_node = a.cut.by_node;
+    ended = a.cut.ended;
+    others = a.cut.others;
+    asks_are = a.cut.asks_are;
+    cause = a.cut.cause;
+    after_is = a.cut.after_is;
+    none_open = a.cut.none_open;
+    said_is = a.cut.said_is;
+  };
+})
 
 pub received_on : (setup : Setup) (past : Past) (who : ℕ) (items : List Item) (item : Item)
-    (said : List ℕ) (old between new : Talking) (result : Result (Unit {0}) StepFault)
-    (after : Past) → (s : Serves setup.centre past who items said None old)
-    → IsLinkInput (items ++ item ∷ [])
+    (said : List ℕ) (old between new : Talking) (after : Past)
+    → (s : Serves setup.centre past who items said None old) → IsLinkInput (items ++ item ∷ [])
     → ConnStandsAt setup.centre (items ++ item ∷ []) s.told s.turns between → TakesIn old between
     → (Serves setup.centre past who (items ++ item ∷ []) said None between
-    → Attends setup past who (items ++ item ∷ []) said between result after new)
-    → Attends setup past who (items ++ item ∷ []) said old result after new
-received_on setup past who items item said old between new result after s i stands takes attends =
-    attends_on setup past who (items ++ item ∷ []) said old between new result after
+    → Attends setup past who (items ++ item ∷ []) said between after new)
+    → Attends setup past who (items ++ item ∷ []) said old after new
+received_on setup past who items item said old between new after s i stands takes attends =
+    attends_on setup past who (items ++ item ∷ []) said old between new after
     (ap (λ (v : Talking). pending_of v) takes)
     (attends (taken_serves setup.centre past who items item said old between s i stands takes))
-
--- nothing was taken yet
-pub unreceived : (setup : Setup) (past : Past) (who : ℕ) (items : List Item) (item : Item)
-    (said : List ℕ) (v : Talking) → Serves setup.centre past who items said None v → IsResting v
-    → (rest : List EventKind) × HasTaken setup past who (items ++ item ∷ []) rest past
-unreceived setup past who items item said v s rests =
-    let more = asked_on setup.centre items (item ∷ []) in
-    let had = reverse (events_by who past) in
-    let served : HasServed setup.centre past who items said =
-    has_served setup.centre past who items said v s rests in (
-      more.0,
-      record {
-        taken = [];
-        asks_are = more.1 ∙ ap (λ (es : List EventKind). es ++ more.0)
-            (sym served.asked ∙ sym (append-nil had));
-        takes = refl;
-      },
-    )
 
 -- ---- acted on
 
 -- a line that was taken, up to what was printed
-pub record Came (setup : Setup) (scene : Scene) (given : SeatItem) (after : Past)
-    (conn : Talking) (added : List ℕ) : Type 0 where
-  pub steps : List Step
+pub record Came (setup : Setup) (scene : Scene) (given : SeatItem) (old : Talking) (after : Past)
+    (conn : Talking) : Type 0 where
+  pub adds : AddsPending old conn
+  pub events : List EventKind
   pub end : Option ConnEnd
   pub received_is : received setup scene given
-      ≡ linked setup.centre scene given steps after end
-  pub quiet : Quietly given.who scene.past after steps
+      ≡ linked setup.centre scene given (entry_steps given.who events) after end
+  pub grown : after ≡ reverse (entries_by given.who events) ++ scene.past
   pub octets : link_octets setup.centre scene.past given.who (items_of given.who scene.given)
-      ++ added
+      ++ adds.added
       ≡ link_octets setup.centre after given.who
       (items_of given.who scene.given ++ given.item ∷ [])
   pub acted : HasEvents setup after given.who
@@ -204,7 +200,7 @@ pub record Came (setup : Setup) (scene : Scene) (given : SeatItem) (after : Past
   pub end_is : conn_end_in conn.progress ≡ end
   pub goes : end ≡ None → Serves setup.centre after given.who
       (items_of given.who scene.given ++ given.item ∷ [])
-      (link_octets setup.centre scene.past given.who (items_of given.who scene.given) ++ added)
+      (link_octets setup.centre scene.past given.who (items_of given.who scene.given) ++ adds.added)
       None conn × IsResting conn
 
 some_end : (found : Option ConnEnd) (end : ConnEnd) → found ≡ Some end → found ≡ None → ⊥
@@ -218,57 +214,137 @@ asked_so rows scene who v g =
     (has_served rows scene.past who items (link_octets rows scene.past who items) v g.serves
     g.resting).asked
 
-pub came : (setup : Setup) (scene : Scene) (given : SeatItem) (old conn : Talking) (after : Past)
-    → LinkGoesOn setup.centre scene given.who old → is_unfit given.who scene ≡ false
-    → (a : Attends setup scene.past given.who (items_of given.who scene.given ++ given.item ∷ [])
-    (link_octets setup.centre scene.past given.who (items_of given.who scene.given)) old (Ok tt)
-    after conn) → Came setup scene given after conn a.0.added
-came setup scene given old conn after g fit a =
+-- what was said before an item, and what a connection came to behind it
+abbrev pub AttendsAt : Setup → Scene → SeatItem → Talking → Past → Talking → Type 0
+AttendsAt setup scene given old after conn =
+    Attends setup scene.past given.who (items_of given.who scene.given ++ given.item ∷ [])
+    (link_octets setup.centre scene.past given.who (items_of given.who scene.given)) old after conn
+
+-- the event that a node refused, where the connection was cut for that
+record RefusedNext (setup : Setup) (scene : Scene) (given : SeatItem) (taken : List EventKind)
+    (between : Past) (fault : StepFault) : Type 0 where
+  event : EventKind
+  later : List EventKind
+  asks_are : asks_of setup.centre (items_of given.who scene.given ++ given.item ∷ [])
+      ≡ (reverse (events_by given.who scene.past) ++ taken) ++ event ∷ later
+  refused : refusal_of setup between given.who event ≡ Some fault
+
+none_refused : {fault : StepFault} → None ≡ Some fault → ⊥
+none_refused e = absurd cc
+
+refused_next : (setup : Setup) (scene : Scene) (given : SeatItem) (taken : List EventKind)
+    (between : Past) (others : List EventKind) (fault : StepFault)
+    → TakesEvents setup given.who scene.past taken between
+    → asks_of setup.centre (items_of given.who scene.given ++ given.item ∷ [])
+    ≡ reverse (events_by given.who between) ++ others
+    → first_refused setup between given.who others ≡ Some fault
+    → RefusedNext setup scene given taken between fault
+refused_next setup scene given taken between [] fault takes e is = absurd (none_refused is)
+refused_next setup scene given taken between (event ∷ later) fault takes e is = record {
+  event = event;
+  later = later;
+  asks_are = e ∙ ap (λ (es : List EventKind). es ++ event ∷ later)
+      (events_taken setup given.who scene.past taken between
+      (takes_each setup given.who scene.past taken between takes));
+  refused = is;
+}
+
+-- it is taken unless the connection was cut for a full history, or for want of memory
+came_cut : (setup : Setup) (scene : Scene) (given : SeatItem) (old conn : Talking) (after : Past)
+    (end : ConnEnd) → LinkGoesOn setup.centre scene given.who old
+    → is_unfit given.who scene ≡ false
+    → (a : IsServedTo setup scene.past given.who (items_of given.who scene.given ++ given.item ∷ [])
+    (link_octets setup.centre scene.past given.who (items_of given.who scene.given)) old after conn)
+    → a.cut.end ≡ end → IsNodesEnd end → end_of_cut (Some end) ≡ None
+    → Came setup scene given old after conn
+came_cut setup scene given old conn after conn_ends.Stopped g fit a e node goes =
     let who = given.who in
     let items = items_of who scene.given ++ given.item ∷ [] in
-    let asked = asked_so setup.centre scene who old g in
-    ⊎_elim (λ t. record {
-      steps = entry_steps who t.has.taken;
+    let all = a.taken ++ close_of (association_in a.between who) in
+    let cause : IsCutFor setup a.between who items conn_ends.Stopped
+    (first_refused setup a.between who a.cut.others) =
+    subst (λ (x : ConnEnd). IsCutFor setup a.between who items x
+    (first_refused setup a.between who a.cut.others)) e a.cut.cause in
+    let r = refused_next setup scene given a.taken a.between a.cut.others (faults.Stopped cause.0)
+    a.takes a.cut.asks_are cause.1 in
+    let said = subst (λ (x : ConnEnd). IsSaidByEnd setup items (Some x)
+    (link_octets setup.centre scene.past who (items_of who scene.given) ++ a.cut.adds.added)
+    (link_octets setup.centre after who items)) e a.cut.said_is in
+    record {
+      adds = a.cut.adds;
+      events = all;
+      end = Some conn_ends.Stopped;
+      received_is = refused_so setup scene given a.taken a.between r.event r.later
+          (faults.Stopped cause.0) fit (asked_so setup.centre scene who old g) r.asks_are a.takes
+          r.refused
+          ∙ ap (λ (p : Past). linked setup.centre scene given (entry_steps who all) p
+          (Some conn_ends.Stopped)) (sym a.cut.after_is);
+      grown = a.cut.after_is ∙ cut_past setup who scene.past a.taken a.between a.takes;
+      octets = said;
+      acted = subst (λ (x : ConnEnd). HasEvents setup after who items (Some x)) e
+          (cut_sends setup a.between who items
+          (link_octets setup.centre scene.past who (items_of who scene.given)) old after conn
+          a.cut).events;
+      end_is = ap (λ (p : Progress). conn_end_in p) a.cut.ended
+          ∙ ap (λ (x : ConnEnd). Some x) e;
+      goes = λ none. absurd (some_end (Some conn_ends.Stopped) conn_ends.Stopped refl none);
+    }
+came_cut setup scene given old conn after (conn_ends.Full weight limit) g fit a e node goes =
+    absurd cc
+came_cut setup scene given old conn after conn_ends.Memory g fit a e node goes = absurd cc
+came_cut setup scene given old conn after (conn_ends.TooLong len detail) g fit a e node goes =
+    absurd node
+came_cut setup scene given old conn after (conn_ends.Overflow pending limit) g fit a e node goes =
+    absurd node
+came_cut setup scene given old conn after conn_ends.LinkFault g fit a e node goes = absurd node
+came_cut setup scene given old conn after conn_ends.Finished g fit a e node goes = absurd node
+came_cut setup scene given old conn after conn_ends.PeerEnd g fit a e node goes = absurd node
+came_cut setup scene given old conn after conn_ends.Declined g fit a e node goes = absurd node
+came_cut setup scene given old conn after (conn_ends.Refused fault) g fit a e node goes =
+    absurd node
+
+pub came : (setup : Setup) (scene : Scene) (given : SeatItem) (old conn : Talking) (after : Past)
+    → LinkGoesOn setup.centre scene given.who old → is_unfit given.who scene ≡ false
+    → AttendsAt setup scene given old after conn → end_of_cut (conn_end_in conn.progress) ≡ None
+    → Came setup scene given old after conn
+came setup scene given old conn after g fit (inl t) none =
+    let who = given.who in
+    let items = items_of who scene.given ++ given.item ∷ [] in
+    let each = takes_each setup who scene.past t.taken after t.takes in
+    record {
+      adds = t.adds;
+      events = t.taken;
       end = peer_end setup.centre items;
-      received_is = through_so setup scene given after fit asked t.has;
-      quiet = takes_quietly setup who scene.past t.has.taken after t.has.takes;
+      received_is = through_so setup scene given t.taken after fit
+          (asked_so setup.centre scene who old g) t.asks_are t.takes;
+      grown = taken_past setup who scene.past t.taken after each;
       octets = t.octets;
-      acted = acted_through setup scene.past who items after t.has;
+      acted = inl (record {
+        events = events_taken setup who scene.past t.taken after each ∙ sym t.asks_are;
+        by_peer = refl;
+      });
       end_is = t.end;
       goes = λ e. (t.serves, t.resting);
-    }) (λ s. record {
-      steps = stopped_steps who s.refused.has.taken s.between;
-      end = Some conn_ends.Stopped;
-      received_is = stopped_so setup scene given s.between after s.refused.event s.refused.later
-          s.place fit asked s.refused.has s.refused.refused s.after_is;
-      quiet = stopped_quietly setup who scene.past s.between after s.refused.has.taken
-          s.refused.has.takes s.after_is;
-      octets = s.octets;
-      acted = acted_stopped setup scene.past who items s.place s.between after s.refused s.after_is;
-      end_is = ap (λ (p : Progress). conn_end_in p) s.ended;
-      goes = λ e. absurd (some_end (Some conn_ends.Stopped) conn_ends.Stopped refl e);
-    }) a.1
+    }
+came setup scene given old conn after g fit (inr c) none =
+    came_cut setup scene given old conn after c.cut.end g fit c refl c.cut.by_node
+    (ap (λ (p : Progress). end_of_cut (conn_end_in p)) (sym c.cut.ended) ∙ none)
 
 -- ---- printed
 
 pub came_played : (setup : Setup) (line : List ℕ) (number : ℕ) (scene : Scene) (given : SeatItem)
     (history now : List Entry) (before after : SinkTold) (end : ReplayEnd) (old conn : Talking)
     (past : Past) → scene.past ≡ reverse history → past ≡ reverse now
-    → LinkGoesOn setup.centre scene given.who old → is_unfit given.who scene ≡ false
-    → Attends setup scene.past given.who (items_of given.who scene.given ++ given.item ∷ [])
-    (link_octets setup.centre scene.past given.who (items_of given.who scene.given)) old (Ok tt)
-    past conn
+    → LinkGoesOn setup.centre scene given.who old → Came setup scene given old past conn
     → IsShown (line_of_out given.who (pending_of conn)
     ++ line_of_end given.who (conn_end_in conn.progress)) before after end
     → IsPlayed (play_line line number (received setup scene given) ends_there) history now before
     after end
-came_played setup line number scene given history now before after end old conn past e f g fit a
-    shown =
+came_played setup line number scene given history now before after end old conn past e f g c shown =
     let who = given.who in
-    let c = came setup scene given old conn past g fit a in
-    let added = a.0.added in
+    let added = c.adds.added in
     let pending : pending_of conn ≡ added =
-    a.0.pending ∙ ap (λ (os : List ℕ). os ++ added) g.printed in
+    c.adds.pending ∙ ap (λ (os : List ℕ). os ++ added) g.printed in
     let text : line_of_out who (pending_of conn) ++ line_of_end who (conn_end_in conn.progress)
     ≡ (link_step setup.centre scene (behind_link scene past given c.end) given c.end).printed =
     ap (λ (os : List ℕ). line_of_out who os ++ line_of_end who (conn_end_in conn.progress)) pending
@@ -276,8 +352,8 @@ came_played setup line number scene given history now before after end old conn 
     ∙ sym (link_text setup.centre scene given past c.end added c.octets) in
     subst (λ (m : LineMeaning). IsPlayed (play_line line number m ends_there) history now before after
     end) (sym c.received_is)
-    (IsPlayed-linked setup.centre line number scene given history now before after end c.steps past
-    c.end e f c.quiet (subst (λ (os : List ℕ). IsShown os before after end) text shown))
+    (IsPlayed-linked setup.centre line number scene given history now before after end c.events past
+    c.end e f c.grown (subst (λ (os : List ℕ). IsShown os before after end) text shown))
 
 -- where its connection stands then
 rests_sent : (old new : Talking) → SendsSome old new → IsResting old → IsResting new
@@ -288,14 +364,14 @@ rests_sent old new same r = record {
 }
 
 stands_by : (setup : Setup) (scene : Scene) (given : SeatItem) (old conn new : Talking) (past : Past)
-    (added : List ℕ) (end : Option ConnEnd) → LinkGoesOn setup.centre scene given.who old
-    → (c : Came setup scene given past conn added) → c.end ≡ end
+    (end : Option ConnEnd) → LinkGoesOn setup.centre scene given.who old
+    → (c : Came setup scene given old past conn) → c.end ≡ end
     → (c.end ≡ None → Serves setup.centre past given.who
     (items_of given.who scene.given ++ given.item ∷ [])
-    (link_octets setup.centre scene.past given.who (items_of given.who scene.given) ++ added)
-    None new) → SendsSome conn new → pending_of new ≡ []
+    (link_octets setup.centre scene.past given.who (items_of given.who scene.given)
+    ++ c.adds.added) None new) → SendsSome conn new → pending_of new ≡ []
     → StandsOn setup.centre (behind_link scene past given end) given.who new
-stands_by setup scene given old conn new past added None g c e serves same sent =
+stands_by setup scene given old conn new past None g c e serves same sent =
     let rows = setup.centre in
     let who = given.who in
     let items = items_of who scene.given ++ given.item ∷ [] in
@@ -311,7 +387,7 @@ stands_by setup scene given old conn new past added None g c e serves same sent 
       unended = shown;
       shown = g.shown;
     })
-stands_by setup scene given old conn new past added (Some end) g c e serves same sent =
+stands_by setup scene given old conn new past (Some end) g c e serves same sent =
     let who = given.who in
     inr (record {
       ended = ap (λ (v : Talking). is_some (conn_end_in v.progress)) same
@@ -321,21 +397,16 @@ stands_by setup scene given old conn new past added (Some end) g c e serves same
 
 pub came_behind : (setup : Setup) (scene : Scene) (given : SeatItem) (now : List Entry)
     (old conn new : Talking) (past : Past) → past ≡ reverse now
-    → LinkGoesOn setup.centre scene given.who old → is_unfit given.who scene ≡ false
-    → (a : Attends setup scene.past given.who (items_of given.who scene.given ++ given.item ∷ [])
-    (link_octets setup.centre scene.past given.who (items_of given.who scene.given)) old (Ok tt)
-    past conn)
+    → LinkGoesOn setup.centre scene given.who old → (c : Came setup scene given old past conn)
     → ((items : List Item) (told : List Arrival) (turns : List Turn)
     → ConnStandsAt setup.centre items told turns conn → ConnStandsAt setup.centre items told turns new)
     → SendsSome conn new → pending_of new ≡ []
     → IsBehind setup.centre scene given (scene_by scene (received setup scene given)) now new
-came_behind setup scene given now old conn new past f g fit a stands same sent =
+came_behind setup scene given now old conn new past f g c stands same sent =
     let rows = setup.centre in
     let who = given.who in
     let items = items_of who scene.given ++ given.item ∷ [] in
-    let added = a.0.added in
-    let said = link_octets rows scene.past who (items_of who scene.given) ++ added in
-    let c = came setup scene given old conn past g fit a in
+    let said = link_octets rows scene.past who (items_of who scene.given) ++ c.adds.added in
     let after : scene_by scene (received setup scene given) ≡ behind_link scene past given c.end =
     ap (λ (m : LineMeaning). scene_by scene m) c.received_is in
     let serves : c.end ≡ None → Serves rows past who items said None new =
@@ -343,60 +414,139 @@ came_behind setup scene given now old conn new past f g fit a stands same sent =
     sent_serves rows past who items said None conn new s (stands items s.told s.turns s.stands)
     same in
     record {
-      entries = c.quiet.entries;
-      own = c.quiet.own;
+      entries = reverse (entries_by who c.events);
+      own = entries_own who c.events;
       end = c.end;
-      after_is = after ∙ ap (λ (p : Past). behind_link scene p given c.end) c.quiet.after_is;
+      after_is = after ∙ ap (λ (p : Past). behind_link scene p given c.end) c.grown;
       past_is = ap (λ (s : Scene). s.past) after ∙ f;
       stands = subst (λ (s : Scene). StandsOn rows s who new) (sym after)
-          (stands_by setup scene given old conn new past added c.end g c refl serves same sent);
+          (stands_by setup scene given old conn new past c.end g c refl serves same sent);
     }
 
--- ---- refused
+-- ---- cut for a full history, or for want of memory
 
-pub refused_played : (setup : Setup) (line : List ℕ) (number : ℕ) (scene : Scene) (given : SeatItem)
-    (history now : List Entry) (sink : SinkTold) (fault : StepFault) (old conn : Talking)
+cut_played : (setup : Setup) (line : List ℕ) (number : ℕ) (scene : Scene) (given : SeatItem)
+    (history now : List Entry) (sink : SinkTold) (over : ConnEnd) (end : ReplayEnd)
+    (old conn : Talking) (past : Past) → scene.past ≡ reverse history → past ≡ reverse now
+    → LinkGoesOn setup.centre scene given.who old → is_unfit given.who scene ≡ false
+    → (a : IsServedTo setup scene.past given.who (items_of given.who scene.given ++ given.item ∷ [])
+    (link_octets setup.centre scene.past given.who (items_of given.who scene.given)) old past conn)
+    → a.cut.end ≡ over → end_of_cut (Some over) ≡ Some end
+    → IsPlayed (play_line line number (received setup scene given) ends_there) history now sink
+    sink end
+cut_played setup line number scene given history now sink (conn_ends.Full weight limit) end old conn
+    past e f g fit a is ends =
+    let who = given.who in
+    let cause : first_refused setup a.between who a.cut.others
+    ≡ Some (faults.HistoryFull weight limit) =
+    subst (λ (x : ConnEnd). IsCutFor setup a.between who
+    (items_of who scene.given ++ given.item ∷ []) x
+    (first_refused setup a.between who a.cut.others)) is a.cut.cause in
+    let r = refused_next setup scene given a.taken a.between a.cut.others
+    (faults.HistoryFull weight limit) a.takes a.cut.asks_are cause in
+    subst (λ (x : ReplayEnd). IsPlayed (play_line line number (received setup scene given) ends_there)
+    history now sink sink x) (end_is (Full weight limit) end ends)
+    (IsPlayed-full setup line number scene given history now sink a.taken a.between past r.event
+    r.later weight limit e f fit (asked_so setup.centre scene who old g) r.asks_are a.takes r.refused
+    a.cut.after_is)
+  where
+    end_is : (x y : ReplayEnd) → Some x ≡ Some y → x ≡ y
+    end_is x y same = ap (λ (o : Option ReplayEnd). unwrap_or o x) same
+cut_played setup line number scene given history now sink conn_ends.Memory end old conn past e f g
+    fit a is ends =
+    subst (λ (x : ReplayEnd). IsPlayed (play_line line number (received setup scene given) ends_there)
+    history now sink sink x) (end_is Memory end ends)
+    (IsPlayed-begun setup line number scene given history now sink a.taken a.cut.others a.between past
+    e f fit (asked_so setup.centre scene given.who old g)
+    (asked_in_turn setup.centre (items_of given.who scene.given ++ given.item ∷ [])
+    (going_input setup.centre scene given.who given.item old g)) a.takes a.cut.asks_are
+    a.cut.after_is)
+  where
+    end_is : (x y : ReplayEnd) → Some x ≡ Some y → x ≡ y
+    end_is x y same = ap (λ (o : Option ReplayEnd). unwrap_or o x) same
+cut_played setup line number scene given history now sink conn_ends.Stopped end old conn past e f g
+    fit a is ends = absurd cc
+cut_played setup line number scene given history now sink (conn_ends.TooLong len detail) end old
+    conn past e f g fit a is ends = absurd cc
+cut_played setup line number scene given history now sink (conn_ends.Overflow pending limit) end old
+    conn past e f g fit a is ends = absurd cc
+cut_played setup line number scene given history now sink conn_ends.LinkFault end old conn past e f
+    g fit a is ends = absurd cc
+cut_played setup line number scene given history now sink conn_ends.Finished end old conn past e f g
+    fit a is ends = absurd cc
+cut_played setup line number scene given history now sink conn_ends.PeerEnd end old conn past e f g
+    fit a is ends = absurd cc
+cut_played setup line number scene given history now sink conn_ends.Declined end old conn past e f g
+    fit a is ends = absurd cc
+cut_played setup line number scene given history now sink (conn_ends.Refused fault) end old conn
+    past e f g fit a is ends = absurd cc
+
+-- a peer's end is none of these
+uncut_end : (rows : CentreRows) (items : List Item) (end : ReplayEnd)
+    → end_of_cut (peer_end rows items) ≡ Some end → ⊥
+uncut_end rows items end e =
+    by (last_turn rows (turns_of items)) e
+  where
+    at : (turn : Turn) (broken : Option StackFault) → end_of_cut (end_at broken turn) ≡ Some end → ⊥
+    at (offers title) broken e = absurd cc
+    at offers_badly broken e = absurd cc
+    at (asks invoke call) broken e = absurd cc
+    at concludes broken e = absurd cc
+    at releases broken e = absurd cc
+    at aborts broken e = absurd cc
+    at breaks None e = absurd cc
+    at breaks (Some fault) e = absurd cc
+    at link_ends broken e = absurd cc
+    at pauses broken e = absurd cc
+
+    by : (last : Option Turn)
+        → end_of_cut (option_and_then (end_at (reading_of (text_given items)).broken) last)
+        ≡ Some end → ⊥
+    by None e = absurd cc
+    by (Some turn) e = at turn (reading_of (text_given items)).broken e
+
+pub ended_played : (setup : Setup) (line : List ℕ) (number : ℕ) (scene : Scene) (given : SeatItem)
+    (history now : List Entry) (sink : SinkTold) (end : ReplayEnd) (old conn : Talking)
     (past : Past) → scene.past ≡ reverse history → past ≡ reverse now
     → LinkGoesOn setup.centre scene given.who old → is_unfit given.who scene ≡ false
-    → Attends setup scene.past given.who (items_of given.who scene.given ++ given.item ∷ [])
-    (link_octets setup.centre scene.past given.who (items_of given.who scene.given)) old
-    (Err fault) past conn
+    → AttendsAt setup scene given old past conn → end_of_cut (conn_end_in conn.progress) ≡ Some end
     → IsPlayed (play_line line number (received setup scene given) ends_there) history now sink
-    sink (end_of_refusal number fault)
-refused_played setup line number scene given history now sink (faults.HistoryFull weight limit)
-    old conn past e f g fit a =
-    let r = a.refused in
-    IsPlayed-full setup line number scene given history now sink past r.event r.later weight limit
-    e f fit (asked_so setup.centre scene given.who old g) r.has r.refused
-refused_played setup line number scene given history now sink faults.Memory old conn past e f g fit
-    a =
-    IsPlayed-begun setup line number scene given history now sink past a.0 e f fit
-    (asked_so setup.centre scene given.who old g)
-    (asked_in_turn setup.centre (items_of given.who scene.given ++ given.item ∷ [])
-    (going_input setup.centre scene given.who given.item old g)) a.1
-refused_played setup line number scene given history now sink (faults.Stopped place) old conn past
-    e f g fit a = absurd a
-refused_played setup line number scene given history now sink faults.NoAssociation old conn past
-    e f g fit a = absurd a
-refused_played setup line number scene given history now sink faults.Already old conn past e f g
-    fit a = absurd a
-refused_played setup line number scene given history now sink faults.UnknownName old conn past e f
-    g fit a = absurd a
+    sink end
+ended_played setup line number scene given history now sink end old conn past e f g fit (inl t) ends =
+    absurd (uncut_end setup.centre (items_of given.who scene.given ++ given.item ∷ []) end
+    (ap (λ (o : Option ConnEnd). end_of_cut o) (sym t.end) ∙ ends))
+ended_played setup line number scene given history now sink end old conn past e f g fit (inr a) ends =
+    cut_played setup line number scene given history now sink a.cut.end end old conn past e f g fit a
+    refl (ap (λ (p : Progress). end_of_cut (conn_end_in p)) (sym a.cut.ended) ∙ ends)
+
+-- no line was taken with such an end
+pub never_cut : (found : Option ConnEnd) → end_of_cut found ≡ Some Done → ⊥
+never_cut None e = absurd cc
+never_cut (Some (conn_ends.Full weight limit)) e = absurd cc
+never_cut (Some conn_ends.Memory) e = absurd cc
+never_cut (Some conn_ends.Stopped) e = absurd cc
+never_cut (Some (conn_ends.TooLong len detail)) e = absurd cc
+never_cut (Some (conn_ends.Overflow pending limit)) e = absurd cc
+never_cut (Some conn_ends.LinkFault) e = absurd cc
+never_cut (Some conn_ends.Finished) e = absurd cc
+never_cut (Some conn_ends.PeerEnd) e = absurd cc
+never_cut (Some conn_ends.Declined) e = absurd cc
+never_cut (Some (conn_ends.Refused fault)) e = absurd cc
 
 -- ---- over a node's history
 
-pub attended_of : (setup : Setup) (past : Past) (scene : Scene) (who : ℕ) (item : Item)
-    (old new : Talking) (result : Result (Unit {0}) StepFault) (after : Past)
-    → scene.past ≡ past → LinkGoesOn setup.centre scene who old
-    → ((items : List Item) (said : List ℕ) → Serves setup.centre past who items said None old
-    → IsLinkInput (items ++ item ∷ [])
-    → Attends setup past who (items ++ item ∷ []) said old result after new)
-    → Attends setup scene.past who (items_of who scene.given ++ item ∷ [])
-    (link_octets setup.centre scene.past who (items_of who scene.given)) old result after new
-attended_of setup past scene who item old new result after e g f =
+pub attended_of : (setup : Setup) (past : Past) (scene : Scene) (given : SeatItem)
+    (old new : Talking) (after : Past) → scene.past ≡ past
+    → LinkGoesOn setup.centre scene given.who old
+    → ((items : List Item) (said : List ℕ) → Serves setup.centre past given.who items said None old
+    → IsLinkInput (items ++ given.item ∷ [])
+    → Attends setup past given.who (items ++ given.item ∷ []) said old after new)
+    → AttendsAt setup scene given old after new
+attended_of setup past scene given old new after e g f =
     let rows = setup.centre in
+    let who = given.who in
     let items = items_of who scene.given in
     let said = link_octets rows scene.past who items in
-    subst (λ (p : Past). Attends setup p who (items ++ item ∷ []) said old result after new) (sym e)
+    subst (λ (p : Past). Attends setup p who (items ++ given.item ∷ []) said old after new) (sym e)
     (f items said (subst (λ (p : Past). Serves rows p who items said None old) e g.serves)
-    (going_input rows scene who item old g))
+    (going_input rows scene who given.item old g))

@@ -19,7 +19,7 @@ use Rattle.tase_conn.specs.declared.stage.Progress.{Progress}
 use Rattle.tase_conn.specs.Talking.{Talking, conn_end_in}
 use Rattle.conn_laws.specs.Serving.{Serves, AreOthers}
 use Rattle.conn_laws.proofs.Kept.{begun_serves, others_serve}
-use Rattle.conn_service.specs.Linked.{link_octets}
+use Rattle.tase_map.specs.Linked.{link_octets}
 use Rattle.tase_replay.specs.declared.links.Seats.{Seats}
 use Rattle.tase_replay.specs.declared.links.Use.{Use}
 use Rattle.tase_replay.specs.declared.links.Use.TheVariants as uses

@@ -2,7 +2,7 @@
 use Rattle.std.proofs.Common.{◌≡◌, ◌==◌, ℕ, Bool, true, false, List, [], ◌∷◌, ◌++◌}
 use Rattle.std.proofs.Common.{Option, Some, None, refl, sym, ap, subst, ◌∙◌, inl, inr}
 use Rattle.std.specs.Prelude.{if◌then◌else◌, ◌⊎◌}
-use Rattle.std.proofs.lemmas.Bool.{ne_eqb, eqb-true}
+use Rattle.std.proofs.lemmas.Bool.{eqb-true}
 use Rattle.stack_assoc.specs.Arrivals.{called}
 use Rattle.stack_assoc.specs.Handing.{answers_to}
 use Rattle.bilateral.specs.Rows.{CentreRows}
@@ -15,13 +15,13 @@ use Rattle.tase_map.specs.Closed.{is_closed}
 use Rattle.tase_map.specs.Inputs.{Item, text_given, link_has_ended}
 use Rattle.tase_map.specs.Readings.{Reading, reading_of}
 use Rattle.tase_map.specs.Out.{refusal_octets}
-use Rattle.tase_map.specs.Sent.{events_by}
+use Rattle.tase_map.specs.Sent.{events_by, with_event}
 use Rattle.tase_map.proofs.ReadingLaws.{reading, reading_only}
 use Rattle.tase_map.proofs.TurnOrder.{nothing_said}
-use Rattle.conn_laws.specs.Serving.{AreOthers, with_event}
+use Rattle.conn_laws.specs.Serving.{AreOthers}
 use Rattle.conn_laws.proofs.Seats.{at_seat, close_closes, closed_still, others_sent}
-use Rattle.conn_service.specs.Linked.{opened_in, opened_by, octets_by, link_octets}
-use Rattle.conn_service.proofs.Opened.{none_opened}
+use Rattle.conn_laws.proofs.Seats.{others_opened, none_opened}
+use Rattle.tase_map.specs.Linked.{opened_in, opened_by, octets_by, link_octets}
 
 -- ---- the association that a seat has opened last
 
@@ -88,15 +88,6 @@ settles rows (entry ∷ past) who =
 
 -- ---- entries of other seats
 
-opened_beside : (who : ℕ) (others past : Past) → AreOthers who others
-    → opened_in (others ++ past) who ≡ opened_in past who
-opened_beside who [] past a = refl
-opened_beside who (entry ∷ others) past a =
-    ap (λ (b : Bool). if b then opened_by entry.event (others ++ past)
-    (opened_in (others ++ past) who) else opened_in (others ++ past) who)
-    (ne_eqb entry.who who a.0)
-    ∙ opened_beside who others past a.1
-
 octets_beside : (rows : CentreRows) (who : ℕ) (others past : Past) (items : List Item)
     (found : Option Key) → AreOthers who others → Settles past who found
     → octets_by rows (others ++ past) items found ≡ octets_by rows past items found
@@ -111,7 +102,7 @@ pub octets_still : (rows : CentreRows) (who : ℕ) (others past : Past) (items :
     → link_octets rows (others ++ past) who items ≡ link_octets rows past who items
 octets_still rows who others past items a =
     ap (λ (o : Option Key). octets_by rows (others ++ past) items o)
-    (opened_beside who others past a)
+    (others_opened who others past a)
     ∙ octets_beside rows who others past items (opened_in past who) a (settles rows past who)
 
 -- ---- a link that gave nothing

@@ -12,7 +12,8 @@ use Rattle.outside.proofs.Writing.{AppendsPart-append}
 use Rattle.tase_views.specs.declared.event.Entry.{Entry}
 use Rattle.tase_replay.specs.Play.{Step, entries_in, printed_in}
 use Rattle.tase_conn.specs.declared.stage.ConnEnd.{ConnEnd}
-use Rattle.tase_replay.specs.AllSent.{Printed, octet, printed_end, printed_all, printed_to}
+use Rattle.tase_replay.specs.PrintedLines.{ShownToPeer, sent_octet, end_shown, all_shown, shown_by}
+use Rattle.tase_replay.specs.PrintedLines.{step_shows}
 use Rattle.tase_replay.specs.Ends.{TakesAll, TakesPart}
 
 pub entries_in-append : (first next : List Step) → entries_in (first ++ next) ≡ entries_in first
@@ -23,41 +24,40 @@ pub printed_in-append : (first next : List Step) → printed_in (first ++ next) 
     ++ printed_in next
 printed_in-append first next = flat_map-append (λ (step : Step). step.printed) first next
 
-pub printed_to-append : (who : ℕ) (first next : List Step)
-    → printed_to who (first ++ next) ≡ printed_to who first ++ printed_to who next
-printed_to-append who first next =
-    flat_map-append (λ (step : Step). if step.who == who then printed_all step.octets step.end
-    else []) first next
+pub shown_by-append : (who : ℕ) (first next : List Step)
+    → shown_by who (first ++ next) ≡ shown_by who first ++ shown_by who next
+shown_by-append who first next =
+    flat_map-append (step_shows who) first next
 
 -- what one step prints for a peer: nothing, where it has no octets and no end, or is of another seat
-pub printed_to-silent : (who : ℕ) (step : Step) → step.octets ≡ [] → step.end ≡ None
-    → printed_to who (step ∷ []) ≡ []
-printed_to-silent who step none unended =
-    append-nil (if step.who == who then printed_all step.octets step.end else [])
+pub shown_by-silent : (who : ℕ) (step : Step) → step.octets ≡ [] → step.end ≡ None
+    → shown_by who (step ∷ []) ≡ []
+shown_by-silent who step none unended =
+    append-nil (if step.who == who then all_shown step.octets step.end else [])
     ∙ either (step.who == who)
   where
-    either : (b : Bool) → (if b then printed_all step.octets step.end else []) ≡ []
+    either : (b : Bool) → (if b then all_shown step.octets step.end else []) ≡ []
     either true = rw (none, unended) refl
     either false = refl
 
-pub printed_to-other : (who : ℕ) (step : Step) → (step.who == who) ≡ false
-    → printed_to who (step ∷ []) ≡ []
-printed_to-other who step other =
-    ap (λ (b : Bool). (if b then printed_all step.octets step.end else []) ++ []) other
+pub shown_by-other : (who : ℕ) (step : Step) → (step.who == who) ≡ false
+    → shown_by who (step ∷ []) ≡ []
+shown_by-other who step other =
+    ap (λ (b : Bool). (if b then all_shown step.octets step.end else []) ++ []) other
 
-pub printed_to-own : (who : ℕ) (step : Step) → (step.who == who) ≡ true
-    → printed_to who (step ∷ []) ≡ printed_all step.octets step.end
-printed_to-own who step own =
-    ap (λ (b : Bool). (if b then printed_all step.octets step.end else []) ++ []) own
-    ∙ append-nil (printed_all step.octets step.end)
+pub shown_by-own : (who : ℕ) (step : Step) → (step.who == who) ≡ true
+    → shown_by who (step ∷ []) ≡ all_shown step.octets step.end
+shown_by-own who step own =
+    ap (λ (b : Bool). (if b then all_shown step.octets step.end else []) ++ []) own
+    ∙ append-nil (all_shown step.octets step.end)
 
 -- octets, and behind them others with the end
-pub printed_all-append : (first next : List ℕ) (end : Option ConnEnd)
-    → printed_all first None ++ printed_all next end ≡ printed_all (first ++ next) end
-printed_all-append first next end =
-    ap (λ (ps : List Printed). ps ++ printed_all next end) (append-nil (map octet first))
-    ∙ sym (append_assoc (map octet first) (map octet next) (printed_end end))
-    ∙ ap (λ (ps : List Printed). ps ++ printed_end end) (sym (map-append octet first next))
+pub all_shown-append : (first next : List ℕ) (end : Option ConnEnd)
+    → all_shown first None ++ all_shown next end ≡ all_shown (first ++ next) end
+all_shown-append first next end =
+    ap (λ (ps : List ShownToPeer). ps ++ all_shown next end) (append-nil (map sent_octet first))
+    ∙ sym (append_assoc (map sent_octet first) (map sent_octet next) (end_shown end))
+    ∙ ap (λ (ps : List ShownToPeer). ps ++ end_shown end) (sym (map-append sent_octet first next))
 
 -- nothing was taken
 pub TakesAll-none : (history : List Entry) (sink : SinkTold) → TakesAll [] history history sink sink
@@ -73,7 +73,9 @@ TakesPart-none steps history sink =
     record {
       count = 0;
       within = omega arith;
-      entries = sym (append-nil history);
+      closing = [];
+      closes = tt;
+      entries = sym (append-nil (history ++ []) ∙ append-nil history);
       shown =
           AppendsPart-none sink [];
     }
@@ -103,12 +105,14 @@ TakesPart-append first next history middle now before between after failed one t
     record {
       count = length first + two.count;
       within = omega (arith, length-append first next, two.within);
-      entries = two.entries ∙ ap (λ (h : List Entry). h ++ entries_in (take two.count next))
-          one.entries
+      closing = two.closing;
+      closes = two.closes;
+      entries = two.entries ∙ ap (λ (h : List Entry). h ++ two.closing)
+          (ap (λ (h : List Entry). h ++ entries_in (take two.count next)) one.entries
           ∙ append_assoc history (entries_in first) (entries_in (take two.count next))
           ∙ ap (λ (e : List Entry). history ++ e)
           (sym (entries_in-append first (take two.count next)))
-          ∙ ap (λ (steps : List Step). history ++ entries_in steps) (sym front);
+          ∙ ap (λ (steps : List Step). history ++ entries_in steps) (sym front));
       shown = subst (λ (steps : List Step). AppendsPart before after (printed_in steps) failed)
           (sym front)
           (subst (λ (text : List ℕ). AppendsPart before after text failed)
@@ -128,7 +132,10 @@ TakesPart-front steps more history now before after failed part =
     record {
       count = part.count;
       within = omega (arith, length-append steps more, part.within);
-      entries = part.entries ∙ ap (λ (these : List Step). history ++ entries_in these) (sym front);
+      closing = part.closing;
+      closes = part.closes;
+      entries = part.entries
+          ∙ ap (λ (these : List Step). (history ++ entries_in these) ++ part.closing) (sym front);
       shown = subst (λ (these : List Step). AppendsPart before after (printed_in these) failed)
           (sym front) part.shown;
     }

@@ -21,6 +21,7 @@ use Rattle.tase_views.specs.declared.event.EventKind.TheVariants.{Open, Request,
 use Rattle.tase_views.specs.History.{Past}
 use Rattle.tase_views.specs.Setup.{Setup}
 use Rattle.tase_map.specs.Inputs.{piece}
+use Rattle.tase_map.specs.Inputs as inputs
 use Rattle.tase_conn.specs.declared.stage.ConnEnd.{ConnEnd}
 use Rattle.tase_conn.specs.declared.stage.ConnEnd.TheVariants as conn_ends
 use Rattle.stack_messages.proofs.Worked.{wanted}
@@ -262,7 +263,7 @@ abbrev light : Setup
 light = record { centre = setup.centre; limit = 8 }
 
 full_line : line_meaning light called (in_line connect_digits)
-    ≡ too_heavy (entry_step (entry_by (Open 0) 1) ∷ []) 10 8
+    ≡ too_heavy (entry_step (entry_by (Open 0) 1) ∷ entry_step (entry_by Close 1) ∷ []) 10 8
 unfolding writes
 full_line =
     ap (λ (asking : Option Asking). means light called asking) (connect_asking light.centre)
@@ -325,11 +326,50 @@ filled-said = ap said
     (filled light (in_line connect_digits) (in_line identify_digits ∷ []) called 2 full_line))
 
 -- a link that ends before its first message, and is used again
+abbrev front : List ℕ
+front = 3 ∷ 0 ∷ 0 ∷ []
+
+abbrev begun : Scene
+begun = scene [] (front ∷ []) []
+
+abbrev left : Scene
+left = record {
+  past = [];
+  given = given front ∷ given_by inputs.ended 1 ∷ [];
+  ended = 1 ∷ [];
+}
+
+-- a step of a link that shows nothing
+abbrev quiet_step : Step
+quiet_step = record { who = 1; entries = []; octets = []; end = None; printed = [] }
+
+abbrev ended_step : Step
+ended_step = record {
+  who = 1;
+  entries = [];
+  octets = [];
+  end = Some conn_ends.PeerEnd;
+  printed = codes "ended 1 peerend" ++ 10 ∷ [];
+}
+
+front_asking : asking_in setup.centre (codes "in 1 030000") ≡ Some (an_item (given front))
+unfolding decode_pairs
+front_asking = refl
+
+front_line : line_meaning setup (first_scene []) (codes "in 1 030000") ≡ gives (quiet_step ∷ []) begun
+front_line =
+    ap (λ (asking : Option Asking). means setup (first_scene []) asking) front_asking
+    ∙ simp (read_none, front_read)
+
+ended_line : line_meaning setup begun (codes "end 1") ≡ gives (ended_step ∷ []) left
+unfolding digits
+ended_line = simp (read_none, front_read)
+
 ended-said : said (played (codes "in 1 030000" ∷ codes "end 1" ∷ codes "idle 1" ∷ []))
     ≡ (text_of (codes "ended 1 peerend" ∷ []), bad_line 3)
-unfolding digits decode_pairs
-ended-said =
-    rw (front_read, read_none, front_read, read_none, front_read, read_none)
+ended-said = ap said
+    (taken setup (codes "in 1 030000") (codes "end 1" ∷ codes "idle 1" ∷ []) (first_scene []) 1
+    front_line (taken setup (codes "end 1") (codes "idle 1" ∷ []) begun 2 ended_line refl))
 
 -- a seat is used by lines of its own, or by a link
 owned-said : said (played (codes "open 1 A" ∷ codes "idle 1" ∷ [])) ≡ ([], bad_line 2)

@@ -1,10 +1,13 @@
 -- What a replay leaves, by how it ended.
-use Rattle.std.specs.Prelude.{◌≡◌, ℕ, ◌≤◌, Bool, true, false, List, ◌++◌, length, take}
-use Rattle.std.specs.Prelude.{Result, Ok, Err}
+use Rattle.std.specs.Prelude.{◌≡◌, ℕ, ◌≤◌, Bool, true, false, List, [], ◌∷◌, ◌++◌, length, take}
+use Rattle.std.specs.Prelude.{Result, Ok, Err, Option, Some, None}
 use Rattle.outside.specs.Sink.{SinkTold, AppendsAll, AppendsPart}
 use Rattle.tase_views.specs.declared.event.Entry.{Entry}
+use Rattle.tase_views.specs.declared.event.EventKind.TheVariants.{Close}
 use Rattle.tase_views.specs.declared.fault.StepFault.{StepFault}
 use Rattle.tase_views.specs.declared.fault.StepFault.TheVariants as faults
+use Rattle.tase_conn.specs.declared.stage.ConnEnd.{ConnEnd}
+use Rattle.tase_conn.specs.declared.stage.ConnEnd.TheVariants as conn_ends
 use Rattle.tase_replay.specs.declared.playing.ReplayEnd.{ReplayEnd}
 use Rattle.tase_replay.specs.declared.playing.ReplayEnd.TheVariants.{Done, BadLine, Full}
 use Rattle.tase_replay.specs.declared.playing.ReplayEnd.TheVariants.{SinkFault, Memory}
@@ -19,14 +22,23 @@ pub record TakesAll (steps : List Step) (history now : List Entry)
   -- the sink took what they print
   pub shown : AppendsAll before after (printed_in steps)
 
+-- nothing, or where no write failed the close of an association
+abbrev pub IsClosing : Bool → List Entry → Type 0
+IsClosing failed [] = Unit {0}
+IsClosing false (entry ∷ []) = entry.event ≡ Close
+IsClosing failed entries = ⊥
+
 -- some of these steps were taken, from the first on, and the last write may have failed
 pub record TakesPart (steps : List Step) (history now : List Entry) (before after : SinkTold)
     (failed : Bool) : Type 0 where
   -- how many
   pub count : ℕ
   pub within : count ≤ length steps
-  -- the history has their entries behind those that it had
-  pub entries : now ≡ history ++ entries_in (take count steps)
+  -- the history has their entries behind those that it had, and where memory was wanting for a
+  -- connection maybe the close of its association
+  pub closing : List Entry
+  pub closes : IsClosing failed closing
+  pub entries : now ≡ (history ++ entries_in (take count steps)) ++ closing
   -- the sink took a front part of what they print
   pub shown : AppendsPart before after (printed_in (take count steps)) failed
 
@@ -67,3 +79,10 @@ end_of_refusal number faults.UnknownName = BadLine number
 abbrev pub end_of_write : {E : Type 0} → Result (Unit {0}) E → ReplayEnd
 end_of_write (Ok written) = Done
 end_of_write (Err failed) = SinkFault
+
+-- how a replay ends at a connection that has ended so, if it does: where it was cut for a full
+-- history, or for want of memory
+abbrev pub end_of_cut : Option ConnEnd → Option ReplayEnd
+end_of_cut (Some (conn_ends.Full weight limit)) = Some (Full weight limit)
+end_of_cut (Some conn_ends.Memory) = Some Memory
+end_of_cut end = None

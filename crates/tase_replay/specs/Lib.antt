@@ -5,3 +5,4 @@ pub mod Play
 pub mod Standing
 pub mod Ends
 pub mod AllSent
+pub mod PrintedLines

@@ -1,12 +1,11 @@
 -- What a scenario gives: the lines that are taken, their entries and what is printed at each, and
 -- how it ends.
 use Rattle.std.specs.Prelude.{ℕ, ◌+◌, ◌==◌, ◌&&◌, ◌||◌, not, if◌then◌else◌, Bool, List, [], ◌∷◌}
-use Rattle.std.specs.Prelude.{◌++◌, length, flat_map, Option, Some, None, codes, decimal}
+use Rattle.std.specs.Prelude.{◌++◌, length, map, flat_map, Option, Some, None, codes, decimal}
 use Rattle.std.proofs.Common.{drop}
 use Rattle.std.specs.List.{list_any}
 use Rattle.std.specs.Str.Lines.{lines}
 use Rattle.plain_text.specs.Lines.{is_skipped}
-use Rattle.sbo_device.specs.declared.key.Key.{Key}
 use Rattle.tase_views.specs.declared.event.Entry.{Entry}
 use Rattle.tase_views.specs.declared.reply.ReplyKind.{ReplyKind}
 use Rattle.tase_views.specs.declared.reply.Answer.{Answer}
@@ -20,7 +19,6 @@ use Rattle.tase_views.specs.declared.fault.StepFault.TheVariants.{UnknownName}
 use Rattle.tase_views.specs.Setup.{Setup}
 use Rattle.tase_views.specs.History.{Past, association_in}
 use Rattle.tase_views.specs.declared.event.EventKind.{EventKind}
-use Rattle.tase_views.specs.declared.event.EventKind.TheVariants.{Close}
 use Rattle.bilateral.specs.Rows.{CentreRows}
 use Rattle.tase_map.specs.Inputs.{Item}
 use Rattle.tase_conn.specs.declared.stage.ConnEnd.{ConnEnd}
@@ -28,7 +26,10 @@ use Rattle.tase_conn.specs.declared.stage.ConnEnd.TheVariants as conn_ends
 use Rattle.tase_views.specs.Outcomes.{refusal_of, answer_of}
 use Rattle.event_text.specs.ReplyTexts.{reply_text}
 use Rattle.tase_replay.specs.Lines.{entry_by}
-use Rattle.conn_service.specs.Linked.{peer_end, link_octets}
+use Rattle.tase_map.specs.Linked.{link_octets}
+use Rattle.conn_service.specs.PeerEnd.{peer_end}
+use Rattle.conn_service.specs.Served.{Served, served, with_closed}
+use Rattle.conn_service.specs.Sends.{close_of}
 use Rattle.tase_replay.specs.Links.{SeatItem, Asking, an_event, an_item, asking_in}
 use Rattle.tase_replay.specs.Links.{items_of, asks_more}
 use Rattle.tase_replay.specs.Links.{line_of_out, line_of_end}
@@ -95,8 +96,8 @@ is_seated who scene =
 abbrev pub conn_has_ended : ℕ → Scene → Bool
 conn_has_ended who scene = list_any (λ ended. ended == who) scene.ended
 
--- what a line means behind the lines before it: that it is bad; that with one of its events, behind
--- these steps, the history would weigh so much, which is more than its limit; or what it gives, in
+-- what a line means behind the lines before it: that it is bad; that with one of its events the
+-- history would weigh so much, which is more than its limit, after these steps; or what it gives, in
 -- order, and the scene behind it
 pub data LineMeaning : Type 0 where
   bad : LineMeaning
@@ -133,48 +134,13 @@ entry_step entry = record {
   printed = [];
 }
 
--- how a node went on with the events of a connection: it took all; it was stopped; it refused one
--- since the history would weigh too much, or for another cause
-pub data Halt : Type 0 where
-  through : Halt
-  stopped : Halt
-  full : ℕ → ℕ → Halt
-  refused : Halt
+-- events of a connection, one after another
+abbrev pub entry_steps : ℕ → List EventKind → List Step
+entry_steps who events = map (λ event. entry_step (entry_by event who)) events
 
--- the steps that it took, and the history behind them
-pub record Served : Type 0 where
-  pub steps : List Step
-  pub past : Past
-  pub halt : Halt
-
-abbrev pub halts : Past → Halt → Served
-halts past halt = record { steps = []; past = past; halt = halt }
-
-abbrev pub behind_step : Step → Served → Served
-behind_step step served = record served { steps = step ∷ served.steps }
-
--- where the node was stopped the association of the seat is closed, if it has one
-abbrev pub closes : Past → ℕ → Option Key → Served
-closes past who None = halts past stopped
-closes past who (Some key) =
-    behind_step (entry_step (entry_by Close who)) (halts (entry_by Close who ∷ past) stopped)
-
-abbrev pub serves_by : Past → Entry → Option StepFault → (Past → Served) → Served
-serves_by past entry None rest = behind_step (entry_step entry) (rest (entry ∷ past))
-serves_by past entry (Some (Stopped place)) rest =
-    closes past entry.who (association_in past entry.who)
-serves_by past entry (Some (HistoryFull weight limit)) rest = halts past (full weight limit)
-serves_by past entry (Some Memory) rest = halts past refused
-serves_by past entry (Some NoAssociation) rest = halts past refused
-serves_by past entry (Some Already) rest = halts past refused
-serves_by past entry (Some UnknownName) rest = halts past refused
-
--- these events of a seat, one after another, up to the first that is refused
-abbrev pub serves : Setup → ℕ → Past → List EventKind → Served
-serves setup who past [] = halts past through
-serves setup who past (event ∷ events) =
-    serves_by past (entry_by event who) (refusal_of setup past who event)
-    (λ after. serves setup who after events)
+-- those that a node took before one that it refused, and the close of the association, if it was open
+abbrev pub cut_steps : ℕ → Served → List Step
+cut_steps who s = entry_steps who (s.taken ++ close_of (association_in s.past who))
 
 -- the octets by which those that a seat's link is sent grew
 abbrev pub octets_between : CentreRows → ℕ → Scene → Scene → List ℕ
@@ -210,26 +176,34 @@ linked rows scene given steps past end =
     let after : Scene = behind_link scene past given end in
     gives (steps ++ link_step rows scene after given end ∷ []) after
 
-abbrev pub linked_by : CentreRows → Scene → SeatItem → List Item → Served → Halt → LineMeaning
-linked_by rows scene given items served through =
-    linked rows scene given served.steps served.past (peer_end rows items)
-linked_by rows scene given items served stopped =
-    linked rows scene given served.steps served.past (Some conn_ends.Stopped)
-linked_by rows scene given items served (full weight limit) = too_heavy served.steps weight limit
-linked_by rows scene given items served refused = bad
+-- by what a node takes of the events of a connection, and how the peer ends that, if it does
+abbrev pub linked_by : CentreRows → Scene → SeatItem → Option ConnEnd → Served → Option StepFault
+    → LineMeaning
+linked_by rows scene given by_peer s None =
+    linked rows scene given (entry_steps given.who s.taken) s.past by_peer
+linked_by rows scene given by_peer s (Some (Stopped place)) =
+    linked rows scene given (cut_steps given.who s) (with_closed given.who s.past)
+    (Some conn_ends.Stopped)
+linked_by rows scene given by_peer s (Some (HistoryFull weight limit)) =
+    too_heavy (cut_steps given.who s) weight limit
+linked_by rows scene given by_peer s (Some Memory) = bad
+linked_by rows scene given by_peer s (Some NoAssociation) = bad
+linked_by rows scene given by_peer s (Some Already) = bad
+linked_by rows scene given by_peer s (Some UnknownName) = bad
 
 -- an item of a link, of a seat that no other line uses, and whose connection hasn't ended
 abbrev pub is_unfit : ℕ → Scene → Bool
 is_unfit who scene = is_seated who scene || conn_has_ended who scene
 
 abbrev pub served_item : Setup → Scene → SeatItem → Served
-served_item setup scene given = serves setup given.who scene.past
+served_item setup scene given = served setup given.who scene.past
     (asks_more setup.centre (items_of given.who scene.given) given.item)
 
 abbrev pub received : Setup → Scene → SeatItem → LineMeaning
 received setup scene given = if is_unfit given.who scene then bad
-    else linked_by setup.centre scene given (items_of given.who scene.given ++ given.item ∷ [])
-    (served_item setup scene given) (served_item setup scene given).halt
+    else linked_by setup.centre scene given
+    (peer_end setup.centre (items_of given.who scene.given ++ given.item ∷ []))
+    (served_item setup scene given) (served_item setup scene given).refusal
 
 -- ---- a line
 

@@ -2,8 +2,9 @@
 use Rattle.std.specs.Prelude.{◌≡◌, ℕ, Bool, true, false, List, [], ◌∷◌, ◌++◌, length, Option, Some}
 use Rattle.std.specs.Prelude.{None, is_some, nat_eq}
 use Rattle.std.specs.Prelude.{slice_get, ◌==◌, ◌⊎◌, reverse, if◌then◌else◌}
-use Rattle.std.specs.List.{list_any}
+use Rattle.std.specs.List.{list_any, AllByRecursion}
 use Rattle.std.specs.HashMap.{get}
+use Rattle.outside.specs.Sink.{SinkTold}
 use Rattle.bilateral.specs.Rows.{CentreRows}
 use Rattle.tase_views.specs.declared.event.Entry.{Entry}
 use Rattle.tase_conn.specs.Talking.{Talking, pending_of, conn_end_in, IsResting}
@@ -16,13 +17,17 @@ use Rattle.tase_conn.specs.declared.stage.Progress.TheVariants as progresses
 use Rattle.tase_replay.specs.declared.links.Seats.{Seats}
 use Rattle.tase_replay.specs.declared.links.Use.{Use}
 use Rattle.tase_replay.specs.declared.links.Use.TheVariants as uses
-use Rattle.conn_service.specs.Linked.{link_octets}
+use Rattle.tase_map.specs.Linked.{link_octets}
 use Rattle.tase_replay.specs.Links.{SeatItem, items_of}
 use Rattle.tase_replay.specs.Play.{Scene, is_linked, is_seated, conn_has_ended, is_unfit, Step}
-use Rattle.tase_replay.specs.Play.{behind_link}
+use Rattle.tase_replay.specs.Play.{behind_link, LineMeaning, gives, entries_in}
+use Rattle.tase_replay.specs.declared.playing.ReplayEnd.{ReplayEnd}
+use Rattle.tase_replay.specs.declared.playing.ReplayEnd.TheVariants.{Done}
 use Rattle.tase_conn.specs.declared.stage.ConnEnd.{ConnEnd}
 use Rattle.tase_views.specs.Setup.{Setup}
-use Rattle.tase_replay.specs.AllSent.{Printed, octet, over, printed_to, AreSentTo}
+use Rattle.tase_replay.specs.PrintedLines.{ShownToPeer, sent_octet, end_words, all_shown, shown_by}
+use Rattle.conn_service.specs.Sends.{Sends}
+use Rattle.ber_values.specs.Octets.{IsOctets}
 
 -- a connection that goes on: a seat of the node serves it, all that its link gave was acted on, and
 -- all that its peer is sent was printed
@@ -154,16 +159,46 @@ pub record IsBehind (rows : CentreRows) (scene : Scene) (given : SeatItem) (afte
 
 -- ---- what was printed, from line to line
 
-abbrev pub is_over : Printed → Bool
-is_over (octet o) = false
-is_over (over end) = true
+abbrev pub is_over : ShownToPeer → Bool
+is_over (sent_octet octet) = false
+is_over (end_words words) = true
+
+-- what steps print for the peer of a seat's link, which gave these items, is all that it is owed
+pub record StepsSendAll (setup : Setup) (past : Past) (steps : List Step) (who : ℕ)
+    (items : List Item) : Type 0 where
+  pub end : Option ConnEnd
+  pub shown : shown_by who steps ≡ all_shown (link_octets setup.centre past who items) end
+  pub sends : Sends setup past who items end (link_octets setup.centre past who items)
+
+-- nothing is printed for a seat without a link
+abbrev pub StepsSend : Setup → Past → List Step → ℕ → List Item → Type 0
+StepsSend setup past steps who [] = shown_by who steps ≡ []
+StepsSend setup past steps who (item ∷ items) = StepsSendAll setup past steps who (item ∷ items)
+
+-- numbers below 256 are sent
+abbrev pub HasOctets : Step → Type 0
+HasOctets step = IsOctets step.octets
 
 -- so in a scene, whose ended connections are those whose ends are printed
 pub record AreSentIn (setup : Setup) (scene : Scene) (steps : List Step) : Type 0 where
-  pub sent : AreSentTo setup scene.given scene.past steps
-  pub ended : (who : ℕ) → conn_has_ended who scene ≡ list_any is_over (printed_to who steps)
+  pub sent : (who : ℕ) → StepsSend setup scene.past steps who (items_of who scene.given)
+  pub octets : AllByRecursion HasOctets steps
+  pub ended : (who : ℕ) → conn_has_ended who scene ≡ list_any is_over (shown_by who steps)
 
 -- where it is so in one scene, it is so in another, with these steps behind those before
 abbrev pub StaySent : Setup → Scene → Scene → List Step → Type 0
 StaySent setup before after more = (steps : List Step)
     → AreSentIn setup before steps → AreSentIn setup after (steps ++ more)
+
+-- a line that is taken: what was sent stays so, and its entries stand behind the others
+pub record IsTakenSent (setup : Setup) (scene : Scene) (meaning : LineMeaning) : Type 0 where
+  pub steps : List Step
+  pub after : Scene
+  pub is : meaning ≡ gives steps after
+  pub stays : StaySent setup scene after steps
+  pub grown : after.past ≡ reverse (entries_in steps) ++ scene.past
+
+-- a line is taken so, or it is the last, and nothing of it was printed
+abbrev pub EndsSent : Setup → Scene → LineMeaning → ReplayEnd → SinkTold → SinkTold → Type 0
+EndsSent setup scene meaning end before after =
+    IsTakenSent setup scene meaning ⊎ ((end ≡ Done → ⊥) × (after ≡ before))

@@ -1,16 +1,13 @@
 //! The links of peers in a scenario: what a line gives to one, and its connection.
 ghost use Rattle.std.specs.Prelude.{◌≡◌, ◌==◌, ◌<◌, ℕ, List, [], ◌∷◌, ◌++◌, Some, None, IfOk};
-ghost use Rattle.std.specs.Prelude.{IfSome, OnOk, length, reverse, nat_eq, option_map};
+ghost use Rattle.std.specs.Prelude.{IfSome, OnOk, OnErr, length, reverse, nat_eq, option_map};
 ghost use Rattle.std.specs.Prelude.{if◌then◌else◌};
 ghost use Rattle.std.specs.HashMap.{get};
 ghost use Rattle.std.specs.Arc.{arc_value};
 ghost use Rattle.plain_text.specs.Numbers.{if_passes};
 ghost use Rattle.plain_text.specs.Words.{words};
 ghost use Rattle.tase_map.specs.Inputs.{Item, IsLinkInput, piece as a_piece};
-ghost use Rattle.tase_map.specs.Turns.{Turn};
-ghost use Rattle.stack_assoc.specs.Arrivals.{Arrival};
-ghost use Rattle.bilateral.specs.Rows.{CentreRows};
-ghost use Rattle.tase_conn.specs.Places.{ConnStandsAt, IsPlaced};
+ghost use Rattle.tase_conn.specs.Places.{IsPlaced, GainsItem};
 ghost use Rattle.tase_conn.specs.Taken.{TakesIn};
 ghost use Rattle.tase_conn.specs.Talking.{IsResting};
 ghost use Rattle.conn_laws.specs.Serving.{Serves};
@@ -31,7 +28,7 @@ use std::alloc::{AllocError, Global};
 use std::collections::HashMap;
 use std::sync::Arc;
 use tase_conn::Conn;
-use tase_views::{Entry, StepFault};
+use tase_views::Entry;
 
 /// The octets that a line gives to a link, at most.
 const LINE_OCTETS: usize = 16_384;
@@ -282,9 +279,7 @@ fn take_item(conn: &mut Conn, item: &LinkItem) -> Result<(), AllocError>
     requires fits { IsFit item.now }
     requires resting { IsResting conn.old }
     requires placed { IsPlaced conn.old }
-    ensures stands { (rows : CentreRows) (items : List Item) (told : List Arrival)
-        (turns : List Turn) → ConnStandsAt rows items told turns conn.old
-        → OnOk result (ConnStandsAt rows (items ++ item_seen item.now ∷ []) told turns conn.new) }
+    ensures stands { OnOk result (GainsItem (item_seen item.now) conn.old conn.new) }
     ensures same { OnOk result (TakesIn conn.old conn.new) }
 {
     match item {
@@ -300,26 +295,27 @@ fn take_item(conn: &mut Conn, item: &LinkItem) -> Result<(), AllocError>
     }
 }
 
-/// Has a connection take an item in, and the node act on all of it.
+/// Has a connection take an item in, and the node act on all of it. After want of memory for the item
+/// itself all is as it was.
 pub(crate) fn receive(
     alloc: Global,
     node: &mut Node,
     who: u64,
     conn: &mut Conn,
     item: &LinkItem,
-) -> Result<(), StepFault>
+) -> Result<(), AllocError>
     requires fits { IsFit item.now }
     requires awaits { IsAwaiting node.old.setup.centre (reverse node.old.history) who
         (item_seen item.now) conn.old }
     ensures received { (items : List Item) (said : List ℕ)
         → Serves node.old.setup.centre (reverse node.old.history) who items said None conn.old
         → IsLinkInput (items ++ item_seen item.now ∷ [])
-        → Attends node.old.setup (reverse node.old.history) who (items ++ item_seen item.now ∷ [])
-        said conn.old result (reverse node.new.history) conn.new }
+        → OnOk result (Attends node.old.setup (reverse node.old.history) who
+        (items ++ item_seen item.now ∷ []) said conn.old (reverse node.new.history) conn.new) }
+    ensures unreceived { OnErr result (node.new ≡ node.old) }
     ensures setup { node.new.setup ≡ node.old.setup }
 {
-    match take_item(conn, item) {
-        Ok(()) => attend(alloc, node, who, conn),
-        Err(_) => Err(StepFault::Memory),
-    }
+    take_item(conn, item)?;
+    attend(alloc, node, who, conn);
+    Ok(())
 }

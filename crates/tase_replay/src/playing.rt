@@ -1,15 +1,16 @@
-ghost use Rattle.std.specs.Prelude.{◌≡◌, ℕ, List, reverse, false};
+ghost use Rattle.std.specs.Prelude.{◌≡◌, ℕ, List, reverse, false, Some};
 ghost use Rattle.tase_replay.specs.declared.playing.ReplayEnd.TheVariants.{Done};
 ghost use Rattle.std.specs.Str.Lines.{lines};
 ghost use Rattle.tase_replay.specs.Play.{play, play_alone, play_line, entry_meaning, printed_of};
 ghost use Rattle.tase_replay.specs.Play.{Scene};
 ghost use Rattle.tase_replay.specs.Play.{ends_there, first_scene, scene_by, scene_behind};
-ghost use Rattle.tase_replay.specs.Play.{received, is_linked, is_unfit, steps_by};
-ghost use Rattle.tase_replay.specs.Play.{steps_behind};
+ghost use Rattle.tase_replay.specs.Play.{received, is_linked, is_unfit, line_meaning};
 ghost use Rattle.tase_replay.specs.AllSent.{AreSentSoFar, is_played_out};
 ghost use Rattle.tase_replay.specs.Links.{given_seen, IsFit};
-ghost use Rattle.tase_replay.specs.Standing.{IsScene, LinkGoesOn, IsBehind, StaySent};
+ghost use Rattle.tase_replay.specs.Standing.{IsScene, LinkGoesOn, IsBehind, EndsSent};
 ghost use Rattle.tase_replay.specs.Ends.{IsPlayed, IsShown, end_of_refusal};
+ghost use Rattle.tase_replay.specs.Ends as spec;
+ghost use Rattle.tase_conn.specs.Talking.{conn_end_in};
 
 use crate::entries::{LineRequest, read_asked};
 use crate::links::{LineItem, Seats, receive};
@@ -18,7 +19,7 @@ use node_core::Node;
 use outside::Sink;
 use plain_text::{is_skipped, next_line};
 use std::alloc::Global;
-use tase_conn::Conn;
+use tase_conn::{Conn, ConnEnd};
 use tase_views::{Answer, Entry, StepFault};
 
 /// How the play of a scenario ended.
@@ -49,7 +50,7 @@ pub fn replay<K: Sink>(alloc: Global, node: &mut Node, scenario: &[u8], sink: &m
         node.old.history node.new.history (K.told sink.old) (K.told sink.new) result }
     ensures sent { AreSentSoFar node.old.setup node.old.history
         (play node.old.setup (lines scenario.now) (first_scene (reverse node.old.history)) 1)
-        (is_played_out result) }
+        (is_played_out result) (K.told sink.old) (K.told sink.new) }
     ensures setup { node.new.setup ≡ node.old.setup }
 {
     match Seats::of(alloc, node) {
@@ -73,7 +74,7 @@ fn play_lines<K: Sink>(
         node.old.history node.new.history (K.told sink.old) (K.told sink.new) result }
     ensures sent { AreSentSoFar node.old.setup node.old.history
         (play node.old.setup (lines scenario.now) (first_scene (reverse node.old.history)) 1)
-        (is_played_out result) }
+        (is_played_out result) (K.told sink.old) (K.told sink.new) }
     ensures setup { node.new.setup ≡ node.old.setup }
 {
     let mut text = Vec::new(alloc);
@@ -110,9 +111,9 @@ fn play_line<K: Sink>(
         → IsScene node.old.setup.centre node.new.history
         (scene_behind node.old.setup line.now scene) seats.new }
     ensures sent { (scene : Scene)
-        → IsScene node.old.setup.centre node.old.history scene seats.old → result ≡ Done
-        → StaySent node.old.setup scene (scene_behind node.old.setup line.now scene)
-        (steps_behind node.old.setup line.now scene) }
+        → IsScene node.old.setup.centre node.old.history scene seats.old
+        → EndsSent node.old.setup scene (line_meaning node.old.setup scene line.now) result
+        (K.told sink.old) (K.told sink.new) }
     ensures setup { node.new.setup ≡ node.old.setup }
 {
     if is_skipped(line) {
@@ -148,6 +149,10 @@ fn play_own<K: Sink>(
         → IsScene node.old.setup.centre node.old.history scene seats.old → result ≡ Done
         → IsScene node.old.setup.centre node.new.history
         (scene_by scene (entry_meaning node.old.setup scene entry)) seats.new }
+    ensures sent { (scene : Scene)
+        → IsScene node.old.setup.centre node.old.history scene seats.old
+        → EndsSent node.old.setup scene (entry_meaning node.old.setup scene entry) result
+        (K.told sink.old) (K.told sink.new) }
     ensures setup { node.new.setup ≡ node.old.setup }
 {
     match seats.note_own(entry.who) {
@@ -180,36 +185,35 @@ fn play_given<K: Sink>(
         → IsScene node.old.setup.centre node.new.history
         (scene_by scene (received node.old.setup scene (given_seen given))) seats.new }
     ensures sent { (scene : Scene)
-        → IsScene node.old.setup.centre node.old.history scene seats.old → result ≡ Done
-        → StaySent node.old.setup scene
-        (scene_by scene (received node.old.setup scene (given_seen given)))
-        (steps_by (received node.old.setup scene (given_seen given))) }
+        → IsScene node.old.setup.centre node.old.history scene seats.old
+        → EndsSent node.old.setup scene (received node.old.setup scene (given_seen given)) result
+        (K.told sink.old) (K.told sink.new) }
     ensures setup { node.new.setup ≡ node.old.setup }
 {
     match seats.place_of(alloc, node.shared_centre(), given.who) {
         Ok(Some(place)) => {
             let conn = &mut seats.conns[place];
-            serve(alloc, node, conn, &given, number, sink, text)
+            serve(alloc, node, conn, &given, sink, text)
         }
         Ok(None) => ReplayEnd::BadLine { line: number },
         Err(_) => ReplayEnd::Memory,
     }
 }
 
-/// Has a connection take in what the line with this number gives, and prints what is sent then.
+/// Has a connection take in what a line gives, and prints what is sent then.
 fn serve<K: Sink>(
     alloc: Global,
     node: &mut Node,
     conn: &mut Conn,
     given: &LineItem,
-    number: u64,
     sink: &mut K,
     text: &mut Vec<u8>,
 ) -> ReplayEnd
     requires fits { IsFit given.now.item }
     requires goes { (scene : Scene) × (scene.past ≡ reverse node.old.history)
         × LinkGoesOn node.old.setup.centre scene given.now.who conn.old }
-    ensures played { (line : List ℕ) (scene : Scene) → scene.past ≡ reverse node.old.history
+    ensures played { (line : List ℕ) (number : ℕ) (scene : Scene)
+        → scene.past ≡ reverse node.old.history
         → LinkGoesOn node.old.setup.centre scene given.now.who conn.old
         → is_unfit given.now.who scene ≡ false
         → IsPlayed (play_line line number (received node.old.setup scene (given_seen given.now))
@@ -222,15 +226,48 @@ fn serve<K: Sink>(
         node.new.history conn.new }
     ensures sent { (scene : Scene) → scene.past ≡ reverse node.old.history
         → LinkGoesOn node.old.setup.centre scene given.now.who conn.old
-        → is_unfit given.now.who scene ≡ false → result ≡ Done
-        → StaySent node.old.setup scene
-        (scene_by scene (received node.old.setup scene (given_seen given.now)))
-        (steps_by (received node.old.setup scene (given_seen given.now))) }
+        → is_unfit given.now.who scene ≡ false
+        → EndsSent node.old.setup scene (received node.old.setup scene (given_seen given.now))
+        result (K.told sink.old) (K.told sink.new) }
     ensures setup { node.new.setup ≡ node.old.setup }
 {
     match receive(alloc, node, given.who, conn, &given.item) {
-        Ok(()) => print_sent(given.who, conn, sink, text),
-        Err(fault) => refused(fault, number),
+        Ok(()) => match cut_end(conn) {
+            Some(end) => end,
+            None => {
+                conn.pending_are_octets();
+                print_sent(given.who, conn, sink, text)
+            }
+        },
+        Err(_) => ReplayEnd::Memory,
+    }
+}
+
+/// How the replay ends at a connection that has ended so, if it does.
+fn cut_end(conn: &Conn) -> Option<ReplayEnd>
+    ensures { result ≡ spec.end_of_cut (conn_end_in conn.now.progress) }
+{
+    match conn.ended() {
+        Some(end) => end_of_cut(*end),
+        None => None,
+    }
+}
+
+/// It does where the connection was cut for a full history, or for want of memory.
+fn end_of_cut(end: ConnEnd) -> Option<ReplayEnd>
+    ensures { result ≡ spec.end_of_cut (Some end) }
+{
+    match end {
+        ConnEnd::Full { weight, limit } => Some(ReplayEnd::Full { weight, limit }),
+        ConnEnd::Memory => Some(ReplayEnd::Memory),
+        ConnEnd::Finished
+        | ConnEnd::PeerEnd
+        | ConnEnd::Declined
+        | ConnEnd::Refused(_)
+        | ConnEnd::TooLong { .. }
+        | ConnEnd::Overflow { .. }
+        | ConnEnd::LinkFault
+        | ConnEnd::Stopped => None,
     }
 }
 
@@ -247,6 +284,10 @@ fn play_entry<K: Sink>(
         → is_linked entry.who scene ≡ false
         → IsPlayed (play_line line number (entry_meaning node.old.setup scene entry) ends_there)
         node.old.history node.new.history (K.told sink.old) (K.told sink.new) result }
+    ensures sent { (scene : Scene) → scene.past ≡ reverse node.old.history
+        → is_linked entry.who scene ≡ false
+        → EndsSent node.old.setup scene (entry_meaning node.old.setup scene entry) result
+        (K.told sink.old) (K.told sink.new) }
     ensures setup { node.new.setup ≡ node.old.setup }
 {
     let Entry { who, event } = entry;

@@ -1,12 +1,8 @@
-ghost use Rattle.std.specs.Prelude.{◌≡◌, List, [], ◌∷◌, ◌++◌, length, drop, OnOk, Some, codes};
+ghost use Rattle.std.specs.Prelude.{◌≡◌, [], ◌∷◌, ◌++◌, length, drop, OnOk, Some, codes};
 ghost use Rattle.std.specs.Prelude.{decimal};
 ghost use Rattle.plain_text.specs.Octets.{hex_text};
-ghost use Rattle.bilateral.specs.Rows.{CentreRows};
-ghost use Rattle.stack_assoc.specs.Arrivals.{Arrival};
-ghost use Rattle.tase_map.specs.Inputs.{Item};
-ghost use Rattle.tase_map.specs.Turns.{Turn};
 ghost use Rattle.tase_conn.specs.Talking.{pending_of, next_pending, conn_end_in};
-ghost use Rattle.tase_conn.specs.Places.{ConnStandsAt};
+ghost use Rattle.tase_conn.specs.Places.{KeepsPlace};
 ghost use Rattle.tase_conn.specs.Taken.{SendsSome};
 ghost use Rattle.tase_replay.specs.declared.playing.ReplayEnd.TheVariants.{Done};
 ghost use Rattle.tase_replay.specs.Links.{line_of_out, line_of_end, end_text, fault_text};
@@ -81,9 +77,7 @@ pub(crate) fn print_sent<K: Sink>(
         ++ line_of_end who (conn_end_in conn.old.progress))
         (K.told sink.old) (K.told sink.new) result }
     ensures sent { result ≡ Done → pending_of conn.new ≡ [] }
-    ensures stands { (rows : CentreRows) (items : List Item) (heard : List Arrival)
-        (turns : List Turn) → ConnStandsAt rows items heard turns conn.old
-        → ConnStandsAt rows items heard turns conn.new }
+    ensures stands { KeepsPlace conn.old conn.new }
     ensures same { SendsSome conn.old conn.new }
 {
     if spell_sent(text, who, conn).is_err() {
@@ -97,9 +91,7 @@ fn spell_sent(text: &mut Vec<u8>, who: u64, conn: &mut Conn) -> Result<(), Alloc
     ensures lines { OnOk result (text.new.items ≡ line_of_out who (pending_of conn.old)
         ++ line_of_end who (conn_end_in conn.old.progress)) }
     ensures sent { OnOk result (pending_of conn.new ≡ []) }
-    ensures stands { (rows : CentreRows) (items : List Item) (heard : List Arrival)
-        (turns : List Turn) → ConnStandsAt rows items heard turns conn.old
-        → ConnStandsAt rows items heard turns conn.new }
+    ensures stands { KeepsPlace conn.old conn.new }
     ensures same { SendsSome conn.old conn.new }
 {
     text.clear();
@@ -113,9 +105,7 @@ fn put_any_out(text: &mut Vec<u8>, who: u64, conn: &mut Conn) -> Result<(), Allo
     ensures line { OnOk result (text.new.items
         ≡ text.old.items ++ line_of_out who (pending_of conn.old)) }
     ensures sent { OnOk result (pending_of conn.new ≡ []) }
-    ensures stands { (rows : CentreRows) (items : List Item) (heard : List Arrival)
-        (turns : List Turn) → ConnStandsAt rows items heard turns conn.old
-        → ConnStandsAt rows items heard turns conn.new }
+    ensures stands { KeepsPlace conn.old conn.new }
     ensures same { SendsSome conn.old conn.new }
 {
     if conn.pending().is_empty() {
@@ -141,9 +131,7 @@ fn put_out(text: &mut Vec<u8>, who: u64, conn: &mut Conn) -> Result<(), AllocErr
     ensures line { OnOk result (text.new.items ≡ text.old.items ++ codes "out " ++ decimal who
         ++ 32 ∷ hex_text (pending_of conn.old) ++ 10 ∷ []) }
     ensures sent { OnOk result (pending_of conn.new ≡ []) }
-    ensures stands { (rows : CentreRows) (items : List Item) (heard : List Arrival)
-        (turns : List Turn) → ConnStandsAt rows items heard turns conn.old
-        → ConnStandsAt rows items heard turns conn.new }
+    ensures stands { KeepsPlace conn.old conn.new }
     ensures same { SendsSome conn.old conn.new }
 {
     text.extend_from_slice(b"out ")?;
@@ -160,9 +148,7 @@ fn put_all(text: &mut Vec<u8>, conn: &mut Conn) -> Result<(), AllocError>
     ensures digits { OnOk result (text.new.items
         ≡ text.old.items ++ hex_text (pending_of conn.old)) }
     ensures sent { OnOk result (pending_of conn.new ≡ []) }
-    ensures stands { (rows : CentreRows) (items : List Item) (heard : List Arrival)
-        (turns : List Turn) → ConnStandsAt rows items heard turns conn.old
-        → ConnStandsAt rows items heard turns conn.new }
+    ensures stands { KeepsPlace conn.old conn.new }
     ensures same { SendsSome conn.old conn.new }
 {
     while !conn.pending().is_empty() {
@@ -177,9 +163,7 @@ fn put_pending(text: &mut Vec<u8>, conn: &mut Conn) -> Result<(), AllocError>
         ≡ text.old.items ++ hex_text (next_pending conn.old)) }
     ensures sent { OnOk result (pending_of conn.new
         ≡ drop (length (next_pending conn.old)) (pending_of conn.old)) }
-    ensures stands { (rows : CentreRows) (items : List Item) (heard : List Arrival)
-        (turns : List Turn) → ConnStandsAt rows items heard turns conn.old
-        → ConnStandsAt rows items heard turns conn.new }
+    ensures stands { KeepsPlace conn.old conn.new }
     ensures same { SendsSome conn.old conn.new }
 {
     let octets = conn.pending();

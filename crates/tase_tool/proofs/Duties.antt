@@ -7,7 +7,8 @@ use Rattle.std.specs.declared.alloc.AllocError.{AllocError}
 use Rattle.std.specs.declared.alloc.Global.{Global}
 use Rattle.std.proofs.lemmas.Bool.Decides.{nat_tests}
 use Rattle.std.proofs.lemmas.Slice.Eq.{bytes_eq-Decides}
-use Rattle.outside.specs.Outside.{OutsideTold}
+use Rattle.outside.specs.Sink.{SinkTold}
+use Rattle.outside.specs.Outside.{NameEntry, OutsideTold}
 use Rattle.command_io.specs.declared.status.Status.{Status}
 use Rattle.command_io.specs.declared.status.Status.TheVariants as statuses
 use Rattle.command_io.specs.declared.input.Refusal.{Refusal}
@@ -30,6 +31,7 @@ use Rattle.tase_tool.specs.Saying.{opening, second_text, duty_of}
 use Rattle.tase_tool.specs.Tables.{centre_or_end, IsCentreFrom, IsRead, IsTables, ReadsTables}
 use Rattle.tase_tool.specs.Tables.{RunsOver}
 use Rattle.tase_tool.specs.Sent.{node_of, SendsWithin, OnTold, SendsOver, SendsBy, is_told}
+use Rattle.tase_tool.proofs.Sending.{OnTold-still, output_of, output_kept}
 
 -- a run that ended where it stood
 same_run : (duty : Duty) (b m a : OutsideTold) (s status : Status) → (status ≡ s) × (a ≡ m)
@@ -197,36 +199,65 @@ module _ (b m a : OutsideTold) (tables scenario : List ℕ) (limit : ℕ) where
           ap (λ t. cond t (emptied (texts_of b tables)) (texts_of b scenario)) at
           ∙ ap text_of (sym (reads.opens.uses.sources.others scenario (ap (λ t. t || false) at)))
 
-  -- all was sent of a scenario over tables that were read
-  SendsBy-tables : (rows : CentreRows) → ReadsTables b m tables (Ok rows)
-      → OnTold (SendsWithin (node_of rows limit)) (texts_of m scenario)
-      → SendsBy (Some (replays tables scenario limit)) (texts_of b)
-  SendsBy-tables rows reads sent = here (texts_of b tables) reads.tables
+  -- what was sent of a scenario over tables that were read
+  SendsBy-tables : (rows : CentreRows) (status : Status) → ReadsTables b m tables (Ok rows)
+      → OnTold (SendsWithin (node_of rows limit) status (output_of m.sinks) (output_of a.sinks))
+      (texts_of m scenario)
+      → SendsBy (Some (replays tables scenario limit)) (texts_of b) status (output_of b.sinks)
+      (output_of a.sinks)
+  SendsBy-tables rows status reads sent = here (texts_of b tables) reads.tables
     where
       here : (t : Text) → IsTables (Ok rows) t
           → OnTold (λ octets. SendsOver (tables_read octets) limit
-          (second_text (texts_of b) tables scenario)) t
+          (second_text (texts_of b) tables scenario) status (output_of b.sinks)
+          (output_of a.sinks)) t
       here untold told_tables = tt
       here missing told_tables = absurd cc
       here (told octets) told_tables =
-          subst (λ read. SendsOver read limit (second_text (texts_of b) tables scenario))
-          (sym told_tables)
-          (subst (λ text. OnTold (SendsWithin (node_of rows limit)) text)
-          (sym (second_read rows reads)) sent)
+          subst (λ read. SendsOver read limit (second_text (texts_of b) tables scenario) status
+          (output_of b.sinks) (output_of a.sinks)) (sym told_tables)
+          (subst (λ text. OnTold (SendsWithin (node_of rows limit) status (output_of b.sinks)
+          (output_of a.sinks)) text) (sym (second_read rows reads))
+          (subst (λ (sinks : List ℕ → NameEntry SinkTold). OnTold (SendsWithin
+          (node_of rows limit) status (output_of sinks) (output_of a.sinks))
+          (texts_of m scenario)) reads.opens.sinks sent))
 
   -- with refused ones nothing is owed
-  SendsBy-refused : (refusal : Refusal) → ReadsTables b m tables (Err (Refused refusal))
-      → SendsBy (Some (replays tables scenario limit)) (texts_of b)
-  SendsBy-refused refusal reads = here (texts_of b tables) reads.tables
+  SendsBy-refused : (refusal : Refusal) (status : Status)
+      → ReadsTables b m tables (Err (Refused refusal))
+      → SendsBy (Some (replays tables scenario limit)) (texts_of b) status (output_of b.sinks)
+      (output_of a.sinks)
+  SendsBy-refused refusal status reads = here (texts_of b tables) reads.tables
     where
       here : (t : Text) → IsTables (Err (Refused refusal)) t
           → OnTold (λ octets. SendsOver (tables_read octets) limit
-          (second_text (texts_of b) tables scenario)) t
+          (second_text (texts_of b) tables scenario) status (output_of b.sinks)
+          (output_of a.sinks)) t
       here untold told_tables = tt
       here missing told_tables = absurd cc
       here (told octets) told_tables =
-          subst (λ read. SendsOver read limit (second_text (texts_of b) tables scenario))
-          (sym told_tables) tt
+          subst (λ read. SendsOver read limit (second_text (texts_of b) tables scenario) status
+          (output_of b.sinks) (output_of a.sinks)) (sym told_tables) tt
+
+  -- and without them nothing was printed
+  SendsBy-still : (status : Status) → is_told status ≡ false
+      → output_of a.sinks ≡ output_of b.sinks
+      → SendsBy (Some (replays tables scenario limit)) (texts_of b) status (output_of b.sinks)
+      (output_of a.sinks)
+  SendsBy-still status untold_so same = here (texts_of b tables)
+    where
+      over : (read : Result CentreRows Refusal) → SendsOver read limit
+          (second_text (texts_of b) tables scenario) status (output_of b.sinks) (output_of a.sinks)
+      over (Ok rows) = OnTold-still (node_of rows limit) status (output_of b.sinks)
+          (output_of a.sinks) (second_text (texts_of b) tables scenario) untold_so same
+      over (Err refusal) = tt
+
+      here : (t : Text) → OnTold (λ octets. SendsOver (tables_read octets) limit
+          (second_text (texts_of b) tables scenario) status (output_of b.sinks)
+          (output_of a.sinks)) t
+      here untold = tt
+      here missing = tt
+      here (told octets) = over (tables_read octets)
 
   -- the run over tables that are there
   IsRun-tables : (rows : CentreRows) (status : Status) → ReadsTables b m tables (Ok rows)
@@ -313,19 +344,20 @@ module _ (b m a : OutsideTold) (tables scenario : List ℕ) (limit : ℕ) where
   IsRun-over (Err Memory) status reads run =
       same_run _ b m a statuses.Memory status run (IsRun-memory reads)
 
-  -- and all that was sent over them
+  -- and what was sent over them
   pub SendsBy-over : (read : Result CentreRows InputEnd) (status : Status)
       → ReadsTables b m tables read → RunsOver read limit scenario m a status
-      → is_told status ≡ true
-      → IfOk read (λ rows. OnTold (SendsWithin (node_of rows limit)) (texts_of m scenario))
-      → SendsBy (Some (replays tables scenario limit)) (texts_of b)
-  SendsBy-over (Ok rows) status reads run told_so sent = SendsBy-tables rows reads sent
-  SendsBy-over (Err (Refused refusal)) status reads run told_so sent =
-      SendsBy-refused refusal reads
-  SendsBy-over (Err Outside) status reads run told_so sent =
-      let e : is_told statuses.Outside ≡ true = ap is_told (sym run.0) ∙ told_so in absurd cc
-  SendsBy-over (Err Memory) status reads run told_so sent =
-      let e : is_told statuses.Memory ≡ true = ap is_told (sym run.0) ∙ told_so in absurd cc
+      → IfOk read (λ rows. OnTold (SendsWithin (node_of rows limit) status (output_of m.sinks)
+      (output_of a.sinks)) (texts_of m scenario))
+      → SendsBy (Some (replays tables scenario limit)) (texts_of b) status (output_of b.sinks)
+      (output_of a.sinks)
+  SendsBy-over (Ok rows) status reads run sent = SendsBy-tables rows status reads sent
+  SendsBy-over (Err (Refused refusal)) status reads run sent =
+      SendsBy-refused refusal status reads
+  SendsBy-over (Err Outside) status reads run sent =
+      SendsBy-still status (ap is_told run.0) (output_kept b m a run.1 reads.opens.sinks)
+  SendsBy-over (Err Memory) status reads run sent =
+      SendsBy-still status (ap is_told run.0) (output_kept b m a run.1 reads.opens.sinks)
 
 module _ (b m a : OutsideTold) (input : List ℕ) (say : List ℕ → Said) (name : List ℕ) where
   -- the run over a text that is there

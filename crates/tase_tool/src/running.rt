@@ -1,13 +1,13 @@
 //! The commands.
 ghost use Rattle.std.specs.Prelude.{◌≡◌, ◌≤◌, ◌^◌, map, string_bytes, Some, IfOk, true, codes};
-ghost use Rattle.command_io.specs.Saying.{texts_of, duty_to_say};
-ghost use Rattle.command_io.specs.Runs.{IsRun, EndsRead, TellsSaid};
+ghost use Rattle.command_io.specs.Saying.{texts_of, duty_to_say, prints};
+ghost use Rattle.command_io.specs.Runs.{IsRun, EndsRead, TellsSaid, Took, taken_of, output_name};
 ghost use Rattle.tase_tool.specs.Words.{task_in, replays};
 ghost use Rattle.tase_tool.specs.Saying.{scenario_said, scenario_duty, duty_of, played_said};
 ghost use Rattle.tase_tool.specs.Tables.{RunsOver};
 ghost use Rattle.tase_tool.specs.Playing.{EndsPlay};
-ghost use Rattle.tase_tool.specs.Sent.{node_of, played_on, SendsAll, SendsWithin, OnTold};
-ghost use Rattle.tase_tool.specs.Sent.{SendsBy, is_told};
+ghost use Rattle.tase_tool.specs.Sent.{node_of, played_on, SendsSoFar, SendsWithin, OnTold};
+ghost use Rattle.tase_tool.specs.Sent.{SendsBy};
 
 use crate::decoding::run_decode;
 use crate::listing::run_listing;
@@ -40,12 +40,16 @@ use tase_replay::{ReplayEnd, replay};
 /// Where it answers 0, 3 or 5, all that was printed for the peer of each link is what that peer is
 /// owed for the lines that were taken: over the tables, the history that these lines leave and all
 /// that they gave to the link, its octets in order, and behind them once how its connection ended.
+/// Where it answers 4 or 7, this holds of the first of these lines, and what went out is what they
+/// print, or a front part of it; or it holds of all, and a front part of all that is said went out.
 pub fn run<O: Outside>(alloc: Global, words: &[String], outside: &mut O) -> Status
     ensures runs { let told = O.told outside.old in
         IsRun (duty_of (task_in (map string_bytes words.now)) (texts_of told))
         told (O.told outside.new) result }
-    ensures sent { is_told result ≡ true
-        → SendsBy (task_in (map string_bytes words.now)) (texts_of (O.told outside.old)) }
+    ensures sent { let told = O.told outside.old in
+        SendsBy (task_in (map string_bytes words.now)) (texts_of told) result
+        (taken_of (told.sinks output_name))
+        (taken_of ((O.told outside.new).sinks output_name)) }
 {
     match read_command(words) {
         Some(
@@ -73,8 +77,9 @@ fn run_replay<O: Outside>(
     ensures runs { let told = O.told outside.old in
         IsRun (duty_of (Some (replays tables.now scenario.now limit)) (texts_of told))
         told (O.told outside.new) result }
-    ensures sent { is_told result ≡ true → SendsBy
-        (Some (replays tables.now scenario.now limit)) (texts_of (O.told outside.old)) }
+    ensures sent { let told = O.told outside.old in
+        SendsBy (Some (replays tables.now scenario.now limit)) (texts_of told) result
+        (taken_of (told.sinks output_name)) (taken_of ((O.told outside.new).sinks output_name)) }
 {
     let read = read_tables(alloc, outside, tables);
     run_over(alloc, outside, read, scenario, limit)
@@ -91,9 +96,10 @@ fn run_over<O: Outside>(
     requires { limit ≤ 2 ^ 31 }
     ensures runs { RunsOver read limit scenario.now
         (O.told outside.old) (O.told outside.new) result }
-    ensures sent { is_told result ≡ true
-        → IfOk read (λ rows. OnTold (SendsWithin (node_of rows limit))
-        (texts_of (O.told outside.old) scenario.now)) }
+    ensures sent { let told = O.told outside.old in
+        IfOk read (λ rows. OnTold (SendsWithin (node_of rows limit) result
+        (taken_of (told.sinks output_name)) (taken_of ((O.told outside.new).sinks output_name)))
+        (texts_of told scenario.now)) }
 {
     match read {
         Ok(centre) => run_scenario(alloc, outside, centre, scenario, limit),
@@ -113,8 +119,10 @@ fn run_scenario<O: Outside>(
     ensures runs { let told = O.told outside.old in
         IsRun (scenario_duty centre limit scenario.now (texts_of told scenario.now))
         told (O.told outside.new) result }
-    ensures sent { is_told result ≡ true → OnTold (SendsWithin (node_of centre limit))
-        (texts_of (O.told outside.old) scenario.now) }
+    ensures sent { let told = O.told outside.old in
+        OnTold (SendsWithin (node_of centre limit) result
+        (taken_of (told.sinks output_name)) (taken_of ((O.told outside.new).sinks output_name)))
+        (texts_of told scenario.now) }
 {
     let read = read_input(alloc, outside, scenario);
     play_read(alloc, outside, centre, limit, read)
@@ -131,8 +139,9 @@ fn play_read<O: Outside>(
     requires { limit ≤ 2 ^ 31 }
     ensures runs { EndsRead (codes "scenario") (scenario_said centre limit) read
         (O.told outside.old) (O.told outside.new) result }
-    ensures sent { is_told result ≡ true
-        → IfOk read (λ text. SendsWithin (node_of centre limit) text.items) }
+    ensures sent { IfOk read (λ text. SendsWithin (node_of centre limit) result
+        (taken_of ((O.told outside.old).sinks output_name))
+        (taken_of ((O.told outside.new).sinks output_name)) text.items) }
 {
     match read {
         Ok(text) => play_scenario(alloc, outside, centre, limit, &text),
@@ -159,7 +168,9 @@ fn play_scenario<O: Outside>(
     requires { limit ≤ 2 ^ 31 }
     ensures runs { IsRun (duty_to_say true (scenario_said centre limit scenario.now))
         (O.told outside.old) (O.told outside.new) result }
-    ensures sent { is_told result ≡ true → SendsAll (node_of centre limit) scenario.now }
+    ensures sent { SendsSoFar (node_of centre limit) scenario.now result
+        (Took result (taken_of ((O.told outside.old).sinks output_name))
+        (taken_of ((O.told outside.new).sinks output_name))) }
 {
     match new_node(alloc, centre, limit) {
         Ok(node) => play_on_output(alloc, outside, node, scenario),
@@ -171,7 +182,9 @@ fn play_scenario<O: Outside>(
 fn play_on_output<O: Outside>(alloc: Global, outside: &mut O, node: Node, scenario: &[u8]) -> Status
     ensures runs { IsRun (duty_to_say true (played_said (played_on node scenario.now)))
         (O.told outside.old) (O.told outside.new) result }
-    ensures sent { is_told result ≡ true → SendsAll node scenario.now }
+    ensures sent { SendsSoFar node scenario.now result
+        (Took result (taken_of ((O.told outside.old).sinks output_name))
+        (taken_of ((O.told outside.new).sinks output_name))) }
 {
     let Some(sink) = outside.open_out(OUTPUT) else {
         return Status::Outside;
@@ -186,7 +199,8 @@ fn play_gathered<K: Sink + Drop>(alloc: Global, node: Node, scenario: &[u8], sin
     requires { (K.told sink).held ≡ 0 }
     ensures tells { TellsSaid (played_said (played_on node scenario.now))
         (K.told sink) (K.told result.0) result.1 }
-    ensures sent { is_told result.1 ≡ true → SendsAll node scenario.now }
+    ensures sent { SendsSoFar node scenario.now result.1
+        (λ octets. TellsSaid (prints result.1 octets) (K.told sink) (K.told result.0) result.1) }
 {
     let mut gathering = match BufferedSink::new(alloc, sink) {
         Ok(gathering) => gathering,
@@ -206,7 +220,8 @@ fn play_gathered<K: Sink + Drop>(alloc: Global, node: Node, scenario: &[u8], sin
 fn play_on<K: Sink>(alloc: Global, node: Node, scenario: &[u8], sink: &mut K) -> Status
     ensures tells { TellsSaid (played_said (played_on node scenario.now))
         (K.told sink.old) (K.told sink.new) result }
-    ensures sent { is_told result ≡ true → SendsAll node scenario.now }
+    ensures sent { SendsSoFar node scenario.now result
+        (λ octets. TellsSaid (prints result octets) (K.told sink.old) (K.told sink.new) result) }
 {
     let mut node = node;
     let end = replay(alloc, &mut node, scenario, sink);

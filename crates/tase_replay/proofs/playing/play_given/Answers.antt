@@ -1,10 +1,10 @@
-use Rattle.std.proofs.Common.{subst, sym, refl}
+use Rattle.std.proofs.Common.{subst, sym, refl, inr}
 use Rattle.std.specs.Arc.{arc_value}
 use Rattle.bilateral.specs.Rows.{CentreRows}
 use Rattle.tase_replay.specs.Links.{given_seen}
 use Rattle.tase_replay.specs.Play.{received, scene_by}
 use Rattle.tase_replay.specs.Standing.{AreSeatsUsed}
-use Rattle.tase_replay.proofs.Entering.{IsPlayed-bad}
+use Rattle.tase_replay.proofs.Entering.{IsPlayed-bad, IsPlayed-none}
 use Rattle.tase_replay.proofs.Seating.{link_sits}
 use Rattle.tase_replay.proofs.Own.{received_bad, goes_there, found_so, none_so}
 use Rattle.tase_replay.proofs.playing.play_given.Goals as goal
@@ -45,7 +45,7 @@ returns-in-Ok-Some-clause-played g c = λ line scene s.
     let goes = goes_there node.setup.centre scene c.args.given.who
     c.in-Ok-Some.place c.place_of.new.self c.index_mut-conn.result.now awaits
     c.index_mut-conn.ensures.value in
-    c.serve.ensures.played line scene s.past_is goes awaits.fit
+    c.serve.ensures.played line c.args.number scene s.past_is goes awaits.fit
 
 pub returns-in-Ok-Some-clause-stands : goal.returns-in-Ok-Some-clause-stands
 returns-in-Ok-Some-clause-stands g c = λ scene s done.
@@ -64,7 +64,7 @@ returns-in-Ok-Some-clause-stands g c = λ scene s done.
     awaits (c.serve.ensures.stands scene s.past_is goes awaits.fit done) (λ other. refl) refl
 
 pub returns-in-Ok-Some-clause-sent : goal.returns-in-Ok-Some-clause-sent
-returns-in-Ok-Some-clause-sent g c = λ scene s done.
+returns-in-Ok-Some-clause-sent g c = λ scene s.
     let node = c.args.node.now in
     let sits = subst (λ (rows : CentreRows). AreSeatsUsed rows scene c.args.seats.now)
     (sym c.shared_centre.ensures) s.sits in
@@ -74,7 +74,7 @@ returns-in-Ok-Some-clause-sent g c = λ scene s done.
     let goes = goes_there node.setup.centre scene c.args.given.who
     c.in-Ok-Some.place c.place_of.new.self c.index_mut-conn.result.now awaits
     c.index_mut-conn.ensures.value in
-    c.serve.ensures.sent scene s.past_is goes awaits.fit done
+    c.serve.ensures.sent scene s.past_is goes awaits.fit
 
 pub returns-in-Ok-None-clause-played : goal.returns-in-Ok-None-clause-played
 returns-in-Ok-None-clause-played g c = λ line scene s.
@@ -91,4 +91,12 @@ pub returns-in-Ok-None-clause-stands : goal.returns-in-Ok-None-clause-stands
 returns-in-Ok-None-clause-stands g c = λ scene s done. absurd cc
 
 pub returns-in-Ok-None-clause-sent : goal.returns-in-Ok-None-clause-sent
-returns-in-Ok-None-clause-sent g c = λ scene s done. absurd cc
+returns-in-Ok-None-clause-sent g c = λ scene s. inr (λ done. absurd cc, refl)
+
+pub returns-clause-played : goal.returns-clause-played
+returns-clause-played g c = λ line scene s.
+    IsPlayed-none line c.args.number (received c.args.node.now.setup scene (given_seen c.args.given))
+    c.args.node.now.history (g.K.Sink.told c.args.sink.now)
+
+pub returns-clause-sent : goal.returns-clause-sent
+returns-clause-sent g c = λ scene s. inr (λ done. absurd cc, refl)

@@ -1,4 +1,4 @@
-use Rattle.std.proofs.Common.{◌≡◌, true, false, sym, ap, ◌∙◌, subst, Option, Some, None}
+use Rattle.std.proofs.Common.{◌≡◌, true, false, sym, ap, ◌∙◌, subst, Option, Some, None, refl, inl, inr}
 use Rattle.std.specs.Prelude.{IfSome}
 use Rattle.plain_text.specs.Lines.{is_skipped}
 use Rattle.tase_replay.specs.declared.entries.LineRequest.{LineRequest}
@@ -8,7 +8,7 @@ use Rattle.tase_replay.specs.Play.{line_meaning}
 use Rattle.tase_replay.proofs.Entering.{IsPlayed-skipped, IsPlayed-bad, IsPlayed-none, line_in-skipped}
 use Rattle.tase_replay.proofs.Entering.{line_in-read}
 use Rattle.tase_replay.proofs.Own.{read_played, read_scene, skipped_scene, asked_so, unasked_so}
-use Rattle.tase_replay.proofs.Sending.{accepted_stays, read_stays, skipped_stays}
+use Rattle.tase_replay.proofs.Sending.{read_taken, skipped_taken}
 use Rattle.tase_replay.proofs.playing.play_line.Goals as goal
 
 pub play_given-requires : goal.play_given-requires
@@ -34,9 +34,9 @@ returns-then-is_skipped-clause-stands g c = λ scene s done.
     c.args.seats.now (sym c.is_skipped.ensures ∙ c.if-is_skipped.true) s
 
 pub returns-then-is_skipped-clause-sent : goal.returns-then-is_skipped-clause-sent
-returns-then-is_skipped-clause-sent g c = λ scene s done.
-    skipped_stays c.args.node.now.setup c.args.line.now scene
-    (sym c.is_skipped.ensures ∙ c.if-is_skipped.true)
+returns-then-is_skipped-clause-sent g c = λ scene s.
+    inl (skipped_taken c.args.node.now.setup c.args.line.now scene
+    (sym c.is_skipped.ensures ∙ c.if-is_skipped.true))
 
 pub returns-in-Ok-Some-Event : goal.returns-in-Ok-Some-Event
 returns-in-Ok-Some-Event g c =
@@ -56,8 +56,9 @@ returns-in-Ok-Some-Event g c =
           went.result words asked (went.ensures.played line scene s);
       stands = λ scene s done. read_scene node.setup line scene found went.new.node.history
           went.new.seats words asked (went.ensures.stands scene s done);
-      sent = λ scene s done. read_stays node.setup line scene found words asked
-          (accepted_stays node.setup scene event.entry);
+      sent = λ scene s. read_taken node.setup line scene found went.result
+          (g.K.Sink.told c.args.sink.now) (g.K.Sink.told went.new.sink) words asked
+          (went.ensures.sent scene s);
       setup = went.ensures.setup;
     }
 
@@ -79,8 +80,9 @@ returns-in-Ok-Some-Item g c =
           went.result words asked (went.ensures.played line scene s);
       stands = λ scene s done. read_scene node.setup line scene found went.new.node.history
           went.new.seats words asked (went.ensures.stands scene s done);
-      sent = λ scene s done. read_stays node.setup line scene found words asked
-          (went.ensures.sent scene s done);
+      sent = λ scene s. read_taken node.setup line scene found went.result
+          (g.K.Sink.told c.args.sink.now) (g.K.Sink.told went.new.sink) words asked
+          (went.ensures.sent scene s);
       setup = went.ensures.setup;
     }
 
@@ -99,10 +101,13 @@ pub returns-in-Ok-None-clause-stands : goal.returns-in-Ok-None-clause-stands
 returns-in-Ok-None-clause-stands g c = λ scene s done. absurd cc
 
 pub returns-in-Ok-None-clause-sent : goal.returns-in-Ok-None-clause-sent
-returns-in-Ok-None-clause-sent g c = λ scene s done. absurd cc
+returns-in-Ok-None-clause-sent g c = λ scene s. inr (λ done. absurd cc, refl)
 
 pub returns-in-Err-clause-played : goal.returns-in-Err-clause-played
 returns-in-Err-clause-played g c = λ scene s.
     let node = c.args.node.now in
     IsPlayed-none c.args.line.now c.args.number (line_meaning node.setup scene c.args.line.now)
     node.history (g.K.Sink.told c.args.sink.now)
+
+pub returns-in-Err-clause-sent : goal.returns-in-Err-clause-sent
+returns-in-Err-clause-sent g c = λ scene s. inr (λ done. absurd cc, refl)

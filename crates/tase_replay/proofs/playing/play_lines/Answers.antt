@@ -1,10 +1,12 @@
-use Rattle.std.proofs.Common.{◌+◌, reverse, arith, ◌∙◌, refl, subst}
+use Rattle.std.proofs.Common.{◌+◌, [], true, reverse, arith, ◌∙◌, refl, subst}
 use Rattle.std.specs.Str.Lines.{lines}
 use Rattle.tase_views.specs.Setup.{Setup}
 use Rattle.tase_replay.specs.AllSent.{AreSentSoFar, is_played_out}
 use Rattle.tase_replay.specs.Play.{Scene, play, play_line, line_meaning, first_scene, scene_behind}
 use Rattle.tase_replay.proofs.Reached.{Reached-none, Reached-last}
-use Rattle.tase_replay.proofs.SoFar.{SentSoFar-none, SentSoFar-more, SentSoFar-end, untaken}
+use Rattle.tase_replay.proofs.PlayPrints.{taken_prints}
+use Rattle.tase_replay.proofs.SoFar.{SentSoFar-none, SentSoFar-more, AreSentSoFar-whole}
+use Rattle.tase_replay.proofs.SoFar.{AreSentSoFar-last}
 use Rattle.tase_replay.proofs.playing.play_lines.Goals as goal
 
 pub loop-line-init : goal.loop-line-init
@@ -44,16 +46,16 @@ returns-in_default-play_line g c =
           (g.K.Sink.told c.play_line.new.sink) c.play_line.result
           c.in_default-play_line.not-Done so_far.reached played;
       sent = subst (λ (setup : Setup). AreSentSoFar setup first.history all
-          (is_played_out c.play_line.result)) c.loop-line.invariant.3
-          (SentSoFar-end node.setup all
-          (play_line c.in-Some.line.now c.loop-line.number meaning rest) first.history node.history
-          (g.K.Sink.told c.args.sink.now) (g.K.Sink.told c.loop-line.sink) scene
-          (is_played_out c.play_line.result) so_far.reached so_far.sent
-          c.loop-line.invariant.2.past_is
-          (untaken c.in-Some.line.now c.loop-line.number meaning rest node.history
-          c.play_line.new.node.history (g.K.Sink.told c.loop-line.sink)
-          (g.K.Sink.told c.play_line.new.sink) c.play_line.result
-          c.in_default-play_line.not-Done played));
+          (is_played_out c.play_line.result) (g.K.Sink.told c.args.sink.now)
+          (g.K.Sink.told c.play_line.new.sink)) c.loop-line.invariant.3
+          (AreSentSoFar-last node.setup c.in-Some.line.now c.loop-line.number scene rest all
+          first.history node.history c.play_line.new.node.history
+          (g.K.Sink.told c.args.sink.now) (g.K.Sink.told c.loop-line.sink)
+          (g.K.Sink.told c.play_line.new.sink) so_far.reached so_far.sent
+          (taken_prints first.setup (lines c.args.scenario.now)
+          (first_scene (reverse first.history)) 1)
+          c.loop-line.invariant.2.past_is c.play_line.result c.in_default-play_line.not-Done played
+          (c.play_line.ensures.sent scene c.loop-line.invariant.2));
       setup = c.play_line.ensures.setup ∙ c.loop-line.invariant.3;
     }
 
@@ -65,17 +67,32 @@ loop-line-preserved g c =
     let rest = λ (s : Scene). play node.setup (lines c.in-Some.more.now) s
     (c.loop-line.number + 1) in
     let so_far = rw c.in-Some.ensures.some at c.loop-line.invariant.1 in
-    let further = SentSoFar-more node.setup c.in-Some.line.now c.loop-line.number scene
-    (line_meaning node.setup scene c.in-Some.line.now) rest
+    let further = SentSoFar-more node.setup c.in-Some.line.now c.loop-line.number scene rest
     (play first.setup (lines c.args.scenario.now) (first_scene (reverse first.history)) 1)
     first.history node.history c.play_line.new.node.history
     (g.K.Sink.told c.args.sink.now) (g.K.Sink.told c.loop-line.sink)
-    (g.K.Sink.told c.play_line.new.sink) refl so_far.reached so_far.sent
+    (g.K.Sink.told c.play_line.new.sink) so_far.reached so_far.sent
     (c.in-Done.ensures.played scene c.loop-line.invariant.2)
-    (c.in-Done.ensures.sent scene c.loop-line.invariant.2 refl) in (
+    (c.in-Done.ensures.sent scene c.loop-line.invariant.2) in (
       scene_behind node.setup c.in-Some.line.now scene,
       rw c.in-Done.ensures.setup further,
       rw c.in-Done.ensures.setup (c.in-Done.ensures.stands scene c.loop-line.invariant.2 refl),
       c.in-Done.ensures.setup ∙ c.loop-line.invariant.3,
       omega (arith, c.in-Some.ensures.shorter),
     )
+
+pub returns-clause-sent : goal.returns-clause-sent
+returns-clause-sent g c =
+    let first = c.args.node.now in
+    let node = c.loop-line.node in
+    let scene = c.loop-line.invariant.0 in
+    let all = play first.setup (lines c.args.scenario.now) (first_scene (reverse first.history)) 1
+    in
+    let so_far = rw c.in_default.ensures.none at c.loop-line.invariant.1 in
+    subst (λ (setup : Setup). AreSentSoFar setup first.history all true
+    (g.K.Sink.told c.args.sink.now) (g.K.Sink.told c.loop-line.sink)) c.loop-line.invariant.3
+    (AreSentSoFar-whole node.setup all (play node.setup [] scene c.loop-line.number) first.history
+    node.history (g.K.Sink.told c.args.sink.now) (g.K.Sink.told c.loop-line.sink) scene
+    so_far.reached so_far.sent (taken_prints first.setup (lines c.args.scenario.now)
+    (first_scene (reverse first.history)) 1) c.loop-line.invariant.2.past_is true
+    (g.K.Sink.told c.loop-line.sink) refl)

@@ -1,4 +1,4 @@
-use Rattle.std.proofs.Common.{Bool, subst, []}
+use Rattle.std.proofs.Common.{Bool, subst, [], refl, inr}
 use Rattle.tase_replay.specs.Play.{entry_meaning, play_line, ends_there}
 use Rattle.tase_replay.specs.Standing.{NotesUse}
 use Rattle.tase_replay.specs.Ends.{IsPlayed}
@@ -50,3 +50,16 @@ pub returns-in-Err-clause-played : goal.returns-in-Err-clause-played
 returns-in-Err-clause-played g c = λ line scene s.
     IsPlayed-none line c.args.number (entry_meaning c.args.node.now.setup scene c.args.entry)
     c.args.node.now.history (g.K.Sink.told c.args.sink.now)
+
+pub returns-in-Ok-true-clause-sent : goal.returns-in-Ok-true-clause-sent
+returns-in-Ok-true-clause-sent g c = λ scene s.
+    let notes = subst (λ (b : Bool). NotesUse c.args.entry.who c.args.seats.now b c.note_own.new.self)
+    c.in-Ok-true.field-0-test c.in-Ok-true.ensures in
+    c.play_entry.ensures.sent scene s.past_is (own_unlinked c.args.node.now.setup.centre scene
+    c.args.entry.who c.args.seats.now c.note_own.new.self notes s.sits)
+
+pub returns-in-Ok-false-clause-sent : goal.returns-in-Ok-false-clause-sent
+returns-in-Ok-false-clause-sent g c = λ scene s. inr (λ done. absurd cc, refl)
+
+pub returns-in-Err-clause-sent : goal.returns-in-Err-clause-sent
+returns-in-Err-clause-sent g c = λ scene s. inr (λ done. absurd cc, refl)

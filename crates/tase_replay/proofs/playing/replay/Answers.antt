@@ -20,3 +20,4 @@ returns-in-Err-clause-sent g c =
     let node = c.args.node.now in
     AreSentSoFar-none node.setup node.history
     (play node.setup (lines c.args.scenario.now) (first_scene (reverse node.history)) 1)
+    (g.K.Sink.told c.args.sink.now)

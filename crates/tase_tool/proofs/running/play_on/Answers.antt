@@ -1,7 +1,6 @@
-use Rattle.tase_replay.specs.AllSent.{is_played_out}
 use Rattle.tase_tool.specs.Sent.{played_on}
 use Rattle.tase_tool.proofs.Playing.{Tells-played}
-use Rattle.tase_tool.proofs.Sending.{told_play, sent_all}
+use Rattle.tase_tool.proofs.Sending.{SendsSoFar-played}
 use Rattle.tase_tool.proofs.running.play_on.Goals as goal
 
 pub returns-clause-tells : goal.returns-clause-tells
@@ -12,8 +11,8 @@ returns-clause-tells g c =
     c.replay-end.result c.tell_end.result c.replay-end.ensures.played c.tell_end.ensures
 
 pub returns-clause-sent : goal.returns-clause-sent
-returns-clause-sent g c = λ told_so.
-    sent_all c.args.node.setup c.args.node.history (played_on c.args.node c.args.scenario.now)
-    (is_played_out c.replay-end.result) c.replay-end.ensures.sent
-    (told_play c.replay-end.result (g.K.Sink.told c.replay-end.new.sink)
-    (g.K.Sink.told c.tell_end.new.sink) c.tell_end.result c.tell_end.ensures told_so)
+returns-clause-sent g c =
+    SendsSoFar-played c.args.node c.args.scenario.now c.replay-end.new.node.history
+    (g.K.Sink.told c.args.sink.now) (g.K.Sink.told c.replay-end.new.sink)
+    (g.K.Sink.told c.tell_end.new.sink) c.replay-end.result c.tell_end.result
+    c.replay-end.ensures.played c.tell_end.ensures c.replay-end.ensures.sent

@@ -3,6 +3,7 @@ use Rattle.command_io.specs.Runs.{IsRun}
 use Rattle.command_io.specs.Saying.{duty_to_say}
 use Rattle.tase_tool.specs.Saying.{scenario_said}
 use Rattle.tase_tool.specs.Sent.{node_of, SendsWithin}
+use Rattle.tase_tool.proofs.Sending.{output_of}
 use Rattle.tase_tool.proofs.running.play_read.Goals as goal
 
 pub returns-in-Ok-clause-runs : goal.returns-in-Ok-clause-runs
@@ -15,5 +16,7 @@ returns-in-Ok-clause-runs g c =
 
 pub returns-in-Ok-clause-sent : goal.returns-in-Ok-clause-sent
 returns-in-Ok-clause-sent g c =
-    rw c.in-Ok.is (λ told_so. subst (λ octets. SendsWithin (node_of c.args.centre c.args.limit)
-    octets) c.deref.ensures.value (λ within. c.play_scenario.ensures.sent told_so))
+    rw c.in-Ok.is (subst (λ octets. SendsWithin (node_of c.args.centre c.args.limit)
+    c.play_scenario.result (output_of (g.O.Outside.told c.args.outside.now).sinks)
+    (output_of (g.O.Outside.told c.play_scenario.new.outside).sinks) octets)
+    c.deref.ensures.value (λ within. c.play_scenario.ensures.sent))

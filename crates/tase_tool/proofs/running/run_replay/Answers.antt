@@ -10,8 +10,7 @@ returns-clause-runs g c =
 
 pub returns-clause-sent : goal.returns-clause-sent
 returns-clause-sent g c =
-    λ told_so. SendsBy-over (g.O.Outside.told c.args.outside.now)
+    SendsBy-over (g.O.Outside.told c.args.outside.now)
     (g.O.Outside.told c.read_tables-read.new.outside) (g.O.Outside.told c.run_over.new.outside)
     c.args.tables.now c.args.scenario.now c.args.limit c.read_tables-read.result c.run_over.result
-    c.read_tables-read.ensures c.run_over.ensures.runs told_so
-    (c.run_over.ensures.sent told_so)
+    c.read_tables-read.ensures c.run_over.ensures.runs c.run_over.ensures.sent

@@ -1,5 +1,4 @@
 use Rattle.std.proofs.Common.{codes}
-use Rattle.command_io.specs.Saying.{texts_of}
 use Rattle.tase_tool.specs.Saying.{scenario_said}
 use Rattle.tase_tool.specs.Sent.{node_of}
 use Rattle.tase_tool.proofs.Duties.{IsRun-read}
@@ -15,9 +14,8 @@ returns-clause-runs g c =
 
 pub returns-clause-sent : goal.returns-clause-sent
 returns-clause-sent g c =
-    λ told_so. OnTold-ended (node_of c.args.centre c.args.limit) c.read_input-read.result
-    (texts_of (g.O.Outside.told c.args.outside.now) c.args.scenario.now)
+    OnTold-ended (node_of c.args.centre c.args.limit) c.read_input-read.result
     (codes "scenario") (scenario_said c.args.centre c.args.limit)
-    (g.O.Outside.told c.read_input-read.new.outside) (g.O.Outside.told c.play_read.new.outside)
-    c.play_read.result c.read_input-read.ensures.text c.play_read.ensures.runs told_so
-    (c.play_read.ensures.sent told_so)
+    (g.O.Outside.told c.args.outside.now) (g.O.Outside.told c.read_input-read.new.outside)
+    (g.O.Outside.told c.play_read.new.outside) c.args.scenario.now c.play_read.result
+    c.read_input-read.ensures c.play_read.ensures.runs c.play_read.ensures.sent

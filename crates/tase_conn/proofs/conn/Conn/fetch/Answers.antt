@@ -42,11 +42,11 @@ returns-clause-shorter c =
     c.requires.more c.in_ok-input.ensures.shorter (fetched_now c)
 
 pub returns-in_err-input-clause-err : goal.returns-in_err-input-clause-err
-returns-in_err-input-clause-err c = λ rows items told turns s.
+returns-in_err-input-clause-err c =
     let p = err_from_is_err_and c.from_residual.result c.from_residual.ensures.1 in
     let view = the_view c.self.inside in
-    rw p.1 (stands_again rows items told turns view c.args.self.now _ c.next.new.self
-    c.self.view_is c.requires.idle c.requires.empty c.requires.more s
+    rw p.1 (λ rows items told turns s. stands_again rows items told turns view c.args.self.now _
+    c.next.new.self c.self.view_is c.requires.idle c.requires.empty c.requires.more s
     (λ stands. c.in_err-input.ensures.kept called (text_given items) told stands)
     c.in_err-input.ensures.stays c.in_err-input.ensures.state
     (ap (λ (out : List ℕ). record view { course = c.next.new.self; out = out })
