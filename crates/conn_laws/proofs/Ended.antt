@@ -1,6 +1,6 @@
 -- A connection that the peer has ended has said all.
 use Rattle.std.proofs.Common.{◌≡◌, ℕ, Bool, true, false, List, [], ◌∷◌, ◌++◌, Option, Some, None}
-use Rattle.std.proofs.Common.{arith, refl, sym, ap, subst, ◌∙◌, append_assoc, reverse, inl, inr}
+use Rattle.std.proofs.Common.{arith, refl, sym, ap, subst, ◌∙◌, append_assoc, reverse}
 use Rattle.std.specs.Prelude.{is_some, if◌then◌else◌, ◌||◌, ◌&&◌, not}
 use Rattle.std.specs.List.{list_any}
 use Rattle.std.proofs.lemmas.Bool.{false≢true}
@@ -36,20 +36,20 @@ use Rattle.tase_conn.specs.declared.stage.Progress.{Progress}
 use Rattle.tase_conn.specs.declared.stage.Progress.TheVariants as progresses
 use Rattle.tase_conn.specs.declared.stage.Stage.{Stage}
 use Rattle.tase_conn.specs.declared.stage.Stage.TheVariants as stages
+use Rattle.tase_conn.specs.PeerEnd.{end_at}
 use Rattle.tase_conn.specs.Talking.{Talking, pending_of, IsFree}
-use Rattle.tase_conn.specs.Places.{Runs, EndsBy, EndsWithTurn, IsCause, is_connected}
+use Rattle.tase_conn.specs.Places.{Runs, IsReadToEnd, EndsWithTurn, is_connected}
 use Rattle.tase_conn.specs.Places.{has_begun, has_finished}
 use Rattle.tase_conn.specs.Wanting.{quiet_at, quiet_behind, refusal_said, ReadsOn}
 use Rattle.tase_conn.specs.Wanting.{Passes, IsIdle, AreAllTurns, StaysEnded, WantsBy, Wants}
 use Rattle.tase_conn.specs.Wanting as wanting
 use Rattle.tase_conn.proofs.Composed.{quiet_join}
 use Rattle.tase_map.proofs.AskedOn.{asks_join}
-use Rattle.tase_conn.proofs.LastTurns.{last_of_cause}
+use Rattle.tase_conn.proofs.LastTurns.{BringsEnd, end_brought, at_end}
 use Rattle.conn_laws.specs.Serving.{IsWaiting, SaysClosed, SaysBy, Serves, HoldsOfAllInput, IsSaidButOwed}
 use Rattle.tase_map.proofs.Fronts.{HasFront, whole_front, front_read, size_first, setup_kept}
 use Rattle.tase_map.proofs.Fronts.{setup_fixed, answers_told}
 use Rattle.conn_laws.proofs.Seats.{goes_at, says_now}
-use Rattle.conn_laws.proofs.Served.{kept_front, at_end}
 use Rattle.conn_laws.proofs.Texts.{answers-append, longer_front, text-append, text_turns}
 use Rattle.conn_laws.proofs.Texts.{fixed_over}
 use Rattle.conn_laws.proofs.TurnLists.{quiet_none, any_front, any_back}
@@ -273,24 +273,18 @@ quiet_refuses rows setup front breaks b =
 quiet_refuses rows setup front ends b = refl
 quiet_refuses rows setup front pauses b = refl
 
-cause_declined : (rows : CentreRows) (items : List Item) (end : ConnEnd) (last : Turn)
-    → IsCause rows items end last → is_declined rows (last ∷ []) ≡ true
+end_declined : (rows : CentreRows) (broken : Option StackFault) (end : ConnEnd) (last : Turn)
+    → end_at broken last ≡ Some end → is_declined rows (last ∷ []) ≡ true
     → end ≡ conn_ends.Declined
-cause_declined rows items conn_ends.Finished last c d =
-    absurd (false≢true (sym (ap (λ t. is_declined rows (t ∷ [])) c) ∙ d))
-cause_declined rows items conn_ends.PeerEnd last (inl c) d =
-    absurd (false≢true (sym (ap (λ t. is_declined rows (t ∷ [])) c) ∙ d))
-cause_declined rows items conn_ends.PeerEnd last (inr c) d =
-    absurd (false≢true (sym (ap (λ t. is_declined rows (t ∷ [])) c) ∙ d))
-cause_declined rows items conn_ends.Declined last c d = refl
-cause_declined rows items (conn_ends.Refused fault) last c d =
-    absurd (false≢true (sym (ap (λ t. is_declined rows (t ∷ [])) c.0) ∙ d))
-cause_declined rows items (conn_ends.TooLong len detail) last c d = absurd c
-cause_declined rows items (conn_ends.Overflow pending limit) last c d = absurd c
-cause_declined rows items conn_ends.LinkFault last c d = absurd c
-cause_declined rows items conn_ends.Stopped last c d = absurd c
-cause_declined rows items (conn_ends.Full weight limit) last c d = absurd c
-cause_declined rows items conn_ends.Memory last c d = absurd c
+end_declined rows broken end (offers title) c d = cc
+end_declined rows broken end offers_badly c d = cc
+end_declined rows broken end (asks invoke call) c d = absurd (false≢true d)
+end_declined rows broken end concludes c d = absurd (false≢true d)
+end_declined rows broken end releases c d = absurd (false≢true d)
+end_declined rows broken end aborts c d = absurd (false≢true d)
+end_declined rows broken end breaks c d = absurd (false≢true d)
+end_declined rows broken end ends c d = absurd (false≢true d)
+end_declined rows broken end pauses c d = absurd (false≢true d)
 
 chosen : (b : Bool) (xs ys : List ℕ) → (b ≡ true → xs ≡ ys)
     → (if b then xs else []) ≡ (if b then ys else [])
@@ -299,28 +293,27 @@ chosen false xs ys e = refl
 
 -- the last turn is one of those of the items with which it ended
 last_within : (rows : CentreRows) (items : List Item) (told : List Arrival) (turns : List Turn)
-    (end : ConnEnd) → (e : EndsBy rows items told turns end)
+    (end : ConnEnd) → (e : IsReadToEnd rows items told turns end)
     → list_any (is_last rows) (turns_of e.done) ≡ true
 last_within rows items told turns end e =
-    let k = kept_front rows (turns_of e.done) in
+    let b = end_brought rows e.done turns end e.by_peer e.whole in
     ap (λ (ts : List Turn). list_any (is_last rows) ts)
-    (k.1 ∙ ap (λ (ts : List Turn). ts ++ k.0) (e.whole ∙ e.ends.is))
-    ∙ any_here (is_last rows) e.ends.front k.0 e.last (last_of_cause rows items end e.last e.cause)
+    (b.all ∙ ap (λ (ts : List Turn). ts ++ b.rest) b.ends.is)
+    ∙ any_here (is_last rows) b.ends.front b.rest b.last b.is
 
 early_end : (rows : CentreRows) (items : List Item) (told later : List Arrival) (turns : List Turn)
     (octets octets_more : List ℕ) (end : ConnEnd)
-    → (e : EndsBy rows items (told ++ later) turns end)
-    → asks_behind rows [] e.ends.front ≡ [] → list_any (begins rows) e.ends.front ≡ false
+    → IsReadToEnd rows items (told ++ later) turns end → (b : BringsEnd rows items turns end)
+    → asks_behind rows [] b.ends.front ≡ [] → list_any (begins rows) b.ends.front ≡ false
     → octets ≡ answers_to called told
     → octets_more ≡ answers_to called later
-    ++ quiet_at rows (setup_after (told ++ later)) e.ends.front e.last
+    ++ quiet_at rows (setup_after (told ++ later)) b.ends.front b.last
     → HoldsOfAllInput items turns (λ text ended rest. octets ++ octets_more ≡ early_octets rows text)
-early_end rows items told later turns octets octets_more end e none unbegun said added =
+early_end rows items told later turns octets octets_more end e b none unbegun said added =
     λ more i rest t.
-    let front = e.ends.front in
-    let last = e.last in
+    let front = b.ends.front in
+    let last = b.last in
     let extra = e.dropped ++ more in
-    let is = last_of_cause rows items end last e.cause in
     let all : items ++ more ≡ e.done ++ extra =
     ap (λ (is : List Item). is ++ more) e.items_are ∙ append_assoc e.done e.dropped more in
     let input : IsLinkInput (e.done ++ extra) = subst (λ (x : List Item). IsLinkInput x) all i in
@@ -333,9 +326,9 @@ early_end rows items told later turns octets octets_more end e none unbegun said
     ∙ same_answers rows e.done extra before refl input
     (last_within rows items (told ++ later) turns end e) ∙ sym e.answered in
     let joined : turns_of (items ++ more) ≡ front ++ last ∷ rest =
-    t ∙ ap (λ (ts : List Turn). ts ++ rest) e.ends.is ∙ append_assoc front (last ∷ []) rest in
+    t ∙ ap (λ (ts : List Turn). ts ++ rest) b.ends.is ∙ append_assoc front (last ∷ []) rest in
     let alone : without_pauses front ≡ [] =
-    silent rows [] front (last ∷ rest) refl e.ends.goes
+    silent rows [] front (last ∷ rest) refl b.ends.goes
     (input_follows items more front (last ∷ rest) i joined) none in
     let first : is_declined rows (turns_told r) ≡ declined =
     sym (declined_told rows (turns_told r) (link_has_ended (items ++ more)))
@@ -343,12 +336,12 @@ early_end rows items told later turns octets octets_more end e none unbegun said
     (sym (text_turns (items ++ more) i) ∙ ap (λ (ts : List Turn). without_pauses ts) joined
     ∙ without-append front (last ∷ rest)
     ∙ ap (λ (ts : List Turn). ts ++ without_pauses (last ∷ rest)) alone)
-    ∙ declined_first rows last rest is in
+    ∙ declined_first rows last rest b.is in
     let refused : (if declined then refusal_said setup else [])
     ≡ (if declined then refusal_said (setup_after r.told) else []) =
     chosen declined (refusal_said setup) (refusal_said (setup_after r.told))
     (λ d.
-    let f = e.fixed (cause_declined rows items end last e.cause d) in
+    let f = e.fixed (end_declined rows (reading_of (text_given items)).broken end last b.cause d) in
     ap (λ (s : AssociationSetup). refusal_said s)
     (f.0 ∙ sym (ap (λ (x : List Item). setup_after (reading_of (text_given x)).told) all
     ∙ same_setup e.done extra f.1))) in
@@ -420,7 +413,7 @@ concluded_last rows setup front pauses rest o b l is f = absurd (false≢true is
 -- no more is answered at once on the way to the end
 none_answered : (rows : CentreRows) (items : List Item) (told later : List Arrival)
     (turns : List Turn) (end : ConnEnd) (old : Talking) → IsLinkInput items
-    → (e : EndsBy rows items (told ++ later) turns end) → (asked : PendingEvent) (before : List Turn)
+    → IsReadToEnd rows items (told ++ later) turns end → (asked : PendingEvent) (before : List Turn)
     → Runs rows items told before asked old → is_some (first_in connect_in told) ≡ true
     → answers_to called later ≡ []
 none_answered rows items told later turns end old i e asked before r connect =
@@ -437,27 +430,25 @@ none_answered rows items told later turns end old i e asked before r connect =
 closed_end : (rows : CentreRows) (past : Past) (who : ℕ) (items : List Item)
     (told later : List Arrival) (turns more : List Turn) (octets octets_more : List ℕ)
     (end : ConnEnd) (old : Talking)
-    → (e : EndsBy rows items (told ++ later) (turns ++ more) end)
-    → Ending rows turns more e.ends.front e.last
+    → (b : BringsEnd rows items (turns ++ more) end) → Ending rows turns more b.ends.front b.last
     → Runs rows items told turns askeds.Nothing old
     → is_some (first_in connect_in told) ≡ true
-    → is_open_behind rows e.ends.front ≡ false → list_any (begins rows) e.ends.front ≡ true
-    → Follows e.ends.front e.last → answers_to called later ≡ []
+    → is_open_behind rows b.ends.front ≡ false → list_any (begins rows) b.ends.front ≡ true
+    → Follows b.ends.front b.last → answers_to called later ≡ []
     → octets_more ≡ answers_to called later
-    ++ quiet_at rows (setup_after (told ++ later)) e.ends.front e.last
+    ++ quiet_at rows (setup_after (told ++ later)) b.ends.front b.last
     → SaysClosed (progresses.Running askeds.Nothing) rows past who items turns octets
     → SaysClosed (progresses.Ended end) rows past who items (turns ++ more)
     (octets ++ octets_more)
-closed_end rows past who items told later turns more octets octets_more end old e n r connect shut
+closed_end rows past who items told later turns more octets octets_more end old b n r connect shut
     begun follows unanswered added says =
-    let front = e.ends.front in
-    let last = e.last in
+    let front = b.ends.front in
+    let last = b.last in
     let key = says.key in
     let setup = setup_after (told ++ later) in
     let k = setup_fixed (text_given items) told old.course r.stands connect in
-    let is = last_of_cause rows items end last e.cause in
     let goes : list_any (is_last rows) (turns ++ n.quiet_front) ≡ false =
-    ap (λ (ts : List Turn). list_any (is_last rows) ts) (sym n.front_is) ∙ e.ends.goes in
+    ap (λ (ts : List Turn). list_any (is_last rows) ts) (sym n.front_is) ∙ b.ends.goes in
     let Owes : List ℕ → Bool → List Turn → Type 0 =
     IsSaidButOwed (progresses.Running askeds.Nothing) rows past key octets in
     let moved : HoldsOfAllInput items front Owes =
@@ -477,9 +468,9 @@ closed_end rows past who items told later turns more octets octets_more end old 
           ∙ ap (λ (os : List ℕ). octets ++ os)
           (added ∙ ap (λ (os : List ℕ). os ++ quiet_at rows setup front last) unanswered
           ∙ ap (λ (s : AssociationSetup). quiet_at rows s front last) (k.1 later ∙ sym x.setup)
-          ∙ concluded_last rows talk.setup front last rest shut begun e.ends.goes is follows)
+          ∙ concluded_last rows talk.setup front last rest shut begun b.ends.goes b.is follows)
           ∙ moved more_items i (last ∷ rest)
-          (t ∙ ap (λ (ts : List Turn). ts ++ rest) e.ends.is
+          (t ∙ ap (λ (ts : List Turn). ts ++ rest) b.ends.is
           ∙ append_assoc front (last ∷ []) rest);
     }
 
@@ -508,19 +499,20 @@ open_of_tests rows front b f e g =
 says_end : (rows : CentreRows) (past : Past) (who : ℕ) (items : List Item)
     (told later : List Arrival) (turns more : List Turn) (octets octets_more : List ℕ)
     (end : ConnEnd) (stage : Stage) (old : Talking) → IsLinkInput items
-    → (e : EndsBy rows items (told ++ later) (turns ++ more) end)
-    → (n : Ending rows turns more e.ends.front e.last)
+    → IsReadToEnd rows items (told ++ later) (turns ++ more) end
+    → (b : BringsEnd rows items (turns ++ more) end)
+    → (n : Ending rows turns more b.ends.front b.last)
     → Runs rows items told turns askeds.Nothing old → old.stage ≡ stage
     → reverse (events_by who past) ≡ asks_behind rows [] turns
-    → without_pauses n.quiet_front ≡ [] → Follows e.ends.front e.last
+    → without_pauses n.quiet_front ≡ [] → Follows b.ends.front b.last
     → octets_more ≡ answers_to called later
-    ++ quiet_at rows (setup_after (told ++ later)) e.ends.front e.last
+    ++ quiet_at rows (setup_after (told ++ later)) b.ends.front b.last
     → SaysBy stage (progresses.Running askeds.Nothing) rows past who items told turns octets
     → SaysBy stage (progresses.Ended end) rows past who items (told ++ later) (turns ++ more)
     (octets ++ octets_more)
-says_end rows past who items told later turns more octets octets_more end stages.Early old i e n r
+says_end rows past who items told later turns more octets octets_more end stages.Early old i e b n r
     st asked alone follows added says =
-    let front = e.ends.front in
+    let front = b.ends.front in
     let none : asks_behind rows [] front ≡ [] =
     ap (λ (ts : List Turn). asks_behind rows [] ts) n.front_is
     ∙ asks_join rows [] turns n.quiet_front
@@ -529,27 +521,27 @@ says_end rows past who items told later turns more octets octets_more end stages
     let unbegun = tests_kept (begins rows) refl turns n.quiet_front front false n.front_is alone
     (r.begun ∙ ap (λ (x : Stage). has_begun x askeds.Nothing) st) in (
       says.0,
-      early_end rows items told later (turns ++ more) octets octets_more end e none unbegun
+      early_end rows items told later (turns ++ more) octets octets_more end e b none unbegun
           says.1 added,
     )
 says_end rows past who items told later turns more octets octets_more end
-    (stages.Open peer detail) old i e n r st asked alone follows added says =
-    let front = e.ends.front in
+    (stages.Open peer detail) old i e b n r st asked alone follows added says =
+    let front = b.ends.front in
     let begun = tests_kept (begins rows) refl turns n.quiet_front front true n.front_is alone
     (r.begun ∙ ap (λ (x : Stage). has_begun x askeds.Nothing) st) in
     let unfinished = tests_kept finishes refl turns n.quiet_front front false n.front_is alone
     (r.finished ∙ ap (λ (x : Stage). has_finished x askeds.Nothing) st) in
-    absurd (never_open rows front e.last (open_of_tests rows front true false begun unfinished)
-    (last_of_cause rows items end e.last e.cause) e.ends.goes follows n.last_none)
+    absurd (never_open rows front b.last (open_of_tests rows front true false begun unfinished)
+    b.is b.ends.goes follows n.last_none)
 says_end rows past who items told later turns more octets octets_more end (stages.Closed peer) old
-    i e n r st asked alone follows added says =
-    let front = e.ends.front in
+    i e b n r st asked alone follows added says =
+    let front = b.ends.front in
     let connect = r.connected ∙ ap (λ (x : Stage). is_connected x askeds.Nothing old.held) st in
     let begun = tests_kept (begins rows) refl turns n.quiet_front front true n.front_is alone
     (r.begun ∙ ap (λ (x : Stage). has_begun x askeds.Nothing) st) in
     let finished = tests_kept finishes refl turns n.quiet_front front true n.front_is alone
     (r.finished ∙ ap (λ (x : Stage). has_finished x askeds.Nothing) st) in
-    closed_end rows past who items told later turns more octets octets_more end old e n r connect
+    closed_end rows past who items told later turns more octets octets_more end old b n r connect
     (open_of_tests rows front true true begun finished) begun follows
     (none_answered rows items told later (turns ++ more) end old i e askeds.Nothing turns r connect)
     added says
@@ -567,29 +559,28 @@ ends_on rows past who items octets octets_more end old new s p st q g pending =
     let turns = s.turns ++ g.more in
     let r = goes_at s.stands p in
     let e = (goes_at g.stands q).0 in
-    let is = last_of_cause rows items end e.last e.cause in
-    let n = ending rows s.turns g.more e.last e.ends is r.ending g.asks_are in
-    let a = at_end rows items told turns end e in
-    let follow : AllFollow [] (e.ends.front ++ e.last ∷ a.rest) =
+    let b = at_end rows items told turns end e in
+    let n = ending rows s.turns g.more b.last b.ends b.is r.ending g.asks_are in
+    let follow : AllFollow [] (b.ends.front ++ b.last ∷ b.rest) =
     subst (λ (ts : List Turn). AllFollow [] ts)
-    (a.is ∙ ap (λ (ts : List Turn). ts ++ a.rest) e.ends.is
-    ∙ append_assoc e.ends.front (e.last ∷ []) a.rest)
+    (b.all ∙ ap (λ (ts : List Turn). ts ++ b.rest) b.ends.is
+    ∙ append_assoc b.ends.front (b.last ∷ []) b.rest)
     (turns_follow items s.input) in
     let goes : list_any (is_last rows) (s.turns ++ n.quiet_front) ≡ false =
-    ap (λ (ts : List Turn). list_any (is_last rows) ts) (sym n.front_is) ∙ e.ends.goes in
+    ap (λ (ts : List Turn). list_any (is_last rows) ts) (sym n.front_is) ∙ b.ends.goes in
     let alone : without_pauses n.quiet_front ≡ [] =
-    silent rows s.turns n.quiet_front (e.last ∷ a.rest) r.ending
+    silent rows s.turns n.quiet_front (b.last ∷ b.rest) r.ending
     (any_back (is_last rows) s.turns n.quiet_front goes)
-    (follow_behind [] s.turns (n.quiet_front ++ e.last ∷ a.rest)
+    (follow_behind [] s.turns (n.quiet_front ++ b.last ∷ b.rest)
     (subst (λ (ts : List Turn). AllFollow [] ts)
-    (ap (λ (ts : List Turn). ts ++ e.last ∷ a.rest) n.front_is
-    ∙ append_assoc s.turns n.quiet_front (e.last ∷ a.rest)) follow)) n.none in
+    (ap (λ (ts : List Turn). ts ++ b.last ∷ b.rest) n.front_is
+    ∙ append_assoc s.turns n.quiet_front (b.last ∷ b.rest)) follow)) n.none in
     let asked = s.asked ∙ ap (λ (ts : List Turn). asks_behind rows [] ts) (sym s.are) in
     let before = says_now s p in
     let says = says_end rows past who items s.told g.later s.turns g.more octets octets_more end
-    old.stage old s.input e n r refl asked alone
-    (follow_behind [] e.ends.front (e.last ∷ a.rest) follow).0
-    (ending_said rows items s.told s.turns octets_more e.last e.ends.front old new g n e.ends.goes
+    old.stage old s.input e b n r refl asked alone
+    (follow_behind [] b.ends.front (b.last ∷ b.rest) follow).0
+    (ending_said rows items s.told s.turns octets_more b.last b.ends.front old new g n b.ends.goes
     pending) before in
     record {
       told = told;

@@ -53,7 +53,8 @@ use Rattle.conn_laws.proofs.Seats.{goes_at, says_at, says_now}
 use Rattle.conn_laws.proofs.Texts.{answers-append}
 use Rattle.tase_map.proofs.Fronts.{HasFront, has_front, front_read}
 use Rattle.conn_laws.proofs.Seats.{event_here, opened_here, seat_opened, close_closes}
-use Rattle.conn_laws.proofs.Served.{begins_turns, goes_front}
+use Rattle.tase_conn.proofs.LastTurns.{goes_front}
+use Rattle.conn_laws.proofs.Served.{begins_turns}
 use Rattle.conn_laws.proofs.Texts.{fixed_over, longer_front}
 use Rattle.conn_laws.proofs.Wanted.{waiting_of, answered_goes}
 

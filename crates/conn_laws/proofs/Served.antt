@@ -39,42 +39,19 @@ use Rattle.tase_conn.specs.declared.stage.Progress.TheVariants as progresses
 use Rattle.tase_conn.specs.declared.stage.Stage.{Stage}
 use Rattle.tase_conn.specs.declared.stage.Stage.TheVariants as stages
 use Rattle.tase_conn.specs.Talking.{Talking, IsResting}
-use Rattle.tase_conn.specs.Places.{Runs, EndsBy, IsDone, ReadsBy}
+use Rattle.tase_conn.specs.Places.{Runs, IsDone, ReadsBy}
 use Rattle.tase_conn.specs.Places.{BeginsTurns, turns_held, fault_seen}
-use Rattle.tase_conn.proofs.LastTurns.{last_of_cause}
-use Rattle.tase_map.proofs.AskedOn.{turns_on}
+use Rattle.tase_conn.proofs.LastTurns.{or_left, goes_front, uncut, at_end, brought_whole}
 use Rattle.tase_map.proofs.AskedOn.{asks_join}
 use Rattle.conn_laws.specs.Serving.{IsWaiting, SaysBy, Serves, IsAllSaid, IsSaidButOwed}
 use Rattle.conn_laws.specs.Serving.{HasServed, HoldsOfAllInput}
 use Rattle.tase_conn.proofs.SeenTurns.{seen_front}
 use Rattle.conn_laws.proofs.Seats.{none_opened, seat_opened, goes_at, says_now}
 use Rattle.conn_laws.proofs.Texts.{text_turns}
-use Rattle.conn_laws.proofs.TurnLists.{any_front, or_left, or_right}
+use Rattle.conn_laws.proofs.TurnLists.{any_front}
 use Rattle.conn_laws.proofs.Wanted.{waiting_of, answered_goes}
 
 -- ---- turns up to the last
-
-up_one : (rows : CentreRows) (b : Bool) (turn : Turn) (front more : List Turn) → b ≡ false
-    → (if b then turn ∷ [] else turn ∷ more) ≡ turn ∷ more
-up_one rows true turn front more e = absurd (false≢true (sym e))
-up_one rows false turn front more e = refl
-
--- those behind which something follows, and then the others
-pub goes_front : (rows : CentreRows) (front more : List Turn)
-    → list_any (is_last rows) front ≡ false
-    → up_to_last rows (front ++ more) ≡ front ++ up_to_last rows more
-goes_front rows [] more l = refl
-goes_front rows (turn ∷ front) more l =
-    up_one rows (is_last rows turn) turn front (up_to_last rows (front ++ more))
-    (or_left (is_last rows turn) (list_any (is_last rows) front) l)
-    ∙ ap (λ (ts : List Turn). turn ∷ ts) (goes_front rows front more
-    (or_right (is_last rows turn) (list_any (is_last rows) front) l))
-
-pub all_kept : (rows : CentreRows) (turns : List Turn) → list_any (is_last rows) turns ≡ false
-    → up_to_last rows turns ≡ turns
-all_kept rows turns l =
-    ap (λ (ts : List Turn). up_to_last rows ts) (sym (append-nil turns))
-    ∙ goes_front rows turns [] l ∙ append-nil turns
 
 -- the first of them stays first
 pub first_kept : (rows : CentreRows) (turn : Turn) (more : List Turn)
@@ -235,52 +212,13 @@ running_served rows past who items octets v s p at =
     let says = says_now s p in
     record {
       asked = s.asked ∙ ap (λ (ts : List Turn). asks_behind rows [] ts)
-          (sym s.are ∙ sym (all_kept rows s.turns r.ending)
+          (sym s.are ∙ sym (uncut rows s.turns r.ending)
           ∙ ap (λ (ts : List Turn). up_to_last rows ts) (sym t));
       octets = running_said rows past who items s.told s.turns octets v.stage s.input t d.told_is
           r.ending says;
     }
 
 -- ---- at its end
-
-last_alone : (rows : CentreRows) (b : Bool) (last : Turn) (more : List Turn) → b ≡ true
-    → (if b then last ∷ [] else last ∷ more) ≡ last ∷ []
-last_alone rows true last more e = refl
-last_alone rows false last more e = absurd (false≢true e)
-
-cut_there : (rows : CentreRows) (front others : List Turn) (last : Turn)
-    → list_any (is_last rows) front ≡ false → is_last rows last ≡ true
-    → up_to_last rows ((front ++ last ∷ []) ++ others) ≡ front ++ last ∷ []
-cut_there rows front others last goes is =
-    ap (λ (ts : List Turn). up_to_last rows ts) (append_assoc front (last ∷ []) others)
-    ∙ goes_front rows front (last ∷ others) goes
-    ∙ ap (λ (ts : List Turn). front ++ ts)
-    (last_alone rows (is_last rows last) last (up_to_last rows others) is)
-
--- the turns that were acted on are those of all items, up to the last
-pub record AtEnd (rows : CentreRows) (items : List Item) (turns : List Turn) : Type 0 where
-  pub rest : List Turn
-  pub is : turns_of items ≡ turns ++ rest
-  pub whole : up_to_last rows (turns_of items) ≡ turns
-
-pub at_end : (rows : CentreRows) (items : List Item) (told : List Arrival) (turns : List Turn)
-    (end : ConnEnd) → EndsBy rows items told turns end → AtEnd rows items turns
-at_end rows items told turns end e =
-    let k = kept_front rows (turns_of e.done) in
-    let o = turns_on [] e.done e.dropped in
-    let is : turns_of items ≡ turns ++ (k.0 ++ o.0) =
-    ap (λ (all : List Item). turns_of all) e.items_are ∙ o.1
-    ∙ ap (λ (ts : List Turn). ts ++ o.0) (k.1 ∙ ap (λ (ts : List Turn). ts ++ k.0) e.whole)
-    ∙ append_assoc turns k.0 o.0 in
-    record {
-      rest = k.0 ++ o.0;
-      is = is;
-      whole = ap (λ (ts : List Turn). up_to_last rows ts)
-          (is ∙ ap (λ (ts : List Turn). ts ++ (k.0 ++ o.0)) e.ends.is)
-          ∙ cut_there rows e.ends.front (k.0 ++ o.0) e.last e.ends.goes
-          (last_of_cause rows items end e.last e.cause)
-          ∙ sym e.ends.is;
-    }
 
 ended_said : (rows : CentreRows) (past : Past) (who : ℕ) (items : List Item)
     (told : List Arrival) (turns rest : List Turn) (octets : List ℕ) (end : ConnEnd) (stage : Stage)
@@ -304,12 +242,12 @@ ended_served : (rows : CentreRows) (past : Past) (who : ℕ) (items : List Item)
     → (s : Serves rows past who items octets None v) → v.progress ≡ progresses.Ended end
     → HasServed rows past who items octets
 ended_served rows past who items octets end v s p =
-    let e = (goes_at s.stands p).0 in
-    let a = at_end rows items s.told s.turns end e in
+    let b = at_end rows items s.told s.turns end (goes_at s.stands p).0 in
     let says = says_now s p in
     record {
-      asked = s.asked ∙ ap (λ (ts : List Turn). asks_behind rows [] ts) (sym s.are ∙ sym a.whole);
-      octets = ended_said rows past who items s.told s.turns a.rest octets end v.stage s.input a.is
+      asked = s.asked ∙ ap (λ (ts : List Turn). asks_behind rows [] ts)
+          (sym s.are ∙ sym (brought_whole rows items s.turns end b));
+      octets = ended_said rows past who items s.told s.turns b.rest octets end v.stage s.input b.all
           says;
     }
 

@@ -18,6 +18,7 @@ use Rattle.tase_map.specs.Asks.{asks_behind, without_pauses}
 use Rattle.tase_map.proofs.Uncut.{without-append}
 use Rattle.tase_map.proofs.TurnOrder.{offered, concluded, IsBegun, AllFollow, turns_follow}
 use Rattle.tase_conn.specs.Wanting.{quiet_at, quiet_behind}
+use Rattle.tase_conn.proofs.LastTurns.{or_left, or_right}
 use Rattle.conn_laws.specs.Serving.{HoldsOfAllInput}
 
 -- ---- lists
@@ -25,14 +26,6 @@ use Rattle.conn_laws.specs.Serving.{HoldsOfAllInput}
 pub right_none : {A : Type 0} (xs ys : List A) → xs ++ ys ≡ [] → ys ≡ []
 right_none [] ys e = e
 right_none (x ∷ xs) ys e = absurd cc
-
-pub or_left : (a b : Bool) → (a || b) ≡ false → a ≡ false
-or_left true b e = e
-or_left false b e = refl
-
-pub or_right : (a b : Bool) → (a || b) ≡ false → b ≡ false
-or_right true b e = absurd (false≢true (sym e))
-or_right false b e = e
 
 -- a test of turns that none of the first meets
 pub any_front : (p : Turn → Bool) (front more : List Turn)

@@ -34,7 +34,8 @@ use Rattle.conn_laws.proofs.Answered.{follows_by, asked_more, opens_early, reque
 use Rattle.conn_laws.proofs.Answered.{take_served, close_served}
 use Rattle.conn_laws.proofs.Left.{leaves, setup_known}
 use Rattle.conn_laws.proofs.Seats.{event_here, goes_at}
-use Rattle.conn_laws.proofs.Served.{begins_turns, goes_front, first_kept}
+use Rattle.tase_conn.proofs.LastTurns.{goes_front}
+use Rattle.conn_laws.proofs.Served.{begins_turns, first_kept}
 use Rattle.conn_laws.proofs.TurnLists.{never_empty}
 use Rattle.conn_laws.proofs.Wanted.{waiting_of, answered_goes}
 

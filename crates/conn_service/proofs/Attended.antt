@@ -16,13 +16,13 @@ use Rattle.tase_conn.specs.declared.stage.PendingEvent.TheVariants as askeds
 use Rattle.tase_conn.specs.declared.stage.Progress.{Progress}
 use Rattle.tase_conn.specs.declared.stage.Progress.TheVariants as progresses
 use Rattle.tase_conn.specs.Talking.{Talking, pending_of, conn_end_in, IsResting}
-use Rattle.tase_conn.specs.Places.{GoesBy, Runs, EndsBy, ReadsNoMore}
+use Rattle.tase_conn.specs.Places.{GoesBy, Runs, IsReadToEnd, ReadsNoMore}
 use Rattle.conn_laws.specs.Serving.{Serves, IsWaiting, HasServed}
 use Rattle.tase_map.specs.Sent.{with_event}
 use Rattle.conn_laws.proofs.Served.{has_served, all_done}
 use Rattle.tase_map.specs.Linked.{link_octets}
-use Rattle.conn_service.specs.PeerEnd.{peer_end}
-use Rattle.conn_service.proofs.PeerEnds.{ended_so, unended_so}
+use Rattle.tase_conn.specs.PeerEnd.{peer_end}
+use Rattle.tase_conn.proofs.LastTurns.{at_end, brought_end, none_brought}
 use Rattle.conn_service.specs.Sends.{Sends, IsSaidByEnd}
 use Rattle.conn_service.specs.Attending.{AddsPending, Attends, AnswersEvent, IsServed, IsAsking}
 use Rattle.conn_service.specs.Attending.{IsWanted, IsAtRest, IsCut, SendsOn, remaining}
@@ -117,7 +117,7 @@ goes_cut setup past between after who items said first taken old v new takes pen
         cause = c.cause;
         after_is = c.after_is;
         none_open = c.none_open;
-        said_is = subst (λ (os : List ℕ). IsSaidByEnd setup items (Some c.end) os
+        said_is = subst (λ (os : List ℕ). IsSaidByEnd items (Some c.end) os
             (link_octets setup.centre after who items)) (append_assoc said first c.adds.added)
             c.said_is;
       };
@@ -149,7 +149,7 @@ end_so rows past who items said v (progresses.Running askeds.Nothing) s e w rest
     let t : turns_of items ≡ s.turns =
     sym (all_done rows items s.told s.turns v rests r).seen_is ∙ append-nil s.turns in
     ap (λ (x : Progress). conn_end_in x) e
-    ∙ sym (unended_so rows items (ap (λ (ts : List Turn). list_any (is_last rows) ts) t ∙ r.ending))
+    ∙ sym (none_brought rows items (ap (λ (ts : List Turn). list_any (is_last rows) ts) t ∙ r.ending))
 end_so rows past who items said v (progresses.Running (askeds.Opening peer granted)) s e w rests =
     absurd w
 end_so rows past who items said v (progresses.Running (askeds.Requesting invoke)) s e w rests =
@@ -159,9 +159,10 @@ end_so rows past who items said v (progresses.Running (askeds.Closing cause)) s 
 end_so rows past who items said v progresses.Refused s e w rests = absurd w
 end_so rows past who items said v (progresses.Leaving end asked) s e w rests = absurd w
 end_so rows past who items said v (progresses.Ended end) s e w rests =
-    let g : EndsBy rows items s.told s.turns end × ReadsNoMore v =
+    let g : IsReadToEnd rows items s.told s.turns end × ReadsNoMore v =
     subst (λ (x : Progress). GoesBy x rows items s.told s.turns v) e s.stands.goes in
-    ap (λ (x : Progress). conn_end_in x) e ∙ sym (ended_so rows items s.told s.turns end g.0)
+    let b = at_end rows items s.told s.turns end g.0 in
+    ap (λ (x : Progress). conn_end_in x) e ∙ sym (brought_end rows items s.turns end b)
 end_so rows past who items said v (progresses.Cut end) s e w rests = absurd w
 
 -- it goes on, or the peer has ended it
@@ -304,9 +305,9 @@ attends_sends setup past who items said old after new (inl a) =
               (takes_each setup who past a.taken after a.takes) ∙ sym a.asks_are;
           by_peer = sym a.end;
         });
-        said = subst (λ (os : List ℕ). IsSaidByEnd setup items end os
+        said = subst (λ (os : List ℕ). IsSaidByEnd items end os
             (link_octets setup.centre after who items)) (sym a.octets)
-            (said_whole setup items end (link_octets setup.centre after who items));
+            (said_whole items end (link_octets setup.centre after who items));
       };
     }
 attends_sends setup past who items said old after new (inr a) = record {

@@ -106,7 +106,7 @@ parting_front end standing setup = by (aborts end) (is_accepted standing)
 
 some_said : (setup : Setup) (past : Past) (who : ℕ) (items : List Item) (said : List ℕ)
     (end : ConnEnd) (standing : EndState) → HasSaidSome end standing setup.centre past who items said
-    → IsSaidInPart setup items said (link_octets setup.centre past who items)
+    → IsSaidInPart items said (link_octets setup.centre past who items)
 some_said setup past who items said end standing s = by s.parted
   where
     talk : AssociationSetup
@@ -114,7 +114,7 @@ some_said setup past who items said end standing s = by s.parted
 
     by : (HasShut past who × (said ≡ s.before ++ parting end standing talk))
         ⊎ ((events_by who past ≡ []) × (said ≡ s.before))
-        → IsSaidInPart setup items said (link_octets setup.centre past who items)
+        → IsSaidInPart items said (link_octets setup.centre past who items)
     by (inl c) = record {
       first = s.before;
       parting = parting end standing talk;
@@ -135,25 +135,25 @@ pub said_in_part : (setup : Setup) (past : Past) (who : ℕ) (items : List Item)
     (whole : Bool) (end : ConnEnd) (standing : EndState) (v : Talking)
     → HasLeft whole end standing setup.centre past who items said None v
     → v.progress ≡ progresses.Cut end
-    → IsSaidInPart setup items said (link_octets setup.centre past who items)
+    → IsSaidInPart items said (link_octets setup.centre past who items)
 said_in_part setup past who items said whole end standing v h cut =
     some_said setup past who items said end standing
     (was_left whole end standing setup.centre past who items said v h cut).octets
 
 -- what is said whole is as much as is owed, however the connection has ended
-pub said_whole : (setup : Setup) (items : List Item) (end : Option ConnEnd) (octets : List ℕ)
-    → IsSaidByEnd setup items end octets octets
-said_whole setup items None octets = refl
-said_whole setup items (Some conn_ends.Finished) octets = refl
-said_whole setup items (Some conn_ends.PeerEnd) octets = refl
-said_whole setup items (Some conn_ends.Declined) octets = refl
-said_whole setup items (Some (conn_ends.Refused fault)) octets = refl
-said_whole setup items (Some (conn_ends.TooLong len detail)) octets = refl
-said_whole setup items (Some (conn_ends.Overflow pending limit)) octets = front_whole octets
-said_whole setup items (Some conn_ends.LinkFault) octets = front_whole octets
-said_whole setup items (Some conn_ends.Stopped) octets = refl
-said_whole setup items (Some (conn_ends.Full weight limit)) octets = refl
-said_whole setup items (Some conn_ends.Memory) octets = record {
+pub said_whole : (items : List Item) (end : Option ConnEnd) (octets : List ℕ)
+    → IsSaidByEnd items end octets octets
+said_whole items None octets = refl
+said_whole items (Some conn_ends.Finished) octets = refl
+said_whole items (Some conn_ends.PeerEnd) octets = refl
+said_whole items (Some conn_ends.Declined) octets = refl
+said_whole items (Some (conn_ends.Refused fault)) octets = refl
+said_whole items (Some (conn_ends.TooLong len detail)) octets = refl
+said_whole items (Some (conn_ends.Overflow pending limit)) octets = front_whole octets
+said_whole items (Some conn_ends.LinkFault) octets = front_whole octets
+said_whole items (Some conn_ends.Stopped) octets = refl
+said_whole items (Some (conn_ends.Full weight limit)) octets = refl
+said_whole items (Some conn_ends.Memory) octets = record {
   first = octets;
   parting = [];
   are = sym (append-nil octets);

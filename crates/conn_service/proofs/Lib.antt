@@ -1,5 +1,4 @@
 pub mod Worlds
-pub mod PeerEnds
 pub mod Told
 pub mod Remaining
 pub mod Closed

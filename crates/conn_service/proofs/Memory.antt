@@ -23,7 +23,7 @@ use Rattle.tase_conn.specs.declared.stage.ConnEnd.TheVariants as conn_ends
 use Rattle.tase_conn.specs.declared.stage.Progress.{Progress}
 use Rattle.tase_conn.specs.declared.stage.Progress.TheVariants as progresses
 use Rattle.tase_conn.specs.Talking.{Talking, pending_of, is_open_stage, is_running, MayLeave}
-use Rattle.tase_conn.specs.Places.{IsPlaced, GoesBy, KeepsPlace, Runs, EndsBy, ReadsNoMore}
+use Rattle.tase_conn.specs.Places.{IsPlaced, GoesBy, KeepsPlace, Runs}
 use Rattle.tase_conn.specs.Wanting.{PassesSo, IsIdle}
 use Rattle.tase_conn.specs.Leaving.{IsLeft}
 use Rattle.tase_conn.specs.Answering.{unnoted}
@@ -31,7 +31,8 @@ use Rattle.conn_laws.specs.Serving.{Serves, IsWaiting}
 use Rattle.conn_laws.specs.Cutting.{HasLeft, left_said}
 use Rattle.conn_laws.proofs.Ended.{passes_on}
 use Rattle.conn_laws.proofs.Left.{given_up, stands_by}
-use Rattle.conn_laws.proofs.Served.{begins_turns, goes_front, at_end, next_asked}
+use Rattle.tase_conn.proofs.LastTurns.{goes_front}
+use Rattle.conn_laws.proofs.Served.{begins_turns, next_asked}
 use Rattle.conn_laws.proofs.Unnoted.{unnoted_leaves}
 use Rattle.conn_service.specs.Attending.{IsServed, IsAsking, IsParting, IsCut, ClosesLeft}
 use Rattle.conn_service.specs.Attending.{closing_said}

@@ -370,11 +370,11 @@ refused_cut before middle after who items said event fault old between new same 
       after_is = c.after_is;
       none_open = none_left true end old.course.standing rows (reverse after.history) who items
           ((said ++ more) ++ closing) new c.left c.ended;
-      said_is = subst (λ (os : List ℕ). IsSaidByEnd setup items (Some end) os
+      said_is = subst (λ (os : List ℕ). IsSaidByEnd items (Some end) os
           (link_octets rows (reverse after.history) who items))
           (sym (all_by (is_open_stage old.stage) setup past (reverse after.history) who items said
           event fault old between refl right left s c.after_is))
-          (said_whole setup items (Some end) (link_octets rows (reverse after.history) who items));
+          (said_whole items (Some end) (link_octets rows (reverse after.history) who items));
     }
 
 -- what its close is asked of

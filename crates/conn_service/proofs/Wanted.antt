@@ -13,7 +13,7 @@ use Rattle.tase_conn.specs.declared.stage.PendingEvent.TheVariants as askeds
 use Rattle.tase_conn.specs.declared.stage.Progress.{Progress}
 use Rattle.tase_conn.specs.declared.stage.Progress.TheVariants as progresses
 use Rattle.tase_conn.specs.Talking.{Talking, pending_of, IsResting, IsFree}
-use Rattle.tase_conn.specs.Places.{ConnStandsAt, GoesBy, EndsBy, ReadsNoMore}
+use Rattle.tase_conn.specs.Places.{ConnStandsAt, GoesBy, IsReadToEnd, ReadsNoMore}
 use Rattle.tase_conn.specs.Wanting.{WantsBy, WantsSo}
 use Rattle.conn_laws.specs.Serving.{Serves, IsWaiting}
 use Rattle.conn_laws.proofs.Ended.{wants_on}
@@ -56,7 +56,7 @@ none_rests (progresses.Running (askeds.Closing cause)) rows items told turns old
 none_rests progresses.Refused rows items told turns old new e w s r = absurd w
 none_rests (progresses.Leaving end asked) rows items told turns old new e w s r = absurd w
 none_rests (progresses.Ended end) rows items told turns old new e w s r =
-    let g : EndsBy rows items told turns end × ReadsNoMore old =
+    let g : IsReadToEnd rows items told turns end × ReadsNoMore old =
     subst (λ (x : Progress). GoesBy x rows items told turns old) e s.goes in
     subst (λ (v : Talking). IsResting v) (sym r.is) (record {
       read = g.1.read;

@@ -21,7 +21,7 @@ use Rattle.tase_conn.specs.Answering.{parting_octets}
 use Rattle.conn_laws.specs.Serving.{Serves}
 use Rattle.conn_laws.specs.Cutting.{HasLeft, is_leaving}
 use Rattle.tase_map.specs.Linked.{link_octets}
-use Rattle.conn_service.specs.PeerEnd.{peer_end}
+use Rattle.tase_conn.specs.PeerEnd.{peer_end}
 use Rattle.conn_service.specs.Served.{served, with_closed}
 use Rattle.conn_service.specs.Sends.{Sends, IsCutFor, IsSaidByEnd, first_refused}
 
@@ -99,7 +99,7 @@ pub record IsCut (setup : Setup) (past : Past) (who : ℕ) (items : List Item) (
   pub cause : IsCutFor setup past who items end (first_refused setup past who others)
   pub after_is : after ≡ with_closed who past
   pub none_open : association_in after who ≡ None
-  pub said_is : IsSaidByEnd setup items (Some end) (said ++ adds.added)
+  pub said_is : IsSaidByEnd items (Some end) (said ++ adds.added)
       (link_octets setup.centre after who items)
 
 -- ---- all that its link gave

@@ -1,4 +1,3 @@
-pub mod PeerEnd
 pub mod Served
 pub mod Sends
 pub mod Attending

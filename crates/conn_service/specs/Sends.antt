@@ -22,7 +22,7 @@ use Rattle.tase_map.specs.Sent.{events_by, with_event}
 use Rattle.tase_conn.specs.declared.stage.ConnEnd.{ConnEnd}
 use Rattle.tase_conn.specs.declared.stage.ConnEnd.TheVariants as conn_ends
 use Rattle.tase_map.specs.Linked.{link_octets}
-use Rattle.conn_service.specs.PeerEnd.{peer_end}
+use Rattle.tase_conn.specs.PeerEnd.{peer_end}
 
 -- ---- the events
 
@@ -102,7 +102,7 @@ pub record IsFrontOf (front all : List ℕ) : Type 0 where
   pub are : all ≡ front ++ others
 
 -- where memory is wanting a front part is said, and maybe a front part of an abort
-pub record IsSaidInPart (setup : Setup) (items : List Item) (octets all : List ℕ) : Type 0 where
+pub record IsSaidInPart (items : List Item) (octets all : List ℕ) : Type 0 where
   pub first : List ℕ
   pub parting : List ℕ
   pub are : octets ≡ first ++ parting
@@ -111,11 +111,11 @@ pub record IsSaidInPart (setup : Setup) (items : List Item) (octets all : List �
 
 -- how much is said of all that is owed: all of it, but for a link that fails or doesn't take it, and
 -- for want of memory
-abbrev pub IsSaidByEnd : Setup → List Item → Option ConnEnd → List ℕ → List ℕ → Type 0
-IsSaidByEnd setup items (Some conn_ends.LinkFault) octets all = IsFrontOf octets all
-IsSaidByEnd setup items (Some (conn_ends.Overflow pending limit)) octets all = IsFrontOf octets all
-IsSaidByEnd setup items (Some conn_ends.Memory) octets all = IsSaidInPart setup items octets all
-IsSaidByEnd setup items end octets all = octets ≡ all
+abbrev pub IsSaidByEnd : List Item → Option ConnEnd → List ℕ → List ℕ → Type 0
+IsSaidByEnd items (Some conn_ends.LinkFault) octets all = IsFrontOf octets all
+IsSaidByEnd items (Some (conn_ends.Overflow pending limit)) octets all = IsFrontOf octets all
+IsSaidByEnd items (Some conn_ends.Memory) octets all = IsSaidInPart items octets all
+IsSaidByEnd items end octets all = octets ≡ all
 
 -- ---- both
 
@@ -123,4 +123,4 @@ IsSaidByEnd setup items end octets all = octets ≡ all
 pub record Sends (setup : Setup) (past : Past) (who : ℕ) (items : List Item)
     (end : Option ConnEnd) (octets : List ℕ) : Type 0 where
   pub events : HasEvents setup past who items end
-  pub said : IsSaidByEnd setup items end octets (link_octets setup.centre past who items)
+  pub said : IsSaidByEnd items end octets (link_octets setup.centre past who items)

@@ -2,9 +2,8 @@
 use Rattle.std.proofs.Common.{◌≡◌, ℕ, Bool, true, false, List, [], ◌∷◌, ◌++◌, Option, Some}
 use Rattle.std.proofs.Common.{None}
 use Rattle.std.proofs.Common.{refl, sym, ap, subst, ◌∙◌}
-use Rattle.std.specs.Prelude.{◌||◌, ◌&&◌, not, if◌then◌else◌, IfSome, MatchOption, is_some}
+use Rattle.std.specs.Prelude.{◌||◌, ◌&&◌, not, IfSome, MatchOption, is_some}
 use Rattle.std.specs.List.{list_any}
-use Rattle.std.proofs.lemmas.Bool.{false≢true}
 use Rattle.std.proofs.lemmas.List.{append-nil}
 use Rattle.std.proofs.lemmas.List.Folds.{list_any-append}
 use Rattle.bilateral.specs.Rows.{CentreRows}
@@ -18,7 +17,6 @@ use Rattle.tase_map.specs.Inputs.{Item, text_given}
 use Rattle.tase_map.specs.Readings.{reading_of}
 use Rattle.tase_map.specs.Turns.{Turn, turns_of}
 use Rattle.tase_map.specs.Asks.{begins, finishes, is_last, is_open_behind, asks_at, asks_behind}
-use Rattle.tase_map.specs.Asks.{up_to_last}
 use Rattle.tase_conn.specs.declared.stage.ConnEnd.{ConnEnd}
 use Rattle.tase_conn.specs.declared.stage.ConnEnd.TheVariants as conn_ends
 use Rattle.tase_conn.specs.declared.stage.Stage.{Stage}
@@ -30,8 +28,9 @@ use Rattle.tase_conn.specs.declared.stage.PendingEvent.TheVariants as askeds
 use Rattle.tase_conn.specs.declared.stage.Progress.{Progress}
 use Rattle.tase_conn.specs.declared.stage.Progress.TheVariants as progresses
 use Rattle.tase_conn.specs.declared.stage.Step.TheVariants as steps
+use Rattle.tase_conn.specs.PeerEnd.{end_at}
 use Rattle.tase_conn.specs.Talking.{Talking, pending_of, stage_peer}
-use Rattle.tase_conn.specs.Places.{ConnStandsAt, Runs, GoesBy, EndsWithTurn, EndsBy, IsCause}
+use Rattle.tase_conn.specs.Places.{ConnStandsAt, Runs, GoesBy, EndsWithTurn, IsReadToEnd}
 use Rattle.tase_conn.specs.Places.{RoomBy}
 use Rattle.tase_conn.specs.Places.{IsPeer, IsAgreed, IsAskedBy, HasRead, BeginsTurns, turn_coming}
 use Rattle.tase_conn.specs.Places.{turn_listed}
@@ -40,6 +39,7 @@ use Rattle.tase_conn.specs.Places.{IsAskedAt, IsDue, IsPassed, ends_connection, 
 use Rattle.tase_conn.specs.Places.{is_connected, has_concluded, ReadsBy}
 use Rattle.tase_conn.specs.Wanting.{quiet_at, quiet_behind, WaitsFor, IsIdle}
 use Rattle.tase_conn.specs.Acting.{HasEnded, StepsBy, holding}
+use Rattle.tase_conn.proofs.LastTurns.{BringsEnd, brought_end, brought_whole}
 use Rattle.tase_conn.proofs.SeenTurns.{seen_front}
 
 -- ---- one turn more
@@ -49,41 +49,6 @@ pub any_on : (p : Turn → Bool) (turns : List Turn) (turn : Turn) (b : Bool)
     → list_any p turns ≡ b → list_any p (turns ++ turn ∷ []) ≡ (b || (p turn || false))
 any_on p turns turn b e =
     list_any-append p turns (turn ∷ []) ∙ ap (λ (x : Bool). x || (p turn || false)) e
-
-last_cut : (rows : CentreRows) (x : Turn) (xs ys : List Turn) (b : Bool) → is_last rows x ≡ b
-    → b ≡ false → up_to_last rows xs ≡ ys → up_to_last rows (x ∷ xs) ≡ x ∷ ys
-last_cut rows x xs ys b is none e =
-    ap (λ (c : Bool). if c then x ∷ [] else x ∷ up_to_last rows xs) (is ∙ none)
-    ∙ ap (λ (ts : List Turn). x ∷ ts) e
-
-pub or_left : (a b : Bool) → (a || b) ≡ false → a ≡ false
-or_left true b e = e
-or_left false b e = refl
-
-pub or_right : (a b : Bool) → (a || b) ≡ false → b ≡ false
-or_right true b e = absurd (false≢true (sym e))
-or_right false b e = e
-
--- nothing is kept behind the first turn behind which nothing follows
-pub cut_at_last : (rows : CentreRows) (front others : List Turn) (last : Turn)
-    → list_any (is_last rows) front ≡ false → is_last rows last ≡ true
-    → up_to_last rows ((front ++ last ∷ []) ++ others) ≡ front ++ last ∷ []
-cut_at_last rows [] others last goes is =
-    ap (λ (b : Bool). if b then last ∷ [] else last ∷ up_to_last rows others) is
-cut_at_last rows (x ∷ front) others last goes is =
-    last_cut rows x ((front ++ last ∷ []) ++ others) (front ++ last ∷ []) (is_last rows x) refl
-    (or_left (is_last rows x) (list_any (is_last rows) front) goes)
-    (cut_at_last rows front others last
-    (or_right (is_last rows x) (list_any (is_last rows) front) goes) is)
-
--- where none is such, all are kept
-pub uncut : (rows : CentreRows) (turns : List Turn) → list_any (is_last rows) turns ≡ false
-    → up_to_last rows turns ≡ turns
-uncut rows [] goes = refl
-uncut rows (x ∷ turns) goes =
-    last_cut rows x turns turns (is_last rows x) refl
-    (or_left (is_last rows x) (list_any (is_last rows) turns) goes)
-    (uncut rows turns (or_right (is_last rows x) (list_any (is_last rows) turns) goes))
 
 -- ---- where it stands with something to be acted on
 
@@ -286,7 +251,7 @@ pub record Ending (rows : CentreRows) (items : List Item) (told : List Arrival) 
     (turn : Turn) (end : ConnEnd) (octets : List ℕ) (coming : Coming) : Type 0 where
   pub turn_is : turn_coming coming ≡ Some turn
   pub is_last : is_last rows turn ≡ true
-  pub cause : IsCause rows items end turn
+  pub cause : end_at (reading_of (text_given items)).broken turn ≡ Some end
   pub asks_are : asks_at rows turns turn ≡ []
   pub said : quiet_at rows (setup_after told) turns turn ≡ octets
   pub told_all : HasToldAll items told end
@@ -304,23 +269,27 @@ ended_by : (rows : CentreRows) (items : List Item) (told : List Arrival) (turns 
     (turn : Turn) (end : ConnEnd) (octets : List ℕ) (coming : Coming) (v : Talking)
     → Ending rows items told turns turn end octets coming
     → Runs rows items told turns askeds.Nothing (holding coming v)
-    → EndsBy rows items told (turns ++ turn ∷ []) end
+    → IsReadToEnd rows items told (turns ++ turn ∷ []) end
 ended_by rows items told turns turn end octets coming v e r =
     let f = seen_front rows items told turns askeds.Nothing (holding coming v) r in
     let is : turn_listed (turn_coming coming) ≡ turn ∷ [] =
     ap (λ (t : Option Turn). turn_listed t) e.turn_is in
+    let b : BringsEnd rows items (turns ++ turn ∷ []) end = record {
+      last = turn;
+      ends = ends_with rows turns turn r.ending;
+      is = e.is_last;
+      cause = e.cause;
+      rest = f.0;
+      all = f.1 ∙ ap (λ (ts : List Turn). (turns ++ ts) ++ f.0) is;
+    } in
     record {
       done = items;
       dropped = [];
       items_are = sym (append-nil items);
       answered = e.told_all.answered;
       fixed = e.told_all.fixed;
-      last = turn;
-      ends = record { front = turns; is = refl; goes = r.ending };
-      cause = e.cause;
-      whole = ap (λ (ts : List Turn). up_to_last rows ts) f.1
-          ∙ ap (λ (ts : List Turn). up_to_last rows ((turns ++ ts) ++ f.0)) is
-          ∙ cut_at_last rows turns f.0 turn r.ending e.is_last;
+      by_peer = brought_end rows items (turns ++ turn ∷ []) end b;
+      whole = brought_whole rows items (turns ++ turn ∷ []) end b;
     }
 
 -- it steps to its end

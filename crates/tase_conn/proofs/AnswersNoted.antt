@@ -1,8 +1,8 @@
 -- Where a connection stands behind the node's answers.
 use Rattle.std.proofs.Common.{◌≡◌, ℕ, Bool, true, false, List, [], ◌∷◌, ◌++◌}
 use Rattle.std.proofs.Common.{ℤ, ◌≤ℤ◌, Option, Some, None, Result, Ok, Err, MatchOption, MatchBool}
-use Rattle.std.proofs.Common.{refl, sym, ap, subst, ◌∙◌, append_assoc, inl, inr, arith}
-use Rattle.std.specs.Prelude.{Vec, if◌then◌else◌, IfSome, OnOk, OnErr, bytes_eq}
+use Rattle.std.proofs.Common.{refl, sym, ap, subst, ◌∙◌, append_assoc, arith}
+use Rattle.std.specs.Prelude.{Vec, if◌then◌else◌, IfSome, OnOk, OnErr, bytes_eq, option_map}
 use Rattle.std.specs.Option.{option_eq}
 use Rattle.std.specs.Int.{int_min}
 use Rattle.std.specs.declared.alloc.Global.{Global}
@@ -39,7 +39,7 @@ use Rattle.tase_views.specs.declared.fault.StepFault.{StepFault}
 use Rattle.tase_map.specs.Inputs.{Item, text_given}
 use Rattle.tase_map.specs.Readings.{Reading, reading_of}
 use Rattle.tase_map.specs.Turns.{Turn, turns_of}
-use Rattle.tase_map.specs.Asks.{is_last, up_to_last}
+use Rattle.tase_map.specs.Asks.{is_last}
 use Rattle.tase_map.specs.Replied.{pdu_of_reply}
 use Rattle.tase_map.specs.Out.{said, within, release_wire, detail_of, reports_said, first_too_long}
 use Rattle.tase_map.proofs.ReadingLaws.{reading_only}
@@ -56,9 +56,10 @@ use Rattle.tase_conn.specs.declared.stage.PendingEvent.{PendingEvent}
 use Rattle.tase_conn.specs.declared.stage.PendingEvent.TheVariants as askeds
 use Rattle.tase_conn.specs.declared.stage.Progress.{Progress}
 use Rattle.tase_conn.specs.declared.stage.Progress.TheVariants as progresses
+use Rattle.tase_conn.specs.PeerEnd.{end_at}
 use Rattle.tase_conn.specs.Talking.{Talking, pending_of, is_open_stage, stage_peer}
 use Rattle.tase_conn.specs.Places.{turns_held, BeginsTurns, fault_seen, ends_connection, standing_by, IsAgreed}
-use Rattle.tase_conn.specs.Places.{IsAskedAt, turn_for, EndsWithTurn, Runs, IsCause, EndsBy, GoesBy}
+use Rattle.tase_conn.specs.Places.{IsAskedAt, turn_for, Runs, IsReadToEnd, GoesBy}
 use Rattle.tase_conn.specs.Places.{IsPeer, HasAbortRoom, RoomBy, ConnStandsAt, IsPlaced}
 use Rattle.tase_conn.specs.Wanting.{IsLeaving}
 use Rattle.tase_conn.specs.Answering.{IsAnswerTo, IsAnswerFor, detail_in, stage_closed, stage_told}
@@ -69,7 +70,7 @@ use Rattle.tase_conn.specs.Answering.{progress_reported}
 use Rattle.tase_conn.specs.Leaving.{finished, Parts, IsLeft, MayAnswer, AddsAnswer, EndsFor}
 use Rattle.tase_conn.specs.Noting.{with_nothing_waiting, with_open, answered, NotesAsked, NotesAnswer}
 use Rattle.tase_conn.specs.Noting.{with_reports_said}
-use Rattle.tase_conn.proofs.LastTurns.{up_to_whole}
+use Rattle.tase_conn.proofs.LastTurns.{BringsEnd, brought_end, brought_whole}
 use Rattle.tase_conn.proofs.SeenTurns.{seen_front}
 use Rattle.tase_conn.proofs.ToldAll.{told_open}
 use Rattle.tase_conn.specs.Places.{is_connected}
@@ -390,15 +391,6 @@ last_for rows causes.Aborted e = refl
 last_for rows causes.LinkEnd e = refl
 last_for rows (causes.Broken fault) e = refl
 
--- all that was told was seen, up to what asked for the close
-pub whole_for : (rows : CentreRows) (items : List Item) (turns : List Turn) (cause : Cause)
-    → ends_connection (askeds.Closing cause) ≡ true → EndsWithTurn rows turns (turn_for cause)
-    → BeginsTurns (turns ++ []) (turns_of items) → up_to_last rows (turns_of items) ≡ turns
-whole_for rows items turns cause e w b =
-    ap (λ (ts : List Turn). up_to_last rows ts) (b.1
-    ∙ ap (λ (ts : List Turn). ts ++ b.0) (append-nil turns))
-    ∙ up_to_whole rows turns b.0 (turn_for cause) w (last_for rows cause e)
-
 broken_so : (items : List Item) (told : List Arrival) (course : Course) (f : Option StackFault)
     (fault : StackFault) → f ≡ Some fault → MatchOption f (ReadsMessages called (text_given items) told course)
     (λ g. StopsTelling called (text_given items) told g)
@@ -419,32 +411,40 @@ closing_connected cause v r = by v.stage v.held r.waits
     by (stages.Open peer detail) held w = refl
     by (stages.Closed peer) held w = refl
 
--- the end that a close brings, and its cause
+-- the end that a close brings
 pub closed_ends : (rows : CentreRows) (items : List Item) (told : List Arrival) (turns : List Turn)
     (cause : Cause) (end : ConnEnd) (v : Talking) → v.held ≡ None
     → Runs rows items told turns (askeds.Closing cause) v
-    → ends_connection (askeds.Closing cause) ≡ true → IsCause rows items end (turn_for cause)
-    → EndsBy rows items told turns end
-closed_ends rows items told turns cause end v none r e c = record {
-  done = items;
-  dropped = [];
-  items_are = sym (append-nil items);
-  answered = (told_open rows items told turns (askeds.Closing cause) v r
-      (closing_connected cause v r)).answered;
-  fixed = λ declined. (told_open rows items told turns (askeds.Closing cause) v r
-      (closing_connected cause v r)).fixed;
-  last = turn_for cause;
-  ends = r.last.0;
-  cause = c;
-  whole = whole_for rows items turns cause e r.last.0
-      (subst (λ (held : Option Coming). BeginsTurns (turns ++ turns_held held) (turns_of items)) none
-      (seen_front rows items told turns (askeds.Closing cause) v r));
-}
+    → ends_connection (askeds.Closing cause) ≡ true
+    → end_at (reading_of (text_given items)).broken (turn_for cause) ≡ Some end
+    → IsReadToEnd rows items told turns end
+closed_ends rows items told turns cause end v none r e c =
+    let f = subst (λ (held : Option Coming). BeginsTurns (turns ++ turns_held held) (turns_of items))
+    none (seen_front rows items told turns (askeds.Closing cause) v r) in
+    let t = told_open rows items told turns (askeds.Closing cause) v r
+    (closing_connected cause v r) in
+    let b : BringsEnd rows items turns end = record {
+      last = turn_for cause;
+      ends = r.last.0;
+      is = last_for rows cause e;
+      cause = c;
+      rest = f.0;
+      all = f.1 ∙ ap (λ (ts : List Turn). ts ++ f.0) (append-nil turns);
+    } in
+    record {
+      done = items;
+      dropped = [];
+      items_are = sym (append-nil items);
+      by_peer = brought_end rows items turns end b;
+      whole = brought_whole rows items turns end b;
+      answered = t.answered;
+      fixed = λ declined. t.fixed;
+    }
 
 ended_stands : (rows : CentreRows) (items : List Item) (told : List Arrival) (turns : List Turn)
     (end : ConnEnd) (centre : CentreRows) (stage : Stage) (course : Course) (out : List ℕ)
     (farewell : Vec ℕ Global) (new : Talking) → centre ≡ rows
-    → IfSome (stage_peer stage) (IsPeer rows) → EndsBy rows items told turns end
+    → IfSome (stage_peer stage) (IsPeer rows) → IsReadToEnd rows items told turns end
     → new ≡ talking centre course None behinds.Nothing stage (progresses.Ended end) out farewell
     → ConnStandsAt rows items told turns new
 ended_stands rows items told turns end centre stage course out farewell new rows_are peer ends e =
@@ -517,7 +517,7 @@ closing_noted causes.Aborted rows items told turns centre course None behind
     farewell new s.rows_are s.peer
     (closed_ends rows items told turns causes.Aborted conn_ends.PeerEnd
     (talking centre course None behind (stages.Open peer detail)
-    (progresses.Running (askeds.Closing causes.Aborted)) out farewell) refl s.goes refl (inl refl))
+    (progresses.Running (askeds.Closing causes.Aborted)) out farewell) refl s.goes refl refl)
     n
 closing_noted causes.LinkEnd rows items told turns centre course None behind
     (stages.Open peer detail) out farewell new s n =
@@ -525,7 +525,7 @@ closing_noted causes.LinkEnd rows items told turns centre course None behind
     farewell new s.rows_are s.peer
     (closed_ends rows items told turns causes.LinkEnd conn_ends.PeerEnd
     (talking centre course None behind (stages.Open peer detail)
-    (progresses.Running (askeds.Closing causes.LinkEnd)) out farewell) refl s.goes refl (inr refl))
+    (progresses.Running (askeds.Closing causes.LinkEnd)) out farewell) refl s.goes refl refl)
     n
 closing_noted (causes.Broken fault) rows items told turns centre course None behind
     (stages.Open peer detail) out farewell new s n =
@@ -534,7 +534,8 @@ closing_noted (causes.Broken fault) rows items told turns centre course None beh
     (closed_ends rows items told turns (causes.Broken fault) (conn_ends.Refused fault)
     (talking centre course None behind (stages.Open peer detail)
     (progresses.Running (askeds.Closing (causes.Broken fault))) out farewell) refl s.goes refl
-    (refl, broken_so items told course course.fault fault s.goes.fault s.goes.stands.reads)) n.is
+    (ap (λ (b : Option StackFault). option_map conn_ends.Refused b)
+    (broken_so items told course course.fault fault s.goes.fault s.goes.stands.reads))) n.is
 closing_noted cause rows items told turns centre course (Some coming) behind
     (stages.Open peer detail) out farewell new s n = absurd s.goes.waits
 closing_noted cause rows items told turns centre course held behind stages.Early out farewell new s

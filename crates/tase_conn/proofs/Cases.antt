@@ -2,7 +2,7 @@
 use Rattle.std.proofs.Common.{◌≡◌, ℕ, Bool, true, false, List, [], ◌∷◌, ◌++◌, Option, Some}
 use Rattle.std.proofs.Common.{None}
 use Rattle.std.proofs.Common.{ℤ, pos, int_lt, ◌<ℤ◌, arith, refl, sym, ap, subst, ◌∙◌, inl, inr}
-use Rattle.std.specs.Prelude.{◌⊎◌, ◌||◌, ◌&&◌, not, if◌then◌else◌, MatchOption, is_some}
+use Rattle.std.specs.Prelude.{◌⊎◌, ◌||◌, ◌&&◌, not, if◌then◌else◌, MatchOption, is_some, option_map}
 use Rattle.std.specs.List.{list_any}
 use Rattle.std.proofs.lemmas.Bool.{false≢true}
 use Rattle.std.proofs.lemmas.Int.{ints}
@@ -47,7 +47,8 @@ use Rattle.tase_conn.specs.Places.{is_connected, standing_by, turn_for, has_conc
 use Rattle.tase_conn.specs.Wanting.{behind_close, refusal_said}
 use Rattle.tase_conn.specs.Acting.{coming_by}
 use Rattle.tase_conn.proofs.Acted.{HasToldAll, ends_with, Asking, Ending, Passing, any_on}
-use Rattle.tase_conn.proofs.Acted.{open_by, or_left, or_right}
+use Rattle.tase_conn.proofs.Acted.{open_by}
+use Rattle.tase_conn.proofs.LastTurns.{or_left, or_right}
 
 -- ---- an offer
 
@@ -325,7 +326,7 @@ declines_offer rows items told turns title initiate setup place known all = reco
   told_all = all;
   turn_is = refl;
   is_last = ap (λ (p : Option ℕ). not (is_some p)) place;
-  cause = ap (λ (p : Option ℕ). is_some p) place;
+  cause = refl;
   asks_are = ap (λ (p : Option ℕ). open_of p) place;
   said = ap (λ (p : Option ℕ). if is_some p then [] else refusal_said (setup_after told)) place
       ∙ ap (λ (s : AssociationSetup). refusal_said s) (sym known);
@@ -380,7 +381,7 @@ ends_aborted rows items told turns e all = record {
   told_all = all;
   turn_is = refl;
   is_last = refl;
-  cause = inl refl;
+  cause = refl;
   asks_are = none_for (is_open_behind rows turns) e;
   said = refl;
 }
@@ -393,7 +394,7 @@ ends_linked rows items told turns e all = record {
   told_all = all;
   turn_is = refl;
   is_last = refl;
-  cause = inr refl;
+  cause = refl;
   asks_are = none_for (is_open_behind rows turns) e;
   said = refl;
 }
@@ -419,7 +420,7 @@ ends_broken rows items told turns fault setup b known e f broken all = record {
   told_all = all;
   turn_is = refl;
   is_last = refl;
-  cause = (refl, broken);
+  cause = ap (λ (b : Option StackFault). option_map conn_ends.Refused b) broken;
   asks_are = none_for (is_open_behind rows turns) e;
   said = said_closed rows turns (abort_wire (setup_after told)) b e f
       ∙ said_known b setup (setup_after told) known;

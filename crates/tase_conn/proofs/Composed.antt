@@ -31,8 +31,8 @@ use Rattle.tase_conn.specs.Wanting.{quiet_at, quiet_behind, ReadsOn, AreAllTurns
 use Rattle.tase_conn.specs.Wanting.{Passes, IsIdle}
 use Rattle.tase_conn.specs.Acting.{ActsOnTurns, StepsBy, HasEnded, has_more, is_left}
 use Rattle.tase_map.proofs.AskedOn.{asks_join}
-use Rattle.tase_conn.proofs.Acted.{running_idle, uncut}
-use Rattle.tase_conn.proofs.LastTurns.{whole_now}
+use Rattle.tase_conn.proofs.Acted.{running_idle}
+use Rattle.tase_conn.proofs.LastTurns.{uncut, at_end, brought_whole}
 
 -- ---- turns behind turns
 
@@ -137,7 +137,7 @@ ended_resting rows items told turns (progresses.Ended end) v e h g = (
     free = subst (λ (p : Progress). IsFree p) (sym e) tt;
   },
   subst (λ (p : Progress). AreAllTurns rows items turns p) (sym e)
-      (whole_now rows items told turns end g.0),
+      (brought_whole rows items turns end (at_end rows items told turns end g.0)),
 )
 ended_resting rows items told turns (progresses.Cut end) v e h g = absurd h
 ended_resting rows items told turns (progresses.Running asked) v e h g = absurd h

@@ -1,8 +1,9 @@
--- What the peer brought last stays so, whatever the link gives behind it.
-use Rattle.std.proofs.Common.{◌≡◌, ℕ, Bool, true, false, List, [], ◌∷◌, ◌++◌, Option, Some, None}
-use Rattle.std.proofs.Common.{refl, sym, ap, ◌∙◌, append_assoc, inl, inr}
-use Rattle.std.specs.Prelude.{◌||◌, not, if◌then◌else◌}
+-- The turn with which the peer ends a connection. It stays so, whatever the link gives behind it.
+use Rattle.std.proofs.Common.{◌≡◌, Bool, true, false, ℕ, List, [], ◌∷◌, ◌++◌, Option, Some, None}
+use Rattle.std.proofs.Common.{refl, sym, ap, subst, ◌∙◌, append_assoc}
+use Rattle.std.specs.Prelude.{◌||◌, if◌then◌else◌, filter, slice_get, option_map, option_and_then}
 use Rattle.std.specs.List.{list_any}
+use Rattle.std.proofs.lemmas.Bool.{false≢true}
 use Rattle.std.proofs.lemmas.List.{append-nil}
 use Rattle.std.proofs.lemmas.Grind.{flat_map-append}
 use Rattle.bilateral.specs.Rows.{CentreRows}
@@ -19,9 +20,10 @@ use Rattle.tase_map.proofs.AskedOn.{turns_on}
 use Rattle.tase_map.proofs.ReadingLaws.{reading_only, reading_found}
 use Rattle.tase_conn.specs.declared.stage.ConnEnd.{ConnEnd}
 use Rattle.tase_conn.specs.declared.stage.ConnEnd.TheVariants as conn_ends
-use Rattle.tase_conn.specs.Places.{EndsWithTurn, EndsBy, IsCause}
+use Rattle.tase_conn.specs.PeerEnd.{last_turn, end_at, peer_end}
+use Rattle.tase_conn.specs.Places.{EndsWithTurn, IsReadToEnd}
 
--- ---- an item more
+-- ---- items more
 
 pub text_on : (items : List Item) (item : Item)
     → text_given (items ++ item ∷ []) ≡ text_given items ++ given_octets item
@@ -36,169 +38,232 @@ broken_by text more told (Some f) fault r e =
     ap (λ (x : Reading). x.broken) (reading_only (text ++ more) told (Some f)
     (fault_stays called text more told f r)) ∙ e
 
-broken_stays : (items : List Item) (item : Item) (fault : StackFault)
+broken_stays : (items more : List Item) (fault : StackFault)
     → (reading_of (text_given items)).broken ≡ Some fault
-    → (reading_of (text_given (items ++ item ∷ []))).broken ≡ Some fault
-broken_stays items item fault e =
-    ap (λ (os : List ℕ). (reading_of os).broken) (text_on items item)
-    ∙ broken_by (text_given items) (given_octets item) (reading_of (text_given items)).told
+    → (reading_of (text_given (items ++ more))).broken ≡ Some fault
+broken_stays items more fault e =
+    ap (λ (os : List ℕ). (reading_of os).broken) (flat_map-append given_octets items more)
+    ∙ broken_by (text_given items) (text_given more) (reading_of (text_given items)).told
     (reading_of (text_given items)).broken fault (reading_found (text_given items)) e
 
--- ---- the last turn
+-- ---- the first turn behind which nothing follows
 
-pub last_of_cause : (rows : CentreRows) (items : List Item) (end : ConnEnd) (last : Turn)
-    → IsCause rows items end last → is_last rows last ≡ true
-last_of_cause rows items conn_ends.Finished last c = ap (λ (t : Turn). is_last rows t) c
-last_of_cause rows items conn_ends.PeerEnd last (inl c) = ap (λ (t : Turn). is_last rows t) c
-last_of_cause rows items conn_ends.PeerEnd last (inr c) = ap (λ (t : Turn). is_last rows t) c
-last_of_cause rows items conn_ends.Declined (offers title) c = ap (λ (b : Bool). not b) c
-last_of_cause rows items conn_ends.Declined offers_badly c = refl
-last_of_cause rows items conn_ends.Declined (asks invoke call) c = absurd cc
-last_of_cause rows items conn_ends.Declined concludes c = absurd cc
-last_of_cause rows items conn_ends.Declined releases c = refl
-last_of_cause rows items conn_ends.Declined aborts c = refl
-last_of_cause rows items conn_ends.Declined breaks c = refl
-last_of_cause rows items conn_ends.Declined ends c = refl
-last_of_cause rows items conn_ends.Declined pauses c = absurd cc
-last_of_cause rows items (conn_ends.Refused fault) last c = ap (λ (t : Turn). is_last rows t) c.0
-last_of_cause rows items (conn_ends.TooLong len detail) last c = absurd c
-last_of_cause rows items (conn_ends.Overflow pending limit) last c = absurd c
-last_of_cause rows items conn_ends.LinkFault last c = absurd c
-last_of_cause rows items conn_ends.Stopped last c = absurd c
-last_of_cause rows items (conn_ends.Full weight limit) last c = absurd c
-last_of_cause rows items conn_ends.Memory last c = absurd c
+pub or_left : (a b : Bool) → (a || b) ≡ false → a ≡ false
+or_left true b e = e
+or_left false b e = refl
 
-cause_stays : (rows : CentreRows) (items : List Item) (item : Item) (end : ConnEnd) (last : Turn)
-    → IsCause rows items end last → IsCause rows (items ++ item ∷ []) end last
-cause_stays rows items item conn_ends.Finished last c = c
-cause_stays rows items item conn_ends.PeerEnd last c = c
-cause_stays rows items item conn_ends.Declined (offers title) c = c
-cause_stays rows items item conn_ends.Declined offers_badly c = c
-cause_stays rows items item conn_ends.Declined (asks invoke call) c = c
-cause_stays rows items item conn_ends.Declined concludes c = c
-cause_stays rows items item conn_ends.Declined releases c = c
-cause_stays rows items item conn_ends.Declined aborts c = c
-cause_stays rows items item conn_ends.Declined breaks c = c
-cause_stays rows items item conn_ends.Declined ends c = c
-cause_stays rows items item conn_ends.Declined pauses c = c
-cause_stays rows items item (conn_ends.Refused fault) last c =
-    (c.0, broken_stays items item fault c.1)
-cause_stays rows items item (conn_ends.TooLong len detail) last c = c
-cause_stays rows items item (conn_ends.Overflow pending limit) last c = c
-cause_stays rows items item conn_ends.LinkFault last c = c
-cause_stays rows items item conn_ends.Stopped last c = c
-cause_stays rows items item (conn_ends.Full weight limit) last c = c
-cause_stays rows items item conn_ends.Memory last c = c
+pub or_right : (a b : Bool) → (a || b) ≡ false → b ≡ false
+or_right true b e = absurd (false≢true (sym e))
+or_right false b e = e
 
--- ---- up to the last
+-- those behind which something follows, and then the others
+pub goes_front : (rows : CentreRows) (front more : List Turn)
+    → list_any (is_last rows) front ≡ false
+    → up_to_last rows (front ++ more) ≡ front ++ up_to_last rows more
+goes_front rows [] more goes = refl
+goes_front rows (turn ∷ front) more goes =
+    let others = up_to_last rows (front ++ more) in
+    ap (λ (b : Bool). if b then turn ∷ [] else turn ∷ others)
+    (or_left (is_last rows turn) (list_any (is_last rows) front) goes)
+    ∙ ap (λ (ts : List Turn). turn ∷ ts) (goes_front rows front more
+    (or_right (is_last rows turn) (list_any (is_last rows) front) goes))
 
-up_to_by : (rows : CentreRows) (last : Turn) (more : List Turn) (b : Bool) → b ≡ true
-    → (if b then last ∷ [] else last ∷ up_to_last rows more) ≡ last ∷ []
-up_to_by rows last more true e = refl
-up_to_by rows last more false e = absurd cc
+-- where there is none, all are kept
+pub uncut : (rows : CentreRows) (turns : List Turn) → list_any (is_last rows) turns ≡ false
+    → up_to_last rows turns ≡ turns
+uncut rows turns goes =
+    ap (λ (ts : List Turn). up_to_last rows ts) (sym (append-nil turns))
+    ∙ goes_front rows turns [] goes ∙ append-nil turns
 
-up_to_behind : (rows : CentreRows) (turn last : Turn) (front more : List Turn)
-    → up_to_last rows (front ++ last ∷ more) ≡ front ++ last ∷ [] → (b : Bool)
-    → (b || list_any (is_last rows) front) ≡ false
-    → (if b then turn ∷ [] else turn ∷ up_to_last rows (front ++ last ∷ more))
-    ≡ turn ∷ front ++ last ∷ []
-up_to_behind rows turn last front more rest true e = absurd cc
-up_to_behind rows turn last front more rest false e = ap (λ (ts : List Turn). turn ∷ ts) rest
-
-none_behind : (b c : Bool) → (b || c) ≡ false → c ≡ false
-none_behind true c e = absurd cc
-none_behind false c e = e
-
--- what comes behind the first after which nothing follows is cut off
-up_to_first : (rows : CentreRows) (front more : List Turn) (last : Turn)
+-- nothing is kept behind it
+cut_at_last : (rows : CentreRows) (front others : List Turn) (last : Turn)
     → list_any (is_last rows) front ≡ false → is_last rows last ≡ true
-    → up_to_last rows (front ++ last ∷ more) ≡ front ++ last ∷ []
-up_to_first rows [] more last none e = up_to_by rows last more (is_last rows last) e
-up_to_first rows (turn ∷ front) more last none e =
-    up_to_behind rows turn last front more
-    (up_to_first rows front more last
-    (none_behind (is_last rows turn) (list_any (is_last rows) front) none) e)
-    (is_last rows turn) none
+    → up_to_last rows ((front ++ last ∷ []) ++ others) ≡ front ++ last ∷ []
+cut_at_last rows front others last goes is =
+    ap (λ (ts : List Turn). up_to_last rows ts) (append_assoc front (last ∷ []) others)
+    ∙ goes_front rows front (last ∷ others) goes
+    ∙ ap (λ (b : Bool). front ++ (if b then last ∷ [] else last ∷ up_to_last rows others)) is
 
--- turns that end with it, and others behind them
-pub up_to_whole : (rows : CentreRows) (turns others : List Turn) (last : Turn)
-    → EndsWithTurn rows turns last → is_last rows last ≡ true
-    → up_to_last rows (turns ++ others) ≡ turns
-up_to_whole rows turns others last w e =
-    ap (λ (ts : List Turn). up_to_last rows (ts ++ others)) w.is
-    ∙ ap (λ (ts : List Turn). up_to_last rows ts) (append_assoc w.front (last ∷ []) others)
-    ∙ up_to_first rows w.front others last w.goes e ∙ sym w.is
+-- it is found
+first_found : (rows : CentreRows) (front rest : List Turn) (last : Turn)
+    → list_any (is_last rows) front ≡ false → is_last rows last ≡ true
+    → last_turn rows (front ++ last ∷ rest) ≡ Some last
+first_found rows [] rest last goes is =
+    let others = filter (is_last rows) rest in
+    ap (λ (b : Bool). slice_get (if b then last ∷ others else others) 0) is
+first_found rows (turn ∷ front) rest last goes is =
+    let others = filter (is_last rows) (front ++ last ∷ rest) in
+    ap (λ (b : Bool). slice_get (if b then turn ∷ others else others) 0)
+    (or_left (is_last rows turn) (list_any (is_last rows) front) goes)
+    ∙ first_found rows front rest last
+    (or_right (is_last rows turn) (list_any (is_last rows) front) goes) is
 
-or_true : (b : Bool) → (b || true) ≡ true
-or_true true = refl
-or_true false = refl
+none_found : (rows : CentreRows) (turns : List Turn) → list_any (is_last rows) turns ≡ false
+    → last_turn rows turns ≡ None
+none_found rows [] goes = refl
+none_found rows (turn ∷ turns) goes =
+    let others = filter (is_last rows) turns in
+    ap (λ (b : Bool). slice_get (if b then turn ∷ others else others) 0)
+    (or_left (is_last rows turn) (list_any (is_last rows) turns) goes)
+    ∙ none_found rows turns (or_right (is_last rows turn) (list_any (is_last rows) turns) goes)
 
-any_at_end : (rows : CentreRows) (front : List Turn) (last : Turn) → is_last rows last ≡ true
-    → list_any (is_last rows) (front ++ last ∷ []) ≡ true
-any_at_end rows [] last e = ap (λ (b : Bool). b || false) e
-any_at_end rows (turn ∷ front) last e =
-    ap (λ (b : Bool). is_last rows turn || b) (any_at_end rows front last e)
-    ∙ or_true (is_last rows turn)
+-- and is where it is found
+record IsFirstLast (rows : CentreRows) (turns : List Turn) (last : Turn) : Type 0 where
+  front : List Turn
+  rest : List Turn
+  are : turns ≡ front ++ last ∷ rest
+  goes : list_any (is_last rows) front ≡ false
+  is : is_last rows last ≡ true
 
-any_by : (rows : CentreRows) (turn : Turn) (turns : List Turn)
-    → (list_any (is_last rows) (up_to_last rows turns) ≡ true
-    → list_any (is_last rows) turns ≡ true) → (b : Bool) → is_last rows turn ≡ b
-    → list_any (is_last rows) (if b then turn ∷ [] else turn ∷ up_to_last rows turns) ≡ true
-    → list_any (is_last rows) (turn ∷ turns) ≡ true
-any_by rows turn turns rest true k e =
-    ap (λ (b : Bool). b || list_any (is_last rows) turns) k
-any_by rows turn turns rest false k e =
-    ap (λ (b : Bool). b || list_any (is_last rows) turns) k
-    ∙ rest (sym (ap (λ (b : Bool). b || list_any (is_last rows) (up_to_last rows turns)) k) ∙ e)
+first_by : (rows : CentreRows) (turn last : Turn) (turns : List Turn)
+    → (last_turn rows turns ≡ Some last → IsFirstLast rows turns last) → (b : Bool)
+    → is_last rows turn ≡ b
+    → slice_get (if b then turn ∷ filter (is_last rows) turns else filter (is_last rows) turns) 0
+    ≡ Some last → IsFirstLast rows (turn ∷ turns) last
+first_by rows turn last turns rest true k e =
+    let same : turn ≡ last = cc in
+    record {
+      front = [];
+      rest = turns;
+      are = ap (λ (t : Turn). t ∷ turns) same;
+      goes = refl;
+      is = ap (λ (t : Turn). is_last rows t) (sym same) ∙ k;
+    }
+first_by rows turn last turns rest false k e =
+    let f = rest e in
+    record {
+      front = turn ∷ f.front;
+      rest = f.rest;
+      are = ap (λ (ts : List Turn). turn ∷ ts) f.are;
+      goes = ap (λ (b : Bool). b || list_any (is_last rows) f.front) k ∙ f.goes;
+      is = f.is;
+    }
 
-any_whole : (rows : CentreRows) (turns : List Turn)
-    → list_any (is_last rows) (up_to_last rows turns) ≡ true
-    → list_any (is_last rows) turns ≡ true
-any_whole rows [] e = e
-any_whole rows (turn ∷ turns) e =
-    any_by rows turn turns (any_whole rows turns) (is_last rows turn) refl e
+first_at : (rows : CentreRows) (turns : List Turn) (last : Turn) → last_turn rows turns ≡ Some last
+    → IsFirstLast rows turns last
+first_at rows [] last e = absurd cc
+first_at rows (turn ∷ turns) last e =
+    first_by rows turn last turns (first_at rows turns last) (is_last rows turn) refl e
 
-stays_by : (rows : CentreRows) (turn : Turn) (turns more : List Turn)
-    → (list_any (is_last rows) turns ≡ true
-    → up_to_last rows (turns ++ more) ≡ up_to_last rows turns) → (b : Bool)
-    → (b || list_any (is_last rows) turns) ≡ true
-    → (if b then turn ∷ [] else turn ∷ up_to_last rows (turns ++ more))
-    ≡ (if b then turn ∷ [] else turn ∷ up_to_last rows turns)
-stays_by rows turn turns more rest true e = refl
-stays_by rows turn turns more rest false e = ap (λ (ts : List Turn). turn ∷ ts) (rest e)
+-- ---- the end
 
--- behind the first after which nothing follows nothing is added
-pub last_stays : (rows : CentreRows) (turns more : List Turn)
-    → list_any (is_last rows) turns ≡ true
-    → up_to_last rows (turns ++ more) ≡ up_to_last rows turns
-last_stays rows [] more e = absurd cc
-last_stays rows (turn ∷ turns) more e =
-    stays_by rows turn turns more (last_stays rows turns more) (is_last rows turn) e
+-- the last of these turns, which begin those that the items tell, brings this end
+pub record BringsEnd (rows : CentreRows) (items : List Item) (turns : List Turn) (end : ConnEnd) :
+    Type 0 where
+  pub last : Turn
+  pub ends : EndsWithTurn rows turns last
+  pub is : is_last rows last ≡ true
+  pub cause : end_at (reading_of (text_given items)).broken last ≡ Some end
+  pub rest : List Turn
+  pub all : turns_of items ≡ turns ++ rest
 
--- behind an end nothing more is acted on, whatever the link gives
-pub whole_now : (rows : CentreRows) (items : List Item) (told : List Arrival) (turns : List Turn)
-    (end : ConnEnd) → EndsBy rows items told turns end → up_to_last rows (turns_of items) ≡ turns
-whole_now rows items told turns end e =
-    let o = turns_on [] e.done e.dropped in
-    let last = last_of_cause rows items end e.last e.cause in
-    let any = any_whole rows (turns_of e.done)
-    (ap (λ (ts : List Turn). list_any (is_last rows) ts) (e.whole ∙ e.ends.is)
-    ∙ any_at_end rows e.ends.front e.last last) in
-    ap (λ (is : List Item). up_to_last rows (turns_of is)) e.items_are
-    ∙ ap (λ (ts : List Turn). up_to_last rows ts) o.1
-    ∙ last_stays rows (turns_of e.done) o.0 any ∙ e.whole
+-- nothing is acted on behind it
+pub brought_whole : (rows : CentreRows) (items : List Item) (turns : List Turn) (end : ConnEnd)
+    → BringsEnd rows items turns end → up_to_last rows (turns_of items) ≡ turns
+brought_whole rows items turns end b =
+    ap (λ (ts : List Turn). up_to_last rows ts)
+    (b.all ∙ ap (λ (ts : List Turn). ts ++ b.rest) b.ends.is)
+    ∙ cut_at_last rows b.ends.front b.rest b.last b.ends.goes b.is ∙ sym b.ends.is
+
+-- so the peer has ended it
+pub brought_end : (rows : CentreRows) (items : List Item) (turns : List Turn) (end : ConnEnd)
+    → BringsEnd rows items turns end → peer_end rows items ≡ Some end
+brought_end rows items turns end b =
+    ap (λ (t : Option Turn). option_and_then (end_at (reading_of (text_given items)).broken) t)
+    (ap (λ (ts : List Turn). last_turn rows ts)
+    (b.all ∙ ap (λ (ts : List Turn). ts ++ b.rest) b.ends.is
+    ∙ append_assoc b.ends.front (b.last ∷ []) b.rest)
+    ∙ first_found rows b.ends.front b.rest b.last b.ends.goes b.is)
+    ∙ b.cause
+
+-- and where it has ended it so, there is such a turn
+pub end_brought : (rows : CentreRows) (items : List Item) (turns : List Turn) (end : ConnEnd)
+    → peer_end rows items ≡ Some end → up_to_last rows (turns_of items) ≡ turns
+    → BringsEnd rows items turns end
+end_brought rows items turns end e whole =
+    by (last_turn rows (turns_of items)) refl e
+  where
+    by : (found : Option Turn) → last_turn rows (turns_of items) ≡ found
+        → option_and_then (end_at (reading_of (text_given items)).broken) found ≡ Some end
+        → BringsEnd rows items turns end
+    by None k c = absurd cc
+    by (Some last) k c =
+        let f = first_at rows (turns_of items) last k in
+        let all : turns_of items ≡ (f.front ++ last ∷ []) ++ f.rest =
+        f.are ∙ sym (append_assoc f.front (last ∷ []) f.rest) in
+        let is : turns ≡ f.front ++ last ∷ [] =
+        sym whole ∙ ap (λ (ts : List Turn). up_to_last rows ts) all
+        ∙ cut_at_last rows f.front f.rest last f.goes f.is in
+        record {
+          last = last;
+          ends = record { front = f.front; is = is; goes = f.goes };
+          is = f.is;
+          cause = c;
+          rest = f.rest;
+          all = all ∙ ap (λ (ts : List Turn). ts ++ f.rest) (sym is);
+        }
+
+-- where it goes on
+pub none_brought : (rows : CentreRows) (items : List Item)
+    → list_any (is_last rows) (turns_of items) ≡ false → peer_end rows items ≡ None
+none_brought rows items goes =
+    ap (λ (t : Option Turn). option_and_then (end_at (reading_of (text_given items)).broken) t)
+    (none_found rows (turns_of items) goes)
+
+cause_stays : (items more : List Item) (end : ConnEnd) (last : Turn)
+    → end_at (reading_of (text_given items)).broken last ≡ Some end
+    → end_at (reading_of (text_given (items ++ more))).broken last ≡ Some end
+cause_stays items more end (offers title) c = c
+cause_stays items more end offers_badly c = c
+cause_stays items more end (asks invoke call) c = c
+cause_stays items more end concludes c = c
+cause_stays items more end releases c = c
+cause_stays items more end aborts c = c
+cause_stays items more end breaks c =
+    by (reading_of (text_given items)).broken refl c
+  where
+    by : (broken : Option StackFault) → (reading_of (text_given items)).broken ≡ broken
+        → option_map conn_ends.Refused broken ≡ Some end
+        → option_map conn_ends.Refused (reading_of (text_given (items ++ more))).broken ≡ Some end
+    by None k c = absurd cc
+    by (Some fault) k c =
+        ap (λ (b : Option StackFault). option_map conn_ends.Refused b)
+        (broken_stays items more fault k) ∙ c
+cause_stays items more end ends c = c
+cause_stays items more end pauses c = c
+
+-- it stays so behind more
+brought_on : (rows : CentreRows) (items more : List Item) (turns : List Turn) (end : ConnEnd)
+    → BringsEnd rows items turns end → BringsEnd rows (items ++ more) turns end
+brought_on rows items more turns end b =
+    let o = turns_on [] items more in
+    record {
+      last = b.last;
+      ends = b.ends;
+      is = b.is;
+      cause = cause_stays items more end b.last b.cause;
+      rest = b.rest ++ o.0;
+      all = o.1 ∙ ap (λ (ts : List Turn). ts ++ o.0) b.all ∙ append_assoc turns b.rest o.0;
+    }
+
+-- ---- where a connection was read to its end
+
+pub at_end : (rows : CentreRows) (items : List Item) (told : List Arrival) (turns : List Turn)
+    (end : ConnEnd) → IsReadToEnd rows items told turns end → BringsEnd rows items turns end
+at_end rows items told turns end e =
+    subst (λ (is : List Item). BringsEnd rows is turns end) (sym e.items_are)
+    (brought_on rows e.done e.dropped turns end
+    (end_brought rows e.done turns end e.by_peer e.whole))
 
 pub ends_on : (rows : CentreRows) (items : List Item) (told : List Arrival) (turns : List Turn)
-    (item : Item) (end : ConnEnd) → EndsBy rows items told turns end
-    → EndsBy rows (items ++ item ∷ []) told turns end
+    (item : Item) (end : ConnEnd) → IsReadToEnd rows items told turns end
+    → IsReadToEnd rows (items ++ item ∷ []) told turns end
 ends_on rows items told turns item end e = record {
   done = e.done;
   dropped = e.dropped ++ item ∷ [];
   items_are = ap (λ (is : List Item). is ++ item ∷ []) e.items_are
       ∙ append_assoc e.done e.dropped (item ∷ []);
-  last = e.last;
-  ends = e.ends;
-  cause = cause_stays rows items item end e.last e.cause;
+  by_peer = e.by_peer;
   whole = e.whole;
   answered = e.answered;
   fixed = e.fixed;

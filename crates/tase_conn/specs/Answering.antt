@@ -15,8 +15,7 @@ use Rattle.tase_views.specs.declared.reply.Report.{Report}
 use Rattle.tase_views.specs.declared.fault.StepFault.{StepFault}
 use Rattle.tase_views.specs.declared.fault.StepFault.TheVariants as faults
 use Rattle.tase_map.specs.Replied.{pdu_of_reply}
-use Rattle.tase_map.specs.Out.{said, within, reports_said, release_wire, abort_wire}
-use Rattle.tase_map.specs.Out.{first_too_long}
+use Rattle.tase_map.specs.Out.{said, within, reports_said, release_wire, abort_wire, first_too_long}
 use Rattle.tase_conn.specs.declared.stage.ConnEnd.{ConnEnd}
 use Rattle.tase_conn.specs.declared.stage.ConnEnd.TheVariants as conn_ends
 use Rattle.tase_conn.specs.declared.stage.Stage.{Stage}

@@ -1,4 +1,5 @@
 pub mod Talking
+pub mod PeerEnd
 pub mod Places
 pub mod Wanting
 pub mod Acting

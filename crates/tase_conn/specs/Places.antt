@@ -1,5 +1,5 @@
 -- Where a connection stands in what its link has given.
-use Rattle.std.specs.Prelude.{◌≡◌, ℕ, ◌+◌, ◌≤◌, ◌<◌, Bool, true, false, ◌⊎◌}
+use Rattle.std.specs.Prelude.{◌≡◌, ℕ, ◌+◌, ◌≤◌, ◌<◌, Bool, true, false}
 use Rattle.std.specs.Prelude.{List, [], ◌∷◌, ◌++◌, length, filter_map, vec_len, vec_capacity}
 use Rattle.std.specs.Prelude.{Option, Some, None, MatchOption, IfSome, is_some}
 use Rattle.std.specs.List.{list_any}
@@ -22,9 +22,9 @@ use Rattle.stack_assoc.specs.Courses.{CourseStands, IsCourseSettled}
 use Rattle.tase_views.specs.declared.call.CallKind.{CallKind}
 use Rattle.tase_map.specs.Inputs.{Item, piece, idle, ended, text_given}
 use Rattle.tase_map.specs.Readings.{reading_of}
-use Rattle.tase_map.specs.Turns.{Turn, offers, offers_badly, asks, concludes, releases, aborts}
+use Rattle.tase_map.specs.Turns.{Turn, offers, asks, concludes, releases, aborts}
 use Rattle.tase_map.specs.Turns.{breaks, ends, pauses, turns_of, turn_in, turn_of_pdu}
-use Rattle.tase_map.specs.Asks.{begins, finishes, is_last, is_peers, up_to_last}
+use Rattle.tase_map.specs.Asks.{begins, finishes, is_last, up_to_last}
 use Rattle.tase_map.specs.Out.{detail_of}
 use Rattle.tase_conn.specs.declared.stage.ConnEnd.{ConnEnd}
 use Rattle.tase_conn.specs.declared.stage.ConnEnd.TheVariants as conn_ends
@@ -40,6 +40,7 @@ use Rattle.tase_conn.specs.declared.stage.PendingEvent.{PendingEvent}
 use Rattle.tase_conn.specs.declared.stage.PendingEvent.TheVariants as askeds
 use Rattle.tase_conn.specs.declared.stage.Progress.{Progress}
 use Rattle.tase_conn.specs.declared.stage.Progress.TheVariants as progresses
+use Rattle.tase_conn.specs.PeerEnd.{peer_end}
 use Rattle.tase_conn.specs.Talking.{Talking, is_open_stage, stage_peer}
 
 -- ---- what was read
@@ -271,27 +272,15 @@ pub record Runs (rows : CentreRows) (items : List Item) (told : List Arrival) (t
   pub waits : IsAskedAt asked v.stage v.held
   pub last : IsAskedBy rows turns asked
 
--- an end that the peer brings has this cause
-abbrev pub IsCause : CentreRows → List Item → ConnEnd → Turn → Type 0
-IsCause rows items conn_ends.Finished last = last ≡ releases
-IsCause rows items conn_ends.PeerEnd last = (last ≡ aborts) ⊎ (last ≡ ends)
-IsCause rows items conn_ends.Declined (offers title) = is_peers rows title ≡ false
-IsCause rows items conn_ends.Declined last = last ≡ offers_badly
-IsCause rows items (conn_ends.Refused fault) last = (last ≡ breaks)
-    × ((reading_of (text_given items)).broken ≡ Some fault)
-IsCause rows items _ last = ⊥
-
--- all that these items tell, up to the first behind which nothing follows, was acted on, and the
--- last of it is the cause of this end; what the link gave behind them was dropped. All messages
--- that are answered at once were told, and an offer that was declined
-pub record EndsBy (rows : CentreRows) (items : List Item) (told : List Arrival) (turns : List Turn)
-    (end : ConnEnd) : Type 0 where
+-- all that these items tell, up to the first behind which nothing follows, was acted on, and by that
+-- the peer has ended it so; what the link gave behind them was dropped. All messages that are
+-- answered at once were told, and an offer that was declined
+pub record IsReadToEnd (rows : CentreRows) (items : List Item) (told : List Arrival)
+    (turns : List Turn) (end : ConnEnd) : Type 0 where
   pub done : List Item
   pub dropped : List Item
   pub items_are : items ≡ done ++ dropped
-  pub last : Turn
-  pub ends : EndsWithTurn rows turns last
-  pub cause : IsCause rows items end last
+  pub by_peer : peer_end rows done ≡ Some end
   pub whole : up_to_last rows (turns_of done) ≡ turns
   pub answered : answers_to called told ≡ answers_to called (reading_of (text_given done)).told
   pub fixed : end ≡ conn_ends.Declined
@@ -307,7 +296,7 @@ abbrev pub GoesBy : Progress → CentreRows → List Item → List Arrival → L
 GoesBy (progresses.Running asked) rows items told turns v = Runs rows items told turns asked v
 GoesBy progresses.Refused rows items told turns v = Unit {0}
 GoesBy (progresses.Leaving end asked) rows items told turns v = is_open_stage v.stage ≡ true
-GoesBy (progresses.Ended end) rows items told turns v = EndsBy rows items told turns end
+GoesBy (progresses.Ended end) rows items told turns v = IsReadToEnd rows items told turns end
     × ReadsNoMore v
 GoesBy (progresses.Cut end) rows items told turns v = ReadsNoMore v
 

@@ -17,7 +17,7 @@ use Rattle.tase_replay.specs.declared.playing.ReplayEnd.TheVariants.{Done, BadLi
 use Rattle.tase_replay.specs.declared.playing.ReplayEnd.TheVariants.{SinkFault, Memory}
 use Rattle.tase_replay.specs.Links.{Asking, asking_in}
 use Rattle.tase_replay.specs.Play.{Step, Scene, step_of, printed_of, LineMeaning, bad, gives}
-use Rattle.tase_replay.specs.Play.{meaning_of, entry_meaning, means, line_meaning, play_line, ends_there, done}
+use Rattle.tase_replay.specs.Play.{meaning_of, entry_meaning, means, line_meaning, play_line, ends_there}
 use Rattle.tase_replay.specs.Play.{steps_of, entries_in, printed_in, with_taken, is_linked}
 use Rattle.tase_replay.specs.Ends.{TakesAll, IsPlayed, IsShown, end_of_refusal}
 use Rattle.tase_replay.proofs.Taking.{TakesAll-none, TakesPart-none}
@@ -35,13 +35,6 @@ pub IsPlayed-none : (line : List ℕ) (number : ℕ) (meaning : LineMeaning)
     → IsPlayed (play_line line number meaning ends_there) history history sink sink Memory
 IsPlayed-none line number meaning history sink =
     TakesPart-none (steps_of (play_line line number meaning ends_there)) history sink
-
--- and a line that is skipped
-pub IsPlayed-skipped : (line : List ℕ) (number : ℕ) (scene : Scene) (meaning : LineMeaning)
-    (history : List Entry) (sink : SinkTold) → meaning ≡ gives [] scene
-    → IsPlayed (play_line line number meaning ends_there) history history sink sink Done
-IsPlayed-skipped line number scene meaning history sink is =
-    rw is (refl, TakesAll-none history sink)
 
 -- steps that were taken, and what they print was shown
 pub IsPlayed-shown : (line : List ℕ) (number : ℕ) (steps : List Step) (scene : Scene)
@@ -163,30 +156,6 @@ line_in-read setup line scene found words is =
     ap (λ (b : Bool). if b then gives [] scene
     else means setup scene (asking_in setup.centre line)) words
     ∙ ap (λ (asked : Option Asking). means setup scene asked) is
-
--- an own line that was taken gives its step
-meaning_done : (line : List ℕ) (number : ℕ) (after : Scene) (step : Step)
-    (refusal : Option StepFault)
-    → (play_line line number (meaning_of after step refusal) ends_there).end ≡ done
-    → meaning_of after step refusal ≡ gives (step ∷ []) after
-meaning_done line number after step None e = refl
-meaning_done line number after step (Some faults.Memory) e = absurd cc
-meaning_done line number after step (Some (faults.Stopped place)) e = absurd cc
-meaning_done line number after step (Some (faults.HistoryFull weight limit)) e = absurd cc
-meaning_done line number after step (Some faults.NoAssociation) e = absurd cc
-meaning_done line number after step (Some faults.Already) e = absurd cc
-meaning_done line number after step (Some faults.UnknownName) e = absurd cc
-
-pub accepted_done : (setup : Setup) (line : List ℕ) (number : ℕ) (scene : Scene) (entry : Entry)
-    → is_linked entry.who scene ≡ false
-    → (play_line line number (entry_meaning setup scene entry) ends_there).end ≡ done
-    → entry_meaning setup scene entry
-    ≡ gives (step_of setup scene.past entry ∷ []) (with_taken entry scene)
-accepted_done setup line number scene entry own e =
-    let refusal = refusal_of setup scene.past entry.who entry.event in
-    let same = accepted_so setup scene entry refusal own refl in
-    same ∙ meaning_done line number (with_taken entry scene) (step_of setup scene.past entry)
-    refusal (sym (ap (λ (m : LineMeaning). (play_line line number m ends_there).end) same) ∙ e)
 
 -- a line of a link's seat is bad
 pub accepted_bad : (setup : Setup) (scene : Scene) (entry : Entry)

@@ -15,6 +15,7 @@ pub mod Sending
 pub mod SoFar
 pub mod Pending
 pub mod Own
+pub mod Players
 pub mod TakenLines
 pub mod Reports
 pub mod Printable

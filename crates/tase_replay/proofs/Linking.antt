@@ -26,7 +26,7 @@ use Rattle.tase_map.specs.Sent.{events_by, with_event}
 use Rattle.tase_conn.specs.declared.stage.ConnEnd.{ConnEnd}
 use Rattle.tase_conn.specs.declared.stage.ConnEnd.TheVariants as conn_ends
 use Rattle.tase_map.specs.Linked.{link_octets}
-use Rattle.conn_service.specs.PeerEnd.{peer_end}
+use Rattle.tase_conn.specs.PeerEnd.{peer_end}
 use Rattle.conn_service.specs.Served.{Served, served, with_closed}
 use Rattle.conn_service.specs.Sends.{close_of}
 use Rattle.conn_service.specs.Attending.{TakesEvents}

@@ -1,69 +1,40 @@
 -- The scene behind a line of its own, and behind one of a link.
-use Rattle.std.proofs.Common.{◌≡◌, ℕ, Bool, true, false, List, [], ◌∷◌, ◌++◌, reverse, Option, get_or}
+use Rattle.std.proofs.Common.{◌≡◌, ℕ, Bool, true, List, [], ◌∷◌, ◌++◌, reverse, Option, get_or}
 use Rattle.std.proofs.Common.{Some, None, sym, ap, subst, ◌∙◌}
 use Rattle.std.specs.Prelude.{if◌then◌else◌, option_map}
 use Rattle.std.proofs.lemmas.Option.{get_or_from_slice_get}
-use Rattle.plain_text.specs.Lines.{is_skipped}
 use Rattle.bilateral.specs.Rows.{CentreRows}
 use Rattle.tase_conn.specs.Talking.{Talking}
-use Rattle.outside.specs.Sink.{SinkTold}
 use Rattle.tase_views.specs.Setup.{Setup}
 use Rattle.tase_views.specs.declared.event.Entry.{Entry}
+use Rattle.tase_views.specs.Outcomes.{refusal_of}
 use Rattle.node_core.proofs.Outcomes.{reverse_push}
 use Rattle.tase_replay.specs.declared.entries.LineRequest.{LineRequest}
 use Rattle.tase_replay.specs.declared.links.Seats.{Seats}
-use Rattle.tase_replay.specs.declared.playing.ReplayEnd.{ReplayEnd}
-use Rattle.tase_replay.specs.declared.playing.ReplayEnd.TheVariants.{Done}
-use Rattle.tase_replay.specs.Links.{SeatItem, Asking, asking_in, asking_seen, items_of}
-use Rattle.tase_replay.specs.Play.{Scene, Step, LineMeaning, gives, entry_meaning, scene_by, with_taken}
-use Rattle.tase_replay.specs.Play.{step_of, play_line, play_alone, ends_there, steps_of, bad}
-use Rattle.tase_replay.specs.Play.{means, scene_behind, received, is_unfit, linked_by, served_item}
-use Rattle.conn_service.specs.PeerEnd.{peer_end}
-use Rattle.tase_replay.specs.Ends.{IsPlayed, TakesAll}
+use Rattle.tase_replay.specs.Links.{SeatItem, asking_in, asking_seen, items_of}
+use Rattle.tase_replay.specs.Play.{Scene, LineMeaning, entry_meaning, scene_by}
+use Rattle.tase_replay.specs.Play.{bad}
+use Rattle.tase_replay.specs.Play.{received, is_unfit, linked_by, served_item}
+use Rattle.tase_conn.specs.PeerEnd.{peer_end}
 use Rattle.tase_replay.specs.Standing.{IsScene, NotesUse, Finds, Awaits, LinkGoesOn}
-use Rattle.tase_replay.proofs.Entering.{accepted_done, line_in-read, line_in-skipped}
+use Rattle.tase_replay.proofs.Entering.{accepted_so}
 use Rattle.tase_replay.proofs.Seating.{own_unlinked, own_sits}
 
-pub own_scene : (setup : Setup) (line : List ℕ) (number : ℕ) (scene : Scene) (entry : Entry)
-    (history now : List Entry) (before after : SinkTold) (old new : Seats)
-    → IsScene setup.centre history scene old → NotesUse entry.who old true new
-    → IsPlayed (play_line line number (entry_meaning setup scene entry) ends_there) history now before
-    after Done
+-- behind an entry that the node takes
+pub own_scene : (setup : Setup) (scene : Scene) (entry : Entry) (history now : List Entry)
+    (old new : Seats) → IsScene setup.centre history scene old → NotesUse entry.who old true new
+    → refusal_of setup scene.past entry.who entry.event ≡ None → now ≡ history ++ entry ∷ []
     → IsScene setup.centre now (scene_by scene (entry_meaning setup scene entry)) new
-own_scene setup line number scene entry history now before after old new s n played =
+own_scene setup scene entry history now old new s n allowed grown =
     let own = own_unlinked setup.centre scene entry.who old new n s.sits in
-    let step : Step = step_of setup scene.past entry in
-    let same : entry_meaning setup scene entry ≡ gives (step ∷ []) (with_taken entry scene) =
-    accepted_done setup line number scene entry own played.0 in
-    let takes : TakesAll (((step ∷ []) ++ []) ++ []) history now before after =
-    subst (λ (m : LineMeaning). TakesAll (steps_of (play_line line number m ends_there)) history now
-    before after) same played.1 in
-    subst (λ (m : LineMeaning). IsScene setup.centre now (scene_by scene m) new) (sym same) (record {
+    subst (λ (m : LineMeaning). IsScene setup.centre now (scene_by scene m) new)
+    (sym (accepted_so setup scene entry None own allowed)) (record {
       past_is = ap (λ (p : List Entry). entry ∷ p) s.past_is ∙ sym (reverse_push history entry)
-          ∙ ap reverse (sym takes.entries);
+          ∙ ap reverse (sym grown);
       sits = own_sits setup.centre scene entry old new n s.sits;
     })
 
 -- ---- any line that isn't skipped
-
-pub read_played : (setup : Setup) (line : List ℕ) (number : ℕ) (scene : Scene)
-    (found : Option Asking) (history now : List Entry) (before after : SinkTold)
-    (end : ReplayEnd) → is_skipped line ≡ false → asking_in setup.centre line ≡ found
-    → IsPlayed (play_line line number (means setup scene found) ends_there) history now before
-    after end
-    → IsPlayed (play_alone setup line scene number) history now before after end
-read_played setup line number scene found history now before after end words is played =
-    subst (λ (m : LineMeaning). IsPlayed (play_line line number m ends_there) history now before after
-    end) (sym (line_in-read setup line scene found words is)) played
-
-pub read_scene : (setup : Setup) (line : List ℕ) (scene : Scene) (found : Option Asking)
-    (now : List Entry) (new : Seats) → is_skipped line ≡ false
-    → asking_in setup.centre line ≡ found
-    → IsScene setup.centre now (scene_by scene (means setup scene found)) new
-    → IsScene setup.centre now (scene_behind setup line scene) new
-read_scene setup line scene found now new words is s =
-    subst (λ (m : LineMeaning). IsScene setup.centre now (scene_by scene m) new)
-    (sym (line_in-read setup line scene found words is)) s
 
 -- what was read of it is what it asks
 pub asked_so : (rows centre : CentreRows) (line : List ℕ) (found : Option LineRequest) (asked : LineRequest)
@@ -79,13 +50,6 @@ pub unasked_so : (rows centre : CentreRows) (line : List ℕ) (found : Option Li
 unasked_so rows centre line found e f is =
     ap (λ (r : CentreRows). asking_in r line) (sym e) ∙ sym is
     ∙ ap (λ (o : Option LineRequest). option_map asking_seen o) f
-
-pub skipped_scene : (setup : Setup) (line : List ℕ) (scene : Scene) (now : List Entry)
-    (new : Seats) → is_skipped line ≡ true → IsScene setup.centre now scene new
-    → IsScene setup.centre now (scene_behind setup line scene) new
-skipped_scene setup line scene now new words s =
-    subst (λ (m : LineMeaning). IsScene setup.centre now (scene_by scene m) new)
-    (sym (line_in-skipped setup line scene words)) s
 
 -- a link's line, whose seat may not be used by one
 pub received_bad : (setup : Setup) (scene : Scene) (given : SeatItem)

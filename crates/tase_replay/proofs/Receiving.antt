@@ -43,7 +43,7 @@ use Rattle.conn_laws.proofs.Texts.{text_turns}
 use Rattle.conn_laws.proofs.TurnLists.{any_back}
 use Rattle.conn_service.specs.Attending.{AddsPending, Attends, IsServedTo, TakesEvents, IsNodesEnd}
 use Rattle.tase_map.specs.Linked.{link_octets}
-use Rattle.conn_service.specs.PeerEnd.{peer_end, end_at, last_turn}
+use Rattle.tase_conn.specs.PeerEnd.{peer_end, end_at, last_turn}
 use Rattle.conn_service.proofs.Closed.{cut_sends}
 use Rattle.conn_service.proofs.Takes.{takes_each, events_taken}
 use Rattle.tase_replay.specs.declared.playing.ReplayEnd.{ReplayEnd}
@@ -267,7 +267,7 @@ came_cut setup scene given old conn after conn_ends.Stopped g fit a e node goes 
     (first_refused setup a.between who a.cut.others)) e a.cut.cause in
     let r = refused_next setup scene given a.taken a.between a.cut.others (faults.Stopped cause.0)
     a.takes a.cut.asks_are cause.1 in
-    let said = subst (λ (x : ConnEnd). IsSaidByEnd setup items (Some x)
+    let said = subst (λ (x : ConnEnd). IsSaidByEnd items (Some x)
     (link_octets setup.centre scene.past who (items_of who scene.given) ++ a.cut.adds.added)
     (link_octets setup.centre after who items)) e a.cut.said_is in
     record {

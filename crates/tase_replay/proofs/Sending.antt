@@ -5,7 +5,6 @@ use Rattle.std.specs.Prelude.{if◌then◌else◌, ◌||◌}
 use Rattle.std.specs.List.{list_any}
 use Rattle.std.proofs.lemmas.Bool.{eq-eqb, eqb-true, false≢true}
 use Rattle.std.proofs.lemmas.List.{append-nil, reverse-reverse}
-use Rattle.plain_text.specs.Lines.{is_skipped}
 use Rattle.bilateral.specs.Rows.{CentreRows}
 use Rattle.tase_views.specs.Setup.{Setup}
 use Rattle.tase_views.specs.History.{Past}
@@ -13,7 +12,6 @@ use Rattle.tase_views.specs.Outcomes.{refusal_of}
 use Rattle.tase_views.specs.declared.event.Entry.{Entry}
 use Rattle.tase_views.specs.declared.event.EventKind.{EventKind}
 use Rattle.tase_views.specs.declared.fault.StepFault.{StepFault}
-use Rattle.tase_views.specs.declared.fault.StepFault.TheVariants as faults
 use Rattle.tase_map.specs.Inputs.{Item}
 use Rattle.tase_map.specs.Asks.{asks_of}
 use Rattle.tase_map.specs.Sent.{events_by}
@@ -21,23 +19,18 @@ use Rattle.tase_conn.specs.declared.stage.ConnEnd.{ConnEnd}
 use Rattle.tase_conn.specs.Talking.{Talking, pending_of}
 use Rattle.conn_laws.specs.Serving.{AreOthers}
 use Rattle.tase_map.specs.Linked.{link_octets}
-use Rattle.tase_replay.specs.Links.{SeatItem, Asking, asking_in, items_of}
-use Rattle.tase_replay.specs.Play.{Step, Scene, LineMeaning, bad, with_taken, step_of, meaning_of}
-use Rattle.tase_replay.specs.Play.{entry_meaning, is_linked, is_unfit, received, behind_link, link_step}
-use Rattle.tase_replay.specs.Play.{means, line_meaning, gives, conn_has_ended, entries_in}
-use Rattle.outside.specs.Sink.{SinkTold}
-use Rattle.tase_replay.specs.declared.playing.ReplayEnd.{ReplayEnd}
-use Rattle.tase_replay.specs.declared.playing.ReplayEnd.TheVariants.{Done}
-use Rattle.tase_replay.specs.Ends.{end_of_refusal}
+use Rattle.tase_replay.specs.Links.{SeatItem, items_of}
+use Rattle.tase_replay.specs.Play.{Step, Scene, bad, with_taken, step_of, meaning_of}
+use Rattle.tase_replay.specs.Play.{entry_meaning, is_linked, received, behind_link, link_step}
+use Rattle.tase_replay.specs.Play.{conn_has_ended, entries_in}
 use Rattle.tase_replay.specs.Play.{ended_with, entry_steps}
 use Rattle.tase_replay.specs.PrintedLines.{ShownToPeer, all_shown, shown_by}
-use Rattle.tase_replay.specs.Standing.{LinkGoesOn, is_over, AreSentIn, StaySent, StepsSend, IsTakenSent, EndsSent}
+use Rattle.tase_replay.specs.Standing.{LinkGoesOn, is_over, AreSentIn, StaySent, StepsSend, IsTakenSent}
 use Rattle.tase_replay.specs.Standing.{StepsSendAll, HasOctets}
 use Rattle.ber_values.specs.Octets.{IsOctets}
 use Rattle.std.specs.List.{AllByRecursion}
 use Rattle.conn_service.proofs.Closed.{said_whole}
 use Rattle.tase_replay.proofs.Acted.{acted_still}
-use Rattle.tase_replay.proofs.Entering.{line_in-read, line_in-skipped}
 use Rattle.tase_replay.proofs.Linking.{items_behind, between_so, entries_by, entries_own}
 use Rattle.tase_replay.proofs.Linking.{unsaid_steps, entries_steps}
 use Rattle.tase_replay.proofs.Receiving.{Came, asked_so}
@@ -90,7 +83,7 @@ sent_still setup who others past (item ∷ items) steps more a none s =
           (sym (octets_still setup.centre who others past (item ∷ items) a));
       sends = record {
         events = acted_still setup who others past (item ∷ items) s.end a s.sends.events;
-        said = said_whole setup (item ∷ items) s.end all;
+        said = said_whole (item ∷ items) s.end all;
       };
     }
 
@@ -172,16 +165,6 @@ own_taken setup scene entry own none =
       grown = refl;
     }
 
--- a refusal isn't the end of all lines
-pub refusal_ends : (number : ℕ) (fault : StepFault) (end : ReplayEnd)
-    → end ≡ end_of_refusal number fault → end ≡ Done → ⊥
-refusal_ends number faults.Memory end e done = absurd cc
-refusal_ends number (faults.Stopped place) end e done = absurd cc
-refusal_ends number (faults.HistoryFull weight limit) end e done = absurd cc
-refusal_ends number faults.NoAssociation end e done = absurd cc
-refusal_ends number faults.Already end e done = absurd cc
-refusal_ends number faults.UnknownName end e done = absurd cc
-
 -- ---- a line of a link
 
 -- its seat has had no event where the link has given nothing
@@ -244,7 +227,7 @@ sent_here setup scene given old conn past steps g c s =
       shown = printed_here setup scene given old conn past steps g c s;
       sends = record {
         events = c.acted;
-        said = said_whole setup (items ++ given.item ∷ []) c.end
+        said = said_whole (items ++ given.item ∷ []) c.end
             (link_octets setup.centre past who (items ++ given.item ∷ []));
       };
     }))
@@ -353,24 +336,3 @@ came_taken setup scene given old conn past g c octets =
           (sym (entries_in-append own (link ∷ []) ∙ append-nil (entries_in own)
           ∙ entries_steps who c.events));
     }
-
--- ---- any line
-
-pub read_taken : (setup : Setup) (line : List ℕ) (scene : Scene) (found : Option Asking)
-    (end : ReplayEnd) (before after : SinkTold)
-    → is_skipped line ≡ false → asking_in setup.centre line ≡ found
-    → EndsSent setup scene (means setup scene found) end before after
-    → EndsSent setup scene (line_meaning setup scene line) end before after
-read_taken setup line scene found end before after words is s =
-    subst (λ (m : LineMeaning). EndsSent setup scene m end before after)
-    (sym (line_in-read setup line scene found words is)) s
-
-pub skipped_taken : (setup : Setup) (line : List ℕ) (scene : Scene) → is_skipped line ≡ true
-    → IsTakenSent setup scene (line_meaning setup scene line)
-skipped_taken setup line scene words = record {
-  steps = [];
-  after = scene;
-  is = line_in-skipped setup line scene words;
-  stays = none_stays setup scene;
-  grown = refl;
-}

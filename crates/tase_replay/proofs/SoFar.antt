@@ -20,7 +20,7 @@ use Rattle.tase_views.specs.declared.fault.StepFault.{StepFault}
 use Rattle.tase_views.specs.declared.fault.StepFault.TheVariants as faults
 use Rattle.tase_map.specs.Inputs.{Item}
 use Rattle.tase_conn.specs.declared.stage.ConnEnd.{ConnEnd}
-use Rattle.conn_service.specs.PeerEnd.{peer_end}
+use Rattle.tase_conn.specs.PeerEnd.{peer_end}
 use Rattle.conn_service.specs.Served.{Served}
 use Rattle.tase_replay.specs.declared.playing.ReplayEnd.{ReplayEnd}
 use Rattle.tase_replay.specs.declared.playing.ReplayEnd.TheVariants.{Done, BadLine, Full}
@@ -298,7 +298,7 @@ module _ (setup : Setup) (all rest : Played) (history now : List Entry) (before 
   }
 
 -- what the first steps print is a front part of what all print
-part_front : (before after : SinkTold) (steps : List Step) (count : ℕ) (failed : Bool)
+pub part_front : (before after : SinkTold) (steps : List Step) (count : ℕ) (failed : Bool)
     → AppendsPart before after (printed_in (take count steps)) failed
     → AppendsPart before after (printed_in steps) failed
 part_front before after steps count failed part =

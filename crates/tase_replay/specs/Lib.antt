@@ -6,3 +6,4 @@ pub mod Standing
 pub mod Ends
 pub mod AllSent
 pub mod PrintedLines
+pub mod Players

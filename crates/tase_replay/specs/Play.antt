@@ -27,7 +27,7 @@ use Rattle.tase_views.specs.Outcomes.{refusal_of, answer_of}
 use Rattle.event_text.specs.ReplyTexts.{reply_text}
 use Rattle.tase_replay.specs.Lines.{entry_by}
 use Rattle.tase_map.specs.Linked.{link_octets}
-use Rattle.conn_service.specs.PeerEnd.{peer_end}
+use Rattle.tase_conn.specs.PeerEnd.{peer_end}
 use Rattle.conn_service.specs.Served.{Served, served, with_closed}
 use Rattle.conn_service.specs.Sends.{close_of}
 use Rattle.tase_replay.specs.Links.{SeatItem, Asking, an_event, an_item, asking_in}
@@ -260,28 +260,17 @@ play setup (line ∷ more) scene number =
 abbrev pub ends_there : Scene → Played
 ends_there scene = ends_by [] done
 
--- a line and nothing after it
-abbrev pub play_alone : Setup → List ℕ → Scene → ℕ → Played
-play_alone setup line scene number = play_line line number
-    (line_meaning setup scene line) ends_there
-
 -- the scene behind a line that is taken
 abbrev pub scene_by : Scene → LineMeaning → Scene
 scene_by scene bad = scene
 scene_by scene (too_heavy steps weight limit) = scene
 scene_by scene (gives steps after) = after
 
-abbrev pub scene_behind : Setup → List ℕ → Scene → Scene
-scene_behind setup line scene = scene_by scene (line_meaning setup scene line)
-
 -- what such a line gives
 abbrev pub steps_by : LineMeaning → List Step
 steps_by bad = []
 steps_by (too_heavy steps weight limit) = []
 steps_by (gives steps after) = steps
-
-abbrev pub steps_behind : Setup → List ℕ → Scene → List Step
-steps_behind setup line scene = steps_by (line_meaning setup scene line)
 
 -- the steps of lines that were taken
 abbrev pub steps_in : List TakenLine → List Step

@@ -1,13 +1,11 @@
-ghost use Rattle.std.specs.Prelude.{◌≡◌, ℕ, List, reverse, false, Some};
-ghost use Rattle.tase_replay.specs.declared.playing.ReplayEnd.TheVariants.{Done};
+ghost use Rattle.std.specs.Prelude.{◌≡◌, ℕ, reverse};
 ghost use Rattle.std.specs.Str.Lines.{lines};
-ghost use Rattle.tase_replay.specs.Play.{play, play_alone, play_line, entry_meaning, printed_of};
-ghost use Rattle.tase_replay.specs.Play.{Scene};
-ghost use Rattle.tase_replay.specs.Play.{ends_there, first_scene, scene_by, scene_behind};
-ghost use Rattle.tase_replay.specs.Play.{received, is_linked, is_unfit, line_meaning};
+ghost use Rattle.tase_replay.specs.Play.{Scene, play, first_scene, printed_of};
+ghost use Rattle.tase_replay.specs.Play.{entry_meaning, received, line_meaning};
 ghost use Rattle.tase_replay.specs.AllSent.{AreSentSoFar, is_played_out};
 ghost use Rattle.tase_replay.specs.Links.{given_seen, IsFit};
-ghost use Rattle.tase_replay.specs.Standing.{IsScene, LinkGoesOn, IsBehind, EndsSent};
+ghost use Rattle.tase_replay.specs.Players.{StandsIn, HasNoted, HasFound, IsSamePlayer};
+ghost use Rattle.tase_replay.specs.Players.{play_of, Plays, PlaysLine};
 ghost use Rattle.tase_replay.specs.Ends.{IsPlayed, IsShown, end_of_refusal};
 ghost use Rattle.tase_replay.specs.Ends as spec;
 ghost use Rattle.tase_conn.specs.Talking.{conn_end_in};
@@ -54,192 +52,144 @@ pub fn replay<K: Sink>(alloc: Global, node: &mut Node, scenario: &[u8], sink: &m
     ensures setup { node.new.setup ≡ node.old.setup }
 {
     match Seats::of(alloc, node) {
-        Ok(mut seats) => play_lines(alloc, node, &mut seats, scenario, sink),
-        Err(_) => ReplayEnd::Memory,
-    }
-}
-
-/// Plays all lines of a scenario, over the seats that the node's history has.
-fn play_lines<K: Sink>(
-    alloc: Global,
-    node: &mut Node,
-    seats: &mut Seats,
-    scenario: &[u8],
-    sink: &mut K,
-) -> ReplayEnd
-    requires { IsScene node.old.setup.centre node.old.history
-        (first_scene (reverse node.old.history)) seats.old }
-    ensures played { IsPlayed (play node.old.setup (lines scenario.now)
-        (first_scene (reverse node.old.history)) 1)
-        node.old.history node.new.history (K.told sink.old) (K.told sink.new) result }
-    ensures sent { AreSentSoFar node.old.setup node.old.history
-        (play node.old.setup (lines scenario.now) (first_scene (reverse node.old.history)) 1)
-        (is_played_out result) (K.told sink.old) (K.told sink.new) }
-    ensures setup { node.new.setup ≡ node.old.setup }
-{
-    let mut text = Vec::new(alloc);
-    let mut rest = scenario;
-    let mut number = 1;
-    while let Some((line, more)) = next_line(rest) {
-        match play_line(alloc, node, seats, line, number, sink, &mut text) {
-            ReplayEnd::Done => {}
-            end => return end,
+        Ok(mut seats) => {
+            let mut text = Vec::new(alloc);
+            let mut player = Player {
+                alloc,
+                node,
+                seats: &mut seats,
+                sink,
+                text: &mut text,
+            };
+            player.play_lines(scenario)
         }
-        rest = more;
-        number += 1;
-    }
-    ReplayEnd::Done
-}
-
-/// Plays one line, whose number this is.
-fn play_line<K: Sink>(
-    alloc: Global,
-    node: &mut Node,
-    seats: &mut Seats,
-    line: &[u8],
-    number: u64,
-    sink: &mut K,
-    text: &mut Vec<u8>,
-) -> ReplayEnd
-    requires { (scene : Scene) × IsScene node.old.setup.centre node.old.history scene seats.old }
-    ensures played { (scene : Scene)
-        → IsScene node.old.setup.centre node.old.history scene seats.old
-        → IsPlayed (play_alone node.old.setup line.now scene number)
-        node.old.history node.new.history (K.told sink.old) (K.told sink.new) result }
-    ensures stands { (scene : Scene)
-        → IsScene node.old.setup.centre node.old.history scene seats.old → result ≡ Done
-        → IsScene node.old.setup.centre node.new.history
-        (scene_behind node.old.setup line.now scene) seats.new }
-    ensures sent { (scene : Scene)
-        → IsScene node.old.setup.centre node.old.history scene seats.old
-        → EndsSent node.old.setup scene (line_meaning node.old.setup scene line.now) result
-        (K.told sink.old) (K.told sink.new) }
-    ensures setup { node.new.setup ≡ node.old.setup }
-{
-    if is_skipped(line) {
-        return ReplayEnd::Done;
-    }
-    match read_asked(alloc, node.centre(), line) {
-        Ok(Some(LineRequest::Event(entry))) => play_own(
-            alloc, node, seats, entry, number, sink, text,
-        ),
-        Ok(Some(LineRequest::Item(given))) => play_given(
-            alloc, node, seats, given, number, sink, text,
-        ),
-        Ok(None) => ReplayEnd::BadLine { line: number },
         Err(_) => ReplayEnd::Memory,
     }
 }
 
-/// Takes the entry of the line with this number, unless its seat is a link's.
-fn play_own<K: Sink>(
+/// What plays the lines of a scenario: the node that takes their events, what each seat is used
+/// for, and the sink for what is printed. `text` is where that is put together.
+#[derive(Drop)]
+struct Player<'a, K: Sink> {
     alloc: Global,
-    node: &mut Node,
-    seats: &mut Seats,
-    entry: Entry,
-    number: u64,
-    sink: &mut K,
-    text: &mut Vec<u8>,
-) -> ReplayEnd
-    ensures played { (line : List ℕ) (scene : Scene)
-        → IsScene node.old.setup.centre node.old.history scene seats.old
-        → IsPlayed (play_line line number (entry_meaning node.old.setup scene entry) ends_there)
-        node.old.history node.new.history (K.told sink.old) (K.told sink.new) result }
-    ensures stands { (scene : Scene)
-        → IsScene node.old.setup.centre node.old.history scene seats.old → result ≡ Done
-        → IsScene node.old.setup.centre node.new.history
-        (scene_by scene (entry_meaning node.old.setup scene entry)) seats.new }
-    ensures sent { (scene : Scene)
-        → IsScene node.old.setup.centre node.old.history scene seats.old
-        → EndsSent node.old.setup scene (entry_meaning node.old.setup scene entry) result
-        (K.told sink.old) (K.told sink.new) }
-    ensures setup { node.new.setup ≡ node.old.setup }
-{
-    match seats.note_own(entry.who) {
-        Ok(true) => play_entry(alloc, node, entry, number, sink, text),
-        Ok(false) => ReplayEnd::BadLine { line: number },
-        Err(_) => ReplayEnd::Memory,
-    }
+    node: &'a mut Node,
+    seats: &'a mut Seats,
+    sink: &'a mut K,
+    text: &'a mut Vec<u8>,
 }
 
-/// Has the connection of a link take in what the line with this number gives, unless lines of its own
-/// use the seat, or the connection has ended; and prints what is sent then.
-fn play_given<K: Sink>(
-    alloc: Global,
-    node: &mut Node,
-    seats: &mut Seats,
-    given: LineItem,
-    number: u64,
-    sink: &mut K,
-    text: &mut Vec<u8>,
-) -> ReplayEnd
-    requires fits { IsFit given.item }
-    requires stands { (scene : Scene)
-        × IsScene node.old.setup.centre node.old.history scene seats.old }
-    ensures played { (line : List ℕ) (scene : Scene)
-        → IsScene node.old.setup.centre node.old.history scene seats.old
-        → IsPlayed (play_line line number (received node.old.setup scene (given_seen given))
-        ends_there) node.old.history node.new.history (K.told sink.old) (K.told sink.new) result }
-    ensures stands { (scene : Scene)
-        → IsScene node.old.setup.centre node.old.history scene seats.old → result ≡ Done
-        → IsScene node.old.setup.centre node.new.history
-        (scene_by scene (received node.old.setup scene (given_seen given))) seats.new }
-    ensures sent { (scene : Scene)
-        → IsScene node.old.setup.centre node.old.history scene seats.old
-        → EndsSent node.old.setup scene (received node.old.setup scene (given_seen given)) result
-        (K.told sink.old) (K.told sink.new) }
-    ensures setup { node.new.setup ≡ node.old.setup }
-{
-    match seats.place_of(alloc, node.shared_centre(), given.who) {
-        Ok(Some(place)) => {
-            let conn = &mut seats.conns[place];
-            serve(alloc, node, conn, &given, sink, text)
-        }
-        Ok(None) => ReplayEnd::BadLine { line: number },
-        Err(_) => ReplayEnd::Memory,
-    }
-}
-
-/// Has a connection take in what a line gives, and prints what is sent then.
-fn serve<K: Sink>(
-    alloc: Global,
-    node: &mut Node,
-    conn: &mut Conn,
-    given: &LineItem,
-    sink: &mut K,
-    text: &mut Vec<u8>,
-) -> ReplayEnd
-    requires fits { IsFit given.now.item }
-    requires goes { (scene : Scene) × (scene.past ≡ reverse node.old.history)
-        × LinkGoesOn node.old.setup.centre scene given.now.who conn.old }
-    ensures played { (line : List ℕ) (number : ℕ) (scene : Scene)
-        → scene.past ≡ reverse node.old.history
-        → LinkGoesOn node.old.setup.centre scene given.now.who conn.old
-        → is_unfit given.now.who scene ≡ false
-        → IsPlayed (play_line line number (received node.old.setup scene (given_seen given.now))
-        ends_there) node.old.history node.new.history (K.told sink.old) (K.told sink.new) result }
-    ensures stands { (scene : Scene) → scene.past ≡ reverse node.old.history
-        → LinkGoesOn node.old.setup.centre scene given.now.who conn.old
-        → is_unfit given.now.who scene ≡ false → result ≡ Done
-        → IsBehind node.old.setup.centre scene (given_seen given.now)
-        (scene_by scene (received node.old.setup scene (given_seen given.now)))
-        node.new.history conn.new }
-    ensures sent { (scene : Scene) → scene.past ≡ reverse node.old.history
-        → LinkGoesOn node.old.setup.centre scene given.now.who conn.old
-        → is_unfit given.now.who scene ≡ false
-        → EndsSent node.old.setup scene (received node.old.setup scene (given_seen given.now))
-        result (K.told sink.old) (K.told sink.new) }
-    ensures setup { node.new.setup ≡ node.old.setup }
-{
-    match receive(alloc, node, given.who, conn, &given.item) {
-        Ok(()) => match cut_end(conn) {
-            Some(end) => end,
-            None => {
-                conn.pending_are_octets();
-                print_sent(given.who, conn, sink, text)
+impl<'a, K: Sink> Player<'a, K> {
+    /// Plays all lines of a scenario, over the seats that the node's history has.
+    fn play_lines(&mut self, scenario: &[u8]) -> ReplayEnd
+        requires { StandsIn (first_scene (reverse self.old.node.now.history)) self.old }
+        ensures played { Plays K.told (play_of self.old scenario.now) self.old self.new result }
+        ensures sent { AreSentSoFar self.old.node.now.setup self.old.node.now.history
+            (play_of self.old scenario.now) (is_played_out result)
+            (K.told self.old.sink.now) (K.told self.new.sink.now) }
+        ensures same { IsSamePlayer self.old self.new }
+    {
+        let mut rest = scenario;
+        let mut number = 1;
+        while let Some((line, more)) = next_line(rest) {
+            match self.play_line(line, number) {
+                ReplayEnd::Done => {}
+                end => return end,
             }
-        },
-        Err(_) => ReplayEnd::Memory,
+            rest = more;
+            number += 1;
+        }
+        ReplayEnd::Done
+    }
+
+    /// Plays one line, whose number this is.
+    fn play_line(&mut self, line: &[u8], number: u64) -> ReplayEnd
+        requires { (scene : Scene) × StandsIn scene self.old }
+        ensures plays { (scene : Scene) → StandsIn scene self.old
+            → PlaysLine K.told number scene (line_meaning self.old.node.now.setup scene line.now)
+            self.old self.new result }
+        ensures same { IsSamePlayer self.old self.new }
+    {
+        if is_skipped(line) {
+            return ReplayEnd::Done;
+        }
+        match read_asked(self.alloc, self.node.centre(), line) {
+            Ok(Some(LineRequest::Event(entry))) => self.play_own(entry, number),
+            Ok(Some(LineRequest::Item(given))) => self.play_given(given, number),
+            Ok(None) => ReplayEnd::BadLine { line: number },
+            Err(_) => ReplayEnd::Memory,
+        }
+    }
+
+    /// Takes the entry of the line with this number, unless its seat is a link's.
+    fn play_own(&mut self, entry: Entry, number: u64) -> ReplayEnd
+        ensures plays { (scene : Scene) → StandsIn scene self.old
+            → PlaysLine K.told number scene (entry_meaning self.old.node.now.setup scene entry)
+            self.old self.new result }
+        ensures same { IsSamePlayer self.old self.new }
+    {
+        match self.seats.note_own(entry.who) {
+            Ok(true) => self.play_entry(entry, number),
+            Ok(false) => ReplayEnd::BadLine { line: number },
+            Err(_) => ReplayEnd::Memory,
+        }
+    }
+
+    /// Takes the entry of the line with this number, whose seat was noted, and prints what it is
+    /// answered.
+    fn play_entry(&mut self, entry: Entry, number: u64) -> ReplayEnd
+        ensures plays { (scene : Scene) → HasNoted scene entry.who self.old
+            → PlaysLine K.told number scene (entry_meaning self.old.node.now.setup scene entry)
+            self.old self.new result }
+        ensures same { IsSamePlayer self.old self.new }
+    {
+        let Entry { who, event } = entry;
+        match self.node.step(self.alloc, who, event) {
+            Ok(answer) => print_answer(who, &answer, self.sink, self.text),
+            Err(fault) => refused(fault, number),
+        }
+    }
+
+    /// Has the connection of a link take in what the line with this number gives, unless lines of
+    /// its own use the seat, or the connection has ended; and prints what is sent then.
+    fn play_given(&mut self, given: LineItem, number: u64) -> ReplayEnd
+        requires fits { IsFit given.item }
+        requires stands { (scene : Scene) × StandsIn scene self.old }
+        ensures plays { (scene : Scene) → StandsIn scene self.old
+            → PlaysLine K.told number scene
+            (received self.old.node.now.setup scene (given_seen given)) self.old self.new result }
+        ensures same { IsSamePlayer self.old self.new }
+    {
+        match self
+            .seats
+            .place_of(self.alloc, self.node.shared_centre(), given.who)
+        {
+            Ok(Some(place)) => self.serve(place, &given),
+            Ok(None) => ReplayEnd::BadLine { line: number },
+            Err(_) => ReplayEnd::Memory,
+        }
+    }
+
+    /// Has the connection at a place take in what a line gives, and prints what is sent then.
+    fn serve(&mut self, place: usize, given: &LineItem) -> ReplayEnd
+        requires fits { IsFit given.now.item }
+        requires found { (scene : Scene) × HasFound scene given.now.who place self.old }
+        ensures plays { (number : ℕ) (scene : Scene) → HasFound scene given.now.who place self.old
+            → PlaysLine K.told number scene
+            (received self.old.node.now.setup scene (given_seen given.now))
+            self.old self.new result }
+        ensures same { IsSamePlayer self.old self.new }
+    {
+        let conn = &mut self.seats.conns[place];
+        match receive(self.alloc, self.node, given.who, conn, &given.item) {
+            Ok(()) => match cut_end(conn) {
+                Some(end) => end,
+                None => {
+                    conn.pending_are_octets();
+                    print_sent(given.who, conn, self.sink, self.text)
+                }
+            },
+            Err(_) => ReplayEnd::Memory,
+        }
     }
 }
 
@@ -268,32 +218,6 @@ fn end_of_cut(end: ConnEnd) -> Option<ReplayEnd>
         | ConnEnd::Overflow { .. }
         | ConnEnd::LinkFault
         | ConnEnd::Stopped => None,
-    }
-}
-
-/// Takes the entry of the line with this number, and prints what it is answered.
-fn play_entry<K: Sink>(
-    alloc: Global,
-    node: &mut Node,
-    entry: Entry,
-    number: u64,
-    sink: &mut K,
-    text: &mut Vec<u8>,
-) -> ReplayEnd
-    ensures played { (line : List ℕ) (scene : Scene) → scene.past ≡ reverse node.old.history
-        → is_linked entry.who scene ≡ false
-        → IsPlayed (play_line line number (entry_meaning node.old.setup scene entry) ends_there)
-        node.old.history node.new.history (K.told sink.old) (K.told sink.new) result }
-    ensures sent { (scene : Scene) → scene.past ≡ reverse node.old.history
-        → is_linked entry.who scene ≡ false
-        → EndsSent node.old.setup scene (entry_meaning node.old.setup scene entry) result
-        (K.told sink.old) (K.told sink.new) }
-    ensures setup { node.new.setup ≡ node.old.setup }
-{
-    let Entry { who, event } = entry;
-    match node.step(alloc, who, event) {
-        Ok(answer) => print_answer(who, &answer, sink, text),
-        Err(fault) => refused(fault, number),
     }
 }
 

@@ -3,7 +3,6 @@ use Rattle.std.proofs.Common.{◌≡◌, ◌≢◌, ℕ, Bool, true, false, List
 use Rattle.std.proofs.Common.{drop, refl, sym, ◌∙◌, ap, subst}
 use Rattle.std.specs.Prelude.{Ok, Err, codes}
 use Rattle.std.proofs.Common.{take-append-drop}
-use Rattle.std.proofs.lemmas.List.Concat.{flat_map-append}
 use Rattle.outside.specs.declared.sink.SinkFailed.{SinkFailed}
 use Rattle.outside.specs.Sink.{SinkTold, Appends, AppendsAll, AppendsPart}
 use Rattle.outside.specs.Buffered.{buffered_told, Finishes}
@@ -16,12 +15,13 @@ use Rattle.command_io.specs.declared.status.Status.TheVariants.{Memory}
 use Rattle.command_io.specs.declared.input.Refusal.TheVariants.{BadLine}
 use Rattle.command_io.specs.Saying.{Said, prints, refusal_text, full_text}
 use Rattle.command_io.specs.Runs.{TellsSaid}
-use Rattle.tase_replay.specs.Play.{Step, Played, PlayEnd, done, bad_line, history_full, printed_in}
+use Rattle.tase_replay.specs.Play.{Played, PlayEnd, done, bad_line, history_full, printed_in}
 use Rattle.tase_replay.specs.Play.{shown_of, steps_of}
 use Rattle.tase_replay.specs.Ends.{IsPlayed}
 use Rattle.tase_replay.specs.declared.playing.ReplayEnd.{ReplayEnd}
 use Rattle.tase_replay.specs.declared.playing.ReplayEnd.TheVariants as plays
 use Rattle.tase_views.specs.declared.event.Entry.{Entry}
+use Rattle.tase_replay.proofs.SoFar.{part_front}
 use Rattle.tase_tool.specs.Saying.{said_at, played_said}
 use Rattle.tase_tool.specs.Playing.{EndsPlay}
 
@@ -79,22 +79,12 @@ said_front k l shown (bad_line line) failed part =
 said_front k l shown (history_full weight limit) failed part =
     AppendsPart-front k l shown (full_text weight limit) failed part
 
--- what the first steps print is a front part of what all print
-steps_front : (steps : List Step) (count : ℕ)
-    → printed_in steps ≡ printed_in (take count steps) ++ printed_in (drop count steps)
-steps_front steps count =
-    ap printed_in (sym (take-append-drop count steps))
-    ∙ flat_map-append (λ (step : Step). step.printed) (take count steps) (drop count steps)
-
 AppendsPart-played : (k l : SinkTold) (played : Played) (count : ℕ) (failed : Bool)
     → AppendsPart k l (printed_in (take count (steps_of played))) failed
     → AppendsPart k l (played_said played).text failed
 AppendsPart-played k l played count failed part =
     said_front k l (shown_of played) played.end failed
-    (subst (λ (octets : List ℕ). AppendsPart k l octets failed)
-    (sym (steps_front (steps_of played) count))
-    (AppendsPart-front k l (printed_in (take count (steps_of played)))
-    (printed_in (drop count (steps_of played))) failed part))
+    (part_front k l (steps_of played) count failed part)
 
 -- how a play ended is told behind what its lines show
 pub Tells-played : (played : Played) (history now : List Entry) (k m l : SinkTold)
