@@ -35,7 +35,8 @@ use Rattle.tase_conn.specs.declared.stage.Stage.{Stage}
 use Rattle.tase_conn.specs.declared.stage.Stage.TheVariants as stages
 use Rattle.tase_conn.specs.Talking.{Talking}
 use Rattle.tase_conn.specs.Places.{Runs, GoesBy, EndsWithTurn, IsAskedAt, turn_for}
-use Rattle.tase_conn.specs.Places.{is_connected, standing_by, served_standing, IsAgreed}
+use Rattle.tase_conn.specs.Places.{Position, IsAgreed}
+use Rattle.tase_conn.proofs.Known.{served_position, asked_connected}
 use Rattle.tase_conn.specs.Answering.{told_said, stage_told, progress_told, progress_by}
 use Rattle.tase_conn.specs.Answering.{detail_in}
 use Rattle.tase_conn.specs.Answering.{progress_closed, answer_said, closed_said, stage_closed}
@@ -229,7 +230,7 @@ opened_follows rows past who items octets event answer old peer offered s p r ri
     ∙ ap (λ (x : Answer). answer_said old.course old.stage asked x) answer_is in
     let says = opened_says rows past who items s.told s.answered title peer offered octets
     old.course r.stands
-    (r.connected ∙ ap (λ (x : Stage). is_connected x asked old.held) early)
+    (asked_connected r tt)
     (subst (λ (x : Stage). IsAgreed s.told x asked) early r.agreed) a.goes none before.1 in
     record {
       progress = progresses.Running askeds.Nothing;
@@ -271,7 +272,7 @@ requested_follows rows past who items octets event answer old invoke s p r right
     (own_table rows o.key.peer) (view_of rows o.key.peer past) o.key.ordinal call))) w.stage_is in
     let says = requested_says rows past who items s.told s.answered invoke call w.detail octets
     old.course r.stands
-    (r.connected ∙ ap (λ (x : Stage). is_connected x asked old.held) w.stage_is)
+    (asked_connected r tt)
     (subst (λ (x : Stage). IsAgreed s.told x asked) w.stage_is r.agreed) o in
     record {
       progress = progresses.Running askeds.Nothing;
@@ -348,11 +349,9 @@ closed_follows rows past who items octets event answer old cause s p r right =
     let said_is : told_said old.progress old.stage old.course (Ok answer) ≡ close =
     ap (λ (x : Progress). told_said x old.stage old.course (Ok answer)) p
     ∙ ap (λ (x : Answer). answer_said old.course old.stage asked x) answer_is in
-    let standing : old.course.standing ≡ served_standing asked None =
-    r.standing ∙ ap (λ (x : Stage). standing_by x asked old.held) w.stage_is
-    ∙ ap (λ (h : Option Coming). served_standing asked h) w.held_is in
+    let standing = ap (λ (x : Position). x.standing) (served_position r tt) in
     let says = closed_says rows past who items s.told s.answered cause octets old.course r.stands
-    (r.connected ∙ ap (λ (x : Stage). is_connected x asked old.held) w.stage_is) standing o in
+    (asked_connected r tt) standing o in
     let after = progress_closed cause in
     record {
       progress = after;

@@ -38,8 +38,9 @@ use Rattle.tase_conn.specs.declared.stage.Stage.{Stage}
 use Rattle.tase_conn.specs.declared.stage.Stage.TheVariants as stages
 use Rattle.tase_conn.specs.PeerEnd.{end_at}
 use Rattle.tase_conn.specs.Talking.{Talking, pending_of, IsFree}
-use Rattle.tase_conn.specs.Places.{Runs, IsReadToEnd, EndsWithTurn, is_connected}
+use Rattle.tase_conn.specs.Places.{Runs, IsReadToEnd, EndsWithTurn, Reach}
 use Rattle.tase_conn.specs.Places.{has_begun, has_finished}
+use Rattle.tase_conn.proofs.Known.{begun_connected}
 use Rattle.tase_conn.specs.Wanting.{quiet_at, quiet_behind, refusal_said, ReadsOn}
 use Rattle.tase_conn.specs.Wanting.{Passes, IsIdle, AreAllTurns, StaysEnded, WantsBy, Wants}
 use Rattle.tase_conn.specs.Wanting as wanting
@@ -519,7 +520,7 @@ says_end rows past who items told later turns more octets octets_more end stages
     ∙ ap (λ (es : List EventKind). es ++ asks_behind rows turns n.quiet_front)
     (sym asked ∙ ap (λ (es : List EventKind). reverse es) says.0) ∙ n.none in
     let unbegun = tests_kept (begins rows) refl turns n.quiet_front front false n.front_is alone
-    (r.begun ∙ ap (λ (x : Stage). has_begun x askeds.Nothing) st) in (
+    (ap (λ (x : Reach). x.begun) r.reached ∙ ap (λ (x : Stage). has_begun x) st) in (
       says.0,
       early_end rows items told later (turns ++ more) octets octets_more end e b none unbegun
           says.1 added,
@@ -528,19 +529,19 @@ says_end rows past who items told later turns more octets octets_more end
     (stages.Open peer detail) old i e b n r st asked alone follows added says =
     let front = b.ends.front in
     let begun = tests_kept (begins rows) refl turns n.quiet_front front true n.front_is alone
-    (r.begun ∙ ap (λ (x : Stage). has_begun x askeds.Nothing) st) in
+    (ap (λ (x : Reach). x.begun) r.reached ∙ ap (λ (x : Stage). has_begun x) st) in
     let unfinished = tests_kept finishes refl turns n.quiet_front front false n.front_is alone
-    (r.finished ∙ ap (λ (x : Stage). has_finished x askeds.Nothing) st) in
+    (ap (λ (x : Reach). x.finished) r.reached ∙ ap (λ (x : Stage). has_finished x) st) in
     absurd (never_open rows front b.last (open_of_tests rows front true false begun unfinished)
     b.is b.ends.goes follows n.last_none)
 says_end rows past who items told later turns more octets octets_more end (stages.Closed peer) old
     i e b n r st asked alone follows added says =
     let front = b.ends.front in
-    let connect = r.connected ∙ ap (λ (x : Stage). is_connected x askeds.Nothing old.held) st in
+    let connect = begun_connected r (ap (λ (x : Stage). has_begun x) st) in
     let begun = tests_kept (begins rows) refl turns n.quiet_front front true n.front_is alone
-    (r.begun ∙ ap (λ (x : Stage). has_begun x askeds.Nothing) st) in
+    (ap (λ (x : Reach). x.begun) r.reached ∙ ap (λ (x : Stage). has_begun x) st) in
     let finished = tests_kept finishes refl turns n.quiet_front front true n.front_is alone
-    (r.finished ∙ ap (λ (x : Stage). has_finished x askeds.Nothing) st) in
+    (ap (λ (x : Reach). x.finished) r.reached ∙ ap (λ (x : Stage). has_finished x) st) in
     closed_end rows past who items told later turns more octets octets_more end old b n r connect
     (open_of_tests rows front true true begun finished) begun follows
     (none_answered rows items told later (turns ++ more) end old i e askeds.Nothing turns r connect)
@@ -560,7 +561,8 @@ ends_on rows past who items octets octets_more end old new s p st q g pending =
     let r = goes_at s.stands p in
     let e = (goes_at g.stands q).0 in
     let b = at_end rows items told turns end e in
-    let n = ending rows s.turns g.more b.last b.ends b.is r.ending g.asks_are in
+    let n = ending rows s.turns g.more b.last b.ends b.is (ap (λ (x : Reach). x.ending) r.reached)
+    g.asks_are in
     let follow : AllFollow [] (b.ends.front ++ b.last ∷ b.rest) =
     subst (λ (ts : List Turn). AllFollow [] ts)
     (b.all ∙ ap (λ (ts : List Turn). ts ++ b.rest) b.ends.is
@@ -569,7 +571,7 @@ ends_on rows past who items octets octets_more end old new s p st q g pending =
     let goes : list_any (is_last rows) (s.turns ++ n.quiet_front) ≡ false =
     ap (λ (ts : List Turn). list_any (is_last rows) ts) (sym n.front_is) ∙ b.ends.goes in
     let alone : without_pauses n.quiet_front ≡ [] =
-    silent rows s.turns n.quiet_front (b.last ∷ b.rest) r.ending
+    silent rows s.turns n.quiet_front (b.last ∷ b.rest) (ap (λ (x : Reach). x.ending) r.reached)
     (any_back (is_last rows) s.turns n.quiet_front goes)
     (follow_behind [] s.turns (n.quiet_front ++ b.last ∷ b.rest)
     (subst (λ (ts : List Turn). AllFollow [] ts)
@@ -614,7 +616,7 @@ rests_running rows past who items octets octets_more old new s p st q g pending 
     let turns = s.turns ++ g.more in
     let n = goes_at g.stands q in
     let none = quiet_none rows (setup_after told) s.turns g.more
-    (any_back (is_last rows) s.turns g.more n.ending) in
+    (any_back (is_last rows) s.turns g.more (ap (λ (x : Reach). x.ending) n.reached)) in
     goes_on rows past who items octets octets_more old new s g.later g.more p q st g.stands
     g.asks_are
     (append_cancel_left (pending_of old) octets_more (answers_to called g.later)

@@ -16,7 +16,7 @@ use Rattle.tase_conn.specs.declared.stage.Progress.TheVariants as progresses
 use Rattle.tase_conn.specs.declared.stage.Stage.{Stage}
 use Rattle.tase_conn.specs.declared.stage.Stage.TheVariants as stages
 use Rattle.tase_conn.specs.Talking.{Talking}
-use Rattle.tase_conn.specs.Places.{ConnStandsAt, has_begun}
+use Rattle.tase_conn.specs.Places.{ConnStandsAt, Reach, has_begun}
 use Rattle.tase_conn.specs.Taken.{TakesIn}
 use Rattle.conn_laws.specs.Serving.{AreOthers, IsWaiting, SaysEarly, SaysOpen, SaysBy, Serves, IsAllSaid}
 use Rattle.conn_laws.specs.Serving.{IsSaidButOwed}
@@ -26,7 +26,7 @@ use Rattle.conn_laws.proofs.TurnLists.{one_item_more}
 
 -- ---- at the beginning
 
-unbegun : (stage : Stage) → false ≡ has_begun stage askeds.Nothing → stage ≡ stages.Early
+unbegun : (stage : Stage) → false ≡ has_begun stage → stage ≡ stages.Early
 unbegun stages.Early e = refl
 unbegun (stages.Open peer detail) e = absurd (false≢true e)
 unbegun (stages.Closed peer) e = absurd (false≢true e)
@@ -36,7 +36,7 @@ pub begun_serves : (rows : CentreRows) (past : Past) (who : ℕ) (v : Talking)
     → v.progress ≡ progresses.Running askeds.Nothing → Serves rows past who [] [] None v
 begun_serves rows past who v none stands p =
     let r = goes_at stands p in
-    let early = unbegun v.stage r.begun in
+    let early = unbegun v.stage (ap (λ (x : Reach). x.begun) r.reached) in
     record {
       told = [];
       turns = [];

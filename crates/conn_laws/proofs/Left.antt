@@ -37,8 +37,9 @@ use Rattle.tase_conn.specs.declared.stage.Progress.TheVariants as progresses
 use Rattle.tase_conn.specs.declared.stage.Stage.{Stage}
 use Rattle.tase_conn.specs.declared.stage.Stage.TheVariants as stages
 use Rattle.tase_conn.specs.Talking.{Talking, pending_of, is_open_stage}
-use Rattle.tase_conn.specs.Places.{ConnStandsAt, Runs, BeginsTurns, is_connected, early_standing}
-use Rattle.tase_conn.specs.Places.{standing_by}
+use Rattle.tase_conn.specs.Places.{ConnStandsAt, Runs, BeginsTurns, has_begun, Position}
+use Rattle.tase_conn.specs.Places.{position_by, Reach}
+use Rattle.tase_conn.proofs.Known.{opening_position, begun_connected, early_unaccepted}
 use Rattle.tase_conn.specs.Answering.{told_said, end_of_fault, aborts, aborted, parting_octets, IsAnswerFor}
 use Rattle.tase_conn.specs.Answering.{stage_closed}
 use Rattle.tase_conn.specs.Answering.{progress_told, stage_told}
@@ -106,20 +107,6 @@ unparted course end e =
     by_end true e = e
     by_end false e = refl
 
-early_unaccepted : (held : Option Coming) → is_accepted (early_standing askeds.Nothing held) ≡ false
-early_unaccepted None = refl
-early_unaccepted (Some (comings.Input (inputs.Offer title initiate))) = refl
-early_unaccepted (Some (comings.Input inputs.BadOffer)) = refl
-early_unaccepted (Some (comings.Input (inputs.Accepted initiate))) = refl
-early_unaccepted (Some (comings.Input (inputs.Pdu pdu))) = refl
-early_unaccepted (Some (comings.Input (inputs.BadRequest invoke))) = refl
-early_unaccepted (Some (comings.Input inputs.Released)) = refl
-early_unaccepted (Some (comings.Input inputs.Aborted)) = refl
-early_unaccepted (Some (comings.Input inputs.Refused)) = refl
-early_unaccepted (Some (comings.Fault fault)) = refl
-early_unaccepted (Some comings.Pause) = refl
-early_unaccepted (Some comings.End) = refl
-
 -- ---- what was said before
 
 -- what was said, where it is left now
@@ -162,8 +149,7 @@ open_kept rows past who items octets event end old peer offered s p r =
     let early = opens_early peer offered old.stage old.held r.waits in
     let before = says_at s early p in
     early_kept rows past who items s.told s.answered octets end old early
-    (ap (λ (x : EndState). is_accepted x)
-    (r.standing ∙ ap (λ (x : Stage). standing_by x asked old.held) early)) before.0 s.asked
+    (ap (λ (x : Position). is_accepted x.standing) (opening_position r)) before.0 s.asked
     (has_front (text_given items) s.told old.course r.stands) before.1
 
 -- of what it is sent while its association is open nothing is missing
@@ -194,7 +180,7 @@ served_kept : (rows : CentreRows) (past : Past) (who : ℕ) (items : List Item)
 served_kept rows past who items told turns answered octets end asked peer detail old r st before
     says =
     let standing = old.course.standing in
-    let connect = r.connected ∙ ap (λ (x : Stage). is_connected x asked old.held) st in
+    let connect = begun_connected r (ap (λ (x : Stage). has_begun x) st) in
     let none : left_said old.stage old.course end ≡ [] =
     ap (λ (x : Stage). left_said x old.course end) st in
     subst (λ (os : List ℕ). LeftBy true old.stage end standing old.course rows past who items
@@ -363,7 +349,7 @@ concluded_kept : (rows : CentreRows) (past : Past) (who : ℕ) (items : List Ite
     → IsKept true rows past who items answered octets end old
 concluded_kept rows past who items told answered octets end peer old r st before says =
     let standing = old.course.standing in
-    let connect = r.connected ∙ ap (λ (x : Stage). is_connected x askeds.Nothing old.held) st in
+    let connect = begun_connected r (ap (λ (x : Stage). has_begun x) st) in
     let setup = setup_known items told answered rows answered askeds.Nothing old r connect in
     let part : left_said old.stage old.course end ≡ parting_octets old.course end =
     ap (λ (x : Stage). left_said x old.course end) st in
@@ -394,8 +380,8 @@ idle_kept : (rows : CentreRows) (past : Past) (who : ℕ) (items : List Item) (t
     → IsKept true rows past who items answered octets end old
 idle_kept rows past who items told answered octets end stages.Early old r st before says =
     early_kept rows past who items told answered octets end old st
-    (ap (λ (x : EndState). is_accepted x)
-    (r.standing ∙ ap (λ (x : Stage). standing_by x askeds.Nothing old.held) st)
+    (ap (λ (x : Position). is_accepted x.standing)
+    (r.at ∙ ap (λ (x : Stage). position_by x askeds.Nothing old.held) st)
     ∙ early_unaccepted old.held) says.0 before
     (has_front (text_given items) told old.course r.stands) says.1
 idle_kept rows past who items told answered octets end (stages.Open peer detail) old r st before
@@ -417,7 +403,7 @@ given_up rows past who items octets octets_more end old new s p stands left pend
     let says = says_now s p in
     leaves true rows past who items s.told s.turns s.turns octets octets_more end old new s.input
     stands left pending
-    (up_to_read rows items s.turns r.ending
+    (up_to_read rows items s.turns (ap (λ (x : Reach). x.ending) r.reached)
     (begins_turns rows items s.told s.turns askeds.Nothing old r))
     (idle_kept rows past who items s.told s.turns octets end old.stage old r refl
     (s.asked ∙ ap (λ (ts : List Turn). asks_behind rows [] ts) (sym s.are)) says)

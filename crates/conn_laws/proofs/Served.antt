@@ -40,7 +40,7 @@ use Rattle.tase_conn.specs.declared.stage.Stage.{Stage}
 use Rattle.tase_conn.specs.declared.stage.Stage.TheVariants as stages
 use Rattle.tase_conn.specs.Talking.{Talking, IsResting}
 use Rattle.tase_conn.specs.Places.{Runs, IsDone, ReadsBy}
-use Rattle.tase_conn.specs.Places.{BeginsTurns, turns_held, fault_seen}
+use Rattle.tase_conn.specs.Places.{BeginsTurns, turns_held, Position, position_by, Reach}
 use Rattle.tase_conn.proofs.LastTurns.{or_left, goes_front, uncut, at_end, brought_whole}
 use Rattle.tase_map.proofs.AskedOn.{asks_join}
 use Rattle.conn_laws.specs.Serving.{IsWaiting, SaysBy, Serves, IsAllSaid, IsSaidButOwed}
@@ -173,7 +173,8 @@ pub all_done : (rows : CentreRows) (items : List Item) (told : List Arrival) (tu
     → IsDone items told (turns ++ []) v
 all_done rows items told turns v at r =
     let clear : v.course.fault ≡ None =
-    r.fault ∙ ap (λ (h : Option Coming). fault_seen h askeds.Nothing) at.acted in
+    ap (λ (p : Position). p.fault) (r.at
+    ∙ ap (λ (h : Option Coming). position_by v.stage askeds.Nothing h) at.acted) in
     let P : Option StackFault → Type 0 = λ f. MatchOption f
     (ReadsBy v.behind items told (turns ++ turns_held v.held) v)
     (λ fault. BeginsTurns (turns ++ turns_held v.held) (turns_of items)) in
@@ -212,10 +213,10 @@ running_served rows past who items octets v s p at =
     let says = says_now s p in
     record {
       asked = s.asked ∙ ap (λ (ts : List Turn). asks_behind rows [] ts)
-          (sym s.are ∙ sym (uncut rows s.turns r.ending)
+          (sym s.are ∙ sym (uncut rows s.turns (ap (λ (x : Reach). x.ending) r.reached))
           ∙ ap (λ (ts : List Turn). up_to_last rows ts) (sym t));
       octets = running_said rows past who items s.told s.turns octets v.stage s.input t d.told_is
-          r.ending says;
+          (ap (λ (x : Reach). x.ending) r.reached) says;
     }
 
 -- ---- at its end

@@ -1,5 +1,5 @@
 -- What was said behind each answer.
-use Rattle.std.proofs.Common.{◌≡◌, ℕ, ℤ, ◌≤◌, Bool, true, false, List, [], ◌∷◌, ◌++◌, Option, None}
+use Rattle.std.proofs.Common.{pos, ◌≡◌, ℕ, ℤ, ◌≤◌, Bool, true, false, List, [], ◌∷◌, ◌++◌, Option, None}
 use Rattle.std.proofs.Common.{refl, sym, ap, ◌∙◌, append_assoc, arith}
 use Rattle.std.specs.Prelude.{is_some, if◌then◌else◌}
 use Rattle.std.specs.List.{list_any}
@@ -39,8 +39,9 @@ use Rattle.tase_map.proofs.Passing.{left_asked, quiet_event, none_sent, all_left
 use Rattle.tase_map.proofs.Uncut.{without-append}
 use Rattle.tase_conn.specs.declared.stage.Cause.{Cause}
 use Rattle.tase_conn.specs.declared.stage.Cause.TheVariants as causes
+use Rattle.tase_conn.specs.declared.stage.Stage.TheVariants as stages
 use Rattle.tase_conn.specs.declared.stage.PendingEvent.TheVariants as askeds
-use Rattle.tase_conn.specs.Places.{IsGranted, turn_for, served_standing}
+use Rattle.tase_conn.specs.Places.{IsGranted, turn_for, position_at, with_coming, coming_by}
 use Rattle.tase_conn.specs.Answering.{closed_said, progress_closed, aborted}
 use Rattle.conn_laws.specs.Serving.{SaysOpen, SaysClosed, owed}
 use Rattle.conn_laws.proofs.AskedCalls.{input_calls}
@@ -191,9 +192,13 @@ taken_says rows past who items answered octets o =
 
 -- ---- a close
 
+-- how the end of an open association stands behind what ends it
+abbrev pub standing_by : Cause → EndState
+standing_by cause = (with_coming (coming_by cause) (position_at (stages.Open 0 (pos 0)))).standing
+
 -- the octets of an end by this cause
 closed_octets : (cause : Cause) (v : Course) (setup : AssociationSetup) (rest : List Turn)
-    → v.standing ≡ served_standing (askeds.Closing cause) None → v.setup ≡ setup
+    → v.standing ≡ standing_by cause → v.setup ≡ setup
     → closed_said v cause ++ owed (progress_closed cause) setup rest
     ≡ close_octets setup (turn_for cause ∷ rest)
 closed_octets causes.Concluded v setup rest a e =
@@ -218,7 +223,7 @@ turn_kept (causes.Broken fault) rest = refl
 pub closed_says : (rows : CentreRows) (past : Past) (who : ℕ) (items : List Item)
     (told : List Arrival) (answered : List Turn) (cause : Cause) (octets : List ℕ) (v : Course)
     → CourseStands called (text_given items) told v → is_some (first_in connect_in told) ≡ true
-    → v.standing ≡ served_standing (askeds.Closing cause) None
+    → v.standing ≡ standing_by cause
     → SaysOpen rows past who items answered octets
     → SaysClosed (progress_closed cause) rows (with_event who events.Close past) who items
     (answered ++ turn_for cause ∷ []) (octets ++ closed_said v cause)

@@ -25,7 +25,8 @@ use Rattle.tase_conn.specs.declared.stage.Progress.TheVariants as progresses
 use Rattle.tase_conn.specs.declared.stage.Stage.{Stage}
 use Rattle.tase_conn.specs.declared.stage.Stage.TheVariants as stages
 use Rattle.tase_conn.specs.Talking.{Talking, pending_of}
-use Rattle.tase_conn.specs.Places.{ConnStandsAt, Runs, BeginsTurns, is_connected}
+use Rattle.tase_conn.specs.Places.{ConnStandsAt, Runs, BeginsTurns}
+use Rattle.tase_conn.proofs.Known.{asked_connected}
 use Rattle.tase_conn.specs.Answering.{stage_told, told_said}
 use Rattle.tase_conn.specs.Leaving.{IsLeft}
 use Rattle.conn_laws.specs.Cutting.{HasLeft, LeftBy, LeftOpen, HasSetupOf, left_said, parting}
@@ -46,17 +47,10 @@ connected_asked : (rows : CentreRows) (items : List Item) (told : List Arrival) 
     → is_some (first_in connect_in told) ≡ true
 connected_asked rows items told turns askeds.Nothing event v w r = absurd w
 connected_asked rows items told turns (askeds.Opening peer offered) event v w r =
-    r.connected ∙ ap (λ (x : Stage). is_connected x (askeds.Opening peer offered) v.held)
-    (opens_early peer offered v.stage v.held r.waits)
-connected_asked rows items told turns (askeds.Requesting invoke) event v w r =
-    r.connected ∙ ap (λ (x : Stage). is_connected x (askeds.Requesting invoke) v.held)
-    (request_served invoke v.stage v.held r.waits).stage_is
-connected_asked rows items told turns askeds.Taking event v w r =
-    r.connected ∙ ap (λ (x : Stage). is_connected x askeds.Taking v.held)
-    (take_served v.stage v.held r.waits).stage_is
-connected_asked rows items told turns (askeds.Closing cause) event v w r =
-    r.connected ∙ ap (λ (x : Stage). is_connected x (askeds.Closing cause) v.held)
-    (close_served cause v.stage v.held r.waits).stage_is
+    asked_connected r tt
+connected_asked rows items told turns (askeds.Requesting invoke) event v w r = asked_connected r tt
+connected_asked rows items told turns askeds.Taking event v w r = asked_connected r tt
+connected_asked rows items told turns (askeds.Closing cause) event v w r = asked_connected r tt
 
 -- the turns with that which asked for the event begin those up to the last
 read_with : (rows : CentreRows) (past : Past) (who : ℕ) (items : List Item) (octets : List ℕ)

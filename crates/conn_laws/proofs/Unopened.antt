@@ -27,7 +27,8 @@ use Rattle.tase_conn.specs.declared.stage.Progress.{Progress}
 use Rattle.tase_conn.specs.declared.stage.Progress.TheVariants as progresses
 use Rattle.tase_conn.specs.declared.stage.Stage.{Stage}
 use Rattle.tase_conn.specs.Talking.{Talking}
-use Rattle.tase_conn.specs.Places.{Runs, is_connected}
+use Rattle.tase_conn.specs.Places.{Runs}
+use Rattle.tase_conn.proofs.Known.{asked_connected}
 use Rattle.conn_laws.specs.Serving.{IsWaiting, Serves}
 use Rattle.conn_laws.proofs.Answered.{asked_turn, opens_early}
 use Rattle.conn_laws.proofs.Ended.{declined_told}
@@ -51,7 +52,7 @@ opening_said rows past who items octets event v peer offered s p r =
     let before = says_at s early p in
     let none : asks_behind rows [] s.answered ≡ [] =
     sym s.asked ∙ ap (λ (es : List EventKind). reverse es) before.0 in
-    let connect = r.connected ∙ ap (λ (x : Stage). is_connected x asked v.held) early in
+    let connect = asked_connected r tt in
     let x = fixed_over items [] s.told v.course r.stands connect in
     let whole = reading_of (text_given items) in
     let answers : answers_to called whole.told ≡ answers_to called s.told =

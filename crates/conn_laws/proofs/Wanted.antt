@@ -27,8 +27,9 @@ use Rattle.tase_conn.specs.declared.stage.Progress.TheVariants as progresses
 use Rattle.tase_conn.specs.declared.stage.Stage.{Stage}
 use Rattle.tase_conn.specs.declared.stage.Stage.TheVariants as stages
 use Rattle.tase_conn.specs.Talking.{Talking, pending_of}
-use Rattle.tase_conn.specs.Places.{ConnStandsAt, Runs, EndsWithTurn, is_connected, turn_for}
-use Rattle.tase_conn.specs.Places.{has_begun, has_finished}
+use Rattle.tase_conn.specs.Places.{ConnStandsAt, Runs, EndsWithTurn, turn_for}
+use Rattle.tase_conn.specs.Places.{Reach, has_begun, has_finished}
+use Rattle.tase_conn.proofs.Known.{begun_connected}
 use Rattle.tase_conn.specs.Wanting.{quiet_at, quiet_behind, ReadsOn, WaitsFor}
 use Rattle.tase_conn.proofs.Composed.{quiet_join}
 use Rattle.tase_map.proofs.AskedOn.{asks_join}
@@ -48,10 +49,10 @@ unanswered : (rows : CentreRows) (items : List Item) (told later : List Arrival)
     (turns more : List Turn) (asked : PendingEvent) (stage : Stage) (old new : Talking)
     → Runs rows items told turns askeds.Nothing old
     → Runs rows items (told ++ later) more asked new → old.stage ≡ stage
-    → is_connected stage askeds.Nothing old.held ≡ true → answers_to called later ≡ []
+    → has_begun stage ≡ true → answers_to called later ≡ []
 unanswered rows items told later turns more asked stage old new r n st connected =
     connected_once (text_given items) told later
-    (r.connected ∙ ap (λ (x : Stage). is_connected x askeds.Nothing old.held) st ∙ connected)
+    (begun_connected r (ap (λ (x : Stage). has_begun x) st ∙ connected))
     (has_front (text_given items) (told ++ later) new.course n.stands)
 
 none_said : (octets more later : List ℕ) → more ≡ later → later ≡ [] → octets ++ more ≡ octets
@@ -121,8 +122,8 @@ goes_on rows past who items octets octets_more old new s later more p q st stand
     let before = says_now s p in
     let says = says_on rows past who items s.told later s.turns turns more askeds.Nothing old.stage
     octets octets_more old new r n refl before said
-    (any_front (is_last rows) s.turns more n.ending)
-    (any_back (is_last rows) s.turns more n.ending) none in
+    (any_front (is_last rows) s.turns more (ap (λ (x : Reach). x.ending) n.reached))
+    (any_back (is_last rows) s.turns more (ap (λ (x : Reach). x.ending) n.reached)) none in
     record {
       told = told;
       turns = turns;
@@ -206,9 +207,10 @@ asks_one rows items told turns askeds.Taking event v w r =
       asks = ap (λ (b : Bool). event_if b events.Take)
           (open_where rows r.last.front
           (any_but (begins rows) r.last.front turns pauses true r.last.is refl
-          (r.begun ∙ ap (λ (x : Stage). has_begun x askeds.Taking) at.stage_is))
+          (ap (λ (x : Reach). x.begun) r.reached ∙ ap (λ (x : Stage). has_begun x) at.stage_is))
           (any_but finishes r.last.front turns pauses false r.last.is refl
-          (r.finished ∙ ap (λ (x : Stage). has_finished x askeds.Taking) at.stage_is)));
+          (ap (λ (x : Reach). x.finished) r.reached
+          ∙ ap (λ (x : Stage). has_finished x) at.stage_is)));
     }
 asks_one rows items told turns (askeds.Closing cause) event v w r =
     let at = close_served cause v.stage v.held r.waits in
@@ -219,7 +221,7 @@ asks_one rows items told turns (askeds.Closing cause) event v w r =
       one = events.Close;
       asks = one_close rows e.front cause (open_where rows e.front
           (any_but (begins rows) e.front turns (turn_for cause) true e.is (begins_none rows cause)
-          (r.begun ∙ ap (λ (x : Stage). has_begun x (askeds.Closing cause)) at.stage_is))
+          (ap (λ (x : Reach). x.begun) r.reached ∙ ap (λ (x : Stage). has_begun x) at.stage_is))
           r.last.1);
     }
 

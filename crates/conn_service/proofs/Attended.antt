@@ -16,7 +16,7 @@ use Rattle.tase_conn.specs.declared.stage.PendingEvent.TheVariants as askeds
 use Rattle.tase_conn.specs.declared.stage.Progress.{Progress}
 use Rattle.tase_conn.specs.declared.stage.Progress.TheVariants as progresses
 use Rattle.tase_conn.specs.Talking.{Talking, pending_of, conn_end_in, IsResting}
-use Rattle.tase_conn.specs.Places.{GoesBy, Runs, IsReadToEnd, ReadsNoMore}
+use Rattle.tase_conn.specs.Places.{GoesBy, Runs, Reach, IsReadToEnd, ReadsNoMore}
 use Rattle.conn_laws.specs.Serving.{Serves, IsWaiting, HasServed}
 use Rattle.tase_map.specs.Sent.{with_event}
 use Rattle.conn_laws.proofs.Served.{has_served, all_done}
@@ -149,7 +149,7 @@ end_so rows past who items said v (progresses.Running askeds.Nothing) s e w rest
     let t : turns_of items ≡ s.turns =
     sym (all_done rows items s.told s.turns v rests r).seen_is ∙ append-nil s.turns in
     ap (λ (x : Progress). conn_end_in x) e
-    ∙ sym (none_brought rows items (ap (λ (ts : List Turn). list_any (is_last rows) ts) t ∙ r.ending))
+    ∙ sym (none_brought rows items (ap (λ (ts : List Turn). list_any (is_last rows) ts) t ∙ (ap (λ (x : Reach). x.ending) r.reached)))
 end_so rows past who items said v (progresses.Running (askeds.Opening peer granted)) s e w rests =
     absurd w
 end_so rows past who items said v (progresses.Running (askeds.Requesting invoke)) s e w rests =

@@ -23,7 +23,7 @@ use Rattle.tase_conn.specs.declared.stage.ConnEnd.TheVariants as conn_ends
 use Rattle.tase_conn.specs.declared.stage.Progress.{Progress}
 use Rattle.tase_conn.specs.declared.stage.Progress.TheVariants as progresses
 use Rattle.tase_conn.specs.Talking.{Talking, pending_of, is_open_stage, is_running, MayLeave}
-use Rattle.tase_conn.specs.Places.{IsPlaced, GoesBy, KeepsPlace, Runs}
+use Rattle.tase_conn.specs.Places.{IsPlaced, GoesBy, KeepsPlace, Runs, Reach}
 use Rattle.tase_conn.specs.Wanting.{PassesSo, IsIdle}
 use Rattle.tase_conn.specs.Leaving.{IsLeft}
 use Rattle.tase_conn.specs.Answering.{unnoted}
@@ -231,7 +231,7 @@ front_of rows past who items said v s e =
       asks_behind rows s.turns (up_to_last rows f.0),
       ap (λ (ts : List Turn). asks_behind rows [] (up_to_last rows ts)) f.1
           ∙ ap (λ (ts : List Turn). asks_behind rows [] ts)
-          (goes_front rows s.turns f.0 r.ending)
+          (goes_front rows s.turns f.0 (ap (λ (x : Reach). x.ending) r.reached))
           ∙ asks_join rows [] s.turns (up_to_last rows f.0)
           ∙ ap (λ (es : List EventKind). es ++ asks_behind rows s.turns (up_to_last rows f.0))
           (ap (λ (ts : List Turn). asks_behind rows [] ts) s.are ∙ sym s.asked),

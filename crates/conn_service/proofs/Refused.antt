@@ -35,8 +35,9 @@ use Rattle.tase_conn.specs.declared.stage.Progress.TheVariants as progresses
 use Rattle.tase_conn.specs.declared.stage.Stage.{Stage}
 use Rattle.tase_conn.specs.declared.stage.Stage.TheVariants as stages
 use Rattle.tase_conn.specs.Talking.{Talking, pending_of, is_open_stage}
-use Rattle.tase_conn.specs.Places.{GoesBy, Runs, ReadsBy, IsDone, is_connected, standing_by}
-use Rattle.tase_conn.specs.Places.{BeginsTurns, IsPassed, KeepsPlace, fault_seen, turns_held}
+use Rattle.tase_conn.specs.Places.{GoesBy, Runs, ReadsBy, IsDone, Position, has_begun}
+use Rattle.tase_conn.specs.Places.{BeginsTurns, IsPassed, KeepsPlace, turns_held}
+use Rattle.tase_conn.proofs.Known.{begun_connected, served_position, opening_position}
 use Rattle.tase_conn.specs.Leaving.{IsLeft}
 use Rattle.tase_conn.specs.Answering.{parting_octets, IsAnswerFor, aborts as aborts_for}
 use Rattle.tase_conn.specs.Answering.{end_of_fault}
@@ -77,32 +78,16 @@ refused_at : (rows : CentreRows) (past : Past) (who : ℕ) (items : List Item) (
     → (s : Serves rows past who items said (Some event) v)
     → Runs rows items s.told s.turns asked v → IsServedAt v.stage v.held
     → turns_of items ≡ s.answered ++ rest → IsUnexplained (without_pauses rest)
-    → ((stage : Stage) → is_open_stage stage ≡ true
-    → is_accepted (standing_by stage asked None) ≡ true)
-    → Refused items s.answered v
-refused_at rows past who items said event asked rest v s r w is un standing =
-    let connect = r.connected ∙ ap (λ (x : Stage). is_connected x asked v.held) w.stage_is in
+    → is_accepted v.course.standing ≡ true → Refused items s.answered v
+refused_at rows past who items said event asked rest v s r w is un accepted =
+    let connect = begun_connected r (ap (λ (x : Stage). has_begun x) w.stage_is) in
     record {
       rest = rest;
       is = is;
       unexplained = un;
-      accepted = ap (λ (x : EndState). is_accepted x) (r.standing
-          ∙ ap (λ (h : Option Coming). standing_by v.stage asked h) w.held_is)
-          ∙ standing v.stage (ap (λ (x : Stage). is_open_stage x) w.stage_is);
+      accepted = accepted;
       setup = setup_known items s.told s.answered rows s.turns asked v r connect;
     }
-
-stands_asking : (invoke : ℕ) (stage : Stage) → is_open_stage stage ≡ true
-    → is_accepted (standing_by stage (askeds.Requesting invoke) None) ≡ true
-stands_asking invoke stages.Early e = absurd (false≢true e)
-stands_asking invoke (stages.Open peer detail) e = refl
-stands_asking invoke (stages.Closed peer) e = absurd (false≢true e)
-
-stands_taking : (stage : Stage) → is_open_stage stage ≡ true
-    → is_accepted (standing_by stage askeds.Taking None) ≡ true
-stands_taking stages.Early e = absurd (false≢true e)
-stands_taking (stages.Open peer detail) e = refl
-stands_taking (stages.Closed peer) e = absurd (false≢true e)
 
 -- behind a take that waits nothing stands
 take_whole : (rows : CentreRows) (items : List Item) (told : List Arrival) (turns : List Turn)
@@ -111,7 +96,7 @@ take_whole rows items told turns v r =
     let held = (take_served v.stage v.held r.waits).held_is in
     let seen = turns ++ turns_held v.held in
     let clear : v.course.fault ≡ None =
-    r.fault ∙ ap (λ (h : Option Coming). fault_seen h askeds.Taking) held in
+    ap (λ (p : Position). p.fault) (served_position r tt) in
     let read : v.behind ≡ behinds.Nothing =
     subst (λ (h : Option Coming). IsPassed h v.behind askeds.Taking) held r.passed in
     let reads : ReadsBy v.behind items told seen v =
@@ -145,12 +130,13 @@ refused_by rows past who items said event fault (askeds.Requesting invoke) v s w
     r (request_served invoke v.stage v.held r.waits)
     (b.1 ∙ ap (λ (ts : List Turn). ts ++ b.0) at.is
     ∙ append_assoc s.answered (asks invoke call ∷ []) b.0)
-    tt (stands_asking invoke)
+    tt (ap (λ (p : Position). is_accepted p.standing) (served_position r tt))
 refused_by rows past who items said event fault askeds.Taking v s w f r is =
     let at = asked_turn rows s.answered s.turns event pauses s.are r.last in
     refused_at rows past who items said event askeds.Taking (pauses ∷ []) v s r
     (take_served v.stage v.held r.waits)
-    (take_whole rows items s.told s.turns v r ∙ at.is) tt stands_taking
+    (take_whole rows items s.told s.turns v r ∙ at.is) tt
+    (ap (λ (p : Position). is_accepted p.standing) (served_position r tt))
 refused_by rows past who items said event fault (askeds.Closing cause) v s w f r is = absurd f
 
 refused : (setup : Setup) (past : Past) (who : ℕ) (items : List Item) (said : List ℕ)
@@ -206,9 +192,7 @@ early_parted : (rows : CentreRows) (items : List Item) (past : Past) (who : ℕ)
     → parting_octets v.course end ≡ []
 early_parted rows items past who said event peer granted end v s r =
     unparted v.course end
-    (ap (λ (x : EndState). is_accepted x) (r.standing
-    ∙ ap (λ (x : Stage). standing_by x (askeds.Opening peer granted) v.held)
-    (opens_early peer granted v.stage v.held r.waits)))
+    (ap (λ (p : Position). is_accepted p.standing) (opening_position r))
 
 record SaidEarly (rows : CentreRows) (past : Past) (who : ℕ) (items : List Item)
     (said : List ℕ) (end : ConnEnd) (v : Talking) : Type 0 where

@@ -33,10 +33,9 @@ use Rattle.tase_conn.specs.Talking.{Talking, pending_of, stage_peer}
 use Rattle.tase_conn.specs.Places.{ConnStandsAt, Runs, GoesBy, EndsWithTurn, IsReadToEnd}
 use Rattle.tase_conn.specs.Places.{RoomBy}
 use Rattle.tase_conn.specs.Places.{IsPeer, IsAgreed, IsAskedBy, HasRead, BeginsTurns, turn_coming}
-use Rattle.tase_conn.specs.Places.{turn_listed}
-use Rattle.tase_conn.specs.Places.{turns_held, fault_held, fault_seen, has_begun, has_finished}
-use Rattle.tase_conn.specs.Places.{IsAskedAt, IsDue, IsPassed, ends_connection, standing_by}
-use Rattle.tase_conn.specs.Places.{is_connected, has_concluded, ReadsBy}
+use Rattle.tase_conn.specs.Places.{turn_listed, turns_held, position_of, position_at, position_by}
+use Rattle.tase_conn.specs.Places.{with_coming, with_asked, Reach, reach_of, reach_at, reach_by}
+use Rattle.tase_conn.specs.Places.{IsAskedAt, IsDue, IsPassed, ReadsBy}
 use Rattle.tase_conn.specs.Wanting.{quiet_at, quiet_behind, WaitsFor, IsIdle}
 use Rattle.tase_conn.specs.Acting.{HasEnded, StepsBy, holding}
 use Rattle.tase_conn.proofs.LastTurns.{BringsEnd, brought_end, brought_whole}
@@ -44,11 +43,22 @@ use Rattle.tase_conn.proofs.SeenTurns.{seen_front}
 
 -- ---- one turn more
 
--- a test of turns, and of one more
-pub any_on : (p : Turn → Bool) (turns : List Turn) (turn : Turn) (b : Bool)
-    → list_any p turns ≡ b → list_any p (turns ++ turn ∷ []) ≡ (b || (p turn || false))
-any_on p turns turn b e =
-    list_any-append p turns (turn ∷ []) ∙ ap (λ (x : Bool). x || (p turn || false)) e
+-- how far it has come with these turns more
+abbrev pub with_turns : CentreRows → List Turn → Reach → Reach
+with_turns rows more r = record {
+  begun = r.begun || list_any (begins rows) more;
+  finished = r.finished || list_any finishes more;
+  ending = r.ending || list_any (is_last rows) more;
+}
+
+reach_on : (rows : CentreRows) (turns more : List Turn)
+    → reach_of rows (turns ++ more) ≡ with_turns rows more (reach_of rows turns)
+reach_on rows turns more =
+    rw (
+      list_any-append (begins rows) turns more,
+      list_any-append finishes turns more,
+      list_any-append (is_last rows) turns more,
+    ) refl
 
 -- ---- where it stands with something to be acted on
 
@@ -58,16 +68,6 @@ pub running_idle : (rows : CentreRows) (items : List Item) (told : List Arrival)
     → Runs rows items told turns askeds.Nothing v
 running_idle rows items told turns v idle s =
     subst (λ (p : Progress). GoesBy p rows items told turns v) idle s.goes
-
--- whether the association is open
-pub open_by : (rows : CentreRows) (turns : List Turn) (stage : Stage)
-    → list_any (begins rows) turns ≡ has_begun stage askeds.Nothing
-    → list_any finishes turns ≡ has_finished stage askeds.Nothing
-    → is_open_behind rows turns
-    ≡ (has_begun stage askeds.Nothing && not (has_finished stage askeds.Nothing))
-open_by rows turns stage b f =
-    ap (λ (x : Bool). x && not (list_any finishes turns)) b
-    ∙ ap (λ (x : Bool). has_begun stage askeds.Nothing && not x) f
 
 -- ---- an event is asked
 
@@ -83,17 +83,8 @@ ends_with rows turns turn goes = record { front = turns; is = refl; goes = goes 
 pub record Asking (rows : CentreRows) (told : List Arrival) (turns : List Turn) (turn : Turn)
     (event : EventKind) (stage : Stage) (asked : PendingEvent) (coming : Coming) : Type 0 where
   pub turn_is : turn_coming coming ≡ Some turn
-  pub fault : fault_held (Some coming) ≡ fault_seen None asked
-  pub begun : (has_begun stage askeds.Nothing || (begins rows turn || false))
-      ≡ has_begun stage asked
-  pub finished : (has_finished stage askeds.Nothing || (finishes turn || false))
-      ≡ has_finished stage asked
-  pub ending : (is_last rows turn || false) ≡ ends_connection asked
-  pub standing : standing_by stage askeds.Nothing (Some coming) ≡ standing_by stage asked None
-  pub connected : is_connected stage askeds.Nothing (Some coming)
-      ≡ is_connected stage asked None
-  pub concluded : has_concluded stage asked None ≡ true
-      → has_concluded stage askeds.Nothing (Some coming) ≡ true
+  pub at : with_coming coming (position_at stage) ≡ with_asked asked (position_at stage)
+  pub reached : with_turns rows (turn ∷ []) (reach_at stage) ≡ reach_by stage asked
   pub agreed : IsAgreed told stage asked
   pub last : IsAskedBy rows (turns ++ turn ∷ []) asked
   pub asks_are : asks_at rows turns turn ≡ event ∷ []
@@ -173,35 +164,18 @@ runs_asking : (rows : CentreRows) (items : List Item) (told : List Arrival) (tur
 runs_asking rows items told turns turn event stage asked coming v at empty a r =
     let held : (P : Option Coming → Type 0) → P None → P v.held = λ P p. subst P (sym empty) p in
     let on : (P : Stage → Type 0) → P stage → P v.stage = λ P p. subst P (sym at) p in
-    let off : (P : Stage → Type 0) → P v.stage → P stage = λ P p. subst P at p in
     record {
       stands = r.stands;
-      fault = r.fault ∙ a.fault
-          ∙ ap (λ (h : Option Coming). fault_seen h asked) (sym empty);
       reads = held (λ h. HasRead items told ((turns ++ turn ∷ []) ++ turns_held h) (asking asked v))
           (has_read items told turns (turn ∷ []) v.held (progresses.Running asked)
           (holding coming v) coming (ap (λ (t : Option Turn). turn_listed t) a.turn_is) r.reads);
       due = held (λ h. IfSome h (IsDue told v.stage)) tt;
       passed = held (λ h. IsPassed h v.behind asked) (a.passed v.behind r.passed);
-      begun = on (λ s. list_any (begins rows) (turns ++ turn ∷ []) ≡ has_begun s asked)
-          (any_on (begins rows) turns turn (has_begun stage askeds.Nothing)
-          (off (λ s. list_any (begins rows) turns ≡ has_begun s askeds.Nothing) r.begun)
-          ∙ a.begun);
-      finished = on (λ s. list_any finishes (turns ++ turn ∷ []) ≡ has_finished s asked)
-          (any_on finishes turns turn (has_finished stage askeds.Nothing)
-          (off (λ s. list_any finishes turns ≡ has_finished s askeds.Nothing) r.finished)
-          ∙ a.finished);
-      ending = any_on (is_last rows) turns turn false r.ending ∙ a.ending;
-      standing = r.standing ∙ ap (λ (s : Stage). standing_by s askeds.Nothing (Some coming)) at
-          ∙ a.standing ∙ ap (λ (s : Stage). standing_by s asked None) (sym at)
-          ∙ ap (λ (h : Option Coming). standing_by v.stage asked h) (sym empty);
-      connected = r.connected ∙ ap (λ (s : Stage). is_connected s askeds.Nothing (Some coming)) at
-          ∙ a.connected ∙ ap (λ (s : Stage). is_connected s asked None) (sym at)
-          ∙ ap (λ (h : Option Coming). is_connected v.stage asked h) (sym empty);
-      concluded = λ c. r.concluded
-          (ap (λ (s : Stage). has_concluded s askeds.Nothing (Some coming)) at
-          ∙ a.concluded (ap (λ (s : Stage). has_concluded s asked None) (sym at)
-          ∙ ap (λ (h : Option Coming). has_concluded v.stage asked h) (sym empty) ∙ c));
+      at = held (λ h. position_of told v.course ≡ position_by v.stage asked h)
+          (r.at ∙ on (λ s. with_coming coming (position_at s) ≡ with_asked asked (position_at s)) a.at);
+      reached = reach_on rows turns (turn ∷ [])
+          ∙ ap (λ (x : Reach). with_turns rows (turn ∷ []) x) r.reached
+          ∙ on (λ s. with_turns rows (turn ∷ []) (reach_at s) ≡ reach_by s asked) a.reached;
       agreed = on (λ s. IsAgreed told s asked) a.agreed;
       last = a.last;
       waits = held (λ h. IsAskedAt asked v.stage h) (on (λ s. IsAskedAt asked s None) a.due);
@@ -276,7 +250,7 @@ ended_by rows items told turns turn end octets coming v e r =
     ap (λ (t : Option Turn). turn_listed t) e.turn_is in
     let b : BringsEnd rows items (turns ++ turn ∷ []) end = record {
       last = turn;
-      ends = ends_with rows turns turn r.ending;
+      ends = ends_with rows turns turn (ap (λ (x : Reach). x.ending) r.reached);
       is = e.is_last;
       cause = e.cause;
       rest = f.0;
@@ -329,16 +303,8 @@ ends_step rows items told turns turn end octets coming v new idle n makes s =
 pub record Passing (rows : CentreRows) (turns more : List Turn) (stage : Stage)
     (coming : Coming) : Type 0 where
   pub turns_are : turn_listed (turn_coming coming) ≡ more
-  pub fault : fault_held (Some coming) ≡ None
-  pub begun : list_any (begins rows) (turns ++ more) ≡ has_begun stage askeds.Nothing
-  pub finished : list_any finishes (turns ++ more) ≡ has_finished stage askeds.Nothing
-  pub ending : list_any (is_last rows) (turns ++ more) ≡ false
-  pub standing : standing_by stage askeds.Nothing (Some coming)
-      ≡ standing_by stage askeds.Nothing None
-  pub connected : is_connected stage askeds.Nothing (Some coming)
-      ≡ is_connected stage askeds.Nothing None
-  pub concluded : has_concluded stage askeds.Nothing None ≡ true
-      → has_concluded stage askeds.Nothing (Some coming) ≡ true
+  pub at : with_coming coming (position_at stage) ≡ position_at stage
+  pub reached : with_turns rows more (reach_at stage) ≡ reach_at stage
   pub asks_are : asks_behind rows turns more ≡ []
   pub quiet : (setup : AssociationSetup) → quiet_behind rows setup turns more ≡ []
 
@@ -351,21 +317,15 @@ runs_passing rows items told turns more coming v empty a r =
     let held : (P : Option Coming → Type 0) → P None → P v.held = λ P p. subst P (sym empty) p in
     record {
       stands = r.stands;
-      fault = held (λ h. v.course.fault ≡ fault_seen h askeds.Nothing) (r.fault ∙ a.fault);
       reads = held (λ h. HasRead items told ((turns ++ more) ++ turns_held h) v)
           (has_read items told turns more v.held v.progress (holding coming v) coming a.turns_are
           r.reads);
       due = held (λ h. IfSome h (IsDue told v.stage)) tt;
       passed = held (λ h. IsPassed h v.behind askeds.Nothing) tt;
-      begun = a.begun;
-      finished = a.finished;
-      ending = a.ending;
-      standing = held (λ h. v.course.standing ≡ standing_by v.stage askeds.Nothing h)
-          (r.standing ∙ a.standing);
-      connected = held (λ h. is_some (first_in connect_in told)
-          ≡ is_connected v.stage askeds.Nothing h) (r.connected ∙ a.connected);
-      concluded = λ c. r.concluded (a.concluded
-          (ap (λ (h : Option Coming). has_concluded v.stage askeds.Nothing h) (sym empty) ∙ c));
+      at = held (λ h. position_of told v.course ≡ position_by v.stage askeds.Nothing h)
+          (r.at ∙ a.at);
+      reached = reach_on rows turns more ∙ ap (λ (x : Reach). with_turns rows more x) r.reached
+          ∙ a.reached;
       agreed = r.agreed;
       last = tt;
       waits = tt;

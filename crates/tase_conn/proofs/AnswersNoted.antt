@@ -58,7 +58,7 @@ use Rattle.tase_conn.specs.declared.stage.Progress.{Progress}
 use Rattle.tase_conn.specs.declared.stage.Progress.TheVariants as progresses
 use Rattle.tase_conn.specs.PeerEnd.{end_at}
 use Rattle.tase_conn.specs.Talking.{Talking, pending_of, is_open_stage, stage_peer}
-use Rattle.tase_conn.specs.Places.{turns_held, BeginsTurns, fault_seen, ends_connection, standing_by, IsAgreed}
+use Rattle.tase_conn.specs.Places.{turns_held, BeginsTurns, Position, IsAgreed, is_ending}
 use Rattle.tase_conn.specs.Places.{IsAskedAt, turn_for, Runs, IsReadToEnd, GoesBy}
 use Rattle.tase_conn.specs.Places.{IsPeer, HasAbortRoom, RoomBy, ConnStandsAt, IsPlaced}
 use Rattle.tase_conn.specs.Wanting.{IsLeaving}
@@ -73,7 +73,7 @@ use Rattle.tase_conn.specs.Noting.{with_reports_said}
 use Rattle.tase_conn.proofs.LastTurns.{BringsEnd, brought_end, brought_whole}
 use Rattle.tase_conn.proofs.SeenTurns.{seen_front}
 use Rattle.tase_conn.proofs.ToldAll.{told_open}
-use Rattle.tase_conn.specs.Places.{is_connected}
+use Rattle.tase_conn.proofs.Known.{opening_position, served_position, asked_connected}
 use Rattle.tase_conn.proofs.Placing.{talking, reads_moved, parted_stands}
 
 -- ---- what may be said of an event that waits
@@ -99,19 +99,10 @@ waiting asked v p e = (
   waits_by v.progress asked p.rows p.items p.told p.turns v e p.stands.goes,
 )
 
-offered_so : (peer : ℕ) (granted : Initiate) (stage : Stage) (held : Option Coming)
-    (s : EndState) → IsAskedAt (askeds.Opening peer granted) stage held
-    → s ≡ standing_by stage (askeds.Opening peer granted) held → s ≡ standings.Offered
-offered_so peer granted stages.Early None s w e = e
-offered_so peer granted stages.Early (Some coming) s w e = absurd w
-offered_so peer granted (stages.Open other detail) held s w e = absurd w
-offered_so peer granted (stages.Closed other) held s w e = absurd w
-
 -- an offer stands unanswered while its open waits
 pub opening_offered : (peer : ℕ) (granted : Initiate) (v : Talking)
     → Waits (askeds.Opening peer granted) v → v.course.standing ≡ standings.Offered
-opening_offered peer granted v w =
-    offered_so peer granted v.stage v.held v.course.standing w.4.waits w.4.standing
+opening_offered peer granted v w = ap (λ (p : Position). p.standing) (opening_position w.4)
 
 full_so : (told : List Arrival) (peer : ℕ) (granted : Initiate) (stage : Stage)
     (held : Option Coming) → IsAskedAt (askeds.Opening peer granted) stage held
@@ -127,21 +118,11 @@ pub opening_full : (peer : ℕ) (granted : Initiate) (v : Talking)
     → Waits (askeds.Opening peer granted) v → IsFullInitiate granted
 opening_full peer granted v w = full_so w.2 peer granted v.stage v.held w.4.waits w.4.agreed
 
-accepted_so : (invoke : ℕ) (stage : Stage) (held : Option Coming) (s : EndState)
-    (f : Option StackFault) → IsAskedAt (askeds.Requesting invoke) stage held
-    → s ≡ standing_by stage (askeds.Requesting invoke) held
-    → f ≡ fault_seen held (askeds.Requesting invoke) → state_with f s ≡ states.Accepted
-accepted_so invoke (stages.Open peer detail) None s f w e g =
-    ap (λ (x : Option StackFault). state_with x s) g ∙ ap state_by e
-accepted_so invoke (stages.Open peer detail) (Some coming) s f w e g = absurd w
-accepted_so invoke stages.Early held s f w e g = absurd w
-accepted_so invoke (stages.Closed peer) held s f w e g = absurd w
-
 -- the association stands while a request waits
 pub requesting_accepted : (invoke : ℕ) (v : Talking) → Waits (askeds.Requesting invoke) v
     → stack_state_of v.course ≡ states.Accepted
-requesting_accepted invoke v w = accepted_so invoke v.stage v.held v.course.standing v.course.fault
-    w.4.waits w.4.standing w.4.fault
+requesting_accepted invoke v w = ap (λ (p : Position). state_with p.fault p.standing)
+    (served_position w.4 tt)
 
 min_few : (a b : ℤ) → int_min a b ≤ℤ b
 min_few a b = omega (arith, ints, int_min_is a b)
@@ -168,36 +149,16 @@ pub requesting_detail : (invoke : ℕ) (v : Talking) → Waits (askeds.Requestin
     → detail_at v.stage ≤ℤ MOST_DETAIL
 requesting_detail invoke v w = detail_so w.2 invoke v.stage v.held w.4.waits w.4.agreed
 
-concluded_so : (stage : Stage) (held : Option Coming) (s : EndState) (f : Option StackFault)
-    → IsAskedAt (askeds.Closing causes.Concluded) stage held
-    → s ≡ standing_by stage (askeds.Closing causes.Concluded) held
-    → f ≡ fault_seen held (askeds.Closing causes.Concluded) → state_with f s ≡ states.Accepted
-concluded_so (stages.Open peer detail) None s f w e g =
-    ap (λ (x : Option StackFault). state_with x s) g ∙ ap state_by e
-concluded_so (stages.Open peer detail) (Some coming) s f w e g = absurd w
-concluded_so stages.Early held s f w e g = absurd w
-concluded_so (stages.Closed peer) held s f w e g = absurd w
-
-released_so : (stage : Stage) (held : Option Coming) (side : Side) (s : EndState)
-    (f : Option StackFault) → IsAskedAt (askeds.Closing causes.Released) stage held
-    → side ≡ sides.Called → s ≡ standing_by stage (askeds.Closing causes.Released) held
-    → f ≡ fault_seen held (askeds.Closing causes.Released) → may_leave side s f ≡ true
-released_so (stages.Open peer detail) None side s f w c e g =
-    ap (λ (x : Side). may_leave x s f) c ∙ ap (λ (x : EndState). may_leave sides.Called x f) e
-    ∙ ap (λ (x : Option StackFault). may_leave sides.Called standings.Finishing x) g
-released_so (stages.Open peer detail) (Some coming) side s f w c e g = absurd w
-released_so stages.Early held side s f w c e g = absurd w
-released_so (stages.Closed peer) held side s f w c e g = absurd w
-
 -- what asked for the close may be answered
 pub closing_may : (cause : Cause) (v : Talking) → Waits (askeds.Closing cause) v
     → MayAnswer cause v.course
-closing_may causes.Concluded v w = concluded_so v.stage v.held v.course.standing v.course.fault
-    w.4.waits w.4.standing w.4.fault
+closing_may causes.Concluded v w = ap (λ (p : Position). state_with p.fault p.standing)
+    (served_position w.4 tt)
 closing_may causes.Released v w = (
   w.4.stands.knows.side,
-  released_so v.stage v.held v.course.known.side v.course.standing v.course.fault w.4.waits
-      w.4.stands.knows.side w.4.standing w.4.fault,
+  ap (λ (x : Side). may_leave x v.course.standing v.course.fault) w.4.stands.knows.side
+      ∙ ap (λ (p : Position). may_leave sides.Called p.standing p.fault)
+      (served_position w.4 tt),
 )
 closing_may causes.Aborted v w = tt
 closing_may causes.LinkEnd v w = tt
@@ -225,17 +186,12 @@ opening_noted rows items told turns peer granted centre course None behind stage
       goes = record {
         stands = stands_standing called (text_given items) told course
             (with_standing standings.Accepted course) standings.Accepted s.goes.stands refl;
-        fault = s.goes.fault;
         reads = reads_moved course.fault behind items told (turns ++ []) old
             (with_open peer granted old) (λ x. x) refl s.goes.reads;
         due = tt;
         passed = tt;
-        begun = s.goes.begun;
-        finished = s.goes.finished;
-        ending = s.goes.ending;
-        standing = refl;
-        connected = s.goes.connected;
-        concluded = λ x. absurd cc;
+        at = ap (λ (p : Position). record p { standing = standings.Accepted }) s.goes.at;
+        reached = s.goes.reached;
         agreed = ap detail_in g.is ∙ sym (ap detail_of g.first);
         waits = tt;
         last = tt;
@@ -280,18 +236,14 @@ requesting_noted rows items told turns invoke pdu centre course None behind
       rows_are = s.rows_are;
       peer = s.peer;
       goes = record {
-        stands = said_stands (text_given items) told course pdu s.goes.fault s.goes.stands;
-        fault = s.goes.fault;
+        stands = said_stands (text_given items) told course pdu
+            (ap (λ (p : Position). p.fault) s.goes.at) s.goes.stands;
         reads = reads_moved course.fault behind items told (turns ++ []) old (answered pdu old)
             (λ x. x) refl s.goes.reads;
         due = tt;
         passed = tt;
-        begun = s.goes.begun;
-        finished = s.goes.finished;
-        ending = s.goes.ending;
-        standing = s.goes.standing;
-        connected = s.goes.connected;
-        concluded = λ x. absurd cc;
+        at = s.goes.at;
+        reached = s.goes.reached;
         agreed = s.goes.agreed;
         waits = tt;
         last = tt;
@@ -357,17 +309,12 @@ taking_noted None octets rows items told turns centre course None behind
       peer = s.peer;
       goes = record {
         stands = s.goes.stands;
-        fault = s.goes.fault;
         reads = reads_moved course.fault behind items told (turns ++ []) old
             (with_octets None octets old) (λ x. x) refl s.goes.reads;
         due = tt;
         passed = tt;
-        begun = s.goes.begun;
-        finished = s.goes.finished;
-        ending = s.goes.ending;
-        standing = s.goes.standing;
-        connected = s.goes.connected;
-        concluded = λ x. absurd cc;
+        at = s.goes.at;
+        reached = s.goes.reached;
         agreed = s.goes.agreed;
         waits = tt;
         last = tt;
@@ -383,7 +330,7 @@ taking_noted long octets rows items told turns centre course held behind (stages
 
 -- ---- a close is answered
 
-last_for : (rows : CentreRows) (cause : Cause) → ends_connection (askeds.Closing cause) ≡ true
+last_for : (rows : CentreRows) (cause : Cause) → is_ending cause ≡ true
     → is_last rows (turn_for cause) ≡ true
 last_for rows causes.Concluded e = absurd cc
 last_for rows causes.Released e = refl
@@ -399,30 +346,17 @@ broken_so items told course None fault e r = absurd cc
 broken_so items told course (Some g) fault e r =
     ap (λ (x : Reading). x.broken) (reading_only (text_given items) told (Some g) r) ∙ e
 
--- a close waits for its answer while the association is open
-closing_connected : {rows : CentreRows} {items : List Item} {told : List Arrival} {turns : List Turn}
-    (cause : Cause) (v : Talking) → Runs rows items told turns (askeds.Closing cause) v
-    → is_connected v.stage (askeds.Closing cause) v.held ≡ true
-closing_connected cause v r = by v.stage v.held r.waits
-  where
-    by : (stage : Stage) (held : Option Coming) → IsAskedAt (askeds.Closing cause) stage held
-        → is_connected stage (askeds.Closing cause) held ≡ true
-    by stages.Early held w = absurd w
-    by (stages.Open peer detail) held w = refl
-    by (stages.Closed peer) held w = refl
-
 -- the end that a close brings
 pub closed_ends : (rows : CentreRows) (items : List Item) (told : List Arrival) (turns : List Turn)
     (cause : Cause) (end : ConnEnd) (v : Talking) → v.held ≡ None
     → Runs rows items told turns (askeds.Closing cause) v
-    → ends_connection (askeds.Closing cause) ≡ true
+    → is_ending cause ≡ true
     → end_at (reading_of (text_given items)).broken (turn_for cause) ≡ Some end
     → IsReadToEnd rows items told turns end
 closed_ends rows items told turns cause end v none r e c =
     let f = subst (λ (held : Option Coming). BeginsTurns (turns ++ turns_held held) (turns_of items))
     none (seen_front rows items told turns (askeds.Closing cause) v r) in
-    let t = told_open rows items told turns (askeds.Closing cause) v r
-    (closing_connected cause v r) in
+    let t = told_open rows items told turns (askeds.Closing cause) v r (asked_connected r tt) in
     let b : BringsEnd rows items turns end = record {
       last = turn_for cause;
       ends = r.last.0;
@@ -471,18 +405,14 @@ concluded_noted rows items told turns centre course behind peer detail out farew
       rows_are = s.rows_are;
       peer = s.peer;
       goes = record {
-        stands = said_stands (text_given items) told course pdus.Concluded s.goes.fault s.goes.stands;
-        fault = s.goes.fault;
+        stands = said_stands (text_given items) told course pdus.Concluded
+            (ap (λ (p : Position). p.fault) s.goes.at) s.goes.stands;
         reads = reads_moved course.fault behind items told (turns ++ []) old to (λ x. x) refl
             s.goes.reads;
         due = tt;
         passed = tt;
-        begun = s.goes.begun;
-        finished = s.goes.finished;
-        ending = s.goes.ending;
-        standing = s.goes.standing;
-        connected = s.goes.connected;
-        concluded = s.goes.concluded;
+        at = s.goes.at;
+        reached = s.goes.reached;
         agreed = tt;
         waits = tt;
         last = tt;
@@ -535,7 +465,8 @@ closing_noted (causes.Broken fault) rows items told turns centre course None beh
     (talking centre course None behind (stages.Open peer detail)
     (progresses.Running (askeds.Closing (causes.Broken fault))) out farewell) refl s.goes refl
     (ap (λ (b : Option StackFault). option_map conn_ends.Refused b)
-    (broken_so items told course course.fault fault s.goes.fault s.goes.stands.reads))) n.is
+    (broken_so items told course course.fault fault (ap (λ (p : Position). p.fault) s.goes.at)
+    s.goes.stands.reads))) n.is
 closing_noted cause rows items told turns centre course (Some coming) behind
     (stages.Open peer detail) out farewell new s n = absurd s.goes.waits
 closing_noted cause rows items told turns centre course held behind stages.Early out farewell new s

@@ -17,7 +17,8 @@ use Rattle.mms_services.specs.declared.request.Request.{Request}
 use Rattle.stack_messages.specs.declared.fault.StackFault.{StackFault}
 use Rattle.stack_wire.specs.declared.setup.AssociationSetup.{AssociationSetup}
 use Rattle.stack_assoc.specs.declared.input.StackIn.TheVariants as inputs
-use Rattle.stack_assoc.specs.Arrivals.{Arrival, called}
+use Rattle.stack_messages.specs.declared.heard.Heard.TheVariants as heards
+use Rattle.stack_assoc.specs.Arrivals.{Arrival, called, heard, is_conclude}
 use Rattle.stack_assoc.specs.Courses.{CourseStands, is_accepted}
 use Rattle.stack_assoc.specs.Courses as courses
 use Rattle.stack_assoc.specs.Tellings.{StopsTelling}
@@ -41,13 +42,10 @@ use Rattle.tase_conn.specs.declared.stage.Cause.{Cause}
 use Rattle.tase_conn.specs.declared.stage.Cause.TheVariants as causes
 use Rattle.tase_conn.specs.declared.stage.PendingEvent.TheVariants as askeds
 use Rattle.tase_conn.specs.Talking.{Talking}
-use Rattle.tase_conn.specs.Places.{Runs, InputIsDue, PduIsDue, IsAgreed, has_begun}
-use Rattle.tase_conn.specs.Places.{has_finished}
-use Rattle.tase_conn.specs.Places.{is_connected, standing_by, turn_for, has_concluded, turn_listed}
+use Rattle.tase_conn.specs.Places.{Runs, InputIsDue, PduIsDue, IsAgreed, has_begun, has_finished}
+use Rattle.tase_conn.specs.Places.{Position, position_by, coming_by, turn_for, turn_listed}
 use Rattle.tase_conn.specs.Wanting.{behind_close, refusal_said}
-use Rattle.tase_conn.specs.Acting.{coming_by}
-use Rattle.tase_conn.proofs.Acted.{HasToldAll, ends_with, Asking, Ending, Passing, any_on}
-use Rattle.tase_conn.proofs.Acted.{open_by}
+use Rattle.tase_conn.proofs.Acted.{HasToldAll, ends_with, Asking, Ending, Passing}
 use Rattle.tase_conn.proofs.LastTurns.{or_left, or_right}
 
 -- ---- an offer
@@ -61,13 +59,12 @@ pub asks_open : (rows : CentreRows) (told : List Arrival) (turns : List Turn)
     (comings.Input (inputs.Offer title initiate))
 asks_open rows told turns title initiate offered peer stages.Early due place g goes = record {
   turn_is = refl;
-  fault = refl;
-  begun = ap (λ (p : Option ℕ). false || (is_some p || false)) place;
-  finished = refl;
-  ending = ap (λ (p : Option ℕ). not (is_some p) || false) place;
-  standing = refl;
-  connected = refl;
-  concluded = λ c. absurd (false≢true c);
+  at = refl;
+  reached = ap (λ (p : Option ℕ). record {
+    begun = false || (is_some p || false);
+    finished = false;
+    ending = false || (not (is_some p) || false);
+  }) place;
   agreed = record {
     connect = due.connect;
     first = due.first;
@@ -142,13 +139,8 @@ asks_request rows told turns invoke request stages.Early due agreed goes = absur
 asks_request rows told turns invoke request (stages.Closed p) due agreed goes = absurd cc
 asks_request rows told turns invoke request (stages.Open p d) due agreed goes = record {
   turn_is = refl;
-  fault = refl;
-  begun = refl;
-  finished = refl;
-  ending = refl;
-  standing = refl;
-  connected = refl;
-  concluded = λ c. absurd (false≢true c);
+  at = refl;
+  reached = refl;
   agreed = agreed;
   last = (call_of_request request, ends_with rows turns (asks invoke (call_of_request request)) goes);
   asks_are = refl;
@@ -167,13 +159,8 @@ asks_badly rows told turns invoke stages.Early due agreed goes = absurd due
 asks_badly rows told turns invoke (stages.Closed p) due agreed goes = absurd due
 asks_badly rows told turns invoke (stages.Open p d) due agreed goes = record {
   turn_is = refl;
-  fault = refl;
-  begun = refl;
-  finished = refl;
-  ending = refl;
-  standing = refl;
-  connected = refl;
-  concluded = λ c. absurd (false≢true c);
+  at = refl;
+  reached = refl;
   agreed = agreed;
   last = (invalid, ends_with rows turns (asks invoke invalid) goes);
   asks_are = refl;
@@ -190,13 +177,8 @@ pub asks_take : (rows : CentreRows) (told : List Arrival) (turns : List Turn) (p
     comings.Pause
 asks_take rows told turns peer detail agreed is goes = record {
   turn_is = refl;
-  fault = refl;
-  begun = refl;
-  finished = refl;
-  ending = refl;
-  standing = refl;
-  connected = refl;
-  concluded = λ c. absurd (false≢true c);
+  at = refl;
+  reached = refl;
   agreed = agreed;
   last = ends_with rows turns pauses goes;
   asks_are = ap (λ (b : Bool). event_if b events.Take) is;
@@ -223,13 +205,8 @@ pub asks_close : (rows : CentreRows) (told : List Arrival) (turns : List Turn) (
     (askeds.Closing cause) (coming_by cause)
 asks_close rows told turns causes.Concluded peer detail agreed is goes shut = record {
   turn_is = refl;
-  fault = refl;
-  begun = refl;
-  finished = refl;
-  ending = refl;
-  standing = refl;
-  connected = refl;
-  concluded = λ c. refl;
+  at = refl;
+  reached = refl;
   agreed = agreed;
   last = (ends_with rows turns concludes goes, shut);
   asks_are = close_for (is_open_behind rows turns) is;
@@ -240,13 +217,8 @@ asks_close rows told turns causes.Concluded peer detail agreed is goes shut = re
 }
 asks_close rows told turns causes.Released peer detail agreed is goes shut = record {
   turn_is = refl;
-  fault = refl;
-  begun = refl;
-  finished = refl;
-  ending = refl;
-  standing = refl;
-  connected = refl;
-  concluded = λ c. absurd (false≢true c);
+  at = refl;
+  reached = refl;
   agreed = agreed;
   last = (ends_with rows turns releases goes, shut);
   asks_are = close_for (is_open_behind rows turns) is;
@@ -257,13 +229,8 @@ asks_close rows told turns causes.Released peer detail agreed is goes shut = rec
 }
 asks_close rows told turns causes.Aborted peer detail agreed is goes shut = record {
   turn_is = refl;
-  fault = refl;
-  begun = refl;
-  finished = refl;
-  ending = refl;
-  standing = refl;
-  connected = refl;
-  concluded = λ c. absurd (false≢true c);
+  at = refl;
+  reached = refl;
   agreed = agreed;
   last = (ends_with rows turns aborts goes, shut);
   asks_are = close_for (is_open_behind rows turns) is;
@@ -274,13 +241,8 @@ asks_close rows told turns causes.Aborted peer detail agreed is goes shut = reco
 }
 asks_close rows told turns causes.LinkEnd peer detail agreed is goes shut = record {
   turn_is = refl;
-  fault = refl;
-  begun = refl;
-  finished = refl;
-  ending = refl;
-  standing = refl;
-  connected = refl;
-  concluded = λ c. absurd (false≢true c);
+  at = refl;
+  reached = refl;
   agreed = agreed;
   last = (ends_with rows turns ends goes, shut);
   asks_are = close_for (is_open_behind rows turns) is;
@@ -291,13 +253,8 @@ asks_close rows told turns causes.LinkEnd peer detail agreed is goes shut = reco
 }
 asks_close rows told turns (causes.Broken fault) peer detail agreed is goes shut = record {
   turn_is = refl;
-  fault = refl;
-  begun = refl;
-  finished = refl;
-  ending = refl;
-  standing = refl;
-  connected = refl;
-  concluded = λ c. absurd (false≢true c);
+  at = refl;
+  reached = refl;
   agreed = agreed;
   last = (ends_with rows turns breaks goes, shut);
   asks_are = close_for (is_open_behind rows turns) is;
@@ -312,9 +269,10 @@ asks_close rows told turns (causes.Broken fault) peer detail agreed is goes shut
 -- what the connect fixed is known once it has come
 pub setup_known : (rows : CentreRows) (items : List Item) (told : List Arrival) (turns : List Turn)
     (v : Talking) → Runs rows items told turns askeds.Nothing v
-    → is_connected v.stage askeds.Nothing v.held ≡ true → v.course.setup ≡ setup_after told
+    → (position_by v.stage askeds.Nothing v.held).connected ≡ true
+    → v.course.setup ≡ setup_after told
 setup_known rows items told turns v r is =
-    (setup_fixed (text_given items) told v.course r.stands (r.connected ∙ is)).0
+    (setup_fixed (text_given items) told v.course r.stands (ap (λ (p : Position). p.connected) r.at ∙ is)).0
 
 pub declines_offer : (rows : CentreRows) (items : List Item) (told : List Arrival)
     (turns : List Turn) (title : Option (List ℕ)) (initiate : Initiate) (setup : AssociationSetup)
@@ -435,46 +393,31 @@ ends_broken rows items told turns fault setup b known e f broken all = record {
 
 -- ---- what has no effect
 
+no_conclude : (pdu : MmsPdu) → turn_of_pdu pdu ≡ None → is_conclude (heard (heards.Pdu pdu)) ≡ false
+no_conclude (pdus.Request invoke request) e = refl
+no_conclude (pdus.Response invoke response) e = refl
+no_conclude (pdus.Error x) e = refl
+no_conclude (pdus.Report r) e = refl
+no_conclude (pdus.Reject r) e = refl
+no_conclude (pdus.Initiate offer) e = refl
+no_conclude (pdus.Initiated offer) e = refl
+no_conclude pdus.InitiateError e = refl
+no_conclude pdus.Conclude e = absurd cc
+no_conclude pdus.Concluded e = refl
+
+or_false : (b : Bool) → (b || false) ≡ b
+or_false true = refl
+or_false false = refl
+
 pub passes_pdu : (rows : CentreRows) (turns : List Turn) (stage : Stage) (pdu : MmsPdu)
-    → turn_of_pdu pdu ≡ None
-    → list_any (begins rows) turns ≡ has_begun stage askeds.Nothing
-    → list_any finishes turns ≡ has_finished stage askeds.Nothing
-    → list_any (is_last rows) turns ≡ false
-    → Passing rows turns [] stage (comings.Input (inputs.Pdu pdu))
-passes_pdu rows turns stage pdu no_turn b f l =
-    let e : turns ++ [] ≡ turns = append-nil turns in
-    record {
-      turns_are = ap (λ (t : Option Turn). turn_listed t) no_turn;
-      fault = refl;
-      begun = ap (λ (ts : List Turn). list_any (begins rows) ts) e ∙ b;
-      finished = ap (λ (ts : List Turn). list_any finishes ts) e ∙ f;
-      ending = ap (λ (ts : List Turn). list_any (is_last rows) ts) e ∙ l;
-      standing = same_standing stage;
-      connected = same_connected stage;
-      concluded = concluded_so stage;
-      asks_are = refl;
-      quiet = λ setup. refl;
-    }
-  where
-    same_standing : (stage : Stage)
-        → standing_by stage askeds.Nothing (Some (comings.Input (inputs.Pdu pdu)))
-        ≡ standing_by stage askeds.Nothing None
-    same_standing stages.Early = refl
-    same_standing (stages.Open p d) = refl
-    same_standing (stages.Closed p) = refl
-
-    same_connected : (stage : Stage)
-        → is_connected stage askeds.Nothing (Some (comings.Input (inputs.Pdu pdu)))
-        ≡ is_connected stage askeds.Nothing None
-    same_connected stages.Early = refl
-    same_connected (stages.Open p d) = refl
-    same_connected (stages.Closed p) = refl
-
-    concluded_so : (stage : Stage) → has_concluded stage askeds.Nothing None ≡ true
-        → has_concluded stage askeds.Nothing (Some (comings.Input (inputs.Pdu pdu))) ≡ true
-    concluded_so stages.Early e = absurd (false≢true e)
-    concluded_so (stages.Open p d) e = absurd (false≢true e)
-    concluded_so (stages.Closed p) e = refl
+    → turn_of_pdu pdu ≡ None → Passing rows turns [] stage (comings.Input (inputs.Pdu pdu))
+passes_pdu rows turns stage pdu no_turn = record {
+  turns_are = ap (λ (t : Option Turn). turn_listed t) no_turn;
+  at = rw (no_conclude pdu no_turn, or_false (has_finished stage)) refl;
+  reached = rw (or_false (has_begun stage), or_false (has_finished stage)) refl;
+  asks_are = refl;
+  quiet = λ setup. refl;
+}
 
 -- a pause, where no association is open
 abbrev pub IsShut : Stage → Type 0
@@ -482,52 +425,17 @@ IsShut stages.Early = Unit {0}
 IsShut (stages.Open peer detail) = ⊥
 IsShut (stages.Closed peer) = Unit {0}
 
-pub shut_open : (stage : Stage) → IsShut stage
-    → (has_begun stage askeds.Nothing && not (has_finished stage askeds.Nothing)) ≡ false
+pub shut_open : (stage : Stage) → IsShut stage → (has_begun stage && not (has_finished stage)) ≡ false
 shut_open stages.Early s = refl
 shut_open (stages.Open p d) s = absurd s
 shut_open (stages.Closed p) s = refl
 
-pub passes_pause : (rows : CentreRows) (turns : List Turn) (stage : Stage) → IsShut stage
-    → list_any (begins rows) turns ≡ has_begun stage askeds.Nothing
-    → list_any finishes turns ≡ has_finished stage askeds.Nothing
-    → list_any (is_last rows) turns ≡ false
-    → Passing rows turns (pauses ∷ []) stage comings.Pause
-passes_pause rows turns stage shut b f l =
-    let closed = open_by rows turns stage b f ∙ shut_open stage shut in
-    record {
-      turns_are = refl;
-      fault = refl;
-      begun = any_on (begins rows) turns pauses (has_begun stage askeds.Nothing) b
-          ∙ or_false (has_begun stage askeds.Nothing);
-      finished = any_on finishes turns pauses (has_finished stage askeds.Nothing) f
-          ∙ or_false (has_finished stage askeds.Nothing);
-      ending = any_on (is_last rows) turns pauses false l;
-      standing = same_standing stage;
-      connected = same_connected stage;
-      concluded = concluded_so stage;
-      asks_are = ap (λ (x : Bool). event_if x events.Take ++ []) closed;
-      quiet = λ setup. refl;
-    }
-  where
-    or_false : (x : Bool) → (x || (false || false)) ≡ x
-    or_false true = refl
-    or_false false = refl
-
-    same_standing : (stage : Stage) → standing_by stage askeds.Nothing (Some comings.Pause)
-        ≡ standing_by stage askeds.Nothing None
-    same_standing stages.Early = refl
-    same_standing (stages.Open p d) = refl
-    same_standing (stages.Closed p) = refl
-
-    same_connected : (stage : Stage) → is_connected stage askeds.Nothing (Some comings.Pause)
-        ≡ is_connected stage askeds.Nothing None
-    same_connected stages.Early = refl
-    same_connected (stages.Open p d) = refl
-    same_connected (stages.Closed p) = refl
-
-    concluded_so : (stage : Stage) → has_concluded stage askeds.Nothing None ≡ true
-        → has_concluded stage askeds.Nothing (Some comings.Pause) ≡ true
-    concluded_so stages.Early e = absurd (false≢true e)
-    concluded_so (stages.Open p d) e = absurd (false≢true e)
-    concluded_so (stages.Closed p) e = refl
+pub passes_pause : (rows : CentreRows) (turns : List Turn) (stage : Stage)
+    → is_open_behind rows turns ≡ false → Passing rows turns (pauses ∷ []) stage comings.Pause
+passes_pause rows turns stage shut = record {
+  turns_are = refl;
+  at = refl;
+  reached = rw (or_false (has_begun stage), or_false (has_finished stage)) refl;
+  asks_are = ap (λ (x : Bool). event_if x events.Take ++ []) shut;
+  quiet = λ setup. refl;
+}

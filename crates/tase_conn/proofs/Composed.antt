@@ -26,7 +26,7 @@ use Rattle.tase_conn.specs.declared.stage.Step.TheVariants as steps
 use Rattle.tase_conn.specs.Talking.{Talking, pending_of, IsResting, IsFree}
 use Rattle.tase_conn.specs.Places.{ConnStandsAt, IsPlaced, Runs, GoesBy, ReadsBy, BeginsTurns}
 use Rattle.tase_conn.specs.Places.{turns_held}
-use Rattle.tase_conn.specs.Places.{fault_seen, RoomBy}
+use Rattle.tase_conn.specs.Places.{Position, position_by, Reach, RoomBy}
 use Rattle.tase_conn.specs.Wanting.{quiet_at, quiet_behind, ReadsOn, AreAllTurns, ReadsNext}
 use Rattle.tase_conn.specs.Wanting.{Passes, IsIdle}
 use Rattle.tase_conn.specs.Acting.{ActsOnTurns, StepsBy, HasEnded, has_more, is_left}
@@ -168,7 +168,8 @@ all_seen : (rows : CentreRows) (items : List Item) (told : List Arrival) (turns 
     → Runs rows items told turns askeds.Nothing v → turns ≡ turns_of items
 all_seen rows items told turns v held behind r =
     let clear : v.course.fault ≡ None =
-    r.fault ∙ ap (λ (h : Option Coming). fault_seen h askeds.Nothing) held in
+    ap (λ (p : Position). p.fault) r.at
+    ∙ ap (λ (h : Option Coming). (position_by v.stage askeds.Nothing h).fault) held in
     let P : Option StackFault → Type 0 = λ f. MatchOption f
     (ReadsBy v.behind items told (turns ++ turns_held v.held) v)
     (λ fault. BeginsTurns (turns ++ turns_held v.held) (turns_of items)) in
@@ -203,7 +204,7 @@ reads_all rows items told turns old new p idle none =
       };
       whole = subst (λ (x : Progress). AreAllTurns rows items (turns ++ p.more) x) (sym idle)
           (ap (λ (ts : List Turn). up_to_last rows ts) (sym seen)
-          ∙ uncut rows (turns ++ p.more) r.ending);
+          ∙ uncut rows (turns ++ p.more) (ap (λ (x : Reach). x.ending) r.reached));
     }
 
 -- ---- it was left

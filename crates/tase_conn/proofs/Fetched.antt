@@ -42,15 +42,16 @@ use Rattle.tase_conn.specs.declared.stage.Progress.TheVariants as progresses
 use Rattle.tase_conn.specs.Talking.{Talking, stage_peer}
 use Rattle.tase_conn.specs.Places.{IsPassed}
 use Rattle.tase_conn.specs.Places.{turns_held, turn_listed, BeginsTurns, IsDone, IsWithin, ReadsBy, HasRead}
-use Rattle.tase_conn.specs.Places.{fault_held, fault_seen, IsDue, has_begun, has_finished}
-use Rattle.tase_conn.specs.Places.{ends_connection, standing_by, is_connected, has_concluded, IsAgreed}
+use Rattle.tase_conn.specs.Places.{IsDue, IsAgreed, Position, position_of, position_at, position_by}
+use Rattle.tase_conn.specs.Places.{with_coming, Reach, reach_of, reach_at, has_begun, standing_at}
 use Rattle.tase_conn.specs.Places.{Runs, behind_of, GoesBy, IsPeer, HasAbortRoom, RoomBy, ConnStandsAt}
 use Rattle.tase_conn.specs.Wanting.{Passes, IsIdle}
 use Rattle.tase_conn.specs.Acting.{coming_behind, is_left, has_more, weight_behind, weight_held}
 use Rattle.tase_conn.specs.Acting.{steps_left}
+use Rattle.tase_conn.proofs.Placing.{same_position}
 use Rattle.tase_conn.proofs.SeenTurns.{within_turns}
-use Rattle.tase_conn.proofs.Noted.{connected, has_conclude, still_concluded, quiet_standing}
-use Rattle.tase_conn.proofs.Noted.{quiet_unconnected, some-append, IsNext, IsNoted, noted}
+use Rattle.tase_conn.proofs.Noted.{connected, quiet_standing, known_by, quiet_known}
+use Rattle.tase_conn.proofs.Noted.{IsNext, IsNoted, noted}
 
 -- ---- before it has
 
@@ -58,14 +59,9 @@ use Rattle.tase_conn.proofs.Noted.{quiet_unconnected, some-append, IsNext, IsNot
 pub record ReadsOn (rows : CentreRows) (items : List Item) (told : List Arrival) (turns : List Turn)
     (v : Talking) : Type 0 where
   pub stands : CourseStands called (text_given items) told v.course
-  pub fault : v.course.fault ≡ None
   pub within : IsWithin items told turns v
-  pub begun : list_any (begins rows) turns ≡ has_begun v.stage askeds.Nothing
-  pub finished : list_any finishes turns ≡ has_finished v.stage askeds.Nothing
-  pub ending : list_any (is_last rows) turns ≡ ends_connection askeds.Nothing
-  pub standing : v.course.standing ≡ standing_by v.stage askeds.Nothing None
-  pub connect : connected told ≡ is_connected v.stage askeds.Nothing None
-  pub conclude : has_concluded v.stage askeds.Nothing None ≡ true → has_conclude told ≡ true
+  pub at : position_of told v.course ≡ position_at v.stage
+  pub reached : reach_of rows turns ≡ reach_at v.stage
   pub agreed : IsAgreed told v.stage askeds.Nothing
 
 within_by : (items : List Item) (told : List Arrival) (seen : List Turn) (v : Talking)
@@ -81,25 +77,18 @@ pub reads_on : (rows : CentreRows) (items : List Item) (told : List Arrival) (tu
     (v : Talking) → Runs rows items told turns askeds.Nothing v → v.held ≡ None
     → has_more v ≡ true → ReadsOn rows items told turns v
 reads_on rows items told turns v r empty more =
-    let fault : v.course.fault ≡ None = r.fault
-    ∙ ap (λ (held : Option Coming). fault_seen held askeds.Nothing) empty in
+    let at : position_of told v.course ≡ position_at v.stage = r.at
+    ∙ ap (λ (held : Option Coming). position_by v.stage askeds.Nothing held) empty in
+    let fault = ap (λ (p : Position). p.fault) at in
     let seen : turns ++ turns_held v.held ≡ turns =
     ap (λ (held : Option Coming). turns ++ turns_held held) empty ∙ append-nil turns in
     record {
       stands = r.stands;
-      fault = fault;
       within = subst (λ (ts : List Turn). IsWithin items told ts v) seen
           (within_by items told (turns ++ turns_held v.held) v v.course.fault v.behind fault
           (subst (λ (held : Option Coming). is_left held v.behind ≡ true) empty more) r.reads);
-      begun = r.begun;
-      finished = r.finished;
-      ending = r.ending;
-      standing = r.standing
-          ∙ ap (λ (held : Option Coming). standing_by v.stage askeds.Nothing held) empty;
-      connect = r.connected
-          ∙ ap (λ (held : Option Coming). is_connected v.stage askeds.Nothing held) empty;
-      conclude = subst (λ (held : Option Coming). has_concluded v.stage askeds.Nothing held ≡ true
-          → has_conclude told ≡ true) empty r.concluded;
+      at = at;
+      reached = r.reached;
       agreed = r.agreed;
     }
 
@@ -118,18 +107,13 @@ fetched course out coming behind old = record old {
 pub record IsHeld (items : List Item) (told later : List Arrival) (turns : List Turn)
     (coming : Coming) (stage : Stage) (new : Talking) : Type 0 where
   pub stands : CourseStands called (text_given items) (told ++ later) new.course
-  pub fault : new.course.fault ≡ fault_held (Some coming)
   pub reads : HasRead items (told ++ later) (turns ++ turns_held (Some coming)) new
   pub due : IsDue (told ++ later) stage coming
   pub passed : IsPassed (Some coming) new.behind askeds.Nothing
-  pub standing : new.course.standing ≡ standing_by stage askeds.Nothing (Some coming)
-  pub connect : connected (told ++ later) ≡ is_connected stage askeds.Nothing (Some coming)
-  pub conclude : has_concluded stage askeds.Nothing (Some coming) ≡ true
-      → has_conclude (told ++ later) ≡ true
+  pub at : position_of (told ++ later) new.course ≡ with_coming coming (position_at stage)
 
 agreed_more : (told later : List Arrival) (stage : Stage)
-    → connected told ≡ is_connected stage askeds.Nothing None
-    → IsAgreed told stage askeds.Nothing → IsAgreed (told ++ later) stage askeds.Nothing
+    → connected told ≡ has_begun stage → IsAgreed told stage askeds.Nothing → IsAgreed (told ++ later) stage askeds.Nothing
 agreed_more told later stages.Early c a = tt
 agreed_more told later (stages.Open peer detail) c a =
     a ∙ ap (λ (o : Option Connecting). detail_of o) (sym (first_kept connect_in told later c))
@@ -142,17 +126,12 @@ pub runs_on : (rows : CentreRows) (items : List Item) (told later : List Arrival
     → Runs rows items (told ++ later) turns askeds.Nothing (fetched course out coming behind old)
 runs_on rows items told later turns coming old course out behind r h = record {
   stands = h.stands;
-  fault = h.fault;
   reads = h.reads;
   due = h.due;
   passed = h.passed;
-  begun = r.begun;
-  finished = r.finished;
-  ending = r.ending;
-  standing = h.standing;
-  connected = h.connect;
-  concluded = h.conclude;
-  agreed = agreed_more told later old.stage r.connect r.agreed;
+  at = h.at;
+  reached = r.reached;
+  agreed = agreed_more told later old.stage (ap (λ (p : Position). p.connected) r.at) r.agreed;
   waits = tt;
   last = tt;
 }
@@ -227,16 +206,12 @@ standing_more (confirmed c ∷ passed) last s e = standing_more passed last s e
 standing_more (gone ∷ passed) last s e = absurd cc
 standing_more (heard h ∷ passed) last s e = absurd cc
 
-or_false : (b : Bool) → (b || false) ≡ b
-or_false true = refl
-or_false false = refl
-
-quiet_connected : (told later : List Arrival) → handed_out later ≡ []
-    → connected (told ++ later) ≡ connected told
-quiet_connected told later e =
-    some-append connect_in told later
-    ∙ ap (λ (b : Bool). connected told || b) (quiet_unconnected later e)
-    ∙ or_false (connected told)
+-- where all that was read was acted on
+known_rest : (told : List Arrival) (stage : Stage) (course : Course)
+    → position_of told course ≡ position_at stage
+    → known_by told (standing_at stage) ≡ position_at stage
+known_rest told stage course e = ap (λ (p : Position).
+    record p { fault = None; standing = standing_at stage }) e
 
 next_of_told : (rows : CentreRows) (items : List Item) (told later : List Arrival)
     (turns : List Turn) (old : Talking) (course : Course) → ReadsOn rows items told turns old
@@ -251,8 +226,9 @@ next_of_told rows items told later turns old course r s l =
     record {
       comes = last_comes (text_given items) front l.last course there;
       lawful = last_lawful (text_given items) front l.last course there;
-      connect = quiet_connected told l.passed l.quiet ∙ r.connect;
-      conclude = λ now. still_concluded told l.passed (r.conclude now);
+      known = ap (λ (s : EndState). known_by front s)
+          (sym (quiet_standing l.passed (standing_at old.stage) l.quiet))
+          ∙ quiet_known told l.passed (standing_at old.stage) l.quiet ∙ known_rest told old.stage old.course r.at;
     }
 
 held_input : (rows : CentreRows) (items : List Item) (told later : List Arrival)
@@ -268,25 +244,24 @@ held_input rows items told later turns input old course out written r fault g ha
     let front = told ++ l.passed in
     let all : front ++ l.last ∷ [] ≡ told ++ later =
     append_assoc told l.passed (l.last ∷ []) ∙ ap (λ (ts : List Arrival). told ++ ts) (sym l.is) in
+    let standing : course.standing ≡ standing_with (standing_at old.stage) l.last = g.standing
+    ∙ ap (λ (ts : List Arrival). standing_behind old.course.standing ts) l.is
+    ∙ standing_more l.passed l.last old.course.standing l.quiet
+    ∙ ap (λ (p : Position). standing_with p.standing l.last) r.at in
     let n : IsNoted front l.last old.stage input =
     noted front l.last old.stage input
     (next_of_told rows items told later turns old course r g.stands l)
     (handed_last l.passed later l.last input l.quiet l.is handed) in
     record {
       stands = g.stands;
-      fault = fault;
       reads = read_by items (told ++ later) (turns ++ turn_listed (turn_in input)) new fault
           (within_behind items (told ++ later) (turns ++ turn_listed (turn_in input)) new old.behind
           r.within.item r.within.behind
           (within_more items told later turns input old new handed refl r.within));
       due = subst (λ (ts : List Arrival). IsDue ts old.stage coming) all n.due;
       passed = tt;
-      standing = g.standing
-          ∙ ap (λ (ts : List Arrival). standing_behind old.course.standing ts) l.is
-          ∙ standing_more l.passed l.last old.course.standing l.quiet
-          ∙ ap (λ (s : EndState). standing_with s l.last) r.standing ∙ n.standing;
-      connect = ap (λ (ts : List Arrival). connected ts) (sym all) ∙ n.connect;
-      conclude = λ now. ap (λ (ts : List Arrival). has_conclude ts) (sym all) ∙ n.conclude now;
+      at = rw (fault, standing) (ap (λ (ts : List Arrival). known_by ts
+          (standing_with (standing_at old.stage) l.last)) (sym all) ∙ n.known);
     }
 
 -- ---- what comes behind all messages, or a rule that is broken
@@ -296,32 +271,12 @@ abbrev NoInput : Coming → Type 0
 NoInput (comings.Input input) = ⊥
 NoInput _ = Unit {0}
 
--- nothing of the association changes by it
-record IsStill (stage : Stage) (coming : Coming) : Type 0 where
-  standing : standing_by stage askeds.Nothing None
-      ≡ standing_by stage askeds.Nothing (Some coming)
-  connect : is_connected stage askeds.Nothing None
-      ≡ is_connected stage askeds.Nothing (Some coming)
-  conclude : has_concluded stage askeds.Nothing (Some coming)
-      ≡ has_concluded stage askeds.Nothing None
-
-still : (stage : Stage) (coming : Coming) → NoInput coming → IsStill stage coming
-still stage (comings.Input input) n = absurd n
-still stages.Early (comings.Fault f) n = record { standing = refl; connect = refl; conclude = refl }
-still stages.Early comings.Pause n = record { standing = refl; connect = refl; conclude = refl }
-still stages.Early comings.End n = record { standing = refl; connect = refl; conclude = refl }
-still (stages.Open peer detail) (comings.Fault f) n =
-    record { standing = refl; connect = refl; conclude = refl }
-still (stages.Open peer detail) comings.Pause n =
-    record { standing = refl; connect = refl; conclude = refl }
-still (stages.Open peer detail) comings.End n =
-    record { standing = refl; connect = refl; conclude = refl }
-still (stages.Closed peer) (comings.Fault f) n =
-    record { standing = refl; connect = refl; conclude = refl }
-still (stages.Closed peer) comings.Pause n =
-    record { standing = refl; connect = refl; conclude = refl }
-still (stages.Closed peer) comings.End n =
-    record { standing = refl; connect = refl; conclude = refl }
+still : (coming : Coming) → NoInput coming → (old new : Position) → old ≡ new
+    → record old { fault = (with_coming coming new).fault } ≡ with_coming coming new
+still (comings.Input input) n old new e = absurd n
+still (comings.Fault f) n old new e = ap (λ (p : Position). record p { fault = Some f }) e
+still comings.Pause n old new e = ap (λ (p : Position). record p { fault = new.fault }) e
+still comings.End n old new e = ap (λ (p : Position). record p { fault = new.fault }) e
 
 due_always : (told : List Arrival) (stage : Stage) (coming : Coming) → NoInput coming
     → IsDue told stage coming
@@ -339,7 +294,7 @@ passed_always comings.End = refl
 held_other : (rows : CentreRows) (items : List Item) (told later : List Arrival)
     (turns : List Turn) (coming : Coming) (old : Talking) (course : Course)
     (out written : List ℕ) → ReadsOn rows items told turns old
-    → course.fault ≡ fault_held (Some coming)
+    → course.fault ≡ (with_coming coming (position_at old.stage)).fault
     → GoesFurther called (text_given items) told later old.course old.out course written
     → handed_out later ≡ [] → NoInput coming
     → HasRead items (told ++ later) (turns ++ turns_held (Some coming))
@@ -347,17 +302,15 @@ held_other : (rows : CentreRows) (items : List Item) (told later : List Arrival)
     → IsHeld items told later turns coming old.stage
     (fetched course out coming behinds.Nothing old)
 held_other rows items told later turns coming old course out written r fault g handed n reads =
-    let same = still old.stage coming n in
     record {
       stands = g.stands;
-      fault = fault;
       reads = reads;
       due = due_always (told ++ later) old.stage coming n;
       passed = passed_always coming;
-      standing = g.standing ∙ quiet_standing later old.course.standing handed ∙ r.standing
-          ∙ same.standing;
-      connect = quiet_connected told later handed ∙ r.connect ∙ same.connect;
-      conclude = λ now. still_concluded told later (r.conclude (sym same.conclude ∙ now));
+      at = rw (fault, g.standing) (still coming n (known_by (told ++ later)
+          (standing_behind old.course.standing later)) (position_at old.stage)
+          (quiet_known told later old.course.standing handed
+          ∙ ap (λ (p : Position). record p { fault = None }) r.at));
     }
 
 -- what the items tell, where nothing more was handed out
@@ -399,13 +352,13 @@ no_input behinds.Nothing = tt
 no_input behinds.Pause = tt
 no_input behinds.End = tt
 
-no_fault : (behind : Behind) → fault_held (Some (coming_behind behind)) ≡ None
-no_fault behinds.Nothing = refl
-no_fault behinds.Pause = refl
-no_fault behinds.End = refl
+no_fault : (behind : Behind) (p : Position) → (with_coming (coming_behind behind) p).fault ≡ p.fault
+no_fault behinds.Nothing p = refl
+no_fault behinds.Pause p = refl
+no_fault behinds.End p = refl
 
 -- no offer stands where it reads on
-unoffered : (stage : Stage) → is_offered (standing_by stage askeds.Nothing None) ≡ false
+unoffered : (stage : Stage) → is_offered (standing_at stage) ≡ false
 unoffered stages.Early = refl
 unoffered (stages.Open peer detail) = refl
 unoffered (stages.Closed peer) = refl
@@ -429,9 +382,9 @@ held_behind rows items told later turns old course out written r fault g handed 
     let coming = coming_behind old.behind in
     let new = fetched course out coming behinds.Nothing old in
     let n = left_nothing (is_offered old.course.standing) (text_given items) told later course
-    (ap (λ (s : EndState). is_offered s) r.standing ∙ unoffered old.stage) left in
+    (ap (λ (p : Position). is_offered p.standing) r.at ∙ unoffered old.stage) left in
     held_other rows items told later turns coming old course out written r
-    (fault ∙ sym (no_fault old.behind)) g handed (no_input old.behind)
+    (fault ∙ sym (no_fault old.behind (position_at old.stage))) g handed (no_input old.behind)
     (read_by items (told ++ later) (turns ++ turns_held (Some coming)) new fault
     (done_behind items told later turns old new n.0.0 r.within handed n.0.1 n.1))
 
@@ -576,8 +529,7 @@ passes_fault rows items told turns f old course out idle empty more s fault a =
 -- ---- after want of memory
 
 unbroken_by : (fault : Option StackFault) (stage : Stage)
-    → state_with fault (standing_by stage askeds.Nothing None)
-    ≡ state_with None (standing_by stage askeds.Nothing None) → fault ≡ None
+    → state_with fault (standing_at stage) ≡ state_with None (standing_at stage) → fault ≡ None
 unbroken_by None stage e = refl
 unbroken_by (Some f) stages.Early e = absurd cc
 unbroken_by (Some f) (stages.Open peer detail) e = absurd cc
@@ -610,29 +562,24 @@ stands_kept rows items told turns old course idle empty more s there standing st
     let new = with_course course old in
     let r = idle_runs rows items told turns old idle s in
     let x = reads_on rows items told turns old r empty more in
-    let stage_standing = standing ∙ x.standing in
+    let rests = ap (λ (p : Position). p.standing) x.at in
     let fault : course.fault ≡ None =
     unbroken_by course.fault old.stage
-    (ap (λ (g : EndState). state_with course.fault g) (sym stage_standing) ∙ state
-    ∙ ap (λ (f : Option StackFault). state_with f old.course.standing) x.fault
-    ∙ ap (λ (g : EndState). state_with None g) x.standing) in
+    (ap (λ (g : EndState). state_with course.fault g) (sym (standing ∙ rests)) ∙ state
+    ∙ ap (λ (p : Position). state_with p.fault p.standing) x.at) in
     let seen : turns ≡ turns ++ turns_held old.held =
     sym (append-nil turns) ∙ ap (λ (held : Option Coming). turns ++ turns_held held) (sym empty) in
     let w = within_same items told turns old new refl x.within in
     idle_stands rows items told told turns old new idle refl refl refl refl s (record {
       stands = there;
-      fault = fault ∙ sym x.fault ∙ r.fault;
       reads = subst (λ (ts : List Turn). HasRead items told ts new) seen
           (read_by items told turns new fault
           (within_behind items told turns new old.behind w.item w.behind w));
       due = r.due;
       passed = r.passed;
-      begun = r.begun;
-      finished = r.finished;
-      ending = r.ending;
-      standing = standing ∙ r.standing;
-      connected = r.connected;
-      concluded = r.concluded;
+      at = same_position told old.course course
+          (fault ∙ sym (ap (λ (p : Position). p.fault) x.at)) standing ∙ r.at;
+      reached = r.reached;
       agreed = r.agreed;
       waits = tt;
       last = tt;

@@ -1,6 +1,7 @@
 pub mod SeenTurns
 pub mod Acted
 pub mod ToldAll
+pub mod Known
 pub mod Cases
 pub mod Composed
 pub mod Stepping

@@ -28,9 +28,8 @@ use Rattle.tase_map.proofs.MessageOrder.{HasBegun, PduComes, HeardComes, Comes}
 use Rattle.tase_conn.specs.declared.stage.Stage.{Stage}
 use Rattle.tase_conn.specs.declared.stage.Stage.TheVariants as stages
 use Rattle.tase_conn.specs.declared.stage.Coming.TheVariants as comings
-use Rattle.tase_conn.specs.declared.stage.PendingEvent.TheVariants as askeds
-use Rattle.tase_conn.specs.Places.{InputIsDue, standing_by, is_connected}
-use Rattle.tase_conn.specs.Places.{has_concluded}
+use Rattle.tase_conn.specs.Places.{InputIsDue, Position, position_at, has_begun, has_finished}
+use Rattle.tase_conn.specs.Places.{standing_at, with_coming}
 
 -- ---- searches over one message more
 
@@ -62,18 +61,6 @@ connected told = is_some (first_in connect_in told)
 abbrev pub has_conclude : List Arrival → Bool
 has_conclude told = list_any is_conclude told
 
-pub still_connected : (told later : List Arrival) → connected told ≡ true
-    → connected (told ++ later) ≡ true
-still_connected told later c = some-append connect_in told later ∙ rw c refl
-
-pub still_unconnected : (told later : List Arrival) → connected told ≡ false
-    → connected later ≡ false → connected (told ++ later) ≡ false
-still_unconnected told later c l = some-append connect_in told later ∙ rw (c, l) refl
-
-pub still_concluded : (told later : List Arrival) → has_conclude told ≡ true
-    → has_conclude (told ++ later) ≡ true
-still_concluded told later c = list_any-append is_conclude told later ∙ rw c refl
-
 first_behind : (front : List Arrival) (c : Connecting) → connected front ≡ false
     → first_in connect_in (front ++ heard (heards.Connect c) ∷ []) ≡ Some c
 first_behind [] c e = refl
@@ -104,27 +91,55 @@ quiet_unconnected (confirmed c ∷ told) e = quiet_unconnected told e
 quiet_unconnected (gone ∷ told) e = absurd cc
 quiet_unconnected (heard h ∷ told) e = absurd cc
 
+pub quiet_unconcluded : (told : List Arrival) → handed_out told ≡ [] → has_conclude told ≡ false
+quiet_unconcluded [] e = refl
+quiet_unconcluded (asked r ∷ told) e = quiet_unconcluded told e
+quiet_unconcluded (confirmed c ∷ told) e = quiet_unconcluded told e
+quiet_unconcluded (gone ∷ told) e = absurd cc
+quiet_unconcluded (heard h ∷ told) e = absurd cc
+
+-- what is known of the association by messages, and how the end stands
+abbrev pub known_by : List Arrival → EndState → Position
+known_by told standing = record {
+  fault = None;
+  standing = standing;
+  connected = connected told;
+  concluded = has_conclude told;
+}
+
+or_false : (b : Bool) → (b || false) ≡ b
+or_false true = refl
+or_false false = refl
+
+pub quiet_known : (told later : List Arrival) (standing : EndState) → handed_out later ≡ []
+    → known_by (told ++ later) (standing_behind standing later) ≡ known_by told standing
+quiet_known told later standing e = rw (
+  quiet_standing later standing e,
+  some-append connect_in told later,
+  list_any-append is_conclude told later,
+  quiet_unconnected later e,
+  quiet_unconcluded later e,
+  or_false (connected told),
+  or_false (has_conclude told),
+) refl
+
+some_front : (front : List Arrival) (t : Arrival) → 1 ≤ length (front ++ t ∷ [])
+some_front front t = omega (arith, length-append front (t ∷ []))
+
 -- ---- the message that is handed out
 
 -- where no event waits: it may come behind those before it, and these are known of the association
 pub record IsNext (front : List Arrival) (last : Arrival) (stage : Stage) : Type 0 where
   pub comes : Comes front last
   pub lawful : IsLawfulTold last
-  pub connect : connected front ≡ is_connected stage askeds.Nothing None
-  pub conclude : has_concluded stage askeds.Nothing None ≡ true → has_conclude front ≡ true
+  pub known : known_by front (standing_at stage) ≡ position_at stage
 
 -- it is due, and what is known of the association is known with it
 pub record IsNoted (front : List Arrival) (last : Arrival) (stage : Stage) (input : StackIn) : Type 0
   where
     pub due : InputIsDue (front ++ last ∷ []) stage input
-    pub standing : standing_with (standing_by stage askeds.Nothing None) last
-        ≡ standing_by stage askeds.Nothing (Some (comings.Input input))
-    pub connect : connected (front ++ last ∷ [])
-        ≡ is_connected stage askeds.Nothing (Some (comings.Input input))
-    pub conclude : has_concluded stage askeds.Nothing (Some (comings.Input input)) ≡ true
-        → has_conclude (front ++ last ∷ []) ≡ true
-
--- ---- before the association
+    pub known : known_by (front ++ last ∷ []) (standing_with (standing_at stage) last)
+        ≡ with_coming (comings.Input input) (position_at stage)
 
 enough : (a b c : Bool) → (a && (b && not c)) ≡ true → c ≡ false
 enough true true true e = absurd (false≢true e)
@@ -132,236 +147,137 @@ enough true true false e = refl
 enough true false c e = absurd (false≢true e)
 enough false b c e = absurd (false≢true e)
 
-early_connect : (b : Bool) (front : List Arrival) (c : Connecting) → connected front ≡ false
-    → (b ≡ true → is_too_little c.initiate ≡ false)
-    → standing_with standings.Waiting (heard (heards.Connect c)) ≡ standing_offered b
-    → IsNoted front (heard (heards.Connect c)) stages.Early
-    (if b then inputs.Offer c.title c.initiate else inputs.BadOffer)
-early_connect true front c e offer is = record {
-  due = record {
-    connect = c;
-    first = first_behind front c e;
-    title_is = refl;
-    initiate_is = refl;
-    enough = offer refl;
-  };
-  standing = is;
-  connect = ap (λ (o : Option Connecting). is_some o) (first_behind front c e);
-  conclude = λ never. absurd (false≢true never);
-}
-early_connect false front c e offer is = record {
-  due = tt;
-  standing = is;
-  connect = ap (λ (o : Option Connecting). is_some o) (first_behind front c e);
-  conclude = λ never. absurd (false≢true never);
-}
+-- ---- what is due
 
--- a message by which nothing begins
-early_other : (front : List Arrival) (last : Arrival) (input : StackIn) → connected front ≡ false
-    → connected (last ∷ []) ≡ false → InputIsDue (front ++ last ∷ []) stages.Early input
-    → standing_with standings.Waiting last
-    ≡ standing_by stages.Early askeds.Nothing (Some (comings.Input input))
-    → is_connected stages.Early askeds.Nothing (Some (comings.Input input)) ≡ false
-    → has_concluded stages.Early askeds.Nothing (Some (comings.Input input)) ≡ false
-    → IsNoted front last stages.Early input
-early_other front last input e l due standing c d = record {
-  due = due;
-  standing = standing;
-  connect = still_unconnected front (last ∷ []) e l ∙ sym c;
-  conclude = λ never. absurd (false≢true (sym d ∙ never));
-}
-
+-- before an association, and behind its close, no PDU asks for anything
 unbegun : (front : List Arrival) → connected front ≡ false → HasBegun front → ⊥
 unbegun front e b = false≢true (sym e ∙ b.connect)
-
-early_pdu : (front : List Arrival) (p : MmsPdu) → connected front ≡ false → PduComes front p
-    → IsNoted front (heard (heards.Pdu p)) stages.Early (inputs.Pdu p)
-early_pdu front (pdus.Request invoke request) e c = absurd (unbegun front e c)
-early_pdu front pdus.Conclude e c = absurd (unbegun front e c)
-early_pdu front (pdus.Response invoke response) e c =
-    early_other front (heard (heards.Pdu (pdus.Response invoke response)))
-    (inputs.Pdu (pdus.Response invoke response)) e refl refl refl refl refl
-early_pdu front (pdus.Error x) e c =
-    early_other front (heard (heards.Pdu (pdus.Error x))) (inputs.Pdu (pdus.Error x)) e refl refl
-    refl refl refl
-early_pdu front (pdus.Report r) e c =
-    early_other front (heard (heards.Pdu (pdus.Report r))) (inputs.Pdu (pdus.Report r)) e refl refl
-    refl refl refl
-early_pdu front (pdus.Reject r) e c =
-    early_other front (heard (heards.Pdu (pdus.Reject r))) (inputs.Pdu (pdus.Reject r)) e refl refl
-    refl refl refl
-early_pdu front (pdus.Initiate offer) e c =
-    early_other front (heard (heards.Pdu (pdus.Initiate offer))) (inputs.Pdu (pdus.Initiate offer))
-    e refl refl refl refl refl
-early_pdu front (pdus.Initiated offer) e c =
-    early_other front (heard (heards.Pdu (pdus.Initiated offer)))
-    (inputs.Pdu (pdus.Initiated offer)) e refl refl refl refl refl
-early_pdu front pdus.InitiateError e c =
-    early_other front (heard (heards.Pdu pdus.InitiateError)) (inputs.Pdu pdus.InitiateError) e
-    refl refl refl refl refl
-early_pdu front pdus.Concluded e c =
-    early_other front (heard (heards.Pdu pdus.Concluded)) (inputs.Pdu pdus.Concluded) e refl refl
-    refl refl refl
-
-some_front : (front : List Arrival) (t : Arrival) → 1 ≤ length (front ++ t ∷ [])
-some_front front t = omega (arith, length-append front (t ∷ []))
-
-early_heard : (front : List Arrival) (h : Heard) → connected front ≡ false → HeardComes front h
-    → IsNoted front (heard h) stages.Early (input_heard h)
-early_heard front (heards.Connect c) e m =
-    early_connect (is_offer c) front c e
-    (enough (is_some (acse_of c.contexts)) (bytes_eq c.context mms_context)
-    (is_too_little c.initiate)) refl
-early_heard front (heards.Accept a) e m = absurd m
-early_heard front heards.Refuse e m = absurd m
-early_heard front heards.Finish e m = absurd (false≢true (sym e ∙ m))
-early_heard front heards.Disconnect e m = absurd m
-early_heard front heards.Abort e m =
-    early_other front (heard heards.Abort) inputs.Aborted e refl
-    (some_front front (heard heards.Abort)) refl refl refl
-early_heard front heards.AbortAccept e m =
-    early_other front (heard heards.AbortAccept) inputs.Aborted e refl
-    (some_front front (heard heards.AbortAccept)) refl refl refl
-early_heard front (heards.Pdu p) e m = early_pdu front p e m
-early_heard front (heards.BadRequest invoke) e m = absurd (unbegun front e m)
-
--- ---- while it is open
-
-open_other : (front : List Arrival) (last : Arrival) (peer : ℕ) (detail : ℤ) (input : StackIn)
-    → connected front ≡ true → InputIsDue (front ++ last ∷ []) (stages.Open peer detail) input
-    → standing_with standings.Accepted last
-    ≡ standing_by (stages.Open peer detail) askeds.Nothing (Some (comings.Input input))
-    → (has_concluded (stages.Open peer detail) askeds.Nothing (Some (comings.Input input)) ≡ true
-    → is_conclude last ≡ true)
-    → IsNoted front last (stages.Open peer detail) input
-open_other front last peer detail input e due standing said = record {
-  due = due;
-  standing = standing;
-  connect = still_connected front (last ∷ []) e;
-  conclude = λ now. list_any-append is_conclude front (last ∷ [])
-      ∙ ap (λ (b : Bool). has_conclude front || (b || false)) (said now)
-      ∙ or_true (has_conclude front);
-}
-
-pdu_concludes : (p : MmsPdu) (peer : ℕ) (detail : ℤ)
-    → has_concluded (stages.Open peer detail) askeds.Nothing
-    (Some (comings.Input (inputs.Pdu p))) ≡ true → is_conclude (heard (heards.Pdu p)) ≡ true
-pdu_concludes (pdus.Request invoke request) peer detail e = absurd (false≢true e)
-pdu_concludes pdus.Conclude peer detail e = refl
-pdu_concludes (pdus.Response invoke response) peer detail e = absurd (false≢true e)
-pdu_concludes (pdus.Error x) peer detail e = absurd (false≢true e)
-pdu_concludes (pdus.Report r) peer detail e = absurd (false≢true e)
-pdu_concludes (pdus.Reject r) peer detail e = absurd (false≢true e)
-pdu_concludes (pdus.Initiate offer) peer detail e = absurd (false≢true e)
-pdu_concludes (pdus.Initiated offer) peer detail e = absurd (false≢true e)
-pdu_concludes pdus.InitiateError peer detail e = absurd (false≢true e)
-pdu_concludes pdus.Concluded peer detail e = absurd (false≢true e)
-
--- nothing that is said so is a conclude
-no_conclude : {P : Type 0} → false ≡ true → P
-no_conclude e = absurd (false≢true e)
-
-open_heard : (front : List Arrival) (h : Heard) (peer : ℕ) (detail : ℤ) → connected front ≡ true
-    → HeardComes front h → IsLawfulTold (heard h)
-    → IsNoted front (heard h) (stages.Open peer detail) (input_heard h)
-open_heard front (heards.Connect c) peer detail e m l = absurd (false≢true (sym m ∙ e))
-open_heard front (heards.Accept a) peer detail e m l = absurd m
-open_heard front heards.Refuse peer detail e m l = absurd m
-open_heard front heards.Finish peer detail e m l =
-    open_other front (heard heards.Finish) peer detail inputs.Released e tt refl no_conclude
-open_heard front heards.Disconnect peer detail e m l = absurd m
-open_heard front heards.Abort peer detail e m l =
-    open_other front (heard heards.Abort) peer detail inputs.Aborted e
-    (some_front front (heard heards.Abort)) refl no_conclude
-open_heard front heards.AbortAccept peer detail e m l =
-    open_other front (heard heards.AbortAccept) peer detail inputs.Aborted e
-    (some_front front (heard heards.AbortAccept)) refl no_conclude
-open_heard front (heards.Pdu p) peer detail e m l =
-    open_other front (heard (heards.Pdu p)) peer detail (inputs.Pdu p) e l refl
-    (pdu_concludes p peer detail)
-open_heard front (heards.BadRequest invoke) peer detail e m l =
-    open_other front (heard (heards.BadRequest invoke)) peer detail (inputs.BadRequest invoke) e tt
-    refl no_conclude
-
--- ---- behind its close
-
-closed_other : (front : List Arrival) (last : Arrival) (peer : ℕ) (input : StackIn)
-    → connected front ≡ true → has_conclude front ≡ true
-    → InputIsDue (front ++ last ∷ []) (stages.Closed peer) input
-    → standing_with standings.Accepted last
-    ≡ standing_by (stages.Closed peer) askeds.Nothing (Some (comings.Input input))
-    → IsNoted front last (stages.Closed peer) input
-closed_other front last peer input e d due standing = record {
-  due = due;
-  standing = standing;
-  connect = still_connected front (last ∷ []) e;
-  conclude = λ now. still_concluded front (last ∷ []) d;
-}
 
 over : (front : List Arrival) → has_conclude front ≡ true → HasBegun front → ⊥
 over front d b = false≢true (sym b.conclude ∙ d)
 
-pdu_over : (front : List Arrival) (p : MmsPdu) → has_conclude front ≡ true → PduComes front p
+no_turn : (front : List Arrival) (p : MmsPdu) → (HasBegun front → ⊥) → PduComes front p
     → turn_of_pdu p ≡ None
-pdu_over front (pdus.Request invoke request) d c = absurd (over front d c)
-pdu_over front pdus.Conclude d c = absurd (over front d c)
-pdu_over front (pdus.Response invoke response) d c = refl
-pdu_over front (pdus.Error x) d c = refl
-pdu_over front (pdus.Report r) d c = refl
-pdu_over front (pdus.Reject r) d c = refl
-pdu_over front (pdus.Initiate offer) d c = refl
-pdu_over front (pdus.Initiated offer) d c = refl
-pdu_over front pdus.InitiateError d c = refl
-pdu_over front pdus.Concluded d c = refl
+no_turn front (pdus.Request invoke request) none c = absurd (none c)
+no_turn front pdus.Conclude none c = absurd (none c)
+no_turn front (pdus.Response invoke response) none c = refl
+no_turn front (pdus.Error x) none c = refl
+no_turn front (pdus.Report r) none c = refl
+no_turn front (pdus.Reject r) none c = refl
+no_turn front (pdus.Initiate offer) none c = refl
+no_turn front (pdus.Initiated offer) none c = refl
+no_turn front pdus.InitiateError none c = refl
+no_turn front pdus.Concluded none c = refl
 
-closed_heard : (front : List Arrival) (h : Heard) (peer : ℕ) → connected front ≡ true
-    → has_conclude front ≡ true → HeardComes front h
-    → IsNoted front (heard h) (stages.Closed peer) (input_heard h)
-closed_heard front (heards.Connect c) peer e d m = absurd (false≢true (sym m ∙ e))
-closed_heard front (heards.Accept a) peer e d m = absurd m
-closed_heard front heards.Refuse peer e d m = absurd m
-closed_heard front heards.Finish peer e d m =
-    closed_other front (heard heards.Finish) peer inputs.Released e d tt refl
-closed_heard front heards.Disconnect peer e d m = absurd m
-closed_heard front heards.Abort peer e d m =
-    closed_other front (heard heards.Abort) peer inputs.Aborted e d
-    (some_front front (heard heards.Abort)) refl
-closed_heard front heards.AbortAccept peer e d m =
-    closed_other front (heard heards.AbortAccept) peer inputs.Aborted e d
-    (some_front front (heard heards.AbortAccept)) refl
-closed_heard front (heards.Pdu p) peer e d m =
-    closed_other front (heard (heards.Pdu p)) peer (inputs.Pdu p) e d (pdu_over front p d m) refl
-closed_heard front (heards.BadRequest invoke) peer e d m = absurd (over front d m)
+offer_due : (b : Bool) (front : List Arrival) (c : Connecting) → connected front ≡ false
+    → (b ≡ true → is_too_little c.initiate ≡ false)
+    → InputIsDue (front ++ heard (heards.Connect c) ∷ []) stages.Early
+    (if b then inputs.Offer c.title c.initiate else inputs.BadOffer)
+offer_due false front c e offer = tt
+offer_due true front c e offer = record {
+  connect = c;
+  first = first_behind front c e;
+  title_is = refl;
+  initiate_is = refl;
+  enough = offer refl;
+}
 
--- ---- however far it has come
+abort_due : (front : List Arrival) (t : Arrival) (stage : Stage)
+    → InputIsDue (front ++ t ∷ []) stage inputs.Aborted
+abort_due front t stages.Early = some_front front t
+abort_due front t (stages.Open peer detail) = some_front front t
+abort_due front t (stages.Closed peer) = some_front front t
 
-gone_noted : (front : List Arrival) (stage : Stage) → IsNext front gone stage
-    → IsNoted front gone stage inputs.Aborted
-gone_noted front stages.Early n =
-    early_other front gone inputs.Aborted n.connect refl (some_front front gone) refl refl refl
-gone_noted front (stages.Open peer detail) n =
-    open_other front gone peer detail inputs.Aborted n.connect
-    (some_front front gone) refl no_conclude
-gone_noted front (stages.Closed peer) n =
-    closed_other front gone peer inputs.Aborted n.connect (n.conclude refl)
-    (some_front front gone) refl
+heard_due : (front : List Arrival) (h : Heard) (stage : Stage) → connected front ≡ has_begun stage
+    → has_conclude front ≡ has_finished stage → HeardComes front h → IsLawfulTold (heard h)
+    → InputIsDue (front ++ heard h ∷ []) stage (input_heard h)
+heard_due front (heards.Connect c) stages.Early e d m l =
+    offer_due (is_offer c) front c e
+    (enough (is_some (acse_of c.contexts)) (bytes_eq c.context mms_context)
+    (is_too_little c.initiate))
+heard_due front (heards.Connect c) (stages.Open peer detail) e d m l =
+    absurd (false≢true (sym m ∙ e))
+heard_due front (heards.Connect c) (stages.Closed peer) e d m l = absurd (false≢true (sym m ∙ e))
+heard_due front (heards.Accept a) stage e d m l = absurd m
+heard_due front heards.Refuse stage e d m l = absurd m
+heard_due front heards.Disconnect stage e d m l = absurd m
+heard_due front heards.Finish stages.Early e d m l = absurd (false≢true (sym e ∙ m))
+heard_due front heards.Finish (stages.Open peer detail) e d m l = tt
+heard_due front heards.Finish (stages.Closed peer) e d m l = tt
+heard_due front heards.Abort stage e d m l = abort_due front (heard heards.Abort) stage
+heard_due front heards.AbortAccept stage e d m l =
+    abort_due front (heard heards.AbortAccept) stage
+heard_due front (heards.Pdu p) stages.Early e d m l = no_turn front p (unbegun front e) m
+heard_due front (heards.Pdu p) (stages.Open peer detail) e d m l = l
+heard_due front (heards.Pdu p) (stages.Closed peer) e d m l = no_turn front p (over front d) m
+heard_due front (heards.BadRequest invoke) stages.Early e d m l = absurd (unbegun front e m)
+heard_due front (heards.BadRequest invoke) (stages.Open peer detail) e d m l = tt
+heard_due front (heards.BadRequest invoke) (stages.Closed peer) e d m l = absurd (over front d m)
 
-heard_noted : (front : List Arrival) (h : Heard) (stage : Stage) → IsNext front (heard h) stage
-    → IsNoted front (heard h) stage (input_heard h)
-heard_noted front h stages.Early n = early_heard front h n.connect n.comes
-heard_noted front h (stages.Open peer detail) n =
-    open_heard front h peer detail n.connect n.comes n.lawful
-heard_noted front h (stages.Closed peer) n =
-    closed_heard front h peer n.connect (n.conclude refl) n.comes
+-- ---- what is known
 
--- a message of which this is handed out
+abbrev with_told : Arrival → Position → Position
+with_told t p = record p {
+  standing = standing_with p.standing t;
+  connected = p.connected || connected (t ∷ []);
+  concluded = p.concluded || has_conclude (t ∷ []);
+}
+
+known_more : (front : List Arrival) (last : Arrival) (standing : EndState)
+    → known_by (front ++ last ∷ []) (standing_with standing last)
+    ≡ with_told last (known_by front standing)
+known_more front last standing =
+    rw (some-append connect_in front (last ∷ []), list_any-append is_conclude front (last ∷ [])) refl
+
+known_offer : (b : Bool) (c : Connecting) (stage : Stage)
+    → (let p : Position = record {
+      fault = None;
+      standing = standing_offered b;
+      connected = has_begun stage || true;
+      concluded = has_finished stage || false;
+    } in p) ≡ with_coming (comings.Input (if b then inputs.Offer c.title c.initiate else inputs.BadOffer))
+    (position_at stage)
+known_offer true c stage = rw (or_true (has_begun stage), or_false (has_finished stage)) refl
+known_offer false c stage = rw (or_true (has_begun stage), or_false (has_finished stage)) refl
+
+heard_known : (front : List Arrival) (h : Heard) (stage : Stage) → HeardComes front h
+    → with_told (heard h) (position_at stage)
+    ≡ with_coming (comings.Input (input_heard h)) (position_at stage)
+heard_known front (heards.Connect c) stage m = known_offer (is_offer c) c stage
+heard_known front (heards.Accept a) stage m = absurd m
+heard_known front heards.Refuse stage m = absurd m
+heard_known front heards.Disconnect stage m = absurd m
+heard_known front heards.Finish stage m =
+    rw (or_false (has_begun stage), or_false (has_finished stage)) refl
+heard_known front heards.Abort stage m =
+    rw (or_false (has_begun stage), or_false (has_finished stage)) refl
+heard_known front heards.AbortAccept stage m =
+    rw (or_false (has_begun stage), or_false (has_finished stage)) refl
+heard_known front (heards.Pdu p) stage m =
+    rw (or_false (has_begun stage), or_false (is_conclude (heard (heards.Pdu p)))) refl
+heard_known front (heards.BadRequest invoke) stage m =
+    rw (or_false (has_begun stage), or_false (has_finished stage)) refl
+
+-- ---- a message of which this is handed out
+
 pub noted : (front : List Arrival) (last : Arrival) (stage : Stage) (input : StackIn)
     → IsNext front last stage → stack_in last ≡ Some input → IsNoted front last stage input
 noted front (asked r) stage input n e = absurd (none-some input e)
 noted front (confirmed c) stage input n e = absurd (none-some input e)
 noted front gone stage input n e =
-    subst (λ (i : StackIn). IsNoted front gone stage i) (same_Some inputs.Aborted input e)
-    (gone_noted front stage n)
+    subst (λ (i : StackIn). IsNoted front gone stage i) (same_Some inputs.Aborted input e) (record {
+      due = abort_due front gone stage;
+      known = known_more front gone (standing_at stage)
+          ∙ ap (λ (p : Position). with_told gone p) n.known
+          ∙ rw (or_false (has_begun stage), or_false (has_finished stage)) refl;
+    })
 noted front (heard h) stage input n e =
+    let begun = ap (λ (p : Position). p.connected) n.known in
     subst (λ (i : StackIn). IsNoted front (heard h) stage i) (same_Some (input_heard h) input e)
-    (heard_noted front h stage n)
+    (record {
+      due = heard_due front h stage begun (ap (λ (p : Position). p.concluded) n.known) n.comes
+          n.lawful;
+      known = known_more front (heard h) (standing_at stage)
+          ∙ ap (λ (p : Position). with_told (heard h) p) n.known
+          ∙ heard_known front h stage n.comes;
+    })

@@ -31,7 +31,7 @@ use Rattle.tase_conn.specs.declared.stage.Progress.TheVariants as progresses
 use Rattle.tase_conn.specs.Talking.{Talking, IsFree, MayLeave, IsResting, is_running}
 use Rattle.tase_conn.specs.Talking.{is_open_stage, stage_peer, first_filled, next_pending}
 use Rattle.tase_conn.specs.Places.{turns_held, BeginsTurns, IsDone, IsWithin, behind_of, ReadsBy}
-use Rattle.tase_conn.specs.Places.{standing_by, Runs, GoesBy, HasAbortRoom, RoomBy}
+use Rattle.tase_conn.specs.Places.{standing_at, Position, position_of, Runs, GoesBy, HasAbortRoom, RoomBy}
 use Rattle.tase_conn.specs.Places.{ConnStandsAt, IsPlaced, IsPeer}
 use Rattle.tase_conn.specs.Answering.{parting_octets}
 use Rattle.tase_conn.specs.Leaving.{Parts, IsLeft}
@@ -142,17 +142,12 @@ started rows course out farewell stands settled waiting room empty =
       peer = tt;
       goes = record {
         stands = stands;
-        fault = w.0;
         reads = clear_match (IsDone [] [] [] (starting rows course out farewell))
             (λ fault. BeginsTurns [] (turns_of [])) course.fault w.0 done;
         due = tt;
         passed = tt;
-        begun = refl;
-        finished = refl;
-        ending = refl;
-        standing = w.1;
-        connected = refl;
-        concluded = λ e. absurd cc;
+        at = rw (w.0, w.1) refl;
+        reached = refl;
         agreed = tt;
         waits = tt;
         last = tt;
@@ -187,7 +182,7 @@ nothing_read items item told seen old course d = record {
 }
 
 -- an end that rests waits for its offer, or its association stands
-resting_so : (stage : Stage) (s : EndState) → s ≡ standing_by stage askeds.Nothing None
+resting_so : (stage : Stage) (s : EndState) → s ≡ standing_at stage
     → (s ≡ standings.Waiting) ⊎ (s ≡ standings.Accepted)
 resting_so stages.Early s e = inl e
 resting_so (stages.Open peer detail) s e = inr e
@@ -215,12 +210,16 @@ pub record Fed (items : List Item) (item : Item) (told : List Arrival) (old new 
   pub state : stack_state_of new ≡ stack_state_of old
 
 rests_clear : (stage : Stage) (old new : Course) → old.fault ≡ None
-    → old.standing ≡ standing_by stage askeds.Nothing None → new.standing ≡ old.standing
+    → old.standing ≡ standing_at stage → new.standing ≡ old.standing
     → stack_state_of new ≡ stack_state_of old → new.fault ≡ None
 rests_clear stage old new clear is standing state =
     still_clear new.fault new.standing (resting_so stage new.standing (standing ∙ is))
     (state ∙ ap (λ (f : Option StackFault). state_with f old.standing) clear
     ∙ ap state_by (sym standing))
+
+pub same_position : (told : List Arrival) (old new : Course) → new.fault ≡ old.fault
+    → new.standing ≡ old.standing → position_of told new ≡ position_of told old
+same_position told old new e f = rw (e, f) refl
 
 runs_taken : (rows : CentreRows) (items : List Item) (told : List Arrival) (turns : List Turn)
     (item : Item) (centre : CentreRows) (course : Course) (held : Option Coming)
@@ -237,26 +236,23 @@ runs_taken rows items told turns item centre course None behinds.Nothing stage p
     talking centre course None behinds.Nothing stage progress out farewell in
     let new : Talking =
     talking centre fed None (behind_of item) stage progress out farewell in
+    let is_clear : course.fault ≡ None = ap (λ (p : Position). p.fault) r.at in
     let done : IsDone items told (turns ++ []) old = match_clear
     (IsDone items told (turns ++ []) old)
-    (λ fault. BeginsTurns (turns ++ []) (turns_of items)) course.fault r.fault r.reads in
-    let clear = rests_clear stage course fed r.fault r.standing f.standing f.state in
+    (λ fault. BeginsTurns (turns ++ []) (turns_of items)) course.fault is_clear r.reads in
+    let clear = rests_clear stage course fed is_clear
+    (ap (λ (p : Position). p.standing) r.at) f.standing f.state in
     record {
       stands = subst (λ (os : List ℕ). CourseStands called os told fed) (sym (text_on items item))
           (f.stands r.stands);
-      fault = clear;
       reads = clear_match (ReadsBy (behind_of item) (items ++ item ∷ []) told (turns ++ []) new)
           (λ fault. BeginsTurns (turns ++ []) (turns_of (items ++ item ∷ []))) fed.fault clear
           (read_item item (items ++ item ∷ []) told (turns ++ []) new
           (nothing_read items item told (turns ++ []) old fed done));
       due = tt;
       passed = tt;
-      begun = r.begun;
-      finished = r.finished;
-      ending = r.ending;
-      standing = f.standing ∙ r.standing;
-      connected = r.connected;
-      concluded = r.concluded;
+      at = same_position told course fed (clear ∙ sym is_clear) f.standing ∙ r.at;
+      reached = r.reached;
       agreed = r.agreed;
       waits = tt;
       last = tt;
@@ -366,8 +362,12 @@ settled_so rows items told turns centre course None behinds.Nothing stage progre
     let v : Talking =
     talking centre course None behinds.Nothing stage progress out farewell in
     let done : IsDone items told (turns ++ []) v = match_clear (IsDone items told (turns ++ []) v)
-    (λ fault. BeginsTurns (turns ++ []) (turns_of items)) course.fault r.fault r.reads in
-    (done.settled, not_offered course.standing (resting_so stage course.standing r.standing))
+    (λ fault. BeginsTurns (turns ++ []) (turns_of items)) course.fault
+    (ap (λ (p : Position). p.fault) r.at) r.reads in (
+      done.settled,
+      not_offered course.standing
+          (resting_so stage course.standing (ap (λ (p : Position). p.standing) r.at)),
+    )
 settled_so rows items told turns centre course (Some coming) b stage progress out farewell e h r =
     absurd cc
 settled_so rows items told turns centre course None behinds.Pause stage progress out farewell e h
@@ -411,17 +411,12 @@ pub runs_apart : (rows : CentreRows) (items : List Item) (told : List Arrival) (
     → Runs rows items told turns asked (apart v progress out farewell)
 runs_apart rows items told turns asked v progress out farewell r = record {
   stands = r.stands;
-  fault = r.fault;
   reads = reads_moved v.course.fault v.behind items told (turns ++ turns_held v.held) v
       (apart v progress out farewell) (λ s. s) refl r.reads;
   due = r.due;
   passed = r.passed;
-  begun = r.begun;
-  finished = r.finished;
-  ending = r.ending;
-  standing = r.standing;
-  connected = r.connected;
-  concluded = r.concluded;
+  at = r.at;
+  reached = r.reached;
   agreed = r.agreed;
   waits = r.waits;
   last = r.last;

@@ -19,7 +19,7 @@ use Rattle.stack_assoc.specs.declared.input.StackIn.TheVariants as inputs
 use Rattle.stack_assoc.specs.declared.end_state.EndState.{EndState}
 use Rattle.stack_assoc.specs.declared.end_state.EndState.TheVariants as standings
 use Rattle.stack_assoc.specs.Arrivals.{Arrival}
-use Rattle.stack_assoc.specs.Courses.{is_accepted, is_offered}
+use Rattle.stack_assoc.specs.Courses.{is_accepted, is_offered, finishing}
 use Rattle.stack_assoc.specs.Saying.{may_leave}
 use Rattle.stack_assoc.specs.Expectations.{setup_after}
 use Rattle.tase_views.specs.declared.event.EventKind.{EventKind}
@@ -46,16 +46,16 @@ use Rattle.tase_conn.specs.declared.stage.Step.{Step}
 use Rattle.tase_conn.specs.declared.stage.Step.TheVariants as steps
 use Rattle.tase_conn.specs.Talking.{Talking, pending_of}
 use Rattle.tase_conn.specs.Places.{ConnStandsAt, IsPlaced, Runs, RoomBy, HasAbortRoom, IsAgreed, InputIsDue}
-use Rattle.tase_conn.specs.Places.{PduIsDue, IsDue, has_begun, has_finished, standing_by, turn_for}
-use Rattle.tase_conn.specs.Places.{is_connected}
+use Rattle.tase_conn.specs.Places.{PduIsDue, IsDue, has_begun, has_finished, standing_at, turn_for}
+use Rattle.tase_conn.specs.Places.{Position, position_by, Reach, reach_of, reach_at, coming_by}
 use Rattle.tase_conn.specs.Answering.{parting_octets}
 use Rattle.tase_conn.specs.Leaving.{AddsAnswer, Parts, EndsFor, MayAnswer, MayEnd, finished}
 use Rattle.tase_conn.specs.Wanting.{IsIdle, refusal_said}
-use Rattle.tase_conn.specs.Acting.{StepsBy, StaysSo, GoesDown, holding, coming_by, steps_left}
+use Rattle.tase_conn.specs.Acting.{StepsBy, StaysSo, GoesDown, holding, steps_left}
 use Rattle.tase_conn.specs.Acting.{weight_behind, weight_held}
 use Rattle.tase_conn.proofs.Acted.{running_idle, asking, asks_event, Asking, Ended, Ending}
 use Rattle.tase_conn.proofs.Acted.{ends_step}
-use Rattle.tase_conn.proofs.Acted.{goes_step, open_by}
+use Rattle.tase_conn.proofs.Acted.{goes_step}
 use Rattle.tase_conn.proofs.ToldAll.{all_open, all_some, all_broken, all_ended}
 use Rattle.tase_conn.proofs.Cases.{asks_open, asks_request, asks_badly, asks_take, asks_close}
 use Rattle.tase_conn.proofs.Cases.{setup_known, declines_offer, declines_badly, ends_released}
@@ -87,25 +87,16 @@ asks_so rows items told turns turn event stage asked coming v new step at empty 
     (asks_event rows items told turns turn event stage asked coming v at empty idle makes s))
 
 -- whether the association is open, and what was agreed on, at a stage
-begun_at : (rows : CentreRows) (items : List Item) (told : List Arrival) (turns : List Turn)
+reached_at : (rows : CentreRows) (items : List Item) (told : List Arrival) (turns : List Turn)
     (v : Talking) (stage : Stage) → v.stage ≡ stage → Runs rows items told turns askeds.Nothing v
-    → list_any (begins rows) turns ≡ has_begun stage askeds.Nothing
-begun_at rows items told turns v stage at r =
-    r.begun ∙ ap (λ (x : Stage). has_begun x askeds.Nothing) at
-
-finished_at : (rows : CentreRows) (items : List Item) (told : List Arrival) (turns : List Turn)
-    (v : Talking) (stage : Stage) → v.stage ≡ stage → Runs rows items told turns askeds.Nothing v
-    → list_any finishes turns ≡ has_finished stage askeds.Nothing
-finished_at rows items told turns v stage at r =
-    r.finished ∙ ap (λ (x : Stage). has_finished x askeds.Nothing) at
+    → reach_of rows turns ≡ reach_at stage
+reached_at rows items told turns v stage at r = r.reached ∙ ap (λ (x : Stage). reach_at x) at
 
 is_open_at : (rows : CentreRows) (items : List Item) (told : List Arrival) (turns : List Turn)
     (v : Talking) (stage : Stage) → v.stage ≡ stage → Runs rows items told turns askeds.Nothing v
-    → is_open_behind rows turns
-    ≡ (has_begun stage askeds.Nothing && not (has_finished stage askeds.Nothing))
-is_open_at rows items told turns v stage at r =
-    open_by rows turns stage (begun_at rows items told turns v stage at r)
-    (finished_at rows items told turns v stage at r)
+    → is_open_behind rows turns ≡ (has_begun stage && not (has_finished stage))
+is_open_at rows items told turns v stage at r = ap (λ (x : Reach). x.begun && not x.finished)
+    (reached_at rows items told turns v stage at r)
 
 agreed_at : (rows : CentreRows) (items : List Item) (told : List Arrival) (turns : List Turn)
     (v : Talking) (stage : Stage) → v.stage ≡ stage → Runs rows items told turns askeds.Nothing v
@@ -131,7 +122,7 @@ opens_so rows items told turns title initiate offered peer v new step empty idle
     (askeds.Opening peer offered) (comings.Input (inputs.Offer title initiate)) v new step refl
     empty idle is e
     (λ r. asks_open rows told turns title initiate offered peer v.stage r.due
-    (subst (λ (x : CentreRows). place_of_title x title ≡ Some peer) s.rows_are place) g r.ending) s
+    (subst (λ (x : CentreRows). place_of_title x title ≡ Some peer) s.rows_are place) g (ap (λ (x : Reach). x.ending) r.reached)) s
 
 pdu_due : (told : List Arrival) (stage : Stage) (pdu : MmsPdu)
     → InputIsDue told stage (inputs.Pdu pdu) → PduIsDue stage pdu
@@ -155,7 +146,7 @@ requests_so rows items told turns invoke request v new step empty idle is e s =
     (pdu_due told v.stage (pdus.Request invoke request) r.due)
     (agreed_at rows items told turns
     (holding (comings.Input (inputs.Pdu (pdus.Request invoke request))) v) v.stage refl r)
-    r.ending) s
+    (ap (λ (x : Reach). x.ending) r.reached)) s
 
 pub requests_badly : (rows : CentreRows) (items : List Item) (told : List Arrival)
     (turns : List Turn) (invoke : ℕ) (v new : Talking) (step : Step) → v.held ≡ None
@@ -169,7 +160,7 @@ requests_badly rows items told turns invoke v new step empty idle is e s =
     is e
     (λ r. asks_badly rows told turns invoke v.stage r.due
     (agreed_at rows items told turns (holding (comings.Input (inputs.BadRequest invoke)) v) v.stage
-    refl r) r.ending) s
+    refl r) (ap (λ (x : Reach). x.ending) r.reached)) s
 
 pub takes_so : (rows : CentreRows) (items : List Item) (told : List Arrival) (turns : List Turn)
     (peer : ℕ) (detail : ℤ) (v new : Talking) (step : Step) → v.stage ≡ stages.Open peer detail
@@ -183,7 +174,7 @@ takes_so rows items told turns peer detail v new step at empty idle is e s =
     (λ r. asks_take rows told turns peer detail
     (agreed_at rows items told turns (holding comings.Pause v) (stages.Open peer detail) at r)
     (is_open_at rows items told turns (holding comings.Pause v) (stages.Open peer detail) at r)
-    r.ending) s
+    (ap (λ (x : Reach). x.ending) r.reached)) s
 
 pub closes_so : (rows : CentreRows) (items : List Item) (told : List Arrival) (turns : List Turn)
     (cause : Cause) (peer : ℕ) (detail : ℤ) (v new : Talking) (step : Step)
@@ -197,8 +188,9 @@ closes_so rows items told turns cause peer detail v new step at empty idle is e 
     (askeds.Closing cause) (coming_by cause) v new step at empty idle is e
     (λ r. asks_close rows told turns cause peer detail
     (agreed_at rows items told turns here (stages.Open peer detail) at r)
-    (is_open_at rows items told turns here (stages.Open peer detail) at r) r.ending
-    (finished_at rows items told turns here (stages.Open peer detail) at r)) s
+    (is_open_at rows items told turns here (stages.Open peer detail) at r) (ap (λ (x : Reach). x.ending) r.reached)
+    (ap (λ (x : Reach). x.finished)
+    (reached_at rows items told turns here (stages.Open peer detail) at r))) s
 
 -- ---- it ends
 
@@ -278,17 +270,8 @@ declines_so rows items told turns title initiate v new step is idle place a s =
     (added conn_ends.Declined (refusal_said v.course.setup) v new room.unsaid a)
     (λ r. declines_offer rows items told turns title initiate v.course.setup
     (subst (λ (x : CentreRows). place_of_title x title ≡ None) s.rows_are place)
-    (setup_known rows items told turns (holding coming v) r (connected_offer v.stage r.due))
-    (all_open rows items told turns (holding coming v) conn_ends.Declined r
-    (connected_offer v.stage r.due))) s
-  where
-    connected_offer : (stage : Stage)
-        → IsDue told stage (comings.Input (inputs.Offer title initiate))
-        → is_connected stage askeds.Nothing (Some (comings.Input (inputs.Offer title initiate)))
-        ≡ true
-    connected_offer stages.Early d = refl
-    connected_offer (stages.Open peer detail) d = refl
-    connected_offer (stages.Closed peer) d = refl
+    (setup_known rows items told turns (holding coming v) r refl)
+    (all_open rows items told turns (holding coming v) conn_ends.Declined r refl)) s
 
 pub declines_bad : (rows : CentreRows) (items : List Item) (told : List Arrival) (turns : List Turn)
     (v new : Talking) (step : Step) → step ≡ steps.Ends → IsIdle v.progress
@@ -302,15 +285,8 @@ declines_bad rows items told turns v new step is idle a s =
     coming v new step is idle
     (added conn_ends.Declined (refusal_said v.course.setup) v new room.unsaid a)
     (λ r. declines_badly rows items told turns v.course.setup
-    (setup_known rows items told turns (holding coming v) r (connected_bad v.stage r.due))
-    (all_open rows items told turns (holding coming v) conn_ends.Declined r
-    (connected_bad v.stage r.due))) s
-  where
-    connected_bad : (stage : Stage) → IsDue told stage (comings.Input inputs.BadOffer)
-        → is_connected stage askeds.Nothing (Some (comings.Input inputs.BadOffer)) ≡ true
-    connected_bad stages.Early d = refl
-    connected_bad (stages.Open peer detail) d = refl
-    connected_bad (stages.Closed peer) d = refl
+    (setup_known rows items told turns (holding coming v) r refl)
+    (all_open rows items told turns (holding coming v) conn_ends.Declined r refl)) s
 
 shut_at : (rows : CentreRows) (items : List Item) (told : List Arrival) (turns : List Turn)
     (v : Talking) (stage : Stage) → v.stage ≡ stage → IsShut stage
@@ -322,42 +298,42 @@ shut_at rows items told turns v stage at shut r =
 said_broken : (rows : CentreRows) (items : List Item) (told : List Arrival) (turns : List Turn)
     (fault : StackFault) (v : Talking) (stage : Stage) → v.stage ≡ stage → IsShut stage
     → Runs rows items told turns askeds.Nothing (holding (comings.Fault fault) v)
-    → (if has_begun stage askeds.Nothing then abort_wire v.course.setup else [])
+    → (if has_begun stage then abort_wire v.course.setup else [])
     ≡ parting_octets v.course (conn_ends.Refused fault)
-said_broken rows items told turns fault v stages.Early at shut r =
-    ap (λ (s : EndState). if is_accepted s then abort_wire v.course.setup else [])
-    (sym (r.standing ∙ ap (λ (x : Stage). standing_by x askeds.Nothing
-    (Some (comings.Fault fault))) at))
-said_broken rows items told turns fault v (stages.Open peer detail) at shut r = absurd shut
-said_broken rows items told turns fault v (stages.Closed peer) at shut r =
-    ap (λ (s : EndState). if is_accepted s then abort_wire v.course.setup else [])
-    (sym (r.standing ∙ ap (λ (x : Stage). standing_by x askeds.Nothing
-    (Some (comings.Fault fault))) at))
+said_broken rows items told turns fault v stage at shut r = by stage shut
+    ∙ ap (λ (s : EndState). if is_accepted s then abort_wire v.course.setup else [])
+    (ap (λ (x : Stage). standing_at x) (sym at) ∙ ap (λ (p : Position). p.standing) (sym r.at))
+  where
+    by : (stage : Stage) → IsShut stage → (if has_begun stage then abort_wire v.course.setup else [])
+        ≡ (if is_accepted (standing_at stage) then abort_wire v.course.setup else [])
+    by stages.Early s = refl
+    by (stages.Open peer detail) s = absurd s
+    by (stages.Closed peer) s = refl
 
 setup_or : (rows : CentreRows) (items : List Item) (told : List Arrival) (turns : List Turn)
-    (coming : Coming) (v : Talking) (stage : Stage) → v.stage ≡ stage → IsShut stage
-    → Runs rows items told turns askeds.Nothing (holding coming v)
-    → (v.course.setup ≡ setup_after told) ⊎ (has_begun stage askeds.Nothing ≡ false)
-setup_or rows items told turns coming v stages.Early at shut r = inr refl
-setup_or rows items told turns coming v (stages.Open peer detail) at shut r = absurd shut
-setup_or rows items told turns coming v (stages.Closed peer) at shut r =
-    inl (setup_known rows items told turns (holding coming v) r
-    (ap (λ (x : Stage). is_connected x askeds.Nothing (Some coming)) at))
+    (fault : StackFault) (v : Talking) (stage : Stage) → v.stage ≡ stage → IsShut stage
+    → Runs rows items told turns askeds.Nothing (holding (comings.Fault fault) v)
+    → (v.course.setup ≡ setup_after told) ⊎ (has_begun stage ≡ false)
+setup_or rows items told turns fault v stages.Early at shut r = inr refl
+setup_or rows items told turns fault v (stages.Open peer detail) at shut r = absurd shut
+setup_or rows items told turns fault v (stages.Closed peer) at shut r =
+    inl (setup_known rows items told turns (holding (comings.Fault fault) v) r
+    (ap (λ (x : Stage). has_begun x) at))
 
 released_setup : (rows : CentreRows) (items : List Item) (told : List Arrival) (turns : List Turn)
     (v : Talking) (stage : Stage) → v.stage ≡ stage → IsShut stage
     → Runs rows items told turns askeds.Nothing (holding (coming_by causes.Released) v)
     → (v.course.setup ≡ setup_after told) × (list_any (begins rows) turns ≡ true)
-    × (is_connected v.stage askeds.Nothing (Some (coming_by causes.Released)) ≡ true)
+    × (has_begun v.stage ≡ true)
 released_setup rows items told turns v stages.Early at shut r =
     absurd (due_at rows items told turns (coming_by causes.Released) v stages.Early at r)
 released_setup rows items told turns v (stages.Open peer detail) at shut r = absurd shut
-released_setup rows items told turns v (stages.Closed peer) at shut r = (
-  setup_known rows items told turns (holding (coming_by causes.Released) v) r
-      (ap (λ (x : Stage). is_connected x askeds.Nothing (Some (coming_by causes.Released))) at),
-  begun_at rows items told turns (holding (coming_by causes.Released) v) (stages.Closed peer) at r,
-  ap (λ (x : Stage). is_connected x askeds.Nothing (Some (coming_by causes.Released))) at,
-)
+released_setup rows items told turns v (stages.Closed peer) at shut r =
+    let begun = ap (λ (x : Stage). has_begun x) at in (
+      setup_known rows items told turns (holding (coming_by causes.Released) v) r begun,
+      ap (λ (x : Reach). x.begun) r.reached ∙ begun,
+      begun,
+    )
 
 -- where no association is open none is concluded
 not_concluded : (rows : CentreRows) (items : List Item) (told : List Arrival) (turns : List Turn)
@@ -421,12 +397,13 @@ ends_so rows items told turns (causes.Broken fault) stage v new step at shut is 
     (parting end (parting_octets v.course end) v new n)
     (λ r. subst (λ (os : List ℕ). Ending rows items told turns breaks end os coming)
     (said_broken rows items told turns fault v stage at shut r)
-    (ends_broken rows items told turns fault v.course.setup (has_begun stage askeds.Nothing)
-    (setup_or rows items told turns coming v stage at shut r)
+    (ends_broken rows items told turns fault v.course.setup (has_begun stage)
+    (setup_or rows items told turns fault v stage at shut r)
     (shut_at rows items told turns (holding coming v) stage at shut r)
-    (begun_at rows items told turns (holding coming v) stage at r)
-    (broken_is items told fault (holding coming v) r.stands r.fault)
-    (all_broken items told fault v.course end r.stands r.fault (λ e. absurd cc)))) s
+    (ap (λ (x : Reach). x.begun) (reached_at rows items told turns (holding coming v) stage at r))
+    (broken_is items told fault (holding coming v) r.stands (ap (λ (p : Position). p.fault) r.at))
+    (all_broken items told fault v.course end r.stands
+    (ap (λ (p : Position). p.fault) r.at) (λ e. absurd cc)))) s
 
 -- ---- it goes on
 
@@ -450,7 +427,7 @@ pub passes_so : (rows : CentreRows) (items : List Item) (told : List Arrival) (t
     → StepsBy rows items told turns steps.GoesOn (holding (comings.Input (inputs.Pdu pdu)) v) v
 passes_so rows items told turns pdu v empty idle none s =
     goes_step rows items told turns [] (comings.Input (inputs.Pdu pdu)) v empty idle
-    (λ r. passes_pdu rows turns v.stage pdu none r.begun r.finished r.ending) s
+    (λ r. passes_pdu rows turns v.stage pdu none) s
 
 pub pauses_so : (rows : CentreRows) (items : List Item) (told : List Arrival) (turns : List Turn)
     (stage : Stage) (v : Talking) → v.stage ≡ stage → IsShut stage → v.held ≡ None
@@ -458,8 +435,8 @@ pub pauses_so : (rows : CentreRows) (items : List Item) (told : List Arrival) (t
     → StepsBy rows items told turns steps.GoesOn (holding comings.Pause v) v
 pauses_so rows items told turns stage v at shut empty idle s =
     goes_step rows items told turns (pauses ∷ []) comings.Pause v empty idle
-    (λ r. passes_pause rows turns v.stage (subst (λ (x : Stage). IsShut x) (sym at) shut) r.begun
-    r.finished r.ending) s
+    (λ r. passes_pause rows turns v.stage
+    (shut_at rows items told turns (holding comings.Pause v) stage at shut r)) s
 
 -- ---- what calls require
 
@@ -469,29 +446,12 @@ pub undue : (coming : Coming) (v : Talking) → IsIdle v.progress
 undue coming v idle none p =
     none p.told (running_idle p.rows p.items p.told p.turns (holding coming v) idle p.stands).due
 
-pub offered_so : (coming : Coming) (v : Talking) (standing : EndState) → IsIdle v.progress
-    → ((stage : Stage) (told : List Arrival) → IsDue told stage coming
-    → standing_by stage askeds.Nothing (Some coming) ≡ standing) → is_offered standing ≡ true
+pub offered_so : (coming : Coming) (v : Talking) → IsIdle v.progress
+    → is_offered (position_by v.stage askeds.Nothing (Some coming)).standing ≡ true
     → IsPlaced (holding coming v) → is_offered v.course.standing ≡ true
-offered_so coming v standing idle by is p =
+offered_so coming v idle is p =
     let r = running_idle p.rows p.items p.told p.turns (holding coming v) idle p.stands in
-    ap (λ (s : EndState). is_offered s) (r.standing ∙ by v.stage p.told r.due) ∙ is
-
-pub offer_stands : (title : Option (List ℕ)) (initiate : Initiate) (stage : Stage)
-    (told : List Arrival) → IsDue told stage (comings.Input (inputs.Offer title initiate))
-    → standing_by stage askeds.Nothing (Some (comings.Input (inputs.Offer title initiate)))
-    ≡ standings.Offered
-offer_stands title initiate stages.Early told d = refl
-offer_stands title initiate (stages.Open peer detail) told d = absurd d
-offer_stands title initiate (stages.Closed peer) told d = absurd d
-
-pub bad_offer_stands : (stage : Stage) (told : List Arrival)
-    → IsDue told stage (comings.Input inputs.BadOffer)
-    → standing_by stage askeds.Nothing (Some (comings.Input inputs.BadOffer))
-    ≡ standings.BadlyOffered
-bad_offer_stands stages.Early told d = refl
-bad_offer_stands (stages.Open peer detail) told d = absurd d
-bad_offer_stands (stages.Closed peer) told d = absurd d
+    ap (λ (x : Position). is_offered x.standing) r.at ∙ is
 
 -- an offer of which nothing can be granted isn't handed out as one
 pub granted_some : (title : Option (List ℕ)) (initiate : Initiate) (v : Talking)
@@ -556,8 +516,8 @@ released_may rows items told turns v (stages.Open peer detail) at shut r = absur
 released_may rows items told turns v (stages.Closed peer) at shut r = (
   r.stands.knows.side,
   leave_by v.course.known.side v.course.standing v.course.fault r.stands.knows.side
-      (r.standing ∙ ap (λ (x : Stage). standing_by x askeds.Nothing
-      (Some (coming_by causes.Released))) at) r.fault,
+      (ap (λ (p : Position). p.standing) r.at ∙ ap (λ (x : Stage). finishing (standing_at x)) at)
+      (ap (λ (p : Position). p.fault) r.at),
 )
 
 pub may_end : (cause : Cause) (stage : Stage) (v : Talking) → v.stage ≡ stage → IsShut stage

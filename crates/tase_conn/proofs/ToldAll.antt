@@ -25,8 +25,8 @@ use Rattle.tase_conn.specs.declared.stage.PendingEvent.TheVariants as askeds
 use Rattle.tase_conn.specs.declared.stage.ConnEnd.{ConnEnd}
 use Rattle.tase_conn.specs.declared.stage.ConnEnd.TheVariants as conn_ends
 use Rattle.tase_conn.specs.Talking.{Talking}
-use Rattle.tase_conn.specs.Places.{Runs, ReadsBy, BeginsTurns, turns_held, is_connected}
-use Rattle.tase_conn.specs.Places.{fault_seen}
+use Rattle.tase_conn.specs.Places.{Runs, ReadsBy, BeginsTurns, turns_held}
+use Rattle.tase_conn.specs.Places.{Position, position_by}
 use Rattle.tase_conn.proofs.Acted.{HasToldAll}
 
 -- behind the first message nothing more is answered at once
@@ -48,9 +48,8 @@ pub record IsTold (items : List Item) (told : List Arrival) : Type 0 where
 
 pub told_open : (rows : CentreRows) (items : List Item) (told : List Arrival) (turns : List Turn)
     (asked : PendingEvent) (v : Talking) → Runs rows items told turns asked v
-    → is_connected v.stage asked v.held ≡ true → IsTold items told
-told_open rows items told turns asked v r is =
-    let connect = r.connected ∙ is in
+    → is_some (first_in connect_in told) ≡ true → IsTold items told
+told_open rows items told turns asked v r connect =
     let f = told_front (text_given items) told v.course r.stands in
     record {
       answered = answered_by items told v.course r.stands (some_told told connect);
@@ -65,9 +64,10 @@ told_open rows items told turns asked v r is =
 -- all of it, where a connect was told
 pub all_open : (rows : CentreRows) (items : List Item) (told : List Arrival) (turns : List Turn)
     (v : Talking) (end : ConnEnd) → Runs rows items told turns askeds.Nothing v
-    → is_connected v.stage askeds.Nothing v.held ≡ true → HasToldAll items told end
+    → (position_by v.stage askeds.Nothing v.held).connected ≡ true → HasToldAll items told end
 all_open rows items told turns v end r is =
-    let t = told_open rows items told turns askeds.Nothing v r is in
+    let t = told_open rows items told turns askeds.Nothing v r
+    (ap (λ (p : Position). p.connected) r.at ∙ is) in
     record { answered = t.answered; fixed = λ declined. t.fixed }
 
 -- at an abort
@@ -106,7 +106,8 @@ pub all_ended : (rows : CentreRows) (items : List Item) (told : List Arrival) (t
     → HasToldAll items told end
 all_ended rows items told turns v end r held behind other =
     let clear : v.course.fault ≡ None =
-    r.fault ∙ ap (λ (h : Option Coming). fault_seen h askeds.Nothing) held in
+    ap (λ (p : Position). p.fault) r.at
+    ∙ ap (λ (h : Option Coming). (position_by v.stage askeds.Nothing h).fault) held in
     let P : Option StackFault → Type 0 = λ f. MatchOption f
     (ReadsBy v.behind items told (turns ++ turns_held v.held) v)
     (λ fault. BeginsTurns (turns ++ turns_held v.held) (turns_of items)) in

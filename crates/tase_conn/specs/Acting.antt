@@ -43,14 +43,6 @@ holding_behind v = record v { held = Some (coming_behind v.behind); behind = beh
 abbrev pub holding_fault : StackFault → Talking → Talking
 holding_fault fault v = record v { held = Some (comings.Fault fault); behind = behinds.Nothing }
 
--- what an end of the association comes by
-abbrev pub coming_by : Cause → Coming
-coming_by causes.Concluded = comings.Input (inputs.Pdu pdus.Conclude)
-coming_by causes.Released = comings.Input inputs.Released
-coming_by causes.Aborted = comings.Input inputs.Aborted
-coming_by causes.LinkEnd = comings.End
-coming_by (causes.Broken fault) = comings.Fault fault
-
 -- whether something is left of what was taken in
 abbrev pub is_left : Option Coming → Behind → Bool
 is_left None behinds.Nothing = false

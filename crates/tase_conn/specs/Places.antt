@@ -1,5 +1,5 @@
 -- Where a connection stands in what its link has given.
-use Rattle.std.specs.Prelude.{◌≡◌, ℕ, ◌+◌, ◌≤◌, ◌<◌, Bool, true, false}
+use Rattle.std.specs.Prelude.{◌≡◌, ℕ, ◌+◌, ◌≤◌, ◌<◌, Bool, true, false, ◌||◌}
 use Rattle.std.specs.Prelude.{List, [], ◌∷◌, ◌++◌, length, filter_map, vec_len, vec_capacity}
 use Rattle.std.specs.Prelude.{Option, Some, None, MatchOption, IfSome, is_some}
 use Rattle.std.specs.List.{list_any}
@@ -15,10 +15,11 @@ use Rattle.stack_assoc.specs.declared.input.StackIn.{StackIn}
 use Rattle.stack_assoc.specs.declared.input.StackIn.TheVariants as inputs
 use Rattle.stack_assoc.specs.declared.end_state.EndState.{EndState}
 use Rattle.stack_assoc.specs.declared.end_state.EndState.TheVariants as standings
-use Rattle.stack_assoc.specs.Arrivals.{Arrival, called, first_in, connect_in, is_conclude}
+use Rattle.stack_messages.specs.declared.heard.Heard.TheVariants as heards
+use Rattle.stack_assoc.specs.Arrivals.{Arrival, heard, called, first_in, connect_in, is_conclude}
 use Rattle.stack_assoc.specs.Expectations.{setup_after}
 use Rattle.stack_assoc.specs.Handing.{answers_to, handed_out, is_too_little}
-use Rattle.stack_assoc.specs.Courses.{CourseStands, IsCourseSettled}
+use Rattle.stack_assoc.specs.Courses.{Course, CourseStands, IsCourseSettled, finishing}
 use Rattle.tase_views.specs.declared.call.CallKind.{CallKind}
 use Rattle.tase_map.specs.Inputs.{Item, piece, idle, ended, text_given}
 use Rattle.tase_map.specs.Readings.{reading_of}
@@ -102,15 +103,6 @@ HasRead items told seen v = MatchOption v.course.fault (ReadsBy v.behind items t
 
 -- ---- what comes next, by how far the association has come
 
--- the rule that was broken
-abbrev pub fault_held : Option Coming → Option StackFault
-fault_held (Some (comings.Fault fault)) = Some fault
-fault_held _ = None
-
-abbrev pub fault_seen : Option Coming → PendingEvent → Option StackFault
-fault_seen held (askeds.Closing (causes.Broken fault)) = Some fault
-fault_seen held _ = fault_held held
-
 -- an offer is that of the first connect, and enough is offered
 pub record IsOfferOf (told : List Arrival) (title : Option (List ℕ)) (initiate : Initiate) :
     Type 0 where
@@ -149,60 +141,103 @@ IsPassed held behind asked = Unit {0}
 
 -- ---- the association
 
--- whether an association has begun, and whether it has ended, behind what was acted on
-abbrev pub has_begun : Stage → PendingEvent → Bool
-has_begun stages.Early (askeds.Opening peer offered) = true
-has_begun stages.Early asked = false
-has_begun stage asked = true
+-- what is known of it by what was read: the rule that was broken, how the stack's end stands, and
+-- whether a connect and a conclude were told
+pub record Position : Type 0 where
+  pub fault : Option StackFault
+  pub standing : EndState
+  pub connected : Bool
+  pub concluded : Bool
 
-abbrev pub has_finished : Stage → PendingEvent → Bool
-has_finished (stages.Closed peer) asked = true
-has_finished (stages.Open peer detail) (askeds.Closing cause) = true
-has_finished stage asked = false
+abbrev pub position_of : List Arrival → Course → Position
+position_of told course = record {
+  fault = course.fault;
+  standing = course.standing;
+  connected = is_some (first_in connect_in told);
+  concluded = list_any is_conclude told;
+}
 
--- whether nothing comes behind what was acted on
-abbrev pub ends_connection : PendingEvent → Bool
-ends_connection (askeds.Closing causes.Concluded) = false
-ends_connection (askeds.Closing cause) = true
-ends_connection _ = false
+-- and by what was acted on: whether an association has begun, whether it has finished, and whether
+-- nothing follows
+pub record Reach : Type 0 where
+  pub begun : Bool
+  pub finished : Bool
+  pub ending : Bool
 
--- how the stack's end stands before the open, by what waits and what comes next
-abbrev pub early_standing : PendingEvent → Option Coming → EndState
-early_standing (askeds.Opening peer offered) held = standings.Offered
-early_standing asked (Some (comings.Input (inputs.Offer title initiate))) = standings.Offered
-early_standing asked (Some (comings.Input inputs.BadOffer)) = standings.BadlyOffered
-early_standing asked (Some (comings.Input inputs.Aborted)) = standings.Closed
-early_standing asked held = standings.Waiting
+abbrev pub reach_of : CentreRows → List Turn → Reach
+reach_of rows turns = record {
+  begun = list_any (begins rows) turns;
+  finished = list_any finishes turns;
+  ending = list_any (is_last rows) turns;
+}
 
--- behind it: the association stands until its release was asked, or the peer has aborted it
-abbrev pub served_standing : PendingEvent → Option Coming → EndState
-served_standing (askeds.Closing causes.Released) held = standings.Finishing
-served_standing (askeds.Closing causes.Aborted) held = standings.Closed
-served_standing asked (Some (comings.Input inputs.Released)) = standings.Finishing
-served_standing asked (Some (comings.Input inputs.Aborted)) = standings.Closed
-served_standing asked held = standings.Accepted
+-- where nothing is to be acted on and no event waits
+abbrev pub has_begun : Stage → Bool
+has_begun stages.Early = false
+has_begun _ = true
 
-abbrev pub standing_by : Stage → PendingEvent → Option Coming → EndState
-standing_by stages.Early asked held = early_standing asked held
-standing_by stage asked held = served_standing asked held
+abbrev pub has_finished : Stage → Bool
+has_finished (stages.Closed peer) = true
+has_finished _ = false
 
--- whether a connect was told
-abbrev pub early_connected : PendingEvent → Option Coming → Bool
-early_connected (askeds.Opening peer offered) held = true
-early_connected asked (Some (comings.Input (inputs.Offer title initiate))) = true
-early_connected asked (Some (comings.Input inputs.BadOffer)) = true
-early_connected asked held = false
+abbrev pub standing_at : Stage → EndState
+standing_at stages.Early = standings.Waiting
+standing_at _ = standings.Accepted
 
-abbrev pub is_connected : Stage → PendingEvent → Option Coming → Bool
-is_connected stages.Early asked held = early_connected asked held
-is_connected stage asked held = true
+abbrev pub position_at : Stage → Position
+position_at stage = record {
+  fault = None;
+  standing = standing_at stage;
+  connected = has_begun stage;
+  concluded = has_finished stage;
+}
 
--- whether a conclude was told for certain
-abbrev pub has_concluded : Stage → PendingEvent → Option Coming → Bool
-has_concluded (stages.Closed peer) asked held = true
-has_concluded stage (askeds.Closing causes.Concluded) held = true
-has_concluded stage asked (Some (comings.Input (inputs.Pdu pdus.Conclude))) = true
-has_concluded stage asked held = false
+abbrev pub reach_at : Stage → Reach
+reach_at stage =
+    record { begun = has_begun stage; finished = has_finished stage; ending = false }
+
+-- what changes with what was read
+abbrev pub with_coming : Coming → Position → Position
+with_coming (comings.Input (inputs.Offer title initiate)) p =
+    record p { standing = standings.Offered; connected = true }
+with_coming (comings.Input inputs.BadOffer) p =
+    record p { standing = standings.BadlyOffered; connected = true }
+with_coming (comings.Input (inputs.Pdu pdu)) p =
+    record p { concluded = p.concluded || is_conclude (heard (heards.Pdu pdu)) }
+with_coming (comings.Input inputs.Released) p = record p { standing = finishing p.standing }
+with_coming (comings.Input inputs.Aborted) p = record p { standing = standings.Closed }
+with_coming (comings.Fault fault) p = record p { fault = Some fault }
+with_coming _ p = p
+
+-- what an end of the association comes by
+abbrev pub coming_by : Cause → Coming
+coming_by causes.Concluded = comings.Input (inputs.Pdu pdus.Conclude)
+coming_by causes.Released = comings.Input inputs.Released
+coming_by causes.Aborted = comings.Input inputs.Aborted
+coming_by causes.LinkEnd = comings.End
+coming_by (causes.Broken fault) = comings.Fault fault
+
+-- where an event waits what asked for it was read
+abbrev pub with_asked : PendingEvent → Position → Position
+with_asked (askeds.Opening peer offered) p =
+    record p { standing = standings.Offered; connected = true }
+with_asked (askeds.Closing cause) p = with_coming (coming_by cause) p
+with_asked _ p = p
+
+abbrev pub position_by : Stage → PendingEvent → Option Coming → Position
+position_by stage asked None = with_asked asked (position_at stage)
+position_by stage asked (Some coming) = with_coming coming (position_at stage)
+
+-- and was acted on
+abbrev pub is_ending : Cause → Bool
+is_ending causes.Concluded = false
+is_ending _ = true
+
+abbrev pub reach_by : Stage → PendingEvent → Reach
+reach_by stage (askeds.Opening peer offered) = record (reach_at stage) { begun = true }
+reach_by stage (askeds.Closing cause) =
+    record (reach_at stage) { finished = true; ending = is_ending cause }
+reach_by stage _ = reach_at stage
 
 -- what of its offer is granted
 pub record IsGranted (told : List Arrival) (offered : Initiate) : Type 0 where
@@ -258,16 +293,11 @@ IsAskedBy rows turns (askeds.Closing cause) =
 pub record Runs (rows : CentreRows) (items : List Item) (told : List Arrival) (turns : List Turn)
     (asked : PendingEvent) (v : Talking) : Type 0 where
   pub stands : CourseStands called (text_given items) told v.course
-  pub fault : v.course.fault ≡ fault_seen v.held asked
   pub reads : HasRead items told (turns ++ turns_held v.held) v
   pub due : IfSome v.held (IsDue told v.stage)
   pub passed : IsPassed v.held v.behind asked
-  pub begun : list_any (begins rows) turns ≡ has_begun v.stage asked
-  pub finished : list_any finishes turns ≡ has_finished v.stage asked
-  pub ending : list_any (is_last rows) turns ≡ ends_connection asked
-  pub standing : v.course.standing ≡ standing_by v.stage asked v.held
-  pub connected : is_some (first_in connect_in told) ≡ is_connected v.stage asked v.held
-  pub concluded : has_concluded v.stage asked v.held ≡ true → list_any is_conclude told ≡ true
+  pub at : position_of told v.course ≡ position_by v.stage asked v.held
+  pub reached : reach_of rows turns ≡ reach_by v.stage asked
   pub agreed : IsAgreed told v.stage asked
   pub waits : IsAskedAt asked v.stage v.held
   pub last : IsAskedBy rows turns asked

@@ -11,11 +11,11 @@ ghost use Rattle.stack_assoc.specs.Courses.{is_offered};
 ghost use Rattle.mms_services.specs.declared.pdu.MmsPdu.TheVariants as pdus;
 ghost use Rattle.tase_views.specs.declared.event.EventKind.TheVariants as events;
 ghost use Rattle.tase_conn.specs.Talking.{IsFree, is_running};
-ghost use Rattle.tase_conn.specs.Places.{IsPlaced, KeepsPlace};
+ghost use Rattle.tase_conn.specs.Places.{IsPlaced, KeepsPlace, coming_by};
 ghost use Rattle.tase_conn.specs.Wanting.{WantsSo, ReadsSo, PassesSo, IsIdle};
 ghost use Rattle.tase_conn.specs.Wanting.{refusal_said};
 ghost use Rattle.tase_conn.specs.Acting.{StepsSo, StaysIdle, GoesDown, steps_left};
-ghost use Rattle.tase_conn.specs.Acting.{ActsOn, StaysSo, holding, has_more, coming_by};
+ghost use Rattle.tase_conn.specs.Acting.{ActsOn, StaysSo, holding, has_more};
 ghost use Rattle.tase_conn.specs.Acting.{holding_behind, holding_fault};
 ghost use Rattle.tase_conn.specs.Leaving.{AddsAnswer, EndsFor, MayEnd, finished};
 

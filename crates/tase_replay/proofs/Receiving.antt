@@ -33,7 +33,7 @@ use Rattle.tase_conn.specs.declared.stage.ConnEnd.TheVariants as conn_ends
 use Rattle.tase_conn.specs.declared.stage.Progress.{Progress}
 use Rattle.tase_conn.specs.declared.stage.Progress.TheVariants as progresses
 use Rattle.tase_conn.specs.Talking.{Talking, pending_of, conn_end_in, IsResting, IsFree}
-use Rattle.tase_conn.specs.Places.{ConnStandsAt, Runs, GoesBy}
+use Rattle.tase_conn.specs.Places.{ConnStandsAt, Runs, Reach, GoesBy}
 use Rattle.tase_conn.specs.Taken.{TakesIn, SendsSome}
 use Rattle.conn_laws.specs.Serving.{IsWaiting, Serves, HasServed}
 use Rattle.conn_laws.proofs.Kept.{taken_serves}
@@ -90,7 +90,7 @@ going_items rows past who items said v (progresses.Running askeds.Nothing) s e w
     let kept : list_any (is_last rows) (told ++ end_turns (items_end items)) ≡ false =
     ap (λ (ts : List Turn). list_any (is_last rows) ts) (sym (text_turns items s.input))
     ∙ any_kept (is_last rows) refl (turns_of items)
-    ∙ ap (λ (ts : List Turn). list_any (is_last rows) ts) t ∙ r.ending in
+    ∙ ap (λ (ts : List Turn). list_any (is_last rows) ts) t ∙ (ap (λ (x : Reach). x.ending) r.reached) in
     no_end rows (items_end items)
     (any_back (is_last rows) told (end_turns (items_end items)) kept)
 going_items rows past who items said v (progresses.Running (askeds.Opening peer granted)) s e w f

@@ -5,7 +5,8 @@ use Rattle.tase_conn.specs.declared.stage.Step.{Step}
 use Rattle.tase_conn.specs.declared.stage.Step.TheVariants as steps
 use Rattle.tase_conn.specs.Talking.{Talking}
 use Rattle.tase_conn.specs.Leaving.{EndsFor}
-use Rattle.tase_conn.specs.Acting.{ActsOn, coming_by}
+use Rattle.tase_conn.specs.Acting.{ActsOn}
+use Rattle.tase_conn.specs.Places.{coming_by}
 use Rattle.tase_conn.proofs.Stepping.{closes_so, ends_so, if_ok}
 use Rattle.tase_conn.proofs.conn.Conn.end_by.Goals as goal
 
