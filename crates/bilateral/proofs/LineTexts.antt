@@ -27,7 +27,7 @@ use Rattle.table_words.specs.Devices.{short_in, span_in, natural_of, range_in, r
 use Rattle.table_words.specs.Devices.{order_in, is_short, is_range}
 use Rattle.bilateral.specs.declared.line.TableLine.{TableLine}
 use Rattle.bilateral.specs.declared.line.TableLine.TheVariants.{Point, Device, Peer, Slots, Sets}
-use Rattle.bilateral.specs.declared.line.TableLine.TheVariants.{Pending, See, Control}
+use Rattle.bilateral.specs.declared.line.TableLine.TheVariants.{Pending, See, Control, Variant}
 use Rattle.bilateral.specs.declared.rows.PointRow.{PointRow}
 use Rattle.bilateral.specs.declared.rows.DeviceRow.{DeviceRow}
 use Rattle.bilateral.specs.declared.rows.Table.{Table}
@@ -153,6 +153,12 @@ peer_read table fits =
     (title_read table.title fits.4)
     ∙ ap (λ t. Some (Peer t)) (sym fits.3)
 
+variant_read : (key domain id : List ℕ) → IsWritableLine (Variant key domain id)
+    → table_line_of (line_words (Variant key domain id)) ≡ Some (Variant key domain id)
+variant_read key domain id fits =
+    cond-true (is_identifier key && is_identifier domain && is_identifier id) _ _
+    (and_from _ _ (and_from _ _ fits.0 fits.1) fits.2)
+
 limit_read : (form : Option ℕ → TableLine) (least most n : ℕ) → least ≤ n → n ≤ most
     → most < 2 ^ 64 → option_map form (limit_in least most (decimal n)) ≡ Some (form (Some n))
 limit_read form least most n above below small =
@@ -230,6 +236,7 @@ words_read : (line : TableLine) → IsWritableLine line → table_line_of (line_
 words_read (Point row) fits = point_read row fits
 words_read (Device row) fits = device_read row fits
 words_read (Peer table) fits = peer_read table fits
+words_read (Variant key domain id) fits = variant_read key domain id fits
 words_read (Slots None) fits = absurd fits
 words_read (Slots (Some n)) fits =
     limit_read Slots 1 SLOT_LIMIT n fits.0 fits.1 (omega arith)
@@ -365,6 +372,17 @@ written (Peer table) fits = record {
       clean_solid (title_word table.title) (title_solid table.title fits.4),
       (clean_identifier table.domain fits.1, (clean_identifier table.id fits.2, tt)),
     ),
+  );
+  told = refl;
+}
+written (Variant key domain id) fits = record {
+  first = codes "variant";
+  more = key ∷ domain ∷ id ∷ [];
+  words = refl;
+  is = word_clean _ (omega arith) refl;
+  are = (
+    clean_identifier key fits.0,
+    (clean_identifier domain fits.1, (clean_identifier id fits.2, tt)),
   );
   told = refl;
 }

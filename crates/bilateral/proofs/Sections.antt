@@ -1,15 +1,12 @@
 -- What lines say, with one line more at the end.
-use Rattle.std.proofs.Common.{◌≡◌, ℕ, zero, suc, ◌+◌, cond, List, []}
-use Rattle.std.proofs.Common.{◌∷◌, ◌++◌, length, map, get_or, set, Option, Some, None, is_some}
-use Rattle.std.proofs.Common.{refl}
-use Rattle.std.proofs.Common.{ap, ◌∙◌, arith}
+use Rattle.std.proofs.Common.{◌≡◌, ◌⊎◌, inl, inr, Bool, true, false, cond, List, [], ◌∷◌, ◌++◌}
+use Rattle.std.proofs.Common.{drop, get_or, Option, Some, None, refl, sym, ap, ◌∙◌}
 use Rattle.std.specs.Prelude.{filter_map}
 use Rattle.std.specs.List.{cons_option}
 use Rattle.std.proofs.lemmas.List.{append-nil}
 use Rattle.std.proofs.lemmas.List.Elements.{filter_map-append}
 use Rattle.bilateral.specs.declared.line.TableLine.{TableLine}
-use Rattle.bilateral.specs.declared.rows.Table.{Table}
-use Rattle.bilateral.specs.Spelling.{peer_in, own_lines, sections, TableSection, sections_begun, last_or}
+use Rattle.bilateral.specs.Spelling.{begins_table, own_lines, sections, TableSection, last_or}
 
 -- a change of the last element
 abbrev pub on_last : {A : Type 0} → (A → A) → List A → List A
@@ -21,117 +18,130 @@ on_last f (x ∷ y ∷ more) = x ∷ on_last f (y ∷ more)
 abbrev pub with_own : TableLine → TableSection → TableSection
 with_own line part = (part.0, part.1 ++ line ∷ [])
 
--- a line that is no peer's, where no peer's line follows
-own-push_last : (line : TableLine) → peer_in line ≡ None → (said : List TableLine)
+-- a line that begins no table, where none that begins one follows
+own-push_last : (line : TableLine) → begins_table line ≡ false → (said : List TableLine)
     → sections said ≡ [] → own_lines (said ++ line ∷ []) ≡ own_lines said ++ line ∷ []
-own-push_last line other [] none = ap (λ p. cond (is_some p) [] (line ∷ [])) other
+own-push_last line other [] none = ap (λ b. cond b [] (line ∷ [])) other
 own-push_last line other (x ∷ said) none =
-    step (peer_in x) (own-push_last line other said) none
+    step (begins_table x) (own-push_last line other said) none
   where
-    step : (p : Option Table)
+    step : (b : Bool)
         → (sections said ≡ [] → own_lines (said ++ line ∷ []) ≡ own_lines said ++ line ∷ [])
-        → sections_begun p (own_lines said) (sections said) ≡ []
-        → cond (is_some p) [] (x ∷ own_lines (said ++ line ∷ []))
-        ≡ cond (is_some p) [] (x ∷ own_lines said) ++ line ∷ []
-    step None later none = ap (λ lines. x ∷ lines) (later none)
-    step (Some table) later none = absurd cc
+        → cond b ((x, own_lines said) ∷ sections said) (sections said) ≡ []
+        → cond b [] (x ∷ own_lines (said ++ line ∷ []))
+        ≡ cond b [] (x ∷ own_lines said) ++ line ∷ []
+    step false later none = ap (λ lines. x ∷ lines) (later none)
+    step true later none = absurd cc
 
--- a line behind a peer's line that follows
+-- a line behind one that begins a table
 own-push_later : (line : TableLine) → (said : List TableLine) (part : TableSection)
     (more : List TableSection) → sections said ≡ part ∷ more
     → own_lines (said ++ line ∷ []) ≡ own_lines said
 own-push_later line [] part more there = absurd cc
 own-push_later line (x ∷ said) part more there =
-    step (peer_in x) (own-push_later line said part more) there
+    step (begins_table x) (own-push_later line said part more) there
   where
-    step : (p : Option Table)
+    step : (b : Bool)
         → (sections said ≡ part ∷ more → own_lines (said ++ line ∷ []) ≡ own_lines said)
-        → sections_begun p (own_lines said) (sections said) ≡ part ∷ more
-        → cond (is_some p) [] (x ∷ own_lines (said ++ line ∷ []))
-        ≡ cond (is_some p) [] (x ∷ own_lines said)
-    step None later there = ap (λ lines. x ∷ lines) (later there)
-    step (Some table) later there = refl
+        → cond b ((x, own_lines said) ∷ sections said) (sections said) ≡ part ∷ more
+        → cond b [] (x ∷ own_lines (said ++ line ∷ [])) ≡ cond b [] (x ∷ own_lines said)
+    step false later there = ap (λ lines. x ∷ lines) (later there)
+    step true later there = refl
 
--- a line that is no peer's stands in the last section
-pub sections-push_line : (line : TableLine) → peer_in line ≡ None → (said : List TableLine)
+-- a line that begins no table stands in the last section
+pub sections-push_line : (line : TableLine) → begins_table line ≡ false → (said : List TableLine)
     → sections (said ++ line ∷ []) ≡ on_last (with_own line) (sections said)
-sections-push_line line other [] = ap (λ p. sections_begun p [] []) other
+sections-push_line line other [] = ap (λ b. cond b ((line, []) ∷ []) []) other
 sections-push_line line other (x ∷ said) =
-    step (peer_in x) (sections-push_line line other said)
+    step (begins_table x) (sections-push_line line other said)
   where
-    first : (table : Table) (parts parts_new : List TableSection) (own own_new : List TableLine)
+    first : (parts parts_new : List TableSection) (own own_new : List TableLine)
         → (parts ≡ [] → own_new ≡ own ++ line ∷ [])
         → ((part : TableSection) (more : List TableSection) → parts ≡ part ∷ more → own_new ≡ own)
         → parts_new ≡ on_last (with_own line) parts
-        → (table, own_new) ∷ parts_new ≡ on_last (with_own line) ((table, own) ∷ parts)
-    first table [] parts_new own own_new at_end later same =
-        ap (λ ps. (table, own_new) ∷ ps) same ∙ ap (λ o. (table, o) ∷ []) (at_end refl)
-    first table (part ∷ more) parts_new own own_new at_end later same =
-        ap (λ ps. (table, own_new) ∷ ps) same
-        ∙ ap (λ o. (table, o) ∷ on_last (with_own line) (part ∷ more)) (later part more refl)
+        → (x, own_new) ∷ parts_new ≡ on_last (with_own line) ((x, own) ∷ parts)
+    first [] parts_new own own_new at_end later same =
+        ap (λ ps. (x, own_new) ∷ ps) same ∙ ap (λ o. (x, o) ∷ []) (at_end refl)
+    first (part ∷ more) parts_new own own_new at_end later same =
+        ap (λ ps. (x, own_new) ∷ ps) same
+        ∙ ap (λ o. (x, o) ∷ on_last (with_own line) (part ∷ more)) (later part more refl)
 
-    step : (p : Option Table)
+    step : (b : Bool)
         → sections (said ++ line ∷ []) ≡ on_last (with_own line) (sections said)
-        → sections_begun p (own_lines (said ++ line ∷ [])) (sections (said ++ line ∷ []))
-        ≡ on_last (with_own line) (sections_begun p (own_lines said) (sections said))
-    step None same = same
-    step (Some table) same =
-        first table (sections said) (sections (said ++ line ∷ [])) (own_lines said)
+        → cond b ((x, own_lines (said ++ line ∷ [])) ∷ sections (said ++ line ∷ []))
+        (sections (said ++ line ∷ []))
+        ≡ on_last (with_own line) (cond b ((x, own_lines said) ∷ sections said) (sections said))
+    step false same = same
+    step true same =
+        first (sections said) (sections (said ++ line ∷ [])) (own_lines said)
         (own_lines (said ++ line ∷ [])) (own-push_last line other said)
         (own-push_later line said) same
 
--- the lines before a new peer's line
-own-push_peer : (line : TableLine) (table : Table) → peer_in line ≡ Some table
-    → (said : List TableLine) → own_lines (said ++ line ∷ []) ≡ own_lines said
-own-push_peer line table is [] = ap (λ p. cond (is_some p) [] (line ∷ [])) is
-own-push_peer line table is (x ∷ said) =
-    ap (λ lines. cond (is_some (peer_in x)) [] (x ∷ lines)) (own-push_peer line table is said)
+-- the lines before a new table's first line
+own-push_begun : (line : TableLine) → begins_table line ≡ true → (said : List TableLine)
+    → own_lines (said ++ line ∷ []) ≡ own_lines said
+own-push_begun line is [] = ap (λ b. cond b [] (line ∷ [])) is
+own-push_begun line is (x ∷ said) =
+    ap (λ lines. cond (begins_table x) [] (x ∷ lines)) (own-push_begun line is said)
 
--- a new peer's line begins a section
-pub sections-push_peer : (line : TableLine) (table : Table) → peer_in line ≡ Some table
-    → (said : List TableLine) → sections (said ++ line ∷ []) ≡ sections said ++ (table, []) ∷ []
-sections-push_peer line table is [] = ap (λ p. sections_begun p [] []) is
-sections-push_peer line table is (x ∷ said) =
-    ap (λ own. sections_begun (peer_in x) own (sections (said ++ line ∷ [])))
-    (own-push_peer line table is said)
-    ∙ ap (sections_begun (peer_in x) (own_lines said)) (sections-push_peer line table is said)
-    ∙ joined (peer_in x)
+-- a new table's first line begins a section
+pub sections-push_begun : (line : TableLine) → begins_table line ≡ true → (said : List TableLine)
+    → sections (said ++ line ∷ []) ≡ sections said ++ (line, []) ∷ []
+sections-push_begun line is [] = ap (λ b. cond b ((line, []) ∷ []) []) is
+sections-push_begun line is (x ∷ said) =
+    ap (λ own. cond (begins_table x) ((x, own) ∷ sections (said ++ line ∷ []))
+    (sections (said ++ line ∷ []))) (own-push_begun line is said)
+    ∙ ap (λ parts. cond (begins_table x) ((x, own_lines said) ∷ parts) parts)
+    (sections-push_begun line is said)
+    ∙ joined (begins_table x)
   where
-    joined : (p : Option Table)
-        → sections_begun p (own_lines said) (sections said ++ (table, []) ∷ [])
-        ≡ sections_begun p (own_lines said) (sections said) ++ (table, []) ∷ []
-    joined None = refl
-    joined (Some other) = refl
+    joined : (b : Bool)
+        → cond b ((x, own_lines said) ∷ (sections said ++ (line, []) ∷ []))
+        (sections said ++ (line, []) ∷ [])
+        ≡ cond b ((x, own_lines said) ∷ sections said) (sections said) ++ (line, []) ∷ []
+    joined false = refl
+    joined true = refl
 
-pub map-on_last : {A B : Type 0} (f : A → B) (h : A → A) (g : B → B)
-    → ((x : A) → f (h x) ≡ g (f x)) → (xs : List A) → map f (on_last h xs) ≡ on_last g (map f xs)
-map-on_last f h g same [] = refl
-map-on_last f h g same (x ∷ []) = ap (λ y. y ∷ []) (same x)
-map-on_last f h g same (x ∷ y ∷ more) = ap (λ ys. f x ∷ ys) (map-on_last f h g same (y ∷ more))
+-- each section begins with a line that begins a table
+pub last_begins : (said : List TableLine) (front : List TableSection) (part : TableSection)
+    → sections said ≡ front ++ part ∷ [] → begins_table part.0 ≡ true
+last_begins [] [] part there = absurd cc
+last_begins [] (first ∷ front) part there = absurd cc
+last_begins (x ∷ said) front part there =
+    step (begins_table x) refl (λ later same. last_begins said later part same) front there
+  where
+    step : (b : Bool) → begins_table x ≡ b
+        → ((later : List TableSection) → sections said ≡ later ++ part ∷ []
+        → begins_table part.0 ≡ true)
+        → (front : List TableSection)
+        → cond b ((x, own_lines said) ∷ sections said) (sections said) ≡ front ++ part ∷ []
+        → begins_table part.0 ≡ true
+    step false is later front there = later front there
+    step true is later [] there =
+        ap (λ (parts : List TableSection). begins_table (get_or {A = TableSection} parts 0 (x, [])).0)
+        (sym there) ∙ is
+    step true is later (first ∷ front) there = later front (ap (drop 1) there)
 
--- the change of the last element, by its place
-pub on_last-at : {A : Type 0} (g : A → A) (xs : List A) (n : ℕ) (d : A) → length xs ≡ n + 1
-    → on_last g xs ≡ set xs n (g (get_or xs n d))
-on_last-at g [] n d size = absurd (omega arith)
-on_last-at g (x ∷ []) zero d size = refl
-on_last-at g (x ∷ []) (suc n) d size = absurd (omega arith)
-on_last-at g (x ∷ y ∷ more) zero d size = absurd (omega arith)
-on_last-at g (x ∷ y ∷ more) (suc n) d size =
-    ap (λ ys. x ∷ ys) (on_last-at g (y ∷ more) n d (omega arith))
+-- a list is empty, or has a last element
+pub last_view : {A : Type 0} (xs : List A)
+    → (xs ≡ []) ⊎ ((front : List A) × (x : A) × (xs ≡ front ++ x ∷ []))
+last_view [] = inl refl
+last_view {A = A} (y ∷ ys) = inr (step (last_view ys))
+  where
+    step : (ys ≡ []) ⊎ ((front : List A) × (x : A) × (ys ≡ front ++ x ∷ []))
+        → (front : List A) × (x : A) × (y ∷ ys ≡ front ++ x ∷ [])
+    step (inl none) = ([], y, ap (λ zs. y ∷ zs) none)
+    step (inr there) = (y ∷ there.0, there.1, ap (λ zs. y ∷ zs) there.2)
+
+pub on_last-push : {A : Type 0} (f : A → A) (xs : List A) (x : A)
+    → on_last f (xs ++ x ∷ []) ≡ xs ++ f x ∷ []
+on_last-push f [] x = refl
+on_last-push f (y ∷ []) x = refl
+on_last-push f (y ∷ z ∷ xs) x = ap (λ ys. y ∷ ys) (on_last-push f (z ∷ xs) x)
 
 pub last_or-push : {A : Type 0} (xs : List A) (x d : A) → last_or d (xs ++ x ∷ []) ≡ x
 last_or-push [] x d = refl
 last_or-push (y ∷ xs) x d = last_or-push xs x y
-
--- the lines of the last section, with a line more
-pub last_own-push : (line : TableLine) (d : List TableLine) (parts : List TableSection) (part : TableSection)
-    (more : List TableSection) → parts ≡ part ∷ more
-    → last_or d (map (λ p. p.1) (on_last (with_own line) parts))
-    ≡ last_or d (map (λ p. p.1) parts) ++ line ∷ []
-last_own-push line d [] part more there = absurd cc
-last_own-push line d (p ∷ []) part more there = refl
-last_own-push line d (p ∷ q ∷ rest) part more there =
-    last_own-push line p.1 (q ∷ rest) q rest refl
 
 -- a list with one more at its end, or with none
 abbrev pub with_some : {X : Type 0} → List X → Option X → List X

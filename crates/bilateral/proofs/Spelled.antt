@@ -23,7 +23,8 @@ use Rattle.bilateral.specs.Reading.{next_number}
 use Rattle.bilateral.specs.Reading.{after_lines, at_start, centre_in}
 use Rattle.bilateral.specs.Spelling.{told, AllStand, SpellLines, SpellRows, IsFirstBad, Spells}
 use Rattle.bilateral.specs.Spelling.{HasFault}
-use Rattle.bilateral.proofs.Told.{told-push}
+use Rattle.bilateral.proofs.Told.{Keyed, told-push}
+use Rattle.bilateral.proofs.Keyed.{keyed-push, keyed-start}
 
 abbrev is_told : List ℕ → Bool
 is_told line = not (is_skipped line)
@@ -108,7 +109,7 @@ reason_of so_far line form told_line is =
 -- the answer where a line was taken or skipped, by that for the lines behind it
 abbrev Later : List (List ℕ) → Type 0
 Later rest = (before : List (List ℕ)) (said : List TableLine) (number : ℕ)
-    → SpellLines before said → number ≡ min (length before + 1) (2 ^ 64 - 1)
+    → SpellLines before said → Keyed said → number ≡ min (length before + 1) (2 ^ 64 - 1)
     → IsAnswer (before ++ rest) (after_lines (told said) number rest)
 
 one_later : (before : List (List ℕ)) (line : List ℕ) (number : ℕ)
@@ -117,14 +118,14 @@ one_later : (before : List (List ℕ)) (line : List ℕ) (number : ℕ)
 one_later before line number same = omega (arith, length-append before (line ∷ []))
 
 taken_line : (before : List (List ℕ)) (line : List ℕ) (rest : List (List ℕ))
-    (said : List TableLine) (number : ℕ) → SpellLines before said
+    (said : List TableLine) (number : ℕ) → SpellLines before said → Keyed said
     → number ≡ min (length before + 1) (2 ^ 64 - 1) → Later rest → (x : TableLine)
     → is_skipped line ≡ false → line_in line ≡ Some x → (why : Option TableWhy)
     → row_fault (told said) x ≡ why
     → IsAnswer (before ++ line ∷ rest)
     (and_go_on number (unless why (with_row (told said) x))
     (λ next. after_lines next (next_number number) rest))
-taken_line before line rest said number spelled same later x told_line is (Some why)
+taken_line before line rest said number spelled keyed same later x told_line is (Some why)
     fault = record {
       before = before;
       line = line;
@@ -135,29 +136,29 @@ taken_line before line rest said number spelled same later x told_line is (Some 
       reason = reason_of (told said) line (Some x) told_line is ∙ fault;
       number = same;
     }
-taken_line before line rest said number spelled same later x told_line is None fault =
+taken_line before line rest said number spelled keyed same later x told_line is None fault =
     subst (λ s. IsAnswer (before ++ line ∷ rest) (after_lines s (next_number number) rest))
-    (told-push said x fault)
+    (told-push said x keyed fault)
     (subst
     (λ ls. IsAnswer ls (after_lines (told (said ++ x ∷ [])) (next_number number) rest))
     (append_assoc before (line ∷ []) rest)
     (later (before ++ line ∷ []) (said ++ x ∷ []) (next_number number)
-    (spell-push before said line x spelled told_line is fault)
+    (spell-push before said line x spelled told_line is fault) (keyed-push said x keyed fault)
     (one_later before line number same)))
 
 any_line : (before : List (List ℕ)) (line : List ℕ) (rest : List (List ℕ))
-    (said : List TableLine) (number : ℕ) → SpellLines before said
+    (said : List TableLine) (number : ℕ) → SpellLines before said → Keyed said
     → number ≡ min (length before + 1) (2 ^ 64 - 1) → Later rest → (skipped : Bool)
     → is_skipped line ≡ skipped → (form : Option TableLine) → line_in line ≡ form
     → IsAnswer (before ++ line ∷ rest)
     (and_go_on number (cond skipped (Ok (told said)) (after_said (told said) form))
     (λ next. after_lines next (next_number number) rest))
-any_line before line rest said number spelled same later true skipped form is =
+any_line before line rest said number spelled keyed same later true skipped form is =
     subst (λ ls. IsAnswer ls (after_lines (told said) (next_number number) rest))
     (append_assoc before (line ∷ []) rest)
     (later (before ++ line ∷ []) said (next_number number)
-    (spell-skip before said line spelled skipped) (one_later before line number same))
-any_line before line rest said number spelled same later false told_line None is = record {
+    (spell-skip before said line spelled skipped) keyed (one_later before line number same))
+any_line before line rest said number spelled keyed same later false told_line None is = record {
   before = before;
   line = line;
   after = rest;
@@ -167,17 +168,17 @@ any_line before line rest said number spelled same later false told_line None is
   reason = reason_of (told said) line None told_line is;
   number = same;
 }
-any_line before line rest said number spelled same later false told_line (Some x) is =
-    taken_line before line rest said number spelled same later x told_line is
+any_line before line rest said number spelled keyed same later false told_line (Some x) is =
+    taken_line before line rest said number spelled keyed same later x told_line is
     (row_fault (told said) x) refl
 
 -- what the reader answers is right
 sound : (rest : List (List ℕ)) → Later rest
-sound [] before said number spelled same =
+sound [] before said number spelled keyed same =
     subst (λ ls. SpellRows ls (told said).rows) (sym (append-nil before))
     (record { said = said; spelled = spelled; says = refl })
-sound (line ∷ rest) before said number spelled same =
-    any_line before line rest said number spelled same (sound rest) (is_skipped line) refl
+sound (line ∷ rest) before said number spelled keyed same =
+    any_line before line rest said number spelled keyed same (sound rest) (is_skipped line) refl
     (line_in line) refl
 
 -- the forms of lines, of which the first isn't skipped
@@ -192,7 +193,7 @@ first_form (Some x) (Some more) said each =
 -- what is passed by lines that are spelled
 abbrev Passed : List (List ℕ) → List (List ℕ) → Type 0
 Passed texts rest = (before said : List TableLine) (k number : ℕ)
-    → each_in line_in (filter is_told texts) ≡ Some said → AllStand before said
+    → each_in line_in (filter is_told texts) ≡ Some said → AllStand before said → Keyed before
     → number ≡ min (k + 1) (2 ^ 64 - 1)
     → after_lines (told before) number (texts ++ rest)
     ≡ after_lines (told (before ++ said)) (min (k + length texts + 1) (2 ^ 64 - 1)) rest
@@ -201,14 +202,14 @@ pass_line : (line : List ℕ) (texts rest : List (List ℕ)) → Passed texts re
     → (before said : List TableLine) (k number : ℕ) → (skipped : Bool)
     → is_skipped line ≡ skipped
     → each_in line_in (cond (not skipped) (line ∷ filter is_told texts) (filter is_told texts))
-    ≡ Some said → AllStand before said → number ≡ min (k + 1) (2 ^ 64 - 1)
+    ≡ Some said → AllStand before said → Keyed before → number ≡ min (k + 1) (2 ^ 64 - 1)
     → and_go_on number (cond skipped (Ok (told before)) (after_said (told before) (line_in line)))
     (λ next. after_lines next (next_number number) (texts ++ rest))
     ≡ after_lines (told (before ++ said)) (min (k + length (line ∷ texts) + 1) (2 ^ 64 - 1)) rest
-pass_line line texts rest later before said k number true skipped each stand same =
-    later before said (k + 1) (next_number number) each stand (omega arith)
+pass_line line texts rest later before said k number true skipped each stand keyed same =
+    later before said (k + 1) (next_number number) each stand keyed (omega arith)
     ∙ ap (λ n. after_lines (told (before ++ said)) n rest) (omega arith)
-pass_line line texts rest later before said k number false told_line each stand same =
+pass_line line texts rest later before said k number false told_line each stand keyed same =
     let first = first_form (line_in line) (each_in line_in (filter is_told texts)) said each in
     let x = first.0 in
     let more = first.1 in
@@ -216,20 +217,21 @@ pass_line line texts rest later before said k number false told_line each stand 
     let go_on = λ (next : SoFar). after_lines next (next_number number) (texts ++ rest) in
     ap (λ form. and_go_on number (after_said (told before) form) go_on) first.2
     ∙ ap (λ why. and_go_on number (unless why (with_row (told before) x)) go_on) stands.0
-    ∙ ap go_on (sym (told-push before x stands.0))
-    ∙ later (before ++ x ∷ []) more (k + 1) (next_number number) first.3 stands.1 (omega arith)
+    ∙ ap go_on (sym (told-push before x keyed stands.0))
+    ∙ later (before ++ x ∷ []) more (k + 1) (next_number number) first.3 stands.1
+    (keyed-push before x keyed stands.0) (omega arith)
     ∙ ap (λ n. after_lines (told ((before ++ x ∷ []) ++ more)) n rest) (omega arith)
     ∙ ap (λ ls. after_lines (told ls) (min (k + length (line ∷ texts) + 1) (2 ^ 64 - 1)) rest)
     (append_assoc before (x ∷ []) more ∙ ap (λ s. before ++ s) (sym first.4))
 
 pass : (texts rest : List (List ℕ)) → Passed texts rest
-pass [] rest before said k number each stand same =
+pass [] rest before said k number each stand keyed same =
     ap (λ n. after_lines (told before) n rest) (same ∙ omega arith)
     ∙ ap (λ ls. after_lines (told ls) (min (k + 0 + 1) (2 ^ 64 - 1)) rest)
     (sym (append-nil before) ∙ ap (λ s. before ++ s) (ap (λ o. unwrap_or o []) each))
-pass (line ∷ texts) rest before said k number each stand same =
+pass (line ∷ texts) rest before said k number each stand keyed same =
     pass_line line texts rest (pass texts rest) before said k number (is_skipped line) refl each
-    stand same
+    stand keyed same
 
 bad_line : (so_far : SoFar) (number : ℕ) (go_on : SoFar → Result CentreRows TableFault)
     (why : TableWhy) (skipped : Bool) (form : Option TableLine)
@@ -247,7 +249,8 @@ pub spelled-found : (texts : List (List ℕ)) (rows : CentreRows) → SpellRows 
     → after_lines at_start 1 texts ≡ Ok rows
 spelled-found texts rows spells =
     ap (after_lines at_start 1) (sym (append-nil texts))
-    ∙ pass texts [] [] spells.said 0 1 spells.spelled.forms spells.spelled.stand refl
+    ∙ pass texts [] [] spells.said 0 1 spells.spelled.forms spells.spelled.stand keyed-start
+    refl
     ∙ ap Ok (sym spells.says)
 
 pub bad-found : (texts : List (List ℕ)) (fault : TableFault) → IsFirstBad texts fault
@@ -256,7 +259,7 @@ bad-found texts fault bad =
     let number = min (0 + length bad.before + 1) (2 ^ 64 - 1) in
     ap (after_lines at_start 1) bad.parts
     ∙ pass bad.before (bad.line ∷ bad.after) [] bad.said 0 1 bad.spelled.forms bad.spelled.stand
-    refl
+    keyed-start refl
     ∙ bad_line (told bad.said) number
     (λ next. after_lines next (next_number number) bad.after) fault.why (is_skipped bad.line)
     (line_in bad.line) bad.reason
@@ -264,7 +267,8 @@ bad-found texts fault bad =
 
 -- the answer is right
 pub answer-right : (text : List ℕ) → IsAnswer (lines text) (centre_in text)
-answer-right text = sound (lines text) [] [] 1 (record { forms = refl; stand = tt }) refl
+answer-right text = sound (lines text) [] [] 1 (record { forms = refl; stand = tt }) keyed-start
+    refl
 
 -- the reader finds exactly the centre that a text spells, and exactly its first bad line
 pub spells-if : (text : List ℕ) (rows : CentreRows) → centre_in text ≡ Ok rows → Spells text rows

@@ -1,19 +1,21 @@
 -- What it says that a line can be taken: no reason stands against it.
-use Rattle.std.proofs.Common.{◌≡◌, ◌≢◌, ℕ, ◌<◌, ◌==◌, Bool, true, false, List, length}
+use Rattle.std.proofs.Common.{◌≡◌, ◌≢◌, ℕ, ◌<◌, ◌==◌, ◌||◌, not, Bool, true, false, List, length}
 use Rattle.std.proofs.Common.{Option, Some, None, is_some, refl, arith}
 use Rattle.std.specs.Prelude.{is_none}
 use Rattle.std.proofs.lemmas.Bool.{leb-false, eqb-true, eqb-false, not-false, or_parts}
 use Rattle.bilateral.specs.declared.line.TableLine.{TableLine}
 use Rattle.bilateral.specs.declared.line.TableLine.TheVariants.{Point, Device, Peer, See, Control}
+use Rattle.bilateral.specs.declared.line.TableLine.TheVariants.{Variant}
 use Rattle.bilateral.specs.declared.rows.PointRow.{PointRow}
 use Rattle.bilateral.specs.declared.rows.DeviceRow.{DeviceRow}
 use Rattle.bilateral.specs.declared.rows.Table.{Table}
 use Rattle.bilateral.specs.declared.rows.TheConstants.{DEVICE_LIMIT, PEER_LIMIT, POINT_LIMIT}
-use Rattle.bilateral.specs.declared.rows.TheConstants.{SEE_LIMIT}
+use Rattle.bilateral.specs.declared.rows.TheConstants.{SEE_LIMIT, VARIANT_LIMIT}
 use Rattle.tase_points.specs.declared.layout.Component.{Component}
 use Rattle.bilateral.specs.Rows.{CentreRows, place_of_point, place_of_device, place_of_peer}
-use Rattle.bilateral.specs.Rows.{place_of_title, place_of_see, place_of_control}
-use Rattle.bilateral.specs.Reading.{SoFar, row_fault, first_reason, last_table, is_wrong_span}
+use Rattle.bilateral.specs.Rows.{place_of_title, place_of_see, place_of_control, further_of}
+use Rattle.bilateral.specs.Reading.{SoFar, row_fault, first_reason, current_table, is_wrong_span}
+use Rattle.bilateral.specs.Reasons.{has_all_variants}
 use Rattle.bilateral.specs.Reading.{is_misplaced, is_unknown, is_again, is_too_much}
 
 -- no reason
@@ -113,19 +115,58 @@ limit_taken rows given number none =
     let there = some-from_is_none number taken.3 in
     (some_table rows taken.0, there.0, there.1)
 
+-- what lets the pending octets of a table in
+pub pending_taken : (rows : CentreRows) (peer : ℕ) (given : Bool) (number : Option ℕ)
+    → first_reason
+    (length rows.tables == 0 || not (length (further_of rows peer) == 0)) false given
+    (is_none number) ≡ None
+    → (0 < length rows.tables) × (length (further_of rows peer) ≡ 0) × (n : ℕ)
+    × (number ≡ Some n)
+pending_taken rows peer given number none =
+    let taken = no_reasons
+    (length rows.tables == 0 || not (length (further_of rows peer) == 0)) false given
+    (is_none number) none in
+    let placed = or_parts _ _ taken.0 in
+    let there = some-from_is_none number taken.3 in (
+      some_table rows placed.0,
+      eqb-true (length (further_of rows peer)) 0 (not-false _ placed.1),
+      there.0,
+      there.1,
+    )
+
+-- what lets a further table of a peer in
+pub record IsNewVariant (rows : CentreRows) (key : List ℕ) (peer : ℕ) : Type 0 where
+  pub known : place_of_peer rows key ≡ Some peer
+  pub room : length (further_of rows peer) < VARIANT_LIMIT
+
+pub IsNewVariant-from_no_fault : (so_far : SoFar) (key domain id : List ℕ)
+    → row_fault so_far (Variant key domain id) ≡ None
+    → (peer : ℕ) × IsNewVariant so_far.rows key peer
+IsNewVariant-from_no_fault so_far key domain id none =
+    let taken = free so_far (Variant key domain id) none in
+    let rows = so_far.rows in
+    let peer = some-from_is_none (place_of_peer rows key) taken.1 in
+    let room : has_all_variants rows (Some peer.0) ≡ false = rw peer.1 at taken.3 in (
+      peer.0,
+      record {
+        known = peer.1;
+        room = leb-false VARIANT_LIMIT (length (further_of rows peer.0)) room;
+      },
+    )
+
 -- what lets a row into a table
-pub record IsNewSee (rows : CentreRows) (name : List ℕ) (layout : Option (List Component))
+pub record IsNewSee (so_far : SoFar) (name : List ℕ) (layout : Option (List Component))
     (point : ℕ) (components : List Component) : Type 0 where
-  pub some_table : 0 < length rows.tables
-  pub known : place_of_point rows name ≡ Some point
+  pub some_table : 0 < length so_far.rows.tables
+  pub known : place_of_point so_far.rows name ≡ Some point
   pub shown : layout ≡ Some components
-  pub fresh : place_of_see (last_table rows) point ≡ None
-  pub room : length (last_table rows).sees < SEE_LIMIT
+  pub fresh : place_of_see (current_table so_far) point ≡ None
+  pub room : length (current_table so_far).sees < SEE_LIMIT
 
 pub IsNewSee-from_no_fault : (so_far : SoFar) (name : List ℕ) (vmd : Bool)
     (layout : Option (List Component)) → row_fault so_far (See name vmd layout) ≡ None
     → (point : ℕ) × (components : List Component)
-    × IsNewSee so_far.rows name layout point components
+    × IsNewSee so_far name layout point components
 IsNewSee-from_no_fault so_far name vmd layout none =
     let taken = free so_far (See name vmd layout) none in
     let rows = so_far.rows in
@@ -139,22 +180,22 @@ IsNewSee-from_no_fault so_far name vmd layout none =
         known = point.1;
         shown = shown.1;
         fresh =
-            none-from_is_some (place_of_see (last_table rows) point.0)
+            none-from_is_some (place_of_see (current_table so_far) point.0)
             (rw point.1 at again.1);
-        room = leb-false SEE_LIMIT (length (last_table rows).sees) taken.3;
+        room = leb-false SEE_LIMIT (length (current_table so_far).sees) taken.3;
       },
     )
 
 -- what lets a row for a device into a table
-pub record IsNewControl (rows : CentreRows) (name : List ℕ) (device : ℕ) : Type 0 where
-  pub some_table : 0 < length rows.tables
-  pub known : place_of_device rows name ≡ Some device
-  pub fresh : place_of_control (last_table rows) device ≡ None
-  pub room : length (last_table rows).controls < DEVICE_LIMIT
+pub record IsNewControl (so_far : SoFar) (name : List ℕ) (device : ℕ) : Type 0 where
+  pub some_table : 0 < length so_far.rows.tables
+  pub known : place_of_device so_far.rows name ≡ Some device
+  pub fresh : place_of_control (current_table so_far) device ≡ None
+  pub room : length (current_table so_far).controls < DEVICE_LIMIT
 
 pub IsNewControl-from_no_fault : (so_far : SoFar) (name : List ℕ) (tag : Bool)
     → row_fault so_far (Control name tag) ≡ None
-    → (device : ℕ) × IsNewControl so_far.rows name device
+    → (device : ℕ) × IsNewControl so_far name device
 IsNewControl-from_no_fault so_far name tag none =
     let taken = free so_far (Control name tag) none in
     let rows = so_far.rows in
@@ -164,8 +205,8 @@ IsNewControl-from_no_fault so_far name tag none =
         some_table = some_table rows taken.0;
         known = device.1;
         fresh =
-            none-from_is_some (place_of_control (last_table rows) device.0)
+            none-from_is_some (place_of_control (current_table so_far) device.0)
             (rw device.1 at taken.2);
-        room = leb-false DEVICE_LIMIT (length (last_table rows).controls) taken.3;
+        room = leb-false DEVICE_LIMIT (length (current_table so_far).controls) taken.3;
       },
     )

@@ -1,7 +1,12 @@
 -- The definitions computed on worked tables, apart from all code: what a text of every form spells,
 -- and a first bad line for each reason.
-use Rattle.std.proofs.Common.{◌≡◌, ℕ, true, false, List, [], ◌∷◌, ◌++◌, Some, None, refl}
-use Rattle.std.specs.Prelude.{codes, Result, Ok, Err, pos, negsuc}
+use Rattle.std.proofs.Common.{◌≡◌, ℕ, true, false, not, List, [], ◌∷◌, ◌++◌, filter, Option, Some, None}
+use Rattle.std.proofs.Common.{refl}
+use Rattle.std.specs.Prelude.{codes, Result, Ok, Err, pos, negsuc, replicate}
+use Rattle.std.specs.Option.{option_map}
+use Rattle.std.specs.Str.Lines.{lines}
+use Rattle.plain_text.specs.Lines.{is_skipped}
+use Rattle.plain_text.specs.Words.{each_in}
 use Rattle.std.specs.List.{flat_map}
 use Rattle.tase_points.specs.declared.kind.Kind.TheVariants.{State, Discrete, Real}
 use Rattle.tase_points.specs.declared.layout.Component.TheVariants.{Value, Time, Flags, Cov}
@@ -9,10 +14,16 @@ use Rattle.sbo_device.specs.declared.kind.CommandKind.TheVariants.{Command, Setp
 use Rattle.bilateral.specs.declared.fault.TableFault.{TableFault}
 use Rattle.bilateral.specs.declared.fault.TableWhy.{TableWhy}
 use Rattle.bilateral.specs.declared.fault.TableWhy.TheVariants.{Word, Again, Unknown, Limit, Place}
-use Rattle.bilateral.specs.Rows.{CentreRows}
+use Rattle.bilateral.specs.declared.line.TableLine.TheVariants.{Variant}
+use Rattle.bilateral.specs.declared.rows.See.{See as SeeRow}
+use Rattle.bilateral.specs.declared.rows.Control.{Control as ControlRow}
+use Rattle.bilateral.specs.declared.rows.Table.{Table}
+use Rattle.bilateral.specs.Rows.{CentreRows, no_table}
+use Rattle.bilateral.specs.Lines.{line_in}
+use Rattle.bilateral.specs.Reasons.{row_fault, nothing_given}
 use Rattle.bilateral.specs.Reading.{centre_in}
 use Rattle.std.specs.Fmt.{digits}
-use Rattle.bilateral.specs.Spelling.{Spells}
+use Rattle.bilateral.specs.Spelling.{Spells, told}
 use Rattle.bilateral.specs.Writing.{tables_text, title_word}
 use Rattle.bilateral.proofs.Spelled.{spells-if}
 
@@ -76,6 +87,7 @@ centre = record {
         pending = 1048576;
       })
       ∷ [];
+  variants = [] ∷ [] ∷ [];
 }
 
 -- the tables of two neighbours are read whole
@@ -115,6 +127,7 @@ more_forms-read : centre_in more_forms
         pending = 1024;
       })
           ∷ [];
+      variants = [] ∷ [];
     })
 more_forms-read = refl
 
@@ -194,6 +207,7 @@ mixed_rows = record {
     pending = 1048576;
   })
       ∷ [];
+  variants = [] ∷ [];
 }
 
 mixed-read : centre_in mixed ≡ Ok mixed_rows
@@ -205,3 +219,108 @@ mixed-written : tables_text mixed_rows
     ∷ codes "pending 1048576" ∷ [])
 unfolding digits
 mixed-written = refl
+
+-- a further table of the first peer behind the second: the row that it names, its own limits, and
+-- the first peer's title and pending octets
+abbrev varied_tables : List ℕ
+varied_tables =
+    text_of (codes "point P state" ∷ codes "device D command direct" ∷ codes "peer A * DA TA"
+    ∷ codes "pending 1024" ∷ codes "slots 2" ∷ codes "peer B 1.1.999.2 DB TB" ∷ codes "see P vmd value"
+    ∷ codes "variant A DX TX" ∷ codes "sets 3" ∷ codes "see P domain value" ∷ codes "control D"
+    ∷ codes "variant B DB TB" ∷ codes "variant A DX TX" ∷ [])
+
+abbrev table_by : List ℕ → Option (List ℕ) → List ℕ → List ℕ → List SeeRow → List ControlRow → ℕ → ℕ
+    → ℕ → Table
+table_by key title domain id sees controls slots sets pending = record {
+  key = key;
+  title = title;
+  domain = domain;
+  id = id;
+  sees = sees;
+  controls = controls;
+  slots = slots;
+  sets = sets;
+  pending = pending;
+}
+
+abbrev varied_rows : CentreRows
+varied_rows = record {
+  points = (record { name = codes "P"; kind = State }) ∷ [];
+  devices = (record {
+    name = codes "D";
+    kind = Command;
+    direct = true;
+    checkback = pos 0;
+    span = 0;
+  })
+      ∷ [];
+  tables = table_by (codes "A") None (codes "DA") (codes "TA") [] [] 2 64 1024
+      ∷ table_by (codes "B") (Some (41 ∷ 135 ∷ 103 ∷ 2 ∷ [])) (codes "DB") (codes "TB")
+      ((record { point = 0; vmd = true; layout = Value ∷ [] }) ∷ []) [] 8 64 1048576
+      ∷ [];
+  variants = (table_by (codes "A") None (codes "DX") (codes "TX")
+      ((record { point = 0; vmd = false; layout = Value ∷ [] }) ∷ [])
+      ((record { device = 0; tag = false }) ∷ []) 8 3 1024
+      ∷ table_by (codes "A") None (codes "DX") (codes "TX") [] [] 8 64 1024 ∷ [])
+      ∷ (table_by (codes "B") (Some (41 ∷ 135 ∷ 103 ∷ 2 ∷ [])) (codes "DB") (codes "TB") [] [] 8 64
+      1048576
+      ∷ [])
+      ∷ [];
+}
+
+varied-read : centre_in varied_tables ≡ Ok varied_rows
+varied-read = refl
+
+varied-spelled : Spells varied_tables varied_rows
+varied-spelled = spells-if varied_tables varied_rows varied-read
+
+varied-written : tables_text varied_rows
+    ≡ text_of (codes "point P state" ∷ codes "device D command direct" ∷ codes "peer A * DA TA"
+    ∷ codes "slots 2" ∷ codes "sets 64" ∷ codes "pending 1024" ∷ codes "variant A DX TX"
+    ∷ codes "slots 8" ∷ codes "sets 3" ∷ codes "see P domain value" ∷ codes "control D"
+    ∷ codes "variant A DX TX" ∷ codes "slots 8" ∷ codes "sets 64"
+    ∷ codes "peer B 1.1.999.2 DB TB" ∷ codes "slots 8" ∷ codes "sets 64" ∷ codes "pending 1048576"
+    ∷ codes "see P vmd value" ∷ codes "variant B DB TB" ∷ codes "slots 8" ∷ codes "sets 64" ∷ [])
+unfolding digits
+varied-written = refl
+
+-- what such lines say as a function of all of them, and by the reader line by line
+varied-told : option_map (λ said. (told said).rows)
+    (each_in line_in (filter (λ line. not (is_skipped line)) (lines varied_tables)))
+    ≡ Some varied_rows
+varied-told = refl
+
+-- the reasons against variants: a peer that isn't there, at the start too; pending octets behind
+-- one; each limit once a table; a word that is no identifier. None is there already
+reasons_of_variants : (centre_in (text_of (codes "variant A D T" ∷ [])) ≡ bad Unknown 1)
+    × (centre_in (text_of (codes "peer A * D T" ∷ codes "variant B D T" ∷ [])) ≡ bad Unknown 2)
+    × (centre_in
+    (text_of (codes "peer A * D T" ∷ codes "variant A D T" ∷ codes "pending 1024" ∷ []))
+    ≡ bad Place 3)
+    × (centre_in
+    (text_of (codes "peer A * D T" ∷ codes "slots 1" ∷ codes "variant A D T" ∷ codes "slots 2"
+    ∷ codes "slots 2" ∷ [])) ≡ bad Again 5)
+    × (centre_in (text_of (codes "peer A * D T" ∷ codes "variant A D T T" ∷ [])) ≡ bad Word 2)
+    × (centre_in (text_of (codes "peer A * D T" ∷ codes "variant A D-1 T" ∷ [])) ≡ bad Word 2)
+    × (centre_in
+    (text_of (codes "peer A * D T" ∷ codes "variant A D T" ∷ codes "point P state" ∷ []))
+    ≡ bad Place 3)
+reasons_of_variants = (refl, refl, refl, refl, refl, refl, refl)
+
+-- a peer with so many further tables
+abbrev peer_with : List Table → CentreRows
+peer_with further = record {
+  points = [];
+  devices = [];
+  tables = table_by (codes "A") None (codes "D") (codes "T") [] [] 8 64 1048576 ∷ [];
+  variants = further ∷ [];
+}
+
+-- a fifteenth further table may stand, a sixteenth not
+limit_of_variants : (row_fault
+    (record { rows = peer_with (replicate 14 no_table); peer = 0; given = nothing_given })
+    (Variant (codes "A") (codes "D") (codes "T")) ≡ None)
+    × (row_fault
+    (record { rows = peer_with (replicate 15 no_table); peer = 0; given = nothing_given })
+    (Variant (codes "A") (codes "D") (codes "T")) ≡ Some Limit)
+limit_of_variants = (refl, refl)

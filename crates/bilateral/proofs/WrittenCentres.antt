@@ -1,7 +1,9 @@
 -- The lines of a lawful centre can be written.
 use Rattle.std.proofs.Common.{◌≡◌, ◌≢◌, suc, ◌<◌, true, false, not, List, [], ◌∷◌}
 use Rattle.std.proofs.Common.{◌++◌, length, map, get_or, All, AllPairs, IsTrue, refl, ap, inl, inr}
-use Rattle.std.proofs.Common.{arith}
+use Rattle.std.proofs.Common.{arith, subst}
+use Rattle.std.specs.Prelude.{zip}
+use Rattle.std.proofs.lemmas.List.{get_or_default}
 use Rattle.std.specs.List.{flat_map, list_any}
 use Rattle.std.proofs.lemmas.Bool.{and_from, cases_Bool}
 use Rattle.std.proofs.lemmas.List.Elements.{All-head, All-tail, All-get_or}
@@ -21,7 +23,7 @@ use Rattle.bilateral.specs.declared.rows.Table.{Table}
 use Rattle.bilateral.specs.Rows.{CentreRows, IsCentre, IsTable, IsControlling, IsDevice, no_point}
 use Rattle.bilateral.specs.Rows.{no_device}
 use Rattle.bilateral.specs.Writing.{AreWritable, see_line_of, control_line_of, table_lines}
-use Rattle.bilateral.specs.Writing.{centre_lines}
+use Rattle.bilateral.specs.Writing.{centre_lines, row_lines, variant_lines, peer_lines}
 
 writable-append : (first second : List TableLine) → AreWritable first → AreWritable second
     → AreWritable (first ++ second)
@@ -95,6 +97,14 @@ module _ (rows : CentreRows) (lawful : IsCentre rows) where
         (All-tail (λ (r : ControlRow). r.device < length rows.devices) row controls known),
   )
 
+  rows_writable : (table : Table) → IsTable (length rows.points) table
+      → IsControlling (length rows.devices) table → AreWritable (row_lines rows table)
+  rows_writable table is controlling =
+      writable-append (map (see_line_of rows) table.sees)
+      (map (control_line_of rows) table.controls)
+      (sees_writable table.sees is.known is.layouts)
+      (controls_writable table.controls controlling.known)
+
   table_writable : (table : Table) → IsTable (length rows.points) table
       → IsControlling (length rows.devices) table → AreWritable (table_lines rows table)
   table_writable table is controlling = (
@@ -103,34 +113,71 @@ module _ (rows : CentreRows) (lawful : IsCentre rows) where
       (is.slots_least, is.slots),
       (
         (is.sets_least, is.sets),
-        (
-          (is.pending_least, is.pending),
-          writable-append (map (see_line_of rows) table.sees)
-              (map (control_line_of rows) table.controls)
-              (sees_writable table.sees is.known is.layouts)
-              (controls_writable table.controls controlling.known),
-        ),
+        ((is.pending_least, is.pending), rows_writable table is controlling),
       ),
     ),
   )
 
-  tables_writable : (tables : List Table) → All (IsTable (length rows.points)) tables
+  variant_writable : (table : Table) → IsTable (length rows.points) table
+      → IsControlling (length rows.devices) table → AreWritable (variant_lines rows table)
+  variant_writable table is controlling = (
+    (is.key, is.domain, is.id),
+    (
+      (is.slots_least, is.slots),
+      ((is.sets_least, is.sets), rows_writable table is controlling),
+    ),
+  )
+
+  variants_writable : (further : List Table) → All (IsTable (length rows.points)) further
+      → All (IsControlling (length rows.devices)) further
+      → AreWritable (flat_map (variant_lines rows) further)
+  variants_writable [] are controlling = tt
+  variants_writable (table ∷ further) are controlling =
+      writable-append (variant_lines rows table) (flat_map (variant_lines rows) further)
+      (variant_writable table (All-head (IsTable (length rows.points)) table further are)
+      (All-head (IsControlling (length rows.devices)) table further controlling))
+      (variants_writable further (All-tail (IsTable (length rows.points)) table further are)
+      (All-tail (IsControlling (length rows.devices)) table further controlling))
+
+  peers_writable : (tables : List Table) (variants : List (List Table))
+      → All (IsTable (length rows.points)) tables
       → All (IsControlling (length rows.devices)) tables
-      → AreWritable (flat_map (table_lines rows) tables)
-  tables_writable [] are controlling = tt
-  tables_writable (table ∷ tables) are controlling =
-      writable-append (table_lines rows table) (flat_map (table_lines rows) tables)
-      (table_writable table (All-head (IsTable (length rows.points)) table tables are)
-      (All-head (IsControlling (length rows.devices)) table tables controlling))
-      (tables_writable tables (All-tail (IsTable (length rows.points)) table tables are)
-      (All-tail (IsControlling (length rows.devices)) table tables controlling))
+      → All (All (IsTable (length rows.points))) variants
+      → All (All (IsControlling (length rows.devices))) variants
+      → AreWritable (flat_map (peer_lines rows) (zip tables variants))
+  peers_writable [] variants are controlling further further_controlling = tt
+  peers_writable (table ∷ tables) [] are controlling further further_controlling = tt
+  peers_writable (table ∷ tables) (own ∷ variants) are controlling further further_controlling =
+      let P = IsTable (length rows.points) in
+      let Q = IsControlling (length rows.devices) in
+      writable-append (peer_lines rows (table, own))
+      (flat_map (peer_lines rows) (zip tables variants))
+      (writable-append (table_lines rows table) (flat_map (variant_lines rows) own)
+      (table_writable table (All-head P table tables are) (All-head Q table tables controlling))
+      (variants_writable own (All-head (All P) own variants further)
+      (All-head (All Q) own variants further_controlling)))
+      (peers_writable tables variants (All-tail P table tables are)
+      (All-tail Q table tables controlling) (All-tail (All P) own variants further)
+      (All-tail (All Q) own variants further_controlling))
+
+  further_tables : All (All (IsTable (length rows.points))) rows.variants
+  further_tables = λ k d below.
+      subst (All (IsTable (length rows.points))) (get_or_default rows.variants k [] d below)
+      (lawful.further k).tables
+
+  further_controls : All (All (IsControlling (length rows.devices))) rows.variants
+  further_controls = λ k d below.
+      subst (All (IsControlling (length rows.devices))) (get_or_default rows.variants k [] d below)
+      (lawful.further k).controls
 
   -- the lines of a lawful centre
   pub centre_writable : AreWritable (centre_lines rows)
   centre_writable =
+      let peers = zip rows.tables rows.variants in
       writable-append (map Point rows.points)
-      (map Device rows.devices ++ flat_map (table_lines rows) rows.tables)
+      (map Device rows.devices ++ flat_map (peer_lines rows) peers)
       (points_writable rows.points lawful.named)
-      (writable-append (map Device rows.devices) (flat_map (table_lines rows) rows.tables)
+      (writable-append (map Device rows.devices) (flat_map (peer_lines rows) peers)
       (devices_writable rows.devices lawful.devices)
-      (tables_writable rows.tables lawful.tables lawful.controls))
+      (peers_writable rows.tables rows.variants lawful.tables lawful.controls further_tables
+      further_controls))

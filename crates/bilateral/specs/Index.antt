@@ -12,6 +12,7 @@ names_in names = map (λ key. key.items) (keys names)
 abbrev pub place_among : List (List ℕ) → List ℕ → Option ℕ
 place_among names name = position (λ other. bytes_eq other name) names
 
--- the place that an index has for a peer's row of a point or device
-abbrev pub row_by : {S : Type 0} → HashMap (ℕ × ℕ) ℕ S → ℕ → ℕ → Option ℕ
-row_by index peer item = get_by (λ key. (peer == key.0) && (item == key.1)) index
+-- the place that an index has for the row of a point or device in one of a peer's tables
+abbrev pub row_by : {S : Type 0} → HashMap (ℕ × ℕ × ℕ) ℕ S → ℕ → ℕ → ℕ → Option ℕ
+row_by index peer variant item =
+    get_by (λ key. (peer == key.0) && (variant == key.1) && (item == key.2)) index

@@ -10,7 +10,7 @@ use Rattle.table_words.specs.declared.layouts.LayoutWhy.TheVariants.{Part, Twice
 use Rattle.table_words.specs.declared.device_form.DeviceForm.{DeviceForm}
 use Rattle.bilateral.specs.declared.line.TableLine.{TableLine}
 use Rattle.bilateral.specs.declared.line.TableLine.TheVariants.{Point, Device, Peer, Slots, Sets}
-use Rattle.bilateral.specs.declared.line.TableLine.TheVariants.{Pending, See, Control}
+use Rattle.bilateral.specs.declared.line.TableLine.TheVariants.{Pending, See, Control, Variant}
 use Rattle.bilateral.specs.declared.rows.DeviceRow.{DeviceRow}
 use Rattle.bilateral.specs.declared.rows.Table.{Table}
 use Rattle.bilateral.specs.declared.rows.TheConstants.{SLOT_LIMIT, SLOT_DEFAULT, SET_LIMIT}
@@ -65,6 +65,13 @@ peer_line (key ∷ title ∷ domain ∷ id ∷ []) =
     }))
     (title_in title) else None
 peer_line _ = None
+
+-- `variant KEY DOMAIN ID`
+abbrev pub variant_line : List (List ℕ) → Option TableLine
+variant_line (key ∷ domain ∷ id ∷ []) =
+    if is_identifier key && is_identifier domain && is_identifier id
+    then Some (Variant key domain id) else None
+variant_line _ = None
 
 -- a limit's line, by its one word
 abbrev pub limit_line : (Option ℕ → TableLine) → ℕ → ℕ → List (List ℕ) → Option TableLine
@@ -122,7 +129,8 @@ line_told_by first more =
     if bytes_eq first (codes "point") then point_line more
     else (if bytes_eq first (codes "device") then device_line more
     else (if bytes_eq first (codes "peer") then peer_line more
-    else table_told_by first more))
+    else (if bytes_eq first (codes "variant") then variant_line more
+    else table_told_by first more)))
 
 -- what words say, by the first of them
 abbrev pub table_line_of : List (List ℕ) → Option TableLine
@@ -160,6 +168,8 @@ IsLawfulLine (Device row) = IsTrue (is_name row.name) × IsDeviceLine (form_of r
 IsLawfulLine (Peer table) =
     IsTrue (is_identifier table.key) × IsTrue (is_identifier table.domain)
     × IsTrue (is_identifier table.id) × IsNewTable table × IsTitle table.title
+IsLawfulLine (Variant key domain id) =
+    IsTrue (is_identifier key) × IsTrue (is_identifier domain) × IsTrue (is_identifier id)
 IsLawfulLine (Slots number) = IsLimit 1 SLOT_LIMIT number
 IsLawfulLine (Sets number) = IsLimit 1 SET_LIMIT number
 IsLawfulLine (Pending number) = IsLimit PENDING_LEAST PENDING_LIMIT number

@@ -1,6 +1,6 @@
 -- Why the lines so far can't take a line.
-use Rattle.std.specs.Prelude.{ℕ, ◌-◌, not, Bool, false, ◌&&◌, ◌||◌, ◌==◌, nat_le}
-use Rattle.std.specs.Prelude.{if◌then◌else◌, is_some, is_none, List, [], length, Option, Some}
+use Rattle.std.specs.Prelude.{ℕ, not, Bool, false, ◌&&◌, ◌||◌, ◌==◌, nat_le}
+use Rattle.std.specs.Prelude.{if◌then◌else◌, is_some, is_none, List, [], ◌∷◌, length, Option, Some}
 use Rattle.std.specs.Prelude.{None}
 use Rattle.plain_text.specs.Lines.{is_skipped}
 use Rattle.bilateral.specs.declared.fault.TableWhy.{TableWhy}
@@ -8,47 +8,61 @@ use Rattle.bilateral.specs.declared.fault.TableWhy.TheVariants.{Word, Again, Unk
 use Rattle.bilateral.specs.declared.limit_rows.LimitRows.{LimitRows}
 use Rattle.bilateral.specs.declared.line.TableLine.{TableLine}
 use Rattle.bilateral.specs.declared.line.TableLine.TheVariants.{Point, Device, Peer, Slots, Sets}
-use Rattle.bilateral.specs.declared.line.TableLine.TheVariants.{Pending, See, Control}
+use Rattle.bilateral.specs.declared.line.TableLine.TheVariants.{Pending, See, Control, Variant}
 use Rattle.bilateral.specs.declared.rows.DeviceRow.{DeviceRow}
 use Rattle.bilateral.specs.declared.rows.TheConstants.{DEVICE_LIMIT, PEER_LIMIT, POINT_LIMIT}
 use Rattle.sbo_device.specs.declared.device.TheConstants.{SPAN_LIMIT}
-use Rattle.bilateral.specs.declared.rows.TheConstants.{SEE_LIMIT}
+use Rattle.bilateral.specs.declared.rows.TheConstants.{SEE_LIMIT, VARIANT_LIMIT}
 use Rattle.bilateral.specs.declared.rows.Table.{Table}
 use Rattle.bilateral.specs.Rows.{CentreRows, place_of_point, place_of_device, place_of_peer}
 use Rattle.bilateral.specs.Rows.{place_of_title, place_of_see, place_of_control, table_of}
+use Rattle.bilateral.specs.Rows.{further_of}
 use Rattle.bilateral.specs.Lines.{line_in}
 
 -- no points, no devices and no peers
 abbrev pub no_rows : CentreRows
-no_rows = record { points = []; devices = []; tables = [] }
+no_rows = record { points = []; devices = []; tables = []; variants = [] }
 
 abbrev pub nothing_given : LimitRows
 nothing_given = record { slots = false; sets = false; pending = false }
 
--- the rows so far, and which limits the last table was given
+-- the rows so far, the number of the peer to whose last table lines go, and which limits this
+-- table was given
 pub record SoFar : Type 0 where
   pub rows : CentreRows
+  pub peer : ℕ
   pub given : LimitRows
 
--- the number of the last peer
-abbrev pub last_peer : CentreRows → ℕ
-last_peer rows = length rows.tables - 1
+-- the last of a list, and a default for none
+abbrev pub last_or : {A : Type 0} → A → List A → A
+last_or default [] = default
+last_or default (x ∷ xs) = last_or x xs
 
-abbrev pub last_table : CentreRows → Table
-last_table rows = table_of rows (last_peer rows)
+-- the last table of a peer: the last of the further ones, or its own
+abbrev pub last_table : CentreRows → ℕ → Table
+last_table rows peer = last_or (table_of rows peer) (further_of rows peer)
+
+-- the table to which lines go
+abbrev pub current_table : SoFar → Table
+current_table so_far = last_table so_far.rows so_far.peer
 
 abbrev pub is_named : CentreRows → List ℕ → Bool
 is_named rows name = is_some (place_of_point rows name) || is_some (place_of_device rows name)
 
--- a line where it may not stand: a point or a device behind a peer, a line of a table before one
+-- a line where it may not stand: a point or a device behind a peer, a line of a table before one,
+-- the pending octets behind a variant
 abbrev pub is_misplaced : SoFar → TableLine → Bool
 is_misplaced so_far (Point point) = not (length so_far.rows.tables == 0)
 is_misplaced so_far (Device device) = not (length so_far.rows.tables == 0)
 is_misplaced so_far (Peer table) = false
+is_misplaced so_far (Variant key domain id) = false
+is_misplaced so_far (Pending number) =
+    length so_far.rows.tables == 0 || not (length (further_of so_far.rows so_far.peer) == 0)
 is_misplaced so_far _ = length so_far.rows.tables == 0
 
 -- a line with a name that isn't there
 abbrev pub is_unknown : SoFar → TableLine → Bool
+is_unknown so_far (Variant key domain id) = is_none (place_of_peer so_far.rows key)
 is_unknown so_far (See name vmd layout) = is_none (place_of_point so_far.rows name)
 is_unknown so_far (Control name tag) = is_none (place_of_device so_far.rows name)
 is_unknown so_far _ = false
@@ -69,18 +83,24 @@ is_again so_far (Device device) = is_named so_far.rows device.name
 is_again so_far (Peer table) =
     is_some (place_of_peer so_far.rows table.key)
     || is_some (place_of_title so_far.rows table.title)
+is_again so_far (Variant key domain id) = false
 is_again so_far (Slots number) = so_far.given.slots
 is_again so_far (Sets number) = so_far.given.sets
 is_again so_far (Pending number) = so_far.given.pending
 is_again so_far (See name vmd layout) =
-    is_none layout || has_see (last_table so_far.rows) (place_of_point so_far.rows name)
+    is_none layout || has_see (current_table so_far) (place_of_point so_far.rows name)
 is_again so_far (Control name tag) =
-    has_control (last_table so_far.rows) (place_of_device so_far.rows name)
+    has_control (current_table so_far) (place_of_device so_far.rows name)
 
 -- a span that no selection may have
 abbrev pub is_wrong_span : DeviceRow → Bool
 is_wrong_span device =
     not device.direct && not (nat_le 1 device.span && nat_le device.span SPAN_LIMIT)
+
+-- whether a peer, if there is one, has all further tables that it may have
+abbrev pub has_all_variants : CentreRows → Option ℕ → Bool
+has_all_variants rows None = false
+has_all_variants rows (Some peer) = nat_le VARIANT_LIMIT (length (further_of rows peer))
 
 -- one row too many, or a number past its limit
 abbrev pub is_too_much : SoFar → TableLine → Bool
@@ -88,12 +108,14 @@ is_too_much so_far (Point point) = nat_le POINT_LIMIT (length so_far.rows.points
 is_too_much so_far (Device device) =
     nat_le DEVICE_LIMIT (length so_far.rows.devices) || is_wrong_span device
 is_too_much so_far (Peer table) = nat_le PEER_LIMIT (length so_far.rows.tables)
+is_too_much so_far (Variant key domain id) =
+    has_all_variants so_far.rows (place_of_peer so_far.rows key)
 is_too_much so_far (Slots number) = is_none number
 is_too_much so_far (Sets number) = is_none number
 is_too_much so_far (Pending number) = is_none number
-is_too_much so_far (See name vmd layout) = nat_le SEE_LIMIT (length (last_table so_far.rows).sees)
+is_too_much so_far (See name vmd layout) = nat_le SEE_LIMIT (length (current_table so_far).sees)
 is_too_much so_far (Control name tag) =
-    nat_le DEVICE_LIMIT (length (last_table so_far.rows).controls)
+    nat_le DEVICE_LIMIT (length (current_table so_far).controls)
 
 -- the first reason of these that holds
 abbrev pub first_reason : Bool → Bool → Bool → Bool → Option TableWhy

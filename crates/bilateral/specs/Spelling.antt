@@ -2,7 +2,7 @@
 -- and its rows are what these lines say. A text that spells nothing has a first bad line.
 use Rattle.std.specs.Prelude.{◌≡◌, ℕ, ◌+◌, ◌-◌, ◌^◌, min, Bool, true, false, not, if◌then◌else◌}
 use Rattle.std.specs.Prelude.{List, [], ◌∷◌, ◌++◌, length, map, filter, filter_map, Option, Some}
-use Rattle.std.specs.Prelude.{None, is_some, option_and_then, position, bytes_eq}
+use Rattle.std.specs.Prelude.{None, unwrap_or, option_and_then, position, bytes_eq}
 use Rattle.std.specs.Option.{option_map}
 use Rattle.std.specs.List.{list_any}
 use Rattle.std.specs.Str.Lines.{lines}
@@ -12,17 +12,18 @@ use Rattle.bilateral.specs.declared.fault.TableFault.{TableFault}
 use Rattle.bilateral.specs.declared.limit_rows.LimitRows.{LimitRows}
 use Rattle.bilateral.specs.declared.line.TableLine.{TableLine}
 use Rattle.bilateral.specs.declared.line.TableLine.TheVariants.{Point, Device, Peer, Slots, Sets}
-use Rattle.bilateral.specs.declared.line.TableLine.TheVariants.{Pending, See, Control}
+use Rattle.bilateral.specs.declared.line.TableLine.TheVariants.{Pending, See, Control, Variant}
 use Rattle.bilateral.specs.declared.rows.PointRow.{PointRow}
 use Rattle.bilateral.specs.declared.rows.DeviceRow.{DeviceRow}
 use Rattle.bilateral.specs.declared.rows.See as see
 use Rattle.bilateral.specs.declared.rows.Control as control
 use Rattle.bilateral.specs.declared.rows.Table.{Table}
-use Rattle.bilateral.specs.Rows.{CentreRows}
+use Rattle.bilateral.specs.Rows.{CentreRows, new_variant}
 use Rattle.bilateral.specs.Lines.{line_in}
 use Rattle.bilateral.specs.Reasons.{SoFar, row_fault, line_fault}
+pub use Rattle.bilateral.specs.Reasons.{last_or}
 
--- the point, device or peer that a line gives
+-- the point or device that a line gives
 abbrev pub point_of_line : TableLine → Option PointRow
 point_of_line (Point point) = Some point
 point_of_line _ = None
@@ -30,10 +31,6 @@ point_of_line _ = None
 abbrev pub device_of_line : TableLine → Option DeviceRow
 device_of_line (Device device) = Some device
 device_of_line _ = None
-
-abbrev pub peer_in : TableLine → Option Table
-peer_in (Peer table) = Some table
-peer_in _ = None
 
 -- the row that a line gives a table: the point or the device that it names, by its number
 abbrev pub see_in : List PointRow → TableLine → Option see.See
@@ -62,28 +59,26 @@ abbrev pub pending_in : TableLine → Option ℕ
 pending_in (Pending number) = number
 pending_in _ = None
 
--- the lines up to the next peer's
+-- whether a line begins a table: the own one of a peer, or a further one
+abbrev pub begins_table : TableLine → Bool
+begins_table (Peer table) = true
+begins_table (Variant key domain id) = true
+begins_table _ = false
+
+-- the lines up to the next table's
 abbrev pub own_lines : List TableLine → List TableLine
 own_lines [] = []
-own_lines (line ∷ more) = if is_some (peer_in line) then [] else line ∷ own_lines more
+own_lines (line ∷ more) = if begins_table line then [] else line ∷ own_lines more
 
--- a peer's line and the lines of its table
+-- the line that begins a table, and the lines of the table
 abbrev pub TableSection : Type 0
-TableSection = Table × List TableLine
+TableSection = TableLine × List TableLine
 
-abbrev pub sections_begun : Option Table → List TableLine → List TableSection → List TableSection
-sections_begun None own later = later
-sections_begun (Some table) own later = (table, own) ∷ later
-
--- each peer's line with the lines up to the next
+-- each line that begins a table, with the lines up to the next
 abbrev pub sections : List TableLine → List TableSection
 sections [] = []
-sections (line ∷ more) = sections_begun (peer_in line) (own_lines more) (sections more)
-
--- the last of a list, and a default for none
-abbrev pub last_or : {A : Type 0} → A → List A → A
-last_or default [] = default
-last_or default (x ∷ xs) = last_or x xs
+sections (line ∷ more) =
+    if begins_table line then (line, own_lines more) ∷ sections more else sections more
 
 -- a peer's table with these rows and limits
 abbrev pub filled : Table → List see.See → List control.Control → ℕ → ℕ → ℕ → Table
@@ -99,15 +94,52 @@ filled table sees controls slots sets pending = record {
   pending = pending;
 }
 
--- the table of a section, by the points and the devices of the centre: the peer's own, which has no
--- rows, with those of its lines, and with the limits that these give
-abbrev pub table_in : List PointRow → List DeviceRow → TableSection → Table
-table_in points devices section =
-    filled section.0 (section.0.sees ++ filter_map (see_in points) section.1)
-    (section.0.controls ++ filter_map (control_in devices) section.1)
-    (last_or section.0.slots (filter_map slots_in section.1))
-    (last_or section.0.sets (filter_map sets_in section.1))
-    (last_or section.0.pending (filter_map pending_in section.1))
+-- a table with what lines give it, by the points and the devices of the centre: with their rows
+-- behind its own, and with the limits that they give
+abbrev pub table_in : List PointRow → List DeviceRow → Table → List TableLine → Table
+table_in points devices table own =
+    filled table (table.sees ++ filter_map (see_in points) own)
+    (table.controls ++ filter_map (control_in devices) own)
+    (last_or table.slots (filter_map slots_in own))
+    (last_or table.sets (filter_map sets_in own))
+    (last_or table.pending (filter_map pending_in own))
+
+-- the own table of a peer, of the section of its line
+abbrev pub own_table : List PointRow → List DeviceRow → TableLine → List TableLine → Option Table
+own_table points devices (Peer table) own = Some (table_in points devices table own)
+own_table points devices _ own = None
+
+-- a further table of the peer with this own one, of the section of a variant with its key
+abbrev pub further_by : List PointRow → List DeviceRow → Table → TableLine → List TableLine
+    → Option Table
+further_by points devices own (Variant key domain id) more =
+    if bytes_eq own.key key then Some (table_in points devices (new_variant own domain id) more)
+    else None
+further_by points devices own _ more = None
+
+abbrev pub further_table : List PointRow → List DeviceRow → Table → TableSection → Option Table
+further_table points devices own part = further_by points devices own part.0 part.1
+
+-- a peer's own table and its further ones
+abbrev pub PeerTables : Type 0
+PeerTables = Table × List Table
+
+abbrev pub peer_begun : Option Table → (Table → List Table) → List PeerTables → List PeerTables
+peer_begun None further later = later
+peer_begun (Some own) further later = (own, further own) ∷ later
+
+-- the tables of each peer: its own one, and those of the variants behind it
+abbrev pub peers_told : List PointRow → List DeviceRow → List TableSection → List PeerTables
+peers_told points devices [] = []
+peers_told points devices (part ∷ more) =
+    peer_begun (own_table points devices part.0 part.1)
+    (λ own. filter_map (further_table points devices own) more) (peers_told points devices more)
+
+-- the number of the peer to whose table a line that begins one leads
+abbrev pub peer_begun_by : List Table → Option TableLine → ℕ
+peer_begun_by tables (Some (Variant key domain id)) =
+    unwrap_or (position (λ table. bytes_eq table.key key) tables) 0
+peer_begun_by tables _ = length tables - 1
 
 abbrev pub is_slots : TableLine → Bool
 is_slots (Slots number) = true
@@ -129,16 +161,32 @@ given_among own = record {
   pending = list_any is_pending own;
 }
 
--- what points, devices and sections come to
-abbrev pub all_told_by : List PointRow → List DeviceRow → List TableSection → SoFar
-all_told_by points devices parts = record {
+-- the last line that begins a table, and the lines of this table
+abbrev pub last_begun : List TableSection → Option TableLine
+last_begun parts = last_or None (map (λ part. Some part.0) parts)
+
+abbrev pub last_own : List TableSection → List TableLine
+last_own parts = last_or [] (map (λ part. part.1) parts)
+
+-- what points, devices, the tables of peers, the last beginning and the lines behind it come to
+abbrev pub so_far_told : List PointRow → List DeviceRow → List PeerTables → Option TableLine
+    → List TableLine → SoFar
+so_far_told points devices peers begun own = record {
   rows = record {
     points = points;
     devices = devices;
-    tables = map (table_in points devices) parts;
+    tables = map (λ peer. peer.0) peers;
+    variants = map (λ peer. peer.1) peers;
   };
-  given = given_among (last_or [] (map (λ part. part.1) parts));
+  peer = peer_begun_by (map (λ peer. peer.0) peers) begun;
+  given = given_among own;
 }
+
+-- what points, devices and sections come to
+abbrev pub all_told_by : List PointRow → List DeviceRow → List TableSection → SoFar
+all_told_by points devices parts =
+    so_far_told points devices (peers_told points devices parts) (last_begun parts)
+    (last_own parts)
 
 -- what lines say
 abbrev pub told : List TableLine → SoFar

@@ -1,7 +1,7 @@
 -- The written form of a centre: a line a row, points first, then devices, then the tables, each
 -- with its limits and rows.
 use Rattle.std.specs.Prelude.{◌≡◌, ℕ, ◌+◌, ◌-◌, ◌*◌, ◌/◌, ◌<◌, ◌≤◌, min, nat_le, Bool, IsTrue}
-use Rattle.std.specs.Prelude.{if◌then◌else◌, List, [], ◌∷◌, ◌++◌, length, map, Option, Some, None}
+use Rattle.std.specs.Prelude.{if◌then◌else◌, List, [], ◌∷◌, ◌++◌, length, map, zip, Option, Some, None}
 use Rattle.std.specs.Prelude.{unwrap_or, codes, decimal, not, ◌&&◌, ◌==◌}
 use Rattle.std.specs.Fmt.{signed_decimal}
 use Rattle.std.specs.List.{flat_map, join_with_byte, list_all}
@@ -15,7 +15,7 @@ use Rattle.table_words.specs.Words.{is_name, is_identifier, is_distinct, IsTitle
 use Rattle.table_words.specs.Devices.{IsDeviceLine}
 use Rattle.bilateral.specs.declared.line.TableLine.{TableLine}
 use Rattle.bilateral.specs.declared.line.TableLine.TheVariants.{Point, Device, Peer, Slots, Sets}
-use Rattle.bilateral.specs.declared.line.TableLine.TheVariants.{Pending, See, Control}
+use Rattle.bilateral.specs.declared.line.TableLine.TheVariants.{Pending, See, Control, Variant}
 use Rattle.bilateral.specs.declared.rows.TheConstants.{SLOT_LIMIT, SLOT_DEFAULT}
 use Rattle.sbo_device.specs.declared.device.TheConstants.{SPAN_LIMIT}
 use Rattle.bilateral.specs.declared.rows.TheConstants.{SET_LIMIT, SET_DEFAULT, PENDING_LEAST}
@@ -26,7 +26,7 @@ use Rattle.bilateral.specs.declared.rows.Control.{Control as ControlRow}
 use Rattle.bilateral.specs.declared.rows.Table.{Table}
 use Rattle.bilateral.specs.Rows.{CentreRows, point_of, device_of}
 use Rattle.bilateral.specs.Lines.{form_of}
-use Rattle.bilateral.specs.Spelling.{filled}
+use Rattle.bilateral.specs.Spelling.{filled, PeerTables}
 
 -- words joined by one space
 abbrev pub spaced : List (List ℕ) → List ℕ
@@ -89,6 +89,7 @@ line_words (Device row) =
     codes "device" ∷ row.name ∷ (command_words row.kind ++ mode_words row)
 line_words (Peer table) =
     codes "peer" ∷ table.key ∷ title_word table.title ∷ table.domain ∷ table.id ∷ []
+line_words (Variant key domain id) = codes "variant" ∷ key ∷ domain ∷ id ∷ []
 line_words (Slots number) = codes "slots" ∷ decimal (unwrap_or number 0) ∷ []
 line_words (Sets number) = codes "sets" ∷ decimal (unwrap_or number 0) ∷ []
 line_words (Pending number) = codes "pending" ∷ decimal (unwrap_or number 0) ∷ []
@@ -111,17 +112,30 @@ see_line_of rows see = See (point_of rows see.point).name see.vmd (Some see.layo
 abbrev pub control_line_of : CentreRows → ControlRow → TableLine
 control_line_of rows control = Control (device_of rows control.device).name control.tag
 
+abbrev pub row_lines : CentreRows → Table → List TableLine
+row_lines rows table =
+    map (see_line_of rows) table.sees ++ map (control_line_of rows) table.controls
+
 abbrev pub table_lines : CentreRows → Table → List TableLine
 table_lines rows table =
     Peer (empty_table table) ∷ Slots (Some table.slots) ∷ Sets (Some table.sets)
-    ∷ Pending (Some table.pending)
-    ∷ (map (see_line_of rows) table.sees ++ map (control_line_of rows) table.controls)
+    ∷ Pending (Some table.pending) ∷ row_lines rows table
+
+-- the lines of a further table
+abbrev pub variant_lines : CentreRows → Table → List TableLine
+variant_lines rows table =
+    Variant table.key table.domain table.id ∷ Slots (Some table.slots) ∷ Sets (Some table.sets)
+    ∷ row_lines rows table
+
+-- the lines of a peer's tables
+abbrev pub peer_lines : CentreRows → PeerTables → List TableLine
+peer_lines rows peer = table_lines rows peer.0 ++ flat_map (variant_lines rows) peer.1
 
 -- the lines of a centre, a line a row
 abbrev pub centre_lines : CentreRows → List TableLine
 centre_lines rows =
     map Point rows.points
-    ++ (map Device rows.devices ++ flat_map (table_lines rows) rows.tables)
+    ++ (map Device rows.devices ++ flat_map (peer_lines rows) (zip rows.tables rows.variants))
 
 -- the text of lines: each line with its end
 abbrev pub lines_text : List TableLine → List ℕ
@@ -155,6 +169,8 @@ IsWritableLine (Peer table) =
     IsTrue (is_identifier table.key) × IsTrue (is_identifier table.domain)
     × IsTrue (is_identifier table.id) × (table ≡ empty_table table)
     × IsTitle table.title
+IsWritableLine (Variant key domain id) =
+    IsTrue (is_identifier key) × IsTrue (is_identifier domain) × IsTrue (is_identifier id)
 IsWritableLine (Slots number) = IsWrittenLimit 1 SLOT_LIMIT number
 IsWritableLine (Sets number) = IsWrittenLimit 1 SET_LIMIT number
 IsWritableLine (Pending number) = IsWrittenLimit PENDING_LEAST PENDING_LIMIT number

@@ -1,21 +1,24 @@
 //! What a line adds that can be taken.
-ghost use Rattle.std.specs.Prelude.{◌≡◌, ◌<◌, ◌≤◌, length, None, OnOk};
+ghost use Rattle.std.specs.Prelude.{◌≡◌, ◌<◌, ◌≤◌, length, None, OnOk, IsTrue};
 ghost use Rattle.bilateral.specs.declared.line.TableLine.TheVariants.{Point, Device, Peer, Slots};
-ghost use Rattle.bilateral.specs.declared.line.TableLine.TheVariants.{Sets, Pending};
+ghost use Rattle.bilateral.specs.declared.line.TableLine.TheVariants.{Sets, Pending, Variant};
 ghost use Rattle.bilateral.specs.declared.line.TableLine.TheVariants.{See as SeeLine};
 ghost use Rattle.bilateral.specs.declared.line.TableLine.TheVariants.{Control as ControlLine};
 ghost use Rattle.tase_points.specs.Layouts.{IsLayout};
-ghost use Rattle.bilateral.specs.Rows.{place_of_see, place_of_control};
+ghost use Rattle.table_words.specs.Words.{is_identifier};
+ghost use Rattle.bilateral.specs.Rows.{place_of_see, place_of_control, further_of};
 ghost use Rattle.bilateral.specs.Lines.{IsLawfulLine};
-ghost use Rattle.bilateral.specs.Reading.{row_fault, last_table, with_row, seen_in_last};
-ghost use Rattle.bilateral.specs.Reading.{controlled_in_last};
+ghost use Rattle.bilateral.specs.Reading.{row_fault, current_table, with_row, seen_in_last};
+ghost use Rattle.bilateral.specs.Reading.{controlled_in_last, varied};
 ghost use Rattle.bilateral.specs.Store.{rows_of, so_far, IsStore};
 
-use crate::index;
 use crate::limit_rows::LimitRows;
 use crate::line::TableLine;
-use crate::rows::{Control, DEVICE_LIMIT, DeviceRow, PointRow, SEE_LIMIT, See, Table};
+use crate::rows::{
+    Control, DEVICE_LIMIT, DeviceRow, PointRow, SEE_LIMIT, See, Table, VARIANT_LIMIT,
+};
 use crate::store::Store;
+use crate::{index, peer_tables};
 use ber_values::Visible;
 use std::alloc::{AllocError, Global};
 use tase_points::Layout;
@@ -33,6 +36,7 @@ impl Store {
             TableLine::Point(point) => self.add_point(alloc, point),
             TableLine::Device(device) => self.add_device(alloc, device),
             TableLine::Peer(table) => self.add_peer(alloc, table),
+            TableLine::Variant { key, domain, id } => self.add_variant(alloc, key, domain, id),
             TableLine::Slots(number) => {
                 self.add_slots(number);
                 Ok(())
@@ -82,7 +86,53 @@ impl Store {
         ensures store { OnOk result (IsStore self.new) }
     {
         index::note_name(alloc, &mut self.keys, table.key.as_slice())?;
-        self.tables.push(table)?;
+        let peer = self.tables.len() as u32;
+        let tables = peer_tables::only(alloc, table)?;
+        self.tables.push(tables)?;
+        self.peer = peer;
+        self.given = LimitRows::nothing();
+        Ok(())
+    }
+
+    fn add_variant(
+        &mut self,
+        alloc: Global,
+        key: Visible,
+        domain: Visible,
+        id: Visible,
+    ) -> Result<(), AllocError>
+        requires store { IsStore self.old }
+        requires lawful { IsLawfulLine (Variant key domain id) }
+        requires taken { row_fault (so_far self.old) (Variant key domain id) ≡ None }
+        ensures rows { OnOk result
+            (so_far self.new ≡ with_row (so_far self.old) (Variant key domain id)) }
+        ensures store { OnOk result (IsStore self.new) }
+    {
+        let Some(peer) = self.find_peer(key.as_slice()) else {
+            unreachable!();
+        };
+        self.push_variant(alloc, peer, domain, id)
+    }
+
+    /// Appends a further table of a peer, to which lines then go.
+    fn push_variant(
+        &mut self,
+        alloc: Global,
+        peer: u32,
+        domain: Visible,
+        id: Visible,
+    ) -> Result<(), AllocError>
+        requires store { IsStore self.old }
+        requires known { peer < length (rows_of self.old).tables }
+        requires room { length (further_of (rows_of self.old) peer) < VARIANT_LIMIT }
+        requires domain { IsTrue (is_identifier domain) }
+        requires id { IsTrue (is_identifier id) }
+        ensures rows { OnOk result (so_far self.new ≡ varied (rows_of self.old) peer domain id) }
+        ensures store { OnOk result (IsStore self.new) }
+    {
+        let table = peer_tables::new_variant(alloc, self.table(peer), domain, id)?;
+        self.tables[peer as usize].push(table)?;
+        self.peer = peer;
         self.given = LimitRows::nothing();
         Ok(())
     }
@@ -97,9 +147,7 @@ impl Store {
         let Some(number) = number else {
             unreachable!();
         };
-        let peer = self.tables.len() - 1;
-        let table = &mut self.tables[peer];
-        table.slots = number;
+        peer_tables::set_slots(&mut self.tables[self.peer as usize], number);
         self.given.slots = true;
     }
 
@@ -113,9 +161,7 @@ impl Store {
         let Some(number) = number else {
             unreachable!();
         };
-        let peer = self.tables.len() - 1;
-        let table = &mut self.tables[peer];
-        table.sets = number;
+        peer_tables::set_sets(&mut self.tables[self.peer as usize], number);
         self.given.sets = true;
     }
 
@@ -129,9 +175,7 @@ impl Store {
         let Some(number) = number else {
             unreachable!();
         };
-        let peer = self.tables.len() - 1;
-        let table = &mut self.tables[peer];
-        table.pending = number;
+        peer_tables::set_pending(&mut self.tables[self.peer as usize], number);
         self.given.pending = true;
     }
 
@@ -157,20 +201,21 @@ impl Store {
     /// Appends a row to the last table.
     fn push_see(&mut self, see: See) -> Result<(), AllocError>
         requires store { IsStore self.old }
-        requires some { 0 < length self.old.tables.items }
+        requires some { 0 < length (rows_of self.old).tables }
         requires known { see.point < length self.old.points.items }
-        requires fresh { place_of_see (last_table (rows_of self.old)) see.point ≡ None }
-        requires room { length (last_table (rows_of self.old)).sees < SEE_LIMIT }
+        requires fresh { place_of_see (current_table (so_far self.old)) see.point ≡ None }
+        requires room { length (current_table (so_far self.old)).sees < SEE_LIMIT }
         requires layout { IsLayout see.layout }
-        ensures rows { OnOk result (rows_of self.new ≡ seen_in_last (rows_of self.old) see) }
+        ensures rows { OnOk result
+            (rows_of self.new ≡ seen_in_last (rows_of self.old) self.old.peer see) }
+        ensures peer { OnOk result (self.new.peer ≡ self.old.peer) }
         ensures given { OnOk result (self.new.given ≡ self.old.given) }
         ensures store { OnOk result (IsStore self.new) }
     {
-        let peer = self.tables.len() - 1;
-        let place = self.tables[peer].sees.len() as u32;
-        index::note_row(&mut self.sees, peer as u32, see.point, place)?;
-        let table = &mut self.tables[peer];
-        table.sees.push(see)?;
+        let variant = self.further(self.peer);
+        let place = self.last_table().sees.len() as u32;
+        index::note_row(&mut self.sees, self.peer, variant, see.point, place)?;
+        peer_tables::push_see(&mut self.tables[self.peer as usize], see)?;
         Ok(())
     }
 
@@ -190,20 +235,27 @@ impl Store {
     /// Appends a row for a device to the last table.
     fn push_control(&mut self, control: Control) -> Result<(), AllocError>
         requires store { IsStore self.old }
-        requires some { 0 < length self.old.tables.items }
+        requires some { 0 < length (rows_of self.old).tables }
         requires known { control.device < length self.old.devices.items }
-        requires fresh { place_of_control (last_table (rows_of self.old)) control.device ≡ None }
-        requires room { length (last_table (rows_of self.old)).controls < DEVICE_LIMIT }
+        requires fresh { place_of_control (current_table (so_far self.old)) control.device
+            ≡ None }
+        requires room { length (current_table (so_far self.old)).controls < DEVICE_LIMIT }
         ensures rows { OnOk result
-            (rows_of self.new ≡ controlled_in_last (rows_of self.old) control) }
+            (rows_of self.new ≡ controlled_in_last (rows_of self.old) self.old.peer control) }
+        ensures peer { OnOk result (self.new.peer ≡ self.old.peer) }
         ensures given { OnOk result (self.new.given ≡ self.old.given) }
         ensures store { OnOk result (IsStore self.new) }
     {
-        let peer = self.tables.len() - 1;
-        let place = self.tables[peer].controls.len() as u32;
-        index::note_row(&mut self.controls, peer as u32, control.device, place)?;
-        let table = &mut self.tables[peer];
-        table.controls.push(control)?;
+        let variant = self.further(self.peer);
+        let place = self.last_table().controls.len() as u32;
+        index::note_row(
+            &mut self.controls,
+            self.peer,
+            variant,
+            control.device,
+            place,
+        )?;
+        peer_tables::push_control(&mut self.tables[self.peer as usize], control)?;
         Ok(())
     }
 }

@@ -1,7 +1,8 @@
-ghost use Rattle.std.specs.Prelude.{◌≡◌, ◌<◌, length, Some, slice_get};
+ghost use Rattle.std.specs.Prelude.{◌≡◌, ◌<◌, ◌≤◌, length, Some, slice_get};
 ghost use Rattle.std.specs.Option.{option_copied};
 ghost use Rattle.bilateral.specs.Rows.{IsCentre, place_of_point, place_of_device, place_of_peer};
-ghost use Rattle.bilateral.specs.Rows.{place_of_title, place_of_see, place_of_control, table_of};
+ghost use Rattle.bilateral.specs.Rows.{place_of_title, place_of_see, place_of_control};
+ghost use Rattle.bilateral.specs.Rows.{variants_of, variant_of};
 
 use crate::rows::{DeviceRow, PointRow, Table};
 use crate::store::Store;
@@ -9,7 +10,8 @@ use ber_values::Oid;
 use std::marker::Model;
 
 /// The points and devices of a centre and its peers' tables. Points, devices and peers are numbered
-/// from 0 in the order of the file.
+/// from 0 in the order of the file, and so are the tables of a peer, the own one of its line being
+/// number 0.
 #[derive(Debug, Drop)]
 pub struct Centre {
     store: Store,
@@ -57,7 +59,7 @@ impl Centre {
         ensures count { result ≡ length self.now.tables }
         ensures lawful { IsCentre self.now }
     {
-        self.store.tables.len() as u32
+        self.store.peers() as u32
     }
 
     /// The point with this number.
@@ -76,12 +78,31 @@ impl Centre {
         &self.store.devices[device as usize]
     }
 
-    /// The table of the peer with this number.
+    /// The own table of the peer with this number.
     pub fn table(&self, peer: u32) -> &Table
         requires { peer < length self.now.tables }
         ensures { slice_get self.now.tables peer ≡ Some result.now }
     {
-        &self.store.tables[peer as usize]
+        self.store.table(peer)
+    }
+
+    /// How many tables the peer with this number has, its own one among them.
+    pub fn variants(&self, peer: u32) -> u32
+        requires { peer < length self.now.tables }
+        ensures count { result ≡ length (variants_of self.now peer) }
+        ensures least { 1 ≤ result }
+        ensures most { result ≤ 16 }
+    {
+        self.store.further(peer) + 1
+    }
+
+    /// One of the tables of the peer with this number, its own one being number 0.
+    pub fn variant(&self, peer: u32, variant: u32) -> &Table
+        requires peer { peer < length self.now.tables }
+        requires variant { variant < length (variants_of self.now peer) }
+        ensures { slice_get (variants_of self.now peer) variant ≡ Some result.now }
+    {
+        self.store.variant(peer, variant)
     }
 
     /// The number of the point with this name.
@@ -105,19 +126,22 @@ impl Centre {
         self.store.find_peer(key)
     }
 
-    /// Where the peer's table has its row for a point.
-    pub fn find_see(&self, peer: u32, point: u32) -> Option<u32>
-        requires { peer < length self.now.tables }
-        ensures { result ≡ place_of_see (table_of self.now peer) point }
+    /// Where one of the peer's tables has its row for a point.
+    pub fn find_see(&self, peer: u32, variant: u32, point: u32) -> Option<u32>
+        requires peer { peer < length self.now.tables }
+        requires variant { variant < length (variants_of self.now peer) }
+        ensures { result ≡ place_of_see (variant_of self.now peer variant) point }
     {
-        self.store.find_see(peer, point)
+        self.store.find_see(peer, variant, point)
     }
-    /// Where the peer's table has its row for a device.
-    pub fn find_control(&self, peer: u32, device: u32) -> Option<u32>
-        requires { peer < length self.now.tables }
-        ensures { result ≡ place_of_control (table_of self.now peer) device }
+
+    /// Where one of the peer's tables has its row for a device.
+    pub fn find_control(&self, peer: u32, variant: u32, device: u32) -> Option<u32>
+        requires peer { peer < length self.now.tables }
+        requires variant { variant < length (variants_of self.now peer) }
+        ensures { result ≡ place_of_control (variant_of self.now peer variant) device }
     {
-        self.store.find_control(peer, device)
+        self.store.find_control(peer, variant, device)
     }
 
     /// The number of the peer with this title, or of the one that has none.

@@ -1,15 +1,18 @@
 //! Why the lines so far can't take a line.
-ghost use Rattle.std.specs.Prelude.{◌≡◌, ◌==◌, false, length, is_some};
+ghost use Rattle.std.specs.Prelude.{◌≡◌, ◌==◌, ◌||◌, ◌<◌, not, false, length, is_some};
 ghost use Rattle.bilateral.specs.declared.line.TableLine.TheVariants.{Point, Device, Peer};
-ghost use Rattle.bilateral.specs.declared.line.TableLine.TheVariants.{See, Control};
-ghost use Rattle.bilateral.specs.Rows.{place_of_title};
+ghost use Rattle.bilateral.specs.declared.line.TableLine.TheVariants.{See, Control, Variant};
+ghost use Rattle.bilateral.specs.Rows.{place_of_title, place_of_see, place_of_control};
+ghost use Rattle.bilateral.specs.Rows.{further_of};
 ghost use Rattle.bilateral.specs.Reading.{row_fault, first_reason};
 ghost use Rattle.bilateral.specs.Reading as own;
 ghost use Rattle.bilateral.specs.Store.{rows_of, so_far, IsStore};
 
 use crate::fault::TableWhy;
 use crate::line::TableLine;
-use crate::rows::{DEVICE_LIMIT, DeviceRow, PEER_LIMIT, POINT_LIMIT, PointRow, SEE_LIMIT, Table};
+use crate::rows::{
+    DEVICE_LIMIT, DeviceRow, PEER_LIMIT, POINT_LIMIT, PointRow, SEE_LIMIT, Table, VARIANT_LIMIT,
+};
 use crate::store::Store;
 use ber_values::Visible;
 use sbo_device::SPAN_LIMIT;
@@ -25,9 +28,10 @@ impl Store {
             TableLine::Point(point) => self.point_fault(point),
             TableLine::Device(device) => self.device_fault(device),
             TableLine::Peer(table) => self.peer_fault(table),
+            TableLine::Variant { key, domain, id } => self.variant_fault(key, domain, id),
             TableLine::Slots(number) => self.given_fault(self.given.slots, number.is_none()),
             TableLine::Sets(number) => self.given_fault(self.given.sets, number.is_none()),
-            TableLine::Pending(number) => self.given_fault(self.given.pending, number.is_none()),
+            TableLine::Pending(number) => self.pending_fault(number.is_none()),
             TableLine::See { name, vmd, layout } => self.see_fault(name, *vmd, layout),
             TableLine::Control { name, tag } => self.control_fault(name, *tag),
         }
@@ -45,7 +49,7 @@ impl Store {
         requires { IsStore self.now }
         ensures { result ≡ row_fault (so_far self.now) (Point point.now) }
     {
-        if !self.tables.is_empty() {
+        if self.peers() != 0 {
             Some(TableWhy::Place)
         } else if self.is_named(point.name.as_slice()) {
             Some(TableWhy::Again)
@@ -58,7 +62,7 @@ impl Store {
         requires { IsStore self.now }
         ensures { result ≡ row_fault (so_far self.now) (Device device.now) }
     {
-        if !self.tables.is_empty() {
+        if self.peers() != 0 {
             Some(TableWhy::Place)
         } else if self.is_named(device.name.as_slice()) {
             Some(TableWhy::Again)
@@ -74,7 +78,7 @@ impl Store {
         if self.find_peer(table.key.as_slice()).is_some() || self.has_title(table) {
             Some(TableWhy::Again)
         } else {
-            limit_fault(self.tables.len() >= PEER_LIMIT)
+            limit_fault(self.peers() >= PEER_LIMIT)
         }
     }
 
@@ -86,13 +90,42 @@ impl Store {
         self.find_title(table.title.as_ref()).is_some()
     }
 
+    fn variant_fault(&self, key: &Visible, domain: &Visible, id: &Visible) -> Option<TableWhy>
+        requires { IsStore self.now }
+        ensures { result ≡ row_fault (so_far self.now) (Variant key.now domain.now id.now) }
+    {
+        let Some(peer) = self.find_peer(key.as_slice()) else {
+            return Some(TableWhy::Unknown);
+        };
+        limit_fault(self.further(peer) as usize >= VARIANT_LIMIT)
+    }
+
     /// Why a limit of the last table can't be taken: there is none, it was given, it is past.
     fn given_fault(&self, given: bool, past: bool) -> Option<TableWhy>
+        requires { IsStore self.now }
         ensures { result ≡ first_reason (length (rows_of self.now).tables == 0) false given past }
     {
-        if self.tables.is_empty() {
+        if self.peers() == 0 {
             Some(TableWhy::Place)
         } else if given {
+            Some(TableWhy::Again)
+        } else {
+            limit_fault(past)
+        }
+    }
+
+    /// The same of the pending octets, which a further table can't be given.
+    fn pending_fault(&self, past: bool) -> Option<TableWhy>
+        requires { IsStore self.now }
+        ensures { result
+            ≡ first_reason
+            (length (rows_of self.now).tables == 0
+            || not (length (further_of (rows_of self.now) self.now.peer) == 0)) false
+            self.now.given.pending past }
+    {
+        if self.peers() == 0 || self.further(self.peer) != 0 {
+            Some(TableWhy::Place)
+        } else if self.given.pending {
             Some(TableWhy::Again)
         } else {
             limit_fault(past)
@@ -103,17 +136,16 @@ impl Store {
         requires { IsStore self.now }
         ensures { result ≡ row_fault (so_far self.now) (See name.now vmd layout.now) }
     {
-        if self.tables.is_empty() {
+        if self.peers() == 0 {
             return Some(TableWhy::Place);
         }
         let Some(point) = self.find_point(name.as_slice()) else {
             return Some(TableWhy::Unknown);
         };
-        let peer = self.tables.len() - 1;
-        if layout.is_none() || self.find_see(peer as u32, point).is_some() {
+        if layout.is_none() || self.find_last_see(point).is_some() {
             Some(TableWhy::Again)
         } else {
-            limit_fault(self.tables[peer].sees.len() >= SEE_LIMIT)
+            limit_fault(self.last_table().sees.len() >= SEE_LIMIT)
         }
     }
 
@@ -121,18 +153,36 @@ impl Store {
         requires { IsStore self.now }
         ensures { result ≡ row_fault (so_far self.now) (Control name.now tag) }
     {
-        if self.tables.is_empty() {
+        if self.peers() == 0 {
             return Some(TableWhy::Place);
         }
         let Some(device) = self.find_device(name.as_slice()) else {
             return Some(TableWhy::Unknown);
         };
-        let peer = self.tables.len() - 1;
-        if self.find_control(peer as u32, device).is_some() {
+        if self.find_last_control(device).is_some() {
             Some(TableWhy::Again)
         } else {
-            limit_fault(self.tables[peer].controls.len() >= DEVICE_LIMIT)
+            limit_fault(self.last_table().controls.len() >= DEVICE_LIMIT)
         }
+    }
+
+    /// Where the table to which lines go has its row for a point.
+    fn find_last_see(&self, point: u32) -> Option<u32>
+        requires store { IsStore self.now }
+        requires some { 0 < length (rows_of self.now).tables }
+        ensures { result ≡ place_of_see (own.last_table (rows_of self.now) self.now.peer) point }
+    {
+        self.find_see(self.peer, self.further(self.peer), point)
+    }
+
+    /// Where the table to which lines go has its row for a device.
+    fn find_last_control(&self, device: u32) -> Option<u32>
+        requires store { IsStore self.now }
+        requires some { 0 < length (rows_of self.now).tables }
+        ensures { result
+            ≡ place_of_control (own.last_table (rows_of self.now) self.now.peer) device }
+    {
+        self.find_control(self.peer, self.further(self.peer), device)
     }
 }
 

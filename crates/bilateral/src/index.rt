@@ -11,8 +11,9 @@ use std::collections::HashMap;
 /// Names in the order of the file, none twice.
 pub type NameSet = IndexSet<Vec<u8>>;
 
-/// The place of each row in its table, by the numbers of the peer and of the point or device.
-pub type RowIndex = HashMap<(u32, u32), u32>;
+/// The place of each row in its table, by the numbers of the peer, of its table and of the point or
+/// device.
+pub type RowIndex = HashMap<(u32, u32, u32), u32>;
 
 /// No names.
 pub fn no_names(alloc: Global) -> NameSet
@@ -23,7 +24,7 @@ pub fn no_names(alloc: Global) -> NameSet
 
 /// An index without rows.
 pub fn no_rows(alloc: Global) -> RowIndex
-    ensures { (peer item : ℕ) → row_by result peer item ≡ None }
+    ensures { (peer variant item : ℕ) → row_by result peer variant item ≡ None }
 {
     HashMap::new(alloc)
 }
@@ -36,11 +37,11 @@ pub fn find_name(names: &NameSet, name: &[u8]) -> Option<u32>
     Some(names.get_index_of(name)? as u32)
 }
 
-/// The place that the index has for a peer's row.
-pub fn find_row(index: &RowIndex, peer: u32, item: u32) -> Option<u32>
-    ensures { result ≡ row_by index.now peer item }
+/// The place that the index has for a row of a peer's table.
+pub fn find_row(index: &RowIndex, peer: u32, variant: u32, item: u32) -> Option<u32>
+    ensures { result ≡ row_by index.now peer variant item }
 {
-    index.get(&(peer, item)).copied()
+    index.get(&(peer, variant, item)).copied()
 }
 
 /// Adds a name that isn't there.
@@ -53,13 +54,20 @@ pub fn note_name(alloc: Global, names: &mut NameSet, name: &[u8]) -> Result<(), 
     Ok(())
 }
 
-/// Notes the place of a peer's row.
-pub fn note_row(index: &mut RowIndex, peer: u32, item: u32, place: u32) -> Result<(), AllocError>
+/// Notes the place of a row of a peer's table.
+pub fn note_row(
+    index: &mut RowIndex,
+    peer: u32,
+    variant: u32,
+    item: u32,
+    place: u32,
+) -> Result<(), AllocError>
     ensures { OnOk result
-        ((p q : ℕ)
-        → row_by index.new p q
-        ≡ (if (peer == p) && (item == q) then Some place else row_by index.old p q)) }
+        ((p v q : ℕ)
+        → row_by index.new p v q
+        ≡ (if (peer == p) && (variant == v) && (item == q) then Some place
+        else row_by index.old p v q)) }
 {
-    index.insert((peer, item), place)?;
+    index.insert((peer, variant, item), place)?;
     Ok(())
 }

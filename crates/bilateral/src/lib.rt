@@ -12,6 +12,7 @@ mod laws;
 mod limit_line;
 mod limit_rows;
 mod line;
+mod peer_tables;
 mod reading;
 mod rows;
 mod see_line;
@@ -25,7 +26,7 @@ pub use reading::read_centre;
 pub use rows::{
     Control, Controls, DEVICE_LIMIT, DeviceRow, PEER_LIMIT, PENDING_DEFAULT, PENDING_LEAST,
     PENDING_LIMIT, POINT_LIMIT, PointRow, SEE_LIMIT, SET_DEFAULT, SET_LIMIT, SLOT_DEFAULT,
-    SLOT_LIMIT, See, Sees, Table,
+    SLOT_LIMIT, See, Sees, Table, VARIANT_LIMIT,
 };
 pub use sbo_device::SPAN_LIMIT;
 pub use table_words::{IDENTIFIER_LIMIT, NAME_LIMIT};

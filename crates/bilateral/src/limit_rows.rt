@@ -1,4 +1,4 @@
-/// Which rows of limits the last table has had.
+/// Which rows of limits a table has had.
 #[derive(Clone, Copy, Debug)]
 pub struct LimitRows {
     pub slots: bool,

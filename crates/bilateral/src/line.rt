@@ -1,7 +1,7 @@
 ghost use Rattle.std.specs.Prelude.{◌≡◌, IfOk, IfSome};
 ghost use Rattle.plain_text.specs.Words.{words};
 ghost use Rattle.bilateral.specs.Lines.{line_in, line_told_by, point_line, peer_line, IsLawfulLine};
-ghost use Rattle.bilateral.specs.Lines.{table_told_by};
+ghost use Rattle.bilateral.specs.Lines.{table_told_by, variant_line};
 
 use crate::device_line::{read_control, read_device};
 use crate::limit_line::{read_pending, read_sets, read_slots};
@@ -10,7 +10,7 @@ use crate::rows::{
 };
 use crate::see_line::read_see;
 use ber_values::Visible;
-use plain_text::{four_words, is_spaced, next_word, two_words};
+use plain_text::{four_words, is_spaced, next_word, three_words, two_words};
 use std::alloc::{AllocError, Global};
 use table_words::{is_identifier, is_name, read_kind, read_title, visible_word};
 use tase_points::Layout;
@@ -25,6 +25,12 @@ pub enum TableLine {
     Device(DeviceRow),
     /// `peer KEY TITLE DOMAIN ID`: a table without rows.
     Peer(Table),
+    /// `variant KEY DOMAIN ID`: a further table of the peer with this key, without rows.
+    Variant {
+        key: Visible,
+        domain: Visible,
+        id: Visible,
+    },
     /// `slots N`, without a number past the limit.
     Slots(Option<u32>),
     /// `sets N`, without a number past the limit.
@@ -69,6 +75,8 @@ fn read_form(alloc: Global, first: &[u8], more: &[u8]) -> Result<Option<TableLin
         read_device(alloc, more)
     } else if first == b"peer".as_slice() {
         read_peer(alloc, more)
+    } else if first == b"variant".as_slice() {
+        read_variant(alloc, more)
     } else {
         read_table_form(alloc, first, more)
     }
@@ -142,4 +150,21 @@ fn read_peer(alloc: Global, text: &[u8]) -> Result<Option<TableLine>, AllocError
         pending: PENDING_DEFAULT,
     };
     Ok(Some(TableLine::Peer(table)))
+}
+
+/// `KEY DOMAIN ID`.
+fn read_variant(alloc: Global, text: &[u8]) -> Result<Option<TableLine>, AllocError>
+    ensures value { IfOk result (λ said. said ≡ variant_line (words text.now)) }
+    ensures lawful { IfOk result (λ said. IfSome said IsLawfulLine) }
+{
+    let Some((key, domain, id)) = three_words(text) else {
+        return Ok(None);
+    };
+    if !is_identifier(key) || !is_identifier(domain) || !is_identifier(id) {
+        return Ok(None);
+    }
+    let key = visible_word(alloc, key)?;
+    let domain = visible_word(alloc, domain)?;
+    let id = visible_word(alloc, id)?;
+    Ok(Some(TableLine::Variant { key, domain, id }))
 }

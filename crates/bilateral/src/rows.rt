@@ -13,6 +13,9 @@ pub const DEVICE_LIMIT: usize = 2000;
 /// The most peers of a centre.
 pub const PEER_LIMIT: usize = 256;
 
+/// The most further tables of a peer.
+pub const VARIANT_LIMIT: usize = 15;
+
 /// The most rows of a table.
 pub const SEE_LIMIT: usize = 5000;
 
@@ -43,6 +46,8 @@ const _: () = prove!(POINT_LIMIT == 20_000);
 const _: () = prove!(DEVICE_LIMIT == 2_000);
 
 const _: () = prove!(PEER_LIMIT == 256);
+
+const _: () = prove!(VARIANT_LIMIT == 15);
 
 const _: () = prove!(SEE_LIMIT == 5_000);
 
@@ -109,7 +114,8 @@ pub struct Control {
 /// The devices of one table, in the order of the file.
 pub type Controls = ItemList<Control>;
 
-/// The bilateral table of one peer.
+/// A bilateral table of one peer. Its further tables have the key, the title and the pending octets
+/// of its own one.
 #[derive(Debug, Drop)]
 pub struct Table {
     /// Names the peer in this centre's files; an identifier.

@@ -162,6 +162,7 @@ rows =
           ∷ record { name = codes "LOAD1"; kind = kinds.Discrete } ∷ [];
       devices = [];
       tables = [];
+      variants = [];
     }
 
 update-line : feed_event_in rows (codes "update  LOAD1 d-7 3f 12 999")

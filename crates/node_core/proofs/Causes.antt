@@ -1,5 +1,5 @@
 -- What follows where an event isn't refused, and that a refusal is never for want of memory.
-use Rattle.std.proofs.Common.{◌≡◌, ◌≢◌, ℕ, ◌+◌, ◌<◌, ◌≤◌, Bool, true, false, not, ◌&&◌, [], ◌∷◌}
+use Rattle.std.proofs.Common.{◌≡◌, ℕ, ◌+◌, ◌<◌, ◌≤◌, Bool, true, false, not, ◌&&◌, [], ◌∷◌}
 use Rattle.std.proofs.Common.{length, reverse, ltb, Option, Some, None, is_some, refl, sym, subst}
 use Rattle.std.specs.Prelude.{if◌then◌else◌, option_map}
 use Rattle.std.proofs.lemmas.Bool.{true≢false, ltb-true, ltb-false}
@@ -15,13 +15,14 @@ use Rattle.tase_views.specs.declared.fault.StepFault.TheVariants.{Memory, Stoppe
 use Rattle.tase_views.specs.declared.fault.StepFault.TheVariants.{NoAssociation, Already}
 use Rattle.tase_views.specs.declared.fault.StepFault.TheVariants.{UnknownName}
 use Rattle.tase_views.specs.Setup.{Setup}
-use Rattle.tase_views.specs.History.{Past, association_in, is_stop, stop_in}
+use Rattle.tase_views.specs.History.{Past, association_in, stop_in}
 use Rattle.tase_views.specs.Weights.{weight, weight_of}
 use Rattle.tase_views.specs.Outcomes.{is_close, is_ending, is_known, stop_refusal, seat_refusal}
 use Rattle.tase_views.specs.Outcomes.{name_refusal, weight_refusal, first_refusal, refusal_of}
 use Rattle.tase_views.specs.Outcomes.{IsRefusal}
 use Rattle.node_core.specs.NodeState.{NodeState}
 use Rattle.node_core.specs.Stored.{IsQuiet, IsRequest}
+use Rattle.node_core.specs.Room.{LeavesSeats}
 
 -- none of the four refusals has its cause
 pub record IsFree (setup : Setup) (past : Past) (who : ℕ) (event : EventKind) : Type 0 where
@@ -45,7 +46,15 @@ free_of setup past who event e =
     (name_refusal setup.centre event) (weight_refusal setup past event) e in
     record { going = parts.0; seated = parts.1; named = parts.2; light = parts.3 }
 
--- the same, seen by the parts of a node and of an event
+-- a refusal by its four parts
+pub refusal_of-parts : (setup : Setup) (past : Past) (who : ℕ) (event : EventKind)
+    (stopped seated named heavy : Option StepFault) → stopped ≡ stop_refusal past event
+    → seated ≡ seat_refusal (association_in past who) event
+    → named ≡ name_refusal setup.centre event → heavy ≡ weight_refusal setup past event
+    → first_refusal (stopped ∷ seated ∷ named ∷ heavy ∷ []) ≡ refusal_of setup past who event
+refusal_of-parts setup past who event stopped seated named heavy a b c d = rw (a, b, c, d) refl
+
+-- that an event is free, seen by the parts of a node and of an event
 pub free_in : (seen now : NodeState) (who : ℕ) (event is : EventKind) → seen ≡ now → event ≡ is
     → refusal_of now.setup (reverse now.history) who event ≡ None
     → IsFree seen.setup (reverse seen.history) who is
@@ -188,13 +197,14 @@ quiet-goes_on Close quiet = absurd quiet
 quiet-goes_on (Update point value) quiet = absurd quiet
 quiet-goes_on Stop quiet = absurd quiet
 
-pub quiet-is_no_stop : (event : EventKind) → IsQuiet event → is_stop event ≡ false
-quiet-is_no_stop (Open peer) quiet = absurd quiet
-quiet-is_no_stop (Request call) quiet = absurd quiet
-quiet-is_no_stop Take quiet = refl
-quiet-is_no_stop Close quiet = absurd quiet
-quiet-is_no_stop (Update point value) quiet = absurd quiet
-quiet-is_no_stop Stop quiet = absurd quiet
+pub quiet-leaves : (event : EventKind) (before behind : ℕ) → IsQuiet event → behind ≡ before
+    → LeavesSeats event before behind
+quiet-leaves (Open peer) before behind quiet same = absurd quiet
+quiet-leaves (Request call) before behind quiet same = absurd quiet
+quiet-leaves Take before behind quiet same = same
+quiet-leaves Close before behind quiet same = absurd quiet
+quiet-leaves (Update point value) before behind quiet same = absurd quiet
+quiet-leaves Stop before behind quiet same = absurd quiet
 
 pub request-goes_on : (event : EventKind) → IsRequest event → is_ending event ≡ false
 request-goes_on (Open peer) request = absurd request
@@ -204,10 +214,11 @@ request-goes_on Close request = absurd request
 request-goes_on (Update point value) request = absurd request
 request-goes_on Stop request = absurd request
 
-pub request-is_no_stop : (event : EventKind) → IsRequest event → is_stop event ≡ false
-request-is_no_stop (Open peer) request = absurd request
-request-is_no_stop (Request call) request = refl
-request-is_no_stop Take request = absurd request
-request-is_no_stop Close request = absurd request
-request-is_no_stop (Update point value) request = absurd request
-request-is_no_stop Stop request = absurd request
+pub request-leaves : (event : EventKind) (before behind : ℕ) → IsRequest event → behind ≡ before
+    → LeavesSeats event before behind
+request-leaves (Open peer) before behind request same = absurd request
+request-leaves (Request call) before behind request same = same
+request-leaves Take before behind request same = absurd request
+request-leaves Close before behind request same = absurd request
+request-leaves (Update point value) before behind request same = absurd request
+request-leaves Stop before behind request same = absurd request

@@ -1,109 +1,113 @@
--- What a node keeps of the weight of its history and of the room in it stays right.
-use Rattle.std.proofs.Common.{◌≡◌, ℕ, ◌+◌, ◌^◌, ◌<◌, ◌≤◌, false, [], ◌∷◌, length, Option, Some}
+-- What a node's log keeps of its weight and of the room in it stays right.
+use Rattle.std.proofs.Common.{◌≡◌, ℕ, ◌+◌, ◌*◌, ◌≤◌, false, ◌∷◌, length, Option, Some}
 use Rattle.std.proofs.Common.{None, refl, ap, ◌∙◌, arith}
-use Rattle.plain_text.proofs.TextLengths.{length-decimal-some}
+use Rattle.std.proofs.lemmas.Bool.{true≢false}
+use Rattle.std.specs.Prelude.{if◌then◌else◌, vec_len, vec_capacity}
 use Rattle.tase_views.specs.declared.event.EventKind.{EventKind}
-use Rattle.tase_views.specs.declared.event.EventKind.TheVariants.{Open, Close, Stop}
-use Rattle.tase_views.specs.History.{Past, stop_in, is_stop}
+use Rattle.tase_views.specs.declared.event.EventKind.TheVariants.{Open, Request, Take, Close}
+use Rattle.tase_views.specs.declared.event.EventKind.TheVariants.{Update, Stop}
+use Rattle.tase_views.specs.History.{is_stop}
+use Rattle.tase_views.specs.Outcomes.{is_ending}
 use Rattle.tase_views.specs.Weights.{weight, weight_of}
-use Rattle.node_core.specs.Room.{stops_left, HasRoom}
+use Rattle.node_core.specs.declared.log.Log.{Log}
+use Rattle.node_core.specs.Room.{past_of, stops_left, HasRoom, IsReserved, LeavesSeats, MayAppend}
 
 stops_left-most : (stop : Option ℕ) → stops_left stop ≤ 1
 stops_left-most None = omega arith
 stops_left-most (Some place) = omega arith
 
--- an open weighs six octets at least
-pub weight-open : (peer : ℕ) → peer < 2 ^ 64 → 6 ≤ weight (Open peer)
-weight-open peer small = omega (arith, length-decimal-some peer small)
-
-pub HasRoom-new : (limit capacity : ℕ) → limit ≤ 2 ^ 31 → 1 ≤ capacity
-    → HasRoom limit [] capacity 0 0 None
-HasRoom-new limit capacity bounded some =
+-- the same entries with more room
+pub HasRoom-more : (old new : Log) (seats : ℕ) → new.limit ≡ old.limit → new.weight ≡ old.weight
+    → new.stop ≡ old.stop → new.entries.items ≡ old.entries.items
+    → vec_len new.entries ≡ vec_len old.entries
+    → vec_capacity old.entries ≤ vec_capacity new.entries
+    → HasRoom old seats → HasRoom new seats
+HasRoom-more old new seats limit heavy stop items len grown r =
     record {
-      bounded = bounded;
-      weighs = refl;
-      stopped = refl;
-      room = omega arith;
-      opened = omega arith;
-      light = omega arith;
+      bounded = rw limit r.bounded;
+      weighs = rw (heavy, items) r.weighs;
+      stopped = rw (stop, items) r.stopped;
+      room = omega (arith, len, grown, ap stops_left stop, r.room);
+      opened = rw heavy r.opened;
+      light = rw (heavy, stop, limit) r.light;
     }
 
--- more room
-pub HasRoom-more : (limit : ℕ) (past : Past) (capacity more seats heavy : ℕ) (stop : Option ℕ)
-    → capacity ≤ more → HasRoom limit past capacity seats heavy stop
-    → HasRoom limit past more seats heavy stop
-HasRoom-more limit past capacity more seats heavy stop grown r =
+-- what an entry makes of a log
+pub record IsAppended (old new : Log) (who : ℕ) (event : EventKind) : Type 0 where
+  pub limit : new.limit ≡ old.limit
+  pub past : past_of new ≡ record { who = who; event = event } ∷ past_of old
+  pub len : vec_len new.entries ≡ vec_len old.entries + 1
+  pub capacity : vec_capacity new.entries ≡ vec_capacity old.entries
+  pub heavier : new.weight ≡ old.weight + weight event
+  pub stop : new.stop ≡ (if is_stop event then Some (length (past_of old)) else old.stop)
+
+-- what is left to show of an appended entry
+HasRoom-of : (old new : Log) (who : ℕ) (event : EventKind) (before behind : ℕ)
+    → IsAppended old new who event → HasRoom old before
+    → vec_len new.entries + behind + stops_left new.stop ≤ vec_capacity new.entries
+    → 5 * behind ≤ new.weight
+    → new.weight + 5 * behind + 4 * stops_left new.stop ≤ 2 * new.limit + 4
+    → HasRoom new behind
+HasRoom-of old new who event before behind a r room opened light =
     record {
-      bounded = r.bounded;
-      weighs = r.weighs;
-      stopped = r.stopped;
-      room = omega (arith, grown, r.room);
-      opened = r.opened;
-      light = r.light;
+      bounded = rw a.limit r.bounded;
+      weighs = rw a.past (omega (arith, a.heavier, r.weighs));
+      stopped = rw (a.past, a.stop, r.stopped) refl;
+      room = room;
+      opened = opened;
+      light = light;
     }
 
--- an event that is neither a close nor a stop
-pub HasRoom-noted : (limit : ℕ) (past : Past) (capacity more seats heavy : ℕ) (stop : Option ℕ)
-    (who : ℕ) (event : EventKind) → is_stop event ≡ false
-    → weight_of past + weight event ≤ limit → length past + (seats + 2) ≤ more
-    → HasRoom limit past capacity seats heavy stop
-    → HasRoom limit (record { who = who; event = event } ∷ past) more seats (heavy + weight event)
-    stop
-HasRoom-noted limit past capacity more seats heavy stop who event going fits reserved r =
-    let left = stops_left-most stop in
-    record {
-      bounded = r.bounded;
-      weighs = omega (arith, r.weighs);
-      stopped = rw going r.stopped;
-      room = omega (arith, reserved, left);
-      opened = omega (arith, r.opened);
-      light = omega (arith, r.weighs, r.opened, fits, left);
-    }
+-- an event within the limit, for which room is reserved
+HasRoom-within : (old new : Log) (who : ℕ) (event : EventKind) (before behind : ℕ)
+    → IsAppended old new who event → HasRoom old before
+    → (weight_of (past_of old) + weight event ≤ old.limit) × IsReserved old behind
+    → 5 * behind ≤ old.weight + weight event
+    → HasRoom new behind
+HasRoom-within old new who event before behind a r may opened =
+    let left = stops_left-most new.stop in
+    HasRoom-of old new who event before behind a r
+    (omega (arith, may.1, left, a.len, a.capacity)) (omega (arith, opened, a.heavier))
+    (omega (arith, left, a.heavier, a.limit, r.weighs, may.0, opened))
 
-pub HasRoom-open : (limit : ℕ) (past : Past) (capacity more seats now heavy : ℕ) (stop : Option ℕ)
-    (who peer : ℕ) → peer < 2 ^ 64
-    → weight_of past + weight (Open peer) ≤ limit → length past + (seats + 3) ≤ more
-    → now ≡ seats + 1
-    → HasRoom limit past capacity seats heavy stop
-    → HasRoom limit (record { who = who; event = Open peer } ∷ past) more now
-    (heavy + weight (Open peer)) stop
-HasRoom-open limit past capacity more seats now heavy stop who peer small fits reserved one_more r =
-    let left = stops_left-most stop in
-    let some = weight-open peer small in
-    record {
-      bounded = r.bounded;
-      weighs = omega (arith, r.weighs);
-      stopped = r.stopped;
-      room = omega (arith, reserved, left, one_more);
-      opened = omega (arith, r.opened, some, one_more);
-      light = omega (arith, r.weighs, r.opened, fits, left, some, one_more);
-    }
+pub HasRoom-appended : (old new : Log) (who : ℕ) (event : EventKind) (before behind : ℕ)
+    → IsAppended old new who event → HasRoom old before → LeavesSeats event before behind
+    → MayAppend old event behind → HasRoom new behind
+HasRoom-appended old new who (Open peer) before behind a r seats may =
+    HasRoom-within old new who (Open peer) before behind a r may (omega (arith, seats, r.opened))
+HasRoom-appended old new who (Request call) before behind a r seats may =
+    HasRoom-within old new who (Request call) before behind a r may (omega (arith, seats, r.opened))
+HasRoom-appended old new who Take before behind a r seats may =
+    HasRoom-within old new who Take before behind a r may (omega (arith, seats, r.opened))
+HasRoom-appended old new who (Update point value) before behind a r seats may =
+    HasRoom-within old new who (Update point value) before behind a r may
+    (omega (arith, seats, r.opened))
+HasRoom-appended old new who Close before behind a r seats may =
+    let left : stops_left new.stop ≡ stops_left old.stop = ap stops_left a.stop in
+    HasRoom-of old new who Close before behind a r
+    (omega (arith, seats, left, r.room, a.len, a.capacity))
+    (omega (arith, seats, r.opened, a.heavier))
+    (omega (arith, seats, left, r.light, a.heavier, a.limit))
+HasRoom-appended old new who Stop before behind a r seats may =
+    let one : stops_left old.stop ≡ 1 = ap stops_left (r.stopped ∙ may) in
+    let none : stops_left new.stop ≡ 0 = ap stops_left a.stop in
+    HasRoom-of old new who Stop before behind a r
+    (omega (arith, seats, one, none, r.room, a.len, a.capacity))
+    (omega (arith, seats, r.opened, a.heavier))
+    (omega (arith, seats, one, none, r.light, a.heavier, a.limit))
 
-pub HasRoom-close : (limit : ℕ) (past : Past) (capacity seats now heavy : ℕ) (stop : Option ℕ)
-    (who : ℕ) → now + 1 ≡ seats → HasRoom limit past capacity seats heavy stop
-    → HasRoom limit (record { who = who; event = Close } ∷ past) capacity now
-    (heavy + weight Close) stop
-HasRoom-close limit past capacity seats now heavy stop who one_less r =
-    record {
-      bounded = r.bounded;
-      weighs = omega (arith, r.weighs);
-      stopped = r.stopped;
-      room = omega (arith, r.room, one_less);
-      opened = omega (arith, r.opened, one_less);
-      light = omega (arith, r.light, one_less);
-    }
-
-pub HasRoom-stop : (limit : ℕ) (past : Past) (capacity seats heavy : ℕ) (stop : Option ℕ)
-    (who : ℕ) → stop_in past ≡ None → HasRoom limit past capacity seats heavy stop
-    → HasRoom limit (record { who = who; event = Stop } ∷ past) capacity seats
-    (heavy + weight Stop) (Some (length past))
-HasRoom-stop limit past capacity seats heavy stop who going r =
-    let left : stops_left stop ≡ 1 = ap stops_left (r.stopped ∙ going) in
-    record {
-      bounded = r.bounded;
-      weighs = omega (arith, r.weighs);
-      stopped = refl;
-      room = omega (arith, r.room, left);
-      opened = omega (arith, r.opened);
-      light = omega (arith, r.light, left);
-    }
+-- an event that is neither a close nor a stop, once room is reserved
+pub MayAppend-reserved : (old new : Log) (event : EventKind) (seats : ℕ)
+    → is_ending event ≡ false → new.limit ≡ old.limit → new.entries.items ≡ old.entries.items
+    → weight_of (past_of old) + weight event ≤ old.limit → IsReserved new seats
+    → MayAppend new event seats
+MayAppend-reserved old new (Open peer) seats other limit items fits reserved =
+    (rw (limit, items) fits, reserved)
+MayAppend-reserved old new (Request call) seats other limit items fits reserved =
+    (rw (limit, items) fits, reserved)
+MayAppend-reserved old new Take seats other limit items fits reserved =
+    (rw (limit, items) fits, reserved)
+MayAppend-reserved old new Close seats other limit items fits reserved = tt
+MayAppend-reserved old new (Update point value) seats other limit items fits reserved =
+    (rw (limit, items) fits, reserved)
+MayAppend-reserved old new Stop seats other limit items fits reserved = absurd (true≢false other)

@@ -2,6 +2,7 @@
 #![tactic(auto)]
 
 mod listing;
+mod log;
 mod naming;
 mod node;
 mod refusals;

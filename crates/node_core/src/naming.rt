@@ -139,7 +139,7 @@ pub fn find_named<'a>(centre: &'a Centre, peer: u32, name: &Name) -> Option<&'a 
         (place_of_see (table_of centre.now peer) see.now.point) ≡ true) }
 {
     let point = centre.find_point(name.item().as_slice())?;
-    let place = centre.find_see(peer, point)?;
+    let place = centre.find_see(peer, 0, point)?;
     let table = centre.table(peer);
     let see = &table.sees.as_slice()[place as usize];
     is_found_in(&table.domain, name.scope(), see.vmd).then_some(see)

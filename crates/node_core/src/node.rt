@@ -11,7 +11,8 @@ ghost use Rattle.node_core.specs.Stored.{IsQuiet, IsRequest, IsReplied};
 
 mod replies;
 
-use crate::refusals::{name_refusal, seat_refusal, stop_refusal, weight_refusal};
+use crate::log::Log;
+use crate::refusals::{first_refusal, name_refusal, seat_refusal};
 use crate::store::Store;
 use bilateral::Centre;
 use sbo_device::Key;
@@ -19,45 +20,37 @@ use std::alloc::{AllocError, Global};
 use std::marker::Model;
 use std::sync::Arc;
 use tase_points::PointValue;
-use tase_views::{Answer, Entry, Event, EventKind, ReplyKind, Reports, StepFault, weight};
+use tase_views::{Answer, Entry, Event, EventKind, ReplyKind, Reports, StepFault};
 
 /// A TASE.2 node without input and output: its centre's tables and the history of its accepted
 /// events.
 #[derive(Drop)]
 pub struct Node {
     centre: Arc<Centre>,
-    limit: u64,
-    /// With room for the close of each open association and for one stop.
-    history: Vec<Entry>,
-    /// What the history weighs.
-    weight: u64,
-    /// The place of the history's stop.
-    stop: Option<u64>,
+    log: Log,
     store: Store,
 }
 
 impl Model for Node {
-    ghost use Rattle.std.specs.Prelude.{reverse, vec_capacity};
     ghost use Rattle.std.specs.Coded.{codes};
     ghost use Rattle.std.specs.Arc.{arc_value};
     ghost use Rattle.mms_data.specs.contracts.data.MmsData as datum;
     ghost use Rattle.std.specs.HashMap.{hash_map_len};
     ghost use Rattle.node_core.specs.NodeState.{NodeState};
     ghost use Rattle.node_core.specs.Stored.{Keeps};
-    ghost use Rattle.node_core.specs.Room.{HasRoom};
+    ghost use Rattle.node_core.specs.Room.{HasRoom, past_of};
 
     ghost Value = { NodeState };
 
     ghost coded = { Prim.hlevel (codes, datum.the_row.coded) };
 
     ghost view = { λ n. record {
-      setup = record { centre = arc_value n.centre; limit = n.limit };
-      history = n.history.items;
+      setup = record { centre = arc_value n.centre; limit = n.log.limit };
+      history = n.log.entries.items;
     } };
 
-    ghost invariant = { λ n. Keeps (arc_value n.centre) (reverse n.history.items) n.store
-        × HasRoom n.limit (reverse n.history.items) (vec_capacity n.history)
-        (hash_map_len n.store.associations) n.weight n.stop };
+    ghost invariant = { λ n. Keeps (arc_value n.centre) (past_of n.log) n.store
+        × HasRoom n.log (hash_map_len n.store.associations) };
 }
 
 impl Node {
@@ -68,16 +61,8 @@ impl Node {
             IfOk result (λ node. node ≡ record { setup = setup; history = [] }) }
     {
         let store = Store::new(alloc, &centre)?;
-        let mut history = Vec::new(alloc);
-        history.reserve(1)?;
-        Ok(Node {
-            centre,
-            limit,
-            history,
-            weight: 0,
-            stop: None,
-            store,
-        })
+        let log = Log::new(alloc, limit)?;
+        Ok(Node { centre, log, store })
     }
 
     /// Takes one event of a seat. An answer adds exactly this entry to the history; a fault changes
@@ -97,17 +82,14 @@ impl Node {
     pub fn history_len(&self) -> u64
         ensures { result ≡ length self.now.history }
     {
-        self.history.len() as u64
+        self.log.len()
     }
 
     /// The entry at this place of the history, which counts from 0.
     pub fn entry(&self, place: u64) -> Result<Option<Entry>, AllocError>
         ensures { IfOk result (λ entry. entry ≡ slice_get self.now.history place) }
     {
-        match self.history.get(place as usize) {
-            Some(entry) => Ok(Some(entry.clone()?)),
-            None => Ok(None),
-        }
+        self.log.entry(place)
     }
 
     pub fn centre(&self) -> &Centre
@@ -127,26 +109,19 @@ impl Node {
     pub fn weight(&self) -> u64
         ensures { result ≡ weight_of (reverse self.now.history) }
     {
-        self.weight
+        self.log.weight()
     }
 
     /// Why an event is refused, if it is.
     fn refusal(&self, who: u64, event: &Event) -> Option<StepFault>
         ensures { result ≡ refusal_of self.now.setup (reverse self.now.history) who event.now }
     {
-        let stopped = stop_refusal(self.stop, event);
-        if stopped.is_some() {
-            return stopped;
-        }
-        let seated = seat_refusal(self.store.association(who), event);
-        if seated.is_some() {
-            return seated;
-        }
-        let named = name_refusal(&self.centre, event);
-        if named.is_some() {
-            return named;
-        }
-        weight_refusal(self.weight, self.limit, event)
+        first_refusal(
+            self.log.stop_refusal(event),
+            seat_refusal(self.store.association(who), event),
+            name_refusal(&self.centre, event),
+            self.log.weight_refusal(event),
+        )
     }
 
     /// Takes an event that isn't refused.
@@ -197,11 +172,9 @@ impl Node {
         ensures ok { OnOk result (self.new ≡ with_entry self.old who event) }
         ensures err { OnErr result (self.new ≡ self.old) }
     {
-        let weight = weight(&event);
-        self.history.reserve(self.store.open_count() + 3)?;
+        self.log.reserve(self.store.open_count() + 1)?;
         let key = self.store.open(who, peer)?;
-        self.weight += weight;
-        self.history.push_reserved(Entry { who, event });
+        self.log.append(who, event);
         Ok(Answer::Opened { key })
     }
 
@@ -219,11 +192,9 @@ impl Node {
         ensures ok { OnOk result (self.new ≡ with_entry self.old who event) }
         ensures err { OnErr result (self.new ≡ self.old) }
     {
-        let weight = weight(&event);
-        self.history.reserve(self.store.open_count() + 2)?;
+        self.log.reserve(self.store.open_count())?;
         self.store.update(who, point, value);
-        self.weight += weight;
-        self.history.push_reserved(Entry { who, event });
+        self.log.append(who, event);
         Ok(Answer::Noted)
     }
 
@@ -243,11 +214,9 @@ impl Node {
         ensures ok { OnOk result (self.new ≡ with_entry self.old who event) }
         ensures err { OnErr result (self.new ≡ self.old) }
     {
-        let weight = weight(&event);
-        self.history.reserve(self.store.open_count() + 2)?;
+        self.log.reserve(self.store.open_count())?;
         self.store.request(&self.centre, key, &event, reply)?;
-        self.weight += weight;
-        self.history.push_reserved(Entry { who, event });
+        self.log.append(who, event);
         Ok(())
     }
 
@@ -258,10 +227,8 @@ impl Node {
         ensures ok { OnOk result (self.new ≡ with_entry self.old who event) }
         ensures err { OnErr result (self.new ≡ self.old) }
     {
-        let weight = weight(&event);
-        self.history.reserve(self.store.open_count() + 2)?;
-        self.weight += weight;
-        self.history.push_reserved(Entry { who, event });
+        self.log.reserve(self.store.open_count())?;
+        self.log.append(who, event);
         Ok(())
     }
 
@@ -270,10 +237,8 @@ impl Node {
         requires free { refusal_of self.old.setup (reverse self.old.history) who event ≡ None }
         ensures { self.new ≡ with_entry self.old who event }
     {
-        let weight = weight(&event);
         self.store.close(who);
-        self.weight += weight;
-        self.history.push_reserved(Entry { who, event });
+        self.log.append(who, event);
     }
 
     fn stop(&mut self, who: u64, event: Event)
@@ -281,9 +246,6 @@ impl Node {
         requires free { refusal_of self.old.setup (reverse self.old.history) who event ≡ None }
         ensures { self.new ≡ with_entry self.old who event }
     {
-        let weight = weight(&event);
-        self.stop = Some(self.history.len() as u64);
-        self.weight += weight;
-        self.history.push_reserved(Entry { who, event });
+        self.log.append(who, event);
     }
 }

@@ -1,30 +1,22 @@
 //! Why an event is refused.
-ghost use Rattle.std.specs.Prelude.{◌≡◌, ◌≤◌, ◌^◌};
-ghost use Rattle.tase_views.specs.Setup.{Setup};
-ghost use Rattle.tase_views.specs.History.{Past, stop_in};
-ghost use Rattle.tase_views.specs.Weights.{weight_of};
+ghost use Rattle.std.specs.Prelude.{◌≡◌, [], ◌∷◌};
 ghost use Rattle.tase_views.specs.Outcomes as causes;
 
 use bilateral::Centre;
 use sbo_device::Key;
 use tase_points::PointValue;
-use tase_views::{Event, EventKind, StepFault, weight};
+use tase_views::{Event, EventKind, StepFault};
 
-/// Whether an event is taken whatever the history weighs, and without memory.
-fn is_ending(event: &Event) -> bool
-    ensures { result ≡ causes.is_ending event.now }
+/// The first refusal, if there is one.
+pub fn first_refusal(
+    stopped: Option<StepFault>,
+    seated: Option<StepFault>,
+    named: Option<StepFault>,
+    heavy: Option<StepFault>,
+) -> Option<StepFault>
+    ensures { result ≡ causes.first_refusal (stopped ∷ seated ∷ named ∷ heavy ∷ []) }
 {
-    matches!(event.kind(), EventKind::Close | EventKind::Stop)
-}
-
-/// Refuses all but a close after a stop, by its place.
-pub fn stop_refusal(stop: Option<u64>, event: &Event) -> Option<StepFault>
-    ensures { (past : Past) → stop ≡ stop_in past → result ≡ causes.stop_refusal past event.now }
-{
-    match event.kind() {
-        EventKind::Close => None,
-        _ => stop.map(|at| StepFault::Stopped { at }),
-    }
+    stopped.or(seated).or(named).or(heavy)
 }
 
 /// Refuses an open of a seat with this association, and what needs one of a seat without.
@@ -69,18 +61,4 @@ fn is_known(centre: &Centre, point: u32, value: &PointValue) -> bool
     ensures known { result ≡ causes.is_known centre.now point value.now }
 {
     point < centre.points() && value.body().kind().is_same(centre.point(point).kind)
-}
-
-/// Refuses an event with which a history of this weight would weigh more than the limit.
-pub fn weight_refusal(before: u64, limit: u64, event: &Event) -> Option<StepFault>
-    requires { before ≤ 2 ^ 62 }
-    ensures { (setup : Setup) (past : Past) → limit ≡ setup.limit → before ≡ weight_of past
-        → result ≡ causes.weight_refusal setup past event.now }
-{
-    let weight = before + weight(event);
-    if !is_ending(event) && limit < weight {
-        Some(StepFault::HistoryFull { weight, limit })
-    } else {
-        None
-    }
 }

@@ -52,7 +52,7 @@ table =
     }
 
 abbrev rows : CentreRows
-rows = record { points = []; devices = []; tables = table ∷ [] }
+rows = record { points = []; devices = []; tables = table ∷ []; variants = [] ∷ [] }
 
 -- ---- what is asked
 
@@ -207,7 +207,7 @@ unfolding pdu_octets response_octets invoke_octets identify_response_octets ber.
 too_long_said = refl
 
 abbrev no_peers : CentreRows
-no_peers = record { points = []; devices = []; tables = [] }
+no_peers = record { points = []; devices = []; tables = []; variants = [] }
 
 -- an offer by a title that is no peer's is refused, and one of a peer isn't
 refused_early : refusal_octets no_peers (reading first_two)

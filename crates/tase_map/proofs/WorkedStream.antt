@@ -140,7 +140,7 @@ table =
     }
 
 abbrev rows : CentreRows
-rows = record { points = []; devices = []; tables = table ∷ [] }
+rows = record { points = []; devices = []; tables = table ∷ []; variants = [] ∷ [] }
 
 -- the turns of the four items
 told_turns : (a b c d : Reading) → a ≡ reads [] → b ≡ reads one → c ≡ reads two → d ≡ reads three

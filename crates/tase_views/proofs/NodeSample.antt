@@ -74,6 +74,7 @@ rows =
             span = 0;
           } ∷ [];
       tables = table_a ∷ table_b ∷ [];
+      variants = [] ∷ [] ∷ [];
     }
 
 -- the first associations of both

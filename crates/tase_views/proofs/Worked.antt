@@ -72,6 +72,7 @@ rows =
           ∷ record { name = codes "FREQ1"; kind = Real } ∷ [];
       devices = [];
       tables = table_a ∷ table_b ∷ [];
+      variants = [] ∷ [] ∷ [];
     }
 
 abbrev setup : Setup

@@ -1,22 +1,53 @@
-use Rattle.std.proofs.Common.{◌≡◌, ◌-◌, refl, ap, ◌∙◌, arith, length, get_or}
-use Rattle.std.proofs.lemmas.List.{get_or_read}
-use Rattle.std.proofs.lemmas.Grind.{common_steps}
+use Rattle.std.proofs.Common.{◌≤◌, length, set, refl, ap, ◌∙◌, arith, rules}
 use Rattle.bilateral.specs.declared.rows.Table.{Table}
-use Rattle.bilateral.specs.Rows.{no_table}
-use Rattle.bilateral.specs.Reading.{last_peer}
+use Rattle.bilateral.specs.Reading.{with_see, last_table}
 use Rattle.bilateral.specs.Store.{rows_of}
-use Rattle.bilateral.proofs.Stores.{IsStore-with_see}
+use Rattle.bilateral.proofs.TablesOf.{lists}
+use Rattle.bilateral.proofs.Stores.{peer_within, some_items, IsStore-with_see, some_vec, vec_changed, changed_rows}
 use Rattle.bilateral.proofs.store.Store.push_see.Goals as goal
+
+pub overflow_cast-place : goal.overflow_cast-place
+overflow_cast-place c =
+    let few : c.len-place.result ≤ 5000 =
+    omega (
+      arith,
+      c.len-place.ensures,
+      ap (λ (t : Table). length t.sees) c.last_table.ensures,
+      c.requires.room,
+    ) in
+    search rules
+
+pub index_mut-requires : goal.index_mut-requires
+index_mut-requires c =
+    omega (
+      arith,
+      c.args.self.now.tables.ok.0,
+      peer_within c.args.self.now c.requires.store c.requires.some,
+    )
+
+pub push_see-requires : goal.push_see-requires
+push_see-requires c =
+    let store = c.args.self.now in
+    some_vec store c.requires.store store.peer (peer_within store c.requires.store c.requires.some)
+    c.index_mut.result.now c.index_mut.ensures.value
+
+pub returns-clause-rows : goal.returns-clause-rows
+returns-clause-rows c =
+    let store = c.args.self.now in
+    let last = last_table (rows_of store) store.peer in
+    changed_rows store (lists (set store.tables.items store.peer c.push_see.new.tables))
+    (with_see last c.args.see) c.requires.store
+    (some_items store c.requires.some)
+    (vec_changed store c.requires.store store.peer (peer_within store c.requires.store c.requires.some)
+    c.index_mut.result.now c.index_mut.ensures.value c.push_see.new.tables
+    (λ t. with_see t c.args.see) c.in_ok-push_see.ensures)
 
 pub returns-clause-store : goal.returns-clause-store
 returns-clause-store c =
-    let tables = c.args.self.now.tables.items in
-    let last : c.len-peer.result - 1
-    ≡ last_peer (rows_of c.args.self.now) = omega (arith, c.args.self.now.tables.ok.0) in
-    let at = get_or_read tables (c.len-peer.result - 1) c.index.result.now
-    (omega (arith, c.args.self.now.tables.ok.0, c.requires.some)) c.index.ensures no_table in
-    IsStore-with_see c.args.self.now _ c.args.see (c.len-peer.result - 1)
-    c.len-place.result c.requires.store c.requires.some c.requires.known c.requires.fresh
-    c.requires.room c.requires.layout last (c.len-place.ensures
-    ∙ ap (λ (t : Table). length t.sees) (at ∙ ap (λ k. get_or tables k no_table) last))
-    (grind (arith, common_steps)) c.in_ok-note_row.ensures refl
+    let store = c.args.self.now in
+    IsStore-with_see store _ c.args.see c.further-variant.result c.len-place.result
+    c.requires.store (some_items store c.requires.some) c.requires.known c.requires.fresh c.requires.room c.requires.layout c.further-variant.ensures
+    (c.len-place.ensures ∙ ap (λ (t : Table). length t.sees) c.last_table.ensures)
+    (vec_changed store c.requires.store store.peer (peer_within store c.requires.store c.requires.some)
+    c.index_mut.result.now c.index_mut.ensures.value c.push_see.new.tables
+    (λ t. with_see t c.args.see) c.in_ok-push_see.ensures) c.in_ok-note_row.ensures refl

@@ -9,7 +9,7 @@ value-value-requires c =
     let rows = arc_value c.self.inside.centre in
     let seen : is_some (place_of_see (table_of rows c.args.peer) c.args.see.now.point) ≡ true =
     rw (← c.self.view_is) at c.requires in
-    value_there rows c.args.peer (reverse c.self.inside.history.items) c.args.see.now
+    value_there rows c.args.peer (reverse c.self.inside.log.entries.items) c.args.see.now
     c.self.invariant.0.lawful seen c.self.inside.store.points c.self.invariant.0.points
 
 pub count-count-requires : goal.count-count-requires
@@ -17,13 +17,13 @@ count-count-requires c =
     let rows = arc_value c.self.inside.centre in
     let seen : is_some (place_of_see (table_of rows c.args.peer) c.args.see.now.point) ≡ true =
     rw (← c.self.view_is) at c.requires in
-    value_there rows c.args.peer (reverse c.self.inside.history.items) c.args.see.now
+    value_there rows c.args.peer (reverse c.self.inside.log.entries.items) c.args.see.now
     c.self.invariant.0.lawful seen c.self.inside.store.points c.self.invariant.0.points
 
 pub returns : goal.returns
 returns c =
     let rows = arc_value c.self.inside.centre in
-    let past = reverse c.self.inside.history.items in
+    let past = reverse c.self.inside.log.entries.items in
     let seen : is_some (place_of_see (table_of rows c.args.peer) c.args.see.now.point) ≡ true =
     rw (← c.self.view_is) at c.requires in
     rw (c.in_ok-shown.ensures, ← c.self.view_is)

@@ -1,12 +1,11 @@
-use Rattle.std.proofs.Common.{◌≡◌, ◌≢◌, ◌<◌, ℕ, List, length, Option, Some, None, sym, ap, subst}
+use Rattle.std.proofs.Common.{◌≡◌, ◌<◌, ℕ, List, length, Option, Some, None, sym, ap, subst}
 use Rattle.std.proofs.Common.{◌∙◌, refl, arith}
 use Rattle.std.specs.Prelude.{slice_get}
 use Rattle.std.specs.List.{each_same}
 use Rattle.std.proofs.lemmas.Bool.{false≢true}
 use Rattle.std.proofs.lemmas.Option.{slice_get-get_or}
 use Rattle.mms_data.specs.ObjectName.{ObjectName}
-use Rattle.data_sets.specs.Books.{Book, defined}
-use Rattle.tase_views.specs.declared.reply.ReplyKind.TheVariants.{Defined}
+use Rattle.data_sets.specs.Books.{defined}
 use Rattle.tase_views.specs.OwnTable.{own_table}
 use Rattle.tase_views.specs.View.{view_of}
 use Rattle.tase_views.specs.Sets.{SetError, define_fault, sets_in}
