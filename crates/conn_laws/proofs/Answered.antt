@@ -16,9 +16,10 @@ use Rattle.tase_views.specs.declared.reply.Answer.{Answer}
 use Rattle.tase_views.specs.declared.reply.Answer.TheVariants as answers
 use Rattle.tase_views.specs.History.{Past, next_key, key_at}
 use Rattle.tase_views.specs.Outcomes.{answer_by, IsRightOutcome}
-use Rattle.tase_views.specs.OwnTable.{own_table}
+use Rattle.tase_views.specs.OwnTables.{own_tables}
 use Rattle.tase_views.specs.View.{view_of}
-use Rattle.tase_views.specs.Answers.{reply_to, reports_for}
+use Rattle.tase_views.specs.Answers.{reply_to}
+use Rattle.tase_views.specs.Outcomes.{reports_for}
 use Rattle.tase_views.specs.Setup.{Setup}
 use Rattle.tase_map.specs.Inputs.{Item}
 use Rattle.tase_map.specs.Turns.{Turn, offers, asks, pauses}
@@ -260,7 +261,7 @@ requested_follows rows past who items octets event answer old invoke s p r right
     let a = asked_turn rows s.answered s.turns event (asks invoke call) s.are r.last.1 in
     let ev = sym (first_event (events.Request call) event [] [] a.asks) in
     let o = says_at s w.stage_is refl in
-    let answer_is : answer ≡ answers.Reply (reply_to (own_table rows o.key.peer)
+    let answer_is : answer ≡ answers.Reply (reply_to (own_tables rows o.key.peer)
     (view_of rows o.key.peer past) o.key.ordinal call) =
     right_by rows past who event (events.Request call) answer right ev
     ∙ ap (λ (k : Option Key). answer_by rows past (events.Request call) k) o.seat in
@@ -269,7 +270,7 @@ requested_follows rows past who items octets event answer old invoke s p r right
     ap (λ (x : Progress). told_said x old.stage old.course (Ok answer)) p
     ∙ ap (λ (x : Answer). answer_said old.course old.stage asked x) answer_is
     ∙ ap (λ (x : Stage). answer_said old.course x asked (answers.Reply (reply_to
-    (own_table rows o.key.peer) (view_of rows o.key.peer past) o.key.ordinal call))) w.stage_is in
+    (own_tables rows o.key.peer) (view_of rows o.key.peer past) o.key.ordinal call))) w.stage_is in
     let says = requested_says rows past who items s.told s.answered invoke call w.detail octets
     old.course r.stands
     (asked_connected r tt)
@@ -300,7 +301,7 @@ taken_follows rows past who items octets event answer old s p r right =
     let a = asked_turn rows s.answered s.turns event pauses s.are r.last in
     let ev = if_event (is_open_behind rows s.answered) events.Take event a.asks in
     let o = says_at s w.stage_is refl in
-    let answer_is : answer ≡ answers.Reports (reports_for (own_table rows o.key.peer)
+    let answer_is : answer ≡ answers.Reports (reports_for (own_tables rows o.key.peer)
     (view_of rows o.key.peer past) o.key.ordinal) =
     right_by rows past who event events.Take answer right ev
     ∙ ap (λ (k : Option Key). answer_by rows past events.Take k) o.seat in

@@ -18,7 +18,7 @@ use Rattle.tase_views.specs.declared.event.EventKind.TheVariants as events
 use Rattle.tase_views.specs.declared.fault.StepFault.{StepFault}
 use Rattle.tase_views.specs.declared.reply.Answer.{Answer}
 use Rattle.tase_views.specs.History.{Past}
-use Rattle.tase_views.specs.OwnTable.{own_table}
+use Rattle.tase_views.specs.OwnTables.{own_tables}
 use Rattle.tase_map.specs.Inputs.{Item, IsLinkInput, text_given, link_has_ended}
 use Rattle.tase_map.specs.Readings.{reading_of}
 use Rattle.tase_map.specs.Turns.{Turn, turns_of}
@@ -29,7 +29,6 @@ use Rattle.tase_map.specs.Sent.{events_by, turns_left, with_event}
 use Rattle.tase_map.proofs.Adding.{close_adds}
 use Rattle.tase_conn.specs.declared.stage.PendingEvent.{PendingEvent}
 use Rattle.tase_conn.specs.declared.stage.PendingEvent.TheVariants as askeds
-use Rattle.tase_conn.specs.declared.stage.Coming.{Coming}
 use Rattle.tase_conn.specs.declared.stage.Coming.TheVariants as comings
 use Rattle.tase_conn.specs.declared.stage.ConnEnd.{ConnEnd}
 use Rattle.tase_conn.specs.declared.stage.Progress.{Progress}
@@ -475,6 +474,7 @@ close_of (progresses.Leaving left true) (events.Open peer) end old p w = absurd 
 close_of (progresses.Leaving left true) (events.Request call) end old p w = absurd w
 close_of (progresses.Leaving left true) events.Take end old p w = absurd w
 close_of (progresses.Leaving left true) (events.Update point value) end old p w = absurd w
+close_of (progresses.Leaving left true) (events.Table chooser variant) end old p w = absurd w
 close_of (progresses.Leaving left true) events.Stop end old p w = absurd w
 close_of (progresses.Ended left) event end old p w = absurd w
 close_of (progresses.Cut left) event end old p w = absurd w
@@ -500,7 +500,7 @@ closed_says whole rows past who items answered octets end standing course o =
             ap (λ (x : EndState). octets ++ parting end x course.setup) o.stood
                 ∙ ap (λ (s : AssociationSetup). octets ++ parting end standing s) (o.setup more i rest t),
             b.0,
-            close_adds rows (own_table rows key.peer) talk key who past o.seat
+            close_adds rows (own_tables rows key.peer) talk key who past o.seat
                 ∙ ap (λ (os : List ℕ). os ++ close_octets talk.setup (turns_left rows past key
                 (text_given (items ++ more)) (link_has_ended (items ++ more)))) b.1
                 ∙ ap (λ (ts : List Turn). (octets ++ b.0) ++ close_octets talk.setup ts) b.2,

@@ -9,11 +9,12 @@ use Rattle.sbo_device.specs.declared.key.Key.{Key}
 use Rattle.bilateral.specs.Rows.{CentreRows}
 use Rattle.tase_views.specs.declared.event.EventKind.{EventKind}
 use Rattle.tase_views.specs.declared.event.EventKind.TheVariants.{Open, Request, Take, Close}
-use Rattle.tase_views.specs.declared.event.EventKind.TheVariants.{Update, Stop}
+use Rattle.tase_views.specs.declared.event.EventKind.TheVariants.{Update, Table, Stop}
 use Rattle.tase_views.specs.declared.event.Entry.{Entry}
+use Rattle.tase_views.specs.Moves.{sort_of}
 use Rattle.tase_views.specs.History.{Past, opens_in, association_after}
 use Rattle.tase_views.specs.History.{association_in, key_at, is_key, entries_of}
-use Rattle.tase_views.specs.OwnTable.{own_table}
+use Rattle.tase_views.specs.OwnTables.{own_tables}
 use Rattle.tase_views.specs.Outcomes.{is_close}
 use Rattle.tase_map.specs.Closed.{is_closed}
 use Rattle.tase_map.specs.Inputs.{Item}
@@ -52,9 +53,10 @@ at_seat event past who =
 
 -- and the one that it has opened last
 pub opened_here : (event : EventKind) (past : Past) (who : ℕ)
-    → opened_in (with_event who event past) who ≡ opened_by event past (opened_in past who)
+    → opened_in (with_event who event past) who
+    ≡ opened_by (sort_of event) past (opened_in past who)
 opened_here event past who =
-    if_true (who == who) (opened_by event past (opened_in past who)) (opened_in past who)
+    if_true (who == who) (opened_by (sort_of event) past (opened_in past who)) (opened_in past who)
     (eq-eqb who who refl)
 
 pub event_here : (event : EventKind) (past : Past) (who : ℕ)
@@ -88,23 +90,25 @@ pub none_opened : (past : Past) (who : ℕ) → events_by who past ≡ [] → op
 none_opened [] who e = refl
 none_opened (entry ∷ past) who e =
     nothing_chosen (entry.who == who) entry.event
-    (opened_by entry.event past (opened_in past who)) (opened_in past who) (events_by who past) e
+    (opened_by (sort_of entry.event) past (opened_in past who)) (opened_in past who)
+    (events_by who past) e
     (none_opened past who)
 
 after_opened : (event : EventKind) (past : Past) (before found : Option Key) (key : Key)
     → (before ≡ Some key → found ≡ Some key) → association_after event past before ≡ Some key
-    → opened_by event past found ≡ Some key
+    → opened_by (sort_of event) past found ≡ Some key
 after_opened (Open peer) past before found key g e = e
 after_opened (Request call) past before found key g e = g e
 after_opened Take past before found key g e = g e
 after_opened Close past before found key g e = absurd cc
 after_opened (Update point value) past before found key g e = g e
+after_opened (Table chooser variant) past before found key g e = g e
 after_opened Stop past before found key g e = g e
 
 seat_by : (b : Bool) (event : EventKind) (past : Past) (before found : Option Key) (key : Key)
     → (before ≡ Some key → found ≡ Some key)
     → (if b then association_after event past before else before) ≡ Some key
-    → (if b then opened_by event past found else found) ≡ Some key
+    → (if b then opened_by (sort_of event) past found else found) ≡ Some key
 seat_by true event past before found key g e = after_opened event past before found key g e
 seat_by false event past before found key g e = g e
 
@@ -132,6 +136,8 @@ other_key Take past other who key apart e f = apart (one_seat past other who key
 other_key Close past other who key apart e f = apart (one_seat past other who key f e)
 other_key (Update point value) past other who key apart e f =
     apart (one_seat past other who key f e)
+other_key (Table chooser variant) past other who key apart e f =
+    apart (one_seat past other who key f e)
 other_key Stop past other who key apart e f = apart (one_seat past other who key f e)
 
 -- ---- entries of other seats
@@ -153,7 +159,7 @@ pub others_opened : (who : ℕ) (others past : Past) → AreOthers who others
 others_opened who [] past a = refl
 others_opened who (entry ∷ others) past a =
     let before = opened_in (others ++ past) who in
-    if_false (entry.who == who) (opened_by entry.event (others ++ past) before) before
+    if_false (entry.who == who) (opened_by (sort_of entry.event) (others ++ past) before) before
     (ne_eqb entry.who who a.0) ∙ others_opened who others past a.1
 
 pub others_sent : (rows : CentreRows) (who : ℕ) (others past : Past) (key : Key) (text : List ℕ)
@@ -167,7 +173,7 @@ others_sent rows who (entry ∷ others) past key text ended a e =
     let seat : association_in all who ≡ Some key = others_seat who others past a.1 ∙ e in
     let apart : key_at entry.event all entry.who ≡ Some key → ⊥ =
     λ f. other_key entry.event all entry.who who key a.0 seat f in (
-      other_adds rows (own_table rows key.peer) (talk_of (reading_of text) ended) key entry.who
+      other_adds rows (own_tables rows key.peer) (talk_of (reading_of text) ended) key entry.who
           entry.event all apart ∙ r.0,
       ap (λ m. turns_behind (talk_of (reading_of text) ended).turns m)
           (made_apart rows key entry.who entry.event all apart) ∙ r.1,
@@ -211,7 +217,7 @@ pub closed_still : (rows : CentreRows) (key : Key) (later past : Past) (text : L
     × (association_octets rows (later ++ past) key text ended ≡ association_octets rows past key text ended)
 closed_still rows key later past text ended c = (
   is_closed_later key later past c,
-  octets_kept rows (own_table rows key.peer) (talk_of (reading_of text) ended) key later past
+  octets_kept rows (own_tables rows key.peer) (talk_of (reading_of text) ended) key later past
       (closed_spent key past c),
 )
 

@@ -1,5 +1,5 @@
 -- What was said behind each answer.
-use Rattle.std.proofs.Common.{pos, ◌≡◌, ℕ, ℤ, ◌≤◌, Bool, true, false, List, [], ◌∷◌, ◌++◌, Option, None}
+use Rattle.std.proofs.Common.{pos, ◌≡◌, ℕ, ℤ, ◌≤◌, Bool, true, false, List, [], ◌∷◌, ◌++◌, Option}
 use Rattle.std.proofs.Common.{refl, sym, ap, ◌∙◌, append_assoc, arith}
 use Rattle.std.specs.Prelude.{is_some, if◌then◌else◌}
 use Rattle.std.specs.List.{list_any}
@@ -21,7 +21,7 @@ use Rattle.tase_views.specs.declared.call.CallKind.{CallKind}
 use Rattle.tase_views.specs.declared.event.EventKind.TheVariants as events
 use Rattle.tase_views.specs.declared.reply.ReplyKind.{ReplyKind}
 use Rattle.tase_views.specs.History.{Past, next_key, opens_in}
-use Rattle.tase_views.specs.OwnTable.{own_table}
+use Rattle.tase_views.specs.OwnTables.{own_tables}
 use Rattle.tase_views.specs.View.{view_of}
 use Rattle.tase_views.specs.Answers.{reply_to}
 use Rattle.tase_map.specs.Inputs.{Item, IsLinkInput, text_given, link_has_ended}
@@ -102,7 +102,7 @@ opened_says rows past who items told answered title peer offered octets v s conn
           let text = text_given (items ++ more) in
           let ended = link_has_ended (items ++ more) in
           let talk = talk_of (reading_of text) ended in
-          let table = own_table rows peer in
+          let table = own_tables rows peer in
           let accept = wire v.setup.size (accept_tsdu v.setup offered) in
           let x = fixed_over items more told v s connect in
           let joined : turns_of (items ++ more) ≡ answered ++ offers title ∷ rest =
@@ -122,7 +122,7 @@ opened_says rows past who items told answered title peer offered octets v s conn
 
 abbrev pub answer_octets : CentreRows → Past → Key → Course → ℤ → ℕ → CallKind → List ℕ
 answer_octets rows past key v detail invoke call = said v.setup (within detail invoke (pdu_of_reply invoke
-    (reply_to (own_table rows key.peer) (view_of rows key.peer past) key.ordinal call)))
+    (reply_to (own_tables rows key.peer) (view_of rows key.peer past) key.ordinal call)))
 
 reply_is : (told : List Arrival) (detail : ℤ) (v : Course) (text : List ℕ) (ended : Bool)
     (invoke : ℕ) (reply : ReplyKind) → IsFixed told v (reading_of text)
@@ -153,7 +153,7 @@ requested_says rows past who items told answered invoke call detail octets v s c
           let text = text_given (items ++ more) in
           let ended = link_has_ended (items ++ more) in
           let talk = talk_of (reading_of text) ended in
-          let table = own_table rows key.peer in
+          let table = own_tables rows key.peer in
           let x = fixed_over items more told v s connect in
           let joined : turns_of (items ++ more) ≡ answered ++ asks invoke call ∷ rest =
           t ∙ append_assoc answered (asks invoke call ∷ []) rest in
@@ -184,7 +184,7 @@ taken_says rows past who items answered octets o =
           let talk = talk_of (reading_of (text_given (items ++ more))) (link_has_ended (items ++ more)) in
           let before = o.octets more i (pauses ∷ rest)
           (t ∙ append_assoc answered (pauses ∷ []) rest) in (
-            before.0 ∙ sym (take_adds rows (own_table rows key.peer) talk key who past o.seat),
+            before.0 ∙ sym (take_adds rows (own_tables rows key.peer) talk key who past o.seat),
             ap (λ m. turns_behind talk.turns m)
                 (quiet_event rows key who events.Take past tt o.seat) ∙ before.1,
           );
@@ -249,5 +249,5 @@ closed_says rows past who items told answered cause octets v s connect a o =
           ∙ ap (λ (os : List ℕ). os ++ close) before.0
           ∙ ap (λ (ts : List Turn). association_octets rows past key text ended ++ close_octets talk.setup ts)
           (sym (before.1 ∙ turn_kept cause rest))
-          ∙ sym (close_adds rows (own_table rows key.peer) talk key who past o.seat);
+          ∙ sym (close_adds rows (own_tables rows key.peer) talk key who past o.seat);
     }

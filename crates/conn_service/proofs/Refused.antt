@@ -182,6 +182,7 @@ early_by rows past who items said (events.Request call) peer granted v s w = abs
 early_by rows past who items said events.Take peer granted v s w = absurd w
 early_by rows past who items said events.Close peer granted v s w = absurd w
 early_by rows past who items said (events.Update point value) peer granted v s w = absurd w
+early_by rows past who items said (events.Table chooser variant) peer granted v s w = absurd w
 early_by rows past who items said events.Stop peer granted v s w = absurd w
 
 -- an offer that stands unanswered isn't aborted

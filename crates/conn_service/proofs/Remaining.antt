@@ -140,6 +140,7 @@ asked_less setup past who (events.Request call) askeds.Nothing w r = absurd w
 asked_less setup past who events.Take askeds.Nothing w r = absurd w
 asked_less setup past who events.Close askeds.Nothing w r = absurd w
 asked_less setup past who (events.Update point value) askeds.Nothing w r = absurd w
+asked_less setup past who (events.Table chooser variant) askeds.Nothing w r = absurd w
 asked_less setup past who events.Stop askeds.Nothing w r = absurd w
 asked_less setup past who (events.Open opened) (askeds.Opening peer granted) w r =
     open_less setup past who opened r
@@ -147,6 +148,8 @@ asked_less setup past who (events.Request call) (askeds.Opening peer granted) w 
 asked_less setup past who events.Take (askeds.Opening peer granted) w r = absurd w
 asked_less setup past who events.Close (askeds.Opening peer granted) w r = absurd w
 asked_less setup past who (events.Update point value) (askeds.Opening peer granted) w r = absurd w
+asked_less setup past who (events.Table chooser variant) (askeds.Opening peer granted) w r =
+    absurd w
 asked_less setup past who events.Stop (askeds.Opening peer granted) w r = absurd w
 asked_less setup past who (events.Open opened) (askeds.Requesting invoke) w r = absurd w
 asked_less setup past who (events.Request call) (askeds.Requesting invoke) w r =
@@ -154,18 +157,21 @@ asked_less setup past who (events.Request call) (askeds.Requesting invoke) w r =
 asked_less setup past who events.Take (askeds.Requesting invoke) w r = absurd w
 asked_less setup past who events.Close (askeds.Requesting invoke) w r = absurd w
 asked_less setup past who (events.Update point value) (askeds.Requesting invoke) w r = absurd w
+asked_less setup past who (events.Table chooser variant) (askeds.Requesting invoke) w r = absurd w
 asked_less setup past who events.Stop (askeds.Requesting invoke) w r = absurd w
 asked_less setup past who (events.Open opened) askeds.Taking w r = absurd w
 asked_less setup past who (events.Request call) askeds.Taking w r = absurd w
 asked_less setup past who events.Take askeds.Taking w r = take_less setup past who r
 asked_less setup past who events.Close askeds.Taking w r = absurd w
 asked_less setup past who (events.Update point value) askeds.Taking w r = absurd w
+asked_less setup past who (events.Table chooser variant) askeds.Taking w r = absurd w
 asked_less setup past who events.Stop askeds.Taking w r = absurd w
 asked_less setup past who (events.Open opened) (askeds.Closing cause) w r = absurd w
 asked_less setup past who (events.Request call) (askeds.Closing cause) w r = absurd w
 asked_less setup past who events.Take (askeds.Closing cause) w r = absurd w
 asked_less setup past who events.Close (askeds.Closing cause) w r = close_less setup past who r
 asked_less setup past who (events.Update point value) (askeds.Closing cause) w r = absurd w
+asked_less setup past who (events.Table chooser variant) (askeds.Closing cause) w r = absurd w
 asked_less setup past who events.Stop (askeds.Closing cause) w r = absurd w
 
 -- an event that waits and isn't refused leaves less

@@ -144,6 +144,7 @@ answer_told setup past who (events.Request call) askeds.Nothing found w f s = ab
 answer_told setup past who events.Take askeds.Nothing found w f s = absurd w
 answer_told setup past who events.Close askeds.Nothing found w f s = absurd w
 answer_told setup past who (events.Update point value) askeds.Nothing found w f s = absurd w
+answer_told setup past who (events.Table chooser variant) askeds.Nothing found w f s = absurd w
 answer_told setup past who events.Stop askeds.Nothing found w f s = absurd w
 answer_told setup past who (events.Open opened) (askeds.Opening peer granted) found w f s = tt
 answer_told setup past who (events.Request call) (askeds.Opening peer granted) found w f s =
@@ -152,6 +153,8 @@ answer_told setup past who events.Take (askeds.Opening peer granted) found w f s
 answer_told setup past who events.Close (askeds.Opening peer granted) found w f s = absurd w
 answer_told setup past who (events.Update point value) (askeds.Opening peer granted) found w f s =
     absurd w
+answer_told setup past who (events.Table chooser variant)
+    (askeds.Opening peer granted) found w f s = absurd w
 answer_told setup past who events.Stop (askeds.Opening peer granted) found w f s = absurd w
 answer_told setup past who (events.Open opened) (askeds.Requesting invoke) found w f s = absurd w
 answer_told setup past who (events.Request call) (askeds.Requesting invoke) None w f s = absurd cc
@@ -162,6 +165,8 @@ answer_told setup past who events.Take (askeds.Requesting invoke) found w f s = 
 answer_told setup past who events.Close (askeds.Requesting invoke) found w f s = absurd w
 answer_told setup past who (events.Update point value) (askeds.Requesting invoke) found w f s =
     absurd w
+answer_told setup past who (events.Table chooser variant) (askeds.Requesting invoke) found w f s =
+    absurd w
 answer_told setup past who events.Stop (askeds.Requesting invoke) found w f s = absurd w
 answer_told setup past who (events.Open opened) askeds.Taking found w f s = absurd w
 answer_told setup past who (events.Request call) askeds.Taking found w f s = absurd w
@@ -171,6 +176,7 @@ answer_told setup past who events.Take askeds.Taking (Some key) w f s =
     (Ok (answer_by setup.centre past events.Take k))) (sym f) tt
 answer_told setup past who events.Close askeds.Taking found w f s = absurd w
 answer_told setup past who (events.Update point value) askeds.Taking found w f s = absurd w
+answer_told setup past who (events.Table chooser variant) askeds.Taking found w f s = absurd w
 answer_told setup past who events.Stop askeds.Taking found w f s = absurd w
 answer_told setup past who (events.Open opened) (askeds.Closing cause) found w f s = absurd w
 answer_told setup past who (events.Request call) (askeds.Closing cause) found w f s = absurd w
@@ -180,6 +186,8 @@ answer_told setup past who events.Close (askeds.Closing cause) (Some key) w f s 
     subst (λ (k : Option Key). IsAnswerTo (askeds.Closing cause)
     (Ok (answer_by setup.centre past events.Close k))) (sym f) tt
 answer_told setup past who (events.Update point value) (askeds.Closing cause) found w f s = absurd w
+answer_told setup past who (events.Table chooser variant) (askeds.Closing cause) found w f s =
+    absurd w
 answer_told setup past who events.Stop (askeds.Closing cause) found w f s = absurd w
 
 pub nothing_waits : (event : EventKind)
@@ -189,6 +197,7 @@ nothing_waits (events.Request call) w = absurd w
 nothing_waits events.Take w = absurd w
 nothing_waits events.Close w = absurd w
 nothing_waits (events.Update point value) w = absurd w
+nothing_waits (events.Table chooser variant) w = absurd w
 nothing_waits events.Stop w = absurd w
 
 waits_told : (setup : Setup) (past : Past) (who : ℕ) (event : EventKind) (p : Progress)
@@ -229,6 +238,7 @@ closing_close cause (events.Request call) w = absurd w
 closing_close cause events.Take w = absurd w
 closing_close cause events.Close w = refl
 closing_close cause (events.Update point value) w = absurd w
+closing_close cause (events.Table chooser variant) w = absurd w
 closing_close cause events.Stop w = absurd w
 
 -- that of an event other than a close may be told

@@ -9,7 +9,7 @@ use Rattle.stack_assoc.specs.Handing.{answers_to}
 use Rattle.stack_wire.specs.Tsdus.{refusal_tsdu}
 use Rattle.tpkt_cotp.specs.Written.{wire}
 use Rattle.tase_views.specs.History.{Past}
-use Rattle.tase_views.specs.OwnTable.{OwnTable, own_table}
+use Rattle.tase_views.specs.OwnTables.{OwnTables, own_tables}
 use Rattle.tase_views.specs.View.{View, view_of}
 use Rattle.tase_map.specs.Inputs.{Item, text_given, link_has_ended}
 use Rattle.tase_map.specs.Readings.{Reading, reading_of}
@@ -20,23 +20,23 @@ use Rattle.tase_map.specs.Out.{octets_out, is_declined, early_octets}
 use Rattle.tase_map.specs.Sent.{association_octets}
 use Rattle.tase_map.specs.Linked.{opened_in, link_octets}
 
--- an association is sent the same over the same own table and the same view
+-- an association is sent the same over the same own tables and the same view
 sent-alike : (here there : CentreRows) (past other_past : Past) (key other : Key) (text : List ℕ)
     (ended : Bool)
-    → own_table here key.peer ≡ own_table there other.peer
+    → own_tables here key.peer ≡ own_tables there other.peer
     → view_of here key.peer past ≡ view_of there other.peer other_past
     → key.ordinal ≡ other.ordinal
     → association_octets here past key text ended ≡ association_octets there other_past other text ended
 sent-alike here there past other_past key other text ended table view ordinal =
-    ap (λ (t : OwnTable). octets_out t (view_of here key.peer past) key.ordinal text ended) table
-    ∙ ap (λ (v : View). octets_out (own_table there other.peer) v key.ordinal text ended) view
-    ∙ ap (λ (n : ℕ). octets_out (own_table there other.peer)
+    ap (λ (t : OwnTables). octets_out t (view_of here key.peer past) key.ordinal text ended) table
+    ∙ ap (λ (v : View). octets_out (own_tables there other.peer) v key.ordinal text ended) view
+    ∙ ap (λ (n : ℕ). octets_out (own_tables there other.peer)
     (view_of there other.peer other_past) n text ended) ordinal
 
 pub associated-alike : (here there : CentreRows) (past other_past : Past) (who seat : ℕ)
     (items : List Item) (key other : Key)
     → opened_in past who ≡ Some key → opened_in other_past seat ≡ Some other
-    → own_table here key.peer ≡ own_table there other.peer
+    → own_tables here key.peer ≡ own_tables there other.peer
     → view_of here key.peer past ≡ view_of there other.peer other_past
     → key.ordinal ≡ other.ordinal
     → link_octets here past who items ≡ link_octets there other_past seat items

@@ -3,21 +3,21 @@ ghost use Rattle.std.specs.Prelude.{◌≡◌, ℕ, List, Option, Some, None};
 ghost use Rattle.bilateral.specs.Rows.{CentreRows};
 ghost use Rattle.sbo_device.specs.declared.key.Key.{Key};
 ghost use Rattle.tase_views.specs.History.{Past};
-ghost use Rattle.tase_views.specs.OwnTable.{own_table};
+ghost use Rattle.tase_views.specs.OwnTables.{own_tables};
 ghost use Rattle.tase_views.specs.View.{view_of};
 ghost use Rattle.tase_map.specs.Inputs.{Item};
 ghost use Rattle.tase_map.specs.Asks.{is_peers};
 ghost use Rattle.tase_map.specs.Linked.{opened_in, link_octets};
 
 /// Two worlds. Two centres with two histories, two links that give the same at any two seats: where
-/// the associations that these have opened last are of peers with the same own table and the same
+/// the associations that these have opened last are of peers with the same own tables and the same
 /// view, and have the same ordinal, the links' peers are sent the same octets; and where neither has
 /// opened one, and the same titles are peers'.
 pub fn two_worlds_are_sent_alike()
     ensures association { (here there : CentreRows) (past other_past : Past) (who seat : ℕ)
         (items : List Item) (key other : Key)
         → opened_in past who ≡ Some key → opened_in other_past seat ≡ Some other
-        → own_table here key.peer ≡ own_table there other.peer
+        → own_tables here key.peer ≡ own_tables there other.peer
         → view_of here key.peer past ≡ view_of there other.peer other_past
         → key.ordinal ≡ other.ordinal
         → link_octets here past who items ≡ link_octets there other_past seat items }

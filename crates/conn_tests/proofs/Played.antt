@@ -90,6 +90,7 @@ answer_fits (progresses.Running askeds.Nothing) (events.Request call) told w f =
 answer_fits (progresses.Running askeds.Nothing) events.Take told w f = absurd w
 answer_fits (progresses.Running askeds.Nothing) events.Close told w f = absurd w
 answer_fits (progresses.Running askeds.Nothing) (events.Update point value) told w f = absurd w
+answer_fits (progresses.Running askeds.Nothing) (events.Table chooser variant) told w f = absurd w
 answer_fits (progresses.Running askeds.Nothing) events.Stop told w f = absurd w
 answer_fits (progresses.Running (askeds.Opening peer granted)) (events.Open opened) told w f =
     opening_fits peer granted opened told f
@@ -99,6 +100,8 @@ answer_fits (progresses.Running (askeds.Opening peer granted)) events.Take told 
 answer_fits (progresses.Running (askeds.Opening peer granted)) events.Close told w f = absurd w
 answer_fits (progresses.Running (askeds.Opening peer grant)) (events.Update point value) told w f =
     absurd w
+answer_fits (progresses.Running (askeds.Opening peer granted))
+    (events.Table chooser variant) told w f = absurd w
 answer_fits (progresses.Running (askeds.Opening peer granted)) events.Stop told w f = absurd w
 answer_fits (progresses.Running (askeds.Requesting invoke)) (events.Open opened) told w f = absurd w
 answer_fits (progresses.Running (askeds.Requesting invoke)) (events.Request call) told w f =
@@ -107,6 +110,8 @@ answer_fits (progresses.Running (askeds.Requesting invoke)) events.Take told w f
 answer_fits (progresses.Running (askeds.Requesting invoke)) events.Close told w f = absurd w
 answer_fits (progresses.Running (askeds.Requesting invoke)) (events.Update point value) told w f =
     absurd w
+answer_fits (progresses.Running (askeds.Requesting invoke))
+    (events.Table chooser variant) told w f = absurd w
 answer_fits (progresses.Running (askeds.Requesting invoke)) events.Stop told w f = absurd w
 answer_fits (progresses.Running askeds.Taking) (events.Open opened) told w f = absurd w
 answer_fits (progresses.Running askeds.Taking) (events.Request call) told w f = absurd w
@@ -114,6 +119,7 @@ answer_fits (progresses.Running askeds.Taking) events.Take told w f =
     taking_fits told f
 answer_fits (progresses.Running askeds.Taking) events.Close told w f = absurd w
 answer_fits (progresses.Running askeds.Taking) (events.Update point value) told w f = absurd w
+answer_fits (progresses.Running askeds.Taking) (events.Table chooser variant) told w f = absurd w
 answer_fits (progresses.Running askeds.Taking) events.Stop told w f = absurd w
 answer_fits (progresses.Running (askeds.Closing cause)) (events.Open opened) told w f = absurd w
 answer_fits (progresses.Running (askeds.Closing cause)) (events.Request call) told w f = absurd w
@@ -121,6 +127,8 @@ answer_fits (progresses.Running (askeds.Closing cause)) events.Take told w f = a
 answer_fits (progresses.Running (askeds.Closing cause)) events.Close told w f =
     closing_fits cause told f
 answer_fits (progresses.Running (askeds.Closing cause)) (events.Update point value) told w f =
+    absurd w
+answer_fits (progresses.Running (askeds.Closing cause)) (events.Table chooser variant) told w f =
     absurd w
 answer_fits (progresses.Running (askeds.Closing cause)) events.Stop told w f = absurd w
 answer_fits progresses.Refused (events.Open opened) told w f = absurd w
@@ -149,10 +157,15 @@ answer_fits (progresses.Leaving end false) (events.Update point value) told w f 
 answer_fits (progresses.Leaving end true) (events.Update point value) told w f = absurd w
 answer_fits (progresses.Ended end) (events.Update point value) told w f = absurd w
 answer_fits (progresses.Cut end) (events.Update point value) told w f = absurd w
+answer_fits progresses.Refused (events.Table chooser variant) told w f = absurd w
 answer_fits progresses.Refused events.Stop told w f = absurd w
+answer_fits (progresses.Leaving end false) (events.Table chooser variant) told w f = absurd w
 answer_fits (progresses.Leaving end false) events.Stop told w f = absurd w
+answer_fits (progresses.Leaving end true) (events.Table chooser variant) told w f = absurd w
 answer_fits (progresses.Leaving end true) events.Stop told w f = absurd w
+answer_fits (progresses.Ended end) (events.Table chooser variant) told w f = absurd w
 answer_fits (progresses.Ended end) events.Stop told w f = absurd w
+answer_fits (progresses.Cut end) (events.Table chooser variant) told w f = absurd w
 answer_fits (progresses.Cut end) events.Stop told w f = absurd w
 
 closed_free : (cause : Cause) → IsFree (progress_closed cause)

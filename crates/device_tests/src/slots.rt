@@ -1,5 +1,6 @@
 use std::alloc::{AllocError, Global};
 use std::test::Fail;
+use tase_points::{Kind, unknown};
 use transfer_sets::{CHANGE, INTEGRITY, INTERVAL, OPERATOR, Slot, Wish, base_of, may_enable};
 
 fn empty_wish(alloc: Global) -> Result<Wish, AllocError> {
@@ -116,8 +117,8 @@ fn on_change(alloc: Global) -> Result<Slot, AllocError> {
     Ok(slot)
 }
 
-/// What is due of it: before a change; up to four moments behind two changes; behind the report; and
-/// behind another change before the buffer's end and at it.
+/// What is due of it: before a change; up to four moments behind two changes; behind the report;
+/// and behind another change before the buffer's end and at it.
 fn dues_of_changes(alloc: Global) -> Result<([u8; 5], [u8; 3]), AllocError> {
     let mut slot = on_change(alloc)?;
     let before = slot.due(20_000, 30_000);
@@ -144,8 +145,87 @@ fn changes_wait_for_the_buffer(rt: HostRuntime) -> Result<(), Fail> {
     Ok(())
 }
 
-/// Of a slot that is enabled again behind a change, and then disabled: whether it is enabled, whether
-/// its wish says so, what is due or its buffer.
+/// A slot that has every change told, three seconds after the first, enabled at 20,000.
+fn all_told(alloc: Global) -> Result<Slot, AllocError> {
+    let mut wish = wish_of(alloc, CHANGE, 0, 0)?;
+    wish.buffer = 3;
+    wish.rbe = true;
+    wish.all_changes = true;
+    let mut slot = Slot::new(alloc);
+    slot.enable(wish, 20_000);
+    Ok(slot)
+}
+
+/// A point changes whose members stand at these places.
+fn changed(slot: &mut Slot, cov: u16, places: &[u32]) -> Result<(), AllocError> {
+    slot.room(places.len())?;
+    slot.change(21_000, unknown(Kind::State), cov, places);
+    Ok(())
+}
+
+/// How many members are noted of such a slot after so many changes, what is due within its buffer
+/// and at its end, and how many are noted behind the report.
+fn dues_of_notes(alloc: Global, changes: u32) -> Result<(usize, u8, u8, usize), AllocError> {
+    let mut slot = all_told(alloc)?;
+    for _ in 0..changes {
+        changed(&mut slot, 7, &[4])?;
+    }
+    let noted = slot.noted().len();
+    let within = slot.due(20_000, 21_500);
+    let at_the_end = slot.due(20_000, 24_000);
+    slot.reported();
+    Ok((noted, within, at_the_end, slot.noted().len()))
+}
+
+/// How many changes, and what is due within the buffer and at its end.
+const NOTES: &[(u32, usize, u8, u8)] = &[
+    (0, 0, 0, 0),
+    (1, 1, 0, CHANGE),
+    (499, 499, 0, CHANGE),
+    (500, 500, CHANGE, CHANGE),
+    (501, 501, CHANGE, CHANGE),
+];
+
+#[test]
+fn many_changes_do_not_wait(rt: HostRuntime) -> Result<(), Fail> {
+    for &(changes, noted, within, at_the_end) in NOTES {
+        let came = dues_of_notes(rt.alloc(), changes)?;
+        assert_eq!(rt; came, (noted, within, at_the_end, 0), "{changes}");
+    }
+    Ok(())
+}
+
+/// The place of the member and the count that stand at an index of what is noted.
+fn noted_at(slot: &Slot, index: usize) -> Option<(u32, u16)> {
+    match slot.noted().get(index) {
+        Some(noted) => Some((noted.member, noted.cov)),
+        None => None,
+    }
+}
+
+/// What is noted of two members that one point has, of no member, and of another point's member.
+fn notes_in_order(alloc: Global) -> Result<[Option<(u32, u16)>; 4], AllocError> {
+    let mut slot = all_told(alloc)?;
+    changed(&mut slot, 7, &[0, 2])?;
+    changed(&mut slot, 5, &[])?;
+    changed(&mut slot, 65_535, &[1])?;
+    Ok([
+        noted_at(&slot, 0),
+        noted_at(&slot, 1),
+        noted_at(&slot, 2),
+        noted_at(&slot, 3),
+    ])
+}
+
+#[test]
+fn members_are_noted_in_order(rt: HostRuntime) -> Result<(), Fail> {
+    let want = [Some((0, 7)), Some((2, 7)), Some((1, 65_535)), None];
+    assert_eq!(rt; notes_in_order(rt.alloc())?, want);
+    Ok(())
+}
+
+/// Of a slot that is enabled again behind a change, and then disabled: whether it is enabled,
+/// whether its wish says so, what is due or its buffer.
 fn enabled_and_disabled(
     alloc: Global,
 ) -> Result<((bool, bool, u8), (bool, bool, u32)), AllocError> {

@@ -4,7 +4,7 @@ use Rattle.std.specs.Prelude.{codes}
 use Rattle.std.specs.Fmt.{digits}
 use Rattle.tase_points.specs.declared.kind.Kind.TheVariants as kinds
 use Rattle.tase_points.specs.declared.body.Body.TheVariants as bodies
-use Rattle.bilateral.specs.Rows.{CentreRows}
+use Rattle.bilateral.specs.Rows.{CentreRows, no_table}
 use Rattle.mms_data.specs.declared.object_name.Scope.TheVariants.{Vmd, Domain, Association}
 use Rattle.mms_data.specs.declared.outcome.Outcome.TheVariants.{Good, Fail}
 use Rattle.mms_data.specs.ObjectName.{ObjectName}
@@ -12,7 +12,7 @@ use Rattle.mms_data.specs.Datum.{boolean, integer, text}
 use Rattle.tase_views.specs.declared.call.CallKind.TheVariants.{Identify, Read, Write, NameList}
 use Rattle.tase_views.specs.declared.call.CallKind.TheVariants.{Odd}
 use Rattle.tase_views.specs.declared.event.EventKind.TheVariants.{Open, Request, Take, Close}
-use Rattle.tase_views.specs.declared.event.EventKind.TheVariants.{Update, Stop}
+use Rattle.tase_views.specs.declared.event.EventKind.TheVariants.{Update, Table, Stop}
 use Rattle.tase_views.specs.declared.reply.ReadSpec.TheVariants as specs
 use Rattle.tase_views.specs.declared.reply.ReplyKind.TheVariants.{Identified, Results, Written}
 use Rattle.tase_views.specs.declared.reply.ReplyKind.TheVariants.{NamesAre, Error, Reject}
@@ -161,8 +161,8 @@ rows =
       points = record { name = codes "BUS1"; kind = kinds.State }
           ∷ record { name = codes "LOAD1"; kind = kinds.Discrete } ∷ [];
       devices = [];
-      tables = [];
-      variants = [];
+      tables = record no_table { key = codes "A" } ∷ [];
+      variants = [] ∷ [];
     }
 
 update-line : feed_event_in rows (codes "update  LOAD1 d-7 3f 12 999")
@@ -190,3 +190,15 @@ stop-line = refl
 long_stop-line : feed_event_in rows (codes "stop now") ≡ None
 unfolding rows
 long_stop-line = refl
+
+table-line : feed_event_in rows (codes "table A 0") ≡ Some (Table 0 0)
+unfolding rows
+table-line = refl
+
+no_such_table-line : feed_event_in rows (codes "table A 1") ≡ None
+unfolding rows
+no_such_table-line = refl
+
+no_such_peer-line : feed_event_in rows (codes "table B 0") ≡ None
+unfolding rows
+no_such_peer-line = refl

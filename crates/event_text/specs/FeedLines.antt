@@ -1,7 +1,7 @@
 -- The lines of a feed: what the centre's own systems may ask of the node.
-use Rattle.std.specs.Prelude.{ℕ, nat_le, ◌==◌, if◌then◌else◌, pos, negsuc, List, [], ◌∷◌, Option}
-use Rattle.std.specs.Prelude.{◌≡◌, Some, None, option_map, option_and_then, codes, bytes_eq, length}
-use Rattle.std.specs.Prelude.{decimal, IsTrue}
+use Rattle.std.specs.Prelude.{ℕ, nat_le, nat_lt, ◌==◌, if◌then◌else◌, pos, negsuc, List, [], ◌∷◌}
+use Rattle.std.specs.Prelude.{◌≡◌, Option, Some, None, option_map, option_and_then, codes, bytes_eq}
+use Rattle.std.specs.Prelude.{length, decimal, IsTrue}
 use Rattle.std.specs.Int.{w32}
 use Rattle.std.specs.Int.RustNames.{FitsSigned}
 use Rattle.std.specs.List.{list_all}
@@ -18,10 +18,11 @@ use Rattle.tase_points.specs.Sample.{Sample}
 use Rattle.tase_points.specs.Points.{kind_of}
 use Rattle.tase_points.specs.Same.{same_kind}
 use Rattle.tase_points.specs.Values.{IsSample}
-use Rattle.bilateral.specs.Rows.{CentreRows, place_of_point, point_of}
+use Rattle.bilateral.specs.Rows.{CentreRows, place_of_point, place_of_peer, point_of, variants_of}
 use Rattle.tase_views.specs.declared.event.EventKind.{EventKind}
-use Rattle.tase_views.specs.declared.event.EventKind.TheVariants.{Update, Stop}
+use Rattle.tase_views.specs.declared.event.EventKind.TheVariants.{Update, Table, Stop}
 use Rattle.tase_views.specs.EventTexts.{body_text}
+use Rattle.event_text.specs.declared.feed.TheConstants.{TABLE_NUMBER_LIMIT}
 
 -- a body: `s` and a state, `d` and a discrete value, `r` and the eight digits of a real one
 abbrev pub body_in : List ℕ → Option Body
@@ -57,20 +58,33 @@ update_in rows (name ∷ body ∷ flags ∷ seconds ∷ millis ∷ []) =
     (sample_in body flags seconds millis)) (place_of_point rows name)
 update_in rows words = None
 
+-- the choice of a table of a peer, where the peer has it
+abbrev pub choice_of : CentreRows → ℕ → ℕ → Option EventKind
+choice_of rows peer variant =
+    if nat_lt variant (length (variants_of rows peer)) then Some (Table peer variant) else None
+
+-- `KEY NUMBER` behind `table`: the peer's first table is 0
+abbrev pub choice_in : CentreRows → List (List ℕ) → Option EventKind
+choice_in rows (key ∷ number ∷ []) =
+    option_and_then (λ peer. option_and_then (λ variant. choice_of rows peer variant)
+    (number_up_to TABLE_NUMBER_LIMIT number)) (place_of_peer rows key)
+choice_in rows words = None
+
 -- nothing behind `stop`
 abbrev pub stop_in : List (List ℕ) → Option EventKind
 stop_in [] = Some Stop
 stop_in (word ∷ words) = None
 
--- `update NAME BODY FLAGS SECONDS MILLIS` or `stop`
+-- `update NAME BODY FLAGS SECONDS MILLIS`, `table KEY NUMBER` or `stop`
 abbrev pub feed_words_in : CentreRows → List (List ℕ) → Option EventKind
 feed_words_in rows [] = None
 feed_words_in rows (verb ∷ words) =
     if bytes_eq verb (codes "update") then update_in rows words
-    else (if bytes_eq verb (codes "stop") then stop_in words else None)
+    else (if bytes_eq verb (codes "table") then choice_in rows words
+    else (if bytes_eq verb (codes "stop") then stop_in words else None))
 
--- the event of seat 0 that a line asks for, where it is one of the forms, names a point of the
--- centre, and has a value of this point's kind
+-- the event of seat 0 that a line asks for, where it is one of the forms and names a point of the
+-- centre with a value of this point's kind, or a peer and a table of it
 abbrev pub feed_event_in : CentreRows → List ℕ → Option EventKind
 feed_event_in rows line = option_and_then (feed_words_in rows) (words_in line)
 

@@ -2,18 +2,26 @@
 ghost use Rattle.std.specs.Prelude.{◌≡◌, ◌<◌, length, IfOk};
 ghost use Rattle.plain_text.specs.Words.{words};
 ghost use Rattle.event_text.specs.FeedLines.{feed_event_in, update_in, update_of};
+ghost use Rattle.event_text.specs.FeedLines.{choice_in, choice_of};
 
 use crate::values::read_value;
 use bilateral::Centre;
-use plain_text::{is_spaced, next_word};
+use plain_text::{is_spaced, next_word, read_number, two_words};
 use std::alloc::{AllocError, Global};
 use tase_points::PointValue;
 use tase_views::{Event, EventKind};
 
+/// The largest number of a table that a line names; a peer has fewer.
+pub const TABLE_NUMBER_LIMIT: u64 = 4294967295;
+
+// Definitions cite this limit, so that it stands here as a number too.
+const _: () = prove!(TABLE_NUMBER_LIMIT == 4_294_967_295);
+
 /// The event of seat 0 that a line of a feed or of a scenario asks for:
 /// `update NAME BODY FLAGS SECONDS MILLIS`, where the centre has a point of this name and the value
-/// is of the point's kind, or `stop`. None for every other line. It takes no memory; `alloc` is for
-/// lines to come.
+/// is of the point's kind; `table KEY NUMBER`, where it has a peer with this key that has this
+/// table, 0 being the peer's own; or `stop`. None for every other line. It takes no memory; `alloc`
+/// is for lines to come.
 pub fn read_feed_line(
     _alloc: Global,
     centre: &Centre,
@@ -29,6 +37,8 @@ pub fn read_feed_line(
     };
     if verb == b"update".as_slice() {
         Ok(read_update(centre, rest))
+    } else if verb == b"table".as_slice() {
+        Ok(read_choice(centre, rest))
     } else if verb == b"stop".as_slice() && next_word(rest).is_none() {
         Ok(Some(Event::new(EventKind::Stop)))
     } else {
@@ -60,6 +70,28 @@ fn update_at(centre: &Centre, point: u32, value: PointValue) -> Option<Event>
 {
     if value.body().kind().is_same(centre.point(point).kind) {
         Some(Event::new(EventKind::Update { point, value }))
+    } else {
+        None
+    }
+}
+
+/// `KEY NUMBER` behind `table`: a table of a peer is chosen.
+fn read_choice(centre: &Centre, text: &[u8]) -> Option<Event>
+    ensures { result ≡ choice_in centre.now (words text.now) }
+{
+    let (key, number) = two_words(text)?;
+    let peer = centre.find_peer(key)?;
+    let variant = read_number(number, TABLE_NUMBER_LIMIT)?;
+    choice_at(centre, peer, variant as u32)
+}
+
+/// The choice of a table of a peer, where the peer has it.
+fn choice_at(centre: &Centre, peer: u32, variant: u32) -> Option<Event>
+    requires { peer < length centre.now.tables }
+    ensures { result ≡ choice_of centre.now peer variant }
+{
+    if variant < centre.variants(peer) {
+        Some(Event::new(EventKind::Table { peer, variant }))
     } else {
         None
     }

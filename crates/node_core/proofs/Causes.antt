@@ -1,15 +1,15 @@
 -- What follows where an event isn't refused, and that a refusal is never for want of memory.
-use Rattle.std.proofs.Common.{◌≡◌, ℕ, ◌+◌, ◌<◌, ◌≤◌, Bool, true, false, not, ◌&&◌, [], ◌∷◌}
+use Rattle.std.proofs.Common.{◌≡◌, ◌≢◌, ℕ, ◌+◌, ◌<◌, ◌≤◌, Bool, true, false, not, ◌&&◌, [], ◌∷◌}
 use Rattle.std.proofs.Common.{length, reverse, ltb, Option, Some, None, is_some, refl, sym, subst}
 use Rattle.std.specs.Prelude.{if◌then◌else◌, option_map}
-use Rattle.std.proofs.lemmas.Bool.{true≢false, ltb-true, ltb-false}
+use Rattle.std.proofs.lemmas.Bool.{true≢false, ltb-true, ltb-false, and_parts}
 use Rattle.std.proofs.lemmas.Option.{none-some}
 use Rattle.tase_points.specs.Sample.{Sample}
-use Rattle.bilateral.specs.Rows.{CentreRows}
+use Rattle.bilateral.specs.Rows.{CentreRows, variants_of}
 use Rattle.sbo_device.specs.declared.key.Key.{Key}
 use Rattle.tase_views.specs.declared.event.EventKind.{EventKind}
 use Rattle.tase_views.specs.declared.event.EventKind.TheVariants.{Open, Request, Take, Close}
-use Rattle.tase_views.specs.declared.event.EventKind.TheVariants.{Update, Stop}
+use Rattle.tase_views.specs.declared.event.EventKind.TheVariants.{Update, Table, Stop}
 use Rattle.tase_views.specs.declared.fault.StepFault.{StepFault}
 use Rattle.tase_views.specs.declared.fault.StepFault.TheVariants.{Memory, Stopped, HistoryFull}
 use Rattle.tase_views.specs.declared.fault.StepFault.TheVariants.{NoAssociation, Already}
@@ -17,11 +17,13 @@ use Rattle.tase_views.specs.declared.fault.StepFault.TheVariants.{UnknownName}
 use Rattle.tase_views.specs.Setup.{Setup}
 use Rattle.tase_views.specs.History.{Past, association_in, stop_in}
 use Rattle.tase_views.specs.Weights.{weight, weight_of}
-use Rattle.tase_views.specs.Outcomes.{is_close, is_ending, is_known, stop_refusal, seat_refusal}
-use Rattle.tase_views.specs.Outcomes.{name_refusal, weight_refusal, first_refusal, refusal_of}
-use Rattle.tase_views.specs.Outcomes.{IsRefusal}
+use Rattle.tase_views.specs.Moves.{EventSort, sort_of, opening, requesting, taking, closing}
+use Rattle.tase_views.specs.Moves.{taking_orders, feeding}
+use Rattle.tase_views.specs.Outcomes.{is_close, is_ending, is_known, has_table, is_named_there}
+use Rattle.tase_views.specs.Outcomes.{stop_refusal, seat_refusal, seat_refusal_by, name_refusal}
+use Rattle.tase_views.specs.Outcomes.{weight_refusal, first_refusal, refusal_of, IsRefusal}
 use Rattle.node_core.specs.NodeState.{NodeState}
-use Rattle.node_core.specs.Stored.{IsQuiet, IsRequest}
+use Rattle.node_core.specs.Stored.{IsRequest}
 use Rattle.node_core.specs.Room.{LeavesSeats}
 
 -- none of the four refusals has its cause
@@ -99,6 +101,17 @@ pub named-update : (rows : CentreRows) (point : ℕ) (value : Sample)
     → name_refusal rows (Update point value) ≡ None → is_known rows point value ≡ true
 named-update rows point value e = passes (is_known rows point value) UnknownName e
 
+pub named-table : (rows : CentreRows) (peer variant : ℕ)
+    → name_refusal rows (Table peer variant) ≡ None
+    → (peer < length rows.tables) × (variant < length (variants_of rows peer))
+named-table rows peer variant e =
+    let parts = and_parts (ltb peer (length rows.tables))
+    (ltb variant (length (variants_of rows peer)))
+    (passes (has_table rows peer variant) UnknownName e) in (
+      ltb-true peer (length rows.tables) parts.0,
+      ltb-true variant (length (variants_of rows peer)) parts.1,
+    )
+
 pub light-fits : (setup : Setup) (past : Past) (event : EventKind) → is_ending event ≡ false
     → weight_refusal setup past event ≡ None → weight_of past + weight event ≤ setup.limit
 light-fits setup past event going e =
@@ -137,21 +150,13 @@ own_stop true place = tt
 own_stop false None = tt
 own_stop false (Some p) = refl
 
-own_seat : (found : Option Key) (event : EventKind) → AreOwn (seat_refusal found event)
-own_seat found (Open peer) = own_unless (is_some found) Already refl
-own_seat found (Request call) = own_if (is_some found) NoAssociation refl
-own_seat found Take = own_if (is_some found) NoAssociation refl
-own_seat found Close = own_if (is_some found) NoAssociation refl
-own_seat found (Update point value) = tt
-own_seat found Stop = tt
-
-own_name : (rows : CentreRows) (event : EventKind) → AreOwn (name_refusal rows event)
-own_name rows (Open peer) = own_if (ltb peer (length rows.tables)) UnknownName refl
-own_name rows (Request call) = tt
-own_name rows Take = tt
-own_name rows Close = tt
-own_name rows (Update point value) = own_if (is_known rows point value) UnknownName refl
-own_name rows Stop = tt
+own_seat : (found : Option Key) (sort : EventSort) → AreOwn (seat_refusal_by found sort)
+own_seat found (opening peer) = own_unless (is_some found) Already refl
+own_seat found (requesting call) = own_if (is_some found) NoAssociation refl
+own_seat found taking = own_if (is_some found) NoAssociation refl
+own_seat found closing = own_if (is_some found) NoAssociation refl
+own_seat found taking_orders = tt
+own_seat found (feeding move) = tt
 
 own_first : (a b c d : Option StepFault) → AreOwn a → AreOwn b → AreOwn c → AreOwn d
     → AreOwn (first_refusal (a ∷ b ∷ c ∷ d ∷ []))
@@ -166,8 +171,8 @@ own_refusal : (setup : Setup) (past : Past) (who : ℕ) (event : EventKind)
 own_refusal setup past who event =
     own_first (stop_refusal past event) (seat_refusal (association_in past who) event)
     (name_refusal setup.centre event) (weight_refusal setup past event)
-    (own_stop (is_close event) (stop_in past)) (own_seat (association_in past who) event)
-    (own_name setup.centre event)
+    (own_stop (is_close event) (stop_in past)) (own_seat (association_in past who) (sort_of event))
+    (own_if (is_named_there setup.centre (sort_of event)) UnknownName refl)
     (own_unless (not (is_ending event) && ltb setup.limit (weight_of past + weight event))
     (HistoryFull (weight_of past + weight event) setup.limit) refl)
 
@@ -187,24 +192,7 @@ IsRefusal-of setup past who event fault e =
     is_refusal event (refusal_of setup past who event) fault
     (rw e at (own_refusal setup past who event)) e
 
--- ---- requests and takes
-
-pub quiet-goes_on : (event : EventKind) → IsQuiet event → is_ending event ≡ false
-quiet-goes_on (Open peer) quiet = absurd quiet
-quiet-goes_on (Request call) quiet = absurd quiet
-quiet-goes_on Take quiet = refl
-quiet-goes_on Close quiet = absurd quiet
-quiet-goes_on (Update point value) quiet = absurd quiet
-quiet-goes_on Stop quiet = absurd quiet
-
-pub quiet-leaves : (event : EventKind) (before behind : ℕ) → IsQuiet event → behind ≡ before
-    → LeavesSeats event before behind
-quiet-leaves (Open peer) before behind quiet same = absurd quiet
-quiet-leaves (Request call) before behind quiet same = absurd quiet
-quiet-leaves Take before behind quiet same = same
-quiet-leaves Close before behind quiet same = absurd quiet
-quiet-leaves (Update point value) before behind quiet same = absurd quiet
-quiet-leaves Stop before behind quiet same = absurd quiet
+-- ---- requests
 
 pub request-goes_on : (event : EventKind) → IsRequest event → is_ending event ≡ false
 request-goes_on (Open peer) request = absurd request
@@ -212,6 +200,7 @@ request-goes_on (Request call) request = refl
 request-goes_on Take request = absurd request
 request-goes_on Close request = absurd request
 request-goes_on (Update point value) request = absurd request
+request-goes_on (Table peer variant) request = absurd request
 request-goes_on Stop request = absurd request
 
 pub request-leaves : (event : EventKind) (before behind : ℕ) → IsRequest event → behind ≡ before
@@ -221,4 +210,5 @@ request-leaves (Request call) before behind request same = same
 request-leaves Take before behind request same = absurd request
 request-leaves Close before behind request same = absurd request
 request-leaves (Update point value) before behind request same = absurd request
+request-leaves (Table peer variant) before behind request same = absurd request
 request-leaves Stop before behind request same = absurd request

@@ -1,173 +1,198 @@
--- A deletion counts the data sets of a book that are named, each once.
-use Rattle.std.proofs.Common.{◌≡◌, ◌≢◌, ℕ, suc, ◌+◌, Bool, true, false, not, ◌||◌, List, [], ◌∷◌}
-use Rattle.std.proofs.Common.{length, Some, None, is_some, bytes_eq, refl, sym, ap, ◌∙◌, arith}
+-- The data sets that deletions leave in a book, and how many of them each name counts.
+use Rattle.std.proofs.Common.{◌≡◌, ℕ, suc, ◌+◌, ◌<◌, ◌≤◌, Bool, true, false, not, ◌&&◌, ◌||◌}
+use Rattle.std.proofs.Common.{List, [], ◌∷◌, ◌++◌, take, drop, get_or, length, Option, Some, None}
+use Rattle.std.proofs.Common.{is_some, bytes_eq, refl, sym, ap, ◌∙◌, arith}
 use Rattle.std.specs.Prelude.{if◌then◌else◌}
-use Rattle.std.specs.List.{All, AllPairs, filter, find}
+use Rattle.std.specs.List.{filter, find}
 use Rattle.std.specs.Option.{option_map}
-use Rattle.std.proofs.lemmas.Bool.{false≢true, true≢false}
-use Rattle.std.proofs.lemmas.List.Elements.{All-head, All-tail}
-use Rattle.std.proofs.lemmas.Slice.Eq.{bytes_eq-Decides}
+use Rattle.std.proofs.lemmas.List.{take_more, at_drop_more, at_drop_all}
 use Rattle.mms_data.specs.declared.object_name.Scope.TheVariants.{Domain}
 use Rattle.mms_data.specs.ObjectName.{ObjectName, same_scope}
 use Rattle.data_sets.specs.declared.book.DataSet.{DataSet}
 use Rattle.data_sets.specs.Books.{Book, is_set_named, members_in, deleted}
-use Rattle.tase_views.specs.OwnTable.{OwnTable}
-use Rattle.tase_views.specs.View.{View, own, deletes}
-use Rattle.tase_views.specs.Sets.{Deletion, one_deletion, deletion_of, members_of}
-use Rattle.node_core.specs.SetsKept.{IsBook, is_named_in}
-use Rattle.node_core.proofs.Names.{AllPairs-head, AllPairs-tail}
-use Rattle.node_core.proofs.SetBooks.{IsBook-deleted, IsBook-kept}
+use Rattle.tase_views.specs.OwnTables.{OwnTable, OwnTables}
+use Rattle.tase_views.specs.Moves.{deletes}
+use Rattle.tase_views.specs.View.{View, own, force, held}
+use Rattle.tase_views.specs.Sets.{Deletion, one_deletion}
+use Rattle.tase_views.specs.Slots.{Slots, is_wished, sets_in, slot_moves, members_of}
+use Rattle.tase_views.specs.Answers.{deletion_of}
+use Rattle.node_core.specs.SetsKept.{IsBook, is_named_in, is_in_book, left_behind, left_by}
+use Rattle.node_core.proofs.SetBooks.{found_left, IsBook-deletes}
 
-abbrev Differ : DataSet → DataSet → Type 0
-Differ a b = a.name ≢ b.name
-
-filter_alike : {X : Type 0} (p q : X → Bool) → ((x : X) → p x ≡ q x) → (xs : List X)
-    → filter p xs ≡ filter q xs
-filter_alike p q each [] = refl
-filter_alike p q each (x ∷ xs) = by (p x) (q x) (each x) (filter_alike p q each xs)
+-- a deletion leaves no more, and one less where it finds one
+fewer_left : (name : List ℕ) (sets : List DataSet)
+    → length (filter (λ set. not (is_set_named name set)) sets)
+    + (if is_some (members_in sets name) then 1 else 0) ≤ length sets
+fewer_left name [] = omega arith
+fewer_left name (set ∷ sets) = by (bytes_eq set.name name) (fewer_left name sets)
   where
-    by : (a b : Bool) → a ≡ b → filter p xs ≡ filter q xs
-        → (if a then x ∷ filter p xs else filter p xs)
-        ≡ (if b then x ∷ filter q xs else filter q xs)
-    by true true e rest = ap (λ ys. x ∷ ys) rest
-    by false false e rest = rest
-    by true false e rest = absurd (true≢false e)
-    by false true e rest = absurd (false≢true e)
+    by : (c : Bool)
+        → length (filter (λ s. not (is_set_named name s)) sets)
+        + (if is_some (members_in sets name) then 1 else 0) ≤ length sets
+        → length (if not c then set ∷ filter (λ s. not (is_set_named name s)) sets
+        else filter (λ s. not (is_set_named name s)) sets)
+        + (if is_some (option_map (λ (s : DataSet). s.members)
+        (if c then Some set else find (is_set_named name) sets)) then 1 else 0) ≤ suc (length sets)
+    by true rest = omega (arith, rest)
+    by false rest = omega (arith, rest)
 
-none_pass : {X : Type 0} (xs : List X) → filter (λ (x : X). false) xs ≡ []
-none_pass [] = refl
-none_pass (x ∷ xs) = none_pass xs
+-- a table that offers no transfer sets keeps no data set from deletion
+unwished : (table : OwnTable) (slots : Slots) (name : List ℕ) → table.slots ≡ 0
+    → is_wished table slots name ≡ false
+unwished table slots name none = rw none refl
 
-turned : (a b : List ℕ) (c : Bool) → bytes_eq a b ≡ c → bytes_eq b a ≡ c
-turned a b true e = (bytes_eq-Decides b a).1 (sym ((bytes_eq-Decides a b).0 e))
-turned a b false e = by (bytes_eq b a) refl
+-- ---- what the names of a deletion count
+
+abbrev pub one_where : Bool → ℕ
+one_where there = if there then 1 else 0
+
+-- how many of names are those of data sets, each behind the deletions by those before it
+abbrev pub matched_by : List ℕ → List ObjectName → Book → ℕ
+matched_by domain [] book = 0
+matched_by domain (name ∷ names) book =
+    one_where (is_in_book domain book name)
+    + matched_by domain names (left_behind domain book name)
+
+left_or_one : (domain : List ℕ) (book : Book) (name : ObjectName)
+    → length (left_behind domain book name).sets + one_where (is_in_book domain book name)
+    ≤ length book.sets
+left_or_one domain book name = by (same_scope name.scope (Domain domain))
   where
-    by : (d : Bool) → bytes_eq b a ≡ d → bytes_eq b a ≡ false
-    by false k = k
-    by true k =
-        absurd (false≢true (sym e ∙ (bytes_eq-Decides a b).1 (sym ((bytes_eq-Decides b a).0 k))))
+    by : (c : Bool)
+        → length (if c then deleted book name.item else book).sets
+        + one_where (c && is_some (members_in book.sets name.item)) ≤ length book.sets
+    by true = fewer_left name.item book.sets
+    by false = omega arith
 
--- no data set has a name that is another than those of all
-absent : (item : List ℕ) (set : DataSet) (sets : List DataSet) → set.name ≡ item
-    → All (Differ set) sets → members_in sets item ≡ None
-absent item set [] same all = refl
-absent item set (other ∷ sets) same all =
-    by (bytes_eq other.name item) refl
-    (absent item set sets same (All-tail (Differ set) other sets all))
-  where
-    by : (b : Bool) → bytes_eq other.name item ≡ b → members_in sets item ≡ None
-        → option_map (λ (s : DataSet). s.members)
-        (if b then Some other else find (is_set_named item) sets) ≡ None
-    by true e rest =
-        absurd (All-head (Differ set) other sets all
-        (same ∙ sym ((bytes_eq-Decides other.name item).0 e)))
-    by false e rest = rest
+-- no more than there are
+pub matched_by-le : (domain : List ℕ) (names : List ObjectName) (book : Book)
+    → matched_by domain names book ≤ length book.sets
+matched_by-le domain [] book = omega arith
+matched_by-le domain (name ∷ names) book =
+    omega (
+      arith,
+      left_or_one domain book name,
+      matched_by-le domain names (left_behind domain book name),
+    )
 
--- one more that passes on both sides, or on neither
-one_more : (set : DataSet) (xs ys : List DataSet) (here found : Bool)
-    → length xs ≡ (if found then suc (length ys) else length ys)
-    → length (if here then set ∷ xs else xs)
-    ≡ (if found then suc (length (if here then set ∷ ys else ys))
-    else length (if here then set ∷ ys else ys))
-one_more set xs ys true true e = ap suc e
-one_more set xs ys true false e = ap suc e
-one_more set xs ys false true e = e
-one_more set xs ys false false e = e
+left_by-append : (domain : List ℕ) (names more : List ObjectName) (book : Book)
+    → left_by domain (names ++ more) book ≡ left_by domain more (left_by domain names book)
+left_by-append domain [] more book = refl
+left_by-append domain (name ∷ names) more book =
+    left_by-append domain names more (left_behind domain book name)
 
--- those with a name or passing a test are the one with the name, where it is there, and the others
--- that pass
-split : (item : List ℕ) (q : DataSet → Bool) (sets : List DataSet) → AllPairs Differ sets
-    → length (filter (λ s. bytes_eq item s.name || q s) sets)
-    ≡ (if is_some (members_in sets item)
-    then suc (length (filter q (filter (λ s. not (is_set_named item s)) sets)))
-    else length (filter q (filter (λ s. not (is_set_named item s)) sets)))
-split item q [] once = refl
-split item q (set ∷ sets) once =
-    by (bytes_eq set.name item) refl (split item q sets (AllPairs-tail Differ set sets once))
-  where
-    by : (c : Bool) → bytes_eq set.name item ≡ c
-        → length (filter (λ s. bytes_eq item s.name || q s) sets)
-        ≡ (if is_some (members_in sets item)
-        then suc (length (filter q (filter (λ s. not (is_set_named item s)) sets)))
-        else length (filter q (filter (λ s. not (is_set_named item s)) sets)))
-        → length (if bytes_eq item set.name || q set
-        then set ∷ filter (λ s. bytes_eq item s.name || q s) sets
-        else filter (λ s. bytes_eq item s.name || q s) sets)
-        ≡ (if is_some (option_map (λ (s : DataSet). s.members)
-        (if c then Some set else find (is_set_named item) sets))
-        then suc (length (filter q (if not c then set ∷ filter (λ s. not (is_set_named item s)) sets
-        else filter (λ s. not (is_set_named item s)) sets)))
-        else length (filter q (if not c then set ∷ filter (λ s. not (is_set_named item s)) sets
-        else filter (λ s. not (is_set_named item s)) sets)))
-    by true e rest =
-        let same : set.name ≡ item = (bytes_eq-Decides set.name item).0 e in
-        let none : members_in sets item ≡ None =
-        absent item set sets same (AllPairs-head Differ set sets once) in
-        rw (turned set.name item true e) (ap suc (rest ∙ rw none refl))
-    by false e rest =
-        rw (turned set.name item false e)
-        (one_more set (filter (λ s. bytes_eq item s.name || q s) sets)
-        (filter q (filter (λ s. not (is_set_named item s)) sets)) (q set)
-        (is_some (members_in sets item)) rest)
+-- one name more
+pub matched_by-more : (domain : List ℕ) (names : List ObjectName) (i : ℕ) (d : ObjectName)
+    (book : Book) → i < length names
+    → matched_by domain (drop i names) (left_by domain (take i names) book)
+    ≡ one_where (is_in_book domain (left_by domain (take i names) book) (get_or names i d))
+    + matched_by domain (drop (i + 1) names) (left_by domain (take (i + 1) names) book)
+matched_by-more domain names i d book within =
+    let name = get_or names i d in
+    let left = left_by domain (take i names) book in
+    let after : left_by domain (take (i + 1) names) book ≡ left_behind domain left name =
+    ap (λ (those : List ObjectName). left_by domain those book) (take_more names i d within)
+    ∙ left_by-append domain (take i names) (name ∷ []) book in
+    at_drop_more (λ (those : List ObjectName). matched_by domain those left) names i d within
+    ∙ ap (λ (behind : Book). one_where (is_in_book domain left name)
+    + matched_by domain (drop (i + 1) names) behind) (sym after)
 
--- whether a data set of the domain is among those that are named
-abbrev pub named_by : OwnTable → List ObjectName → DataSet → Bool
-named_by table names set = is_named_in table.domain names set.name
-
-abbrev pub count_named : OwnTable → List ObjectName → Book → ℕ
-count_named table names book = length (filter (named_by table names) book.sets)
+-- behind the last
+pub matched_by-all : (domain : List ℕ) (names : List ObjectName) (i count whole : ℕ) (book : Book)
+    → length names ≤ i → count + matched_by domain (drop i names) book ≡ whole → count ≡ whole
+matched_by-all domain names i count whole book past counted =
+    let none : matched_by domain (drop i names) book ≡ 0 =
+    at_drop_all (λ (those : List ObjectName). matched_by domain those book) names i past in
+    omega (arith, none, counted)
 
 abbrev both : ℕ → Deletion
 both n = record { matched = n; deleted = n }
 
-pub deletion-counted : (table : OwnTable) (view : View) (book : Book) (ordinal : ℕ)
-    (names : List ObjectName) → IsBook table view book
-    → deletion_of table view ordinal names ≡ both (count_named table names book)
-deletion-counted table view book ordinal [] b =
-    ap (λ (sets : List DataSet). both (length sets)) (sym (none_pass book.sets))
-deletion-counted table view book ordinal (set ∷ sets) b =
-    by (same_scope set.scope (Domain table.domain)) refl
-    (λ e. deletion-counted table (own ordinal (deletes set) ∷ view) book ordinal sets
-    (IsBook-kept table view book ordinal set e b))
-    (λ e. deletion-counted table (own ordinal (deletes set) ∷ view) (deleted book set.item) ordinal
-    sets (IsBook-deleted table view book ordinal set e b))
+-- where no data set is kept from deletion, that many are matched and deleted
+pub deletion_of-matched : (tables : OwnTables) (view : View) (book : Book) (ordinal : ℕ)
+    (names : List ObjectName) → (held tables view).slots ≡ 0 → IsBook tables view book
+    → deletion_of tables view ordinal names
+    ≡ both (matched_by (held tables view).domain names book)
+deletion_of-matched tables view book ordinal [] none b = refl
+deletion_of-matched tables view book ordinal (set ∷ sets) none b =
+    rw (
+      there,
+      unwished (held tables view) (slot_moves tables view) set.item none,
+      deletion_of-matched tables (own ordinal (deletes set) ∷ view)
+          (left_behind (held tables view).domain book set) ordinal sets none
+          (IsBook-deletes tables view book ordinal set (force view) refl none b),
+    ) (by (is_in_book (held tables view).domain book set))
   where
-    counted : (c : Bool) (n : ℕ) → one_deletion c false (both n) ≡ both (if c then suc n else n)
-    counted true n = let one : 1 + n ≡ suc n = omega arith in ap both one
-    counted false n = refl
+    there : is_some (members_of tables view set) ≡ is_in_book (held tables view).domain book set
+    there =
+        rw (b.members set.item)
+        (some_where (same_scope set.scope (Domain (held tables view).domain))
+        (sets_in tables view set.item))
+      where
+        some_where : (c : Bool) (found : Option (List ObjectName))
+            → is_some (if c then found else None) ≡ (c && is_some found)
+        some_where true found = refl
+        some_where false found = refl
 
-    by : (c : Bool) → same_scope set.scope (Domain table.domain) ≡ c
-        → (same_scope set.scope (Domain table.domain) ≡ false
-        → deletion_of table (own ordinal (deletes set) ∷ view) ordinal sets
-        ≡ both (count_named table sets book))
-        → (same_scope set.scope (Domain table.domain) ≡ true
-        → deletion_of table (own ordinal (deletes set) ∷ view) ordinal sets
-        ≡ both (count_named table sets (deleted book set.item)))
-        → one_deletion (is_some (members_of table view set)) false
-        (deletion_of table (own ordinal (deletes set) ∷ view) ordinal sets)
-        ≡ both (count_named table (set ∷ sets) book)
-    by false e kept taken =
-        let there : is_some (members_of table view set) ≡ false = rw e refl in
-        ap (λ (c : Bool). one_deletion c false
-        (deletion_of table (own ordinal (deletes set) ∷ view) ordinal sets)) there
-        ∙ kept e
-        ∙ ap (λ (xs : List DataSet). both (length xs))
-        (filter_alike (named_by table sets) (named_by table (set ∷ sets)) (λ s. rw e refl)
-        book.sets)
-    by true e kept taken =
-        let there : is_some (members_of table view set) ≡ is_some (members_in book.sets set.item) =
-        rw e (ap is_some (sym (b.members set.item))) in
-        let whole : count_named table (set ∷ sets) book
-        ≡ length (filter (λ s. bytes_eq set.item s.name || named_by table sets s) book.sets) =
-        ap (λ (xs : List DataSet). length xs)
-        (filter_alike (named_by table (set ∷ sets))
-        (λ s. bytes_eq set.item s.name || named_by table sets s) (λ s. rw e refl)
-        book.sets) in
-        ap (λ (c : Bool). one_deletion c false
-        (deletion_of table (own ordinal (deletes set) ∷ view) ordinal sets)) there
-        ∙ ap (λ (rest : Deletion). one_deletion (is_some (members_in book.sets set.item)) false
-        rest)
-        (taken e)
-        ∙ counted (is_some (members_in book.sets set.item))
-        (count_named table sets (deleted book set.item))
-        ∙ ap both (sym (whole ∙ split set.item (named_by table sets) book.sets b.once))
+    by : (c : Bool)
+        → one_deletion c false (both (matched_by (held tables view).domain sets
+        (left_behind (held tables view).domain book set)))
+        ≡ both (one_where c + matched_by (held tables view).domain sets
+        (left_behind (held tables view).domain book set))
+    by true = refl
+    by false = ap both (omega arith)
+
+-- ---- whether one is left
+
+is_left : (domain : List ℕ) (names : List ObjectName) (book : Book) (item : List ℕ)
+    → is_some (members_in (left_by domain names book).sets item)
+    ≡ (is_some (members_in book.sets item) && not (is_named_in domain names item))
+is_left domain [] book item = by (is_some (members_in book.sets item))
+  where
+    by : (b : Bool) → b ≡ (b && true)
+    by true = refl
+    by false = refl
+is_left domain (name ∷ names) book item =
+    is_left domain names (left_behind domain book name) item
+    ∙ by (same_scope name.scope (Domain domain))
+    (bytes_eq name.item item) (found_left item name.item book.sets (bytes_eq name.item item) refl)
+  where
+    by : (c d : Bool)
+        → members_in (filter (λ s. not (is_set_named name.item s)) book.sets) item
+        ≡ (if d then None else members_in book.sets item)
+        → (is_some (members_in (if c then deleted book name.item else book).sets item)
+        && not (is_named_in domain names item))
+        ≡ (is_some (members_in book.sets item)
+        && not ((c && d) || is_named_in domain names item))
+    by false d gone = refl
+    by true false gone = rw gone refl
+    by true true gone = rw gone (none (is_some (members_in book.sets item)))
+      where
+        none : (b : Bool) → false ≡ (b && false)
+        none true = refl
+        none false = refl
+
+pub is_gone : (domain : List ℕ) (names : List ObjectName) (book : Book) (item : List ℕ)
+    → is_named_in domain names item ≡ true
+    → false ≡ is_some (members_in (left_by domain names book).sets item)
+is_gone domain names book item named =
+    by (is_some (members_in book.sets item))
+    ∙ ap (λ (b : Bool). is_some (members_in book.sets item) && not b) (sym named)
+    ∙ sym (is_left domain names book item)
+  where
+    by : (b : Bool) → false ≡ (b && false)
+    by true = refl
+    by false = refl
+
+pub is_kept : (domain : List ℕ) (names : List ObjectName) (book : Book) (item : List ℕ)
+    → is_named_in domain names item ≡ false
+    → is_some (members_in book.sets item)
+    ≡ is_some (members_in (left_by domain names book).sets item)
+is_kept domain names book item apart =
+    by (is_some (members_in book.sets item))
+    ∙ ap (λ (b : Bool). is_some (members_in book.sets item) && not b) (sym apart)
+    ∙ sym (is_left domain names book item)
+  where
+    by : (b : Bool) → b ≡ (b && true)
+    by true = refl
+    by false = refl

@@ -4,7 +4,7 @@ use Rattle.std.proofs.Common.{◌≡◌, ◌==◌, ℕ, zero, suc, ◌+◌, ◌<
 use Rattle.std.proofs.Common.{◌&&◌, List, [], ◌∷◌, ◌++◌, map, take, length, get_or, Bor}
 use Rattle.std.proofs.Common.{Option, Some, None, refl, sym, ap, ◌∙◌, arith, ⊎_elim, take_all}
 use Rattle.std.proofs.Common.{append-nil, append_assoc, subst}
-use Rattle.std.specs.Prelude.{if◌then◌else◌, filter, IsPermutation, ℤ}
+use Rattle.std.specs.Prelude.{if◌then◌else◌, filter, IsPermutation, ℤ, Result, IfOk}
 use Rattle.std.specs.Ordering.{int_eq}
 use Rattle.std.specs.List.{All, filter_map, cons_option, list_all}
 use Rattle.std.proofs.lemmas.Bool.{cases_lt, false≢true, and_parts}
@@ -19,20 +19,21 @@ use Rattle.data_sets.specs.declared.book.DataSet.{DataSet}
 use Rattle.data_sets.specs.Books.{Book}
 use Rattle.bilateral.specs.declared.rows.See.{See}
 use Rattle.table_words.specs.Words.{is_name, is_identifier}
-use Rattle.bilateral.specs.Rows.{CentreRows, IsCentre, no_point, table_of}
+use Rattle.bilateral.specs.Rows.{CentreRows, IsCentre, IsTable, no_point}
 use Rattle.table_words.proofs.VisibleWords.{IsVisible-from_name, IsVisible-from_identifier}
 use Rattle.tase_views.specs.declared.call.TheConstants.{NAMED_VARIABLES, NAMED_VARIABLE_LISTS}
 use Rattle.tase_views.specs.declared.call.TheConstants.{DOMAINS}
+use Rattle.tase_views.specs.declared.reply.ReplyKind.{ReplyKind}
 use Rattle.tase_views.specs.declared.reply.ReplyKind.TheVariants.{Error}
 use Rattle.tase_views.specs.declared.reply.TheConstants.{NAMES_LIMIT, ACCESS_ERRORS, ACCESS_DENIED}
-use Rattle.tase_views.specs.OwnTable.{OwnTable, own_point, own_table, is_scope_of}
-use Rattle.tase_views.specs.Objects.{NamedObject, special_objects, point_object, own_objects}
-use Rattle.tase_views.specs.View.{View}
+use Rattle.tase_views.specs.OwnTables.{OwnTable, OwnTables, own_point, is_scope_of}
+use Rattle.tase_views.specs.Objects.{NamedObject, special_objects, point_object, objects}
+use Rattle.tase_views.specs.View.{View, held}
 use Rattle.tase_views.specs.Answers.{set_names}
 use Rattle.tase_views.specs.NameLists.{is_after, variables_in, is_foreign, is_vmd, in_order}
 use Rattle.tase_views.specs.NameLists.{first_of, names_listed}
+use Rattle.node_core.specs.Found.{TableInForce, offered}
 use Rattle.node_core.specs.SetsKept.{IsBook}
-use Rattle.node_core.proofs.Known.{table_is_lawful}
 use Rattle.node_core.proofs.SetNames.{book_names, names_ordered}
 use Rattle.node_core.proofs.OwnObjects.{specials_in}
 
@@ -91,20 +92,19 @@ abbrev pub specials_listed : OwnTable → Scope → Option (List ℕ) → List (
 specials_listed table scope after = filter (is_after after) (specials_in table scope)
 
 -- the variables of a scope that stand in the list: those of the protocol itself, and row by row
-pub variables-listed : (rows : CentreRows) (peer : ℕ) (scope : Scope) (after : Option (List ℕ))
-    → filter (is_after after) (variables_in (own_table rows peer)
-    (own_objects (own_table rows peer)) scope)
-    ≡ specials_listed (own_table rows peer) scope after
-    ++ filter_map (row_listed rows (own_table rows peer) scope after) (table_of rows peer).sees
-variables-listed rows peer scope after =
-    let table = own_table rows peer in
-    let sees = (table_of rows peer).sees in
+pub variables-listed : (t : TableInForce) (scope : Scope) (after : Option (List ℕ))
+    → filter (is_after after) (variables_in (offered t) (objects (offered t)) scope)
+    ≡ specials_listed (offered t) scope after
+    ++ filter_map (row_listed t.rows (offered t) scope after) t.table.sees
+variables-listed t scope after =
+    let table = offered t in
+    let sees = t.table.sees in
     ap (filter (is_after after))
-    (variables-append table scope (special_objects table) (points_of rows sees))
+    (variables-append table scope (special_objects table) (points_of t.rows sees))
     ∙ filter-append (is_after after) (specials_in table scope)
-    (variables_in table (points_of rows sees) scope)
+    (variables_in table (points_of t.rows sees) scope)
     ∙ ap (λ (names : List (List ℕ)). specials_listed table scope after ++ names)
-    (listed_rows rows table scope after sees)
+    (listed_rows t.rows table scope after sees)
 
 -- names that were appended, where they stand in the list
 pub filtered_twice : (test : List ℕ → Bool) (some more names all : List (List ℕ))
@@ -218,18 +218,17 @@ specials_listed-named table scope after =
     (specials_named table)))
 
 -- each of the variables that stand in the list has an identifier
-pub variables-named : (rows : CentreRows) (peer : ℕ) (scope : Scope) (after : Option (List ℕ))
-    → IsCentre rows → peer < length rows.tables
-    → All IsIdentifier (filter (is_after after) (variables_in (own_table rows peer)
-    (own_objects (own_table rows peer)) scope))
-variables-named rows peer scope after lawful there =
+pub variables-named : (t : TableInForce) (scope : Scope) (after : Option (List ℕ))
+    → IsCentre t.rows → IsTable (length t.rows.points) t.table
+    → All IsIdentifier (filter (is_after after)
+    (variables_in (offered t) (objects (offered t)) scope))
+variables-named t scope after lawful own =
     subst (λ (names : List (List ℕ)). All IsIdentifier names)
-    (sym (variables-listed rows peer scope after))
-    (All-append IsIdentifier (specials_listed (own_table rows peer) scope after)
-    (filter_map (row_listed rows (own_table rows peer) scope after) (table_of rows peer).sees)
-    (specials_listed-named (own_table rows peer) scope after)
-    (rows_named rows (own_table rows peer) scope after (table_of rows peer).sees lawful
-    (table_is_lawful rows peer lawful there).known))
+    (sym (variables-listed t scope after))
+    (All-append IsIdentifier (specials_listed (offered t) scope after)
+    (filter_map (row_listed t.rows (offered t) scope after) t.table.sees)
+    (specials_listed-named (offered t) scope after)
+    (rows_named t.rows (offered t) scope after t.table.sees lawful own.known))
 
 -- so has each data set of a book, where its scope is the domain
 pub sets-named : (here : Bool) (sets : List DataSet) (after : Option (List ℕ))
@@ -241,21 +240,14 @@ sets-named true sets after named =
 sets-named false sets after named = All-nil IsIdentifier
 
 -- so has the domain
-pub domain-named : (rows : CentreRows) (peer : ℕ) (after : Option (List ℕ)) → IsCentre rows
-    → peer < length rows.tables
-    → All IsIdentifier (filter (is_after after) ((own_table rows peer).domain ∷ []))
-domain-named rows peer after lawful there =
-    chosen (is_after after (own_table rows peer).domain)
+pub domain-named : (domain : List ℕ) (after : Option (List ℕ)) → is_identifier domain ≡ true
+    → All IsIdentifier (filter (is_after after) (domain ∷ []))
+domain-named domain after named = chosen (is_after after domain)
   where
-    word : IsIdentifier (own_table rows peer).domain
-    word = IsIdentifier-word (own_table rows peer).domain
-        (table_is_lawful rows peer lawful there).domain
-
-    chosen : (b : Bool)
-        → All IsIdentifier (if b then (own_table rows peer).domain ∷ [] else [])
-    chosen true = All-cons IsIdentifier (own_table rows peer).domain [] word
-        (λ k d within. absurd (omega (arith, within)))
-    chosen false = λ k d within. absurd (omega (arith, within))
+    chosen : (b : Bool) → All IsIdentifier (if b then domain ∷ [] else [])
+    chosen true = All-cons IsIdentifier domain [] (IsIdentifier-word domain named)
+        (All-nil IsIdentifier)
+    chosen false = All-nil IsIdentifier
 
 -- ---- the first names of a list
 
@@ -329,21 +321,37 @@ module _ (table : OwnTable) (objects : List NamedObject) (sets : List (List ℕ)
       (if is_scope_of table scope false then sets else [])))
   listed_lists other apart here = rw (own, other, apart, here) refl
 
+-- what is listed by the table in force
+pub listed_in_force : {E : Type 0} (result : Result ReplyKind E) (told : ReplyKind)
+    (t : TableInForce) (tables : OwnTables) (view : View) (class : ℤ) (scope : Scope)
+    (after : Option (List ℕ)) → offered t ≡ held tables view
+    → told
+    ≡ names_listed (offered t) (objects (offered t)) (set_names tables view) class scope after
+    → IfOk result (λ reply. reply ≡ told)
+    → IfOk result (λ reply. reply
+    ≡ names_listed (held tables view) (objects (held tables view)) (set_names tables view) class
+    scope after)
+listed_in_force result told t tables view class scope after in_force is given =
+    subst (λ (kind : ReplyKind). IfOk result (λ reply. reply ≡ kind))
+    (is ∙ ap (λ (table : OwnTable). names_listed table (objects table) (set_names tables view) class
+    scope after) in_force) given
+
 -- the data sets that a book has are listed as those that the view shows
-pub listed_sets : (table : OwnTable) (view : View) (book : Book) (objects : List NamedObject)
-    (class : ℤ) (scope : Scope) (after : Option (List ℕ)) → IsBook table view book
+pub listed_sets : (table : OwnTable) (tables : OwnTables) (view : View) (book : Book)
+    (objects : List NamedObject) (class : ℤ) (scope : Scope) (after : Option (List ℕ))
+    → IsBook tables view book
     → is_foreign table scope ≡ false → int_eq class NAMED_VARIABLES ≡ false
     → (int_eq class DOMAINS && is_vmd scope) ≡ false → int_eq class NAMED_VARIABLE_LISTS ≡ true
-    → first_of (in_order (if is_scope_of table scope false
+    → names_listed table objects (set_names tables view) class scope after
+    ≡ first_of (in_order (if is_scope_of table scope false
     then filter (is_after after) (book_names book.sets) else []))
-    ≡ names_listed table objects (set_names table view) class scope after
-listed_sets table view book objects class scope after b own other apart here =
-    by (is_scope_of table scope false)
-    ∙ sym (listed_lists table objects (set_names table view) class scope after own other apart here)
+listed_sets table tables view book objects class scope after b own other apart here =
+    listed_lists table objects (set_names tables view) class scope after own other apart here
+    ∙ sym (by (is_scope_of table scope false))
   where
     by : (found : Bool)
         → first_of (in_order (if found then filter (is_after after) (book_names book.sets) else []))
         ≡ first_of (in_order (filter (is_after after)
-        (if found then set_names table view else [])))
-    by true = ap first_of (names_ordered table view book (is_after after) b)
+        (if found then set_names tables view else [])))
+    by true = ap first_of (names_ordered tables view book (is_after after) b)
     by false = refl

@@ -9,13 +9,13 @@ use Rattle.sbo_device.specs.declared.key.Key.{Key}
 use Rattle.tase_views.specs.declared.call.CallKind.{CallKind}
 use Rattle.tase_views.specs.declared.event.EventKind.{EventKind}
 use Rattle.tase_views.specs.declared.event.EventKind.TheVariants.{Open, Request, Take, Close}
-use Rattle.tase_views.specs.declared.event.EventKind.TheVariants.{Update, Stop}
+use Rattle.tase_views.specs.declared.event.EventKind.TheVariants.{Update, Table, Stop}
 use Rattle.tase_views.specs.declared.reply.ReplyKind.{ReplyKind}
 use Rattle.tase_views.specs.declared.reply.Answer.TheVariants.{Opened, Reply, Reports, Closed}
 use Rattle.tase_views.specs.declared.reply.Answer.TheVariants.{Noted}
 use Rattle.tase_views.specs.Setup.{Setup}
 use Rattle.tase_views.specs.History.{Past, association_in, next_key}
-use Rattle.tase_views.specs.OwnTable.{own_table}
+use Rattle.tase_views.specs.OwnTables.{own_tables}
 use Rattle.tase_views.specs.View.{view_of}
 use Rattle.tase_views.specs.Answers.{reply_to}
 use Rattle.tase_views.specs.Outcomes.{answer_by, IsAnswer}
@@ -44,6 +44,11 @@ answer_by-update : (rows : CentreRows) (past : Past) (point : ℕ) (value : Samp
 answer_by-update rows past point value None = refl
 answer_by-update rows past point value (Some key) = refl
 
+answer_by-table : (rows : CentreRows) (past : Past) (peer variant : ℕ) (key : Option Key)
+    → Noted ≡ answer_by rows past (Table peer variant) key
+answer_by-table rows past peer variant None = refl
+answer_by-table rows past peer variant (Some key) = refl
+
 answer_by-stop : (rows : CentreRows) (past : Past) (key : Option Key)
     → Noted ≡ answer_by rows past Stop key
 answer_by-stop rows past None = refl
@@ -53,6 +58,11 @@ pub IsAnswer-update : (setup : Setup) (past : Past) (who point : ℕ) (value : S
     (event : EventKind) → event ≡ Update point value → IsAnswer setup past who event Noted
 IsAnswer-update setup past who point value event is =
     rw is (answer_by-update setup.centre past point value (association_in past who))
+
+pub IsAnswer-table : (setup : Setup) (past : Past) (who peer variant : ℕ) (event : EventKind)
+    → event ≡ Table peer variant → IsAnswer setup past who event Noted
+IsAnswer-table setup past who peer variant event is =
+    rw is (answer_by-table setup.centre past peer variant (association_in past who))
 
 pub IsAnswer-stop : (setup : Setup) (past : Past) (who : ℕ) (event : EventKind) → event ≡ Stop
     → IsAnswer setup past who event Noted
@@ -75,7 +85,7 @@ IsAnswer-close setup past who event is there =
 pub IsAnswer-request : (setup : Setup) (past : Past) (who : ℕ) (event : EventKind)
     (call : CallKind) (key : Key) (reply : ReplyKind) → event ≡ Request call
     → association_in past who ≡ Some key
-    → reply ≡ reply_to (own_table setup.centre key.peer) (view_of setup.centre key.peer past)
+    → reply ≡ reply_to (own_tables setup.centre key.peer) (view_of setup.centre key.peer past)
     key.ordinal call
     → IsAnswer setup past who event (Reply reply)
 IsAnswer-request setup past who event call key reply is there reply_is =

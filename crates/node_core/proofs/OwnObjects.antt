@@ -1,20 +1,19 @@
 -- What a name stands for: an object of the protocol itself, or a point of the table.
 use Rattle.std.proofs.Common.{◌≡◌, ℕ, Bool, true, false, not, ◌&&◌, List, [], map, Option}
-use Rattle.std.proofs.Common.{Some, None, is_some, Bor, bytes_eq, refl, sym, ap, ◌∙◌}
+use Rattle.std.proofs.Common.{Some, None, bytes_eq, refl, sym, ap, ◌∙◌}
 use Rattle.std.specs.List.{find, filter}
-use Rattle.std.specs.Option.{option_map, option_or, MatchOption}
+use Rattle.std.specs.Option.{option_map, option_or}
 use Rattle.std.proofs.lemmas.Bool.{false≢true, true≢false}
 use Rattle.std.proofs.lemmas.List.Folds.{find-append}
 use Rattle.mms_data.specs.declared.object_name.Scope.{Scope}
 use Rattle.mms_data.specs.declared.object_name.Scope.TheVariants.{Vmd, Domain, Association}
 use Rattle.mms_data.specs.ObjectName.{ObjectName}
-use Rattle.bilateral.specs.declared.rows.See.{See}
-use Rattle.tase_views.specs.OwnTable.{OwnPoint, OwnTable, is_scope_of, point_named}
+use Rattle.tase_views.specs.OwnTables.{OwnPoint, OwnTable, is_scope_of}
 use Rattle.tase_views.specs.Objects.{Object, NamedObject, indication_point, special_objects}
 use Rattle.tase_views.specs.Objects.{named_by, report_variables, point_object, is_named}
-use Rattle.tase_views.specs.Objects.{own_object, is_member}
+use Rattle.tase_views.specs.Objects.{object_named}
 use Rattle.node_core.specs.declared.naming.Special.{Special}
-use Rattle.node_core.specs.Found.{special_object}
+use Rattle.node_core.specs.Found.{TableInForce, offered, special_object, point_named}
 use Rattle.node_core.proofs.Names.{find-map}
 
 or_mapped : {X Y : Type 0} (f : X → Y) (a b : Option X)
@@ -33,10 +32,12 @@ abbrev pub special_named : OwnTable → ObjectName → Option Object
 special_named table name =
     option_map (λ o. o.object) (find (is_named table name) (special_objects table))
 
-own_object-parts : (table : OwnTable) (name : ObjectName)
-    → own_object table name
-    ≡ option_or (special_named table name) (option_map indication_point (point_named table name))
-own_object-parts table name =
+object_named-parts : (t : TableInForce) (name : ObjectName)
+    → object_named (offered t) name
+    ≡ option_or (special_named (offered t) name)
+    (option_map indication_point (point_named (offered t) name))
+object_named-parts t name =
+    let table : OwnTable = offered t in
     let test : NamedObject → Bool = is_named table name in
     let points : List NamedObject = map point_object table.points in
     ap (option_map (λ (o : NamedObject). o.object))
@@ -48,23 +49,33 @@ own_object-parts table name =
     (find-map point_object test (λ p. test (point_object p)) table.points (λ k d h. refl))
     ∙ ap (option_or (special_named table name)) (object_of_point (point_named table name))
 
--- an object of the protocol itself, where one has the name
-pub own_object-special : (table : OwnTable) (name : ObjectName) (found : Option Special)
-    (special : Special) → option_map (special_object table) found ≡ special_named table name
-    → found ≡ Some special → own_object table name ≡ Some (special_object table special)
-own_object-special table name found special named is =
-    own_object-parts table name
-    ∙ ap (λ (o : Option Object). option_or o (option_map indication_point (point_named table name)))
-    (sym named ∙ ap (option_map (special_object table)) is)
+module _ (t : TableInForce) (name : ObjectName) (found : Option Special)
+    (named : option_map (special_object (offered t)) found ≡ special_named (offered t) name) where
+  parts_by : object_named (offered t) name
+      ≡ option_or (option_map (special_object (offered t)) found)
+      (option_map indication_point (point_named (offered t) name))
+  parts_by =
+      object_named-parts t name
+      ∙ ap (λ (o : Option Object). option_or o
+      (option_map indication_point (point_named (offered t) name))) (sym named)
 
--- else a point of the table
-pub own_object-point : (table : OwnTable) (name : ObjectName) (found : Option Special)
-    → option_map (special_object table) found ≡ special_named table name → found ≡ None
-    → own_object table name ≡ option_map indication_point (point_named table name)
-own_object-point table name found named is =
-    own_object-parts table name
-    ∙ ap (λ (o : Option Object). option_or o (option_map indication_point (point_named table name)))
-    (sym named ∙ ap (option_map (special_object table)) is)
+  -- an object of the protocol itself, where one has the name
+  pub object_named-special : (special : Special) → found ≡ Some special
+      → Some (special_object (offered t) special) ≡ object_named (offered t) name
+  object_named-special special is =
+      sym (parts_by ∙ ap (λ (o : Option Special). option_or
+      (option_map (special_object (offered t)) o)
+      (option_map indication_point (point_named (offered t) name))) is)
+
+  -- else a point of the table
+  pub object_named-point : (point : Option OwnPoint) → found ≡ None
+      → point ≡ point_named (offered t) name
+      → option_map indication_point point ≡ object_named (offered t) name
+  object_named-point point is point_is =
+      ap (option_map indication_point) point_is
+      ∙ sym (parts_by ∙ ap (λ (o : Option Special). option_or
+      (option_map (special_object (offered t)) o)
+      (option_map indication_point (point_named (offered t) name))) is)
 
 -- ---- the protocol's own objects in the whole device and in the domain
 
@@ -143,17 +154,3 @@ reports_alike item =
     ap (option_map (λ (o : NamedObject). o.object))
     (find-map in_domain test test (report_variables true) (λ k d h. refl))
     ∙ found_in_domain (find test (report_variables true))
-
--- ---- what a row that was found says of the object
-
-pub named_there : (found : Option (Bor See)) (named : Option OwnPoint) (own : See → OwnPoint)
-    → MatchOption found (named ≡ None) (λ see. named ≡ Some (own see.now))
-    → is_some found ≡ is_some (option_map indication_point named)
-named_there None named own e = rw e refl
-named_there (Some see) named own e = rw e refl
-
-pub named_member : (found : Option (Bor See)) (named : Option OwnPoint) (own : See → OwnPoint)
-    → MatchOption found (named ≡ None) (λ see. named ≡ Some (own see.now))
-    → is_some found ≡ is_member (option_map indication_point named)
-named_member None named own e = rw e refl
-named_member (Some see) named own e = rw e refl

@@ -1,11 +1,11 @@
 -- What a node's log keeps of its weight and of the room in it stays right.
-use Rattle.std.proofs.Common.{◌≡◌, ℕ, ◌+◌, ◌*◌, ◌≤◌, false, ◌∷◌, length, Option, Some}
+use Rattle.std.proofs.Common.{◌≡◌, ℕ, ◌+◌, ◌*◌, ◌≤◌, true, false, ◌∷◌, length, Option, Some}
 use Rattle.std.proofs.Common.{None, refl, ap, ◌∙◌, arith}
 use Rattle.std.proofs.lemmas.Bool.{true≢false}
 use Rattle.std.specs.Prelude.{if◌then◌else◌, vec_len, vec_capacity}
 use Rattle.tase_views.specs.declared.event.EventKind.{EventKind}
 use Rattle.tase_views.specs.declared.event.EventKind.TheVariants.{Open, Request, Take, Close}
-use Rattle.tase_views.specs.declared.event.EventKind.TheVariants.{Update, Stop}
+use Rattle.tase_views.specs.declared.event.EventKind.TheVariants.{Update, Table, Stop}
 use Rattle.tase_views.specs.History.{is_stop}
 use Rattle.tase_views.specs.Outcomes.{is_ending}
 use Rattle.tase_views.specs.Weights.{weight, weight_of}
@@ -82,6 +82,9 @@ HasRoom-appended old new who Take before behind a r seats may =
 HasRoom-appended old new who (Update point value) before behind a r seats may =
     HasRoom-within old new who (Update point value) before behind a r may
     (omega (arith, seats, r.opened))
+HasRoom-appended old new who (Table peer variant) before behind a r seats may =
+    HasRoom-within old new who (Table peer variant) before behind a r may
+    (omega (arith, seats, r.opened))
 HasRoom-appended old new who Close before behind a r seats may =
     let left : stops_left new.stop ≡ stops_left old.stop = ap stops_left a.stop in
     HasRoom-of old new who Close before behind a r
@@ -109,5 +112,7 @@ MayAppend-reserved old new Take seats other limit items fits reserved =
     (rw (limit, items) fits, reserved)
 MayAppend-reserved old new Close seats other limit items fits reserved = tt
 MayAppend-reserved old new (Update point value) seats other limit items fits reserved =
+    (rw (limit, items) fits, reserved)
+MayAppend-reserved old new (Table peer variant) seats other limit items fits reserved =
     (rw (limit, items) fits, reserved)
 MayAppend-reserved old new Stop seats other limit items fits reserved = absurd (true≢false other)

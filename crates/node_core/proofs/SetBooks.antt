@@ -1,43 +1,64 @@
--- The data sets that a book keeps behind one act more of its peer.
-use Rattle.std.proofs.Common.{◌≡◌, ◌≢◌, ℕ, ◌<◌, ltb, leb, Bool, true, false, not, ◌&&◌, ◌||◌}
-use Rattle.std.proofs.Common.{List, [], ◌∷◌, ◌++◌, map, reverse, length, Option, Some, None}
-use Rattle.std.proofs.Common.{is_some, bytes_eq, refl, sym, ap, subst, ◌∙◌, arith, length-append}
+-- The data sets that a book keeps behind one more move that its peer sees.
+use Rattle.std.proofs.Common.{◌≡◌, ◌≢◌, ◌==◌, ℕ, ◌+◌, ◌<◌, ◌≤◌, ltb, leb, Bool, true, false, not}
+use Rattle.std.proofs.Common.{◌&&◌, List, [], ◌∷◌, ◌++◌, length, Option, Some, None, is_some}
+use Rattle.std.proofs.Common.{bytes_eq, refl, sym, ap, subst, ◌∙◌, arith, length-append}
 use Rattle.std.specs.Prelude.{if◌then◌else◌}
-use Rattle.std.specs.List.{All, filter, find, list_all}
+use Rattle.std.specs.List.{All, filter, find}
 use Rattle.std.specs.Option.{option_map}
-use Rattle.std.proofs.lemmas.Bool.{false≢true, true≢false, or_parts, leb-false}
-use Rattle.std.proofs.lemmas.Option.{none-some, same_Some}
-use Rattle.std.proofs.lemmas.List.Elements.{All-nil, All-cons, All-head, All-tail, All-append}
-use Rattle.std.proofs.lemmas.List.Elements.{All-filter}
+use Rattle.std.proofs.lemmas.Bool.{false≢true, true≢false, or_parts, leb-false, eq-eqb}
+use Rattle.std.proofs.lemmas.Option.{none-some}
+use Rattle.std.proofs.lemmas.List.Elements.{All-nil, All-cons, All-append, All-filter}
 use Rattle.std.proofs.lemmas.List.Filters.{length-filter_both}
 use Rattle.std.proofs.lemmas.List.Kept.{AllPairs-filter}
 use Rattle.std.proofs.lemmas.List.Quantifiers.{all_pairs_push}
 use Rattle.std.proofs.lemmas.Slice.Eq.{bytes_eq-Decides}
 use Rattle.mms_data.specs.declared.object_name.Scope.TheVariants.{Domain}
 use Rattle.mms_data.specs.ObjectName.{ObjectName, IsIdentifier, same_scope}
-use Rattle.table_words.specs.Words.{is_identifier}
 use Rattle.data_sets.specs.declared.book.DataSet.{DataSet}
 use Rattle.data_sets.specs.declared.book.TheConstants.{MOST_MEMBERS}
 use Rattle.data_sets.specs.Books.{Book, is_set_named, members_in, defined, deleted}
-use Rattle.tase_views.specs.declared.reply.TheConstants.{ACCESS_ERRORS, ACCESS_DENIED}
-use Rattle.tase_views.specs.declared.reply.TheConstants.{DEFINITION_ERRORS, UNDEFINED, EXISTS}
-use Rattle.tase_views.specs.declared.reply.TheConstants.{RESOURCE_ERRORS, OTHER}
-use Rattle.tase_views.specs.declared.reply.ReplyKind.TheVariants.{Defined, MembersAre}
-use Rattle.tase_views.specs.OwnTable.{OwnTable}
-use Rattle.tase_views.specs.Objects.{own_object, is_member}
-use Rattle.tase_views.specs.View.{defines, deletes, View, own}
-use Rattle.tase_views.specs.Sets.{SetError, error_of, define_fault, sets_in, members_of}
-use Rattle.tase_views.specs.Replies.{IsReply}
-use Rattle.tase_views.specs.Answers.{set_replied, define_replied}
-use Rattle.node_core.specs.SetsKept.{IsBook, left_by}
-use Rattle.node_core.proofs.SetNames.{names_counted}
-use Rattle.node_core.proofs.SetViews.{IsBook-alike, reversed_seen}
+use Rattle.tase_views.specs.OwnTables.{OwnTables, table_in}
+use Rattle.tase_views.specs.Moves.{Act, defines, deletes}
+use Rattle.tase_views.specs.View.{View, Seen, own, force, held, keeps_force}
+use Rattle.tase_views.specs.Sets.{SetError, define_fault, set_behind}
+use Rattle.tase_views.specs.Slots.{is_wished, sets_in, slot_moves}
+use Rattle.node_core.specs.SetsKept.{IsBook, left_behind}
+use Rattle.node_core.specs.PeerParts.{fault_in, book_defined, IsLawfulAct}
+use Rattle.node_core.proofs.Faults.{is_own, exceeds, fits, fault_told, faultless}
+
+-- ---- moves that leave the data sets
+
+-- where the same table is in force and no other data sets are shown, the book is as before
+pub IsBook-still : (tables : OwnTables) (view : View) (seen : Seen) (book : Book)
+    → force (seen ∷ view) ≡ force view
+    → ((name : List ℕ) → sets_in tables (seen ∷ view) name
+    ≡ (if keeps_force seen view then sets_in tables view name else None))
+    → IsBook tables view book → IsBook tables (seen ∷ view) book
+IsBook-still tables view seen book same shown b = record {
+  limit = b.limit ∙ sym (ap (λ (n : ℕ). (table_in tables n).sets) same);
+  few = subst (λ (n : ℕ). length book.sets ≤ (table_in tables n).sets) (sym same) b.few;
+  members = λ name. b.members name
+      ∙ sym (shown name ∙ rw (eq-eqb (force (seen ∷ view)) (force view) same) refl);
+  once = b.once;
+  named = b.named;
+  some = b.some;
+}
+
+-- what is shown behind an act, where the same table is in force
+set_shown : (tables : OwnTables) (view : View) (ordinal : ℕ) (act : Act) (name : List ℕ)
+    → force (own ordinal act ∷ view) ≡ force view
+    → sets_in tables (own ordinal act ∷ view) name
+    ≡ set_behind (held tables view) (is_wished (held tables view) (slot_moves tables view))
+    (sets_in tables view) view act name
+set_shown tables view ordinal act name same =
+    rw (eq-eqb (force (own ordinal act ∷ view)) (force view) same) refl
+
+-- ---- definitions
 
 abbrev new_set : List ℕ → List ObjectName → DataSet
 new_set name members = record { name = name; members = members }
 
--- ---- one data set more at the end
-
+-- one data set more at the end
 found_behind : (name : List ℕ) (sets : List DataSet) (new : DataSet) (b : Bool)
     → bytes_eq new.name name ≡ b → members_in sets name ≡ None
     → members_in (sets ++ new ∷ []) name ≡ (if b then Some new.members else None)
@@ -73,9 +94,130 @@ found_before name (set ∷ sets) new e =
     by true rest = refl
     by false rest = rest
 
--- ---- all but those with a name
+no_members : (found : Option (List ObjectName)) → is_some found ≡ false → found ≡ None
+no_members None e = refl
+no_members (Some members) e = absurd (true≢false e)
 
-found_left : (name : List ℕ) (gone : List ℕ) (sets : List DataSet) (b : Bool)
+-- where no data set has a name, all have others
+others_named : (name : List ℕ) (sets : List DataSet) → members_in sets name ≡ None
+    → All (λ (s : DataSet). s.name ≢ name) sets
+others_named name [] none = All-nil (λ (s : DataSet). s.name ≢ name)
+others_named name (set ∷ sets) none =
+    by (bytes_eq set.name name) refl none (others_named name sets)
+  where
+    by : (c : Bool) → bytes_eq set.name name ≡ c
+        → option_map (λ (s : DataSet). s.members) (if c then Some set else find (is_set_named name)
+        sets)
+        ≡ None
+        → (members_in sets name ≡ None → All (λ (s : DataSet). s.name ≢ name) sets)
+        → All (λ (s : DataSet). s.name ≢ name) (set ∷ sets)
+    by true same n rest = absurd (none-some set.members (sym n))
+    by false other n rest =
+        All-cons (λ (s : DataSet). s.name ≢ name) set sets
+        (λ same. false≢true (sym other ∙ (bytes_eq-Decides set.name name).1 same)) (rest n)
+
+-- the book refuses a definition as the view does
+pub fault_alike : (tables : OwnTables) (view : View) (book : Book) (set : ObjectName)
+    (members : List ObjectName) → IsBook tables view book
+    → define_fault (held tables view) (sets_in tables view) view set members
+    ≡ fault_in (held tables view) book set members
+fault_alike tables view book set members b =
+    let table = held tables view in
+    fault_told table tables view book set members (is_own table set)
+    (is_some (members_in book.sets set.item)) (exceeds table book members) (fits table members)
+    refl refl refl refl b
+
+module _ (tables : OwnTables) (view : View) (book : Book) (ordinal : ℕ) (set : ObjectName)
+    (members : List ObjectName) (b : IsBook tables view book) where
+  -- one data set more in a book in which there is room for it
+  added : define_fault (held tables view) (sets_in tables view) view set members ≡ None
+      → members_in book.sets set.item ≡ None → length book.sets < (held tables view).sets
+      → IsLawfulAct (defines set members)
+      → IsBook tables (own ordinal (defines set members) ∷ view)
+      (record book { sets = book.sets ++ new_set set.item members ∷ [] })
+  added fault none room lawful = record {
+    limit = b.limit;
+    few = omega (arith, room, length-append book.sets (new_set set.item members ∷ []));
+    members = λ name. by name (bytes_eq set.item name) refl
+        ∙ sym (set_shown tables view ordinal (defines set members) name refl ∙ rw fault refl);
+    once = all_pairs_push (λ (x y : DataSet). x.name ≢ y.name) book.sets
+        (new_set set.item members) b.once (others_named set.item book.sets none);
+    named = All-append (λ (s : DataSet). IsIdentifier s.name) book.sets
+        (new_set set.item members ∷ []) b.named
+        (All-cons (λ (s : DataSet). IsIdentifier s.name) (new_set set.item members) [] lawful.0
+        (All-nil (λ (s : DataSet). IsIdentifier s.name)));
+    some = All-append (λ (s : DataSet). 0 < length s.members) book.sets
+        (new_set set.item members ∷ []) b.some
+        (All-cons (λ (s : DataSet). 0 < length s.members) (new_set set.item members) [] lawful.1
+        (All-nil (λ (s : DataSet). 0 < length s.members)));
+  }
+    where
+      by : (name : List ℕ) (c : Bool) → bytes_eq set.item name ≡ c
+          → members_in (book.sets ++ new_set set.item members ∷ []) name
+          ≡ (if c && true then Some members else sets_in tables view name)
+      by name true e =
+          let same : set.item ≡ name = (bytes_eq-Decides set.item name).0 e in
+          found_behind name book.sets (new_set set.item members) true e
+          (ap (members_in book.sets) (sym same) ∙ none)
+      by name false e =
+          found_before name book.sets (new_set set.item members) e ∙ b.members name
+
+  -- it is just what the book makes of a definition
+  defined-is : is_some (members_in book.sets set.item) ≡ false
+      → exceeds (held tables view) book members ≡ false
+      → defined book set.item members
+      ≡ record book { sets = book.sets ++ new_set set.item members ∷ [] }
+  defined-is free room =
+      let parts = or_parts (ltb MOST_MEMBERS (length members))
+      (leb (held tables view).sets (length book.sets)) room in
+      rw (free, b.limit, parts.0, parts.1) refl
+
+  defines_by : (fault : Option SetError)
+      → fault_in (held tables view) book set members ≡ fault → IsLawfulAct (defines set members)
+      → IsBook tables (own ordinal (defines set members) ∷ view)
+      (book_defined fault set members book)
+  -- one that has an error changes nothing
+  defines_by (Some error) e lawful =
+      IsBook-still tables view (own ordinal (defines set members)) book refl
+      (λ name. rw (fault_alike tables view book set members b ∙ e)
+      (by (bytes_eq set.item name) (sets_in tables view name) (force view == force view))) b
+    where
+      by : (c : Bool) (found : Option (List ObjectName)) (kept : Bool)
+          → (if kept then (if c && false then Some members else found) else None)
+          ≡ (if kept then found else None)
+      by true found true = refl
+      by false found true = refl
+      by true found false = refl
+      by false found false = refl
+  defines_by None e lawful =
+      let table = held tables view in
+      let there = is_some (members_in book.sets set.item) in
+      let passed = faultless (is_own table set) there (exceeds table book members)
+      (fits table members) e in
+      let room = or_parts (ltb MOST_MEMBERS (length members)) (leb table.sets (length book.sets))
+      passed.2 in
+      subst (λ (after : Book). IsBook tables (own ordinal (defines set members) ∷ view) after)
+      (sym (defined-is passed.1 passed.2))
+      (added (fault_alike tables view book set members b ∙ e)
+      (no_members (members_in book.sets set.item) passed.1)
+      (leb-false table.sets (length book.sets) room.1) lawful)
+
+-- a definition
+pub IsBook-defines : (tables : OwnTables) (view : View) (book : Book) (ordinal : ℕ)
+    (set : ObjectName) (members : List ObjectName) (variant : ℕ) → variant ≡ force view
+    → IsLawfulAct (defines set members) → IsBook tables view book
+    → IsBook tables (own ordinal (defines set members) ∷ view)
+    (book_defined (fault_in (table_in tables variant) book set members) set members book)
+IsBook-defines tables view book ordinal set members variant same lawful b =
+    subst (λ (n : ℕ). IsBook tables (own ordinal (defines set members) ∷ view)
+    (book_defined (fault_in (table_in tables n) book set members) set members book)) (sym same)
+    (defines_by tables view book ordinal set members b
+    (fault_in (held tables view) book set members) refl lawful)
+
+-- ---- deletions
+
+-- all but those with a name
+pub found_left : (name : List ℕ) (gone : List ℕ) (sets : List DataSet) (b : Bool)
     → bytes_eq gone name ≡ b
     → members_in (filter (λ set. not (is_set_named gone set)) sets) name
     ≡ (if b then None else members_in sets name)
@@ -108,249 +250,48 @@ found_left name gone (set ∷ sets) b e =
     by false true g n rest = rw (n, apart g n b refl) refl
     by false false g n rest = rw n rest
 
--- ---- why a data set isn't defined, by the book
+module _ (tables : OwnTables) (view : View) (book : Book) (ordinal : ℕ) (set : ObjectName)
+    (bare : (held tables view).slots ≡ 0) (b : IsBook tables view book) where
+  -- a name of the domain takes the data set with this name away
+  deleted_by : (c : Bool) → same_scope set.scope (Domain (held tables view).domain) ≡ c
+      → IsBook tables (own ordinal (deletes set) ∷ view)
+      (if c then deleted book set.item else book)
+  deleted_by true scope = record {
+    limit = b.limit;
+    few = omega (
+      arith,
+      length-filter_both (λ s. not (is_set_named set.item s))
+          (λ s. not (not (is_set_named set.item s))) (λ s. refl) book.sets,
+      b.few,
+    );
+    members = λ name. found_left name set.item book.sets (bytes_eq set.item name) refl
+        ∙ by name (bytes_eq set.item name)
+        ∙ sym (set_shown tables view ordinal (deletes set) name refl ∙ rw (scope, bare) refl);
+    once = AllPairs-filter (λ (x y : DataSet). x.name ≢ y.name)
+        (λ s. not (is_set_named set.item s)) book.sets b.once;
+    named = All-filter (λ s. not (is_set_named set.item s))
+        (λ (s : DataSet). IsIdentifier s.name) book.sets b.named;
+    some = All-filter (λ s. not (is_set_named set.item s))
+        (λ (s : DataSet). 0 < length s.members) book.sets b.some;
+  }
+    where
+      by : (name : List ℕ) (c : Bool)
+          → (if c then None else members_in book.sets name)
+          ≡ (if (true && c) && true then None else sets_in tables view name)
+      by name true = refl
+      by name false = b.members name
+  -- another name takes none away
+  deleted_by false scope =
+      IsBook-still tables view (own ordinal (deletes set)) book refl (λ name. rw scope refl) b
 
--- its name is none of the domain; it is there; there are too many; a member is none
-abbrev pub first_error : Bool → Bool → Bool → Bool → Option SetError
-first_error named there many fit =
-    if not named then error_of ACCESS_ERRORS ACCESS_DENIED
-    else (if there then error_of DEFINITION_ERRORS EXISTS
-    else (if many then error_of RESOURCE_ERRORS OTHER
-    else (if not fit then error_of DEFINITION_ERRORS UNDEFINED else None)))
-
-abbrev pub is_own : OwnTable → ObjectName → Bool
-is_own table set = same_scope set.scope (Domain table.domain) && is_identifier set.item
-
-abbrev pub exceeds : OwnTable → Book → List ObjectName → Bool
-exceeds table book members =
-    ltb MOST_MEMBERS (length members) || leb table.sets (length book.sets)
-
-abbrev pub fits : OwnTable → List ObjectName → Bool
-fits table members = list_all (λ member. is_member (own_object table member)) members
-
-pub fault_told : (table : OwnTable) (view : View) (book : Book) (set : ObjectName)
-    (members : List ObjectName) (named there many fit : Bool) → named ≡ is_own table set
-    → there ≡ is_some (members_in book.sets set.item) → many ≡ exceeds table book members
-    → fit ≡ fits table members → IsBook table view book
-    → define_fault table (sets_in table view) view set members ≡ first_error named there many fit
-fault_told table view book set members named there many fit n t m f b =
-    rw (n, t, m, f, b.members set.item, names_counted table view book b) refl
-
--- without an error each test is passed
-pub faultless : (named there many fit : Bool) → first_error named there many fit ≡ None
-    → (named ≡ true) × (there ≡ false) × (many ≡ false) × (fit ≡ true)
-faultless false there many fit e = absurd (none-some _ (sym e))
-faultless true true many fit e = absurd (none-some _ (sym e))
-faultless true false true fit e = absurd (none-some _ (sym e))
-faultless true false false false e = absurd (none-some _ (sym e))
-faultless true false false true e = (refl, refl, refl, refl)
-
--- a definition that isn't answered so has an error
-pub error_of_reply : (fault : Option SetError) → define_replied fault ≢ Defined
-    → (error : SetError) × (fault ≡ Some error)
-error_of_reply None other = absurd (other refl)
-error_of_reply (Some error) other = (error, refl)
-
-pub no_error_of_reply : (fault : Option SetError) → define_replied fault ≡ Defined → fault ≡ None
-no_error_of_reply None e = refl
-no_error_of_reply (Some error) e = absurd cc
-
--- ---- a book behind an act
-
--- a definition that has an error changes nothing
-pub IsBook-refused : (table : OwnTable) (view : View) (book : Book) (ordinal : ℕ) (set : ObjectName)
-    (members : List ObjectName) (error : SetError)
-    → define_fault table (sets_in table view) view set members ≡ Some error
-    → IsBook table view book → IsBook table (own ordinal (defines set members) ∷ view) book
-IsBook-refused table view book ordinal set members error fault b =
-    IsBook-alike table view (own ordinal (defines set members) ∷ view) book
-    (λ name. rw fault (by name (bytes_eq set.item name))) b
-  where
-    by : (name : List ℕ) (c : Bool)
-        → (if c && false then Some members else sets_in table view name) ≡ sets_in table view name
-    by name true = refl
-    by name false = refl
-
-no_members : (found : Option (List ObjectName)) → is_some found ≡ false → found ≡ None
-no_members None e = refl
-no_members (Some members) e = absurd (true≢false e)
-
--- where no data set has a name, all have others
-others_named : (name : List ℕ) (sets : List DataSet) → members_in sets name ≡ None
-    → All (λ (s : DataSet). s.name ≢ name) sets
-others_named name [] none = All-nil (λ (s : DataSet). s.name ≢ name)
-others_named name (set ∷ sets) none =
-    by (bytes_eq set.name name) refl none (others_named name sets)
-  where
-    by : (c : Bool) → bytes_eq set.name name ≡ c
-        → option_map (λ (s : DataSet). s.members) (if c then Some set else find (is_set_named name)
-        sets)
-        ≡ None
-        → (members_in sets name ≡ None → All (λ (s : DataSet). s.name ≢ name) sets)
-        → All (λ (s : DataSet). s.name ≢ name) (set ∷ sets)
-    by true same n rest = absurd (none-some set.members (sym n))
-    by false other n rest =
-        All-cons (λ (s : DataSet). s.name ≢ name) set sets
-        (λ same. false≢true (sym other ∙ (bytes_eq-Decides set.name name).1 same)) (rest n)
-
--- one data set more in a book in which there is room for it
-added : (table : OwnTable) (view : View) (book : Book) (ordinal : ℕ) (set : ObjectName)
-    (members : List ObjectName)
-    → define_fault table (sets_in table view) view set members ≡ None
-    → members_in book.sets set.item ≡ None → length book.sets < table.sets
-    → IsIdentifier set.item → 0 < length members
-    → IsBook table view book
-    → IsBook table (own ordinal (defines set members) ∷ view)
-    (record book { sets = book.sets ++ new_set set.item members ∷ [] })
-added table view book ordinal set members fault none room identifier some b = record {
-  limit = b.limit;
-  few = omega (arith, length-append book.sets (new_set set.item members ∷ []));
-  members = λ name. rw fault (by name (bytes_eq set.item name) refl);
-  once = all_pairs_push (λ (x y : DataSet). x.name ≢ y.name) book.sets (new_set set.item members)
-      b.once (others_named set.item book.sets none);
-  named = All-append (λ (s : DataSet). IsIdentifier s.name) book.sets
-      (new_set set.item members ∷ []) b.named
-      (All-cons (λ (s : DataSet). IsIdentifier s.name) (new_set set.item members) [] identifier
-      (All-nil (λ (s : DataSet). IsIdentifier s.name)));
-  some = All-append (λ (s : DataSet). 0 < length s.members) book.sets
-      (new_set set.item members ∷ []) b.some
-      (All-cons (λ (s : DataSet). 0 < length s.members) (new_set set.item members) [] some
-      (All-nil (λ (s : DataSet). 0 < length s.members)));
-}
-  where
-    by : (name : List ℕ) (c : Bool) → bytes_eq set.item name ≡ c
-        → members_in (book.sets ++ new_set set.item members ∷ []) name
-        ≡ (if c && true then Some members else sets_in table view name)
-    by name true e =
-        let same : set.item ≡ name = (bytes_eq-Decides set.item name).0 e in
-        found_behind name book.sets (new_set set.item members) true e
-        (ap (members_in book.sets) (sym same) ∙ none)
-    by name false e =
-        found_before name book.sets (new_set set.item members) e ∙ b.members name
-
--- it is just what the book makes of a definition
-defined-is : (table : OwnTable) (view : View) (book : Book) (set : ObjectName)
-    (members : List ObjectName) → IsBook table view book
-    → is_some (members_in book.sets set.item) ≡ false → exceeds table book members ≡ false
-    → defined book set.item members
-    ≡ record book { sets = book.sets ++ new_set set.item members ∷ [] }
-defined-is table view book set members b free room =
-    let parts = or_parts (ltb MOST_MEMBERS (length members)) (leb table.sets (length book.sets))
-    room
-    in
-    rw (free, b.limit, parts.0, parts.1) refl
-
--- a definition that has no error
-pub IsBook-defined : (table : OwnTable) (view : View) (book : Book) (ordinal : ℕ) (set : ObjectName)
-    (members : List ObjectName)
-    → define_fault table (sets_in table view) view set members ≡ None → IsIdentifier set.item
-    → 0 < length members → IsBook table view book
-    → IsBook table (own ordinal (defines set members) ∷ view) (defined book set.item members)
-IsBook-defined table view book ordinal set members fault identifier some b =
-    let there : Bool = is_some (members_in book.sets set.item) in
-    let parts = faultless (is_own table set) there (exceeds table book members) (fits table members)
-    (sym (fault_told table view book set members (is_own table set) there
-    (exceeds table book members) (fits table members) refl refl refl refl b) ∙ fault) in
-    let room = or_parts (ltb MOST_MEMBERS (length members)) (leb table.sets (length book.sets))
-    parts.2 in
-    let P : Book → Type 0 = λ after. IsBook table (own ordinal (defines set members) ∷ view) after
-    in
-    subst P (sym (defined-is table view book set members b parts.1 parts.2))
-    (added table view book ordinal set members fault
-    (no_members (members_in book.sets set.item) parts.1)
-    (leb-false table.sets (length book.sets) room.1) identifier some b)
-
--- a deletion by a name of the domain takes the data set with this name away
-pub IsBook-deleted : (table : OwnTable) (view : View) (book : Book) (ordinal : ℕ) (set : ObjectName)
-    → same_scope set.scope (Domain table.domain) ≡ true → IsBook table view book
-    → IsBook table (own ordinal (deletes set) ∷ view) (deleted book set.item)
-IsBook-deleted table view book ordinal set scope b = record {
-  limit = b.limit;
-  few = omega (
-    arith,
-    length-filter_both (λ s. not (is_set_named set.item s)) (λ s. not (not (is_set_named set.item s)))
-        (λ s. refl) book.sets,
-    b.few,
-  );
-  members = λ name. found_left name set.item book.sets (bytes_eq set.item name) refl
-      ∙ rw scope (by name (bytes_eq set.item name));
-  once = AllPairs-filter (λ (x y : DataSet). x.name ≢ y.name)
-      (λ s. not (is_set_named set.item s)) book.sets b.once;
-  named = All-filter (λ s. not (is_set_named set.item s)) (λ (s : DataSet). IsIdentifier s.name)
-      book.sets b.named;
-  some = All-filter (λ s. not (is_set_named set.item s)) (λ (s : DataSet). 0 < length s.members)
-      book.sets b.some;
-}
-  where
-    by : (name : List ℕ) (c : Bool)
-        → (if c then None else members_in book.sets name)
-        ≡ (if (true && c) && true then None else sets_in table view name)
-    by name true = refl
-    by name false = b.members name
-
--- a deletion by another name takes none away
-pub IsBook-kept : (table : OwnTable) (view : View) (book : Book) (ordinal : ℕ) (set : ObjectName)
-    → same_scope set.scope (Domain table.domain) ≡ false → IsBook table view book
-    → IsBook table (own ordinal (deletes set) ∷ view) book
-IsBook-kept table view book ordinal set scope b =
-    IsBook-alike table view (own ordinal (deletes set) ∷ view) book (λ name. rw scope refl) b
-
--- deletions by names, one after another
-pub IsBook-left : (table : OwnTable) (view : View) (book : Book) (ordinal : ℕ)
-    (sets : List ObjectName) → IsBook table view book
-    → IsBook table (map (own ordinal) (reverse (map deletes sets)) ++ view)
-    (left_by table.domain sets book)
-IsBook-left table view book ordinal [] b = b
-IsBook-left table view book ordinal (set ∷ sets) b =
-    let P : View → Type 0 = λ seen. IsBook table seen (left_by table.domain (set ∷ sets) book) in
-    subst P (sym (reversed_seen ordinal (deletes set) (map deletes sets) view))
-    (IsBook-left table (own ordinal (deletes set) ∷ view)
-    (if same_scope set.scope (Domain table.domain) then deleted book set.item else book) ordinal
-    sets
-    (one (same_scope set.scope (Domain table.domain)) refl))
-  where
-    one : (c : Bool) → same_scope set.scope (Domain table.domain) ≡ c
-        → IsBook table (own ordinal (deletes set) ∷ view)
-        (if c then deleted book set.item else book)
-    one true e = IsBook-deleted table view book ordinal set e b
-    one false e = IsBook-kept table view book ordinal set e b
-
--- ---- members
-
-found_some : (name : List ℕ) (sets : List DataSet) (members : List ObjectName)
-    → members_in sets name ≡ Some members → All (λ (s : DataSet). 0 < length s.members) sets
-    → 0 < length members
-found_some name [] members found all = absurd (none-some members found)
-found_some name (set ∷ sets) members found all =
-    by (bytes_eq set.name name) found
-    (λ e. found_some name sets members e
-    (All-tail (λ (s : DataSet). 0 < length s.members) set sets all))
-  where
-    by : (c : Bool)
-        → option_map (λ (s : DataSet). s.members) (if c then Some set else find (is_set_named name)
-        sets)
-        ≡ Some members
-        → (members_in sets name ≡ Some members → 0 < length members) → 0 < length members
-    by true e rest =
-        let P : List ObjectName → Type 0 = λ those. 0 < length those in
-        subst P (same_Some set.members members e)
-        (All-head (λ (s : DataSet). 0 < length s.members) set sets all)
-    by false e rest = rest e
-
-lawful_found : (found : Option (List ObjectName))
-    → ((members : List ObjectName) → found ≡ Some members → 0 < length members)
-    → IsReply (set_replied MembersAre found)
-lawful_found None some = omega arith
-lawful_found (Some members) some = some members refl
-
--- the reply about the members of a data set is lawful
-pub lawful_members : (table : OwnTable) (view : View) (book : Book) (set : ObjectName)
-    → IsBook table view book → IsReply (set_replied MembersAre (members_of table view set))
-lawful_members table view book set b = by (same_scope set.scope (Domain table.domain))
-  where
-    by : (c : Bool)
-        → IsReply (set_replied MembersAre (if c then sets_in table view set.item else None))
-    by false = omega arith
-    by true =
-        lawful_found (sets_in table view set.item)
-        (λ members e. found_some set.item book.sets members (b.members set.item ∙ e) b.some)
+-- a deletion
+pub IsBook-deletes : (tables : OwnTables) (view : View) (book : Book) (ordinal : ℕ)
+    (set : ObjectName) (variant : ℕ) → variant ≡ force view → (held tables view).slots ≡ 0
+    → IsBook tables view book
+    → IsBook tables (own ordinal (deletes set) ∷ view)
+    (left_behind (table_in tables variant).domain book set)
+IsBook-deletes tables view book ordinal set variant same bare b =
+    subst (λ (n : ℕ). IsBook tables (own ordinal (deletes set) ∷ view)
+    (left_behind (table_in tables n).domain book set)) (sym same)
+    (deleted_by tables view book ordinal set bare b
+    (same_scope set.scope (Domain (held tables view).domain)) refl)

@@ -12,12 +12,14 @@ use Rattle.std.proofs.lemmas.Slice.Eq.{bytes_eq-Decides}
 use Rattle.mms_data.specs.ObjectName.{ObjectName, same_name}
 use Rattle.data_sets.specs.declared.book.DataSet.{DataSet}
 use Rattle.data_sets.specs.Books.{Book, is_set_named, members_in}
-use Rattle.tase_views.specs.OwnTable.{OwnTable, domain_name}
+use Rattle.tase_views.specs.OwnTables.{OwnTable, OwnTables, domain_name}
 use Rattle.tase_views.specs.NameLists.{with_name, in_order, is_below}
-use Rattle.tase_views.specs.View.{defines, deletes, opens, takes, closes, reads, writes, calls}
+use Rattle.tase_views.specs.Moves.{Act, defines, deletes, opens, takes, closes, reads, writes}
+use Rattle.tase_views.specs.Moves.{calls}
 use Rattle.tase_views.specs.View.{View, own, other_acted, other_closed, updated, tagged, asked}
-use Rattle.tase_views.specs.View.{ticked, stopped}
-use Rattle.tase_views.specs.Sets.{names_defined, define_fault, sets_in}
+use Rattle.tase_views.specs.View.{chose, ticked, stopped, held, keeps_force}
+use Rattle.tase_views.specs.Sets.{Sets, names_defined, define_fault, set_behind}
+use Rattle.tase_views.specs.Slots.{is_wished, sets_in, slot_moves}
 use Rattle.tase_views.specs.Answers.{set_names}
 use Rattle.node_core.specs.SetsKept.{IsBook}
 use Rattle.node_core.proofs.Sorted.{one_if, count_of, count-in_order, Rise-in_order}
@@ -76,18 +78,19 @@ at_most_once z (own ordinal (defines set members) ∷ view) =
         + count_of z (filter (λ name. not (bytes_eq name set.item)) (names_defined view)) < 2
     by true s passed few = rw (passed, s) (omega arith)
     by false s passed few = rw (passed, s) (omega arith)
-at_most_once z (own ordinal (deletes set) ∷ view) = at_most_once z view
 at_most_once z (own ordinal opens ∷ view) = at_most_once z view
 at_most_once z (own ordinal takes ∷ view) = at_most_once z view
 at_most_once z (own ordinal closes ∷ view) = at_most_once z view
 at_most_once z (own ordinal (reads name) ∷ view) = at_most_once z view
 at_most_once z (own ordinal (writes name value) ∷ view) = at_most_once z view
 at_most_once z (own ordinal (calls call) ∷ view) = at_most_once z view
+at_most_once z (own ordinal (deletes set) ∷ view) = at_most_once z view
 at_most_once z (other_acted key number name deed ∷ view) = at_most_once z view
 at_most_once z (other_closed key number ∷ view) = at_most_once z view
 at_most_once z (updated name value ∷ view) = at_most_once z view
 at_most_once z (tagged name tag ∷ view) = at_most_once z view
 at_most_once z (asked slot ∷ view) = at_most_once z view
+at_most_once z (chose variant ∷ view) = at_most_once z view
 at_most_once z (ticked now ∷ view) = at_most_once z view
 at_most_once z (stopped ∷ view) = at_most_once z view
 
@@ -180,57 +183,87 @@ book_count z (set ∷ sets) once =
 
 -- ---- the names that a view shows
 
--- the name of a data set that there is stands among those that definitions have
-is_defined : (table : OwnTable) (z : List ℕ) (view : View)
-    → is_some (sets_in table view z) ≡ true → 0 < count_of z (names_defined view)
-is_defined table z [] there = absurd (false≢true there)
-is_defined table z (own ordinal (defines set members) ∷ view) there =
-    by (bytes_eq set.item z) (is_none (define_fault table (sets_in table view) view set members))
+-- a data set that is there where a table may change is there
+kept_there : (keeps : Bool) (found : Option (List ObjectName))
+    → is_some (if keeps then found else None) ≡ true → is_some found ≡ true
+kept_there true found there = there
+kept_there false found there = absurd (false≢true there)
+
+-- the name of a data set that there is behind an act stands among those that definitions have
+behind : (table : OwnTable) (kept : List ℕ → Bool) (sets : Sets) (z : List ℕ) (view : View)
+    (ordinal : ℕ) (act : Act) → is_some (set_behind table kept sets view act z) ≡ true
+    → (is_some (sets z) ≡ true → 0 < count_of z (names_defined view))
+    → 0 < count_of z (names_defined (own ordinal act ∷ view))
+behind table kept sets z view ordinal (defines set members) there before =
+    by (bytes_eq set.item z) (is_none (define_fault table sets view set members))
     refl there (count_passed (λ name. not (bytes_eq name set.item)) z (names_defined view))
-    (λ older. is_defined table z view older)
   where
     by : (same free : Bool) → bytes_eq set.item z ≡ same
-        → is_some (if same && free then Some members else sets_in table view z) ≡ true
+        → is_some (if same && free then Some members else sets z) ≡ true
         → count_of z (filter (λ name. not (bytes_eq name set.item)) (names_defined view))
         ≡ (if not (bytes_eq z set.item) then count_of z (names_defined view) else 0)
-        → (is_some (sets_in table view z) ≡ true → 0 < count_of z (names_defined view))
         → 0 < one_if z set.item
         + count_of z (filter (λ name. not (bytes_eq name set.item)) (names_defined view))
-    by true free e there passed before =
+    by true free e there passed =
         let here : bytes_eq z set.item ≡ true = turned z set.item ∙ e in
         rw (passed, here) (omega arith)
-    by false free e there passed before =
+    by false free e there passed =
         let here : bytes_eq z set.item ≡ false = turned z set.item ∙ e in
         rw (passed, here) (omega (arith, before there))
-is_defined table z (own ordinal (deletes set) ∷ view) there =
-    by (same_name set (domain_name table z) && true) there
-    (λ before. is_defined table z view before)
+behind table kept sets z view ordinal (deletes set) there before =
+    by (same_name set (domain_name table z) && not (kept z)) there
   where
-    by : (gone : Bool) → is_some (if gone then None else sets_in table view z) ≡ true
-        → (is_some (sets_in table view z) ≡ true → 0 < count_of z (names_defined view))
+    by : (gone : Bool) → is_some (if gone then None else sets z) ≡ true
         → 0 < count_of z (names_defined view)
-    by true there before = absurd (false≢true there)
-    by false there before = before there
-is_defined table z (own ordinal opens ∷ view) there = is_defined table z view there
-is_defined table z (own ordinal takes ∷ view) there = is_defined table z view there
-is_defined table z (own ordinal closes ∷ view) there = is_defined table z view there
-is_defined table z (own ordinal (reads name) ∷ view) there = is_defined table z view there
-is_defined table z (own ordinal (writes name value) ∷ view) there = is_defined table z view there
-is_defined table z (own ordinal (calls call) ∷ view) there = is_defined table z view there
-is_defined table z (other_acted key number name deed ∷ view) there = is_defined table z view there
-is_defined table z (other_closed key number ∷ view) there = is_defined table z view there
-is_defined table z (updated name value ∷ view) there = is_defined table z view there
-is_defined table z (tagged name tag ∷ view) there = is_defined table z view there
-is_defined table z (asked slot ∷ view) there = is_defined table z view there
-is_defined table z (ticked now ∷ view) there = is_defined table z view there
-is_defined table z (stopped ∷ view) there = is_defined table z view there
+    by true there = absurd (false≢true there)
+    by false there = before there
+behind table kept sets z view ordinal opens there before = before there
+behind table kept sets z view ordinal takes there before = before there
+behind table kept sets z view ordinal closes there before = before there
+behind table kept sets z view ordinal (reads name) there before = before there
+behind table kept sets z view ordinal (writes name value) there before = before there
+behind table kept sets z view ordinal (calls call) there before = before there
+
+is_defined : (tables : OwnTables) (z : List ℕ) (view : View)
+    → is_some (sets_in tables view z) ≡ true → 0 < count_of z (names_defined view)
+is_defined tables z [] there = absurd (false≢true there)
+is_defined tables z (own ordinal act ∷ view) there =
+    let kept = is_wished (held tables view) (slot_moves tables view) in
+    behind (held tables view) kept (sets_in tables view) z view ordinal act
+    (kept_there (keeps_force (own ordinal act) view)
+    (set_behind (held tables view) kept (sets_in tables view) view act z) there)
+    (is_defined tables z view)
+is_defined tables z (other_acted key number name deed ∷ view) there =
+    is_defined tables z view
+    (kept_there (keeps_force (other_acted key number name deed) view) (sets_in tables view z) there)
+is_defined tables z (other_closed key number ∷ view) there =
+    is_defined tables z view
+    (kept_there (keeps_force (other_closed key number) view) (sets_in tables view z) there)
+is_defined tables z (updated name value ∷ view) there =
+    is_defined tables z view
+    (kept_there (keeps_force (updated name value) view) (sets_in tables view z) there)
+is_defined tables z (tagged name tag ∷ view) there =
+    is_defined tables z view
+    (kept_there (keeps_force (tagged name tag) view) (sets_in tables view z) there)
+is_defined tables z (asked slot ∷ view) there =
+    is_defined tables z view
+    (kept_there (keeps_force (asked slot) view) (sets_in tables view z) there)
+is_defined tables z (chose variant ∷ view) there =
+    is_defined tables z view
+    (kept_there (keeps_force (chose variant) view) (sets_in tables view z) there)
+is_defined tables z (ticked now ∷ view) there =
+    is_defined tables z view
+    (kept_there (keeps_force (ticked now) view) (sets_in tables view z) there)
+is_defined tables z (stopped ∷ view) there =
+    is_defined tables z view
+    (kept_there (keeps_force (stopped) view) (sets_in tables view z) there)
 
 -- a name stands once among those of the data sets that there are, if there is one with it
-view_count : (table : OwnTable) (z : List ℕ) (view : View)
-    → count_of z (set_names table view) ≡ once_if (is_some (sets_in table view z))
-view_count table z view =
-    count_passed (λ name. is_some (sets_in table view name)) z (names_defined view)
-    ∙ by (is_some (sets_in table view z)) (is_defined table z view)
+view_count : (tables : OwnTables) (z : List ℕ) (view : View)
+    → count_of z (set_names tables view) ≡ once_if (is_some (sets_in tables view z))
+view_count tables z view =
+    count_passed (λ name. is_some (sets_in tables view name)) z (names_defined view)
+    ∙ by (is_some (sets_in tables view z)) (is_defined tables z view)
   where
     by : (there : Bool) → (there ≡ true → 0 < count_of z (names_defined view))
         → (if there then count_of z (names_defined view) else 0) ≡ once_if there
@@ -239,28 +272,28 @@ view_count table z view =
 
 -- ---- a book has the names that the view shows
 
-module _ (table : OwnTable) (view : View) (book : Book) where
+module _ (tables : OwnTables) (view : View) (book : Book) where
   -- each as often
-  pub names_alike : IsBook table view book → (z : List ℕ)
-      → count_of z (book_names book.sets) ≡ count_of z (set_names table view)
+  pub names_alike : IsBook tables view book → (z : List ℕ)
+      → count_of z (book_names book.sets) ≡ count_of z (set_names tables view)
   names_alike b z =
       book_count z book.sets b.once
       ∙ ap (λ (found : Option (List ObjectName)). once_if (is_some found)) (b.members z)
-      ∙ sym (view_count table z view)
+      ∙ sym (view_count tables z view)
 
   -- so as many
-  pub names_counted : IsBook table view book
-      → length book.sets ≡ length (set_names table view)
+  pub names_counted : IsBook tables view book
+      → length book.sets ≡ length (set_names tables view)
   names_counted b =
       sym (length-map book.sets (λ (s : DataSet). s.name))
-      ∙ same_length (book_names book.sets) (set_names table view) (names_alike b)
+      ∙ same_length (book_names book.sets) (set_names tables view) (names_alike b)
 
   -- and those that pass a test stand in one order
-  pub names_ordered : (test : List ℕ → Bool) → IsBook table view book
+  pub names_ordered : (test : List ℕ → Bool) → IsBook tables view book
       → in_order (filter test (book_names book.sets))
-      ≡ in_order (filter test (set_names table view))
+      ≡ in_order (filter test (set_names tables view))
   names_ordered test b =
-      same_order (filter test (book_names book.sets)) (filter test (set_names table view))
+      same_order (filter test (book_names book.sets)) (filter test (set_names tables view))
       (λ z. count_passed test z (book_names book.sets)
       ∙ ap (λ n. if test z then n else 0) (names_alike b z)
-      ∙ sym (count_passed test z (set_names table view)))
+      ∙ sym (count_passed test z (set_names tables view)))

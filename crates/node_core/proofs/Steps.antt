@@ -1,488 +1,407 @@
 -- What a node keeps beside its history stays right as the history grows.
-use Rattle.std.proofs.Common.{◌≡◌, ◌≢◌, ◌==◌, ℕ, ◌+◌, ◌^◌, ◌<◌, ◌≤◌, Bool, true, false, List, []}
-use Rattle.std.proofs.Common.{◌∷◌, ◌++◌, map, set, length, get_or, ltb, Option, Some, None, is_some}
-use Rattle.std.proofs.Common.{refl, sym, ap, ◌∙◌, subst, ⊎_elim, arith, zero-add, length-set}
+use Rattle.std.proofs.Common.{◌≡◌, ◌≢◌, ◌==◌, ℕ, zero, suc, ◌+◌, ◌^◌, ◌<◌, ◌≤◌, ◌⊎◌, inl, inr, Bool}
+use Rattle.std.proofs.Common.{true, false}
+use Rattle.std.proofs.Common.{List, [], ◌∷◌, ◌++◌, map, set, length, get_or, ltb, Option, Some}
+use Rattle.std.proofs.Common.{None}
+use Rattle.std.proofs.Common.{refl, sym, ap, ◌∙◌, subst, ⊎_elim, arith, length-set, slice_get}
 use Rattle.std.proofs.Common.{get_or-set_same, get_or-set_other}
-use Rattle.std.specs.Prelude.{replicate, slice_get, if◌then◌else◌}
-use Rattle.std.specs.List.{filter_map, cons_option}
+use Rattle.std.specs.Prelude.{if◌then◌else◌}
+use Rattle.std.specs.List.{cons_option}
 use Rattle.std.specs.Option.{option_map}
-use Rattle.std.proofs.lemmas.Bool.{cases_eq, eq-eqb, ne_eqb, and_parts, ltb-true}
-use Rattle.std.proofs.lemmas.List.{length-replicate, get_or-replicate, length-map}
-use Rattle.std.proofs.lemmas.List.Elements.{All-nil}
-use Rattle.std.proofs.lemmas.Bool.{cases_lt}
-use Rattle.std.proofs.lemmas.Option.{slice_get-get_or, slice_get-map, slice_get_past}
+use Rattle.std.proofs.lemmas.Bool.{cases_eq, cases_lt, eq-eqb, ne_eqb, and_parts, ltb-true}
+use Rattle.std.proofs.lemmas.List.{length-map, get_or-map, get_or_past}
+use Rattle.std.proofs.lemmas.Option.{slice_get-get_or, slice_get-map}
 use Rattle.std.proofs.lemmas.Option.{slice_get_within, get_or_from_slice_get, same_Some, none-some}
 use Rattle.tase_points.specs.Points.{kind_of}
 use Rattle.tase_points.specs.Same.{same_kind}
 use Rattle.tase_points.specs.Sample.{Sample}
 use Rattle.point_db.specs.Stored.{Stored as PointsStored, Keeps as KeepsPoints}
-use Rattle.mms_data.specs.ObjectName.{ObjectName, IsIdentifier}
-use Rattle.data_sets.specs.declared.book.DataSet.{DataSet}
-use Rattle.data_sets.specs.Books.{Book, defined}
 use Rattle.bilateral.specs.declared.rows.PointRow.{PointRow}
 use Rattle.bilateral.specs.declared.rows.Table.{Table}
-use Rattle.bilateral.specs.Rows.{CentreRows, IsCentre, no_table, table_of, point_of, place_of_see}
+use Rattle.bilateral.specs.Rows.{CentreRows, IsCentre, no_table, table_of, point_of, variants_of}
 use Rattle.sbo_device.specs.declared.key.Key.{Key}
-use Rattle.tase_views.specs.declared.call.CallKind.{CallKind}
-use Rattle.tase_views.specs.declared.call.CallKind.TheVariants.{Define, Delete}
 use Rattle.tase_views.specs.declared.event.EventKind.{EventKind}
 use Rattle.tase_views.specs.declared.event.EventKind.TheVariants.{Open, Request, Take, Close}
 use Rattle.tase_views.specs.declared.event.EventKind.TheVariants.{Update, Stop}
-use Rattle.tase_views.specs.History.{Past, association_in, association_after, opens_in}
-use Rattle.tase_views.specs.History.{counts_open}
-use Rattle.tase_views.specs.OwnTable.{OwnTable, own_table}
+use Rattle.tase_views.specs.declared.event.EventKind.TheVariants.{Table as Choice}
+use Rattle.tase_views.specs.Moves.{Act, takes, Move, acts, moves_of, EventSort, sort_of, opening}
+use Rattle.tase_views.specs.Moves.{requesting, taking, closing, taking_orders, feeding}
+use Rattle.tase_views.specs.History.{Past, association_in, association_after, association_by}
+use Rattle.tase_views.specs.History.{key_at, opens_in, counts_open, next_key}
+use Rattle.tase_views.specs.OwnTables.{OwnTables, own_table, own_tables, no_own_table, table_in}
+use Rattle.tase_views.specs.OwnTables.{is_point_of}
 use Rattle.tase_views.specs.Outcomes.{is_known}
-use Rattle.tase_views.specs.View.{Act, opens, takes, closes, defines, Move, own, updated, View}
-use Rattle.tase_views.specs.View.{view_of}
-use Rattle.tase_views.specs.View.{acts_of_call, moves_by, moves_in, seen_by}
-use Rattle.tase_views.specs.Sets.{SetError, define_fault, sets_in}
-use Rattle.node_core.specs.LastValues.{kinds_of, update_in, updates_in}
-use Rattle.node_core.specs.SetsKept.{IsBook, left_by}
-use Rattle.node_core.specs.Stored.{IsStored, IsQuiet}
-use Rattle.node_core.proofs.Known.{table_is_lawful}
-use Rattle.node_core.proofs.SetViews.{IsSetless, IsBook-act, IsBook-updated, IsBook-stopped}
-use Rattle.node_core.proofs.SetViews.{request-own, request-other, AreSetless, IsBook-acts}
-use Rattle.node_core.proofs.SetBooks.{IsBook-refused, IsBook-defined, IsBook-left}
+use Rattle.tase_views.specs.View.{own, other_acted, other_closed, updated, chose, stopped}
+use Rattle.tase_views.specs.View.{View, view_by, moves_in, view_of}
+use Rattle.node_core.specs.declared.peer.Peer.{Peer}
+use Rattle.node_core.specs.LastValues.{kinds_of, updates_in}
+use Rattle.node_core.specs.PeerParts.{IsPart, new_part, part_after, part_behind, IsLawfulAct}
+use Rattle.node_core.specs.PeerParts.{EachAct}
+use Rattle.node_core.specs.Stored.{IsCommon, AreParts, IsPeerThere, MayOpen, IsRequest}
+use Rattle.node_core.proofs.CallActs.{IsIdle, idle_act, idle_lawful}
+use Rattle.node_core.proofs.PartSteps.{IsPart-new, IsPart-after}
+use Rattle.node_core.proofs.Seeing.{IsKept, by_others, by_seat, opens_in_view}
 
-slice_get-replicate : {X : Type 0} (n k : ℕ) (x : X) → k < n → slice_get (replicate n x) k ≡ Some x
-slice_get-replicate n k x within =
-    let length_is : length (replicate n x) ≡ n = length-replicate n x in
-    slice_get-get_or (replicate n x) k x (omega arith) ∙ ap Some (get_or-replicate n k x x within)
+-- ---- lists of which one item changes
 
-slice_get-set_here : {X : Type 0} (xs : List X) (p q : ℕ) (y : X) → p ≡ q → p < length xs
-    → slice_get (set xs p y) q ≡ Some y
-slice_get-set_here xs p q y same within =
-    let length_is : length (set xs p y) ≡ length xs = length-set xs p y in
-    rw (← same) (slice_get-get_or (set xs p y) p y (omega arith)
-    ∙ ap Some (get_or-set_same xs p y y within))
+-- an item of such a list is the new one, or one of the old list
+set_cases : {X : Type 0} (xs : List X) (p q : ℕ) (y x : X) → slice_get (set xs p y) q ≡ Some x
+    → ((q ≡ p) × (x ≡ y)) ⊎ ((q ≢ p) × (slice_get xs q ≡ Some x))
+set_cases {X} xs p q y x at =
+    let many : length (set xs p y) ≡ length xs = length-set xs p y in
+    let there : q < length (set xs p y) = slice_get_within (set xs p y) q x at in
+    let read : get_or (set xs p y) q y ≡ x = get_or_from_slice_get (set xs p y) q x y at in
+    ⊎_elim
+    (λ (same : q ≡ p). let Has : ℕ → Type 0 = λ n. get_or (set xs p y) n y ≡ x in
+    inl (same, sym (subst Has same read) ∙ get_or-set_same xs p y y (omega arith)))
+    (λ apart. inr (
+      apart,
+      slice_get-get_or xs q y (omega arith)
+          ∙ ap (λ (z : X). Some z) (sym (get_or-set_other xs p q y y apart) ∙ read),
+    ))
+    (cases_eq q p)
 
-slice_get-set_other : {X : Type 0} (xs : List X) (p q : ℕ) (y : X) → q ≢ p → q < length xs
-    → slice_get (set xs p y) q ≡ slice_get xs q
-slice_get-set_other xs p q y apart within =
-    let length_is : length (set xs p y) ≡ length xs = length-set xs p y in
-    slice_get-get_or (set xs p y) q y (omega arith) ∙ ap Some (get_or-set_other xs p q y y apart)
-    ∙ sym (slice_get-get_or xs q y within)
+-- a list with an item that it has is as before
+pub set_same : {X : Type 0} (xs : List X) (p : ℕ) (x : X) → slice_get xs p ≡ Some x
+    → xs ≡ set xs p x
+set_same [] p x at = absurd (none-some x at)
+set_same (y ∷ xs) zero x at = ap (λ z. z ∷ xs) (same_Some y x at)
+set_same (y ∷ xs) (suc p) x at = ap (λ ys. y ∷ ys) (set_same xs p x at)
 
--- whether or not there is such a place
-slice_get-set_apart : {X : Type 0} (xs : List X) (p q : ℕ) (y : X) → q ≢ p
-    → slice_get (set xs p y) q ≡ slice_get xs q
-slice_get-set_apart xs p q y apart =
-    let length_is : length (set xs p y) ≡ length xs = length-set xs p y in
-    ⊎_elim (λ within. slice_get-set_other xs p q y apart within)
-    (λ past. slice_get_past (set xs p y) q (omega arith) ∙ sym (slice_get_past xs q past))
-    (cases_lt q (length xs))
+-- ---- the parts of all peers
 
-mapped_from : {A B : Type 0} (f : A → B) (found : Option A) (y : B) → option_map f found ≡ Some y
-    → (x : A) × (found ≡ Some x) × (y ≡ f x)
-mapped_from f None y e = absurd (none-some y e)
-mapped_from f (Some x) y e = (x, refl, sym (same_Some (f x) y e))
+-- the table of a peer with a number is offered so
+pub own_at : (rows : CentreRows) (peer n : ℕ) (table : Table)
+    → slice_get (variants_of rows peer) n ≡ Some table
+    → table_in (own_tables rows peer) n ≡ own_table rows table
+own_at rows peer n table at =
+    get_or-map (own_table rows) (variants_of rows peer) n no_table no_own_table
+    (slice_get_within (variants_of rows peer) n table at)
+    ∙ ap (own_table rows) (get_or_from_slice_get (variants_of rows peer) n table no_table at)
 
--- ---- books behind an event
+-- the tables as the node offers them have no transfer sets
+own_bare : (rows : CentreRows) (peer n : ℕ) → (table_in (own_tables rows peer) n).slots ≡ 0
+own_bare rows peer n =
+    ⊎_elim
+    (λ there. rw (get_or-map (own_table rows) (variants_of rows peer) n no_table no_own_table there)
+    refl)
+    (λ past. let many = length-map (variants_of rows peer) (own_table rows) in
+    rw (get_or_past (map (own_table rows) (variants_of rows peer)) n no_own_table (omega arith))
+    refl)
+    (cases_lt n (length (variants_of rows peer)))
 
-book_if : (b : Bool) (table : OwnTable) (view : View) (book : Book) (ordinal : ℕ) (act : Act)
-    → IsSetless act → IsBook table view book
-    → IsBook table (cons_option (if b then Some (own ordinal act) else None) view) book
-book_if true table view book ordinal act free b = IsBook-act table view book ordinal act free b
-book_if false table view book ordinal act free b = b
+own_count : (rows : CentreRows) (peer : ℕ)
+    → length (own_tables rows peer).tables ≡ length (variants_of rows peer)
+own_count rows peer = length-map (variants_of rows peer) (own_table rows)
 
-book_by : (rows : CentreRows) (peer : ℕ) (table : OwnTable) (book : Book) (found : Option Key)
-    (act : Act) (moves : List Move) → IsSetless act
-    → IsBook table (filter_map (seen_by rows peer) moves) book
-    → IsBook table (filter_map (seen_by rows peer) (moves_by found (act ∷ []) ++ moves)) book
-book_by rows peer table book None act moves free b = b
-book_by rows peer table book (Some key) act moves free b =
-    book_if (key.peer == peer) table (filter_map (seen_by rows peer) moves) book key.ordinal act
-    free
-    b
-
-book_updated : (b : Bool) (table : OwnTable) (view : View) (book : Book) (name : List ℕ)
-    (value : Sample) → IsBook table view book
-    → IsBook table (cons_option (if b then Some (updated name value) else None) view) book
-book_updated true table view book name value b = IsBook-updated table view book name value b
-book_updated false table view book name value b = b
-
--- the books of all peers are those of this past
-abbrev AreBooks : CentreRows → Past → List Book → Type 0
-AreBooks rows past sets = (peer : ℕ) (book : Book) → slice_get sets peer ≡ Some book
-    → IsBook (own_table rows peer) (view_of rows peer past) book
-
--- ---- an empty history
-
-abbrev pub no_sets : ℕ → Book
-no_sets limit = record { limit = limit; sets = [] }
-
-IsBook-empty : (table : OwnTable) → IsBook table [] (no_sets table.sets)
-IsBook-empty table = record {
-  limit = refl;
-  few = omega arith;
-  members = λ name. refl;
-  once = λ i j d below within. absurd (omega arith);
-  named = All-nil (λ (s : DataSet). IsIdentifier s.name);
-  some = All-nil (λ (s : DataSet). 0 < length s.members);
+pub AreParts-new : (rows : CentreRows) (peers : List Peer)
+    → peers ≡ map (λ (table : Table). new_part table.sets) rows.tables → AreParts rows [] peers
+AreParts-new rows peers are = record {
+  many = ap length are ∙ length-map rows.tables (λ (table : Table). new_part table.sets);
+  each = λ peer part at.
+      let there : peer < length rows.tables = omega (
+        arith,
+        slice_get_within peers peer part at,
+        ap length are,
+        length-map rows.tables (λ (table : Table). new_part table.sets),
+      ) in
+      let here = ap (λ (xs : List Peer). slice_get xs peer) are
+      ∙ slice_get-map (λ (table : Table). new_part table.sets) rows.tables peer
+      ∙ ap (option_map (λ (table : Table). new_part table.sets))
+      (slice_get-get_or rows.tables peer no_table there) in
+      subst (λ (x : Peer). IsPart (own_tables rows peer) [] x)
+      (same_Some (new_part (table_of rows peer).sets) part (sym here ∙ at))
+      (IsPart-new (own_tables rows peer) (omega (arith, own_count rows peer)));
 }
 
-pub AreBooks-new : (rows : CentreRows) (sets : List Book)
-    → sets ≡ map (λ (table : Table). no_sets table.sets) rows.tables → AreBooks rows [] sets
-AreBooks-new rows sets are peer book at =
-    let found = mapped_from (λ (table : Table). no_sets table.sets) (slice_get rows.tables peer)
-    book
-    (sym (slice_get-map (λ (table : Table). no_sets table.sets) rows.tables peer)
-    ∙ ap (λ (xs : List Book). slice_get xs peer) (sym are) ∙ at) in
-    let row : table_of rows peer ≡ found.0 =
-    get_or_from_slice_get rows.tables peer found.0 no_table found.1 in
-    let P : Book → Type 0 = λ x. IsBook (own_table rows peer) [] x in
-    subst P (ap (λ (table : Table). no_sets table.sets) row ∙ sym found.2)
-    (IsBook-empty (own_table rows peer))
+-- a part stays where its peer is shown nothing of its own
+part_kept : (tables : OwnTables) (bare : (n : ℕ) → (table_in tables n).slots ≡ 0) (part : Peer)
+    → IsKept (λ (view : View). IsPart tables view part) IsIdle
+part_kept tables bare part = record {
+  acted = λ key ordinal device act view p.
+      IsPart-after tables bare view part (other_acted key ordinal device act) tt p;
+  closed = λ key ordinal view p.
+      IsPart-after tables bare view part (other_closed key ordinal) tt p;
+  own = λ ordinal act view idle p.
+      subst (λ (x : Peer). IsPart tables (own ordinal act ∷ view) x)
+      (idle_act tables ordinal act part idle)
+      (IsPart-after tables bare view part (own ordinal act) (idle_lawful act idle) p);
+}
 
-pub IsStored-new : (rows : CentreRows) (points : PointsStored) (sets : List Book)
-    (opened : List ℕ) (found : ℕ → Option Key) → IsCentre rows
-    → KeepsPoints (kinds_of rows) [] points → length sets ≡ length rows.tables
-    → AreBooks rows [] sets → opened ≡ replicate (length rows.tables) 0
-    → ((who : ℕ) → found who ≡ None) → IsStored rows [] points sets opened found
-IsStored-new rows points sets opened found lawful kept many books opened_are none =
-    record {
-      lawful = lawful;
-      points = kept;
-      book_count = many;
-      books = books;
-      open_count = ap length opened_are ∙ length-replicate (length rows.tables) 0;
-      opened = λ p there. rw opened_are (slice_get-replicate (length rows.tables) p 0 there);
-      seated = none;
-      known = λ who key e. absurd (none-some key (sym (none who) ∙ e));
-    }
+module _ (rows : CentreRows) (past : Past) (who : ℕ) (peers : List Peer) where
+  -- the view of a peer behind the moves of an event
+  abbrev behind : ℕ → List Move → View
+  behind peer moves = view_by rows (own_tables rows) peer (moves ++ moves_in past)
 
--- only what the look-ups give counts
-pub IsStored-found : (rows : CentreRows) (past : Past) (points : PointsStored)
-    (sets : List Book) (opened : List ℕ) (found : ℕ → Option Key) (after : ℕ → Option Key)
-    → ((who : ℕ) → after who ≡ found who) → IsStored rows past points sets opened found
-    → IsStored rows past points sets opened after
-IsStored-found rows past points sets opened found after same s =
-    record {
-      lawful = s.lawful;
-      points = s.points;
-      book_count = s.book_count;
-      books = s.books;
-      open_count = s.open_count;
-      opened = s.opened;
-      seated = λ who. same who ∙ s.seated who;
-      known = λ who key e. s.known who key (sym (same who) ∙ e);
-    }
+  -- acts of an association: its peer's part behind them, and all others as they were
+  acted_part : (key : Key) (these : List Act) (part : Peer) → EachAct IsLawfulAct these
+      → IsPart (own_tables rows key.peer) (view_of rows key.peer past) part
+      → IsPart (own_tables rows key.peer) (behind key.peer (map (acts key) these))
+      (part_behind (own_tables rows key.peer) key.ordinal these part)
+  acted_part key [] part lawful p = p
+  acted_part key (act ∷ these) part lawful p =
+      rw (eq-eqb key.peer key.peer refl)
+      (IsPart-after (own_tables rows key.peer) (own_bare rows key.peer)
+      (behind key.peer (map (acts key) these))
+      (part_behind (own_tables rows key.peer) key.ordinal these part) (own key.ordinal act)
+      lawful.0 (acted_part key these part lawful.1 p))
 
--- an event that opens nothing, updates nothing, and leaves its seat's association as it was
-pub IsStored-quiet : (rows : CentreRows) (past : Past) (points : PointsStored)
-    (sets : List Book) (opened : List ℕ) (found : ℕ → Option Key) (after : List Book) (who : ℕ)
-    (event : EventKind) → ((p : ℕ) → counts_open event p ≡ 0) → update_in event ≡ None
-    → ((before : Option Key) → association_after event past before ≡ before)
-    → length after ≡ length sets
-    → AreBooks rows (record { who = who; event = event } ∷ past) after
-    → IsStored rows past points sets opened found
-    → IsStored rows (record { who = who; event = event } ∷ past) points after opened found
-IsStored-quiet rows past points sets opened found after who event unopened ungiven unseated many
-    books s =
-    record {
-      lawful = s.lawful;
-      points = rw ungiven s.points;
-      book_count = many ∙ s.book_count;
-      books = books;
-      open_count = s.open_count;
-      opened = λ p there. rw (unopened p) (s.opened p there ∙ ap Some (sym (zero-add
-          (opens_in past p))));
-      seated = λ asked. rw (unseated (association_in past asked)) (elim (who == asked) as
-          (λ b. found asked ≡ (if b then association_in past asked else association_in past asked))
-          [ true ↦ s.seated asked | false ↦ s.seated asked ]);
-      known = s.known;
-    }
+  pub AreParts-acted : (event : EventKind) (key : Key) (these : List Act) (part : Peer)
+      → moves_of (sort_of event) (key_at event past who) ≡ map (acts key) these
+      → EachAct IsLawfulAct these → slice_get peers key.peer ≡ Some part
+      → AreParts rows past peers
+      → AreParts rows (record { who = who; event = event } ∷ past)
+      (set peers key.peer (part_behind (own_tables rows key.peer) key.ordinal these part))
+  AreParts-acted event key these part moves lawful at s =
+      let after = part_behind (own_tables rows key.peer) key.ordinal these part in
+      record {
+        many = length-set peers key.peer after ∙ s.many;
+        each = λ peer new here.
+            subst (λ (ms : List Move). IsPart (own_tables rows peer) (behind peer ms) new)
+            (sym moves)
+            (⊎_elim
+            (λ (mine : (peer ≡ key.peer) × (new ≡ after)).
+            subst (λ (q : ℕ). IsPart (own_tables rows q) (behind q (map (acts key) these)) new)
+            (sym mine.0)
+            (subst (λ (x : Peer). IsPart (own_tables rows key.peer)
+            (behind key.peer (map (acts key) these)) x) (sym mine.1)
+            (acted_part key these part lawful (s.each key.peer part at))))
+            (λ (other : (peer ≢ key.peer) × (slice_get peers peer ≡ Some new)).
+            by_others (λ (view : View). IsPart (own_tables rows peer) view new) IsIdle
+            (part_kept (own_tables rows peer) (own_bare rows peer) new) rows peer key these
+            (moves_in past) (ne_eqb key.peer peer (λ e. other.0 (sym e)))
+            (s.each peer new other.1))
+            (set_cases peers key.peer peer after new here));
+      }
 
--- a take
-pub IsStored-noted : (rows : CentreRows) (past : Past) (points : PointsStored)
-    (sets : List Book) (opened : List ℕ) (found : ℕ → Option Key) (who : ℕ) (event : EventKind)
-    → IsQuiet event → IsStored rows past points sets opened found
-    → IsStored rows (record { who = who; event = event } ∷ past) points sets opened found
-IsStored-noted rows past points sets opened found who (Open peer) quiet s = absurd quiet
-IsStored-noted rows past points sets opened found who (Request call) quiet s = absurd quiet
-IsStored-noted rows past points sets opened found who Take quiet s =
-    IsStored-quiet rows past points sets opened found sets who Take (λ p. refl) refl
-    (λ before. refl) refl
-    (λ peer book at. book_by rows peer (own_table rows peer) book (association_in past who) takes
-    (moves_in past) tt (s.books peer book at)) s
-IsStored-noted rows past points sets opened found who Close quiet s = absurd quiet
-IsStored-noted rows past points sets opened found who (Update point value) quiet s = absurd quiet
-IsStored-noted rows past points sets opened found who Stop quiet s = absurd quiet
+  -- an event that leaves each part
+  AreParts-left : (event : EventKind)
+      → ((peer : ℕ) (part : Peer) → IsPart (own_tables rows peer) (view_of rows peer past) part
+      → IsPart (own_tables rows peer)
+      (view_of rows peer (record { who = who; event = event } ∷ past)) part)
+      → AreParts rows past peers
+      → AreParts rows (record { who = who; event = event } ∷ past) peers
+  AreParts-left event left s = record {
+    many = s.many;
+    each = λ peer part at. left peer part (s.each peer part at);
+  }
 
-pub IsStored-stop : (rows : CentreRows) (past : Past) (points : PointsStored)
-    (sets : List Book) (opened : List ℕ) (found : ℕ → Option Key) (who : ℕ)
-    → IsStored rows past points sets opened found
-    → IsStored rows (record { who = who; event = Stop } ∷ past) points sets opened found
-IsStored-stop rows past points sets opened found who s =
-    IsStored-quiet rows past points sets opened found sets who Stop (λ p. refl) refl
-    (λ before. refl) refl
-    (λ peer book at. IsBook-stopped (own_table rows peer) (view_of rows peer past) book
-    (s.books peer book at)) s
+  pub AreParts-take : AreParts rows past peers
+      → AreParts rows (record { who = who; event = Take } ∷ past) peers
+  AreParts-take s =
+      AreParts-left Take
+      (λ peer part p.
+      by_seat (λ (view : View). IsPart (own_tables rows peer) view part) IsIdle
+      (part_kept (own_tables rows peer) (own_bare rows peer) part) rows peer
+      (association_in past who) (takes ∷ []) (moves_in past) (tt, tt) p) s
 
--- a request of a peer: its book behind the call's acts, and all others as they were
-pub IsStored-request : (rows : CentreRows) (past : Past) (points : PointsStored)
-    (sets : List Book) (opened : List ℕ) (found : ℕ → Option Key) (after : List Book) (who : ℕ)
-    (key : Key) (call : CallKind) → association_in past who ≡ Some key
-    → length after ≡ length sets
-    → ((peer : ℕ) → peer ≢ key.peer → slice_get after peer ≡ slice_get sets peer)
-    → ((book : Book) → slice_get after key.peer ≡ Some book
-    → IsBook (own_table rows key.peer)
-    (map (own key.ordinal) (acts_of_call call) ++ view_of rows key.peer past) book)
-    → IsStored rows past points sets opened found
-    → IsStored rows (record { who = who; event = Request call } ∷ past) points after opened found
-IsStored-request rows past points sets opened found after who key call seated many others mine s =
-    IsStored-quiet rows past points sets opened found after who (Request call) (λ p. refl) refl
-    (λ before. refl) many
-    (λ peer book at. ⊎_elim
-    (λ same. subst (λ (q : ℕ). slice_get after q ≡ Some book
-    → IsBook (own_table rows q)
-    (view_of rows q (record { who = who; event = Request call } ∷ past)) book) same
-    (λ here. rw (request-own rows past who key call seated) (mine book here)) at)
-    (λ apart. rw (request-other rows peer past who key call seated (ne_eqb key.peer peer apart))
-    (s.books peer book (sym (others peer (λ e. apart (sym e))) ∙ at)))
-    (cases_eq key.peer peer)) s
+  pub AreParts-update : (point : ℕ) (value : Sample) → AreParts rows past peers
+      → AreParts rows (record { who = who; event = Update point value } ∷ past) peers
+  AreParts-update point value s =
+      AreParts-left (Update point value)
+      (λ peer part p.
+      elim (is_point_of rows peer point) as
+      (λ b. IsPart (own_tables rows peer)
+      (cons_option (if b then Some (updated (point_of rows point).name value) else None)
+      (view_of rows peer past)) part) [
+        | true ↦ IsPart-after (own_tables rows peer) (own_bare rows peer) (view_of rows peer past)
+            part (updated (point_of rows point).name value) tt p
+        | false ↦ p
+      ]) s
 
--- a request whose call neither defines nor deletes a data set
-pub IsStored-setless : (rows : CentreRows) (past : Past) (points : PointsStored)
-    (sets : List Book) (opened : List ℕ) (found : ℕ → Option Key) (who : ℕ) (key : Key)
-    (call : CallKind) → AreSetless (acts_of_call call) → association_in past who ≡ Some key
-    → IsStored rows past points sets opened found
-    → IsStored rows (record { who = who; event = Request call } ∷ past) points sets opened found
-IsStored-setless rows past points sets opened found who key call free seated s =
-    IsStored-request rows past points sets opened found sets who key call seated refl
-    (λ peer apart. refl)
-    (λ book at. IsBook-acts (own_table rows key.peer) (view_of rows key.peer past) book key.ordinal
-    (acts_of_call call) free (s.books key.peer book at)) s
+  pub AreParts-stop : AreParts rows past peers
+      → AreParts rows (record { who = who; event = Stop } ∷ past) peers
+  AreParts-stop s =
+      AreParts-left Stop
+      (λ peer part p. IsPart-after (own_tables rows peer) (own_bare rows peer)
+      (view_of rows peer past) part stopped tt p) s
 
--- a request behind which the peer has another book
-IsStored-rebooked : (rows : CentreRows) (past : Past) (points : PointsStored)
-    (sets : List Book) (opened : List ℕ) (found : ℕ → Option Key) (who : ℕ) (key : Key)
-    (call : CallKind) (new : Book) → association_in past who ≡ Some key → key.peer < length sets
-    → IsBook (own_table rows key.peer)
-    (map (own key.ordinal) (acts_of_call call) ++ view_of rows key.peer past) new
-    → IsStored rows past points sets opened found
-    → IsStored rows (record { who = who; event = Request call } ∷ past) points
-    (set sets key.peer new) opened found
-IsStored-rebooked rows past points sets opened found who key call new seated there b s =
-    let P : Book → Type 0 = λ book. IsBook (own_table rows key.peer)
-    (map (own key.ordinal) (acts_of_call call) ++ view_of rows key.peer past) book in
-    IsStored-request rows past points sets opened found (set sets key.peer new) who key call seated
-    (length-set sets key.peer new)
-    (λ peer apart. slice_get-set_apart sets key.peer peer new apart)
-    (λ book at. subst P (same_Some new book
-    (sym (slice_get-set_here sets key.peer key.peer new refl there) ∙ at)) b) s
+  -- a choice of another table
+  pub AreParts-chosen : (chooser variant : ℕ) (part : Peer)
+      → variant < length (variants_of rows chooser) → slice_get peers chooser ≡ Some part
+      → AreParts rows past peers
+      → AreParts rows (record { who = who; event = Choice chooser variant } ∷ past)
+      (set peers chooser (part_after (own_tables rows chooser) (chose variant) part))
+  AreParts-chosen chooser variant part there at s =
+      let after = part_after (own_tables rows chooser) (chose variant) part in
+      record {
+        many = length-set peers chooser after ∙ s.many;
+        each = λ peer new here.
+            ⊎_elim
+            (λ (mine : (peer ≡ chooser) × (new ≡ after)).
+            subst (λ (q : ℕ). IsPart (own_tables rows q)
+            (view_of rows q (record { who = who; event = Choice chooser variant } ∷ past)) new)
+            (sym mine.0)
+            (subst (λ (x : Peer). IsPart (own_tables rows chooser)
+            (view_of rows chooser (record { who = who; event = Choice chooser variant } ∷ past)) x)
+            (sym mine.1)
+            (rw (eq-eqb chooser chooser refl)
+            (IsPart-after (own_tables rows chooser) (own_bare rows chooser)
+            (view_of rows chooser past) part (chose variant)
+            (omega (arith, there, own_count rows chooser)) (s.each chooser part at)))))
+            (λ (other : (peer ≢ chooser) × (slice_get peers peer ≡ Some new)).
+            rw (ne_eqb chooser peer (λ e. other.0 (sym e))) (s.each peer new other.1))
+            (set_cases peers chooser peer after new here);
+      }
 
-module _ (rows : CentreRows) (past : Past) (points : PointsStored) (sets : List Book)
-    (opened : List ℕ) (found : ℕ → Option Key) (who : ℕ) (key : Key) (book : Book)
-    (at : slice_get sets key.peer ≡ Some book) (seated : association_in past who ≡ Some key)
-    (s : IsStored rows past points sets opened found) where
-  -- a definition that has an error
-  pub IsStored-refused : (set : ObjectName) (members : List ObjectName) (error : SetError)
-      → define_fault (own_table rows key.peer)
-      (sets_in (own_table rows key.peer) (view_of rows key.peer past)) (view_of rows key.peer past)
-      set members ≡ Some error
-      → IsStored rows (record { who = who; event = Request (Define set members) } ∷ past) points
-      sets opened found
-  IsStored-refused set members error fault =
-      let P : Book → Type 0 = λ those. IsBook (own_table rows key.peer)
-      (own key.ordinal (defines set members) ∷ view_of rows key.peer past) those in
-      IsStored-request rows past points sets opened found sets who key (Define set members) seated
-      refl (λ peer apart. refl)
-      (λ those here. subst P (same_Some book those (sym at ∙ here))
-      (IsBook-refused (own_table rows key.peer) (view_of rows key.peer past) book key.ordinal set
-      members error fault (s.books key.peer book at))) s
+-- ---- what is no peer's own
 
-  -- a definition without one
-  pub IsStored-defined : (name : ObjectName) (members : List ObjectName)
-      → define_fault (own_table rows key.peer)
-      (sets_in (own_table rows key.peer) (view_of rows key.peer past)) (view_of rows key.peer past)
-      name members ≡ None
-      → IsIdentifier name.item → 0 < length members
-      → IsStored rows (record { who = who; event = Request (Define name members) } ∷ past) points
-      (set sets key.peer (defined book name.item members)) opened found
-  IsStored-defined name members fault identifier some =
-      IsStored-rebooked rows past points sets opened found who key (Define name members)
-      (defined book name.item members) seated (slice_get_within sets key.peer book at)
-      (IsBook-defined (own_table rows key.peer) (view_of rows key.peer past) book key.ordinal name
-      members fault identifier some (s.books key.peer book at)) s
-
-  -- a deletion
-  pub IsStored-deleted : (names : List ObjectName)
-      → IsStored rows (record { who = who; event = Request (Delete names) } ∷ past) points
-      (set sets key.peer (left_by (table_of rows key.peer).domain names book)) opened found
-  IsStored-deleted names =
-      IsStored-rebooked rows past points sets opened found who key (Delete names)
-      (left_by (table_of rows key.peer).domain names book) seated
-      (slice_get_within sets key.peer book at)
-      (IsBook-left (own_table rows key.peer) (view_of rows key.peer past) book key.ordinal names
-      (s.books key.peer book at)) s
-
--- the place of the peer and its new book may be said in other words
-pub IsStored-at : (rows : CentreRows) (past : Past) (points : PointsStored) (sets : List Book)
-    (opened : List ℕ) (found : ℕ → Option Key) (p q : ℕ) (a b : Book) → p ≡ q → a ≡ b
-    → IsStored rows past points (set sets p a) opened found
-    → IsStored rows past points (set sets q b) opened found
-IsStored-at rows past points sets opened found p q a b same alike s =
-    let P : List Book → Type 0 = λ xs. IsStored rows past points xs opened found in
-    subst P (ap (λ (n : ℕ). set sets n a) same ∙ ap (λ (x : Book). set sets q x) alike) s
-
--- so may the call
-pub IsStored-called : (rows : CentreRows) (past : Past) (points : PointsStored) (sets : List Book)
-    (opened : List ℕ) (found : ℕ → Option Key) (who : ℕ) (a b : CallKind) → a ≡ b
-    → IsStored rows (record { who = who; event = Request a } ∷ past) points sets opened found
-    → IsStored rows (record { who = who; event = Request b } ∷ past) points sets opened found
-IsStored-called rows past points sets opened found who a b same s =
-    let P : CallKind → Type 0 = λ call.
-    IsStored rows (record { who = who; event = Request call } ∷ past) points sets opened found in
-    subst P same s
-
--- and the centre
-pub IsStored-of : (a b : CentreRows) (past : Past) (points : PointsStored) (sets : List Book)
-    (opened : List ℕ) (found : ℕ → Option Key) → a ≡ b
-    → IsStored a past points sets opened found → IsStored b past points sets opened found
-IsStored-of a b past points sets opened found same s =
-    let P : CentreRows → Type 0 = λ rows. IsStored rows past points sets opened found in
-    subst P same s
-
--- a point of which an update is taken is kept
-pub points-there : (rows : CentreRows) (past : Past) (points : PointsStored) (sets : List Book)
-    (opened : List ℕ) (found : ℕ → Option Key) (point : ℕ) (value : Sample)
-    → is_known rows point value ≡ true → IsStored rows past points sets opened found
-    → point < length points.values
-points-there rows past points sets opened found point value known s =
-    let parts = and_parts (ltb point (length rows.points))
-    (same_kind (kind_of value.body) (point_of rows point).kind) known in
-    let there : point < length rows.points = ltb-true point (length rows.points) parts.0 in
-    let many : length (kinds_of rows) ≡ length rows.points =
-    length-map rows.points (λ (row : PointRow). row.kind) in
-    omega (arith, s.points.points, many, there)
-
--- no more data sets of a peer than a number of 32 bits counts
-pub few_sets : (rows : CentreRows) (past : Past) (points : PointsStored) (sets : List Book)
-    (opened : List ℕ) (found : ℕ → Option Key) (peer : ℕ) (book : Book)
-    → slice_get sets peer ≡ Some book → peer < length rows.tables
-    → IsStored rows past points sets opened found → length book.sets < 2 ^ 32
-few_sets rows past points sets opened found peer book at there s =
-    let few = (s.books peer book at).few in
-    let most = (table_is_lawful rows peer s.lawful there).sets in
-    omega (arith, few, most)
-
-known_unless : (here : Bool) (before : Option Key) (key : Key) (n : ℕ)
-    → (before ≡ Some key → key.peer < n)
-    → (if here then None else before) ≡ Some key → key.peer < n
-known_unless true before key n known e = absurd (none-some key e)
-known_unless false before key n known e = known e
-
--- a close
-pub IsStored-close : (rows : CentreRows) (past : Past) (points : PointsStored)
-    (sets : List Book) (opened : List ℕ) (found : ℕ → Option Key) (after : ℕ → Option Key)
-    (who : ℕ) → ((asked : ℕ) → after asked ≡ (if who == asked then None else found asked))
-    → IsStored rows past points sets opened found
-    → IsStored rows (record { who = who; event = Close } ∷ past) points sets opened after
-IsStored-close rows past points sets opened found after who seated s =
-    record {
-      lawful = s.lawful;
-      points = s.points;
-      book_count = s.book_count;
-      books = λ peer book at. book_by rows peer (own_table rows peer) book
-          (association_in past who) closes (moves_in past) tt (s.books peer book at);
-      open_count = s.open_count;
-      opened = λ p there. s.opened p there ∙ ap Some (sym (zero-add (opens_in past p)));
-      seated = λ asked. seated asked ∙ rw (s.seated asked) refl;
-      known = λ asked key e. known_unless (who == asked) (found asked) key (length rows.tables)
-          (s.known asked key) (sym (seated asked) ∙ e);
-    }
-
--- an update of a point
-pub IsStored-update : (rows : CentreRows) (past : Past) (points : PointsStored)
-    (sets : List Book) (opened : List ℕ) (found : ℕ → Option Key) (after : PointsStored)
-    (who p : ℕ) (value : Sample)
-    → KeepsPoints (kinds_of rows) (record { point = p; value = value } ∷ updates_in past) after
-    → IsStored rows past points sets opened found
-    → IsStored rows (record { who = who; event = Update p value } ∷ past) after sets opened found
-IsStored-update rows past points sets opened found after who p value kept s =
-    record {
-      lawful = s.lawful;
-      points = kept;
-      book_count = s.book_count;
-      books = λ peer book at. book_updated (is_some (place_of_see (table_of rows peer) p))
-          (own_table rows peer) (view_of rows peer past) book (point_of rows p).name value
-          (s.books peer book at);
-      open_count = s.open_count;
-      opened = λ q there. s.opened q there ∙ ap Some (sym (zero-add (opens_in past q)));
-      seated = λ asked. elim (who == asked) as
-          (λ b. found asked ≡ (if b then association_in past asked else association_in past asked))
-          [ true ↦ s.seated asked | false ↦ s.seated asked ];
-      known = s.known;
-    }
-
-pub opens-at : (rows : CentreRows) (past : Past) (points : PointsStored)
-    (sets : List Book) (opened : List ℕ) (found : ℕ → Option Key) (peer : ℕ)
-    → peer < length rows.tables → IsStored rows past points sets opened found
-    → get_or opened peer 0 ≡ opens_in past peer
-opens-at rows past points sets opened found peer there s =
-    get_or_from_slice_get opened peer (opens_in past peer) 0 (s.opened peer there)
-
-seated_is_known : (here : Bool) (opened : Key) (before : Option Key) (key : Key) (n : ℕ)
-    → opened.peer < n → (before ≡ Some key → key.peer < n)
-    → (if here then Some opened else before) ≡ Some key → key.peer < n
-seated_is_known true opened before key n there known e =
-    let same : opened.peer ≡ key.peer = ap (λ (k : Key). k.peer) (same_Some opened key e) in
+known_after : (sort : EventSort) (past : Past) (before : Option Key) (key : Key) (n : ℕ)
+    → ((peer : ℕ) → sort ≡ opening peer → peer < n) → (before ≡ Some key → key.peer < n)
+    → association_by sort past before ≡ Some key → key.peer < n
+known_after (opening peer) past before key n opened known e =
+    let same : peer ≡ key.peer = ap (λ (k : Key). k.peer) (same_Some (next_key past peer) key e) in
+    let there : peer < n = opened peer refl in
     omega arith
-seated_is_known false opened before key n there known e = known e
+known_after (requesting call) past before key n opened known e = known e
+known_after taking past before key n opened known e = known e
+known_after closing past before key n opened known e = absurd (none-some key e)
+known_after taking_orders past before key n opened known e = known e
+known_after (feeding move) past before key n opened known e = known e
 
-pub IsStored-open : (rows : CentreRows) (past : Past) (points : PointsStored)
-    (sets : List Book) (opened : List ℕ) (found : ℕ → Option Key) (after : ℕ → Option Key)
-    (who peer : ℕ) → peer < length opened
-    → ((asked : ℕ) → after asked ≡ (if who == asked
-    then Some (record { peer = peer; ordinal = get_or opened peer 0 }) else found asked))
-    → IsStored rows past points sets opened found
-    → IsStored rows (record { who = who; event = Open peer } ∷ past) points sets
-    (set opened peer (get_or opened peer 0 + 1)) after
-IsStored-open rows past points sets opened found after who peer within seated s =
-    let opened_length : length opened ≡ length rows.tables = s.open_count in
-    let before : get_or opened peer 0 ≡ opens_in past peer =
-    opens-at rows past points sets opened found peer (omega arith) s in
-    record {
-      lawful = s.lawful;
-      points = s.points;
-      book_count = s.book_count;
-      books = λ q book at. book_if (peer == q) (own_table rows q) (view_of rows q past) book
-          (opens_in past peer) opens tt (s.books q book at);
-      open_count = length-set opened peer _ ∙ s.open_count;
-      opened = λ q there.
-          ⊎_elim
-          (λ same. rw (eq-eqb peer q same, ← same) (slice_get-set_here opened peer peer _ refl
-          within
-          ∙ ap Some (omega arith)))
-          (λ apart. rw (ne_eqb peer q apart)
-          (slice_get-set_other opened peer q _ (λ e. apart (sym e)) (omega arith)
-          ∙ s.opened q there ∙ ap Some (sym (zero-add (opens_in past q)))))
-          (cases_eq peer q);
-      seated = λ asked. seated asked ∙ rw (before, s.seated asked) refl;
-      known = λ asked key e.
-          seated_is_known (who == asked) (record { peer = peer; ordinal = get_or opened peer 0 })
-          (found asked) key (length rows.tables) (omega arith) (s.known asked key)
-          (sym (seated asked) ∙ e);
-    }
+-- behind an event, whose peer is there if it is an open
+IsCommon-after : (rows : CentreRows) (past : Past) (points kept : PointsStored)
+    (found after : ℕ → Option Key) (who : ℕ) (event : EventKind)
+    → ((peer : ℕ) → sort_of event ≡ opening peer → peer < length rows.tables)
+    → KeepsPoints (kinds_of rows) (updates_in (record { who = who; event = event } ∷ past)) kept
+    → ((asked : ℕ) → after asked
+    ≡ (if who == asked then association_after event past (found asked) else found asked))
+    → IsCommon rows past points found
+    → IsCommon rows (record { who = who; event = event } ∷ past) kept after
+IsCommon-after rows past points kept found after who event opened given seats s = record {
+  lawful = s.lawful;
+  kept = given;
+  seated = λ asked. seats asked ∙ rw (s.seated asked) refl;
+  known = λ asked key e. by key (who == asked) (found asked) (s.known asked key)
+      (sym (seats asked) ∙ e);
+}
+  where
+    by : (key : Key) (here : Bool) (before : Option Key)
+        → (before ≡ Some key → key.peer < length rows.tables)
+        → (if here then association_after event past before else before) ≡ Some key
+        → key.peer < length rows.tables
+    by key true before known e =
+        known_after (sort_of event) past before key (length rows.tables) opened known e
+    by key false before known e = known e
 
--- the same where the ordinal is said in other words
-pub IsStored-opened : (rows : CentreRows) (past : Past) (points : PointsStored)
-    (sets : List Book) (opened : List ℕ) (found : ℕ → Option Key) (after : ℕ → Option Key)
-    (who peer ordinal : ℕ) → peer < length opened → get_or opened peer 0 ≡ ordinal
-    → ((asked : ℕ) → after asked ≡ (if who == asked
-    then Some (record { peer = peer; ordinal = ordinal }) else found asked))
-    → IsStored rows past points sets opened found
-    → IsStored rows (record { who = who; event = Open peer } ∷ past) points sets
-    (set opened peer (ordinal + 1)) after
-IsStored-opened rows past points sets opened found after who peer ordinal within is seated s =
-    let P : ℕ → Type 0 = λ n. ((asked : ℕ) → after asked ≡ (if who == asked
-    then Some (record { peer = peer; ordinal = n }) else found asked))
-    → IsStored rows (record { who = who; event = Open peer } ∷ past) points sets
-    (set opened peer (n + 1)) after in
-    subst P is (λ here. IsStored-open rows past points sets opened found after who peer within here
-    s)
-    seated
+module _ (rows : CentreRows) (past : Past) (points : PointsStored) (found : ℕ → Option Key)
+    (who : ℕ) (s : IsCommon rows past points found) where
+  pub IsCommon-open : (peer : ℕ) (after : ℕ → Option Key) → peer < length rows.tables
+      → ((asked : ℕ) → after asked
+      ≡ (if who == asked then Some (next_key past peer) else found asked))
+      → IsCommon rows (record { who = who; event = Open peer } ∷ past) points after
+  IsCommon-open peer after there seats =
+      IsCommon-after rows past points points found after who (Open peer)
+      (λ opener e. by opener e) s.kept seats s
+    where
+      by : (opener : ℕ) → opening peer ≡ opening opener → opener < length rows.tables
+      by opener e =
+          let same : peer ≡ opener = cc in
+          omega arith
+
+  pub IsCommon-close : (after : ℕ → Option Key)
+      → ((asked : ℕ) → after asked ≡ (if who == asked then None else found asked))
+      → IsCommon rows (record { who = who; event = Close } ∷ past) points after
+  IsCommon-close after seats =
+      IsCommon-after rows past points points found after who Close (λ opener e. absurd cc) s.kept
+      seats s
+
+  -- an event that leaves its seat's association
+  unseated : (event : EventKind)
+      → ((before : Option Key) → association_after event past before ≡ before) → (asked : ℕ)
+      → found asked
+      ≡ (if who == asked then association_after event past (found asked) else found asked)
+  unseated event same asked =
+      rw (same (found asked)) (elim (who == asked) as
+      (λ b. found asked ≡ (if b then found asked else found asked))
+      [ true ↦ refl | false ↦ refl ])
+
+  pub IsCommon-request : (event : EventKind) → IsRequest event
+      → IsCommon rows (record { who = who; event = event } ∷ past) points found
+  IsCommon-request (Open peer) request = absurd request
+  IsCommon-request (Request call) request =
+      IsCommon-after rows past points points found found who (Request call) (λ opener e. absurd cc)
+      s.kept (unseated (Request call) (λ before. refl)) s
+  IsCommon-request Take request = absurd request
+  IsCommon-request Close request = absurd request
+  IsCommon-request (Update point value) request = absurd request
+  IsCommon-request (Choice peer variant) request = absurd request
+  IsCommon-request Stop request = absurd request
+
+  pub IsCommon-take : IsCommon rows (record { who = who; event = Take } ∷ past) points found
+  IsCommon-take =
+      IsCommon-after rows past points points found found who Take (λ opener e. absurd cc)
+      s.kept (unseated Take (λ before. refl)) s
+
+  pub IsCommon-chosen : (peer variant : ℕ)
+      → IsCommon rows (record { who = who; event = Choice peer variant } ∷ past) points found
+  IsCommon-chosen peer variant =
+      IsCommon-after rows past points points found found who (Choice peer variant)
+      (λ opener e. absurd cc) s.kept (unseated (Choice peer variant) (λ before. refl)) s
+
+  pub IsCommon-update : (point : ℕ) (value : Sample) (kept : PointsStored)
+      → KeepsPoints (kinds_of rows) (record { point = point; value = value } ∷ updates_in past) kept
+      → IsCommon rows (record { who = who; event = Update point value } ∷ past) kept found
+  IsCommon-update point value kept given =
+      IsCommon-after rows past points kept found found who (Update point value)
+      (λ opener e. absurd cc) given (unseated (Update point value) (λ before. refl)) s
+
+  pub IsCommon-stop : IsCommon rows (record { who = who; event = Stop } ∷ past) points found
+  IsCommon-stop =
+      IsCommon-after rows past points points found found who Stop (λ opener e. absurd cc)
+      s.kept (unseated Stop (λ before. refl)) s
+
+  -- a point of which an update is taken is kept
+  pub points-there : (point : ℕ) (value : Sample) → is_known rows point value ≡ true
+      → point < length points.values
+  points-there point value known =
+      let parts = and_parts (ltb point (length rows.points))
+      (same_kind (kind_of value.body) (point_of rows point).kind) known in
+      let there : point < length rows.points = ltb-true point (length rows.points) parts.0 in
+      let many : length (kinds_of rows) ≡ length rows.points =
+      length-map rows.points (λ (row : PointRow). row.kind) in
+      omega (arith, s.kept.points, many, there)
+
+pub IsCommon-new : (rows : CentreRows) (points : PointsStored) (found : ℕ → Option Key)
+    → IsCentre rows → KeepsPoints (kinds_of rows) [] points → ((who : ℕ) → found who ≡ None)
+    → IsCommon rows [] points found
+IsCommon-new rows points found lawful kept none = record {
+  lawful = lawful;
+  kept = kept;
+  seated = none;
+  known = λ who key e. absurd (none-some key (sym (none who) ∙ e));
+}
+
+-- ---- what the calls of a node's parts require
+
+-- a part that is there
+pub part_there : (peers : List Peer) (peer : ℕ) → peer < length peers
+    → (part : Peer) × (slice_get peers peer ≡ Some part)
+part_there [] peer there = absurd (omega (arith, there))
+part_there (part ∷ peers) peer there =
+    (get_or (part ∷ peers) peer part, slice_get-get_or (part ∷ peers) peer part there)
+
+module _ (rows : CentreRows) (past : Past) (peers : List Peer) (s : AreParts rows past peers) where
+  pub IsPeerThere-of : (peer : ℕ) → peer < length rows.tables → IsPeerThere rows peers peer
+  IsPeerThere-of peer there = record {
+    table = there;
+    part = omega (arith, there, s.many);
+    in_force = λ part at.
+        omega (arith, (s.each peer part at).force_there, own_count rows peer);
+    chosen = λ part at.
+        omega (arith, (s.each peer part at).last_there, own_count rows peer);
+  }
+
+  -- how many associations a peer has opened
+  pub opens-at : (peer : ℕ) (part : Peer) → slice_get peers peer ≡ Some part
+      → part.opened_in_all ≡ opens_in past peer
+  opens-at peer part at = (s.each peer part at).in_all ∙ opens_in_view rows peer past
+
+  pub MayOpen-of : (peer : ℕ) → opens_in past peer + 1 < 2 ^ 64 → MayOpen peers peer
+  MayOpen-of peer room = λ part at.
+      let all = opens-at peer part at in
+      let fewer = (s.each peer part at).fewer in
+      (omega (arith, all, room), omega (arith, all, room, fewer))
 
 counts_open-le-one : (event : EventKind) (peer : ℕ) → counts_open event peer ≤ 1
 counts_open-le-one (Open opened) peer =
@@ -492,6 +411,7 @@ counts_open-le-one (Request call) peer = omega arith
 counts_open-le-one Take peer = omega arith
 counts_open-le-one Close peer = omega arith
 counts_open-le-one (Update point value) peer = omega arith
+counts_open-le-one (Choice chooser variant) peer = omega arith
 counts_open-le-one Stop peer = omega arith
 
 -- no peer has opened more associations than the history has entries

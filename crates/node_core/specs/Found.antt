@@ -1,12 +1,49 @@
--- The objects of the protocol itself.
+-- What names stand for by the table of a peer that is in force.
+use Rattle.std.specs.Prelude.{◌≡◌, ℕ, ◌<◌, ◌&&◌, true, List, length, find, Option, bytes_eq}
+use Rattle.std.specs.Prelude.{is_some}
 use Rattle.mms_data.specs.Datum.{text}
-use Rattle.tase_views.specs.OwnTable.{OwnTable}
-use Rattle.tase_views.specs.Objects.{Object, constant, report_variable, set_name, time_stamp}
-use Rattle.tase_views.specs.Objects.{conditions_detected, event_code, version, features}
+use Rattle.mms_data.specs.ObjectName.{ObjectName}
+use Rattle.bilateral.specs.declared.rows.See.{See}
+use Rattle.bilateral.specs.declared.rows.Table.{Table}
+use Rattle.bilateral.specs.Rows.{CentreRows, IsCentre, variants_of, variant_of, point_of}
+use Rattle.bilateral.specs.Rows.{place_of_see}
+use Rattle.tase_views.specs.OwnTables.{OwnPoint, OwnTable, own_point, own_table, is_scope_of}
+use Rattle.tase_views.specs.Objects.{Object, constant, report_variable, indication_point, set_name}
+use Rattle.tase_views.specs.Objects.{time_stamp, conditions_detected, event_code, version, features}
 use Rattle.node_core.specs.declared.naming.Special.{Special}
 use Rattle.node_core.specs.declared.naming.Special.TheVariants as specials
+use Rattle.node_core.specs.declared.naming.Found.{Found}
+use Rattle.node_core.specs.declared.naming.Found.TheVariants as found
 
--- the object that one of them is for a peer with this table
+-- a table, with the centre that has its points
+pub record TableInForce : Type 0 where
+  pub rows : CentreRows
+  pub table : Table
+
+-- one of a peer's tables
+abbrev pub table_at : CentreRows → ℕ → ℕ → TableInForce
+table_at rows peer variant = record { rows = rows; table = variant_of rows peer variant }
+
+-- the centre is lawful, the peer is there, and has the table
+pub record IsThere (rows : CentreRows) (peer variant : ℕ) : Type 0 where
+  pub lawful : IsCentre rows
+  pub known : peer < length rows.tables
+  pub there : variant < length (variants_of rows peer)
+
+-- the table as the peer is offered it
+abbrev pub offered : TableInForce → OwnTable
+offered t = own_table t.rows t.table
+
+-- the table's row for the point with a name
+abbrev pub row_named : TableInForce → List ℕ → Option See
+row_named t name = find (λ see. bytes_eq (point_of t.rows see.point).name name) t.table.sees
+
+-- the point of a table that a name stands for, where it is that of a point
+abbrev pub point_named : OwnTable → ObjectName → Option OwnPoint
+point_named table name =
+    find (λ p. is_scope_of table name.scope p.vmd && bytes_eq p.name name.item) table.points
+
+-- the object that an object of the protocol itself is for a peer with this table
 abbrev pub special_object : OwnTable → Special → Object
 special_object table specials.Version = constant version
 special_object table specials.Features = constant features
@@ -15,3 +52,13 @@ special_object table specials.SetName = report_variable set_name
 special_object table specials.TimeStamp = report_variable time_stamp
 special_object table specials.Conditions = report_variable conditions_detected
 special_object table specials.EventCode = report_variable event_code
+
+-- the object that was found
+abbrev pub object_found : TableInForce → Found → Object
+object_found t (found.Special special) = special_object (offered t) special
+object_found t (found.Point see) = indication_point (own_point t.rows see.now)
+
+-- a row that was found is one of the table
+abbrev pub IsOfTable : Table → Found → Type 0
+IsOfTable table (found.Special special) = Unit {0}
+IsOfTable table (found.Point see) = is_some (place_of_see table see.now.point) ≡ true

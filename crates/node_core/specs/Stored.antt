@@ -1,62 +1,84 @@
 -- What a node keeps beside its history, so that no step looks through it.
-use Rattle.std.specs.Prelude.{◌≡◌, ℕ, ◌<◌, List, length, Option, Some, slice_get, nat_eq}
+use Rattle.std.specs.Prelude.{◌≡◌, ℕ, ◌+◌, ◌^◌, ◌<◌, List, length, Option, Some, slice_get}
+use Rattle.std.specs.Prelude.{slice_set, nat_eq}
 use Rattle.std.specs.HashMap.{get}
 use Rattle.point_db.specs.Stored.{Stored as PointsStored, Keeps as KeepsPoints}
+use Rattle.bilateral.specs.Rows.{CentreRows, IsCentre, variants_of}
 use Rattle.data_sets.specs.Books.{Book}
-use Rattle.bilateral.specs.Rows.{CentreRows, IsCentre}
 use Rattle.sbo_device.specs.declared.key.Key.{Key}
-use Rattle.tase_views.specs.declared.call.CallKind.{CallKind}
-use Rattle.tase_views.specs.declared.reply.ReplyKind.{ReplyKind}
-use Rattle.tase_views.specs.Answers.{reply_to}
 use Rattle.tase_views.specs.declared.event.EventKind.{EventKind}
-use Rattle.tase_views.specs.declared.event.EventKind.TheVariants.{Open, Request, Take, Close}
-use Rattle.tase_views.specs.declared.event.EventKind.TheVariants.{Update, Stop}
-use Rattle.tase_views.specs.History.{Past, opens_in, association_in}
-use Rattle.tase_views.specs.OwnTable.{own_table}
+use Rattle.tase_views.specs.declared.event.EventKind.TheVariants.{Request}
+use Rattle.tase_views.specs.declared.reply.ReplyKind.{ReplyKind}
+use Rattle.tase_views.specs.History.{Past, association_in}
+use Rattle.tase_views.specs.OwnTables.{OwnTable, own_tables, table_in}
+use Rattle.tase_views.specs.Moves.{Act}
 use Rattle.tase_views.specs.View.{view_of}
-use Rattle.node_core.specs.declared.store.Store.{Store}
+use Rattle.tase_views.specs.Answers.{reply_to}
+use Rattle.node_core.specs.declared.hub.Hub.{Hub}
+use Rattle.node_core.specs.declared.parts.Parts.{Parts}
+use Rattle.node_core.specs.declared.peer.Peer.{Peer}
 use Rattle.node_core.specs.LastValues.{kinds_of, updates_in}
-use Rattle.node_core.specs.SetsKept.{IsBook}
+use Rattle.node_core.specs.PeerParts.{IsPart, part_behind}
 
--- the centre is lawful; the points, each peer's data sets and count of opens, and each seat's
--- association are those of this past
-pub record IsStored (rows : CentreRows) (past : Past) (stored : PointsStored) (sets : List Book)
-    (opens : List ℕ) (found : ℕ → Option Key) : Type 0 where
+-- the centre is lawful; the points, and each seat's association, are those of this past
+pub record IsCommon (rows : CentreRows) (past : Past) (points : PointsStored)
+    (found : ℕ → Option Key) : Type 0 where
   pub lawful : IsCentre rows
-  pub points : KeepsPoints (kinds_of rows) (updates_in past) stored
-  pub book_count : length sets ≡ length rows.tables
-  pub books : (peer : ℕ) (book : Book) → slice_get sets peer ≡ Some book
-      → IsBook (own_table rows peer) (view_of rows peer past) book
-  pub open_count : length opens ≡ length rows.tables
-  pub opened : (p : ℕ) → p < length rows.tables → slice_get opens p ≡ Some (opens_in past p)
+  pub kept : KeepsPoints (kinds_of rows) (updates_in past) points
   pub seated : (who : ℕ) → found who ≡ association_in past who
   pub known : (who : ℕ) (key : Key) → found who ≡ Some key → key.peer < length rows.tables
 
--- what the store of a node with this past holds
-abbrev pub Keeps : CentreRows → Past → Store → Type 0
-Keeps rows past store = IsStored rows past store.points store.sets.items store.opens.items
-    (get nat_eq store.associations)
+-- the association of a seat, as the hub finds it
+abbrev pub found_by : Hub → ℕ → Option Key
+found_by hub who = get nat_eq hub.seats who
 
--- an event that changes nothing of what is kept so
-abbrev pub IsQuiet : EventKind → Type 0
-IsQuiet (Open peer) = ⊥
-IsQuiet (Request call) = ⊥
-IsQuiet Take = Unit {0}
-IsQuiet Close = ⊥
-IsQuiet (Update point value) = ⊥
-IsQuiet Stop = ⊥
+-- each peer has a part, which is that of its view of this past
+pub record AreParts (rows : CentreRows) (past : Past) (peers : List Peer) : Type 0 where
+  pub many : length peers ≡ length rows.tables
+  pub each : (peer : ℕ) (part : Peer) → slice_get peers peer ≡ Some part
+      → IsPart (own_tables rows peer) (view_of rows peer past) part
+
+-- what a node with this past keeps
+pub record IsNode (rows : CentreRows) (past : Past) (hub : Hub) (parts : Parts) : Type 0 where
+  pub common : IsCommon rows past hub.points (found_by hub)
+  pub peers : AreParts rows past parts.peers.items
+
+-- a peer has a table and a part, whose tables are there
+pub record IsPeerThere (rows : CentreRows) (peers : List Peer) (peer : ℕ) : Type 0 where
+  pub table : peer < length rows.tables
+  pub part : peer < length peers
+  pub in_force : (part : Peer) → slice_get peers peer ≡ Some part
+      → part.variant < length (variants_of rows peer)
+  pub chosen : (part : Peer) → slice_get peers peer ≡ Some part
+      → part.chosen_last < length (variants_of rows peer)
+
+-- a peer may open one more association, as far as numbers of 64 bits go
+abbrev pub MayOpen : List Peer → ℕ → Type 0
+MayOpen peers peer = (part : Peer) → slice_get peers peer ≡ Some part
+    → (part.opened_in_all + 1 < 2 ^ 64) × (part.open_now + 1 < 2 ^ 64)
+
+-- parts of which that of one peer has changed so, and no other
+abbrev pub IsChanged : List Peer → ℕ → (Peer → Peer) → List Peer → Type 0
+IsChanged old peer change new = (part : Peer) → slice_get old peer ≡ Some part
+    → new ≡ slice_set old peer (change part)
+
+-- parts behind acts of an association, where what is said of its peer's table in force and of its
+-- data sets holds
+abbrev pub IsAsked : CentreRows → Key → List Act → (OwnTable → Book → Type 0) → List Peer
+    → List Peer → Type 0
+IsAsked rows key these Said old new =
+    let tables = own_tables rows key.peer in
+    (part : Peer) → slice_get old key.peer ≡ Some part
+    → Said (table_in tables part.variant) part.book
+    → new ≡ slice_set old key.peer (part_behind tables key.ordinal these part)
 
 -- a request
 abbrev pub IsRequest : EventKind → Type 0
 IsRequest (Request call) = Unit {0}
 IsRequest event = ⊥
 
--- the reply to a call of the association with this key, behind this past
-abbrev pub IsReplyTo : CentreRows → Past → Key → CallKind → ReplyKind → Type 0
-IsReplyTo rows past key call reply = reply
-    ≡ reply_to (own_table rows key.peer) (view_of rows key.peer past) key.ordinal call
-
--- the reply to an event that is a request
+-- the reply to an event that is a request of the association with this key, behind this past
 abbrev pub IsReplied : CentreRows → Past → Key → EventKind → ReplyKind → Type 0
-IsReplied rows past key (Request call) reply = IsReplyTo rows past key call reply
+IsReplied rows past key (Request call) reply = reply
+    ≡ reply_to (own_tables rows key.peer) (view_of rows key.peer past) key.ordinal call
 IsReplied rows past key event reply = ⊥

@@ -1,12 +1,16 @@
 //! One step of a TASE.2 node: from an event to its answer and one more entry in the history.
 #![tactic(auto)]
 
+mod hub;
+mod in_force;
 mod listing;
 mod log;
 mod naming;
 mod node;
+mod parts;
+mod peer;
 mod refusals;
+mod replies;
 mod sets;
-mod store;
 
 pub use node::Node;

@@ -4,18 +4,19 @@ ghost use Rattle.std.specs.Prelude.{if◌then◌else◌, IfOk, not, option_map, 
 ghost use Rattle.std.specs.List.{All};
 ghost use Rattle.std.specs.Ordering.{int_eq};
 ghost use Rattle.mms_data.specs.ObjectName.{IsIdentifier};
-ghost use Rattle.bilateral.specs.Rows.{IsCentre};
-ghost use Rattle.tase_views.specs.OwnTable.{OwnTable, own_table, own_point, is_scope_of};
-ghost use Rattle.tase_views.specs.Objects.{own_objects, special_objects, report_variables};
-ghost use Rattle.tase_views.specs.View.{View};
+ghost use Rattle.tase_views.specs.OwnTables.{OwnTable, OwnTables, own_point, is_scope_of};
+ghost use Rattle.tase_views.specs.Objects.{objects, special_objects, report_variables};
+ghost use Rattle.tase_views.specs.View.{View, held};
 ghost use Rattle.tase_views.specs.Answers.{set_names};
 ghost use Rattle.tase_views.specs.NameLists as lists;
-ghost use Rattle.node_core.specs.SetsKept.{IsBook};
 ghost use Rattle.tase_views.specs.Replies.{IsReply};
+ghost use Rattle.node_core.specs.Found.{offered};
+ghost use Rattle.node_core.specs.SetsKept.{IsBook};
 
+use crate::in_force::InForce;
 use crate::naming::is_found_in;
 use ber_values::Visible;
-use bilateral::{Centre, See};
+use bilateral::See;
 use data_sets::SetBook;
 use mms_data::Scope;
 use std::alloc::{AllocError, Global};
@@ -28,23 +29,20 @@ use tase_views::{
 /// `after` on (ISO 9506-2, `GetNameList`).
 pub fn list_names(
     alloc: Global,
-    centre: &Centre,
-    peer: u32,
+    table: &InForce<'_>,
     book: &SetBook,
     class: i64,
     scope: &Scope,
     after: &Option<Visible>,
 ) -> Result<ReplyKind, AllocError>
-    requires known { peer < length centre.now.tables }
-    requires lawful { IsCentre centre.now }
     requires named { All (λ set. IsIdentifier set.name) book.now.sets }
-    ensures value { (view : View) → IsBook (own_table centre.now peer) view book.now
-        → let table = own_table centre.now peer in IfOk result (λ reply. reply
-        ≡ lists.names_listed table (own_objects table) (set_names table view) class scope.now
-        after.now) }
+    ensures value { (tables : OwnTables) (view : View) → offered table.now ≡ held tables view
+        → IsBook tables view book.now → IfOk result (λ reply. reply
+        ≡ lists.names_listed (held tables view) (objects (held tables view))
+        (set_names tables view) class scope.now after.now) }
     ensures lawful { IfOk result IsReply }
 {
-    let domain = &centre.table(peer).domain;
+    let domain = &table.table().domain;
     if is_foreign(domain, scope) {
         return Ok(ReplyKind::Error {
             class: ACCESS_ERRORS,
@@ -52,7 +50,7 @@ pub fn list_names(
         });
     }
     if is_class(class, NAMED_VARIABLES) {
-        let mut names = variables(alloc, centre, peer, scope, after)?;
+        let mut names = variables(alloc, table, scope, after)?;
         return first_of(alloc, names.as_mut_slice());
     }
     if is_class(class, DOMAINS) && is_vmd(scope) {
@@ -231,22 +229,18 @@ fn push_after<'a>(
 /// the protocol itself, and of the peer's points.
 fn variables<'a>(
     alloc: Global,
-    centre: &'a Centre,
-    peer: u32,
+    table: &InForce<'a>,
     scope: &Scope,
     after: &Option<Visible>,
 ) -> Result<Vec<&'a [u8]>, AllocError>
-    requires known { peer < length centre.now.tables }
-    requires lawful { IsCentre centre.now }
     ensures { IfOk result (λ names. map (λ name. name.now) names.items
         ≡ filter (lists.is_after after.now)
-        (lists.variables_in (own_table centre.now peer) (own_objects (own_table centre.now peer))
-        scope.now)) }
+        (lists.variables_in (offered table.now) (objects (offered table.now)) scope.now)) }
 {
-    let table = centre.table(peer);
-    let mut names = specials(alloc, &table.domain, scope, after)?;
-    for see in table.sees.as_slice() {
-        if let Some(name) = listed_name(centre, &table.domain, scope, after, see) {
+    let own = table.table();
+    let mut names = specials(alloc, &own.domain, scope, after)?;
+    for see in own.sees.as_slice() {
+        if let Some(name) = listed_name(table, scope, after, see) {
             names.push(name)?;
         }
     }
@@ -255,20 +249,19 @@ fn variables<'a>(
 
 /// The name of a row's point, if it stands in a list.
 fn listed_name<'a>(
-    centre: &'a Centre,
-    domain: &Visible,
+    table: &InForce<'a>,
     scope: &Scope,
     after: &Option<Visible>,
     see: &See,
 ) -> Option<&'a [u8]>
-    requires { see.now.point < length centre.now.points }
-    ensures { (table : OwnTable) → table.domain ≡ domain.now
-        → option_map (λ name. name.now) result
-        ≡ (if is_scope_of table scope.now see.now.vmd
-        && lists.is_after after.now (own_point centre.now see.now).name
-        then Some (own_point centre.now see.now).name else None) }
+    requires { see.now.point < length table.now.rows.points }
+    ensures { option_map (λ name. name.now) result
+        ≡ (if is_scope_of (offered table.now) scope.now see.now.vmd
+        && lists.is_after after.now (own_point table.now.rows see.now).name
+        then Some (own_point table.now.rows see.now).name else None) }
 {
-    let name = centre.point(see.point).name.as_slice();
+    let name = table.point(see.point).name.as_slice();
+    let domain = &table.table().domain;
     (is_found_in(domain, scope, see.vmd) && is_after(after, name)).then_some(name)
 }
 

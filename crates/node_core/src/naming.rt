@@ -1,15 +1,26 @@
-ghost use Rattle.std.specs.Prelude.{◌≡◌, ◌<◌, ◌&&◌, not, length, Some, None, true, is_some, IfSome};
-ghost use Rattle.std.specs.Prelude.{MatchOption, option_map, find, bytes_eq};
-ghost use Rattle.bilateral.specs.Rows.{IsCentre, table_of, place_of_see};
-ghost use Rattle.tase_views.specs.OwnTable.{OwnTable, own_table, own_point, is_scope_of};
-ghost use Rattle.tase_views.specs.OwnTable.{point_named};
-ghost use Rattle.tase_views.specs.Objects.{own_object, special_objects, is_named};
+//! What names stand for.
+ghost use Rattle.std.specs.Prelude.{◌≡◌, ◌&&◌, not, Some, true, is_some, IfSome};
+ghost use Rattle.std.specs.Prelude.{option_map, find, bytes_eq};
+ghost use Rattle.bilateral.specs.Rows.{place_of_see};
+ghost use Rattle.tase_views.specs.OwnTables.{OwnTable, own_point, is_scope_of};
+ghost use Rattle.tase_views.specs.Objects.{object_named, special_objects, is_named};
 ghost use Rattle.tase_views.specs.Objects as objects;
-ghost use Rattle.node_core.specs.Found.{special_object};
+ghost use Rattle.node_core.specs.Found.{offered, special_object, object_found, point_named};
+ghost use Rattle.node_core.specs.Found.{IsOfTable};
 
+use crate::in_force::InForce;
 use ber_values::Visible;
-use bilateral::{Centre, See};
+use bilateral::See;
 use mms_data::{Name, Scope};
+
+/// What a name stands for.
+#[derive(Clone, Copy)]
+pub enum Found<'a> {
+    /// An object of the protocol itself.
+    Special(Special),
+    /// The point of a row of the table.
+    Point(&'a See),
+}
 
 /// An object of the protocol itself.
 #[derive(Clone, Copy)]
@@ -93,27 +104,48 @@ fn report_variable(item: &[u8]) -> Option<Special>
     }
 }
 
-/// Whether a name stands for an object.
-pub fn is_there(centre: &Centre, peer: u32, name: &Name) -> bool
-    requires known { peer < length centre.now.tables }
-    requires lawful { IsCentre centre.now }
-    ensures { result ≡ is_some (own_object (own_table centre.now peer) name.now) }
+/// What a name stands for by a table; nothing else exists.
+pub fn find_object<'a>(table: &InForce<'a>, name: &Name) -> Option<Found<'a>>
+    ensures named { option_map (object_found table.now) result
+        ≡ object_named (offered table.now) name.now }
+    ensures there { IfSome result (IsOfTable table.now.table) }
 {
-    match find_special(&centre.table(peer).domain, name) {
-        Some(_) => true,
-        None => find_named(centre, peer, name).is_some(),
+    match find_special(&table.table().domain, name) {
+        Some(special) => Some(Found::Special(special)),
+        None => match find_point(table, name) {
+            Some(see) => Some(Found::Point(see)),
+            None => None,
+        },
     }
 }
 
-/// Whether a data set may have a name as its member: that of a point or of a report variable.
-pub fn is_member(centre: &Centre, peer: u32, name: &Name) -> bool
-    requires known { peer < length centre.now.tables }
-    requires lawful { IsCentre centre.now }
-    ensures { result ≡ objects.is_member (own_object (own_table centre.now peer) name.now) }
+/// The row of a table that a name stands for.
+fn find_point<'a>(table: &InForce<'a>, name: &Name) -> Option<&'a See>
+    ensures named { option_map (λ see. own_point table.now.rows see.now) result
+        ≡ point_named (offered table.now) name.now }
+    ensures there { IfSome result (λ see. is_some
+        (place_of_see table.now.table see.now.point) ≡ true) }
 {
-    match find_special(&centre.table(peer).domain, name) {
-        Some(special) => is_report_variable(special),
-        None => find_named(centre, peer, name).is_some(),
+    let own = table.table();
+    let see = table.find_row(name.item().as_slice())?;
+    is_found_in(&own.domain, name.scope(), see.vmd).then_some(see)
+}
+
+/// Whether a name stands for an object.
+pub fn is_there(table: &InForce<'_>, name: &Name) -> bool
+    ensures { result ≡ is_some (object_named (offered table.now) name.now) }
+{
+    find_object(table, name).is_some()
+}
+
+/// Whether a data set may have a name as its member: that of a point or of a report variable.
+pub fn is_member(table: &InForce<'_>, name: &Name) -> bool
+    ensures { result ≡ objects.is_member (object_named (offered table.now) name.now) }
+{
+    match find_object(table, name) {
+        Some(Found::Special(special)) => is_report_variable(special),
+        Some(Found::Point(_)) => true,
+        None => false,
     }
 }
 
@@ -125,24 +157,6 @@ fn is_report_variable(special: Special) -> bool
         Special::Version | Special::Features | Special::TableId => false,
         Special::SetName | Special::TimeStamp | Special::Conditions | Special::EventCode => true,
     }
-}
-
-/// The row of a peer's table that a name stands for.
-pub fn find_named<'a>(centre: &'a Centre, peer: u32, name: &Name) -> Option<&'a See>
-    requires known { peer < length centre.now.tables }
-    requires lawful { IsCentre centre.now }
-    ensures named { MatchOption result
-        (point_named (own_table centre.now peer) name.now ≡ None)
-        (λ see. point_named (own_table centre.now peer) name.now
-        ≡ Some (own_point centre.now see.now)) }
-    ensures seen { IfSome result (λ see. is_some
-        (place_of_see (table_of centre.now peer) see.now.point) ≡ true) }
-{
-    let point = centre.find_point(name.item().as_slice())?;
-    let place = centre.find_see(peer, 0, point)?;
-    let table = centre.table(peer);
-    let see = &table.sees.as_slice()[place as usize];
-    is_found_in(&table.domain, name.scope(), see.vmd).then_some(see)
 }
 
 /// Whether a scope is where a point is found, for a peer with this domain.

@@ -1,26 +1,35 @@
 ghost use Rattle.std.specs.Prelude.{◌≡◌, ◌<◌, ◌≤◌, ◌^◌, [], length, reverse, slice_get, Some};
 ghost use Rattle.std.specs.Prelude.{None, false, IfOk, OnOk, OnErr};
 ghost use Rattle.std.specs.Arc.{arc_value};
-ghost use Rattle.tase_views.specs.declared.event.EventKind.TheVariants.{Open, Update, Close, Stop};
+ghost use Rattle.bilateral.specs.Rows.{variants_of};
+ghost use Rattle.tase_views.specs.declared.event.EventKind.TheVariants.{Open, Take, Close};
+ghost use Rattle.tase_views.specs.declared.event.EventKind.TheVariants.{Update, Table, Stop};
 ghost use Rattle.tase_views.specs.Setup.{Setup};
 ghost use Rattle.tase_views.specs.History.{association_in};
+ghost use Rattle.tase_views.specs.OwnTables.{own_tables};
+ghost use Rattle.tase_views.specs.View.{view_of};
+ghost use Rattle.tase_views.specs.View as views;
 ghost use Rattle.tase_views.specs.Weights.{weight_of};
+ghost use Rattle.tase_views.specs.Answers as answers;
 ghost use Rattle.tase_views.specs.Outcomes.{is_ending, refusal_of, IsAnswer, IsRightOutcome};
 ghost use Rattle.node_core.specs.NodeState.{with_entry};
-ghost use Rattle.node_core.specs.Stored.{IsQuiet, IsRequest, IsReplied};
+ghost use Rattle.node_core.specs.SetsKept.{IsBook};
+ghost use Rattle.node_core.specs.Stored.{IsRequest, IsReplied};
 
-mod replies;
-
+use crate::hub::Hub;
+use crate::in_force::InForce;
 use crate::log::Log;
+use crate::parts::Parts;
 use crate::refusals::{first_refusal, name_refusal, seat_refusal};
-use crate::store::Store;
+use crate::replies::PeerView;
 use bilateral::Centre;
+use data_sets::SetBook;
 use sbo_device::Key;
 use std::alloc::{AllocError, Global};
 use std::marker::Model;
 use std::sync::Arc;
 use tase_points::PointValue;
-use tase_views::{Answer, Entry, Event, EventKind, ReplyKind, Reports, StepFault};
+use tase_views::{Answer, Call, Entry, Event, EventKind, Reply, ReplyKind, Reports, StepFault};
 
 /// A TASE.2 node without input and output: its centre's tables and the history of its accepted
 /// events.
@@ -28,7 +37,8 @@ use tase_views::{Answer, Entry, Event, EventKind, ReplyKind, Reports, StepFault}
 pub struct Node {
     centre: Arc<Centre>,
     log: Log,
-    store: Store,
+    hub: Hub,
+    parts: Parts,
 }
 
 impl Model for Node {
@@ -37,7 +47,7 @@ impl Model for Node {
     ghost use Rattle.mms_data.specs.contracts.data.MmsData as datum;
     ghost use Rattle.std.specs.HashMap.{hash_map_len};
     ghost use Rattle.node_core.specs.NodeState.{NodeState};
-    ghost use Rattle.node_core.specs.Stored.{Keeps};
+    ghost use Rattle.node_core.specs.Stored.{IsNode};
     ghost use Rattle.node_core.specs.Room.{HasRoom, past_of};
 
     ghost Value = { NodeState };
@@ -49,8 +59,8 @@ impl Model for Node {
       history = n.log.entries.items;
     } };
 
-    ghost invariant = { λ n. Keeps (arc_value n.centre) (past_of n.log) n.store
-        × HasRoom n.log (hash_map_len n.store.associations) };
+    ghost invariant = { λ n. IsNode (arc_value n.centre) (past_of n.log) n.hub n.parts
+        × HasRoom n.log (hash_map_len n.hub.seats) };
 }
 
 impl Node {
@@ -60,9 +70,15 @@ impl Node {
         ensures { let setup : Setup = record { centre = arc_value centre; limit = limit } in
             IfOk result (λ node. node ≡ record { setup = setup; history = [] }) }
     {
-        let store = Store::new(alloc, &centre)?;
+        let hub = Hub::new(alloc, &centre)?;
+        let parts = Parts::new(alloc, &centre)?;
         let log = Log::new(alloc, limit)?;
-        Ok(Node { centre, log, store })
+        Ok(Node {
+            centre,
+            log,
+            hub,
+            parts,
+        })
     }
 
     /// Takes one event of a seat. An answer adds exactly this entry to the history; a fault changes
@@ -118,10 +134,42 @@ impl Node {
     {
         first_refusal(
             self.log.stop_refusal(event),
-            seat_refusal(self.store.association(who), event),
+            seat_refusal(self.hub.association(who), event),
             name_refusal(&self.centre, event),
             self.log.weight_refusal(event),
         )
+    }
+
+    /// The number of a peer's table in force.
+    pub fn force(&self, peer: u32) -> u32
+        requires { peer < length self.now.setup.centre.tables }
+        ensures force { result
+            ≡ views.force (view_of self.now.setup.centre peer (reverse self.now.history)) }
+        ensures there { result < length (variants_of self.now.setup.centre peer) }
+    {
+        self.parts.force(peer)
+    }
+
+    /// The data sets of a peer.
+    fn book(&self, peer: u32) -> &SetBook
+        requires { peer < length self.now.setup.centre.tables }
+        ensures { let rows = self.now.setup.centre in IsBook (own_tables rows peer)
+            (view_of rows peer (reverse self.now.history)) result.now }
+    {
+        self.parts.book(peer)
+    }
+
+    /// The reply to a call of an association.
+    fn reply_to(&self, alloc: Global, key: Key, call: &Call) -> Result<Reply, AllocError>
+        requires { key.peer < length self.now.setup.centre.tables }
+        ensures { let rows = self.now.setup.centre in IfOk result (λ reply. reply
+            ≡ answers.reply_to (own_tables rows key.peer)
+            (view_of rows key.peer (reverse self.now.history)) key.ordinal call.now) }
+    {
+        let table = InForce::new(&self.centre, key.peer, self.force(key.peer));
+        let shown = PeerView::new(table, self.book(key.peer), self.hub.points());
+        let reply = shown.reply_to(alloc, call)?;
+        Ok(reply)
     }
 
     /// Takes an event that isn't refused.
@@ -139,23 +187,28 @@ impl Node {
                 self.open(who, peer, event)
             }
             EventKind::Request { call } => {
-                let key = self.store.association(who).unwrap();
+                let key = self.hub.association(who).unwrap();
                 let reply = self.reply_to(alloc, key, call)?;
                 self.request(who, key, event, reply.kind())?;
                 Ok(Answer::Reply(reply))
             }
             EventKind::Take => {
-                self.note(who, event)?;
+                self.take(who, event)?;
                 Ok(Answer::Reports(Reports::new(alloc)))
             }
             EventKind::Close => {
-                self.close(who, event);
+                self.close(alloc, who, event);
                 Ok(Answer::Closed)
             }
             EventKind::Update { point, value } => {
                 let point = *point;
                 let value = *value;
                 self.update(who, point, value, event)
+            }
+            EventKind::Table { peer, variant } => {
+                let peer = *peer;
+                let variant = *variant;
+                self.choose(alloc, who, peer, variant, event)
             }
             EventKind::Stop => {
                 self.stop(who, event);
@@ -172,8 +225,10 @@ impl Node {
         ensures ok { OnOk result (self.new ≡ with_entry self.old who event) }
         ensures err { OnErr result (self.new ≡ self.old) }
     {
-        self.log.reserve(self.store.open_count() + 1)?;
-        let key = self.store.open(who, peer)?;
+        self.log.reserve(self.hub.open_count() + 1)?;
+        let key = self.parts.next_key(peer);
+        self.hub.seat(who, key)?;
+        self.parts.open(peer);
         self.log.append(who, event);
         Ok(Answer::Opened { key })
     }
@@ -192,8 +247,29 @@ impl Node {
         ensures ok { OnOk result (self.new ≡ with_entry self.old who event) }
         ensures err { OnErr result (self.new ≡ self.old) }
     {
-        self.log.reserve(self.store.open_count())?;
-        self.store.update(who, point, value);
+        self.log.reserve(self.hub.open_count())?;
+        self.hub.update(point, value);
+        self.log.append(who, event);
+        Ok(Answer::Noted)
+    }
+
+    fn choose(
+        &mut self,
+        alloc: Global,
+        who: u64,
+        peer: u32,
+        variant: u32,
+        event: Event,
+    ) -> Result<Answer, AllocError>
+        requires table { event ≡ Table peer variant }
+        requires free { refusal_of self.old.setup (reverse self.old.history) who event ≡ None }
+        ensures answer { IfOk result
+            (IsAnswer self.old.setup (reverse self.old.history) who event) }
+        ensures ok { OnOk result (self.new ≡ with_entry self.old who event) }
+        ensures err { OnErr result (self.new ≡ self.old) }
+    {
+        self.log.reserve(self.hub.open_count())?;
+        self.parts.choose(alloc, &self.centre, peer, variant);
         self.log.append(who, event);
         Ok(Answer::Noted)
     }
@@ -214,30 +290,31 @@ impl Node {
         ensures ok { OnOk result (self.new ≡ with_entry self.old who event) }
         ensures err { OnErr result (self.new ≡ self.old) }
     {
-        self.log.reserve(self.store.open_count())?;
-        self.store.request(&self.centre, key, &event, reply)?;
+        self.log.reserve(self.hub.open_count())?;
+        self.parts.request(&self.centre, key, &event, reply)?;
         self.log.append(who, event);
         Ok(())
     }
 
-    /// Adds a take to the history.
-    fn note(&mut self, who: u64, event: Event) -> Result<(), AllocError>
-        requires quiet { IsQuiet event }
+    fn take(&mut self, who: u64, event: Event) -> Result<(), AllocError>
+        requires take { event ≡ Take }
         requires free { refusal_of self.old.setup (reverse self.old.history) who event ≡ None }
         ensures ok { OnOk result (self.new ≡ with_entry self.old who event) }
         ensures err { OnErr result (self.new ≡ self.old) }
     {
-        self.log.reserve(self.store.open_count())?;
+        self.log.reserve(self.hub.open_count())?;
         self.log.append(who, event);
         Ok(())
     }
 
-    fn close(&mut self, who: u64, event: Event)
+    fn close(&mut self, alloc: Global, who: u64, event: Event)
         requires close { event ≡ Close }
         requires free { refusal_of self.old.setup (reverse self.old.history) who event ≡ None }
         ensures { self.new ≡ with_entry self.old who event }
     {
-        self.store.close(who);
+        let key = self.hub.association(who).unwrap();
+        self.hub.unseat(who);
+        self.parts.close(alloc, &self.centre, key.peer);
         self.log.append(who, event);
     }
 

@@ -26,7 +26,7 @@ pub fn seat_refusal(found: Option<Key>, event: &Event) -> Option<StepFault>
     match event.kind() {
         EventKind::Open { .. } => found.map(|_| StepFault::Already),
         EventKind::Request { .. } | EventKind::Take | EventKind::Close => no_association(found),
-        EventKind::Update { .. } | EventKind::Stop => None,
+        EventKind::Update { .. } | EventKind::Table { .. } | EventKind::Stop => None,
     }
 }
 
@@ -40,13 +40,15 @@ fn no_association(found: Option<Key>) -> Option<StepFault>
     }
 }
 
-/// Refuses a peer or a point that the centre hasn't, and a value of another kind than its point's.
+/// Refuses a peer, a point or a table that the centre hasn't, and a value of another kind than its
+/// point's.
 pub fn name_refusal(centre: &Centre, event: &Event) -> Option<StepFault>
     ensures { result ≡ causes.name_refusal centre.now event.now }
 {
     let known = match event.kind() {
         EventKind::Open { peer } => *peer < centre.peers(),
         EventKind::Update { point, value } => is_known(centre, *point, value),
+        EventKind::Table { peer, variant } => has_table(centre, *peer, *variant),
         _ => true,
     };
     if known {
@@ -61,4 +63,11 @@ fn is_known(centre: &Centre, point: u32, value: &PointValue) -> bool
     ensures known { result ≡ causes.is_known centre.now point value.now }
 {
     point < centre.points() && value.body().kind().is_same(centre.point(point).kind)
+}
+
+/// Whether a peer is the centre's, and has a table with this number.
+fn has_table(centre: &Centre, peer: u32, variant: u32) -> bool
+    ensures { result ≡ causes.has_table centre.now peer variant }
+{
+    peer < centre.peers() && variant < centre.variants(peer)
 }

@@ -1,26 +1,27 @@
 //! The data sets of a peer: replies about them.
-ghost use Rattle.std.specs.Prelude.{◌≡◌, ◌<◌, ◌^◌, ◌&&◌, ◌||◌, ◌↔◌, ℕ, IsTrue, false};
-ghost use Rattle.std.specs.Prelude.{if◌then◌else◌, length, is_some, nat_le, nat_lt, slice_get};
+ghost use Rattle.std.specs.Prelude.{◌≡◌, ◌<◌, ◌^◌, ◌&&◌, ◌||◌, ◌↔◌, ℕ, IsTrue, IfSome};
+ghost use Rattle.std.specs.Prelude.{if◌then◌else◌, length, is_some, nat_le, nat_lt};
 ghost use Rattle.std.specs.Prelude.{IfOk};
 ghost use Rattle.std.specs.List.{list_all};
-ghost use Rattle.std.specs.Option.{option_copied, option_map_or};
+ghost use Rattle.std.specs.Option.{option_copied};
 ghost use Rattle.mms_data.specs.declared.object_name.Scope.TheVariants.{Domain as InDomain};
 ghost use Rattle.mms_data.specs.ObjectName.{same_scope};
 ghost use Rattle.table_words.specs.Words as identifiers;
 ghost use Rattle.data_sets.specs.Books.{members_in, deleted};
-ghost use Rattle.bilateral.specs.Rows.{IsCentre};
-ghost use Rattle.tase_views.specs.OwnTable.{OwnTable, own_table};
+ghost use Rattle.tase_views.specs.OwnTables.{OwnTables};
 ghost use Rattle.tase_views.specs.Objects as objects;
-ghost use Rattle.tase_views.specs.View.{View};
+ghost use Rattle.tase_views.specs.View.{View, held};
 ghost use Rattle.tase_views.specs.Sets as sets;
+ghost use Rattle.tase_views.specs.Slots.{sets_in, members_of};
 ghost use Rattle.tase_views.specs.Answers as answers;
 ghost use Rattle.tase_views.specs.Replies.{IsReply};
-ghost use Rattle.node_core.specs.SetsKept.{IsBook, is_named_in, left_by};
+ghost use Rattle.node_core.specs.Found.{offered};
+ghost use Rattle.node_core.specs.SetsKept.{IsBook, is_named_in, is_in_book, left_by};
 
+use crate::in_force::InForce;
 use crate::naming::is_member;
 use ber_values::Visible;
-use bilateral::Centre;
-use data_sets::{MOST_MEMBERS, Members, SetBook};
+use data_sets::{MOST_MEMBERS, Members, SetBook, books_are_lawful};
 use mms_data::{Name, Names, Scope};
 use std::alloc::AllocError;
 use table_words::is_identifier;
@@ -30,31 +31,23 @@ use tase_views::{
 };
 
 /// The reply to the definition of a data set (ISO 9506-2, `DefineNamedVariableList`).
-pub fn define_reply(
-    centre: &Centre,
-    peer: u32,
-    book: &SetBook,
-    set: &Name,
-    members: &Names,
-) -> ReplyKind
-    requires known { peer < length centre.now.tables }
-    requires lawful { IsCentre centre.now }
-    ensures value { (view : View) → IsBook (own_table centre.now peer) view book.now
-        → let table = own_table centre.now peer in result ≡ answers.define_replied
-        (sets.define_fault table (sets.sets_in table view) view set.now members.now) }
+pub fn define_reply(table: &InForce<'_>, book: &SetBook, set: &Name, members: &Names) -> ReplyKind
+    ensures value { (tables : OwnTables) (view : View) → offered table.now ≡ held tables view
+        → IsBook tables view book.now → result ≡ answers.define_replied
+        (sets.define_fault (held tables view) (sets_in tables view) view set.now members.now) }
     ensures lawful { IsReply result }
 {
-    let table = centre.table(peer);
-    if !is_set_name(&table.domain, set) {
+    let own = table.table();
+    if !is_set_name(&own.domain, set) {
         return error(ACCESS_ERRORS, ACCESS_DENIED);
     }
     if has_set(book, set.item()) {
         return error(DEFINITION_ERRORS, EXISTS);
     }
-    if is_too_many(table.sets, book.count(), members.len()) {
+    if is_too_many(own.sets, book.count(), members.len()) {
         return error(RESOURCE_ERRORS, OTHER);
     }
-    if !are_members(centre, peer, members.as_slice()) {
+    if !are_members(table, members.as_slice()) {
         return error(DEFINITION_ERRORS, UNDEFINED);
     }
     ReplyKind::Defined
@@ -107,21 +100,21 @@ fn is_in_domain(domain: &Visible, name: &Name) -> bool
 }
 
 /// Whether each name is one that a data set may have as its member.
-fn are_members(centre: &Centre, peer: u32, members: &[Name]) -> bool
-    requires known { peer < length centre.now.tables }
-    requires lawful { IsCentre centre.now }
-    ensures { let table = own_table centre.now peer in result
-        ≡ list_all (λ member. objects.is_member (objects.own_object table member)) members.now }
+fn are_members(table: &InForce<'_>, members: &[Name]) -> bool
+    ensures { result ≡ list_all
+        (λ member. objects.is_member (objects.object_named (offered table.now) member))
+        members.now }
 {
-    members.iter().all(|member| is_member(centre, peer, member))
+    members.iter().all(|member| is_member(table, member))
 }
 
 /// The members of the data set that a name is that of.
 pub fn find_set<'a>(domain: &Visible, book: &'a SetBook, set: &Name) -> Option<&'a Members>
-    ensures { (table : OwnTable) (view : View) → table.domain ≡ domain.now
-        → IsBook table view book.now
-        → option_copied result ≡ sets.members_of table view set.now }
+    ensures value { (tables : OwnTables) (view : View) → (held tables view).domain ≡ domain.now
+        → IsBook tables view book.now → option_copied result ≡ members_of tables view set.now }
+    ensures some { IfSome result (λ members. 0 < length members.now) }
 {
+    books_are_lawful(book);
     if is_in_domain(domain, set) {
         book.members(set.item())
     } else {
@@ -132,11 +125,10 @@ pub fn find_set<'a>(domain: &Visible, book: &'a SetBook, set: &Name) -> Option<&
 /// The reply to a request for the members of a data set
 /// (ISO 9506-2, `GetNamedVariableListAttributes`).
 pub fn members_reply(domain: &Visible, book: &SetBook, set: &Name) -> Result<ReplyKind, AllocError>
-    ensures value { (table : OwnTable) (view : View) → table.domain ≡ domain.now
-        → IsBook table view book.now → IfOk result (λ kind. kind
-        ≡ answers.set_replied ReplyKind.MembersAre (sets.members_of table view set.now)) }
-    ensures lawful { (table : OwnTable) (view : View) → table.domain ≡ domain.now
-        → IsBook table view book.now → IfOk result IsReply }
+    ensures value { (tables : OwnTables) (view : View) → (held tables view).domain ≡ domain.now
+        → IsBook tables view book.now → IfOk result (λ kind. kind
+        ≡ answers.set_replied ReplyKind.MembersAre (members_of tables view set.now)) }
+    ensures lawful { IfOk result IsReply }
 {
     match find_set(domain, book, set) {
         Some(members) => Ok(ReplyKind::MembersAre(members.clone()?)),
@@ -144,18 +136,20 @@ pub fn members_reply(domain: &Visible, book: &SetBook, set: &Name) -> Result<Rep
     }
 }
 
-/// The reply to a deletion (ISO 9506-2, `DeleteNamedVariableList`): each data set that is named is
-/// deleted, and counts once.
+/// The reply to a deletion (ISO 9506-2, `DeleteNamedVariableList`): each name counts that is of a
+/// data set which is there behind the deletions by the names before it.
 pub fn delete_reply(domain: &Visible, book: &SetBook, names: &Names) -> ReplyKind
     requires few { length book.now.sets < 2 ^ 32 }
-    ensures { (table : OwnTable) (view : View) (ordinal : ℕ) → table.domain ≡ domain.now
-        → IsBook table view book.now → result
-        ≡ answers.delete_replied (sets.deletion_of table view ordinal names.now) }
+    ensures value { (tables : OwnTables) (view : View) (ordinal : ℕ)
+        → (held tables view).domain ≡ domain.now → (held tables view).slots ≡ 0
+        → IsBook tables view book.now → result
+        ≡ answers.delete_replied (answers.deletion_of tables view ordinal names.now) }
+    ensures lawful { IsReply result }
 {
     let names = names.as_slice();
     let mut count = 0u32;
-    for index in 0..book.count() {
-        if is_named_at(domain, book, index, names) {
+    for place in 0..names.len() {
+        if is_left(domain, book, &names[place], &names[..place]) {
             count += 1;
         }
     }
@@ -165,15 +159,22 @@ pub fn delete_reply(domain: &Visible, book: &SetBook, names: &Names) -> ReplyKin
     }
 }
 
-/// Whether the data set at a place is among those that are named.
-fn is_named_at(domain: &Visible, book: &SetBook, index: usize, names: &[Name]) -> bool
-    ensures { result ≡ option_map_or (λ set. is_named_in domain.now names.now set.name)
-        (slice_get book.now.sets index) false }
+/// Whether a name is that of a data set which is there behind deletions by the names before it.
+fn is_left(domain: &Visible, book: &SetBook, name: &Name, before: &[Name]) -> bool
+    ensures { result ≡ is_in_book domain.now (left_by domain.now before.now book.now) name.now }
 {
-    match book.name(index) {
-        Some(set) => is_among(domain, set, names),
-        None => false,
+    is_in_domain(domain, name) && is_set_left(domain, book, name.item(), before)
+}
+
+/// Whether a data set has this name behind deletions by these names.
+fn is_set_left(domain: &Visible, book: &SetBook, set: &Visible, names: &[Name]) -> bool
+    ensures { result ≡ is_some
+        (members_in (left_by domain.now names.now book.now).sets set.now) }
+{
+    if is_among(domain, set, names) {
+        return false;
     }
+    has_set(book, set)
 }
 
 /// Whether the data set with this name is among those that are named.

@@ -12,7 +12,8 @@ use Rattle.bilateral.proofs.centre.Centre.TheSendSync as centre
 use Rattle.tase_views.specs.contracts.call.Call as call
 use Rattle.tase_views.specs.contracts.event.Event as event
 use Rattle.tase_views.specs.contracts.event.Entry as entry
-use Rattle.node_core.proofs.store.Store.TheSendSync as store
+use Rattle.node_core.proofs.hub.Hub.TheSendSync as hub
+use Rattle.node_core.proofs.parts.Parts.TheSendSync as parts
 use Rattle.node_core.specs.contracts.node.Node as node
 use Rattle.node_turn.specs.contracts.turn_node.TurnNode as turn
 
@@ -38,8 +39,10 @@ node_send = search (
   centre.the_send,
   centre.the_sync,
   entry_send,
-  store.the_send,
-  store.the_field_send,
+  hub.the_send,
+  hub.the_field_send,
+  parts.the_send,
+  parts.the_field_send,
   sendable,
   crosses,
 ) depth 20

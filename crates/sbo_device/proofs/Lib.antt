@@ -1,4 +1,3 @@
 mod Worked
-mod WorkedControls
 pub mod SameHolders
 pub mod OneHolder

@@ -2,7 +2,7 @@
 use Rattle.std.proofs.Common.{◌≡◌, ◌≢◌, ◌⊎◌, ◌↔◌, ℕ, ◌+◌, ◌==◌, ◌<◌, ◌≤◌, nat_le, ℤ, pos, ◌≤ℤ◌}
 use Rattle.std.proofs.Common.{int_le, Bool, true, false, not, ◌&&◌, ◌||◌, if◌then◌else◌, List, []}
 use Rattle.std.proofs.Common.{◌∷◌, Option, Some, None, Decides, refl, sym, ap, ◌∙◌, subst, inl, inr}
-use Rattle.std.proofs.Common.{arith, T, zero, suc, Contains}
+use Rattle.std.proofs.Common.{arith, T, zero, suc, Contains, is_some}
 use Rattle.std.proofs.lemmas.Bool.Decides.{Decides-eqb, Decides-int_eq, Decides-not, Decides-and}
 use Rattle.std.proofs.lemmas.Bool.Decides.{Decides-or, Decides-like, nat_tests}
 use lib.Signed.{le_z_yes}
@@ -13,11 +13,11 @@ use Rattle.sbo_device.specs.declared.kind.CommandKind.TheVariants.{Command, Setp
 use Rattle.sbo_device.specs.Moves.{ControlPoint, DeviceState, DeviceMove}
 use Rattle.sbo_device.specs.Moves.{selected, operated, closed, ticked, tagged}
 use Rattle.sbo_device.specs.States.{same_key, is_held_by, is_held_by_other, has_run_out, takes}
-use Rattle.sbo_device.specs.States.{inhibits, is_granted, is_permitted, state_in}
-use Rattle.sbo_device.specs.States.{select_answer, operate_answer}
+use Rattle.sbo_device.specs.States.{inhibits, is_granted, is_permitted, state_in, tag_of}
+use Rattle.sbo_device.specs.States.{select_answer, operate_answer, hold_ended}
 use Rattle.sbo_device.specs.declared.answer.Select.TheVariants as select
 use Rattle.sbo_device.specs.declared.answer.Operate.TheVariants as operate
-use Rattle.sbo_device.specs.Holders.{last_tag, Takes, Allows, Holding, MayTake, MayOperate, Holds}
+use Rattle.sbo_device.specs.Holders.{Takes, Allows, Holding, MayTake, MayOperate, Holds}
 use Rattle.sbo_device.specs.Holders.{IsPermitted}
 
 same_parts : (a b : Key) → a.peer ≡ b.peer → a.ordinal ≡ b.ordinal → a ≡ b
@@ -220,6 +220,34 @@ at_a_tick now (Some hold) key until H agrees =
     later : (a until now : ℕ) → a ≡ until → (a ≤ now → ⊥) → now < until
     later a until now e never = grind arith
 
+-- the selection that a tick ends
+ended_by_a_tick : (now : ℕ) (held : Option Hold) (key : Key) (until : ℕ) (H : Type 0)
+    → ((held ≡ Some (record { key = key; until = until })) ↔ H)
+    → ((if is_some (if has_run_out now held then None else held) then None else held)
+    ≡ Some (record { key = key; until = until }))
+    ↔ (H × (until ≤ now))
+ended_by_a_tick now None key until H agrees =
+    (λ e. absurd cc, λ p. let e = agrees.1 p.0 in absurd cc)
+ended_by_a_tick now (Some hold) key until H agrees =
+    by (nat_le hold.until now) (Decides-leb hold.until now)
+  where
+    the_end : Some hold ≡ Some (record { key = key; until = until }) → hold.until ≡ until
+    the_end e = cc
+
+    by : (b : Bool) → Decides b (hold.until ≤ now)
+        → ((if is_some (if b then None else Some hold) then None else Some hold)
+        ≡ Some (record { key = key; until = until }))
+        ↔ (H × (until ≤ now))
+    by true d = (
+      λ e. (agrees.0 e, subst (λ (t : ℕ). t ≤ now) (the_end e) (d.0 refl)),
+      λ p. agrees.1 p.0,
+    )
+    by false d = (
+      λ e. absurd cc,
+      λ p. let t : false ≡ true =
+          d.1 (subst (λ (t : ℕ). t ≤ now) (sym (the_end (agrees.1 p.0))) p.1) in cc,
+    )
+
 first_of_all : (move wanted : DeviceMove) (moves : List DeviceMove) → move ≡ wanted
     → Contains (move ∷ moves) wanted
 first_of_all move wanted moves e = (zero, omega arith, e)
@@ -231,7 +259,7 @@ further move moves key until span h =
     (h.0, (suc h.1.0, (let there = h.1.1 in omega arith), h.1.2), h.2)
 
 pub tag_is_last : (point : ControlPoint) (moves : List DeviceMove)
-    → (state_in point moves).tag ≡ last_tag moves
+    → (state_in point moves).tag ≡ (tag_of moves).tag
 tag_is_last point [] = refl
 tag_is_last point (selected key now ∷ moves) = tag_is_last point moves
 tag_is_last point (operated key value ∷ moves) = tag_is_last point moves
@@ -248,7 +276,7 @@ point_stays point (move ∷ moves) = point_stays point moves
 may_take : (point : ControlPoint) (moves : List DeviceMove) (key : Key)
     → Agrees (state_in point moves).hold (Holds point moves)
     → Decides (is_granted (state_in point moves) key)
-    (MayTake point (last_tag moves) (Holds point moves) key)
+    (MayTake point (tag_of moves).tag (Holds point moves) key)
 may_take point moves key agrees =
     let P : ControlPoint → ℕ → Type 0 = λ p t. Decides (is_granted (state_in point moves) key)
     (MayTake p t (Holds point moves) key) in
@@ -369,7 +397,7 @@ granted_if false false false d = (λ e. refl, λ e. refl)
 pub granted_exactly : (point : ControlPoint) (moves : List DeviceMove) (key : Key)
     → point.direct ≡ false
     → (select_answer (state_in point moves) key ≡ select.Granted)
-    ↔ MayTake point (last_tag moves) (Holds point moves) key
+    ↔ MayTake point (tag_of moves).tag (Holds point moves) key
 granted_exactly point moves key selectable =
     let s = state_in point moves in
     let tests = granted_if s.point.direct (is_held_by_other key s.hold)
@@ -377,3 +405,10 @@ granted_exactly point moves key selectable =
     (ap (λ (p : ControlPoint). p.direct) (point_stays point moves) ∙ selectable) in
     let may = may_take point moves key (agrees_always point moves) in
     (λ e. may.0 (tests.0 e), λ p. tests.1 (may.1 p))
+
+pub ended_exactly : (point : ControlPoint) (moves : List DeviceMove) (key : Key) (until now : ℕ)
+    → (hold_ended point moves now ≡ Some (record { key = key; until = until }))
+    ↔ (Holds point moves key until × (until ≤ now))
+ended_exactly point moves key until now =
+    ended_by_a_tick now (state_in point moves).hold key until (Holds point moves key until)
+    (agrees_always point moves key until)

@@ -3,17 +3,15 @@
 use Rattle.std.proofs.Common.{◌≡◌, ℕ, ◌+◌, ◌==◌, ℤ, Bool, true, false, not, ◌&&◌, ◌||◌}
 use Rattle.std.proofs.Common.{if◌then◌else◌, List, [], ◌∷◌, Option, Some, None, refl, sym, ap}
 use Rattle.std.proofs.Common.{◌∙◌}
-use Rattle.std.specs.Prelude.{filter_map}
 use Rattle.std.specs.Option.{option_map}
 use Rattle.std.proofs.lemmas.Bool.{false≢true, eqb-true, eq-eqb, ne_eqb}
 use Rattle.sbo_device.specs.declared.key.Key.{Key}
 use Rattle.sbo_device.specs.declared.hold.Hold.{Hold}
-use Rattle.sbo_device.specs.Moves.{ControlPoint, DeviceState}
+use Rattle.sbo_device.specs.Moves.{ControlPoint, DeviceState, DeviceMove}
 use Rattle.sbo_device.specs.Moves.{selected, operated, closed, ticked, tagged}
 use Rattle.sbo_device.specs.States.{is_held_by, is_held_by_other, has_run_out, takes}
 use Rattle.sbo_device.specs.States.{inhibits, is_granted, is_permitted, after}
-use Rattle.sbo_device.specs.Controls.{ControlMove, selects, operates, closes, ticks, tags}
-use Rattle.sbo_device.specs.Controls.{moment_of, tick_of, tag_of, device_in, hold_of}
+use Rattle.sbo_device.specs.States.{state_in, tag_of, hold_of}
 use Rattle.sbo_device.specs.SameMoves.{renumbered_key, renumbered_hold, shown}
 use Rattle.sbo_device.specs.SameMoves.{TellsApart, AreByKnown}
 
@@ -155,75 +153,58 @@ close_unseen known key s mine its =
     rw (unknown_holds_nothing known key s.hold mine its) refl
 
 -- a list that a test lengthens
-shown_close : (known : ℕ → Bool) (number : ℕ → ℕ) (key : Key) (moves : List ControlMove)
-    (P : List ControlMove → Type 0)
-    → (known key.peer ≡ true → P (closes (renumbered_key number key) ∷ shown known number moves))
+shown_close : (known : ℕ → Bool) (number : ℕ → ℕ) (key : Key) (moves : List DeviceMove)
+    (P : List DeviceMove → Type 0)
+    → (known key.peer ≡ true → P (closed (renumbered_key number key) ∷ shown known number moves))
     → (known key.peer ≡ false → P (shown known number moves))
-    → P (shown known number (closes key ∷ moves))
+    → P (shown known number (closed key ∷ moves))
 shown_close known number key moves P kept left = by (known key.peer) refl
   where
-    by : (t : Bool) → known key.peer ≡ t → P (shown known number (closes key ∷ moves))
+    by : (t : Bool) → known key.peer ≡ t → P (shown known number (closed key ∷ moves))
     by true e = rw e (kept e)
     by false e = rw e (left e)
 
--- the ticks are the same
-ticks_shown : (known : ℕ → Bool) (number : ℕ → ℕ) (moves : List ControlMove)
-    → filter_map tick_of (shown known number moves) ≡ filter_map tick_of moves
-ticks_shown known number [] = refl
-ticks_shown known number (selects key ∷ moves) = ticks_shown known number moves
-ticks_shown known number (operates key value ∷ moves) = ticks_shown known number moves
-ticks_shown known number (closes key ∷ moves) =
-    let rest = ticks_shown known number moves in
-    shown_close known number key moves (λ l. filter_map tick_of l ≡ filter_map tick_of moves)
-    (λ e. rest) (λ e. rest)
-ticks_shown known number (ticks now ∷ moves) =
-    ap (λ (l : List ℕ). now ∷ l) (ticks_shown known number moves)
-ticks_shown known number (tags tag ∷ moves) = ticks_shown known number moves
-
 -- the tag and its reason are the same
-pub tag_shown : (known : ℕ → Bool) (number : ℕ → ℕ) (moves : List ControlMove)
+pub tag_shown : (known : ℕ → Bool) (number : ℕ → ℕ) (moves : List DeviceMove)
     → tag_of (shown known number moves) ≡ tag_of moves
 tag_shown known number [] = refl
-tag_shown known number (selects key ∷ moves) = tag_shown known number moves
-tag_shown known number (operates key value ∷ moves) = tag_shown known number moves
-tag_shown known number (closes key ∷ moves) =
+tag_shown known number (selected key now ∷ moves) = tag_shown known number moves
+tag_shown known number (operated key value ∷ moves) = tag_shown known number moves
+tag_shown known number (closed key ∷ moves) =
     let rest = tag_shown known number moves in
     shown_close known number key moves (λ l. tag_of l ≡ tag_of moves) (λ e. rest) (λ e. rest)
-tag_shown known number (ticks now ∷ moves) = tag_shown known number moves
-tag_shown known number (tags tag ∷ moves) = refl
+tag_shown known number (ticked now ∷ moves) = tag_shown known number moves
+tag_shown known number (tagged tag ∷ moves) = refl
 
 -- a device whose holder is known, and how it is shown
-abbrev IsShown : (ℕ → Bool) → (ℕ → ℕ) → ControlPoint → List ControlMove → List ControlMove → Type 0
+abbrev IsShown : (ℕ → Bool) → (ℕ → ℕ) → ControlPoint → List DeviceMove → List DeviceMove → Type 0
 IsShown known number point moves these =
     (is_known_hold known (hold_of point moves) ≡ true)
-    × (device_in point these ≡ renumbered_state number (device_in point moves))
+    × (state_in point these ≡ renumbered_state number (state_in point moves))
 
 device_shown : (known : ℕ → Bool) (number : ℕ → ℕ) → TellsApart known number
-    → (point : ControlPoint) (moves : List ControlMove) → AreByKnown known moves
+    → (point : ControlPoint) (moves : List DeviceMove) → AreByKnown known moves
     → IsShown known number point moves (shown known number moves)
 device_shown known number apart point [] known_all = (refl, refl)
-device_shown known number apart point (selects key ∷ moves) known_all =
+device_shown known number apart point (selected key now ∷ moves) known_all =
     let before = device_shown known number apart point moves known_all.1 in
-    let s = device_in point moves in
-    let now = moment_of (filter_map tick_of moves) in (
+    let s = state_in point moves in (
       chosen_known known (is_granted s key) (record { key = key; until = now + s.point.span })
           s.hold known_all.0 before.0,
-      ap (λ (l : List ℕ). after (selected (renumbered_key number key) (moment_of l))
-          (device_in point (shown known number moves))) (ticks_shown known number moves)
-          ∙ ap (λ (d : DeviceState). after (selected (renumbered_key number key) now) d) before.1
+      ap (λ (d : DeviceState). after (selected (renumbered_key number key) now) d) before.1
           ∙ selects_alike known number apart key now s before.0 known_all.0,
     )
-device_shown known number apart point (operates key value ∷ moves) known_all =
+device_shown known number apart point (operated key value ∷ moves) known_all =
     let before = device_shown known number apart point moves known_all.1 in
-    let s = device_in point moves in (
+    let s = state_in point moves in (
       ended_known known (is_permitted s key value) s.hold before.0,
       ap (λ (d : DeviceState). after (operated (renumbered_key number key) value) d) before.1
           ∙ operates_alike known number apart key value s before.0 known_all.0,
     )
-device_shown known number apart point (closes key ∷ moves) known_all =
+device_shown known number apart point (closed key ∷ moves) known_all =
     let before = device_shown known number apart point moves known_all in
-    let s = device_in point moves in
-    shown_close known number key moves (IsShown known number point (closes key ∷ moves))
+    let s = state_in point moves in
+    shown_close known number key moves (IsShown known number point (closed key ∷ moves))
     (λ e. (
       ended_known known (is_held_by key s.hold) s.hold before.0,
       ap (λ (d : DeviceState). after (closed (renumbered_key number key)) d) before.1
@@ -233,30 +214,20 @@ device_shown known number apart point (closes key ∷ moves) known_all =
       ended_known known (is_held_by key s.hold) s.hold before.0,
       before.1 ∙ ap (renumbered_state number) (close_unseen known key s before.0 e),
     ))
-device_shown known number apart point (ticks now ∷ moves) known_all =
+device_shown known number apart point (ticked now ∷ moves) known_all =
     let before = device_shown known number apart point moves known_all in
-    let s = device_in point moves in (
+    let s = state_in point moves in (
       ended_known known (has_run_out now s.hold) s.hold before.0,
       ap (λ (d : DeviceState). after (ticked now) d) before.1 ∙ ticks_alike number now s,
     )
-device_shown known number apart point (tags tag ∷ moves) known_all =
+device_shown known number apart point (tagged tag ∷ moves) known_all =
     let before = device_shown known number apart point moves known_all in
-    (before.0, ap (λ (d : DeviceState). after (tagged tag.tag) d) before.1)
+    (before.0, ap (λ (d : DeviceState). after (tagged tag) d) before.1)
 
 -- the holder is the same, by its other number
 pub hold_shown : (known : ℕ → Bool) (number : ℕ → ℕ) → TellsApart known number
-    → (point : ControlPoint) (moves : List ControlMove) → AreByKnown known moves
+    → (point : ControlPoint) (moves : List DeviceMove) → AreByKnown known moves
     → hold_of point (shown known number moves)
     ≡ option_map (renumbered_hold number) (hold_of point moves)
 hold_shown known number apart point moves known_all =
     ap (λ (d : DeviceState). d.hold) (device_shown known number apart point moves known_all).1
-
--- the tag of the machine is the last tag
-pub tag_is_its_state : (point : ControlPoint) (moves : List ControlMove)
-    → (tag_of moves).tag ≡ (device_in point moves).tag
-tag_is_its_state point [] = refl
-tag_is_its_state point (selects key ∷ moves) = tag_is_its_state point moves
-tag_is_its_state point (operates key value ∷ moves) = tag_is_its_state point moves
-tag_is_its_state point (closes key ∷ moves) = tag_is_its_state point moves
-tag_is_its_state point (ticks now ∷ moves) = tag_is_its_state point moves
-tag_is_its_state point (tags tag ∷ moves) = refl

@@ -8,15 +8,7 @@ use Rattle.sbo_device.specs.declared.device.TheConstants.{OPEN_AND_CLOSE_INHIBIT
 use Rattle.sbo_device.specs.declared.device.TheConstants.{CLOSE_INHIBITED}
 use Rattle.sbo_device.specs.Moves.{ControlPoint, DeviceMove}
 use Rattle.sbo_device.specs.Moves.{selected, operated, closed, ticked, tagged}
-
--- the last tag; before any, 0, which inhibits nothing
-abbrev pub last_tag : List DeviceMove → ℕ
-last_tag [] = 0
-last_tag (selected key now ∷ moves) = last_tag moves
-last_tag (operated key value ∷ moves) = last_tag moves
-last_tag (closed key ∷ moves) = last_tag moves
-last_tag (ticked now ∷ moves) = last_tag moves
-last_tag (tagged tag ∷ moves) = tag
+use Rattle.sbo_device.specs.States.{tag_of}
 
 -- a value that a device takes: 0 or 1 of a command, from the lowest to the highest of a setpoint
 abbrev pub Takes : CommandKind → ℤ → Type 0
@@ -52,16 +44,17 @@ MayOperate point tag holds key value =
 abbrev pub Holds : ControlPoint → List DeviceMove → Key → ℕ → Type 0
 Holds point [] key until = ⊥
 Holds point (selected by now ∷ moves) key until =
-    (MayTake point (last_tag moves) (Holds point moves) by × (by ≡ key)
+    (MayTake point (tag_of moves).tag (Holds point moves) by × (by ≡ key)
     × (until ≡ now + point.span))
-    ⊎ (¬ MayTake point (last_tag moves) (Holds point moves) by × Holds point moves key until)
+    ⊎ (¬ MayTake point (tag_of moves).tag (Holds point moves) by × Holds point moves key until)
 Holds point (operated by value ∷ moves) key until =
     Holds point moves key until
-    × ¬ MayOperate point (last_tag moves) (Holds point moves) by value
+    × ¬ MayOperate point (tag_of moves).tag (Holds point moves) by value
 Holds point (closed by ∷ moves) key until = Holds point moves key until × (by ≢ key)
 Holds point (ticked now ∷ moves) key until = Holds point moves key until × (now < until)
 Holds point (tagged tag ∷ moves) key until = Holds point moves key until
 
 -- after these moves an association may operate a device with this value
 abbrev pub IsPermitted : ControlPoint → List DeviceMove → Key → ℤ → Type 0
-IsPermitted point moves key value = MayOperate point (last_tag moves) (Holds point moves) key value
+IsPermitted point moves key value =
+    MayOperate point (tag_of moves).tag (Holds point moves) key value

@@ -1,5 +1,4 @@
 pub mod Moves
 pub mod States
 pub mod Holders
-pub mod Controls
 pub mod SameMoves

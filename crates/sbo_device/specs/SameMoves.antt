@@ -3,7 +3,7 @@
 use Rattle.std.specs.Prelude.{◌≡◌, ℕ, Bool, true, List, [], ◌∷◌, map, filter}
 use Rattle.sbo_device.specs.declared.key.Key.{Key}
 use Rattle.sbo_device.specs.declared.hold.Hold.{Hold}
-use Rattle.sbo_device.specs.Controls.{ControlMove, selects, operates, closes, ticks, tags}
+use Rattle.sbo_device.specs.Moves.{DeviceMove, selected, operated, closed, ticked, tagged}
 
 abbrev pub renumbered_key : (ℕ → ℕ) → Key → Key
 renumbered_key number key = record { peer = number key.peer; ordinal = key.ordinal }
@@ -13,16 +13,16 @@ renumbered_hold number hold =
     record { key = renumbered_key number hold.key; until = hold.until }
 
 -- a move in which peers have other numbers
-abbrev pub renumbered : (ℕ → ℕ) → ControlMove → ControlMove
-renumbered number (selects key) = selects (renumbered_key number key)
-renumbered number (operates key value) = operates (renumbered_key number key) value
-renumbered number (closes key) = closes (renumbered_key number key)
-renumbered number (ticks now) = ticks now
-renumbered number (tags tag) = tags tag
+abbrev pub renumbered : (ℕ → ℕ) → DeviceMove → DeviceMove
+renumbered number (selected key now) = selected (renumbered_key number key) now
+renumbered number (operated key value) = operated (renumbered_key number key) value
+renumbered number (closed key) = closed (renumbered_key number key)
+renumbered number (ticked now) = ticked now
+renumbered number (tagged tag) = tagged tag
 
 -- whether a move is kept where closes of other peers than the known ones are left out
-abbrev pub is_kept : (ℕ → Bool) → ControlMove → Bool
-is_kept known (closes key) = known key.peer
+abbrev pub is_kept : (ℕ → Bool) → DeviceMove → Bool
+is_kept known (closed key) = known key.peer
 is_kept known _ = true
 
 -- different known peers have different numbers
@@ -31,12 +31,12 @@ TellsApart known number =
     (a b : ℕ) → known a ≡ true → known b ≡ true → number a ≡ number b → a ≡ b
 
 -- only known peers select the device or operate it
-abbrev pub AreByKnown : (ℕ → Bool) → List ControlMove → Type 0
+abbrev pub AreByKnown : (ℕ → Bool) → List DeviceMove → Type 0
 AreByKnown known [] = Unit {0}
-AreByKnown known (selects key ∷ moves) = (known key.peer ≡ true) × AreByKnown known moves
-AreByKnown known (operates key value ∷ moves) = (known key.peer ≡ true) × AreByKnown known moves
+AreByKnown known (selected key now ∷ moves) = (known key.peer ≡ true) × AreByKnown known moves
+AreByKnown known (operated key value ∷ moves) = (known key.peer ≡ true) × AreByKnown known moves
 AreByKnown known (_ ∷ moves) = AreByKnown known moves
 
 -- these moves with other numbers of peers, without the closes of peers that aren't known
-abbrev pub shown : (ℕ → Bool) → (ℕ → ℕ) → List ControlMove → List ControlMove
+abbrev pub shown : (ℕ → Bool) → (ℕ → ℕ) → List DeviceMove → List DeviceMove
 shown known number moves = map (renumbered number) (filter (is_kept known) moves)

@@ -14,7 +14,7 @@ use Rattle.sbo_device.specs.declared.answer.Operate.{Operate}
 use Rattle.sbo_device.specs.declared.answer.Operate.TheVariants as operate
 use Rattle.sbo_device.specs.declared.device.TheConstants.{SPAN_LIMIT, OPEN_AND_CLOSE_INHIBITED}
 use Rattle.sbo_device.specs.declared.device.TheConstants.{CLOSE_INHIBITED}
-use Rattle.sbo_device.specs.Moves.{ControlPoint, DeviceState, DeviceMove}
+use Rattle.sbo_device.specs.Moves.{ControlPoint, DeviceState, Tag, DeviceMove}
 use Rattle.sbo_device.specs.Moves.{selected, operated, closed, ticked, tagged}
 
 -- the span of a device that isn't direct
@@ -82,7 +82,7 @@ tag_after (selected key now) tag = tag
 tag_after (operated key value) tag = tag
 tag_after (closed key) tag = tag
 tag_after (ticked now) tag = tag
-tag_after (tagged new) tag = new
+tag_after (tagged new) tag = new.tag
 
 abbrev pub after : DeviceMove → DeviceState → DeviceState
 after move s =
@@ -92,6 +92,20 @@ after move s =
 abbrev pub state_in : ControlPoint → List DeviceMove → DeviceState
 state_in point [] = record { point = point; tag = 0; hold = None }
 state_in point (move ∷ moves) = after move (state_in point moves)
+
+-- the last tag and its reason; before any, 0, which inhibits nothing, and no reason
+abbrev pub tag_of : List DeviceMove → Tag
+tag_of [] = record { tag = 0; reason = [] }
+tag_of (tagged tag ∷ moves) = tag
+tag_of (_ ∷ moves) = tag_of moves
+
+-- the selection that stands: who holds the device, and until when
+abbrev pub hold_of : ControlPoint → List DeviceMove → Option Hold
+hold_of point moves = (state_in point moves).hold
+
+-- whether an association's operate with this value is permitted
+abbrev pub permits : ControlPoint → List DeviceMove → Key → ℤ → Bool
+permits point moves key value = is_permitted (state_in point moves) key value
 
 -- the hold that a move ends, if it ends one
 abbrev pub ended_by : DeviceMove → DeviceState → Option Hold
@@ -111,3 +125,7 @@ operate_answer s key value =
     else if not (takes s.point.kind value) then operate.BadValue
     else if inhibits s.tag s.point.kind value then operate.Inhibited
     else operate.Ordered
+
+-- the selection that a tick to a moment ends, if it ends one
+abbrev pub hold_ended : ControlPoint → List DeviceMove → ℕ → Option Hold
+hold_ended point moves now = ended_by (ticked now) (state_in point moves)

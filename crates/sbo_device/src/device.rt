@@ -1,5 +1,5 @@
 //! One device of the plant.
-ghost use Rattle.std.specs.Prelude.{◌≡◌, ◌<◌, ◌≤◌, [], false, is_some};
+ghost use Rattle.std.specs.Prelude.{◌≡◌, ℕ, ◌<◌, ◌≤◌, List, [], false, is_some};
 ghost use Rattle.sbo_device.specs.States.{state_in, after, ended_by, select_answer, operate_answer};
 ghost use Rattle.sbo_device.specs.States.{is_held_by, is_held_by_other, takes, inhibits};
 ghost use Rattle.sbo_device.specs.Moves.{selected, operated, closed, ticked, tagged};
@@ -144,7 +144,9 @@ impl Device {
     /// Tags the device, 0 to [`TAG_LIMIT`]. A hold stays.
     pub fn set_tag(&mut self, tag: u8)
         requires { tag ≤ TAG_LIMIT }
-        ensures { self.new ≡ after (tagged tag) self.old }
+        ensures tag { self.new ≡ record self.old { tag = tag } }
+        ensures state { (reason : List ℕ)
+            → self.new ≡ after (tagged (record { tag = tag; reason = reason })) self.old }
     {
         self.tag = tag;
     }

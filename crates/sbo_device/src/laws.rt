@@ -1,14 +1,12 @@
 //! What holds of a device over every list of moves.
-ghost use Rattle.std.specs.Prelude.{◌≡◌, ◌↔◌, ℕ, ◌+◌, ℤ, List, Some, Contains, IsTrue, false};
+ghost use Rattle.std.specs.Prelude.{◌≡◌, ◌↔◌, ℕ, ◌+◌, ◌≤◌, ℤ, List, Some, Contains, IsTrue, false};
 ghost use Rattle.std.specs.Prelude.{Bool};
 ghost use Rattle.std.specs.Option.{option_map};
 ghost use Rattle.sbo_device.specs.declared.key.Key.{Key};
 ghost use Rattle.sbo_device.specs.Moves.{ControlPoint, DeviceMove, selected};
-ghost use Rattle.sbo_device.specs.States.{state_in, is_permitted, select_answer};
-ghost use Rattle.sbo_device.specs.Holders.{Holds, MayTake, IsPermitted, last_tag};
-ghost use Rattle.sbo_device.specs.States.{operate_answer};
-ghost use Rattle.sbo_device.specs.Controls.{ControlMove, with_moments, device_in, hold_of, tag_of};
-ghost use Rattle.sbo_device.specs.Controls.{permits};
+ghost use Rattle.sbo_device.specs.States.{state_in, is_permitted, select_answer, operate_answer};
+ghost use Rattle.sbo_device.specs.States.{tag_of, hold_of, hold_ended};
+ghost use Rattle.sbo_device.specs.Holders.{Holds, MayTake, IsPermitted};
 ghost use Rattle.sbo_device.specs.SameMoves.{TellsApart, AreByKnown, shown, renumbered_hold};
 ghost use Rattle.sbo_device.specs.declared.answer.Select.TheVariants as select;
 ghost use Rattle.sbo_device.specs.declared.answer.Operate.TheVariants as operate;
@@ -34,36 +32,27 @@ pub fn devices_have_one_holder()
     ensures granted { (point : ControlPoint) (moves : List DeviceMove) (key : Key)
         → point.direct ≡ false
         → (select_answer (state_in point moves) key ≡ select.Granted)
-        ↔ MayTake point (last_tag moves) (Holds point moves) key }
+        ↔ MayTake point (tag_of moves).tag (Holds point moves) key }
     ensures tag { (point : ControlPoint) (moves : List DeviceMove)
-        → (state_in point moves).tag ≡ last_tag moves }
+        → (state_in point moves).tag ≡ (tag_of moves).tag }
     ensures point { (point : ControlPoint) (moves : List DeviceMove)
         → (state_in point moves).point ≡ point }
 {}
 
-/// Over the moves of a node: the selection that stands is what the moves say of its association,
-/// which is one at the most; its tag is the last one; an operate is permitted as its moves say.
-pub fn moves_tell_one_holder()
-    ensures holder { (point : ControlPoint) (moves : List ControlMove) (key : Key) (until : ℕ)
-        → (hold_of point moves ≡ Some (record { key = key; until = until }))
-        ↔ Holds point (with_moments moves) key until }
-    ensures one_holder { (point : ControlPoint) (moves : List ControlMove) (a b : Key) (u v : ℕ)
-        → Holds point (with_moments moves) a u → Holds point (with_moments moves) b v
-        → (a ≡ b) × (u ≡ v) }
-    ensures permitted { (point : ControlPoint) (moves : List ControlMove) (key : Key) (value : ℤ)
-        → IsTrue (permits point moves key value)
-        ↔ IsPermitted point (with_moments moves) key value }
-    ensures tag { (point : ControlPoint) (moves : List ControlMove)
-        → (tag_of moves).tag ≡ (device_in point moves).tag }
+/// A tick ends a selection exactly where it stands and its end is then or before.
+pub fn ticks_end_selections()
+    ensures { (point : ControlPoint) (moves : List DeviceMove) (key : Key) (until now : ℕ)
+        → (hold_ended point moves now ≡ Some (record { key = key; until = until }))
+        ↔ (Holds point moves key until × (until ≤ now)) }
 {}
 
 /// Whoever is shown a device's moves with other numbers of the peers, and without the closes of
 /// peers that never select it or operate it, is shown its holder and its tag as they are.
 pub fn holders_are_shown_as_they_are()
     ensures hold { (known : ℕ → Bool) (number : ℕ → ℕ) (point : ControlPoint)
-        (moves : List ControlMove) → TellsApart known number → AreByKnown known moves
+        (moves : List DeviceMove) → TellsApart known number → AreByKnown known moves
         → hold_of point (shown known number moves)
         ≡ option_map (renumbered_hold number) (hold_of point moves) }
-    ensures tag { (known : ℕ → Bool) (number : ℕ → ℕ) (moves : List ControlMove)
+    ensures tag { (known : ℕ → Bool) (number : ℕ → ℕ) (moves : List DeviceMove)
         → tag_of (shown known number moves) ≡ tag_of moves }
 {}

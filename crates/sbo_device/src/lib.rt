@@ -16,4 +16,4 @@ pub use device::{
 pub use hold::Hold;
 pub use key::Key;
 pub use kind::CommandKind;
-pub use laws::{devices_have_one_holder, holders_are_shown_as_they_are, moves_tell_one_holder};
+pub use laws::{devices_have_one_holder, holders_are_shown_as_they_are, ticks_end_selections};

@@ -3,7 +3,6 @@ use Rattle.std.proofs.Common.{◌≡◌, ◌==◌, ℕ, ◌+◌, ◌-◌, ◌<�
 use Rattle.std.proofs.Common.{◌++◌, Option, Some, None, refl, sym, ap, subst, ◌∙◌, arith, length}
 use Rattle.std.proofs.Common.{⊎_elim, map, reverse, ◌⊎◌, inl, inr}
 use Rattle.std.specs.Prelude.{if◌then◌else◌, nat_lt}
-use Rattle.std.specs.List.{filter_map}
 use Rattle.std.proofs.lemmas.Bool.{false≢true, eq-eqb, ne_eqb, cases_eq, lt-ltb, le-ltb, ltb-true}
 use Rattle.std.proofs.lemmas.Bool.{ltb-false}
 use Rattle.std.proofs.lemmas.List.{append-nil, length-map, length-reverse, reverse-append}
@@ -17,19 +16,20 @@ use Rattle.tase_views.specs.declared.call.CallKind.TheVariants as kinds
 use Rattle.tase_views.specs.declared.event.EventKind.{EventKind}
 use Rattle.tase_views.specs.declared.event.EventKind.TheVariants as events
 use Rattle.tase_views.specs.History.{Past, key_at}
-use Rattle.tase_views.specs.OwnTable.{OwnTable}
-use Rattle.tase_views.specs.View.{Act, acts, acts_of_call, writes_of, moves_by, moves_of_event}
-use Rattle.tase_views.specs.View.{Seen, own, seen_by, View, view_of}
-use Rattle.tase_views.specs.View as act
+use Rattle.tase_views.specs.OwnTables.{OwnTables, own_tables}
+use Rattle.tase_views.specs.Moves.{Act, Move, acts_of_call, writes_of, moves_by, moves_of}
+use Rattle.tase_views.specs.Moves.{sort_of}
+use Rattle.tase_views.specs.View.{own, moves_in, View, view_of}
+use Rattle.tase_views.specs.Moves as act
 use Rattle.tase_views.specs.Answers.{reply_to}
-use Rattle.tase_views.proofs.Seen.{view_of-entry}
+use Rattle.tase_views.proofs.Seen.{seen_in, view_of-entry, seen_own as acts_seen}
 use Rattle.tase_map.specs.Turns.{Turn, offers, offers_badly, asks, concludes, releases, aborts}
 use Rattle.tase_map.specs.Turns.{breaks, ends, pauses}
 use Rattle.tase_map.specs.Out.{Talk, is_asked, is_asked_by, acts_made, turns_behind, first_reply}
 use Rattle.tase_map.specs.Out.{reply_octets, act_octets, octets_in}
 use Rattle.std.proofs.lemmas.Option.{none-some}
 use Rattle.tase_map.specs.Sent.{IsNoted}
-use Rattle.tase_map.proofs.Closing.{event_adds}
+use Rattle.tase_map.proofs.Apart.{AreApart, apart_event, apart_adds}
 
 -- ---- inside a request
 
@@ -177,7 +177,7 @@ made_all ordinal (this ∷ these) view a =
     let m = made_more ordinal this (map (own ordinal) these ++ view) a.0 in
     omega (arith, e, m)
 
-asked_at : (table : OwnTable) (ordinal : ℕ) (talk : Talk) (view : View) (a : Act)
+asked_at : (table : OwnTables) (ordinal : ℕ) (talk : Talk) (view : View) (a : Act)
     → is_asked a ≡ true
     → act_octets table ordinal talk view a
     ≡ first_reply table ordinal talk view (turns_behind talk.turns (acts_made ordinal view))
@@ -190,12 +190,12 @@ asked_at table ordinal talk view (act.defines set members) i = refl
 asked_at table ordinal talk view (act.deletes set) i = refl
 asked_at table ordinal talk view (act.calls call) i = refl
 
-seen_own : (table : OwnTable) (ordinal : ℕ) (talk : Talk) (view : View) (a : Act)
+seen_own : (table : OwnTables) (ordinal : ℕ) (talk : Talk) (view : View) (a : Act)
     → octets_in table ordinal talk (own ordinal a ∷ view)
     ≡ octets_in table ordinal talk view ++ act_octets table ordinal talk view a
 seen_own table ordinal talk view a = rw (eq-eqb ordinal ordinal refl) refl
 
-asked_own : (table : OwnTable) (ordinal : ℕ) (talk : Talk) (view : View) (a : Act)
+asked_own : (table : OwnTables) (ordinal : ℕ) (talk : Talk) (view : View) (a : Act)
     → is_asked a ≡ true
     → octets_in table ordinal talk (own ordinal a ∷ view)
     ≡ octets_in table ordinal talk view
@@ -206,7 +206,7 @@ asked_own table ordinal talk view a i =
     (asked_at table ordinal talk view a i)
 
 -- the request that stands at the front is answered at the first of its acts alone
-request_adds : (table : OwnTable) (ordinal : ℕ) (talk : Talk) (view : View) (invoke : ℕ)
+request_adds : (table : OwnTables) (ordinal : ℕ) (talk : Talk) (view : View) (invoke : ℕ)
     (call : CallKind) (these : List Act)
     → IsFirst (turns_behind talk.turns (acts_made ordinal view)) invoke call → AreAsked these
     → 0 < length these → length these ≤ length (acts_of_call call)
@@ -301,20 +301,14 @@ some_acts (kinds.Odd kind code) i = omega arith
 
 -- ---- entries
 
-own_seen : (rows : CentreRows) (key : Key) (these : List Act)
-    → filter_map (seen_by rows key.peer) (map (acts key) these) ≡ map (own key.ordinal) these
-own_seen rows key [] = refl
-own_seen rows key (this ∷ these) =
-    rw (eq-eqb key.peer key.peer refl)
-    (ap (λ (v : View). own key.ordinal this ∷ v) (own_seen rows key these))
-
 -- what an event of the association shows
-pub shown : (rows : CentreRows) (key : Key) (found : Option Key) (these : List Act)
-    → found ≡ Some key
-    → filter_map (seen_by rows key.peer) (moves_by found these) ≡ map (own key.ordinal) these
-shown rows key found these e =
-    ap (λ (k : Option Key). filter_map (seen_by rows key.peer) (moves_by k these)) e
-    ∙ own_seen rows key these
+pub shown : (rows : CentreRows) (key : Key) (before : List Move) (found : Option Key)
+    (these : List Act) → found ≡ Some key
+    → seen_in rows (own_tables rows) key.peer before (moves_by found these)
+    ≡ map (own key.ordinal) these
+shown rows key before found these e =
+    ap (λ (k : Option Key). seen_in rows (own_tables rows) key.peer before (moves_by k these)) e
+    ∙ acts_seen rows (own_tables rows) key before these
 
 abbrev with_event : ℕ → EventKind → Past → Past
 with_event who event past = record { who = who; event = event } ∷ past
@@ -322,47 +316,59 @@ with_event who event past = record { who = who; event = event } ∷ past
 -- the view with an event of the association, where these are its acts
 pub with_acts : (rows : CentreRows) (key : Key) (who : ℕ) (event : EventKind) (past : Past)
     (these : List Act)
-    → filter_map (seen_by rows key.peer) (moves_of_event event (key_at event past who))
-    ≡ map (own key.ordinal) these
+    → seen_in rows (own_tables rows) key.peer (moves_in past)
+    (moves_of (sort_of event) (key_at event past who)) ≡ map (own key.ordinal) these
     → view_of rows key.peer (with_event who event past)
     ≡ map (own key.ordinal) these ++ view_of rows key.peer past
 with_acts rows key who event past these e =
     view_of-entry rows key.peer past (record { who = who; event = event })
     ∙ ap (λ (v : View). v ++ view_of rows key.peer past) e
 
-pub other_adds : (rows : CentreRows) (table : OwnTable) (talk : Talk) (key : Key) (who : ℕ)
+pub other_adds : (rows : CentreRows) (table : OwnTables) (talk : Talk) (key : Key) (who : ℕ)
     (event : EventKind) (past : Past) → (key_at event past who ≡ Some key → ⊥)
     → octets_in table key.ordinal talk (view_of rows key.peer (with_event who event past))
     ≡ octets_in table key.ordinal talk (view_of rows key.peer past)
 other_adds rows table talk key who event past apart =
     ap (λ (v : View). octets_in table key.ordinal talk v)
     (view_of-entry rows key.peer past (record { who = who; event = event }))
-    ∙ event_adds rows table talk key event (key_at event past who) (view_of rows key.peer past)
-    apart
+    ∙ apart_adds table key.ordinal talk
+    (seen_in rows (own_tables rows) key.peer (moves_in past)
+    (moves_of (sort_of event) (key_at event past who))) (view_of rows key.peer past)
+    (apart_event rows (own_tables rows) key event (key_at event past who) (moves_in past) apart)
 
-pub noted_adds : (rows : CentreRows) (table : OwnTable) (talk : Talk) (key : Key) (who : ℕ)
+-- an event of no association's doing shows the same whatever its seat's is
+pub noted_apart : (rows : CentreRows) (key : Key) (event : EventKind) (found : Option Key)
+    (before : List Move) → IsNoted event
+    → AreApart key.ordinal
+    (seen_in rows (own_tables rows) key.peer before (moves_of (sort_of event) found))
+noted_apart rows key (events.Update point value) found before i =
+    apart_event rows (own_tables rows) key (events.Update point value) None before
+    (λ e. absurd (none-some key e))
+noted_apart rows key (events.Table chooser variant) found before i =
+    apart_event rows (own_tables rows) key (events.Table chooser variant) None before
+    (λ e. absurd (none-some key e))
+noted_apart rows key events.Stop found before i = refl
+noted_apart rows key (events.Open peer) found before i = absurd i
+noted_apart rows key (events.Request call) found before i = absurd i
+noted_apart rows key events.Take found before i = absurd i
+noted_apart rows key events.Close found before i = absurd i
+
+pub noted_adds : (rows : CentreRows) (table : OwnTables) (talk : Talk) (key : Key) (who : ℕ)
     (event : EventKind) (past : Past) → IsNoted event
     → octets_in table key.ordinal talk (view_of rows key.peer (with_event who event past))
     ≡ octets_in table key.ordinal talk (view_of rows key.peer past)
-noted_adds rows table talk key who (events.Update point value) past i =
+noted_adds rows table talk key who event past i =
     ap (λ (v : View). octets_in table key.ordinal talk v)
-    (view_of-entry rows key.peer past (record { who = who; event = events.Update point value }))
-    ∙ event_adds rows table talk key (events.Update point value) None (view_of rows key.peer past)
-    (λ e. absurd (none-some key e))
-noted_adds rows table talk key who events.Stop past i =
-    ap (λ (v : View). octets_in table key.ordinal talk v)
-    (view_of-entry rows key.peer past (record { who = who; event = events.Stop }))
-    ∙ event_adds rows table talk key events.Stop None (view_of rows key.peer past)
-    (λ e. absurd (none-some key e))
-noted_adds rows table talk key who (events.Open peer) past i = absurd i
-noted_adds rows table talk key who (events.Request call) past i = absurd i
-noted_adds rows table talk key who events.Take past i = absurd i
-noted_adds rows table talk key who events.Close past i = absurd i
+    (view_of-entry rows key.peer past (record { who = who; event = event }))
+    ∙ apart_adds table key.ordinal talk
+    (seen_in rows (own_tables rows) key.peer (moves_in past)
+    (moves_of (sort_of event) (key_at event past who))) (view_of rows key.peer past)
+    (noted_apart rows key event (key_at event past who) (moves_in past) i)
 
-one_adds : (rows : CentreRows) (table : OwnTable) (talk : Talk) (key : Key) (who : ℕ)
+one_adds : (rows : CentreRows) (table : OwnTables) (talk : Talk) (key : Key) (who : ℕ)
     (event : EventKind) (past : Past) (this : Act)
-    → filter_map (seen_by rows key.peer) (moves_of_event event (key_at event past who))
-    ≡ map (own key.ordinal) (this ∷ [])
+    → seen_in rows (own_tables rows) key.peer (moves_in past)
+    (moves_of (sort_of event) (key_at event past who)) ≡ map (own key.ordinal) (this ∷ [])
     → octets_in table key.ordinal talk (view_of rows key.peer (with_event who event past))
     ≡ octets_in table key.ordinal talk (view_of rows key.peer past)
     ++ act_octets table key.ordinal talk (view_of rows key.peer past) this
@@ -371,33 +377,33 @@ one_adds rows table talk key who event past this e =
     (with_acts rows key who event past (this ∷ []) e)
     ∙ seen_own table key.ordinal talk (view_of rows key.peer past) this
 
-pub open_adds : (rows : CentreRows) (table : OwnTable) (talk : Talk) (key : Key) (who peer : ℕ)
+pub open_adds : (rows : CentreRows) (table : OwnTables) (talk : Talk) (key : Key) (who peer : ℕ)
     (past : Past) → key_at (events.Open peer) past who ≡ Some key
     → octets_in table key.ordinal talk (view_of rows key.peer (with_event who (events.Open peer) past))
     ≡ octets_in table key.ordinal talk (view_of rows key.peer past) ++ talk.opening
 open_adds rows table talk key who peer past e =
     one_adds rows table talk key who (events.Open peer) past act.opens
-    (shown rows key (key_at (events.Open peer) past who) (act.opens ∷ []) e)
+    (shown rows key (moves_in past) (key_at (events.Open peer) past who) (act.opens ∷ []) e)
 
-pub take_adds : (rows : CentreRows) (table : OwnTable) (talk : Talk) (key : Key) (who : ℕ)
+pub take_adds : (rows : CentreRows) (table : OwnTables) (talk : Talk) (key : Key) (who : ℕ)
     (past : Past) → key_at events.Take past who ≡ Some key
     → octets_in table key.ordinal talk (view_of rows key.peer (with_event who events.Take past))
     ≡ octets_in table key.ordinal talk (view_of rows key.peer past)
 take_adds rows table talk key who past e =
     one_adds rows table talk key who events.Take past act.takes
-    (shown rows key (key_at events.Take past who) (act.takes ∷ []) e)
+    (shown rows key (moves_in past) (key_at events.Take past who) (act.takes ∷ []) e)
     ∙ append-nil (octets_in table key.ordinal talk (view_of rows key.peer past))
 
-pub close_adds : (rows : CentreRows) (table : OwnTable) (talk : Talk) (key : Key) (who : ℕ)
+pub close_adds : (rows : CentreRows) (table : OwnTables) (talk : Talk) (key : Key) (who : ℕ)
     (past : Past) → key_at events.Close past who ≡ Some key
     → octets_in table key.ordinal talk (view_of rows key.peer (with_event who events.Close past))
     ≡ octets_in table key.ordinal talk (view_of rows key.peer past)
     ++ act_octets table key.ordinal talk (view_of rows key.peer past) act.closes
 close_adds rows table talk key who past e =
     one_adds rows table talk key who events.Close past act.closes
-    (shown rows key (key_at events.Close past who) (act.closes ∷ []) e)
+    (shown rows key (moves_in past) (key_at events.Close past who) (act.closes ∷ []) e)
 
-pub asked_adds : (rows : CentreRows) (table : OwnTable) (talk : Talk) (key : Key) (who : ℕ)
+pub asked_adds : (rows : CentreRows) (table : OwnTables) (talk : Talk) (key : Key) (who : ℕ)
     (past : Past) (invoke : ℕ) (call : CallKind) (later : List Turn) → IsCall call
     → key_at (events.Request call) past who ≡ Some key
     → turns_behind talk.turns (acts_made key.ordinal (view_of rows key.peer past))
@@ -408,6 +414,6 @@ pub asked_adds : (rows : CentreRows) (table : OwnTable) (talk : Talk) (key : Key
 asked_adds rows table talk key who past invoke call later i e f =
     ap (λ (v : View). octets_in table key.ordinal talk v)
     (with_acts rows key who (events.Request call) past (acts_of_call call)
-    (shown rows key (key_at (events.Request call) past who) (acts_of_call call) e))
+    (shown rows key (moves_in past) (key_at (events.Request call) past who) (acts_of_call call) e))
     ∙ request_adds table key.ordinal talk (view_of rows key.peer past) invoke call
     (acts_of_call call) (later, f) (acts_asked call) (some_acts call i) (omega arith)

@@ -1,25 +1,24 @@
 -- An association that was closed has no more entries, and its peer sees none.
-use Rattle.std.proofs.Common.{◌≡◌, ◌==◌, ℕ, ◌+◌, ◌<◌, Bool, true, false, List, [], ◌∷◌, ◌++◌}
+use Rattle.std.proofs.Common.{◌≡◌, ◌==◌, ℕ, ◌+◌, ◌<◌, Bool, true, false, [], ◌∷◌, ◌++◌}
 use Rattle.std.proofs.Common.{Option, Some, None, refl, sym, ap, subst, ◌∙◌, ⊎_elim, arith, ◌⊎◌, inl, inr}
-use Rattle.std.specs.Prelude.{if◌then◌else◌, ◌&&◌, ◌||◌, is_some, map}
-use Rattle.std.specs.List.{filter_map, list_any, cons_option}
+use Rattle.std.specs.Prelude.{if◌then◌else◌, ◌&&◌, ◌||◌}
+use Rattle.std.specs.List.{list_any}
 use Rattle.std.proofs.lemmas.Bool.{false≢true, eqb-true, eq-eqb, ne_eqb, cases_eq}
 use Rattle.std.proofs.lemmas.Option.{same_Some, none-some}
-use Rattle.std.proofs.lemmas.List.{append-nil}
 use Rattle.sbo_device.specs.declared.key.Key.{Key}
-use Rattle.tase_points.specs.Sample.{Sample}
-use Rattle.bilateral.specs.Rows.{CentreRows, table_of, place_of_see, point_of}
+use Rattle.bilateral.specs.Rows.{CentreRows}
 use Rattle.tase_views.specs.declared.event.EventKind.{EventKind}
 use Rattle.tase_views.specs.declared.event.EventKind.TheVariants.{Open, Request, Take, Close}
-use Rattle.tase_views.specs.declared.event.EventKind.TheVariants.{Update, Stop}
+use Rattle.tase_views.specs.declared.event.EventKind.TheVariants.{Update, Table, Stop}
 use Rattle.tase_views.specs.declared.event.Entry.{Entry}
 use Rattle.tase_views.specs.History.{Past, counts_open, opens_in, next_key, association_after}
 use Rattle.tase_views.specs.History.{association_in, key_at, is_key, entries_of}
-use Rattle.tase_views.specs.OwnTable.{OwnTable}
+use Rattle.tase_views.specs.OwnTables.{OwnTables, own_tables}
 use Rattle.tase_views.specs.Outcomes.{is_close}
-use Rattle.tase_views.specs.View.{Act, opens, takes, closes, acts, acts_of_call, moves_by}
-use Rattle.tase_views.specs.View.{moves_of_event, seen_by, Seen, View, view_of, updated}
-use Rattle.tase_views.proofs.Seen.{view_of-entry}
+use Rattle.tase_views.specs.Moves.{moves_of, sort_of}
+use Rattle.tase_views.specs.View.{moves_in, View, view_of}
+use Rattle.tase_views.proofs.Seen.{seen_in, view_of-entry}
+use Rattle.tase_map.proofs.Apart.{same_key, apart_event, apart_adds}
 use Rattle.tase_map.specs.Out.{Talk, octets_in}
 use Rattle.tase_map.specs.Closed.{is_closed}
 
@@ -59,6 +58,8 @@ after_given Take past before key g e = let h : IsGiven key past = g e in omega (
 after_given Close past before key g e = absurd (none-some key e)
 after_given (Update point value) past before key g e =
     let h : IsGiven key past = g e in omega (arith, h)
+after_given (Table chooser variant) past before key g e =
+    let h : IsGiven key past = g e in omega (arith, h)
 after_given Stop past before key g e = let h : IsGiven key past = g e in omega (arith, h)
 
 given_chosen : (b : Bool) (entry : Entry) (past : Past) (before : Option Key) (key : Key)
@@ -84,6 +85,7 @@ held_before (Request call) past before key g e = e
 held_before Take past before key g e = e
 held_before Close past before key g e = absurd (none-some key e)
 held_before (Update point value) past before key g e = e
+held_before (Table chooser variant) past before key g e = e
 held_before Stop past before key g e = e
 
 if_true : (b : Bool) (x y : Option Key) → b ≡ true → (if b then x else y) ≡ x
@@ -166,19 +168,13 @@ not_key_at (Request call) past who key s e = s.nowhere who e
 not_key_at Take past who key s e = s.nowhere who e
 not_key_at Close past who key s e = s.nowhere who e
 not_key_at (Update point value) past who key s e = s.nowhere who e
+not_key_at (Table chooser variant) past who key s e = s.nowhere who e
 not_key_at Stop past who key s e = s.nowhere who e
 
 both : (a b : Bool) → (a && b) ≡ true → (a ≡ true) × (b ≡ true)
 both true true e = (refl, refl)
 both true false e = absurd (false≢true e)
 both false b e = absurd (false≢true e)
-
-abbrev key_with : ℕ → ℕ → Key
-key_with peer ordinal = record { peer = peer; ordinal = ordinal }
-
-pub same_key : (a b : Key) → a.peer ≡ b.peer → a.ordinal ≡ b.ordinal → a ≡ b
-same_key a b p o =
-    ap (λ peer. key_with peer a.ordinal) p ∙ ap (λ ordinal. key_with b.peer ordinal) o
 
 pub key_is : (key : Key) (found : Option Key) → is_key key found ≡ true → found ≡ Some key
 key_is key None e = absurd (false≢true e)
@@ -207,6 +203,7 @@ close_spent who Close past key c e =
           (cases_eq who other);
     }
 close_spent who (Update point value) past key c e = absurd (false≢true c)
+close_spent who (Table chooser variant) past key c e = absurd (false≢true c)
 close_spent who Stop past key c e = absurd (false≢true c)
 
 either : (a b : Bool) → (a || b) ≡ true → (a ≡ true) ⊎ (b ≡ true)
@@ -255,78 +252,7 @@ entries_kept key (entry ∷ later) past s =
 
 -- ---- its octets
 
--- an act of another association of the peer, or of another peer, adds none
-act_adds : (rows : CentreRows) (table : OwnTable) (talk : Talk) (key other : Key) (act : Act)
-    (view : View) → (other ≡ key → ⊥)
-    → octets_in table key.ordinal talk
-    (filter_map (seen_by rows key.peer) (acts other act ∷ []) ++ view)
-    ≡ octets_in table key.ordinal talk view
-act_adds rows table talk key other act view apart =
-    ⊎_elim
-    (λ same. rw (
-      eq-eqb other.peer key.peer same,
-      ne_eqb other.ordinal key.ordinal (λ o. apart (same_key other key same o)),
-    ) (append-nil (octets_in table key.ordinal talk view)))
-    (λ differs. rw (ne_eqb other.peer key.peer differs) refl)
-    (cases_eq other.peer key.peer)
-
-pub cons_joined : (found : Option Seen) (seen view : View)
-    → cons_option found seen ++ view ≡ cons_option found [] ++ (seen ++ view)
-cons_joined None seen view = refl
-cons_joined (Some one) seen view = refl
-
-acts_add : (rows : CentreRows) (table : OwnTable) (talk : Talk) (key other : Key)
-    (these : List Act) (view : View) → (other ≡ key → ⊥)
-    → octets_in table key.ordinal talk
-    (filter_map (seen_by rows key.peer) (map (acts other) these) ++ view)
-    ≡ octets_in table key.ordinal talk view
-acts_add rows table talk key other [] view apart = refl
-acts_add rows table talk key other (act ∷ these) view apart =
-    ap (λ (v : View). octets_in table key.ordinal talk v)
-    (cons_joined (seen_by rows key.peer (acts other act))
-    (filter_map (seen_by rows key.peer) (map (acts other) these)) view)
-    ∙ act_adds rows table talk key other act
-    (filter_map (seen_by rows key.peer) (map (acts other) these) ++ view) apart
-    ∙ acts_add rows table talk key other these view apart
-
-by_adds : (rows : CentreRows) (table : OwnTable) (talk : Talk) (key : Key) (found : Option Key)
-    (these : List Act) (view : View) → (found ≡ Some key → ⊥)
-    → octets_in table key.ordinal talk
-    (filter_map (seen_by rows key.peer) (moves_by found these) ++ view)
-    ≡ octets_in table key.ordinal talk view
-by_adds rows table talk key None these view apart = refl
-by_adds rows table talk key (Some other) these view apart =
-    acts_add rows table talk key other these view (λ e. apart (ap Some e))
-
-update_adds : (b : Bool) (rows : CentreRows) (table : OwnTable) (talk : Talk) (key : Key)
-    (name : List ℕ) (value : Sample) (view : View)
-    → octets_in table key.ordinal talk
-    (cons_option (if b then Some (updated name value) else None) [] ++ view)
-    ≡ octets_in table key.ordinal talk view
-update_adds true rows table talk key name value view =
-    append-nil (octets_in table key.ordinal talk view)
-update_adds false rows table talk key name value view = refl
-
-pub event_adds : (rows : CentreRows) (table : OwnTable) (talk : Talk) (key : Key) (event : EventKind)
-    (found : Option Key) (view : View) → (found ≡ Some key → ⊥)
-    → octets_in table key.ordinal talk
-    (filter_map (seen_by rows key.peer) (moves_of_event event found) ++ view)
-    ≡ octets_in table key.ordinal talk view
-event_adds rows table talk key (Open peer) found view apart =
-    by_adds rows table talk key found (opens ∷ []) view apart
-event_adds rows table talk key (Request call) found view apart =
-    by_adds rows table talk key found (acts_of_call call) view apart
-event_adds rows table talk key Take found view apart =
-    by_adds rows table talk key found (takes ∷ []) view apart
-event_adds rows table talk key Close found view apart =
-    by_adds rows table talk key found (closes ∷ []) view apart
-event_adds rows table talk key (Update point value) found view apart =
-    update_adds (is_some (place_of_see (table_of rows key.peer) point)) rows table talk key
-    (point_of rows point).name value view
-event_adds rows table talk key Stop found view apart =
-    append-nil (octets_in table key.ordinal talk view)
-
-pub octets_kept : (rows : CentreRows) (table : OwnTable) (talk : Talk) (key : Key)
+pub octets_kept : (rows : CentreRows) (table : OwnTables) (talk : Talk) (key : Key)
     (later past : Past) → Spent key past
     → octets_in table key.ordinal talk (view_of rows key.peer (later ++ past))
     ≡ octets_in table key.ordinal talk (view_of rows key.peer past)
@@ -334,7 +260,11 @@ octets_kept rows table talk key [] past s = refl
 octets_kept rows table talk key (entry ∷ later) past s =
     ap (λ (v : View). octets_in table key.ordinal talk v)
     (view_of-entry rows key.peer (later ++ past) entry)
-    ∙ event_adds rows table talk key entry.event
-    (key_at entry.event (later ++ past) entry.who) (view_of rows key.peer (later ++ past))
-    (not_key_at entry.event (later ++ past) entry.who key (spent_later key later past s))
+    ∙ apart_adds table key.ordinal talk
+    (seen_in rows (own_tables rows) key.peer (moves_in (later ++ past))
+    (moves_of (sort_of entry.event) (key_at entry.event (later ++ past) entry.who)))
+    (view_of rows key.peer (later ++ past))
+    (apart_event rows (own_tables rows) key entry.event
+    (key_at entry.event (later ++ past) entry.who) (moves_in (later ++ past))
+    (not_key_at entry.event (later ++ past) entry.who key (spent_later key later past s)))
     ∙ octets_kept rows table talk key later past s

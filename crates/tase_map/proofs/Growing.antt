@@ -2,14 +2,13 @@
 use Rattle.std.proofs.Common.{◌≡◌, ◌==◌, ℕ, ℤ, ◌+◌, ◌-◌, ◌<◌, ◌≤◌, Bool, true, false, List, [], ◌∷◌}
 use Rattle.std.proofs.Common.{◌++◌, Option, Some, None, refl, sym, ap, subst, ◌∙◌, arith, length}
 use Rattle.std.proofs.Common.{⊎_elim, map, ◌⊎◌, inl, inr, append_assoc, cond, filter, drop}
-use Rattle.std.specs.Prelude.{if◌then◌else◌, nat_lt, is_some, ◌||◌, ◌&&◌}
-use Rattle.std.specs.List.{filter_map, cons_option, list_any}
+use Rattle.std.specs.Prelude.{if◌then◌else◌, nat_lt, is_some, ◌||◌}
+use Rattle.std.specs.List.{list_any}
 use Rattle.std.proofs.lemmas.Bool.{false≢true, eq-eqb, cases_eq, ltb-true, ltb-false}
 use Rattle.std.proofs.lemmas.List.{append-nil}
 use Rattle.std.proofs.lemmas.List.Folds.{list_any-append}
-use Rattle.tase_points.specs.Sample.{Sample}
 use Rattle.sbo_device.specs.declared.key.Key.{Key}
-use Rattle.bilateral.specs.Rows.{CentreRows, table_of, place_of_see, point_of}
+use Rattle.bilateral.specs.Rows.{CentreRows}
 use Rattle.mms_services.specs.declared.pdu.MmsPdu.TheVariants as pdus
 use Rattle.stack_wire.specs.declared.setup.AssociationSetup.{AssociationSetup}
 use Rattle.stack_messages.specs.declared.heard.Connecting.{Connecting}
@@ -23,14 +22,15 @@ use Rattle.tase_views.specs.declared.event.EventKind.{EventKind}
 use Rattle.tase_views.specs.declared.event.EventKind.TheVariants as events
 use Rattle.tase_views.specs.declared.event.Entry.{Entry}
 use Rattle.tase_views.specs.History.{Past, key_at, is_key, entries_of, opens_in}
-use Rattle.tase_views.specs.OwnTable.{OwnTable, own_table}
+use Rattle.tase_views.specs.OwnTables.{OwnTables, own_tables}
 use Rattle.tase_views.specs.Outcomes.{is_close}
-use Rattle.tase_views.specs.View.{Act, acts, acts_of_call, moves_by, moves_of_event, Seen, own}
+use Rattle.tase_views.specs.Moves.{Act, Move, updates, chooses, acts_of_call, moves_by, moves_of}
+use Rattle.tase_views.specs.Moves.{sort_of}
+use Rattle.tase_views.specs.View.{Seen, own}
 use Rattle.tase_views.specs.View.{other_acted, other_closed, updated, tagged, asked, ticked}
-use Rattle.tase_views.specs.View.{stopped}
-use Rattle.tase_views.specs.View.{seen_by, View, view_of}
-use Rattle.tase_views.specs.View as act
-use Rattle.tase_views.proofs.Seen.{view_of-entry}
+use Rattle.tase_views.specs.View.{chose, stopped, moves_in, View, view_of}
+use Rattle.tase_views.specs.Moves as act
+use Rattle.tase_views.proofs.Seen.{seen_in, view_of-entry}
 use Rattle.tase_map.specs.Readings.{Reading, reading_of}
 use Rattle.tase_map.specs.Turns.{Turn, offers, offers_badly, asks, concludes, releases, aborts}
 use Rattle.tase_map.specs.Turns.{breaks, ends, pauses, fault_turns, turns_told}
@@ -40,9 +40,10 @@ use Rattle.tase_map.specs.Out.{said, concluded_octets, close_octets, act_octets,
 use Rattle.tase_map.specs.Closed.{is_closed}
 use Rattle.tase_map.specs.Sent.{association_octets, turns_left, AreInText, IsFixed, AsksNoService}
 use Rattle.tase_map.proofs.ReadingLaws.{turns_go_on}
+use Rattle.tase_map.proofs.Apart.{is_own, AreApart, neither, apart_event}
 use Rattle.tase_map.proofs.Closing.{not_key_at, key_is, not_true, closed_spent}
 use Rattle.tase_map.proofs.Adding.{if_eq, if_ne, asks_front, asks_inside, asks_passed, AreAsked}
-use Rattle.tase_map.proofs.Adding.{acts_asked, other_adds, close_adds}
+use Rattle.tase_map.proofs.Adding.{acts_asked, other_adds, close_adds, shown, noted_apart}
 use Rattle.tase_map.proofs.Passing.{behind_none, made_apart, quiet_event, left_asked, all_left}
 use Rattle.tase_map.proofs.TurnOrder.{offered, offers_told}
 use Rattle.tase_map.proofs.TurnsRead.{turns_heard}
@@ -156,7 +157,8 @@ talk_with opening setup detail turns = record {
   turns = turns;
 }
 
-module _ (table : OwnTable) (ordinal : ℕ) (opening : List ℕ) (setup : AssociationSetup) (detail : ℤ)
+module _ (table : OwnTables) (ordinal : ℕ) (opening : List ℕ) (setup : AssociationSetup)
+    (detail : ℤ)
     (shorter longer : List Turn) where
   abbrev reply_of : List Turn → View → List Turn → List ℕ
   reply_of turns view first =
@@ -265,15 +267,12 @@ made_one ordinal other a view same by_call =
     one_more (is_asked_by ordinal (own other a)) (own other a)
     (filter (is_asked_by ordinal) view) (rw (same, by_call) refl)
 
-neither : (a b : Bool) → (a || b) ≡ false → (a ≡ false) × (b ≡ false)
-neither true b e = absurd (false≢true (sym e))
-neither false b e = (refl, e)
-
 chosen : (b c : Bool) → (if b then c else false) ≡ false → b ≡ true → c ≡ false
 chosen true c e s = e
 chosen false c e s = absurd (false≢true s)
 
-module _ (table : OwnTable) (ordinal : ℕ) (opening : List ℕ) (setup : AssociationSetup) (detail : ℤ)
+module _ (table : OwnTables) (ordinal : ℕ) (opening : List ℕ) (setup : AssociationSetup)
+    (detail : ℤ)
     (turns others : List Turn) (count : ℕ) (stand : StandIn turns count) where
   abbrev short : Talk
   short = talk_with opening setup detail turns
@@ -320,6 +319,8 @@ module _ (table : OwnTable) (ordinal : ℕ) (opening : List ℕ) (setup : Associ
       ap (λ (os : List ℕ). os ++ []) (same_octets view few free)
   same_octets (asked slot ∷ view) few free =
       ap (λ (os : List ℕ). os ++ []) (same_octets view few free)
+  same_octets (chose slot ∷ view) few free =
+      ap (λ (os : List ℕ). os ++ []) (same_octets view few free)
   same_octets (ticked now ∷ view) few free =
       ap (λ (os : List ℕ). os ++ []) (same_octets view few free)
   same_octets (own other a ∷ view) few free =
@@ -346,26 +347,11 @@ abbrev NoneCloses : List Act → Type 0
 NoneCloses [] = Unit {0}
 NoneCloses (this ∷ these) = (is_closes this ≡ false) × NoneCloses these
 
-one_unclosed : (b : Bool) (ordinal other : ℕ) (a : Act) (view : View) → is_closes a ≡ false
-    → has_close ordinal view ≡ false
-    → has_close ordinal (cons_option (if b then Some (own other a) else None) view) ≡ false
-one_unclosed true ordinal other a view closes free =
-    rw (never_if (other == ordinal) (is_closes a) closes) free
-one_unclosed false ordinal other a view closes free = free
-
-acts_unclosed : (rows : CentreRows) (key other : Key) (these : List Act) → NoneCloses these
-    → has_close key.ordinal (filter_map (seen_by rows key.peer) (map (acts other) these)) ≡ false
-acts_unclosed rows key other [] none = refl
-acts_unclosed rows key other (this ∷ these) none =
-    one_unclosed (other.peer == key.peer) key.ordinal other.ordinal this
-    (filter_map (seen_by rows key.peer) (map (acts other) these)) none.0
-    (acts_unclosed rows key other these none.1)
-
-by_unclosed : (rows : CentreRows) (key : Key) (found : Option Key) (these : List Act)
-    → NoneCloses these
-    → has_close key.ordinal (filter_map (seen_by rows key.peer) (moves_by found these)) ≡ false
-by_unclosed rows key None these none = refl
-by_unclosed rows key (Some other) these none = acts_unclosed rows key other these none
+acts_unclosed : (ordinal : ℕ) (these : List Act) → NoneCloses these
+    → has_close ordinal (map (own ordinal) these) ≡ false
+acts_unclosed ordinal [] none = refl
+acts_unclosed ordinal (this ∷ these) none =
+    rw (never_if (ordinal == ordinal) (is_closes this) none.0) (acts_unclosed ordinal these none.1)
 
 asked_unclosed : (these : List Act) → AreAsked these → NoneCloses these
 asked_unclosed [] a = tt
@@ -381,45 +367,70 @@ asked_unclosed (this ∷ these) a = (asked_one this a.0, asked_unclosed these a.
     asked_one (act.deletes set) e = refl
     asked_one (act.calls call) e = refl
 
--- the close of another association
-close_apart : (peers ordinals : Bool) (ordinal other : ℕ) → (other == ordinal) ≡ ordinals
-    → ((peers && ordinals) ≡ true → true ≡ false)
-    → has_close ordinal (cons_option (if peers then Some (own other act.closes) else None) [])
-    ≡ false
-close_apart true true ordinal other e apart = absurd (false≢true (sym (apart refl)))
-close_apart true false ordinal other e apart = rw e refl
-close_apart false ordinals ordinal other e apart = refl
+-- what isn't of the association closes none
+apart_unclosed : (ordinal : ℕ) (view : View) → AreApart ordinal view
+    → has_close ordinal view ≡ false
+apart_unclosed ordinal [] e = refl
+apart_unclosed ordinal (own other a ∷ view) e =
+    let n = neither (other == ordinal) (list_any (is_own ordinal) view) e in
+    rw n.0 (apart_unclosed ordinal view n.1)
+apart_unclosed ordinal (other_acted k o d a ∷ view) e = apart_unclosed ordinal view e
+apart_unclosed ordinal (other_closed k o ∷ view) e = apart_unclosed ordinal view e
+apart_unclosed ordinal (updated n v ∷ view) e = apart_unclosed ordinal view e
+apart_unclosed ordinal (tagged d t ∷ view) e = apart_unclosed ordinal view e
+apart_unclosed ordinal (asked s ∷ view) e = apart_unclosed ordinal view e
+apart_unclosed ordinal (chose v ∷ view) e = apart_unclosed ordinal view e
+apart_unclosed ordinal (ticked n ∷ view) e = apart_unclosed ordinal view e
+apart_unclosed ordinal (stopped ∷ view) e = apart_unclosed ordinal view e
 
-close_unclosed : (rows : CentreRows) (key : Key) (found : Option Key)
-    → (is_key key found ≡ true → true ≡ false)
-    → has_close key.ordinal (filter_map (seen_by rows key.peer) (moves_by found (act.closes ∷ [])))
-    ≡ false
-close_unclosed rows key None apart = refl
-close_unclosed rows key (Some other) apart =
-    close_apart (other.peer == key.peer) (other.ordinal == key.ordinal) key.ordinal other.ordinal
-    refl apart
+key_found : (key : Key) (found : Option Key) → found ≡ Some key → is_key key found ≡ true
+key_found key found e = ap (λ (o : Option Key). is_key key o) e
+    ∙ rw (eq-eqb key.peer key.peer refl, eq-eqb key.ordinal key.ordinal refl) refl
 
-update_unclosed : (b : Bool) (ordinal : ℕ) (name : List ℕ) (value : Sample)
-    → has_close ordinal (cons_option (if b then Some (updated name value) else None) []) ≡ false
-update_unclosed true ordinal name value = refl
-update_unclosed false ordinal name value = refl
+-- acts of the association that close it not
+own_unclosed : (rows : CentreRows) (key : Key) (found : Option Key) (before : List Move)
+    (these : List Act) → found ≡ Some key → NoneCloses these
+    → has_close key.ordinal
+    (seen_in rows (own_tables rows) key.peer before (moves_by found these)) ≡ false
+own_unclosed rows key found before these e none =
+    ap (λ (v : View). has_close key.ordinal v) (shown rows key before found these e)
+    ∙ acts_unclosed key.ordinal these none
+
+-- an event of the association that isn't its close
+same_unclosed : (rows : CentreRows) (key : Key) (event : EventKind) (found : Option Key)
+    (before : List Move) → found ≡ Some key → is_close event ≡ false
+    → has_close key.ordinal
+    (seen_in rows (own_tables rows) key.peer before (moves_of (sort_of event) found)) ≡ false
+same_unclosed rows key (events.Open peer) found before e goes =
+    own_unclosed rows key found before (act.opens ∷ []) e (refl, tt)
+same_unclosed rows key (events.Request call) found before e goes =
+    own_unclosed rows key found before (acts_of_call call) e
+    (asked_unclosed (acts_of_call call) (acts_asked call))
+same_unclosed rows key events.Take found before e goes =
+    own_unclosed rows key found before (act.takes ∷ []) e (refl, tt)
+same_unclosed rows key events.Close found before e goes = absurd (false≢true (sym goes))
+same_unclosed rows key (events.Update point value) found before e goes =
+    apart_unclosed key.ordinal
+    (seen_in rows (own_tables rows) key.peer before (updates point value ∷ []))
+    (noted_apart rows key (events.Update point value) found before tt)
+same_unclosed rows key (events.Table chooser variant) found before e goes =
+    apart_unclosed key.ordinal
+    (seen_in rows (own_tables rows) key.peer before (chooses chooser variant ∷ []))
+    (noted_apart rows key (events.Table chooser variant) found before tt)
+same_unclosed rows key events.Stop found before e goes = refl
 
 event_unclosed : (rows : CentreRows) (key : Key) (event : EventKind) (found : Option Key)
-    → (is_key key found ≡ true → is_close event ≡ false)
-    → has_close key.ordinal (filter_map (seen_by rows key.peer) (moves_of_event event found))
-    ≡ false
-event_unclosed rows key (events.Open peer) found apart =
-    by_unclosed rows key found (act.opens ∷ []) (refl, tt)
-event_unclosed rows key (events.Request call) found apart =
-    by_unclosed rows key found (acts_of_call call) (asked_unclosed (acts_of_call call)
-    (acts_asked call))
-event_unclosed rows key events.Take found apart =
-    by_unclosed rows key found (act.takes ∷ []) (refl, tt)
-event_unclosed rows key events.Close found apart = close_unclosed rows key found apart
-event_unclosed rows key (events.Update point value) found apart =
-    update_unclosed (is_some (place_of_see (table_of rows key.peer) point)) key.ordinal
-    (point_of rows point).name value
-event_unclosed rows key events.Stop found apart = refl
+    (before : List Move) → (is_key key found ≡ true → is_close event ≡ false)
+    → has_close key.ordinal
+    (seen_in rows (own_tables rows) key.peer before (moves_of (sort_of event) found)) ≡ false
+event_unclosed rows key event found before apart =
+    ⊎_elim
+    (λ same. same_unclosed rows key event found before (key_is key found same) (apart same))
+    (λ differs. apart_unclosed key.ordinal
+    (seen_in rows (own_tables rows) key.peer before (moves_of (sort_of event) found))
+    (apart_event rows (own_tables rows) key event found before
+    (λ e. absurd (false≢true (sym differs ∙ key_found key found e)))))
+    (two (is_key key found))
 
 abbrev is_close_entry : Entry → Bool
 is_close_entry entry = is_close entry.event
@@ -437,10 +448,12 @@ unclosed : (rows : CentreRows) (key : Key) (past : Past) → is_closed key past 
 unclosed rows key [] c = refl
 unclosed rows key (entry ∷ past) c =
     let found = key_at entry.event past entry.who in
-    let seen = filter_map (seen_by rows key.peer) (moves_of_event entry.event found) in
+    let seen =
+    seen_in rows (own_tables rows) key.peer (moves_in past)
+    (moves_of (sort_of entry.event) found) in
     let b = open_before (is_key key found) entry (entries_of key past) c in
     let now : has_close key.ordinal seen ≡ false =
-    event_unclosed rows key entry.event found b.0 in
+    event_unclosed rows key entry.event found (moves_in past) b.0 in
     let past_is : has_close key.ordinal (view_of rows key.peer past) ≡ false =
     unclosed rows key past b.1 in
     ap (λ (view : View). has_close key.ordinal view) (view_of-entry rows key.peer past entry)
@@ -453,11 +466,8 @@ first_true : (a b : Bool) → (a || b) ≡ true → b ≡ false → a ≡ true
 first_true true b c n = refl
 first_true false b c n = absurd (false≢true (sym n ∙ c))
 
-key_found : (key : Key) (found : Option Key) → found ≡ Some key → is_key key found ≡ true
-key_found key found e = ap (λ (o : Option Key). is_key key o) e
-    ∙ rw (eq-eqb key.peer key.peer refl, eq-eqb key.ordinal key.ordinal refl) refl
-
-module _ (rows : CentreRows) (table : OwnTable) (key : Key) (opening : List ℕ) (setup : AssociationSetup)
+module _ (rows : CentreRows) (table : OwnTables) (key : Key) (opening : List ℕ)
+    (setup : AssociationSetup)
     (detail : ℤ) (turns others : List Turn) where
   abbrev sent_short : Past → List ℕ
   sent_short past = octets_in table key.ordinal (talk_with opening setup detail turns)
@@ -522,6 +532,7 @@ module _ (rows : CentreRows) (table : OwnTable) (key : Key) (opening : List ℕ)
   entry_closes added who events.Take past e c u end = absurd (false≢true c)
   entry_closes added who events.Close past e c u end = closes_now added who past e u end
   entry_closes added who (events.Update point value) past e c u end = absurd (false≢true c)
+  entry_closes added who (events.Table chooser variant) past e c u end = absurd (false≢true c)
   entry_closes added who events.Stop past e c u end = absurd (false≢true c)
 
   -- by whether the entry is of the association
@@ -671,7 +682,7 @@ left_in rows past key talk =
 
 abbrev sent_by : CentreRows → Past → Key → Talk → List ℕ
 sent_by rows past key talk =
-    octets_in (own_table rows key.peer) key.ordinal talk (view_of rows key.peer past)
+    octets_in (own_tables rows key.peer) key.ordinal talk (view_of rows key.peer past)
 
 grown : (rows : CentreRows) (past : Past) (key : Key) (text more : List ℕ) (ended : Bool)
     → AreInText rows past key text → Grows text more ended
@@ -770,7 +781,7 @@ pub sent_more : (rows : CentreRows) (past : Past) (key : Key) (text more : List 
 sent_more rows past key text more ended unclosed_yet s =
     let g = grown rows past key text more ended s in
     ap (λ (talk : Talk). sent_by rows past key talk) g.long
-    ∙ open_same rows (own_table rows key.peer) key g.opening g.setup g.detail g.turns
+    ∙ open_same rows (own_tables rows key.peer) key g.opening g.setup g.detail g.turns
     (g.later ++ end_turns ended) past unclosed_yet (stands rows past key text more ended s g)
     ∙ sym (ap (λ (talk : Talk). sent_by rows past key talk) g.short)
 
@@ -783,7 +794,7 @@ closed_more : (rows : CentreRows) (past : Past) (key : Key) (text more : List �
     → association_octets rows past key (text ++ more) ended ≡ association_octets rows past key text false ++ added
 closed_more rows past key text more ended added c s g adds =
     ap (λ (talk : Talk). sent_by rows past key talk) g.long
-    ∙ ends_so rows (own_table rows key.peer) key g.opening g.setup g.detail g.turns
+    ∙ ends_so rows (own_tables rows key.peer) key g.opening g.setup g.detail g.turns
     (g.later ++ end_turns ended) added past c
     (record {
       stand = stands rows past key text more ended s g;

@@ -1,3 +1,4 @@
+pub mod Apart
 pub mod AskedLaws
 pub mod RepliedLaws
 pub mod ReadingLaws

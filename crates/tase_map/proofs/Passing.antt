@@ -1,33 +1,32 @@
 -- What the text of an association has left behind the requests that were made so far.
 use Rattle.std.proofs.Common.{◌≡◌, ◌==◌, ℕ, ◌+◌, ◌-◌, ◌<◌, ◌≤◌, Bool, true, false, List, [], ◌∷◌}
-use Rattle.std.proofs.Common.{◌++◌, Option, Some, None, refl, sym, ap, subst, ◌∙◌, arith, length}
+use Rattle.std.proofs.Common.{Some, refl, sym, ap, subst, ◌∙◌, arith, length}
 use Rattle.std.proofs.Common.{⊎_elim, map, ◌⊎◌, inl, inr}
-use Rattle.std.specs.Prelude.{if◌then◌else◌, nat_lt, is_some}
-use Rattle.std.specs.List.{filter_map, cons_option}
-use Rattle.std.proofs.lemmas.Bool.{false≢true, eq-eqb, ne_eqb, cases_eq, ltb-true, ltb-false}
+use Rattle.std.specs.Prelude.{if◌then◌else◌, nat_lt}
+use Rattle.std.proofs.lemmas.Bool.{false≢true, eq-eqb, cases_eq, ltb-true, ltb-false}
 use Rattle.std.proofs.lemmas.Option.{same_Some}
-use Rattle.tase_points.specs.Sample.{Sample}
 use Rattle.sbo_device.specs.declared.key.Key.{Key}
-use Rattle.bilateral.specs.Rows.{CentreRows, table_of, place_of_see, point_of}
+use Rattle.bilateral.specs.Rows.{CentreRows}
 use Rattle.tase_views.specs.Calls.{IsCall}
 use Rattle.tase_views.specs.declared.call.CallKind.{CallKind}
 use Rattle.tase_views.specs.declared.event.EventKind.{EventKind}
 use Rattle.tase_views.specs.declared.event.EventKind.TheVariants as events
 use Rattle.tase_views.specs.declared.event.Entry.{Entry}
 use Rattle.tase_views.specs.History.{Past, counts_open, opens_in, next_key, key_at}
-use Rattle.tase_views.specs.OwnTable.{OwnTable}
-use Rattle.tase_views.specs.View.{Act, acts, acts_of_call, moves_by, moves_of_event, Seen, own}
-use Rattle.tase_views.specs.View.{updated, seen_by, View, view_of}
-use Rattle.tase_views.specs.View as act
-use Rattle.tase_views.proofs.Seen.{view_of-entry}
+use Rattle.tase_views.specs.OwnTables.{OwnTables, own_tables}
+use Rattle.tase_views.specs.Moves.{Act, acts_of_call, moves_of, sort_of}
+use Rattle.tase_views.specs.View.{own, moves_in, View, view_of}
+use Rattle.tase_views.specs.Moves as act
+use Rattle.tase_views.proofs.Seen.{seen_in, view_of-entry}
 use Rattle.tase_map.specs.Turns.{Turn, offers, offers_badly, asks, concludes, releases, aborts}
 use Rattle.tase_map.specs.Turns.{breaks, ends, pauses}
 use Rattle.tase_map.specs.Out.{Talk, is_asked, acts_made, turns_behind, octets_in}
-use Rattle.tase_map.specs.Sent.{AsksNoService}
-use Rattle.tase_map.proofs.Closing.{cons_joined, issued, same_key}
+use Rattle.tase_map.specs.Sent.{AsksNoService, IsNoted}
+use Rattle.tase_map.proofs.Apart.{apart_event, apart_made}
+use Rattle.tase_map.proofs.Closing.{issued}
 use Rattle.tase_map.proofs.Adding.{is_asking, call_at, asks_front, asks_inside, asks_passed, if_eq}
 use Rattle.tase_map.proofs.Adding.{if_ne, none_asking, made_all, acts_asked, some_acts, with_acts}
-use Rattle.tase_map.proofs.Adding.{shown, other_adds}
+use Rattle.tase_map.proofs.Adding.{shown, other_adds, noted_apart}
 
 -- ---- behind a whole request
 
@@ -139,62 +138,6 @@ passed_whole turns count invoke call later e some =
 
 -- ---- what makes no act of the association
 
-apart_made : (rows : CentreRows) (key other : Key) (a : Act) (view : View) → (other ≡ key → ⊥)
-    → acts_made key.ordinal (cons_option (seen_by rows key.peer (acts other a)) [] ++ view)
-    ≡ acts_made key.ordinal view
-apart_made rows key other a view apart =
-    ⊎_elim
-    (λ same. rw (
-      eq-eqb other.peer key.peer same,
-      ne_eqb other.ordinal key.ordinal (λ o. apart (same_key other key same o)),
-    ) refl)
-    (λ differs. rw (ne_eqb other.peer key.peer differs) refl)
-    (cases_eq other.peer key.peer)
-
-acts_apart : (rows : CentreRows) (key other : Key) (these : List Act) (view : View)
-    → (other ≡ key → ⊥)
-    → acts_made key.ordinal (filter_map (seen_by rows key.peer) (map (acts other) these) ++ view)
-    ≡ acts_made key.ordinal view
-acts_apart rows key other [] view apart = refl
-acts_apart rows key other (this ∷ these) view apart =
-    ap (λ (v : View). acts_made key.ordinal v)
-    (cons_joined (seen_by rows key.peer (acts other this))
-    (filter_map (seen_by rows key.peer) (map (acts other) these)) view)
-    ∙ apart_made rows key other this
-    (filter_map (seen_by rows key.peer) (map (acts other) these) ++ view) apart
-    ∙ acts_apart rows key other these view apart
-
-by_apart : (rows : CentreRows) (key : Key) (found : Option Key) (these : List Act) (view : View)
-    → (found ≡ Some key → ⊥)
-    → acts_made key.ordinal (filter_map (seen_by rows key.peer) (moves_by found these) ++ view)
-    ≡ acts_made key.ordinal view
-by_apart rows key None these view apart = refl
-by_apart rows key (Some other) these view apart =
-    acts_apart rows key other these view (λ e. apart (ap Some e))
-
-update_apart : (b : Bool) (ordinal : ℕ) (name : List ℕ) (value : Sample) (view : View)
-    → acts_made ordinal (cons_option (if b then Some (updated name value) else None) [] ++ view)
-    ≡ acts_made ordinal view
-update_apart true ordinal name value view = refl
-update_apart false ordinal name value view = refl
-
-event_apart : (rows : CentreRows) (key : Key) (event : EventKind) (found : Option Key) (view : View)
-    → (found ≡ Some key → ⊥)
-    → acts_made key.ordinal (filter_map (seen_by rows key.peer) (moves_of_event event found) ++ view)
-    ≡ acts_made key.ordinal view
-event_apart rows key (events.Open peer) found view apart =
-    by_apart rows key found (act.opens ∷ []) view apart
-event_apart rows key (events.Request call) found view apart =
-    by_apart rows key found (acts_of_call call) view apart
-event_apart rows key events.Take found view apart =
-    by_apart rows key found (act.takes ∷ []) view apart
-event_apart rows key events.Close found view apart =
-    by_apart rows key found (act.closes ∷ []) view apart
-event_apart rows key (events.Update point value) found view apart =
-    update_apart (is_some (place_of_see (table_of rows key.peer) point)) key.ordinal
-    (point_of rows point).name value view
-event_apart rows key events.Stop found view apart = refl
-
 abbrev with_event : ℕ → EventKind → Past → Past
 with_event who event past = record { who = who; event = event } ∷ past
 
@@ -205,7 +148,10 @@ pub made_apart : (rows : CentreRows) (key : Key) (who : ℕ) (event : EventKind)
 made_apart rows key who event past apart =
     ap (λ (v : View). acts_made key.ordinal v)
     (view_of-entry rows key.peer past (record { who = who; event = event }))
-    ∙ event_apart rows key event (key_at event past who) (view_of rows key.peer past) apart
+    ∙ apart_made key.ordinal
+    (seen_in rows (own_tables rows) key.peer (moves_in past)
+    (moves_of (sort_of event) (key_at event past who))) (view_of rows key.peer past)
+    (apart_event rows (own_tables rows) key event (key_at event past who) (moves_in past) apart)
 
 -- an act that no request makes
 quiet_made : (ordinal : ℕ) (a : Act) (view : View) → is_asked a ≡ false
@@ -214,8 +160,8 @@ quiet_made ordinal a view i = rw (eq-eqb ordinal ordinal refl, i) refl
 
 pub made_quiet : (rows : CentreRows) (key : Key) (who : ℕ) (event : EventKind) (past : Past)
     (this : Act) → is_asked this ≡ false
-    → filter_map (seen_by rows key.peer) (moves_of_event event (key_at event past who))
-    ≡ map (own key.ordinal) (this ∷ [])
+    → seen_in rows (own_tables rows) key.peer (moves_in past)
+    (moves_of (sort_of event) (key_at event past who)) ≡ map (own key.ordinal) (this ∷ [])
     → acts_made key.ordinal (view_of rows key.peer (with_event who event past))
     ≡ acts_made key.ordinal (view_of rows key.peer past)
 made_quiet rows key who event past this i e =
@@ -230,7 +176,7 @@ pub made_asked : (rows : CentreRows) (key : Key) (who : ℕ) (call : CallKind) (
 made_asked rows key who call past e =
     ap (λ (v : View). acts_made key.ordinal v)
     (with_acts rows key who (events.Request call) past (acts_of_call call)
-    (shown rows key (key_at (events.Request call) past who) (acts_of_call call) e))
+    (shown rows key (moves_in past) (key_at (events.Request call) past who) (acts_of_call call) e))
     ∙ made_all key.ordinal (acts_of_call call) (view_of rows key.peer past) (acts_asked call)
 
 pub left_asked : (rows : CentreRows) (turns : List Turn) (key : Key) (who invoke : ℕ)
@@ -245,6 +191,19 @@ left_asked rows turns key who invoke call later past i e f =
     ∙ passed_whole turns (acts_made key.ordinal (view_of rows key.peer past)) invoke call later f
     (some_acts call i)
 
+-- an event of no association's doing
+made_noted : (rows : CentreRows) (key : Key) (who : ℕ) (event : EventKind) (past : Past)
+    → IsNoted event
+    → acts_made key.ordinal (view_of rows key.peer (with_event who event past))
+    ≡ acts_made key.ordinal (view_of rows key.peer past)
+made_noted rows key who event past i =
+    ap (λ (v : View). acts_made key.ordinal v)
+    (view_of-entry rows key.peer past (record { who = who; event = event }))
+    ∙ apart_made key.ordinal
+    (seen_in rows (own_tables rows) key.peer (moves_in past)
+    (moves_of (sort_of event) (key_at event past who))) (view_of rows key.peer past)
+    (noted_apart rows key event (key_at event past who) (moves_in past) i)
+
 -- any other event of the association
 pub quiet_event : (rows : CentreRows) (key : Key) (who : ℕ) (event : EventKind) (past : Past)
     → AsksNoService event → key_at event past who ≡ Some key
@@ -252,22 +211,19 @@ pub quiet_event : (rows : CentreRows) (key : Key) (who : ℕ) (event : EventKind
     ≡ acts_made key.ordinal (view_of rows key.peer past)
 quiet_event rows key who (events.Open peer) past q e =
     made_quiet rows key who (events.Open peer) past act.opens refl
-    (shown rows key (key_at (events.Open peer) past who) (act.opens ∷ []) e)
+    (shown rows key (moves_in past) (key_at (events.Open peer) past who) (act.opens ∷ []) e)
 quiet_event rows key who (events.Request call) past q e = absurd q
 quiet_event rows key who events.Take past q e =
     made_quiet rows key who events.Take past act.takes refl
-    (shown rows key (key_at events.Take past who) (act.takes ∷ []) e)
+    (shown rows key (moves_in past) (key_at events.Take past who) (act.takes ∷ []) e)
 quiet_event rows key who events.Close past q e =
     made_quiet rows key who events.Close past act.closes refl
-    (shown rows key (key_at events.Close past who) (act.closes ∷ []) e)
+    (shown rows key (moves_in past) (key_at events.Close past who) (act.closes ∷ []) e)
 quiet_event rows key who (events.Update point value) past q e =
-    ap (λ (v : View). acts_made key.ordinal v)
-    (view_of-entry rows key.peer past (record { who = who; event = events.Update point value }))
-    ∙ update_apart (is_some (place_of_see (table_of rows key.peer) point)) key.ordinal
-    (point_of rows point).name value (view_of rows key.peer past)
-quiet_event rows key who events.Stop past q e =
-    ap (λ (v : View). acts_made key.ordinal v)
-    (view_of-entry rows key.peer past (record { who = who; event = events.Stop }))
+    made_noted rows key who (events.Update point value) past tt
+quiet_event rows key who (events.Table chooser variant) past q e =
+    made_noted rows key who (events.Table chooser variant) past tt
+quiet_event rows key who events.Stop past q e = made_noted rows key who events.Stop past tt
 
 -- ---- before the open
 
@@ -293,6 +249,8 @@ yet_none who events.Take past key y e = let g = issued past who key e in omega (
 yet_none who events.Close past key y e = let g = issued past who key e in omega (arith, g, y)
 yet_none who (events.Update point value) past key y e =
     let g = issued past who key e in omega (arith, g, y)
+yet_none who (events.Table chooser variant) past key y e =
+    let g = issued past who key e in omega (arith, g, y)
 yet_none who events.Stop past key y e = let g = issued past who key e in omega (arith, g, y)
 
 yet_before : (entry : Entry) (past : Past) (key : Key) → IsYet key (entry ∷ past) → IsYet key past
@@ -305,7 +263,7 @@ none_made rows key (entry ∷ past) y =
     made_apart rows key entry.who entry.event past (yet_none entry.who entry.event past key y)
     ∙ none_made rows key past (yet_before entry past key y)
 
-pub none_sent : (rows : CentreRows) (table : OwnTable) (talk : Talk) (key : Key) (past : Past)
+pub none_sent : (rows : CentreRows) (table : OwnTables) (talk : Talk) (key : Key) (past : Past)
     → IsYet key past → octets_in table key.ordinal talk (view_of rows key.peer past) ≡ []
 none_sent rows table talk key [] y = refl
 none_sent rows table talk key (entry ∷ past) y =

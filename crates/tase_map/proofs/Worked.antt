@@ -24,8 +24,9 @@ use Rattle.bilateral.specs.Rows.{CentreRows}
 use Rattle.tase_views.specs.declared.call.CallKind.TheVariants.{Identify}
 use Rattle.tase_views.specs.declared.event.EventKind.{EventKind}
 use Rattle.tase_views.specs.declared.event.EventKind.TheVariants.{Open, Request, Take, Close}
-use Rattle.tase_views.specs.OwnTable.{own_table}
-use Rattle.tase_views.specs.View.{View, own, stopped, opens, takes, closes, calls}
+use Rattle.tase_views.specs.OwnTables.{own_tables}
+use Rattle.tase_views.specs.Moves.{opens, takes, closes, calls}
+use Rattle.tase_views.specs.View.{View, own, stopped}
 use Rattle.tase_map.specs.Asked.{invalid}
 use Rattle.tase_map.specs.Readings.{Reading}
 use Rattle.tase_map.specs.Turns.{Turn, offers, offers_badly, asks, concludes, releases, aborts}
@@ -178,7 +179,7 @@ abbrev pub still_open : View
 still_open = own 0 takes ∷ own 0 (calls Identify) ∷ own 0 takes ∷ own 0 opens ∷ []
 
 abbrev sent : List Arrival → View → List ℕ
-sent told view = octets_in (own_table rows 0) 0 (talk_of (reading told) false) view
+sent told view = octets_in (own_tables rows 0) 0 (talk_of (reading told) false) view
 
 opened_sent : sent first_two (own 0 opens ∷ []) ≡ confirm_octets ++ accept_octets
 unfolding wire session.session_length_octets ber.length_octets ber.integer_octets presentation.user_octets accept_tsdu presentation.set_up_octets presentation.mode_octets presentation.accept_ppdu_octets presentation.results_octets presentation.accepted_octets pdu_octets initiate_octets later_octets last_octets initiate_detail_octets

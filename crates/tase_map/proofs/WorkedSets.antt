@@ -49,8 +49,9 @@ use Rattle.mms_services.specs.PduOctets.{pdu_octets, response_octets, invoke_oct
 use Rattle.stack_messages.specs.declared.heard.Heard.TheVariants as heards
 use Rattle.stack_wire.specs.Tsdus.{data_tsdu}
 use Rattle.stack_assoc.specs.Arrivals.{Arrival, heard}
-use Rattle.tase_views.specs.OwnTable.{own_table}
-use Rattle.tase_views.specs.View.{View, own, updated, opens, acts_of_call}
+use Rattle.tase_views.specs.OwnTables.{own_tables}
+use Rattle.tase_views.specs.Moves.{opens, acts_of_call}
+use Rattle.tase_views.specs.View.{View, own, updated}
 use Rattle.tase_views.proofs.NodeSample.{rows}
 use Rattle.tase_map.specs.Turns.{Turn, asks, turns_told}
 use Rattle.tase_map.specs.Out.{Talk, talk_of, octets_in}
@@ -204,7 +205,7 @@ talk turns = record {
 -- what is sent behind its beginning to these requests
 abbrev answers : List (List ℕ) → List ℕ
 answers requests =
-    octets_in (own_table rows 0) 0 (talk (turns_by requests)) (behind begun (turns_by requests))
+    octets_in (own_tables rows 0) 0 (talk (turns_by requests)) (behind begun (turns_by requests))
 
 sets_are_served :
     answers (define ∷ read ∷ read_named ∷ members ∷ write ∷ delete_scope ∷ list_names ∷ delete

@@ -38,8 +38,9 @@ use Rattle.mms_services.specs.Initiates.{initiate_octets, later_octets, last_oct
 use Rattle.mms_services.specs.Initiates.{initiate_detail_octets}
 use Rattle.mms_services.specs.PduOctets.{pdu_octets, response_octets, invoke_octets}
 use Rattle.stack_wire.specs.Tsdus.{accept_tsdu, abort_tsdu, data_tsdu}
-use Rattle.tase_views.specs.OwnTable.{own_table}
-use Rattle.tase_views.specs.View.{own, closes}
+use Rattle.tase_views.specs.OwnTables.{own_tables}
+use Rattle.tase_views.specs.Moves.{closes}
+use Rattle.tase_views.specs.View.{own}
 use Rattle.tase_map.specs.Out.{talk_of, octets_in, octets_out}
 use Rattle.tase_map.proofs.Worked.{confirm_octets, accept_octets, identified_octets}
 use Rattle.tase_map.proofs.Worked.{aborted_octets, still_open}
@@ -173,18 +174,21 @@ early_sent =
 
 -- what the association of this text is sent, where it was opened, asked once, and closed as its link
 -- had ended: the confirm of the transport, the accept, the response, and nothing for the close
-ended_sent : octets_out (own_table rows 0) (own 0 closes ∷ still_open) 0 (first ++ second ++ third) true
+ended_sent : octets_out (own_tables rows 0) (own 0 closes ∷ still_open) 0
+    (first ++ second ++ third) true
     ≡ confirm_octets ++ accept_octets ++ identified_octets
 unfolding wanted wire session_octets.session_length_octets ber.length_octets ber.integer_octets presentation_octets.user_octets accept_tsdu data_tsdu presentation_octets.set_up_octets presentation_octets.mode_octets presentation_octets.accept_ppdu_octets presentation_octets.results_octets presentation_octets.accepted_octets pdu_octets initiate_octets later_octets last_octets initiate_detail_octets response_octets invoke_octets identify_response_octets
 ended_sent =
-    ap (λ (r : Reading). octets_in (own_table rows 0) 0 (talk_of r true) (own 0 closes ∷ still_open))
+    ap (λ (r : Reading). octets_in (own_tables rows 0) 0 (talk_of r true)
+    (own 0 closes ∷ still_open))
     read_third
 
 -- where the link hasn't, nothing explains the close, and it is sent an abort
-unexplained_sent : octets_out (own_table rows 0) (own 0 closes ∷ still_open) 0
+unexplained_sent : octets_out (own_tables rows 0) (own 0 closes ∷ still_open) 0
     (first ++ second ++ third) false
     ≡ confirm_octets ++ accept_octets ++ identified_octets ++ aborted_octets
 unfolding wanted wire session_octets.session_length_octets ber.length_octets ber.integer_octets presentation_octets.user_octets accept_tsdu data_tsdu abort_tsdu presentation_octets.set_up_octets presentation_octets.mode_octets presentation_octets.accept_ppdu_octets presentation_octets.results_octets presentation_octets.accepted_octets pdu_octets initiate_octets later_octets last_octets initiate_detail_octets response_octets invoke_octets identify_response_octets
 unexplained_sent =
-    ap (λ (r : Reading). octets_in (own_table rows 0) 0 (talk_of r false) (own 0 closes ∷ still_open))
+    ap (λ (r : Reading). octets_in (own_tables rows 0) 0 (talk_of r false)
+    (own 0 closes ∷ still_open))
     read_third

@@ -2,27 +2,22 @@
 use Rattle.std.specs.Prelude.{ℕ, ◌==◌, if◌then◌else◌, List, [], ◌∷◌, Option, Some, None}
 use Rattle.bilateral.specs.Rows.{CentreRows}
 use Rattle.sbo_device.specs.declared.key.Key.{Key}
-use Rattle.tase_views.specs.declared.event.EventKind.{EventKind}
-use Rattle.tase_views.specs.declared.event.EventKind.TheVariants as events
+use Rattle.tase_views.specs.Moves.{EventSort, sort_of, opening}
 use Rattle.tase_views.specs.History.{Past, next_key}
 use Rattle.tase_map.specs.Inputs.{Item, text_given, link_has_ended}
 use Rattle.tase_map.specs.Out.{early_octets}
 use Rattle.tase_map.specs.Sent.{association_octets}
 
 -- the association that a seat has opened last, behind an event of its own
-abbrev pub opened_by : EventKind → Past → Option Key → Option Key
-opened_by (events.Open peer) past before = Some (next_key past peer)
-opened_by (events.Request call) past before = before
-opened_by events.Take past before = before
-opened_by events.Close past before = before
-opened_by (events.Update point value) past before = before
-opened_by events.Stop past before = before
+abbrev pub opened_by : EventSort → Past → Option Key → Option Key
+opened_by (opening peer) past before = Some (next_key past peer)
+opened_by _ past before = before
 
 -- the association that a seat has opened last, open still or not
 abbrev pub opened_in : Past → ℕ → Option Key
 opened_in [] who = None
 opened_in (entry ∷ past) who = if entry.who == who
-    then opened_by entry.event past (opened_in past who) else opened_in past who
+    then opened_by (sort_of entry.event) past (opened_in past who) else opened_in past who
 
 -- what the peer of an association is sent, or of a connection without one
 abbrev pub octets_by : CentreRows → Past → List Item → Option Key → List ℕ

@@ -17,10 +17,12 @@ use Rattle.stack_assoc.specs.Handing.{answers_to}
 use Rattle.bilateral.specs.Rows.{CentreRows}
 use Rattle.tase_views.specs.declared.reply.ReplyKind.{ReplyKind}
 use Rattle.tase_views.specs.declared.reply.Report.{Report}
-use Rattle.tase_views.specs.OwnTable.{OwnTable}
-use Rattle.tase_views.specs.View.{View, Seen, own, Act, acts_of_call}
-use Rattle.tase_views.specs.View as acts
-use Rattle.tase_views.specs.Answers.{reply_to, reports_for}
+use Rattle.tase_views.specs.OwnTables.{OwnTables}
+use Rattle.tase_views.specs.Moves.{Act, acts_of_call}
+use Rattle.tase_views.specs.View.{View, Seen, own}
+use Rattle.tase_views.specs.Moves as acts
+use Rattle.tase_views.specs.Answers.{reply_to}
+use Rattle.tase_views.specs.Outcomes.{reports_for}
 use Rattle.tase_map.specs.Replied.{pdu_of_reply, pdu_of_report}
 use Rattle.tase_map.specs.Readings.{Reading, reading_of}
 use Rattle.tase_map.specs.Turns.{Turn, offers, offers_badly, asks, concludes, releases, aborts}
@@ -152,14 +154,14 @@ turns_behind (asks invoke call ∷ turns) count =
 turns_behind (turn ∷ turns) count = if count == 0 then turn ∷ turns else []
 
 -- the reply to the request that comes first, over the view before it
-abbrev pub first_reply : OwnTable → ℕ → Talk → View → List Turn → List ℕ
+abbrev pub first_reply : OwnTables → ℕ → Talk → View → List Turn → List ℕ
 first_reply table ordinal talk view (asks invoke call ∷ turns) =
     reply_octets talk invoke (reply_to table view ordinal call)
 first_reply table ordinal talk view _ = []
 
 -- what an act of the association adds behind the view before it: the first act of a request its
 -- reply, a take the reports that were made
-abbrev pub act_octets : OwnTable → ℕ → Talk → View → Act → List ℕ
+abbrev pub act_octets : OwnTables → ℕ → Talk → View → Act → List ℕ
 act_octets table ordinal talk view acts.opens = talk.opening
 act_octets table ordinal talk view acts.takes =
     reports_said talk.setup talk.detail (reports_for table view ordinal)
@@ -168,12 +170,12 @@ act_octets table ordinal talk view acts.closes =
 act_octets table ordinal talk view _ =
     first_reply table ordinal talk view (turns_behind talk.turns (acts_made ordinal view))
 
-abbrev pub octets_seen : OwnTable → ℕ → Talk → View → Seen → List ℕ
+abbrev pub octets_seen : OwnTables → ℕ → Talk → View → Seen → List ℕ
 octets_seen table ordinal talk view (own other act) =
     if other == ordinal then act_octets table ordinal talk view act else []
 octets_seen table ordinal talk view _ = []
 
-abbrev pub octets_in : OwnTable → ℕ → Talk → View → List ℕ
+abbrev pub octets_in : OwnTables → ℕ → Talk → View → List ℕ
 octets_in table ordinal talk [] = []
 octets_in table ordinal talk (seen ∷ view) =
     octets_in table ordinal talk view ++ octets_seen table ordinal talk view seen
@@ -181,8 +183,8 @@ octets_in table ordinal talk (seen ∷ view) =
 -- ---- all of them
 
 -- the octets that the peer's association with this ordinal is sent, where its link has given this
--- text, and whether it has ended: from the peer's own table and its view, and from nothing else
-abbrev pub octets_out : OwnTable → View → ℕ → List ℕ → Bool → List ℕ
+-- text, and whether it has ended: from the peer's own tables and its view, and from nothing else
+abbrev pub octets_out : OwnTables → View → ℕ → List ℕ → Bool → List ℕ
 octets_out table view ordinal text ended =
     octets_in table ordinal (talk_of (reading_of text) ended) view
 

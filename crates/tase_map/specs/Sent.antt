@@ -7,8 +7,9 @@ use Rattle.sbo_device.specs.declared.key.Key.{Key}
 use Rattle.tase_views.specs.declared.event.EventKind.{EventKind}
 use Rattle.tase_views.specs.declared.event.EventKind.TheVariants as events
 use Rattle.tase_views.specs.declared.event.Entry.{Entry}
+use Rattle.tase_views.specs.Moves.{EventSort, feeding, sort_of}
 use Rattle.tase_views.specs.History.{Past}
-use Rattle.tase_views.specs.OwnTable.{own_table}
+use Rattle.tase_views.specs.OwnTables.{own_tables}
 use Rattle.tase_views.specs.View.{view_of}
 use Rattle.tase_map.specs.Readings.{reading_of}
 use Rattle.tase_map.specs.Turns.{Turn, concludes, ends}
@@ -29,7 +30,7 @@ events_by who past = filter_map (event_by who) past
 -- the octets that an association is sent over this past, where its link has given this text
 abbrev pub association_octets : CentreRows → Past → Key → List ℕ → Bool → List ℕ
 association_octets rows past key text ended =
-    octets_out (own_table rows key.peer) (view_of rows key.peer past) key.ordinal text ended
+    octets_out (own_tables rows key.peer) (view_of rows key.peer past) key.ordinal text ended
 
 -- what its text has behind the requests that it has made so far
 abbrev pub turns_left : CentreRows → Past → Key → List ℕ → Bool → List Turn
@@ -53,8 +54,10 @@ abbrev pub AsksNoService : EventKind → Type 0
 AsksNoService (events.Request call) = ⊥
 AsksNoService event = Unit {0}
 
--- an event that is of no association's doing: a new value of a point, the stop
+-- an event that is of no association's doing: a move of the centre's own
+abbrev pub IsFeeding : EventSort → Type 0
+IsFeeding (feeding move) = Unit {0}
+IsFeeding _ = ⊥
+
 abbrev pub IsNoted : EventKind → Type 0
-IsNoted (events.Update point value) = Unit {0}
-IsNoted events.Stop = Unit {0}
-IsNoted event = ⊥
+IsNoted event = IsFeeding (sort_of event)

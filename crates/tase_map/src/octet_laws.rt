@@ -15,7 +15,7 @@ ghost use Rattle.tase_views.specs.declared.call.CallKind.{CallKind as AnyCall};
 ghost use Rattle.tase_views.specs.declared.event.EventKind.TheVariants.{Open, Request, Take, Close};
 ghost use Rattle.tase_views.specs.Calls.{IsCall};
 ghost use Rattle.tase_views.specs.History.{Past, opens_in, association_in, entries_of, key_at};
-ghost use Rattle.tase_views.specs.OwnTable.{own_table};
+ghost use Rattle.tase_views.specs.OwnTables.{own_tables};
 ghost use Rattle.tase_views.specs.View.{view_of};
 ghost use Rattle.tase_views.specs.Answers.{reply_to};
 ghost use Rattle.tase_views.specs.Outcomes.{seat_refusal, name_refusal};
@@ -88,7 +88,7 @@ pub fn each_entry_adds_its_octets()
         → association_octets rows (record { who = who; event = Request call } ∷ past) key text ended
         ≡ association_octets rows past key text ended
         ++ reply_octets (talk_of (reading_of text) ended) invoke
-        (reply_to (own_table rows key.peer) (view_of rows key.peer past) key.ordinal call) }
+        (reply_to (own_tables rows key.peer) (view_of rows key.peer past) key.ordinal call) }
     ensures take { (rows : CentreRows) (past : Past) (key : Key) (who : ℕ) (text : List ℕ)
         (ended : Bool) → key_at Take past who ≡ Some key
         → association_octets rows (record { who = who; event = Take } ∷ past) key text ended
@@ -192,13 +192,13 @@ pub fn closed_associations_stay()
         ≡ association_octets rows past key text ended }
 {}
 
-/// Two centres with two histories in which a peer has the same own table and the same view send that
-/// peer's association the same octets for the same input, whatever else they hold.
+/// Two centres with two histories in which a peer has the same own tables and the same view send
+/// that peer's association the same octets for the same input, whatever else they hold.
 pub fn equal_worlds_give_equal_octets()
     ensures { (here there : CentreRows) (past other_past : Past) (peer other ordinal : ℕ)
         (text : List ℕ) (ended : Bool)
-        → own_table here peer ≡ own_table there other
+        → own_tables here peer ≡ own_tables there other
         → view_of here peer past ≡ view_of there other other_past
-        → octets_out (own_table here peer) (view_of here peer past) ordinal text ended
-        ≡ octets_out (own_table there other) (view_of there other other_past) ordinal text ended }
+        → octets_out (own_tables here peer) (view_of here peer past) ordinal text ended
+        ≡ octets_out (own_tables there other) (view_of there other other_past) ordinal text ended }
 {}

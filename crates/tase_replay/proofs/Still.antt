@@ -10,6 +10,7 @@ use Rattle.sbo_device.specs.declared.key.Key.{Key}
 use Rattle.tase_views.specs.declared.event.Entry.{Entry}
 use Rattle.tase_views.specs.declared.event.EventKind.{EventKind}
 use Rattle.tase_views.specs.declared.event.EventKind.TheVariants as events
+use Rattle.tase_views.specs.Moves.{sort_of}
 use Rattle.tase_views.specs.History.{Past, association_in, association_after}
 use Rattle.tase_map.specs.Closed.{is_closed}
 use Rattle.tase_map.specs.Inputs.{Item, text_given, link_has_ended}
@@ -53,7 +54,7 @@ settles_closed rows past who (Some key) (inr closed) =
 
 settles_here : (rows : CentreRows) (event : EventKind) (past : Past) (who : ℕ)
     (found : Option Key) → Settles past who found
-    → Settles (with_event who event past) who (opened_by event past found)
+    → Settles (with_event who event past) who (opened_by (sort_of event) past found)
 settles_here rows (events.Open peer) past who found s = inl (at_seat (events.Open peer) past who)
 settles_here rows (events.Request call) past who found s =
     settles_kept rows (record { who = who; event = events.Request call }) past who found
@@ -65,15 +66,19 @@ settles_here rows events.Close past who found s = settles_closed rows past who f
 settles_here rows (events.Update point value) past who found s =
     settles_kept rows (record { who = who; event = events.Update point value }) past who found
     (at_seat (events.Update point value) past who) s
+settles_here rows (events.Table chooser variant) past who found s =
+    settles_kept rows (record { who = who; event = (events.Table chooser variant) }) past who found
+    (at_seat (events.Table chooser variant) past who) s
 settles_here rows events.Stop past who found s =
     settles_kept rows (record { who = who; event = events.Stop }) past who found
     (at_seat events.Stop past who) s
 
 settles_by : (rows : CentreRows) (seat : ℕ) (event : EventKind) (past : Past) (who : ℕ)
     (found : Option Key) (b : Bool) → (seat == who) ≡ b → Settles past who found
-    → Settles (with_event seat event past) who (if b then opened_by event past found else found)
+    → Settles (with_event seat event past) who
+    (if b then opened_by (sort_of event) past found else found)
 settles_by rows seat event past who found true e s =
-    subst (λ (w : ℕ). Settles (with_event w event past) who (opened_by event past found))
+    subst (λ (w : ℕ). Settles (with_event w event past) who (opened_by (sort_of event) past found))
     (sym (eqb-true seat who e)) (settles_here rows event past who found s)
 settles_by rows seat event past who found false e s =
     settles_kept rows (record { who = seat; event = event }) past who found

@@ -32,7 +32,7 @@ use tase_replay::{ReplayEnd, replay};
 ///
 /// What it answers and prints is, where the outside tells its octets, what the definitions say of
 /// those octets alone: the tables that the first text spells, and over them what the scenario
-/// shows, each reply from the asking peer's own table and its view of the history, up to the first
+/// shows, each reply from the asking peer's own tables and its view of the history, up to the first
 /// bad line or the first event with which the history would weigh more than its limit, which is
 /// told so; or the messages that the octets of a capture are, each with its place, and the first
 /// rule that they break; or the PDU that they are, or that rule.

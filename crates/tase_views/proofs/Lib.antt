@@ -1,13 +1,23 @@
 pub mod Seen
 pub mod OwnRefusals
-pub mod Alike
 pub mod Reseated
-pub mod Worked
-pub mod TextLengths
+pub mod NotShown
+pub mod Others
+pub mod NothingMade
 pub mod KeyNumbers
+pub mod InForce
+pub mod OwnDevices
 pub mod DevicesSeen
-pub mod UnseenMoves
+pub mod OpenKeys
+pub mod Seated
+pub mod Holders
+pub mod DeviceRows
+pub mod OrdersAnswered
+pub mod TextLengths
 pub mod NodeSample
+mod Worked
 mod WorkedReports
 mod WorkedDevices
 mod WorkedSets
+mod WorkedPlant
+mod WorkedForce

@@ -1,5 +1,5 @@
 -- The centre of the worked moves of a node: two peers, three points, two devices.
-use Rattle.std.proofs.Common.{ℕ, List, [], ◌∷◌, Some, None, true, false, pos}
+use Rattle.std.proofs.Common.{ℕ, List, [], ◌∷◌, None, true, false, pos}
 use Rattle.std.specs.Prelude.{codes}
 use Rattle.tase_points.specs.declared.kind.Kind.TheVariants.{State, Discrete, Real}
 use Rattle.tase_points.specs.declared.body.Body.{Body}
@@ -16,9 +16,12 @@ use Rattle.transfer_sets.specs.Wishes.{empty_wish}
 use Rattle.transfer_sets.specs.WishData.{shown_wish}
 use Rattle.tase_views.specs.declared.call.CallKind.{CallKind}
 use Rattle.tase_views.specs.declared.call.CallKind.TheVariants.{Read, Write}
-use Rattle.tase_views.specs.View.{Act, reads, writes, defines}
-use Rattle.tase_views.specs.NodeMoves.{NodeMove, acts, updates, tags}
-use Rattle.tase_views.specs.NodeOrders.{NodeAnswer, node_answer, requesting, taking}
+use Rattle.tase_views.specs.declared.reply.ReplyKind.{ReplyKind}
+use Rattle.tase_views.specs.Moves.{Act, reads, writes, defines, Move, acts, updates, tags}
+use Rattle.tase_views.specs.OwnTables.{OwnTables, whole_tables}
+use Rattle.tase_views.specs.View.{View, view_by}
+use Rattle.tase_views.specs.Answers.{reply_to}
+use Rattle.tase_views.specs.Reports.{MadeReport, reports_pending}
 
 abbrev pub table_a : Table
 table_a =
@@ -84,10 +87,10 @@ key_a = record { peer = 0; ordinal = 0 }
 abbrev pub key_b : Key
 key_b = record { peer = 1; ordinal = 0 }
 
-abbrev pub by_a : Act → NodeMove
+abbrev pub by_a : Act → Move
 by_a act = acts key_a act
 
-abbrev pub by_b : Act → NodeMove
+abbrev pub by_b : Act → Move
 by_b act = acts key_b act
 
 abbrev pub in_a : List ℕ → ObjectName
@@ -96,18 +99,25 @@ in_a item = record { scope = Domain (codes "DOMA"); item = item }
 abbrev pub in_b : List ℕ → ObjectName
 in_b item = record { scope = Domain (codes "DOMB"); item = item }
 
+-- the tables of both, with their devices and transfer sets, and what both see of moves
+abbrev pub tables_of : ℕ → OwnTables
+tables_of peer = whole_tables rows peer
+
+abbrev pub seen_of : ℕ → List Move → View
+seen_of peer moves = view_by rows (whole_tables rows) peer moves
+
 -- what each is answered behind these moves
-abbrev pub told_a : List NodeMove → CallKind → NodeAnswer
-told_a moves call = node_answer rows moves (Some key_a) (requesting call)
+abbrev pub told_a : List Move → CallKind → ReplyKind
+told_a moves call = reply_to (tables_of 0) (seen_of 0 moves) 0 call
 
-abbrev pub told_b : List NodeMove → CallKind → NodeAnswer
-told_b moves call = node_answer rows moves (Some key_b) (requesting call)
+abbrev pub told_b : List Move → CallKind → ReplyKind
+told_b moves call = reply_to (tables_of 1) (seen_of 1 moves) 0 call
 
-abbrev pub taken_a : List NodeMove → NodeAnswer
-taken_a moves = node_answer rows moves (Some key_a) taking
+abbrev pub taken_a : List Move → List MadeReport
+taken_a moves = reports_pending (tables_of 0) (seen_of 0 moves) 0
 
-abbrev pub taken_b : List NodeMove → NodeAnswer
-taken_b moves = node_answer rows moves (Some key_b) taking
+abbrev pub taken_b : List Move → List MadeReport
+taken_b moves = reports_pending (tables_of 1) (seen_of 1 moves) 0
 
 abbrev pub read_one : ObjectName → CallKind
 read_one name = Read (name ∷ []) false
@@ -116,7 +126,7 @@ abbrev pub write_one : ObjectName → Datum → CallKind
 write_one name value = Write (name ∷ []) (value ∷ [])
 
 -- a new value of a point, at so many seconds
-abbrev pub update : ℕ → Body → ℕ → NodeMove
+abbrev pub update : ℕ → Body → ℕ → Move
 update point body seconds =
     updates point (record { body = body; flags = 0; seconds = seconds; millis = 0 })
 
@@ -131,12 +141,12 @@ first_slot =
     (data_of (integer (pos 1) ∷ text (codes "DOMA") ∷ text (codes "DSTrans1") ∷ []))
 
 -- A defines a data set, is handed out its transfer set and wishes it
-abbrev pub wished_a : Wish → List ℕ → List ObjectName → List NodeMove → List NodeMove
+abbrev pub wished_a : Wish → List ℕ → List ObjectName → List Move → List Move
 wished_a wish set members moves =
     by_a (writes (in_a (codes "DSTrans1")) (shown_wish wish))
     ∷ by_a (reads (in_a (codes "Next_DSTransfer_Set"))) ∷ by_a (defines (in_a set) members) ∷ moves
 
-abbrev pub wished_b : Wish → List ℕ → List ObjectName → List NodeMove → List NodeMove
+abbrev pub wished_b : Wish → List ℕ → List ObjectName → List Move → List Move
 wished_b wish set members moves =
     by_b (writes (in_b (codes "DSTrans1")) (shown_wish wish))
     ∷ by_b (reads (in_b (codes "Next_DSTransfer_Set"))) ∷ by_b (defines (in_b set) members) ∷ moves
@@ -148,5 +158,5 @@ wish_a set = record empty_wish { set_domain = codes "DOMA"; set_name = set; stat
 abbrev pub wish_b : List ℕ → Wish
 wish_b set = record empty_wish { set_domain = codes "DOMB"; set_name = set; status = true }
 
-abbrev pub tagged_with : ℕ → List ℕ → NodeMove
+abbrev pub tagged_with : ℕ → List ℕ → Move
 tagged_with tag reason = tags 0 (record { tag = tag; reason = reason })

@@ -3,12 +3,12 @@ use Rattle.std.proofs.Common.{◌≡◌, ◌==◌, ℕ, ◌+◌, [], ◌∷◌, 
 use Rattle.std.proofs.lemmas.Bool.{cases_eq, eq-eqb, ne_eqb}
 use Rattle.sbo_device.specs.declared.key.Key.{Key}
 use Rattle.tase_views.specs.declared.event.EventKind.{EventKind}
-use Rattle.tase_views.specs.declared.event.EventKind.TheVariants.{Open, Request, Take, Close}
-use Rattle.tase_views.specs.declared.event.EventKind.TheVariants.{Update, Stop}
-use Rattle.tase_views.specs.History.{Past, counts_open, opens_in, association_after, association_in}
-use Rattle.tase_views.specs.History.{key_at}
+use Rattle.tase_views.specs.Moves.{EventSort, sort_of, opening, requesting, taking, closing}
+use Rattle.tase_views.specs.Moves.{taking_orders, feeding}
+use Rattle.tase_views.specs.History.{Past, counts_open, opens_in, association_by, association_in}
+use Rattle.tase_views.specs.History.{key_by, key_at}
+use Rattle.tase_views.specs.Seats.{reseated, IsInjective}
 use Rattle.tase_views.specs.View.{moves_in}
-use Rattle.tase_views.specs.Concerns.{reseated, IsInjective}
 
 same_seat : (seat : ℕ → ℕ) → IsInjective seat → (a b : ℕ) → (seat a == seat b) ≡ (a == b)
 same_seat seat apart a b =
@@ -23,14 +23,14 @@ opens_in-reseated seat [] peer = refl
 opens_in-reseated seat (entry ∷ past) peer =
     ap (λ n. counts_open entry.event peer + n) (opens_in-reseated seat past peer)
 
-after-reseated : (seat : ℕ → ℕ) (past : Past) (event : EventKind) (before : Option Key)
-    → association_after event (reseated seat past) before ≡ association_after event past before
-after-reseated seat past (Open peer) before = rw (opens_in-reseated seat past peer) refl
-after-reseated seat past (Request call) before = refl
-after-reseated seat past Take before = refl
-after-reseated seat past Close before = refl
-after-reseated seat past (Update point value) before = refl
-after-reseated seat past Stop before = refl
+after-reseated : (seat : ℕ → ℕ) (past : Past) (sort : EventSort) (before : Option Key)
+    → association_by sort (reseated seat past) before ≡ association_by sort past before
+after-reseated seat past (opening peer) before = rw (opens_in-reseated seat past peer) refl
+after-reseated seat past (requesting call) before = refl
+after-reseated seat past taking before = refl
+after-reseated seat past closing before = refl
+after-reseated seat past taking_orders before = refl
+after-reseated seat past (feeding move) before = refl
 
 association_in-reseated : (seat : ℕ → ℕ) → IsInjective seat → (past : Past) (who : ℕ)
     → association_in (reseated seat past) (seat who) ≡ association_in past who
@@ -39,18 +39,24 @@ association_in-reseated seat apart (entry ∷ past) who =
     rw (
       same_seat seat apart entry.who who,
       association_in-reseated seat apart past who,
-      after-reseated seat past entry.event (association_in past who),
+      after-reseated seat past (sort_of entry.event) (association_in past who),
     ) refl
+
+key-reseated : (seat : ℕ → ℕ) (past : Past) (sort : EventSort) (before : Option Key)
+    → key_by sort (reseated seat past) before ≡ key_by sort past before
+key-reseated seat past (opening peer) before = rw (opens_in-reseated seat past peer) refl
+key-reseated seat past (requesting call) before = refl
+key-reseated seat past taking before = refl
+key-reseated seat past closing before = refl
+key-reseated seat past taking_orders before = refl
+key-reseated seat past (feeding move) before = refl
 
 key_at-reseated : (seat : ℕ → ℕ) → IsInjective seat → (past : Past) (who : ℕ) (event : EventKind)
     → key_at event (reseated seat past) (seat who) ≡ key_at event past who
-key_at-reseated seat apart past who (Open peer) = rw (opens_in-reseated seat past peer) refl
-key_at-reseated seat apart past who (Request call) = association_in-reseated seat apart past who
-key_at-reseated seat apart past who Take = association_in-reseated seat apart past who
-key_at-reseated seat apart past who Close = association_in-reseated seat apart past who
-key_at-reseated seat apart past who (Update point value) =
-    association_in-reseated seat apart past who
-key_at-reseated seat apart past who Stop = association_in-reseated seat apart past who
+key_at-reseated seat apart past who event =
+    ap (λ (before : Option Key). key_by (sort_of event) (reseated seat past) before)
+    (association_in-reseated seat apart past who)
+    ∙ key-reseated seat past (sort_of event) (association_in past who)
 
 pub moves_in-reseated : (seat : ℕ → ℕ) → IsInjective seat → (past : Past)
     → moves_in (reseated seat past) ≡ moves_in past

@@ -27,8 +27,9 @@ use Rattle.tase_views.specs.declared.reply.Answer.{Answer}
 use Rattle.tase_views.specs.declared.reply.Answer.TheVariants.{Reply, Closed, Reports}
 use Rattle.tase_views.specs.Setup.{Setup}
 use Rattle.tase_views.specs.History.{Past, association_in}
-use Rattle.tase_views.specs.View.{view_of, own, stopped, opens, closes}
-use Rattle.tase_views.specs.View.{writes}
+use Rattle.tase_views.specs.Moves.{opens, closes}
+use Rattle.tase_views.specs.View.{view_of, own, stopped}
+use Rattle.tase_views.specs.Moves.{writes}
 use Rattle.tase_views.specs.EventTexts.{call_text, event_text}
 use Rattle.tase_views.specs.Weights.{weight_of}
 use Rattle.tase_views.specs.Outcomes.{refusal_of, answer_of}

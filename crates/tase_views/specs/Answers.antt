@@ -1,42 +1,52 @@
--- The answer to an event: from the peer's own table and its view of the history, and from nothing
--- else.
-use Rattle.std.specs.Prelude.{ℕ, Bool, true, false, List, [], ◌∷◌, Option, Some, None}
+-- The replies to all calls of a peer, from its own tables and its view, and from nothing else
+-- (IEC 60870-6-503; ISO 9506-2).
+use Rattle.std.specs.Prelude.{ℕ, ◌*◌, ◌==◌, not, if◌then◌else◌, Bool, true, false, ℤ, pos, List}
+use Rattle.std.specs.Prelude.{[], ◌∷◌, Option, Some, None, is_some, Result, Ok, Err}
 use Rattle.std.specs.Option.{option_map_or}
-use Rattle.mms_data.specs.Datum.{Datum}
+use Rattle.point_data.specs.Shown.{shown_as}
+use Rattle.point_db.specs.Updates.{last_of}
+use Rattle.mms_data.specs.Datum.{Datum, boolean, integer, bits, text, structure, data_of}
 use Rattle.mms_data.specs.ObjectName.{ObjectName}
 use Rattle.mms_data.specs.declared.outcome.Outcome.{Outcome}
 use Rattle.mms_data.specs.declared.outcome.Outcome.TheVariants.{Good, Fail}
-use Rattle.point_data.specs.Shown.{shown_as}
-use Rattle.point_db.specs.Updates.{last_of}
-use Rattle.sbo_device.specs.declared.key.Key.{Key}
+use Rattle.sbo_device.specs.Moves.{DeviceState, Tag}
+use Rattle.sbo_device.specs.declared.answer.Select.{Select}
+use Rattle.sbo_device.specs.declared.answer.Select.TheVariants as select
+use Rattle.sbo_device.specs.declared.answer.Operate.{Operate}
+use Rattle.sbo_device.specs.declared.answer.Operate.TheVariants as operate
+use Rattle.sbo_device.specs.States.{state_in, tag_of, select_answer, operate_answer}
+use Rattle.transfer_sets.specs.SlotMoves.{last_wish}
+use Rattle.transfer_sets.specs.WishData.{shown_wish}
 use Rattle.tase_views.specs.declared.call.CallKind.{CallKind}
 use Rattle.tase_views.specs.declared.call.CallKind.TheVariants.{Identify, Read, ReadSet, Write}
 use Rattle.tase_views.specs.declared.call.CallKind.TheVariants.{WriteSet, NameList, Define}
 use Rattle.tase_views.specs.declared.call.CallKind.TheVariants.{MembersOf, Delete, DeleteScope, Odd}
-use Rattle.tase_views.specs.declared.event.EventKind.{EventKind}
-use Rattle.tase_views.specs.declared.event.EventKind.TheVariants.{Open, Request, Take, Close}
-use Rattle.tase_views.specs.declared.event.EventKind.TheVariants.{Update, Stop}
 use Rattle.tase_views.specs.declared.reply.ReadSpec.{ReadSpec}
 use Rattle.tase_views.specs.declared.reply.ReadSpec.TheVariants as specs
 use Rattle.tase_views.specs.declared.reply.ReplyKind.{ReplyKind}
 use Rattle.tase_views.specs.declared.reply.ReplyKind.TheVariants.{Identified, Results, Written}
 use Rattle.tase_views.specs.declared.reply.ReplyKind.TheVariants.{Defined, MembersAre, Deleted}
 use Rattle.tase_views.specs.declared.reply.ReplyKind.TheVariants.{Error, Reject}
-use Rattle.tase_views.specs.declared.reply.Report.{Report}
-use Rattle.tase_views.specs.declared.reply.Answer.{Answer}
-use Rattle.tase_views.specs.declared.reply.Answer.TheVariants.{Opened, Reply, Reports, Closed}
-use Rattle.tase_views.specs.declared.reply.Answer.TheVariants.{Noted}
 use Rattle.tase_views.specs.declared.reply.TheConstants.{OBJECT_NON_EXISTENT}
 use Rattle.tase_views.specs.declared.reply.TheConstants.{OBJECT_ACCESS_DENIED}
 use Rattle.tase_views.specs.declared.reply.TheConstants.{OBJECT_ACCESS_UNSUPPORTED, ACCESS_ERRORS}
 use Rattle.tase_views.specs.declared.reply.TheConstants.{NON_EXISTENT, ACCESS_DENIED}
-use Rattle.tase_views.specs.OwnTable.{OwnPoint, OwnTable}
-use Rattle.tase_views.specs.Objects.{Object, constant, indication_point, own_objects, own_object}
+use Rattle.tase_views.specs.OwnTables.{OwnPoint, OwnDevice, OwnTable, OwnTables, control_of}
+use Rattle.tase_views.specs.Objects.{Object, constant, next_transfer_set, indication_point}
+use Rattle.tase_views.specs.Objects.{control_point, selection, device_tag, transfer_set}
+use Rattle.tase_views.specs.Objects.{transfer_set_status, slot_item, objects, object_named}
 use Rattle.tase_views.specs.NameLists.{names_listed}
-use Rattle.tase_views.specs.View.{View, reads, writes, own}
+use Rattle.tase_views.specs.Moves.{reads, writes}
+use Rattle.tase_views.specs.Devices.{number_in, tag_in}
+use Rattle.tase_views.specs.View.{View, own, held, own_key, moves_seen}
 use Rattle.tase_views.specs.Values.{values_in, change_count_of}
-use Rattle.tase_views.specs.Sets.{Sets, sets_in, sets_there, members_of, SetError, define_fault}
-use Rattle.tase_views.specs.Sets.{Deletion, deletion_of}
+use Rattle.tase_views.specs.Sets.{sets_there, define_fault, SetError, Deletion, deletion_by}
+use Rattle.tase_views.specs.Slots.{type_inconsistent, value_invalid, owns, slot_of, lowest_free}
+use Rattle.tase_views.specs.Slots.{wish_written, is_wished, sets_in, slot_moves, members_of}
+
+-- a further reason of an access (ISO 9506-2, DataAccessError: temporarily-unavailable)
+abbrev pub temporarily_unavailable : ℕ
+temporarily_unavailable = 2
 
 -- a point of the table as it stands in a view, by its layout
 abbrev pub outcome_of_point : View → OwnPoint → Outcome
@@ -44,41 +54,28 @@ outcome_of_point view point =
     Good (shown_as (last_of point.kind (values_in view point.name))
     (change_count_of point.kind (values_in view point.name)) point.layout)
 
--- a constant and a point are shown; other objects can't be read; any other name does not exist
-abbrev pub outcome_of_object : View → Option Object → Outcome
-outcome_of_object view None = Fail OBJECT_NON_EXISTENT
-outcome_of_object view (Some (constant value)) = Good value
-outcome_of_object view (Some (indication_point point)) = outcome_of_point view point
-outcome_of_object view (Some _) = Fail OBJECT_ACCESS_UNSUPPORTED
+-- a select is answered by the device's checkback; not while another association holds it, nor where
+-- the tag inhibits it
+abbrev pub select_outcome : ℤ → Select → Outcome
+select_outcome checkback select.Granted = Good (integer checkback)
+select_outcome checkback select.HeldByOther = Fail temporarily_unavailable
+select_outcome checkback select.Inhibited = Fail OBJECT_ACCESS_DENIED
 
--- what one variable of a read by the peer's association with this ordinal gives
-abbrev pub outcome_of : OwnTable → View → ℕ → ObjectName → Outcome
-outcome_of table view ordinal name = outcome_of_object view (own_object table name)
+-- an operate gives an order, or the reason why it gives none
+abbrev pub operate_written : Operate → Option ℕ
+operate_written operate.Ordered = None
+operate_written operate.BadValue = Some value_invalid
+operate_written _ = Some OBJECT_ACCESS_DENIED
 
--- what the variables of a read give, each after those before it
-abbrev pub outcomes_of : OwnTable → View → ℕ → List ObjectName → List Outcome
-outcomes_of table view ordinal [] = []
-outcomes_of table view ordinal (name ∷ names) =
-    outcome_of table view ordinal name
-    ∷ outcomes_of table (own ordinal (reads name) ∷ view) ordinal names
+-- a tag as data: two bits and the reason
+abbrev pub shown_tag : Tag → Datum
+shown_tag tag =
+    let two = bits (record { count = 2; octets = (tag.tag * 64) ∷ [] }) in
+    structure (data_of (two ∷ text tag.reason ∷ []))
 
--- no object may be written; any other name does not exist
-abbrev pub write_of_object : Option Object → Option ℕ
-write_of_object None = Some OBJECT_NON_EXISTENT
-write_of_object (Some object) = Some OBJECT_ACCESS_DENIED
-
--- what one variable of a write by the peer's association with this ordinal gives: none where it is
--- written, else the reason
-abbrev pub write_of : OwnTable → View → ℕ → ObjectName → Datum → Option ℕ
-write_of table view ordinal name value = write_of_object (own_object table name)
-
--- what the variables of a write give, each after those before it
-abbrev pub written_of : OwnTable → View → ℕ → List ObjectName → List Datum → List (Option ℕ)
-written_of table view ordinal [] values = []
-written_of table view ordinal (name ∷ names) [] = []
-written_of table view ordinal (name ∷ names) (value ∷ values) =
-    write_of table view ordinal name value
-    ∷ written_of table (own ordinal (writes name value) ∷ view) ordinal names values
+abbrev pub reason_of : {A : Type 0} → Result A ℕ → Option ℕ
+reason_of (Ok done) = None
+reason_of (Err reason) = Some reason
 
 -- what a read named, where that is to be repeated
 abbrev pub echoed : Bool → List ObjectName → Option ReadSpec
@@ -102,42 +99,107 @@ define_replied (Some error) = Error error.class error.code
 abbrev pub delete_replied : Deletion → ReplyKind
 delete_replied deletion = Deleted deletion.matched deletion.deleted
 
--- the names of the data sets that there are in a view
-abbrev pub set_names : OwnTable → View → List (List ℕ)
-set_names table view = sets_there (sets_in table view) view
+-- the name of a transfer set as data: scope, domain, item
+abbrev pub slot_name : OwnTable → ℕ → Datum
+slot_name table s =
+    structure (data_of (integer (pos 1) ∷ text table.domain ∷ text (slot_item s) ∷ []))
 
--- the reply to a call of the peer's association with this ordinal; a data set is read as its members
--- are, none is written, and those of a scope aren't deleted
-abbrev pub reply_to : OwnTable → View → ℕ → CallKind → ReplyKind
-reply_to table view ordinal Identify = Identified
-reply_to table view ordinal (Read names echo) =
-    Results (echoed echo names) (outcomes_of table view ordinal names)
-reply_to table view ordinal (ReadSet set echo) =
-    set_replied
-    (λ members. Results (echoed_set echo set) (outcomes_of table view ordinal members))
-    (members_of table view set)
-reply_to table view ordinal (Write names values) =
-    Written (written_of table view ordinal names values)
-reply_to table view ordinal (WriteSet set values) = Error ACCESS_ERRORS ACCESS_DENIED
-reply_to table view ordinal (NameList class scope after) =
-    names_listed table (own_objects table) (set_names table view) class scope after
-reply_to table view ordinal (Define set members) =
-    define_replied (define_fault table (sets_in table view) view set members)
-reply_to table view ordinal (MembersOf set) = set_replied MembersAre (members_of table view set)
-reply_to table view ordinal (Delete sets) = delete_replied (deletion_of table view ordinal sets)
-reply_to table view ordinal (DeleteScope scope) = Error ACCESS_ERRORS ACCESS_DENIED
-reply_to table view ordinal (Odd kind code) = Reject kind code
+module _ (tables : OwnTables) where
+  -- a device of the tables as it stands in a view
+  abbrev pub device_state : View → OwnDevice → DeviceState
+  device_state view d = state_in (control_of d) (moves_seen tables view d.row.name)
 
--- the reports that were made for the peer's association with this ordinal since its last take:
--- none is made yet
-abbrev pub reports_for : OwnTable → View → ℕ → List Report
-reports_for table view ordinal = []
+  -- what its owner, and nobody else, reads of a transfer set
+  abbrev pub for_owner : View → ℕ → ℕ → Datum → Outcome
+  for_owner view ordinal s value =
+      if owns ordinal (slot_moves tables view s) then Good value else Fail OBJECT_ACCESS_DENIED
 
--- the answer to an event of a peer's association
-abbrev pub answer_to : OwnTable → View → Key → EventKind → Answer
-answer_to table view key (Open peer) = Opened key
-answer_to table view key (Request call) = Reply (reply_to table view key.ordinal call)
-answer_to table view key Take = Reports (reports_for table view key.ordinal)
-answer_to table view key Close = Closed
-answer_to table view key (Update point value) = Noted
-answer_to table view key Stop = Noted
+  -- what one variable of a read by the association with this ordinal gives: a constant and a point
+  -- are shown; no value of the report variables, of a device's control point and of its time-out is
+  -- read; any other name does not exist
+  abbrev pub object_read : View → ℕ → Option Object → Outcome
+  object_read view ordinal None = Fail OBJECT_NON_EXISTENT
+  object_read view ordinal (Some (constant value)) = Good value
+  object_read view ordinal (Some (indication_point point)) = outcome_of_point view point
+  object_read view ordinal (Some next_transfer_set) =
+      let table = held tables view in
+      option_map_or (λ s. Good (slot_name table s))
+      (lowest_free table (slot_moves tables view)) (Fail temporarily_unavailable)
+  object_read view ordinal (Some (selection d)) =
+      select_outcome d.row.checkback
+      (select_answer (device_state view d) (own_key ordinal))
+  object_read view ordinal (Some (device_tag d)) =
+      Good (shown_tag (tag_of (moves_seen tables view d.row.name)))
+  object_read view ordinal (Some (transfer_set s)) =
+      for_owner view ordinal s (shown_wish (last_wish (slot_moves tables view s)).0)
+  object_read view ordinal (Some (transfer_set_status s)) =
+      for_owner view ordinal s (boolean (last_wish (slot_moves tables view s)).0.status)
+  object_read view ordinal (Some _) = Fail OBJECT_ACCESS_UNSUPPORTED
+
+  -- what a write to a transfer set or its status gives
+  abbrev pub slot_written : View → ℕ → Option Object → Datum → ℕ → Option ℕ
+  slot_written view ordinal object value s =
+      if owns ordinal (slot_moves tables view s)
+      then reason_of
+      (wish_written (held tables view) (sets_in tables view) (slot_moves tables view s) object
+      value)
+      else Some OBJECT_ACCESS_DENIED
+
+  -- what one variable of a write gives: none where it is written, else the reason
+  abbrev pub object_written : View → ℕ → Option Object → Datum → Option ℕ
+  object_written view ordinal None value = Some OBJECT_NON_EXISTENT
+  object_written view ordinal (Some (control_point d)) value =
+      let key = own_key ordinal in
+      option_map_or (λ n. operate_written (operate_answer (device_state view d) key n))
+      (number_in value) (Some type_inconsistent)
+  object_written view ordinal (Some (device_tag d)) value =
+      if not d.tag then Some OBJECT_ACCESS_DENIED
+      else option_map_or (λ (tag : Tag). if tag.tag == 3 then Some value_invalid else None)
+      (tag_in value) (Some type_inconsistent)
+  object_written view ordinal object value =
+      option_map_or (slot_written view ordinal object value) (slot_of object)
+      (Some OBJECT_ACCESS_DENIED)
+
+  -- what the variables of a read and of a write give, each after those before it
+  abbrev pub read_outcomes : View → ℕ → List ObjectName → List Outcome
+  read_outcomes view ordinal [] = []
+  read_outcomes view ordinal (name ∷ names) =
+      object_read view ordinal (object_named (held tables view) name)
+      ∷ read_outcomes (own ordinal (reads name) ∷ view) ordinal names
+
+  abbrev pub write_outcomes : View → ℕ → List ObjectName → List Datum → List (Option ℕ)
+  write_outcomes view ordinal (name ∷ names) (value ∷ values) =
+      object_written view ordinal (object_named (held tables view) name) value
+      ∷ write_outcomes (own ordinal (writes name value) ∷ view) ordinal names values
+  write_outcomes view ordinal _ _ = []
+
+  -- the names of the data sets that there are in a view
+  abbrev pub set_names : View → List (List ℕ)
+  set_names view = sets_there (sets_in tables view) view
+
+  -- a deletion deletes the data sets that no enabled transfer set wishes
+  abbrev pub deletion_of : View → ℕ → List ObjectName → Deletion
+  deletion_of view ordinal sets =
+      deletion_by (λ v set. is_some (members_of tables v set))
+      (λ v. is_wished (held tables v) (slot_moves tables v)) view ordinal sets
+
+  -- the reply to a call of the peer's association with this ordinal; a data set is read as its
+  -- members are, none is written, and those of a scope aren't deleted
+  abbrev pub reply_to : View → ℕ → CallKind → ReplyKind
+  reply_to view ordinal Identify = Identified
+  reply_to view ordinal (Read names echo) =
+      Results (echoed echo names) (read_outcomes view ordinal names)
+  reply_to view ordinal (ReadSet set echo) =
+      set_replied (λ members. Results (echoed_set echo set) (read_outcomes view ordinal members))
+      (members_of tables view set)
+  reply_to view ordinal (Write names values) = Written (write_outcomes view ordinal names values)
+  reply_to view ordinal (WriteSet set values) = Error ACCESS_ERRORS ACCESS_DENIED
+  reply_to view ordinal (NameList class scope after) =
+      let table = held tables view in
+      names_listed table (objects table) (set_names view) class scope after
+  reply_to view ordinal (Define set members) =
+      define_replied (define_fault (held tables view) (sets_in tables view) view set members)
+  reply_to view ordinal (MembersOf set) = set_replied MembersAre (members_of tables view set)
+  reply_to view ordinal (Delete sets) = delete_replied (deletion_of view ordinal sets)
+  reply_to view ordinal (DeleteScope scope) = Error ACCESS_ERRORS ACCESS_DENIED
+  reply_to view ordinal (Odd kind code) = Reject kind code

@@ -7,12 +7,13 @@ use Rattle.tase_points.specs.Sample.{Sample}
 use Rattle.tase_views.specs.declared.call.CallKind.{CallKind}
 use Rattle.tase_views.specs.declared.event.EventKind.{EventKind}
 use Rattle.tase_views.specs.declared.event.EventKind.TheVariants.{Open, Request, Take, Close}
-use Rattle.tase_views.specs.declared.event.EventKind.TheVariants.{Update, Stop}
+use Rattle.tase_views.specs.declared.event.EventKind.TheVariants.{Update, Table, Stop}
 use Rattle.tase_views.specs.Codes.{sample_code}
 use Rattle.tase_views.specs.CallCode.{call_code}
 
 abbrev pub EventParts : Type 0
-EventParts = ℕ ⊎ (CallKind ⊎ (Unit {0} ⊎ (Unit {0} ⊎ ((ℕ × Sample) ⊎ Unit {0}))))
+EventParts =
+    ℕ ⊎ (CallKind ⊎ (Unit {0} ⊎ (Unit {0} ⊎ ((ℕ × Sample) ⊎ ((ℕ × ℕ) ⊎ Unit {0})))))
 
 abbrev pub event_parts : EventKind → EventParts
 event_parts (Open peer) = inl peer
@@ -20,7 +21,8 @@ event_parts (Request call) = inr (inl call)
 event_parts Take = inr (inr (inl tt))
 event_parts Close = inr (inr (inr (inl tt)))
 event_parts (Update point value) = inr (inr (inr (inr (inl (point, value)))))
-event_parts Stop = inr (inr (inr (inr (inr tt))))
+event_parts (Table peer variant) = inr (inr (inr (inr (inr (inl (peer, variant))))))
+event_parts Stop = inr (inr (inr (inr (inr (inr tt)))))
 
 abbrev pub event_from : EventParts → EventKind
 event_from (inl peer) = Open peer
@@ -28,7 +30,8 @@ event_from (inr (inl call)) = Request call
 event_from (inr (inr (inl u))) = Take
 event_from (inr (inr (inr (inl u)))) = Close
 event_from (inr (inr (inr (inr (inl p))))) = Update p.0 p.1
-event_from (inr (inr (inr (inr (inr u))))) = Stop
+event_from (inr (inr (inr (inr (inr (inl p)))))) = Table p.0 p.1
+event_from (inr (inr (inr (inr (inr (inr u)))))) = Stop
 
 pub event_from-parts : (e : EventKind) → event_from (event_parts e) ≡ e
 event_from-parts (Open peer) = refl
@@ -36,11 +39,13 @@ event_from-parts (Request call) = refl
 event_from-parts Take = refl
 event_from-parts Close = refl
 event_from-parts (Update point value) = refl
+event_from-parts (Table peer variant) = refl
 event_from-parts Stop = refl
 
 abbrev pub event_code : Coded EventKind
 event_code =
     code_by EventParts
     (coded⊎ coded_ℕ (coded⊎ call_code (coded⊎ coded_unit (coded⊎ coded_unit
-    (coded⊎ (coded× coded_ℕ sample_code) coded_unit)))))
+    (coded⊎ (coded× coded_ℕ sample_code)
+    (coded⊎ (coded× coded_ℕ coded_ℕ) coded_unit))))))
     event_parts event_from event_from-parts

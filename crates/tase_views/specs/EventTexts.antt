@@ -16,7 +16,7 @@ use Rattle.tase_views.specs.declared.call.CallKind.TheVariants.{WriteSet, NameLi
 use Rattle.tase_views.specs.declared.call.CallKind.TheVariants.{MembersOf, Delete, DeleteScope, Odd}
 use Rattle.tase_views.specs.declared.event.EventKind.{EventKind}
 use Rattle.tase_views.specs.declared.event.EventKind.TheVariants.{Open, Request, Take, Close}
-use Rattle.tase_views.specs.declared.event.EventKind.TheVariants.{Update, Stop}
+use Rattle.tase_views.specs.declared.event.EventKind.TheVariants.{Update, Table, Stop}
 
 -- a name after a space
 abbrev pub next_name : ObjectName → List ℕ
@@ -77,12 +77,13 @@ value_text value =
     body_text value.body ++ 32 ∷ hex_text (value.flags ∷ []) ++ 32 ∷ decimal value.seconds
     ++ 32 ∷ decimal value.millis
 
--- `open PEER`, `call CALL`, `take`, `close`, `update POINT VALUE` or `stop`; peers and points by
--- their numbers
+-- `open PEER`, `call CALL`, `take`, `close`, `update POINT VALUE`, `table PEER VARIANT` or `stop`;
+-- peers, points and tables by their numbers
 abbrev pub event_text : EventKind → List ℕ
 event_text (Open peer) = codes "open " ++ decimal peer
 event_text (Request call) = codes "call " ++ call_text call
 event_text Take = codes "take"
 event_text Close = codes "close"
 event_text (Update point value) = codes "update " ++ decimal point ++ 32 ∷ value_text value
+event_text (Table peer variant) = codes "table " ++ decimal peer ++ 32 ∷ decimal variant
 event_text Stop = codes "stop"

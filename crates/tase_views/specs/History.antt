@@ -3,22 +3,21 @@ use Rattle.std.specs.Prelude.{ℕ, ◌+◌, ◌==◌, ◌&&◌, if◌then◌else
 use Rattle.std.specs.Prelude.{length, filter, Option, Some, None}
 use Rattle.sbo_device.specs.declared.key.Key.{Key}
 use Rattle.tase_views.specs.declared.event.EventKind.{EventKind}
-use Rattle.tase_views.specs.declared.event.EventKind.TheVariants.{Open, Request, Take, Close}
-use Rattle.tase_views.specs.declared.event.EventKind.TheVariants.{Update, Stop}
 use Rattle.tase_views.specs.declared.event.Entry.{Entry}
+use Rattle.tase_views.specs.Moves.{EventSort, sort_of, opening, closing}
+use Rattle.tase_views.specs.Moves.{feeding, stops}
 
 -- the accepted events with their seats, the newest first
 abbrev pub Past : Type 0
 Past = List Entry
 
 -- whether an event is an open by this peer, as a number
+abbrev pub counts_opening : EventSort → ℕ → ℕ
+counts_opening (opening opener) peer = if opener == peer then 1 else 0
+counts_opening _ peer = 0
+
 abbrev pub counts_open : EventKind → ℕ → ℕ
-counts_open (Open opener) peer = if opener == peer then 1 else 0
-counts_open (Request call) peer = 0
-counts_open Take peer = 0
-counts_open Close peer = 0
-counts_open (Update point value) peer = 0
-counts_open Stop peer = 0
+counts_open event peer = counts_opening (sort_of event) peer
 
 -- how many associations a peer has opened
 abbrev pub opens_in : Past → ℕ → ℕ
@@ -31,13 +30,13 @@ abbrev pub next_key : Past → ℕ → Key
 next_key past peer = record { peer = peer; ordinal = opens_in past peer }
 
 -- the association of a seat after an event of it, if it had `before`
+abbrev pub association_by : EventSort → Past → Option Key → Option Key
+association_by (opening peer) past before = Some (next_key past peer)
+association_by closing past before = None
+association_by _ past before = before
+
 abbrev pub association_after : EventKind → Past → Option Key → Option Key
-association_after (Open peer) past before = Some (next_key past peer)
-association_after (Request call) past before = before
-association_after Take past before = before
-association_after Close past before = None
-association_after (Update point value) past before = before
-association_after Stop past before = before
+association_after event past before = association_by (sort_of event) past before
 
 -- the open association of a seat
 abbrev pub association_in : Past → ℕ → Option Key
@@ -47,13 +46,12 @@ association_in (entry ∷ past) who =
     else association_in past who
 
 -- the association that an event of a seat is of: that which it opens, or else the seat's before it
+abbrev pub key_by : EventSort → Past → Option Key → Option Key
+key_by (opening peer) past before = Some (next_key past peer)
+key_by _ past before = before
+
 abbrev pub key_at : EventKind → Past → ℕ → Option Key
-key_at (Open peer) past who = Some (next_key past peer)
-key_at (Request call) past who = association_in past who
-key_at Take past who = association_in past who
-key_at Close past who = association_in past who
-key_at (Update point value) past who = association_in past who
-key_at Stop past who = association_in past who
+key_at event past who = key_by (sort_of event) past (association_in past who)
 
 -- the entries of a seat
 abbrev pub entries_by : ℕ → Past → Past
@@ -72,13 +70,12 @@ entries_of key (entry ∷ past) =
     if is_key key (key_at entry.event past entry.who) then entry ∷ entries_of key past
     else entries_of key past
 
+abbrev pub is_stopping : EventSort → Bool
+is_stopping (feeding stops) = true
+is_stopping _ = false
+
 abbrev pub is_stop : EventKind → Bool
-is_stop (Open peer) = false
-is_stop (Request call) = false
-is_stop Take = false
-is_stop Close = false
-is_stop (Update point value) = false
-is_stop Stop = true
+is_stop event = is_stopping (sort_of event)
 
 -- the place of the stop of a history, if it has one; the oldest entry stands at 0
 abbrev pub stop_in : Past → Option ℕ

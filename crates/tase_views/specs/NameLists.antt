@@ -12,7 +12,7 @@ use Rattle.tase_views.specs.declared.reply.ReplyKind.{ReplyKind}
 use Rattle.tase_views.specs.declared.reply.ReplyKind.TheVariants.{NamesAre, Error}
 use Rattle.tase_views.specs.declared.reply.TheConstants.{ACCESS_ERRORS, NON_EXISTENT}
 use Rattle.tase_views.specs.declared.reply.TheConstants.{ACCESS_DENIED, NAMES_LIMIT}
-use Rattle.tase_views.specs.OwnTable.{OwnTable, is_scope_of}
+use Rattle.tase_views.specs.OwnTables.{OwnTable, is_scope_of}
 use Rattle.tase_views.specs.Objects.{NamedObject}
 
 -- whether a name stands below another in the order of octets

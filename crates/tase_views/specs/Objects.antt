@@ -1,15 +1,11 @@
--- The objects that there are for a peer (IEC 60870-6-503, objects of bilateral tables).
-use Rattle.std.specs.Prelude.{ℕ, pos, ◌&&◌, Bool, true, false, List, [], ◌∷◌, ◌++◌, map, find}
-use Rattle.std.specs.Prelude.{Option, Some, None, option_map, bytes_eq, codes}
+-- The objects that there are for a peer by a table (IEC 60870-6-503, objects of bilateral tables).
+use Rattle.std.specs.Prelude.{ℕ, ◌+◌, ◌==◌, pos, ◌&&◌, if◌then◌else◌, Bool, true, false, List, []}
+use Rattle.std.specs.Prelude.{◌∷◌, ◌++◌, map, flat_map, find, Option, Some, option_map}
+use Rattle.std.specs.Prelude.{bytes_eq, codes, decimal}
+use Rattle.std.specs.List.{range_with_len}
 use Rattle.mms_data.specs.Datum.{Datum, integer, bits, text, structure, data_of}
 use Rattle.mms_data.specs.ObjectName.{ObjectName}
-use Rattle.bilateral.specs.declared.rows.DeviceRow.{DeviceRow}
-use Rattle.tase_views.specs.OwnTable.{OwnPoint, OwnTable, is_scope_of}
-
--- a device as a peer knows it: its row, and whether the peer may tag it
-pub record OwnDevice : Type 0 where
-  pub row : DeviceRow
-  pub tag : Bool
+use Rattle.tase_views.specs.OwnTables.{OwnPoint, OwnDevice, OwnTable, is_scope_of}
 
 -- what a report can tell of itself: its transfer set, its moment, its conditions, an event's code
 pub data ReportVariable : Type 0 where
@@ -65,24 +61,46 @@ special_objects table =
     ∷ named_by false (codes "Bilateral_Table_ID") (constant (text table.id))
     ∷ report_variables true ++ report_variables false
 
+-- a table that offers no transfer sets has none to hand out
+abbrev pub next_objects : ℕ → List NamedObject
+next_objects slots =
+    if slots == 0 then []
+    else named_by false (codes "Next_DSTransfer_Set") next_transfer_set ∷ []
+
+-- a device that isn't direct has a selection, and that may run out
+abbrev pub objects_of_device : OwnDevice → List NamedObject
+objects_of_device d =
+    let name = d.row.name in
+    named_by false name (control_point d) ∷ named_by false (name ++ codes "_TAG") (device_tag d)
+    ∷ (if d.row.direct then []
+    else named_by false (name ++ codes "_SBO") (selection d)
+    ∷ named_by false (name ++ codes "_TIMEOUT") (timeout d) ∷ [])
+
+-- transfer sets are named from 1 on
+abbrev pub slot_item : ℕ → List ℕ
+slot_item s = codes "DSTrans" ++ decimal (s + 1)
+
+abbrev pub objects_of_slot : ℕ → List NamedObject
+objects_of_slot s =
+    named_by false (slot_item s) (transfer_set s)
+    ∷ named_by false (slot_item s ++ codes "$Status") (transfer_set_status s) ∷ []
+
 abbrev pub point_object : OwnPoint → NamedObject
 point_object p = named_by p.vmd p.name (indication_point p)
 
--- these and the points of the table
-abbrev pub own_objects : OwnTable → List NamedObject
-own_objects table = special_objects table ++ map point_object table.points
+-- all objects that there are by a table
+abbrev pub objects : OwnTable → List NamedObject
+objects table =
+    special_objects table ++ next_objects table.slots ++ flat_map objects_of_device table.devices
+    ++ flat_map objects_of_slot (range_with_len 0 table.slots) ++ map point_object table.points
 
 -- whether a name of a peer is that of an object
 abbrev pub is_named : OwnTable → ObjectName → NamedObject → Bool
 is_named table name o = is_scope_of table name.scope o.vmd && bytes_eq o.item name.item
 
--- what a name stands for among objects; nothing else exists
-abbrev pub object_among : OwnTable → List NamedObject → ObjectName → Option Object
-object_among table objects name = option_map (λ o. o.object) (find (is_named table name) objects)
-
--- what a name of a peer with this table stands for
-abbrev pub own_object : OwnTable → ObjectName → Option Object
-own_object table name = object_among table (own_objects table) name
+-- what a name stands for by a table; nothing else exists
+abbrev pub object_named : OwnTable → ObjectName → Option Object
+object_named table name = option_map (λ o. o.object) (find (is_named table name) (objects table))
 
 -- a member that a data set may have: a point, or a report variable
 abbrev pub is_member : Option Object → Bool

@@ -6,12 +6,12 @@ use Rattle.std.specs.Prelude.{is_some, Result, Ok, Err}
 use Rattle.tase_points.specs.Same.{same_kind}
 use Rattle.tase_points.specs.Points.{kind_of}
 use Rattle.tase_points.specs.Sample.{Sample}
-use Rattle.bilateral.specs.Rows.{CentreRows, point_of}
+use Rattle.bilateral.specs.Rows.{CentreRows, point_of, variants_of}
 use Rattle.sbo_device.specs.declared.key.Key.{Key}
 use Rattle.tase_views.specs.declared.event.EventKind.{EventKind}
-use Rattle.tase_views.specs.declared.event.EventKind.TheVariants.{Open, Request, Take, Close}
-use Rattle.tase_views.specs.declared.event.EventKind.TheVariants.{Update, Stop}
+use Rattle.tase_views.specs.declared.reply.Report.{Report}
 use Rattle.tase_views.specs.declared.reply.Answer.{Answer}
+use Rattle.tase_views.specs.declared.reply.Answer.TheVariants.{Opened, Reply, Reports, Closed}
 use Rattle.tase_views.specs.declared.reply.Answer.TheVariants.{Noted}
 use Rattle.tase_views.specs.declared.fault.StepFault.{StepFault}
 use Rattle.tase_views.specs.declared.fault.StepFault.TheVariants.{Memory, Stopped, HistoryFull}
@@ -20,22 +20,28 @@ use Rattle.tase_views.specs.declared.fault.StepFault.TheVariants.{UnknownName}
 use Rattle.tase_views.specs.Setup.{Setup}
 use Rattle.tase_views.specs.History.{Past, association_in, key_at, is_stop, stop_in}
 use Rattle.tase_views.specs.Weights.{weight, weight_of}
-use Rattle.tase_views.specs.OwnTable.{own_table}
-use Rattle.tase_views.specs.View.{view_of}
-use Rattle.tase_views.specs.Answers.{answer_to}
+use Rattle.tase_views.specs.Moves.{EventSort, sort_of, opening, requesting, taking, closing}
+use Rattle.tase_views.specs.Moves.{feeding, updates, chooses}
+use Rattle.tase_views.specs.OwnTables.{OwnTables, own_tables}
+use Rattle.tase_views.specs.View.{View, view_of}
+use Rattle.tase_views.specs.Answers.{reply_to}
 
 -- a point of the centre, and a value of its kind
 abbrev pub is_known : CentreRows → ℕ → Sample → Bool
 is_known rows point value =
     nat_lt point (length rows.points) && same_kind (kind_of value.body) (point_of rows point).kind
 
+-- whether a peer of the centre has a table with this number
+abbrev pub has_table : CentreRows → ℕ → ℕ → Bool
+has_table rows peer variant =
+    nat_lt peer (length rows.tables) && nat_lt variant (length (variants_of rows peer))
+
+abbrev pub is_closing : EventSort → Bool
+is_closing closing = true
+is_closing _ = false
+
 abbrev pub is_close : EventKind → Bool
-is_close (Open peer) = false
-is_close (Request call) = false
-is_close Take = false
-is_close Close = true
-is_close (Update point value) = false
-is_close Stop = false
+is_close event = is_closing (sort_of event)
 
 -- whether an event is taken whatever the history weighs, and without memory: a close and a stop
 abbrev pub is_ending : EventKind → Bool
@@ -47,24 +53,27 @@ stop_refusal past event =
     if is_close event then None else option_map (λ place. Stopped place) (stop_in past)
 
 -- an open wants a seat without an association; a request, a take and a close want one with it
-abbrev pub seat_refusal : Option Key → EventKind → Option StepFault
-seat_refusal found (Open peer) = if is_some found then Some Already else None
-seat_refusal found (Request call) = if is_some found then None else Some NoAssociation
-seat_refusal found Take = if is_some found then None else Some NoAssociation
-seat_refusal found Close = if is_some found then None else Some NoAssociation
-seat_refusal found (Update point value) = None
-seat_refusal found Stop = None
+abbrev pub seat_refusal_by : Option Key → EventSort → Option StepFault
+seat_refusal_by found (opening peer) = if is_some found then Some Already else None
+seat_refusal_by found (requesting call) = if is_some found then None else Some NoAssociation
+seat_refusal_by found taking = if is_some found then None else Some NoAssociation
+seat_refusal_by found closing = if is_some found then None else Some NoAssociation
+seat_refusal_by found _ = None
 
--- an open wants a peer of the centre, an update a point and a value of its kind
+abbrev pub seat_refusal : Option Key → EventKind → Option StepFault
+seat_refusal found event = seat_refusal_by found (sort_of event)
+
+-- what an event names is there: of an open the peer, of an update the point, and its value is of
+-- the point's kind, of a choice the peer and its table
+abbrev pub is_named_there : CentreRows → EventSort → Bool
+is_named_there rows (opening peer) = nat_lt peer (length rows.tables)
+is_named_there rows (feeding (updates point value)) = is_known rows point value
+is_named_there rows (feeding (chooses peer variant)) = has_table rows peer variant
+is_named_there rows _ = true
+
 abbrev pub name_refusal : CentreRows → EventKind → Option StepFault
-name_refusal rows (Open peer) =
-    if nat_lt peer (length rows.tables) then None else Some UnknownName
-name_refusal rows (Request call) = None
-name_refusal rows Take = None
-name_refusal rows Close = None
-name_refusal rows (Update point value) =
-    if is_known rows point value then None else Some UnknownName
-name_refusal rows Stop = None
+name_refusal rows event =
+    if is_named_there rows (sort_of event) then None else Some UnknownName
 
 -- the first refusal, if there is one
 abbrev pub first_refusal : List (Option StepFault) → Option StepFault
@@ -89,11 +98,24 @@ refusal_of setup past who event =
     first_refusal (stop_refusal past event ∷ seat_refusal (association_in past who) event
     ∷ name_refusal setup.centre event ∷ weight_refusal setup past event ∷ [])
 
--- the answer to an event of this association, from nothing but the peer's own table and its view
+-- the reports that were made for the peer's association with this ordinal since its last take: none
+-- is made of tables that offer neither devices nor transfer sets
+abbrev pub reports_for : OwnTables → View → ℕ → List Report
+reports_for tables view ordinal = []
+
+-- the answer to an event of a peer's association, from its own tables and its view alone
+abbrev pub answer_to : OwnTables → View → Key → EventSort → Answer
+answer_to tables view key (opening peer) = Opened key
+answer_to tables view key (requesting call) = Reply (reply_to tables view key.ordinal call)
+answer_to tables view key taking = Reports (reports_for tables view key.ordinal)
+answer_to tables view key closing = Closed
+answer_to tables view key _ = Noted
+
+-- the answer to an event of this association, if it is of one
 abbrev pub answer_by : CentreRows → Past → EventKind → Option Key → Answer
 answer_by rows past event None = Noted
 answer_by rows past event (Some key) =
-    answer_to (own_table rows key.peer) (view_of rows key.peer past) key event
+    answer_to (own_tables rows key.peer) (view_of rows key.peer past) key (sort_of event)
 
 -- the answer to an event of a seat that isn't refused
 abbrev pub answer_of : Setup → Past → ℕ → EventKind → Answer

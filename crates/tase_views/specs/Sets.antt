@@ -1,6 +1,6 @@
 -- The data sets of a peer in its view (IEC 60870-6-503, data set objects; ISO 9506-2, named
 -- variable lists). They belong to the peer, and outlive the associations that defined them.
-use Rattle.std.specs.Prelude.{ℕ, ◌+◌, nat_le, nat_lt, not, ◌&&◌, ◌||◌, if◌then◌else◌, Bool, false}
+use Rattle.std.specs.Prelude.{ℕ, ◌+◌, nat_le, nat_lt, not, ◌&&◌, ◌||◌, if◌then◌else◌, Bool}
 use Rattle.std.specs.Prelude.{List, [], ◌∷◌, length, filter, Option, Some, None, is_some, is_none}
 use Rattle.std.specs.Prelude.{bytes_eq}
 use Rattle.std.specs.List.{list_all}
@@ -11,9 +11,10 @@ use Rattle.table_words.specs.Words.{is_identifier}
 use Rattle.tase_views.specs.declared.reply.TheConstants.{ACCESS_ERRORS, ACCESS_DENIED}
 use Rattle.tase_views.specs.declared.reply.TheConstants.{DEFINITION_ERRORS, UNDEFINED, EXISTS}
 use Rattle.tase_views.specs.declared.reply.TheConstants.{RESOURCE_ERRORS, OTHER}
-use Rattle.tase_views.specs.OwnTable.{OwnTable, domain_name}
-use Rattle.tase_views.specs.Objects.{own_object, is_member}
-use Rattle.tase_views.specs.View.{Act, defines, deletes, Seen, own, View}
+use Rattle.tase_views.specs.OwnTables.{OwnTable, domain_name}
+use Rattle.tase_views.specs.Objects.{object_named, is_member}
+use Rattle.tase_views.specs.Moves.{Act, defines, deletes}
+use Rattle.tase_views.specs.View.{own, View}
 
 -- the data sets that there are, by their names in the domain
 abbrev pub Sets : Type 0
@@ -48,7 +49,7 @@ define_fault table sets view set members =
     else (if is_some (sets set.item) then error_of DEFINITION_ERRORS EXISTS
     else (if nat_lt MOST_MEMBERS (length members)
     || nat_le table.sets (length (sets_there sets view)) then error_of RESOURCE_ERRORS OTHER
-    else (if not (list_all (λ member. is_member (own_object table member)) members)
+    else (if not (list_all (λ member. is_member (object_named table member)) members)
     then error_of DEFINITION_ERRORS UNDEFINED
     else None)))
 
@@ -62,26 +63,10 @@ set_behind table kept sets view (deletes set) name =
     if same_name set (domain_name table name) && not (kept name) then None else sets name
 set_behind table kept sets view _ name = sets name
 
--- no data set is kept from deletion yet
-abbrev pub none_kept : List ℕ → Bool
-none_kept name = false
-
--- the members of the data set with a name: those of its last definition that had no error, unless
--- it was deleted since
-abbrev pub sets_in : OwnTable → View → Sets
-sets_in table [] name = None
-sets_in table (own ordinal act ∷ view) name =
-    set_behind table none_kept (sets_in table view) view act name
-sets_in table (_ ∷ view) name = sets_in table view name
-
 -- the members of the data set that a name of the peer is that of, among data sets of the domain
 abbrev pub members_among : OwnTable → Sets → ObjectName → Option (List ObjectName)
 members_among table sets set =
     if same_scope set.scope (Domain table.domain) then sets set.item else None
-
--- the same in a view
-abbrev pub members_of : OwnTable → View → ObjectName → Option (List ObjectName)
-members_of table view set = members_among table (sets_in table view) set
 
 -- how many of the names of a deletion are those of data sets, and how many of these are deleted
 pub record Deletion : Type 0 where
@@ -104,7 +89,3 @@ deletion_by there kept view ordinal [] = record { matched = 0; deleted = 0 }
 deletion_by there kept view ordinal (set ∷ sets) =
     one_deletion (there view set) (kept view set.item)
     (deletion_by there kept (own ordinal (deletes set) ∷ view) ordinal sets)
-
-abbrev pub deletion_of : OwnTable → View → ℕ → List ObjectName → Deletion
-deletion_of table view ordinal sets =
-    deletion_by (λ v set. is_some (members_of table v set)) (λ v. none_kept) view ordinal sets

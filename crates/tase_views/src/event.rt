@@ -18,6 +18,9 @@ pub enum EventKind {
     Close,
     /// The centre's own systems give a point, by its number, a value.
     Update { point: u32, value: PointValue },
+    /// The operator chooses a table of a peer, by their numbers: it comes into force at once where
+    /// the peer has no open association, else when the last of them is closed.
+    Table { peer: u32, variant: u32 },
     /// The node stops: afterwards it takes closes alone.
     Stop,
 }
@@ -68,6 +71,10 @@ impl Clone for Event {
             EventKind::Update { point, value } => EventKind::Update {
                 point: *point,
                 value: *value,
+            },
+            EventKind::Table { peer, variant } => EventKind::Table {
+                peer: *peer,
+                variant: *variant,
             },
             EventKind::Stop => EventKind::Stop,
         };

@@ -1,54 +1,133 @@
 //! Laws of what a peer sees, and of the replies that it is given: isolation of peers.
-ghost use Rattle.std.specs.Prelude.{◌≡◌, ◌≢◌, ◌↔◌, ℕ, true, List, [], ◌∷◌, Some, None, is_some};
-ghost use Rattle.std.specs.Prelude.{option_map};
+ghost use Rattle.std.specs.Prelude.{◌≡◌, ◌≢◌, ◌↔◌, ℕ, ◌<◌, ℤ, true, false, List, [], ◌∷◌};
+ghost use Rattle.std.specs.Prelude.{All, Some, None, is_some, option_map};
+ghost use Rattle.mms_data.specs.Datum.{Datum};
+ghost use Rattle.mms_data.specs.ObjectName.{ObjectName};
 ghost use Rattle.tase_points.specs.Sample.{Sample};
-ghost use Rattle.bilateral.specs.Rows.{CentreRows, IsCentre, table_of, place_of_see};
+ghost use Rattle.bilateral.specs.Rows.{CentreRows, IsCentre, device_of, variants_of};
+ghost use Rattle.bilateral.specs.Rows.{place_of_see};
 ghost use Rattle.sbo_device.specs.declared.key.Key.{Key};
-ghost use Rattle.sbo_device.specs.Moves.{ControlPoint};
-ghost use Rattle.sbo_device.specs.Holders.{Holds};
-ghost use Rattle.sbo_device.specs.Controls.{hold_of, tag_of, with_moments};
+ghost use Rattle.sbo_device.specs.Moves.{ControlPoint, Tag, tagging};
+ghost use Rattle.sbo_device.specs.States.{hold_of, tag_of, permits};
 ghost use Rattle.sbo_device.specs.SameMoves.{renumbered_hold};
 ghost use Rattle.tase_views.specs.declared.call.CallKind.{CallKind as AnyCall};
-ghost use Rattle.tase_views.specs.declared.event.EventKind.TheVariants.{Open, Request, Take};
-ghost use Rattle.tase_views.specs.declared.event.EventKind.TheVariants.{Close, Update};
 ghost use Rattle.tase_views.specs.declared.event.EventKind.{EventKind as AnyEvent};
+ghost use Rattle.tase_views.specs.declared.event.EventKind.TheVariants.{Update, Table};
 ghost use Rattle.tase_views.specs.Setup.{Setup};
-ghost use Rattle.tase_views.specs.History.{Past, association_in, entries_by};
-ghost use Rattle.tase_views.specs.Outcomes.{first_refusal, own_refusal, refusal_of};
+ghost use Rattle.tase_views.specs.Moves.{Act, closes, Move, acts, updates, tags, asks, chooses};
+ghost use Rattle.tase_views.specs.Moves.{takes_orders, EventSort, sort_of, feeding};
+ghost use Rattle.tase_views.specs.History.{Past, association_in, key_at, entries_by};
+ghost use Rattle.tase_views.specs.Seats.{reseated, IsInjective};
+ghost use Rattle.tase_views.specs.OwnTables.{OwnDevice, OwnTables, Owns, whole_tables, own_tables};
+ghost use Rattle.tase_views.specs.OwnTables.{device_named, is_selectable, control_of};
+ghost use Rattle.tase_views.specs.Objects.{control_point, object_named};
+ghost use Rattle.tase_views.specs.Devices.{Deed, deed_of, number_in, moment_of, device_moves};
+ghost use Rattle.tase_views.specs.View.{View, moves_in, held_in, seen_by, view_by, view_of, held};
+ghost use Rattle.tase_views.specs.View.{steps_in, moves_seen, peer_number};
+ghost use Rattle.tase_views.specs.Answers.{object_written, reply_to};
+ghost use Rattle.tase_views.specs.Reports.{reports_pending, AreDueAt, due_conditions};
+ghost use Rattle.tase_views.specs.Outcomes.{first_refusal, own_refusal, refusal_of, answer_to};
 ghost use Rattle.tase_views.specs.Outcomes.{stop_refusal, weight_refusal};
-ghost use Rattle.tase_views.specs.OwnTable.{own_table};
-ghost use Rattle.tase_views.specs.View.{View, view_of};
-ghost use Rattle.tase_views.specs.Concerns.{entries_for, reseated, IsInjective};
-ghost use Rattle.tase_views.specs.Answers.{reply_to, reports_for};
-ghost use Rattle.tase_views.specs.NodeMoves.{NodeMove};
-ghost use Rattle.tase_views.specs.PeerTables.{PeerTable, peer_table};
-ghost use Rattle.tase_views.specs.NodeViews.{seen_by, view_by, is_selectable};
-ghost use Rattle.tase_views.specs.NodeViews.{device_named, controls_seen, controls_in, peer_number};
-ghost use Rattle.tase_views.specs.NodeAnswers.{node_reply};
-ghost use Rattle.tase_views.specs.NodeReports.{AreDueAt, due_conditions, reports_pending};
-ghost use Rattle.tase_views.specs.NodeOrders.{NodeEvent, association_answer};
 
-/// An open, a request, a take or a close of another peer leaves a peer's view as it was, and so
-/// does an update of a point that the peer's table doesn't name.
+/// Two worlds. Two centres with two histories in which a peer has the same own tables and the same
+/// view give that peer the same reply to each call, the same reports at each take and, where both
+/// seats have an association, the same refusals but for stop and weight, whatever else they hold.
+pub fn two_worlds()
+    ensures reply { (here there : CentreRows) (owns others : Owns) (moves more : List Move)
+        (peer other ordinal : ℕ) (call : AnyCall) → owns peer ≡ others other
+        → view_by here owns peer moves ≡ view_by there others other more
+        → reply_to (owns peer) (view_by here owns peer moves) ordinal call
+        ≡ reply_to (others other) (view_by there others other more) ordinal call }
+    ensures reports { (here there : CentreRows) (owns others : Owns) (moves more : List Move)
+        (peer other ordinal : ℕ) → owns peer ≡ others other
+        → view_by here owns peer moves ≡ view_by there others other more
+        → reports_pending (owns peer) (view_by here owns peer moves) ordinal
+        ≡ reports_pending (others other) (view_by there others other more) ordinal }
+    ensures refusal { (here there : CentreRows) (past more : Past) (who seat : ℕ)
+        (event : AnyEvent) → is_some (association_in past who) ≡ true
+        → is_some (association_in more seat) ≡ true
+        → ((move : Move) → sort_of event ≢ feeding move)
+        → own_refusal here past who event ≡ own_refusal there more seat event }
+{}
+
+/// A move that a peer isn't shown leaves its view as it was, and with it the answer to each event
+/// of its associations and their reports.
+pub fn unseen_moves_change_nothing()
+    ensures view { (rows : CentreRows) (owns : Owns) (peer : ℕ) (moves : List Move) (move : Move)
+        → seen_by rows owns peer moves move ≡ None
+        → view_by rows owns peer (move ∷ moves) ≡ view_by rows owns peer moves }
+    ensures answer { (rows : CentreRows) (owns : Owns) (moves : List Move) (move : Move)
+        (key : Key) (sort : EventSort) → seen_by rows owns key.peer moves move ≡ None
+        → answer_to (owns key.peer) (view_by rows owns key.peer (move ∷ moves)) key sort
+        ≡ answer_to (owns key.peer) (view_by rows owns key.peer moves) key sort }
+    ensures reports { (rows : CentreRows) (owns : Owns) (peer ordinal : ℕ) (moves : List Move)
+        (move : Move) → seen_by rows owns peer moves move ≡ None
+        → reports_pending (owns peer) (view_by rows owns peer (move ∷ moves)) ordinal
+        ≡ reports_pending (owns peer) (view_by rows owns peer moves) ordinal }
+{}
+
+/// What a peer isn't shown of other associations: an act that is nothing to a device; one on a
+/// device that the peer's tables don't name; a select or an operate of a device that they have as
+/// direct; a close by a table without a device that they have as not direct. And of the centre: an
+/// update of a point, a tag of a device that the peer's tables don't name, a request and a choice
+/// for another peer, and that the plant took orders.
+pub fn what_a_peer_is_not_shown()
+    ensures no_deed { (rows : CentreRows) (owns : Owns) (peer : ℕ) (before : List Move) (key : Key)
+        (act : Act) → key.peer ≢ peer → act ≢ closes
+        → deed_of (held_in rows owns before key.peer) act ≡ None
+        → seen_by rows owns peer before (acts key act) ≡ None }
+    ensures unnamed { (rows : CentreRows) (owns : Owns) (peer : ℕ) (before : List Move) (key : Key)
+        (act : Act) (deed : Deed) → key.peer ≢ peer
+        → deed_of (held_in rows owns before key.peer) act ≡ Some deed
+        → device_named (owns peer) deed.device.row.name ≡ None
+        → seen_by rows owns peer before (acts key act) ≡ None }
+    ensures direct { (rows : CentreRows) (owns : Owns) (peer : ℕ) (before : List Move) (key : Key)
+        (act : Act) (deed : Deed) (d : OwnDevice) → key.peer ≢ peer
+        → deed_of (held_in rows owns before key.peer) act ≡ Some deed
+        → ((tag : Tag) → deed.act ≢ tagging tag)
+        → device_named (owns peer) deed.device.row.name ≡ Some d → d.row.direct ≡ true
+        → seen_by rows owns peer before (acts key act) ≡ None }
+    ensures close { (rows : CentreRows) (owns : Owns) (peer : ℕ) (before : List Move) (key : Key)
+        → key.peer ≢ peer
+        → All (λ (d : OwnDevice). is_selectable (owns peer) d.row.name ≡ false)
+        (held_in rows owns before key.peer).devices
+        → seen_by rows owns peer before (acts key closes) ≡ None }
+    ensures update { (rows : CentreRows) (owns : Owns) (peer point : ℕ) (before : List Move)
+        (value : Sample) → All (λ table. place_of_see table point ≡ None) (variants_of rows peer)
+        → seen_by rows owns peer before (updates point value) ≡ None }
+    ensures tag { (rows : CentreRows) (owns : Owns) (peer device : ℕ) (before : List Move)
+        (tag : Tag) → device_named (owns peer) (device_of rows device).name ≡ None
+        → seen_by rows owns peer before (tags device tag) ≡ None }
+    ensures request { (rows : CentreRows) (owns : Owns) (peer other slot : ℕ) (before : List Move)
+        → other ≢ peer → seen_by rows owns peer before (asks other slot) ≡ None }
+    ensures choice { (rows : CentreRows) (owns : Owns) (peer other variant : ℕ)
+        (before : List Move) → other ≢ peer
+        → seen_by rows owns peer before (chooses other variant) ≡ None }
+    ensures orders { (rows : CentreRows) (owns : Owns) (peer : ℕ) (before : List Move)
+        → seen_by rows owns peer before takes_orders ≡ None }
+{}
+
+/// A peer whose tables name no device is shown nothing of what associations of other peers do. The
+/// node offers no device yet, so an open, a request, a take and a close of another peer leave a
+/// peer's view as it was, and so do an update of a point that none of the peer's tables names and a
+/// choice of another peer's table.
 pub fn others_are_unseen()
-    ensures open { (rows : CentreRows) (past : Past) (peer other who : ℕ) → other ≢ peer
-        → view_of rows peer (record { who = who; event = Open other } ∷ past)
-        ≡ view_of rows peer past }
-    ensures request { (rows : CentreRows) (past : Past) (peer who : ℕ) (key : Key) (call : AnyCall)
-        → association_in past who ≡ Some key → key.peer ≢ peer
-        → view_of rows peer (record { who = who; event = Request call } ∷ past)
-        ≡ view_of rows peer past }
-    ensures take { (rows : CentreRows) (past : Past) (peer who : ℕ) (key : Key)
-        → association_in past who ≡ Some key → key.peer ≢ peer
-        → view_of rows peer (record { who = who; event = Take } ∷ past)
-        ≡ view_of rows peer past }
-    ensures close { (rows : CentreRows) (past : Past) (peer who : ℕ) (key : Key)
-        → association_in past who ≡ Some key → key.peer ≢ peer
-        → view_of rows peer (record { who = who; event = Close } ∷ past)
+    ensures act { (rows : CentreRows) (owns : Owns) (peer : ℕ) (before : List Move) (key : Key)
+        (act : Act) → key.peer ≢ peer
+        → ((name : List ℕ) → device_named (owns peer) name ≡ None)
+        → seen_by rows owns peer before (acts key act) ≡ None }
+    ensures event { (rows : CentreRows) (past : Past) (peer who : ℕ) (event : AnyEvent) (key : Key)
+        → ((move : Move) → sort_of event ≢ feeding move)
+        → key_at event past who ≡ Some key → key.peer ≢ peer
+        → view_of rows peer (record { who = who; event = event } ∷ past)
         ≡ view_of rows peer past }
     ensures update { (rows : CentreRows) (past : Past) (peer who point : ℕ) (value : Sample)
-        → place_of_see (table_of rows peer) point ≡ None
+        → All (λ table. place_of_see table point ≡ None) (variants_of rows peer)
         → view_of rows peer (record { who = who; event = Update point value } ∷ past)
+        ≡ view_of rows peer past }
+    ensures choice { (rows : CentreRows) (past : Past) (peer who other variant : ℕ)
+        → other ≢ peer
+        → view_of rows peer (record { who = who; event = Table other variant } ∷ past)
         ≡ view_of rows peer past }
 {}
 
@@ -56,30 +135,6 @@ pub fn others_are_unseen()
 pub fn seats_are_unseen()
     ensures { (rows : CentreRows) (past : Past) (peer : ℕ) (seat : ℕ → ℕ) → IsInjective seat
         → view_of rows peer (reseated seat past) ≡ view_of rows peer past }
-{}
-
-/// A peer's view of a history is that of the entries alone that concern the peer.
-pub fn views_are_of_entries()
-    ensures { (rows : CentreRows) (past : Past) (peer : ℕ)
-        → view_of rows peer (entries_for rows peer past) ≡ view_of rows peer past }
-{}
-
-/// Two worlds. Two centres with two histories in which a peer has the same own table and the same
-/// view give that peer the same reply to each call and the same reports at each take, whatever else
-/// they hold.
-pub fn two_worlds()
-    ensures reply { (here there : CentreRows) (past other_past : Past) (peer other : ℕ)
-        (ordinal : ℕ) (call : AnyCall)
-        → own_table here peer ≡ own_table there other
-        → view_of here peer past ≡ view_of there other other_past
-        → reply_to (own_table here peer) (view_of here peer past) ordinal call
-        ≡ reply_to (own_table there other) (view_of there other other_past) ordinal call }
-    ensures reports { (here there : CentreRows) (past other_past : Past) (peer other : ℕ)
-        (ordinal : ℕ)
-        → own_table here peer ≡ own_table there other
-        → view_of here peer past ≡ view_of there other other_past
-        → reports_for (own_table here peer) (view_of here peer past) ordinal
-        ≡ reports_for (own_table there other) (view_of there other other_past) ordinal }
 {}
 
 /// But for a stop of the node and a full history, an event is refused for what its own seat has
@@ -92,70 +147,72 @@ pub fn refusals_are_of_the_seat()
         ∷ own_refusal setup.centre past who event ∷ weight_refusal setup past event ∷ []) }
 {}
 
-/// A peer's view shows who holds a device of the peer's table that isn't direct, and until when, as
-/// all moves of the node have it, the holder by its peer's key; and the tag, with its reason, of
-/// every device of the table.
-pub fn devices_are_seen_as_they_are()
-    ensures hold { (rows : CentreRows) (moves : List NodeMove) (peer : ℕ) (name : List ℕ)
-        (point : ControlPoint) → IsCentre rows
-        → is_selectable (peer_table rows peer) name ≡ true
-        → hold_of point (controls_seen (peer_table rows peer) (view_by rows peer moves) name)
-        ≡ option_map (renumbered_hold (peer_number rows))
-        (hold_of point (controls_in rows moves name)) }
-    ensures tag { (rows : CentreRows) (moves : List NodeMove) (peer : ℕ) (name : List ℕ)
-        → is_some (device_named (peer_table rows peer) name) ≡ true
-        → tag_of (controls_seen (peer_table rows peer) (view_by rows peer moves) name)
-        ≡ tag_of (controls_in rows moves name) }
+/// By tables that offer neither devices nor transfer sets no report is ever made; a peer's tables
+/// as the node offers them are such.
+pub fn nothing_is_made_without_offers()
+    ensures none { (tables : OwnTables) (view : View) (ordinal : ℕ)
+        → All (λ table. (table.devices ≡ []) × (table.slots ≡ 0)) tables.tables
+        → reports_pending tables view ordinal ≡ [] }
+    ensures offered { (rows : CentreRows) (peer : ℕ) (view : View) (ordinal : ℕ)
+        → reports_pending (own_tables rows peer) view ordinal ≡ [] }
 {}
 
-/// Over all moves of a node, and over a peer's view, at most one association holds a device, and
-/// until one moment.
-pub fn devices_are_held_once()
-    ensures node { (rows : CentreRows) (moves : List NodeMove) (name : List ℕ)
-        (point : ControlPoint) (a b : Key) (u v : ℕ)
-        → Holds point (with_moments (controls_in rows moves name)) a u
-        → Holds point (with_moments (controls_in rows moves name)) b v → (a ≡ b) × (u ≡ v) }
-    ensures view { (table : PeerTable) (view : View) (name : List ℕ)
-        (point : ControlPoint) (a b : Key) (u v : ℕ)
-        → Holds point (with_moments (controls_seen table view name)) a u
-        → Holds point (with_moments (controls_seen table view name)) b v → (a ≡ b) × (u ≡ v) }
-{}
-
-/// A move that a peer's view doesn't show leaves the view as it was, and with it the moment, the
-/// holder and tag of each device, the data sets, the transfer sets with their reports, and the
-/// answers to the peer.
-pub fn unseen_moves_change_nothing()
-    ensures view { (rows : CentreRows) (peer : ℕ) (moves : List NodeMove) (move : NodeMove)
-        → seen_by rows peer move ≡ None
-        → view_by rows peer (move ∷ moves) ≡ view_by rows peer moves }
-    ensures answer { (rows : CentreRows) (moves : List NodeMove) (move : NodeMove) (key : Key)
-        (event : NodeEvent) → seen_by rows key.peer move ≡ None
-        → association_answer (peer_table rows key.peer)
-        (view_by rows key.peer (move ∷ moves)) key event
-        ≡ association_answer (peer_table rows key.peer) (view_by rows key.peer moves) key event }
-{}
-
-/// The conditions that are due at a tick are those that some whole multiple of a period, or a
-/// change that has waited, brings about, and no other number is.
+/// The conditions that are due at a tick are those that some whole multiple of a period, a change
+/// that has waited, or a full list of changes brings about, and no other number is.
 pub fn due_conditions_are_those()
-    ensures { (table : PeerTable) (view : View) (slot to conditions : ℕ)
-        → AreDueAt table view slot to conditions
-        ↔ (conditions ≡ due_conditions table view slot to) }
+    ensures { (tables : OwnTables) (view : View) (slot to conditions : ℕ)
+        → AreDueAt tables view slot to conditions
+        ↔ (conditions ≡ due_conditions tables view slot to) }
 {}
 
-/// Two centres with two lists of moves in which a peer has the same table and the same view give
-/// that peer's association the same reply to each call and the same reports at each take, whatever
-/// else they hold.
-pub fn two_worlds_answer_alike()
-    ensures reply { (here there : CentreRows) (moves others : List NodeMove)
-        (peer other ordinal : ℕ) (call : AnyCall)
-        → peer_table here peer ≡ peer_table there other
-        → view_by here peer moves ≡ view_by there other others
-        → node_reply (peer_table here peer) (view_by here peer moves) ordinal call
-        ≡ node_reply (peer_table there other) (view_by there other others) ordinal call }
-    ensures reports { (here there : CentreRows) (moves others : List NodeMove)
-        (peer other ordinal : ℕ) → peer_table here peer ≡ peer_table there other
-        → view_by here peer moves ≡ view_by there other others
-        → reports_pending (peer_table here peer) (view_by here peer moves) ordinal
-        ≡ reports_pending (peer_table there other) (view_by there other others) ordinal }
+/// A peer's view shows each device of the peer's tables as all moves of the node have it: its tag,
+/// with the reason, and, unless it is direct, who holds it and until when, the holder by its peer's
+/// key as a number, or as the peer itself. Peers whose tables name the device have different
+/// numbers.
+pub fn devices_are_seen_as_they_are()
+    ensures hold { (rows : CentreRows) (past : Past) (peer : ℕ) (name : List ℕ)
+        (point : ControlPoint) → IsCentre rows
+        → is_selectable (whole_tables rows peer) name ≡ true
+        → hold_of point (moves_seen (whole_tables rows peer)
+        (view_by rows (whole_tables rows) peer (moves_in past)) name)
+        ≡ option_map (renumbered_hold (peer_number rows peer))
+        (hold_of point (device_moves name (steps_in rows (whole_tables rows) (moves_in past)))) }
+    ensures numbers { (rows : CentreRows) (peer one other : ℕ) (name : List ℕ) → IsCentre rows
+        → is_some (device_named (whole_tables rows one) name) ≡ true
+        → is_some (device_named (whole_tables rows other) name) ≡ true
+        → peer_number rows peer one ≡ peer_number rows peer other → one ≡ other }
+    ensures tag { (rows : CentreRows) (moves : List Move) (peer : ℕ) (name : List ℕ)
+        → is_some (device_named (whole_tables rows peer) name) ≡ true
+        → tag_of (moves_seen (whole_tables rows peer)
+        (view_by rows (whole_tables rows) peer moves) name)
+        ≡ tag_of (device_moves name (steps_in rows (whole_tables rows) moves)) }
+{}
+
+/// A peer is answered that its write of a number to a device is done exactly where it is permitted
+/// over all moves of the node; a device that isn't direct is then held by this association, and so
+/// by no other one, until a moment that is to come.
+pub fn orders_are_answered()
+    ensures answered { (rows : CentreRows) (past : Past) (key : Key) (name : ObjectName)
+        (d : OwnDevice) (value : Datum) (number : ℤ) → IsCentre rows
+        → object_named (held (whole_tables rows key.peer)
+        (view_by rows (whole_tables rows) key.peer (moves_in past))) name ≡ Some (control_point d)
+        → number_in value ≡ Some number
+        → (object_written (whole_tables rows key.peer)
+        (view_by rows (whole_tables rows) key.peer (moves_in past)) key.ordinal
+        (Some (control_point d)) value ≡ None)
+        ↔ (permits (control_of d)
+        (device_moves d.row.name (steps_in rows (whole_tables rows) (moves_in past))) key number
+        ≡ true) }
+    ensures held { (rows : CentreRows) (past : Past) (key : Key) (name : ObjectName)
+        (d : OwnDevice) (number : ℤ) → IsCentre rows
+        → object_named (held (whole_tables rows key.peer)
+        (view_by rows (whole_tables rows) key.peer (moves_in past))) name ≡ Some (control_point d)
+        → d.row.direct ≡ false
+        → permits (control_of d)
+        (device_moves d.row.name (steps_in rows (whole_tables rows) (moves_in past))) key number
+        ≡ true
+        → (until : ℕ) × (hold_of (control_of d)
+        (device_moves d.row.name (steps_in rows (whole_tables rows) (moves_in past)))
+        ≡ Some (record { key = key; until = until }))
+        × (moment_of (steps_in rows (whole_tables rows) (moves_in past)) < until) }
 {}

@@ -1,5 +1,5 @@
 //! Events, calls and replies of a TASE.2 node, what events weigh, and the definitions by which the
-//! node is judged: associations, a peer's own table, a peer's view of the history, and the answer
+//! node is judged: associations, a peer's own tables, a peer's view of the history, and the answer
 //! to each event.
 #![tactic(auto)]
 
@@ -14,9 +14,9 @@ pub use call::{Call, CallKind, DOMAINS, NAMED_VARIABLE_LISTS, NAMED_VARIABLES, V
 pub use event::{Entry, Event, EventKind};
 pub use fault::StepFault;
 pub use laws::{
-    devices_are_held_once, devices_are_seen_as_they_are, due_conditions_are_those,
-    others_are_unseen, refusals_are_of_the_seat, seats_are_unseen, two_worlds,
-    two_worlds_answer_alike, unseen_moves_change_nothing, views_are_of_entries,
+    devices_are_seen_as_they_are, due_conditions_are_those, nothing_is_made_without_offers,
+    orders_are_answered, others_are_unseen, refusals_are_of_the_seat, seats_are_unseen, two_worlds,
+    unseen_moves_change_nothing, what_a_peer_is_not_shown,
 };
 pub use reply::{
     ACCESS_DENIED, ACCESS_ERRORS, Answer, DEFINITION_ERRORS, EXISTS, NAMES_LIMIT, NON_EXISTENT,

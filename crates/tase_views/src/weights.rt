@@ -3,7 +3,7 @@ ghost use Rattle.std.specs.Prelude.{◌≡◌, ◌≤◌, length, flat_map};
 ghost use Rattle.plain_text.specs.Lengths.{capped_len};
 ghost use Rattle.plain_text.specs.declared.lengths.TheConstants.{MOST_LEN};
 ghost use Rattle.tase_points.specs.declared.body.Body.{Body as AnyBody};
-ghost use Rattle.tase_views.specs.declared.event.EventKind.TheVariants.{Update};
+ghost use Rattle.tase_views.specs.declared.event.EventKind.TheVariants.{Update, Table};
 ghost use Rattle.tase_views.specs.declared.call.CallKind.{CallKind as AnyCall};
 ghost use Rattle.tase_views.specs.EventTexts.{call_text, read_verb, next_name};
 ghost use Rattle.tase_views.specs.EventTexts.{read_set_verb, next_value};
@@ -29,8 +29,16 @@ pub fn weight(event: &Event) -> u64
         EventKind::Take => 4,
         EventKind::Close => 5,
         EventKind::Update { point, value } => update_len(*point, value),
+        EventKind::Table { peer, variant } => table_len(*peer, *variant),
         EventKind::Stop => 4,
     }
+}
+
+/// How many octets the text of a choice of a table has.
+fn table_len(peer: u32, variant: u32) -> u64
+    ensures { result ≡ weight (Table peer variant) }
+{
+    7 + decimal_len(u64::from(peer)) + decimal_len(u64::from(variant))
 }
 
 /// How many octets the text of an update has.

@@ -1,6 +1,6 @@
 -- What is due at later moments, and from later ones on.
 use Rattle.std.proofs.Common.{◌≡◌, ◌↔◌, ℕ, ◌+◌, ◌*◌, ◌<◌, ◌≤◌, true, false, Option, sym, ◌∙◌}
-use Rattle.std.proofs.Common.{arith, ⊎_elim}
+use Rattle.std.proofs.Common.{inl, inr, arith, ⊎_elim}
 use Rattle.std.proofs.lemmas.Bool.{cases_lt, false≢true}
 use Rattle.transfer_sets.specs.Wishes.{HasCondition}
 use Rattle.transfer_sets.specs.SlotState.{SlotState}
@@ -50,8 +50,14 @@ due_later s from to later a b le x y = record {
     p.1,
     longer s.base (milliseconds s.wish.integrity) from to later le p.2,
   );
-  change = λ h. let p = x.change.0 h in
-      y.change.1 (p.0, p.1, waited s.noted (milliseconds s.wish.buffer) to later le p.2);
+  change = λ h. let p = x.change.0 h in y.change.1 (
+    p.0,
+    p.1,
+    elim p.2 [
+      | inl first ↦ inl (waited s.first (milliseconds s.wish.buffer) to later le first)
+      | inr full ↦ inr full
+    ],
+  );
 }
 
 none_128 : HasCondition 0 128 → ⊥

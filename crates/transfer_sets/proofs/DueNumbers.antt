@@ -1,22 +1,25 @@
 -- The conditions that are due are one number.
 use Rattle.std.proofs.Common.{◌≡◌, ◌↔◌, ℕ, ◌+◌, ◌-◌, ◌*◌, ◌/◌, ◌%◌, ◌==◌, ◌<◌, ◌≤◌, nat_lt, nat_le}
-use Rattle.std.proofs.Common.{Bool, true, false, ◌&&◌, Option, Some, None, Decides}
+use Rattle.std.proofs.Common.{Bool, true, false, ◌&&◌, ◌||◌, Option, Some, None, length, Decides}
 use Rattle.std.proofs.Common.{refl, sym, subst, arith}
 use Rattle.std.proofs.Math.Nat.{le-div_iff_mul-le}
-use Rattle.std.proofs.lemmas.Bool.Decides.{Decides-eqb, Decides-and}
+use Rattle.std.proofs.lemmas.Bool.Decides.{Decides-eqb, Decides-and, Decides-or}
 use Rattle.std.proofs.lemmas.Bool.Decides.{nat_tests}
 use Rattle.transfer_sets.specs.Wishes.{HasCondition, has}
 use Rattle.transfer_sets.specs.SlotState.{SlotState}
-use Rattle.transfer_sets.specs.Due.{PassesMultiple, HasWaited, AreDue, passes_multiple, has_waited}
+use Rattle.transfer_sets.specs.Due.{PassesMultiple, HasWaited, IsFull, AreDue}
+use Rattle.transfer_sets.specs.Due.{passes_multiple, has_waited, is_full}
 use Rattle.transfer_sets.specs.Due.{milliseconds, sum_of, conditions_due}
 
 same_bit : (a b : ℕ) → (a % 2 ≡ 1 → b % 2 ≡ 1) → (b % 2 ≡ 1 → a % 2 ≡ 1) → a % 2 ≡ b % 2
 same_bit a b f g = grind arith
 
 -- what two numbers that have the same conditions are
-same_conditions : (a b : ℕ) → (HasCondition a 128 → HasCondition b 128) → (HasCondition b 128 → HasCondition a 128)
-    → (HasCondition a 64 → HasCondition b 64) → (HasCondition b 64 → HasCondition a 64) → (HasCondition a 32 → HasCondition b 32)
-    → (HasCondition b 32 → HasCondition a 32) → a % 32 ≡ 0 → b % 32 ≡ 0 → a < 256 → b < 256 → a ≡ b
+same_conditions : (a b : ℕ)
+    → (HasCondition a 128 → HasCondition b 128) → (HasCondition b 128 → HasCondition a 128)
+    → (HasCondition a 64 → HasCondition b 64) → (HasCondition b 64 → HasCondition a 64)
+    → (HasCondition a 32 → HasCondition b 32) → (HasCondition b 32 → HasCondition a 32)
+    → a % 32 ≡ 0 → b % 32 ≡ 0 → a < 256 → b < 256 → a ≡ b
 same_conditions a b f g h i j k p q r s =
     let x = same_bit (a / 128) (b / 128) f g in
     let y = same_bit (a / 64) (b / 64) h i in
@@ -105,6 +108,12 @@ waited-Decides (Some first) buffer to = (
         → nat_le (first + buffer) to ≡ true
     in_test first other buffer to same h = grind (arith, nat_tests)
 
+full-Decides : (s : SlotState) → Decides (is_full s) (IsFull s)
+full-Decides s = Decides-and _ _ (λ e. e, λ e. e) (at_least 500 (length s.noted))
+  where
+    at_least : (a b : ℕ) → Decides (nat_le a b) (a ≤ b)
+    at_least a b = (λ e. grind (arith, nat_tests), λ h. grind (arith, nat_tests))
+
 -- a sum of conditions has those that hold
 sum_interval : (x y z : Bool) → HasCondition (sum_of x y z) 128 ↔ (x ≡ true)
 sum_interval true true true = (λ h. refl, λ e. refl)
@@ -164,7 +173,7 @@ pub some_number : (s : SlotState) (from to : ℕ) → AreDue s from to (conditio
 some_number s from to =
     let interval = passes_multiple s.base (milliseconds s.wish.interval) from to in
     let integrity = passes_multiple s.base (milliseconds s.wish.integrity) from to in
-    let change = has_waited s.noted (milliseconds s.wish.buffer) to in
+    let change = has_waited s.first (milliseconds s.wish.buffer) to || is_full s in
     let x = s.wish.status && has s.wish.conditions 128 && interval in
     let y = s.wish.status && has s.wish.conditions 64 && integrity in
     let z = s.wish.status && has s.wish.conditions 32 && change in record {
@@ -173,6 +182,7 @@ some_number s from to =
       integrity = holds s.wish.status s.wish.conditions 64 integrity _ _
           (passes-Decides s.base (milliseconds s.wish.integrity) from to) (sum_integrity x y z);
       change = holds s.wish.status s.wish.conditions 32 change _ _
-          (waited-Decides s.noted (milliseconds s.wish.buffer) to) (sum_change x y z);
+          (Decides-or _ _ (waited-Decides s.first (milliseconds s.wish.buffer) to) (full-Decides s))
+          (sum_change x y z);
       no_others = sum_small x y z;
     }

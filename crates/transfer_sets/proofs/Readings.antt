@@ -9,9 +9,9 @@ use Rattle.std.proofs.lemmas.Bool.Decides.{nat_tests}
 use lib.Signed.{le_z_yes}
 use Rattle.std.proofs.lemmas.Int.{ints}
 use Rattle.ber_values.specs.Bits.{Bits}
-use Rattle.mms_data.specs.Datum.{Datum, boolean, integer, unsigned, bits, real, octets, text}
+use Rattle.mms_data.specs.Datum.{Datum, boolean, integer, unsigned, bits, text}
 use Rattle.mms_data.specs.Lawful.{IsLawful}
-use Rattle.mms_data.specs.Datum.{structure, array, Data, no_data, datum, data_of}
+use Rattle.mms_data.specs.Datum.{structure, Data, no_data, datum, data_of}
 use Rattle.point_data.specs.Parts.{list_of, structure_members, integer_part}
 use Rattle.transfer_sets.specs.declared.parts.Numbers.{Numbers}
 use Rattle.transfer_sets.specs.declared.parts.Ranged.{Ranged}
@@ -20,7 +20,8 @@ use Rattle.transfer_sets.specs.declared.wish.Wish.{Wish}
 use Rattle.transfer_sets.specs.declared.wish.WishFault.{WishFault}
 use Rattle.transfer_sets.specs.declared.wish.WishFault.TheVariants.{Form, Range}
 use Rattle.transfer_sets.specs.Wishes.{IsWish}
-use Rattle.transfer_sets.specs.Components.{is_scope, text_part, boolean_part, five_of, conditions_in}
+use Rattle.transfer_sets.specs.Components.{is_scope, text_part, boolean_part, five_of}
+use Rattle.transfer_sets.specs.Components.{conditions_in}
 use Rattle.transfer_sets.specs.Components.{is_scope_at, set_in}
 use Rattle.transfer_sets.specs.Components.{numbers_from, switches_from}
 use Rattle.transfer_sets.specs.Components.{ranged_number, ranged_code}
@@ -255,8 +256,8 @@ switches_found (Some a) (Some b) (Some c) (Some d) (Some e) n is =
 switches_found _ _ _ _ _ n is = absurd cc
 
 -- members at their places are the components
-form_of_members : (d : Datum) (t : Thirteen (structure_members d)) (s : Three (structure_members t.a))
-    → is_scope s.a ≡ true
+form_of_members : (d : Datum) (t : Thirteen (structure_members d))
+    (s : Three (structure_members t.a)) → is_scope s.a ≡ true
     → Found (text_part s.b) (text_part s.c)
     (numbers_from (integer_part t.b) (integer_part t.c) (integer_part t.d) (integer_part t.e)
     (integer_part t.f) (integer_part t.m))

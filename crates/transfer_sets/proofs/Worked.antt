@@ -1,5 +1,7 @@
 -- What is due, computed on worked slots, apart from all code.
-use Rattle.std.proofs.Common.{◌≡◌, true, false, Some, None, refl}
+use Rattle.std.proofs.Common.{◌≡◌, ℕ, true, false, replicate, Some, None, refl}
+use Rattle.tase_points.specs.declared.body.Body.TheVariants.{State}
+use Rattle.transfer_sets.specs.declared.noted.Noted.{Noted}
 use Rattle.transfer_sets.specs.declared.wish.Wish.{Wish}
 use Rattle.transfer_sets.specs.Wishes.{empty_wish, may_enable, base_of}
 use Rattle.transfer_sets.specs.SlotState.{SlotState, new_slot, enabled_by, noted_at}
@@ -48,9 +50,9 @@ abbrev on_change : Wish
 on_change = record empty_wish { buffer = 3; conditions = 32; rbe = true }
 
 abbrev changed : SlotState
-changed = record (enabled_by on_change 20000) { noted = noted_at 21000 (noted_at 20000 None) }
+changed = record (enabled_by on_change 20000) { first = noted_at 21000 (noted_at 20000 None) }
 
-first_change_is_kept : changed.noted ≡ Some 20000
+first_change_is_kept : changed.first ≡ Some 20000
 first_change_is_kept = refl
 
 not_within_the_buffer : conditions_due changed 20000 22999 ≡ 0
@@ -63,11 +65,57 @@ after_the_buffer = refl
 abbrev anew : SlotState
 anew = enabled_by changed.wish 22500
 
-cleared : anew.noted ≡ None
+cleared : anew.first ≡ None
 cleared = refl
 
 nothing_left : conditions_due anew 22500 30000 ≡ 0
 nothing_left = refl
+
+-- every change told: 499 within the buffer make none due, 500 do, and so do 501; once the buffer
+-- has run out some are enough
+abbrev all_told : Wish
+all_told = record on_change { all_changes = true }
+
+abbrev noted : Noted
+noted = record {
+  member = 4;
+  value = record { body = State 1; flags = 0; seconds = 21; millis = 0 };
+  cov = 7;
+}
+
+abbrev with_notes : Wish → ℕ → SlotState
+with_notes w n = record (enabled_by w 20000) { first = Some 21000; noted = replicate n noted }
+
+not_of_499 : conditions_due (with_notes all_told 499) 21000 22000 ≡ 0
+not_of_499 = refl
+
+of_500 : conditions_due (with_notes all_told 500) 21000 22000 ≡ 32
+of_500 = refl
+
+of_501 : conditions_due (with_notes all_told 501) 21000 22000 ≡ 32
+of_501 = refl
+
+of_499_after_the_buffer : conditions_due (with_notes all_told 499) 21000 24000 ≡ 32
+of_499_after_the_buffer = refl
+
+of_500_after_the_buffer : conditions_due (with_notes all_told 500) 21000 24000 ≡ 32
+of_500_after_the_buffer = refl
+
+-- 500 make none due without every change told, without the condition, and while not enabled
+not_without_all : conditions_due (with_notes on_change 500) 21000 22000 ≡ 0
+not_without_all = refl
+
+not_without_rbe : conditions_due (with_notes (record all_told { rbe = false }) 500) 21000 22000 ≡ 0
+not_without_rbe = refl
+
+not_without_condition :
+    conditions_due (with_notes (record all_told { conditions = 128; interval = 9 }) 500) 21000 22000
+    ≡ 0
+not_without_condition = refl
+
+not_while_off :
+    conditions_due (record (with_notes all_told 500) { wish = all_told }) 21000 22000 ≡ 0
+not_while_off = refl
 
 -- both at once, and none of a slot that isn't enabled
 abbrev both : Wish

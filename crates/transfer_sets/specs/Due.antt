@@ -1,9 +1,10 @@
 -- When a report of a slot is due.
 use Rattle.std.specs.Prelude.{◌≡◌, ◌↔◌, ℕ, ◌+◌, ◌-◌, ◌*◌, ◌/◌, ◌%◌, ◌<◌, ◌≤◌, ◌==◌, nat_lt, nat_le}
-use Rattle.std.specs.Prelude.{Bool, true, false, ◌&&◌, if◌then◌else◌, Option, Some, None}
+use Rattle.std.specs.Prelude.{Bool, true, false, ◌&&◌, ◌||◌, ◌⊎◌, if◌then◌else◌, Option, Some, None}
+use Rattle.std.specs.Prelude.{length}
 use Rattle.transfer_sets.specs.declared.wish.TheConstants.{INTERVAL, INTEGRITY, CHANGE}
 use Rattle.transfer_sets.specs.Wishes.{HasCondition, has}
-use Rattle.transfer_sets.specs.SlotState.{SlotState}
+use Rattle.transfer_sets.specs.SlotState.{SlotState, tells_all}
 
 -- a time of seconds in milliseconds
 abbrev pub milliseconds : ℕ → ℕ
@@ -19,6 +20,14 @@ PassesMultiple base period from to =
 abbrev pub HasWaited : Option ℕ → ℕ → ℕ → Type 0
 HasWaited noted buffer to = (first : ℕ) × (noted ≡ Some first) × (first + buffer ≤ to)
 
+-- how many noted changes one report tells at the most, and how many make one due
+abbrev pub noted_limit : ℕ
+noted_limit = 500
+
+-- so many changes are noted that a report of them has its full length
+abbrev pub IsFull : SlotState → Type 0
+IsFull s = (tells_all s.wish ≡ true) × (noted_limit ≤ length s.noted)
+
 -- The conditions, as their sum, that are due where the clock goes on from a moment to another:
 -- those of a slot that is enabled which its wish has, and which the time brings about.
 pub record AreDue (s : SlotState) (from to conditions : ℕ) : Type 0 where
@@ -30,7 +39,7 @@ pub record AreDue (s : SlotState) (from to conditions : ℕ) : Type 0 where
       × PassesMultiple s.base (milliseconds s.wish.integrity) from to)
   pub change : HasCondition conditions CHANGE
       ↔ ((s.wish.status ≡ true) × HasCondition s.wish.conditions CHANGE
-      × HasWaited s.noted (milliseconds s.wish.buffer) to)
+      × (HasWaited s.first (milliseconds s.wish.buffer) to ⊎ IsFull s))
   pub no_others : (conditions % CHANGE ≡ 0) × (conditions < 256)
 
 -- what the first conditions have, the second have too
@@ -59,6 +68,10 @@ abbrev pub has_waited : Option ℕ → ℕ → ℕ → Bool
 has_waited None buffer to = false
 has_waited (Some first) buffer to = nat_le (first + buffer) to
 
+-- whether a report of the noted changes has its full length
+abbrev pub is_full : SlotState → Bool
+is_full s = tells_all s.wish && nat_le noted_limit (length s.noted)
+
 -- the sum of the conditions that hold
 abbrev pub sum_of : Bool → Bool → Bool → ℕ
 sum_of interval integrity change =
@@ -74,4 +87,4 @@ conditions_due s from to =
     (s.wish.status && has s.wish.conditions INTEGRITY
     && passes_multiple s.base (milliseconds s.wish.integrity) from to)
     (s.wish.status && has s.wish.conditions CHANGE
-    && has_waited s.noted (milliseconds s.wish.buffer) to)
+    && (has_waited s.first (milliseconds s.wish.buffer) to || is_full s))

@@ -1,11 +1,12 @@
 //! What holds of all wishes, and of all slots.
-ghost use Rattle.std.specs.Prelude.{◌≡◌, ◌↔◌, ◌≤◌, ℕ, Bool, true, false, List, ◌∷◌, Ok};
+ghost use Rattle.std.specs.Prelude.{◌≡◌, ◌↔◌, ◌≤◌, ℕ, true, false, List, [], ◌∷◌, Ok};
 ghost use Rattle.transfer_sets.specs.declared.wish.Wish.{Wish};
 ghost use Rattle.transfer_sets.specs.Wishes.{IsWish};
 ghost use Rattle.transfer_sets.specs.Components.{wish_in};
 ghost use Rattle.transfer_sets.specs.WishData.{shown_wish};
 ghost use Rattle.transfer_sets.specs.SlotState.{SlotState, IsSlotLike};
-ghost use Rattle.transfer_sets.specs.SlotMoves.{SlotMove, changes, FollowsMoves};
+ghost use Rattle.transfer_sets.specs.SlotMoves.{SlotMove, PointChange, Places, changes};
+ghost use Rattle.transfer_sets.specs.SlotMoves.{FollowsMoves};
 ghost use Rattle.transfer_sets.specs.Due.{AreDue, HasConditions, IsNextDue, conditions_due};
 
 /// A wish that is shown as data is read back as itself.
@@ -36,20 +37,19 @@ pub fn due_conditions_last()
         → AreDue s from between 0 → IsNextDue s from to ↔ IsNextDue s between to }
 {}
 
-/// Slots that the same moves have brought where they stand have equal wishes, and are equal where
-/// these enable them; and those that are so alike have the same conditions due. A slot still stands
-/// where the moves have brought it once a point has changed that is no member, or, while it isn't
-/// enabled, any point; and then also over other members.
+/// Slots that the same moves have brought where they stand have equal wishes, and where these
+/// enable them they know the same; and those that are so alike have the same conditions due. A slot
+/// still stands where the moves have brought it once a point has changed that no member names, or,
+/// while it isn't enabled, any point; and then also over other members.
 pub fn slots_follow_their_moves()
-    ensures alike { (is_member : List ℕ → Bool) (moves : List SlotMove) (s other : SlotState)
-        → FollowsMoves is_member moves s → FollowsMoves is_member moves other
-        → IsSlotLike s other }
+    ensures alike { (places : Places) (moves : List SlotMove) (s other : SlotState)
+        → FollowsMoves places moves s → FollowsMoves places moves other → IsSlotLike s other }
     ensures due { (s other : SlotState) (from to conditions : ℕ) → IsSlotLike s other
         → AreDue s from to conditions → AreDue other from to conditions }
-    ensures others { (is_member : List ℕ → Bool) (moves : List SlotMove) (s : SlotState)
-        (point : List ℕ) (now : ℕ) → FollowsMoves is_member moves s
-        → (s.wish.status ≡ true → is_member point ≡ false)
-        → FollowsMoves is_member (changes point now ∷ moves) s }
-    ensures members { (is_member other : List ℕ → Bool) (moves : List SlotMove) (s : SlotState)
-        → s.wish.status ≡ false → FollowsMoves is_member moves s → FollowsMoves other moves s }
+    ensures others { (places : Places) (moves : List SlotMove) (s : SlotState)
+        (change : PointChange) → FollowsMoves places moves s
+        → (s.wish.status ≡ true → places change.point ≡ [])
+        → FollowsMoves places (changes change ∷ moves) s }
+    ensures members { (places other : Places) (moves : List SlotMove) (s : SlotState)
+        → s.wish.status ≡ false → FollowsMoves places moves s → FollowsMoves other moves s }
 {}

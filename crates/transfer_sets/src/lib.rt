@@ -3,6 +3,7 @@
 #![tactic(auto)]
 
 mod laws;
+mod noted;
 mod parts;
 mod reading;
 mod slot;
@@ -12,8 +13,9 @@ mod writing;
 pub use laws::{
     due_conditions_last, due_is_one_number, shown_wishes_are_read, slots_follow_their_moves,
 };
+pub use noted::Noted;
 pub use reading::read_wish;
-pub use slot::Slot;
+pub use slot::{NOTED_LIMIT, Slot};
 pub use wish::{
     CHANGE, EXTERNAL, INTEGRITY, INTERVAL, NUMBER_LIMIT, OPERATOR, Wish, WishFault, base_of,
     may_enable,

@@ -1,16 +1,22 @@
 //! One transfer set of a peer.
-ghost use Rattle.std.specs.Prelude.{◌≡◌, ◌↔◌, ◌%◌, ◌<◌, ℕ, Bool, IsTrue, true, false, List, ◌∷◌};
-ghost use Rattle.std.specs.Prelude.{None};
+ghost use Rattle.std.specs.Prelude.{◌≡◌, ◌↔◌, ◌⊎◌, ◌+◌, ◌%◌, ◌<◌, ◌≤◌, ◌++◌, ℕ, IsTrue, true};
+ghost use Rattle.std.specs.Prelude.{false, List, [], ◌∷◌, map, length, None, IsOk, OnOk, OnErr};
 ghost use Rattle.transfer_sets.specs.SlotState.{new_slot, with_status, enabled_by, noted_at};
+ghost use Rattle.transfer_sets.specs.SlotState.{tells_all};
 ghost use Rattle.transfer_sets.specs.SlotMoves.{SlotMove, handed_out, wishes, changes, reports};
-ghost use Rattle.transfer_sets.specs.SlotMoves.{last_wish, slot_in, FollowsMoves};
-ghost use Rattle.transfer_sets.specs.Due.{PassesMultiple, HasWaited, AreDue};
+ghost use Rattle.transfer_sets.specs.SlotMoves.{Places, last_wish, slot_in, FollowsMoves};
+ghost use Rattle.transfer_sets.specs.Due.{PassesMultiple, HasWaited, IsFull, AreDue, milliseconds};
 ghost use Rattle.transfer_sets.specs.Wishes.{HasCondition};
 
+use crate::noted::Noted;
 use crate::wish::{CHANGE, INTEGRITY, INTERVAL, Wish, base_of, has};
 use ber_values::Visible;
-use std::alloc::Global;
+use std::alloc::{AllocError, Global};
 use std::marker::Model;
+use tase_points::PointValue;
+
+/// How many noted changes one report tells at the most, and how many make one due.
+pub const NOTED_LIMIT: usize = 500;
 
 /// A transfer set: what is wished of it, and what it knows of the time and of changes. All moments
 /// are in milliseconds since 1970.
@@ -19,23 +25,28 @@ pub struct Slot {
     /// Its status says whether the slot is enabled.
     wish: Wish,
     base: u64,
-    noted: Option<u64>,
+    first: Option<u64>,
+    noted: Vec<Noted>,
 }
 
 impl Model for Slot {
-    ghost use Rattle.transfer_sets.specs.SlotState.{SlotState};
+    ghost use Rattle.std.specs.Prelude.{◌-◌, vec_len, vec_capacity};
+    ghost use Rattle.transfer_sets.specs.SlotState.{KeptSlot};
 
-    ghost Value = { SlotState };
+    ghost Value = { KeptSlot };
 
-    ghost view = { λ s. record { wish = s.wish; base = s.base; noted = s.noted } };
+    ghost view = { λ s. record {
+      state = record { wish = s.wish; base = s.base; first = s.first; noted = s.noted.items };
+      spare = vec_capacity s.noted - vec_len s.noted;
+    } };
 }
 
 impl Slot {
     /// A slot that isn't enabled and of which nothing is wished, as one is handed out.
     pub fn new(alloc: Global) -> Slot
-        ensures state { result ≡ new_slot }
-        ensures moves { (is_member : List ℕ → Bool) (moves : List SlotMove) (ordinal : ℕ)
-            → FollowsMoves is_member (handed_out ordinal ∷ moves) result }
+        ensures state { result.state ≡ new_slot }
+        ensures moves { (places : Places) (moves : List SlotMove) (ordinal : ℕ)
+            → FollowsMoves places (handed_out ordinal ∷ moves) result.state }
     {
         Slot {
             wish: Wish {
@@ -55,59 +66,74 @@ impl Slot {
                 event_code: 0,
             },
             base: 0,
-            noted: None,
+            first: None,
+            noted: Vec::new(alloc),
         }
     }
 
     /// Enables the slot with a wish, at this moment: also one that is enabled, which begins anew.
     /// The wish's status is true from now on.
     pub fn enable(&mut self, wish: Wish, now: u64)
-        ensures state { self.new ≡ enabled_by wish now }
-        ensures moves { (is_member : List ℕ → Bool) (moves : List SlotMove)
-            → FollowsMoves is_member (wishes (with_status true wish) now ∷ moves) self.new }
+        ensures state { self.new.state ≡ enabled_by wish now }
+        ensures spare { self.old.spare ≤ self.new.spare }
+        ensures moves { (places : Places) (moves : List SlotMove)
+            → FollowsMoves places (wishes (with_status true wish) now ∷ moves) self.new.state }
     {
         self.base = base_of(&wish, now);
-        self.noted = None;
+        self.first = None;
+        self.noted.clear();
         self.wish = wish;
         self.wish.status = true;
     }
 
-    /// Keeps a wish without enabling the slot. The wish's status is false from now on.
+    /// Keeps a wish without enabling the slot. The wish's status is false from now on, and no
+    /// change is noted.
     pub fn keep(&mut self, wish: Wish)
-        ensures state { self.new ≡ record self.old { wish = with_status false wish } }
-        ensures moves { (is_member : List ℕ → Bool) (moves : List SlotMove) (now : ℕ)
-            → FollowsMoves is_member (wishes (with_status false wish) now ∷ moves) self.new }
+        ensures state { self.new.state
+            ≡ record self.old.state { wish = with_status false wish; first = None; noted = [] } }
+        ensures spare { self.old.spare ≤ self.new.spare }
+        ensures moves { (places : Places) (moves : List SlotMove) (now : ℕ)
+            → FollowsMoves places (wishes (with_status false wish) now ∷ moves) self.new.state }
     {
+        self.first = None;
+        self.noted.clear();
         self.wish = wish;
         self.wish.status = false;
     }
 
-    /// Ends the reports of the slot. The wish is kept, its status is false from now on.
+    /// Ends the reports of the slot. The wish is kept, its status is false from now on, and no
+    /// change is noted.
     pub fn disable(&mut self)
-        ensures state { self.new
-            ≡ record self.old { wish = with_status false self.old.wish } }
-        ensures moves { (is_member : List ℕ → Bool) (moves : List SlotMove) (now : ℕ)
-            → FollowsMoves is_member moves self.old
-            → FollowsMoves is_member
-            (wishes (with_status false (last_wish moves).0) now ∷ moves) self.new }
+        ensures state { self.new.state ≡ record self.old.state {
+          wish = with_status false self.old.state.wish;
+          first = None;
+          noted = [];
+        } }
+        ensures spare { self.old.spare ≤ self.new.spare }
+        ensures moves { (places : Places) (moves : List SlotMove) (now : ℕ)
+            → FollowsMoves places moves self.old.state
+            → FollowsMoves places
+            (wishes (with_status false (last_wish moves).0) now ∷ moves) self.new.state }
     {
+        self.first = None;
+        self.noted.clear();
         self.wish.status = false;
     }
 
     /// The conditions, as their sum, on which a report is due where the clock goes on from a moment
     /// to another: none of a slot that isn't enabled, however many multiples go by.
     pub fn due(&self, from: u64, to: u64) -> u8
-        ensures due { AreDue self.now from to result }
-        ensures moves { (is_member : List ℕ → Bool) (moves : List SlotMove)
-            → FollowsMoves is_member moves self.now
-            → AreDue (slot_in is_member moves) from to result }
+        ensures due { AreDue self.now.state from to result }
+        ensures moves { (places : Places) (moves : List SlotMove)
+            → FollowsMoves places moves self.now.state
+            → AreDue (slot_in places moves) from to result }
     {
         self.conditions(from, to)
     }
 
     /// The conditions that are due, as their sum.
     fn conditions(&self, from: u64, to: u64) -> u8
-        ensures { AreDue self.now from to result }
+        ensures { AreDue self.now.state from to result }
     {
         if !self.wish.status {
             return 0;
@@ -117,43 +143,127 @@ impl Slot {
             && passes_multiple(self.base, u64::from(self.wish.interval) * 1000, from, to);
         let integrity = has(wished, INTEGRITY)
             && passes_multiple(self.base, u64::from(self.wish.integrity) * 1000, from, to);
-        let change = has(wished, CHANGE)
-            && has_waited(self.noted, u64::from(self.wish.buffer) * 1000, to);
+        let change = has(wished, CHANGE) && self.has_changes(to);
         sum_of(interval, integrity, change)
+    }
+
+    /// Whether changes are to be told at this moment: the first has waited for the time of the
+    /// buffer, or so many are noted that a report of them has its full length.
+    fn has_changes(&self, to: u64) -> bool
+        ensures { IsTrue result
+            ↔ (HasWaited self.now.state.first (milliseconds self.now.state.wish.buffer) to
+            ⊎ IsFull self.now.state) }
+    {
+        has_waited(self.first, u64::from(self.wish.buffer) * 1000, to) || self.is_full()
+    }
+
+    /// Whether a report of the noted changes has its full length.
+    fn is_full(&self) -> bool
+        ensures { IsTrue result ↔ IsFull self.now.state }
+    {
+        self.wish.rbe && self.wish.all_changes && self.noted.len() >= NOTED_LIMIT
+    }
+
+    /// Makes room for this many further notes, so that they take no memory. After want of memory
+    /// the slot is as before.
+    pub fn room(&mut self, n: usize) -> Result<(), AllocError>
+        ensures state { self.new.state ≡ self.old.state }
+        ensures spare { self.old.spare ≤ self.new.spare }
+        ensures ok { OnOk result (n ≤ self.new.spare) }
+        ensures err { OnErr result (self.new ≡ self.old) }
+        ensures succeeds { n ≤ self.old.spare → IsOk result }
+    {
+        self.noted.reserve(n)
     }
 
     /// Notes that a member of the data set has changed at this moment.
     pub fn note_change(&mut self, now: u64)
-        ensures state { self.new ≡ record self.old { noted = noted_at now self.old.noted } }
-        ensures moves { (is_member : List ℕ → Bool) (moves : List SlotMove) (point : List ℕ)
-            → FollowsMoves is_member moves self.old
-            → (self.old.wish.status ≡ true → is_member point ≡ true)
-            → FollowsMoves is_member (changes point now ∷ moves) self.new }
+        ensures { self.new ≡ record self.old {
+          state = record self.old.state { first = noted_at now self.old.state.first };
+        } }
     {
-        if self.noted.is_none() {
-            self.noted = Some(now);
+        if self.first.is_none() {
+            self.first = Some(now);
+        }
+    }
+
+    /// Notes a member of the data set, by its place, as its point stands just after a change.
+    pub fn note_member(&mut self, member: u32, value: PointValue, cov: u16)
+        requires room { 1 ≤ self.old.spare }
+        ensures state { self.new.state ≡ record self.old.state {
+          noted = self.old.state.noted ++ record { member = member; value = value; cov = cov } ∷ [];
+        } }
+        ensures spare { self.new.spare + 1 ≡ self.old.spare }
+    {
+        self.noted.push_reserved(Noted { member, value, cov });
+    }
+
+    /// A point has changed at this moment, of which the value and the shown count of changes are
+    /// now these; the data set's members at these places name it. Where the wish has every change
+    /// told they are noted, in order. Nothing befalls a slot that isn't enabled.
+    pub fn change(&mut self, now: u64, value: PointValue, cov: u16, places: &[u32])
+        requires room { self.old.state.wish.status ≡ true → tells_all self.old.state.wish ≡ true
+            → length places.now ≤ self.old.spare }
+        ensures wish { self.new.state.wish ≡ self.old.state.wish }
+        ensures spare { self.old.spare ≤ self.new.spare + length places.now }
+        ensures moves { (members : Places) (moves : List SlotMove) (point : List ℕ)
+            → members point ≡ places.now → FollowsMoves members moves self.old.state
+            → FollowsMoves members
+            (changes (record { point = point; moment = now; value = value; count = cov }) ∷ moves)
+            self.new.state }
+    {
+        if !self.wish.status || places.is_empty() {
+            return;
+        }
+        self.note_change(now);
+        if self.wish.rbe && self.wish.all_changes {
+            self.note_members(value, cov, places);
+        }
+    }
+
+    /// Notes the members at these places, in order.
+    fn note_members(&mut self, value: PointValue, cov: u16, places: &[u32])
+        requires room { length places.now ≤ self.old.spare }
+        ensures state { self.new.state ≡ record self.old.state {
+          noted = self.old.state.noted
+              ++ map (λ member. record { member = member; value = value; cov = cov }) places.now;
+        } }
+        ensures spare { self.new.spare + length places.now ≡ self.old.spare }
+    {
+        for &member in places {
+            self.note_member(member, value, cov);
         }
     }
 
     /// Notes that a report has told all changes.
     pub fn reported(&mut self)
-        ensures state { self.new ≡ record self.old { noted = None } }
-        ensures moves { (is_member : List ℕ → Bool) (moves : List SlotMove)
-            → FollowsMoves is_member moves self.old
-            → FollowsMoves is_member (reports ∷ moves) self.new }
+        ensures state { self.new.state ≡ record self.old.state { first = None; noted = [] } }
+        ensures spare { self.old.spare ≤ self.new.spare }
+        ensures moves { (places : Places) (moves : List SlotMove)
+            → FollowsMoves places moves self.old.state
+            → FollowsMoves places (reports ∷ moves) self.new.state }
     {
-        self.noted = None;
+        self.first = None;
+        self.noted.clear();
+    }
+
+    /// The members that changed since the last report, in order, where the wish has every change
+    /// told.
+    pub fn noted(&self) -> &[Noted]
+        ensures { result.now ≡ self.now.state.noted }
+    {
+        self.noted.as_slice()
     }
 
     /// What is wished; its status says whether the slot is enabled.
     pub fn wish(&self) -> &Wish
-        ensures { result.now ≡ self.now.wish }
+        ensures { result.now ≡ self.now.state.wish }
     {
         &self.wish
     }
 
     pub fn enabled(&self) -> bool
-        ensures { result ≡ self.now.wish.status }
+        ensures { result ≡ self.now.state.wish.status }
     {
         self.wish.status
     }

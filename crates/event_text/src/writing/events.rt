@@ -20,6 +20,7 @@ pub(crate) fn put_event(out: &mut Vec<u8>, event: &Event) -> Result<(), AllocErr
         EventKind::Take => out.extend_from_slice(b"take"),
         EventKind::Close => out.extend_from_slice(b"close"),
         EventKind::Update { point, value } => put_update(out, *point, value),
+        EventKind::Table { peer, variant } => put_choice(out, *peer, *variant),
         EventKind::Stop => out.extend_from_slice(b"stop"),
     }
 }
@@ -56,6 +57,19 @@ fn put_update(out: &mut Vec<u8>, point: u32, value: &PointValue) -> Result<(), A
     push_decimal(out, u64::from(point))?;
     out.push(b' ')?;
     put_value(out, value)
+}
+
+/// Appends `table`, a peer's number and that of a table of it.
+#[tactic(auto, using(crate::proofs::Extended::extended))]
+fn put_choice(out: &mut Vec<u8>, peer: u32, variant: u32) -> Result<(), AllocError>
+    ensures ok { OnOk result (out.new.items
+        ≡ out.old.items ++ codes "table " ++ decimal peer ++ 32 ∷ decimal variant) }
+    ensures err { OnErr result (Extends out.old.items out.new.items) }
+{
+    out.extend_from_slice(b"table ")?;
+    push_decimal(out, u64::from(peer))?;
+    out.push(b' ')?;
+    push_decimal(out, u64::from(variant))
 }
 
 /// Appends a body, its flags, its seconds and its milliseconds.

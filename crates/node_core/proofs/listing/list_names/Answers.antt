@@ -1,8 +1,7 @@
 -- Each class that may be listed, and the others.
 use Rattle.std.proofs.Common.{◌≡◌, ℕ, Bool, true, false, ◌&&◌, List, [], ◌∷◌, map, filter, refl}
-use Rattle.std.proofs.Common.{sym, ap}
-use Rattle.std.proofs.Common.{◌∙◌, subst}
-use Rattle.std.specs.Prelude.{IfOk, ℤ}
+use Rattle.std.proofs.Common.{sym, ap, ◌∙◌, subst}
+use Rattle.std.specs.Prelude.{ℤ}
 use Rattle.std.specs.Int.{w64}
 use Rattle.std.specs.List.{All}
 use Rattle.std.specs.Ordering.{int_eq}
@@ -11,15 +10,13 @@ use Rattle.mms_data.specs.ObjectName.{IsIdentifier}
 use Rattle.bilateral.specs.declared.rows.Table.{Table}
 use Rattle.tase_views.specs.declared.call.TheConstants.{NAMED_VARIABLES, NAMED_VARIABLE_LISTS}
 use Rattle.tase_views.specs.declared.call.TheConstants.{DOMAINS}
-use Rattle.tase_views.specs.declared.reply.ReplyKind.{ReplyKind}
-use Rattle.tase_views.specs.OwnTable.{own_table, is_scope_of}
-use Rattle.tase_views.specs.Objects.{own_objects}
+use Rattle.tase_views.specs.OwnTables.{OwnTable, is_scope_of}
+use Rattle.tase_views.specs.Objects.{objects}
 use Rattle.tase_views.specs.Answers.{set_names}
-use Rattle.tase_views.specs.NameLists.{first_of, in_order, is_after, is_vmd}
-use Rattle.node_core.proofs.Listed.{variables-named, domain-named}
+use Rattle.tase_views.specs.NameLists.{first_of, in_order, is_after, is_vmd, names_listed}
+use Rattle.node_core.specs.Found.{offered}
+use Rattle.node_core.proofs.Listed.{variables-named, domain-named, sets-named, listed_in_force}
 use Rattle.node_core.proofs.Listed.{listed_variables, listed_domain, listed_nothing, listed_sets}
-use Rattle.node_core.proofs.Listed.{sets-named}
-use Rattle.node_core.proofs.Names.{table_of-slice_get}
 use Rattle.node_core.proofs.listing.list_names.Goals as goal
 use Rattle.node_core.proofs.listing.list_names.Goals.{else-is_class-2-via-then-is_class-2+else-is_vmd}
 use Rattle.node_core.proofs.listing.list_names.Goals.{else-is_class-2-via-else-is_class-2}
@@ -32,76 +29,69 @@ pub first_of-requires : goal.first_of-requires
 first_of-requires c =
     subst (λ (names : List (List ℕ)). All IsIdentifier names)
     (sym (ap (map (λ name. name.now)) c.as_mut_slice.ensures.value ∙ c.in_ok-names.ensures))
-    (variables-named c.args.centre.now c.args.peer c.args.scope.now c.args.after.now
-    c.requires.lawful c.requires.known)
-
-pub returns-then-is_class-clause-value : goal.returns-then-is_class-clause-value
-returns-then-is_class-clause-value c = λ view b.
-    let rows = c.args.centre.now in
-    let table = own_table rows c.args.peer in
-    let same = table_of-slice_get rows c.args.peer c.table.result.now c.table.ensures in
-    let plain = to_z-of_z w64 c.args.class c.ranges.class in
-    let own = sym (c.is_foreign.ensures table (ap (λ (t : Table). t.domain) same))
-    ∙ c.if-is_foreign.false in
-    subst (λ (kind : ReplyKind). IfOk c.first_of.result (λ reply. reply ≡ kind))
-    (ap (λ (names : List (List ℕ)). first_of (in_order names))
-    (ap (map (λ name. name.now)) c.as_mut_slice.ensures.value ∙ c.in_ok-names.ensures)
-    ∙ sym (listed_variables table (own_objects table) (set_names table view) c.args.class
-    c.args.scope.now c.args.after.now own
-    (sym (c.is_class.ensures ∙ ap (λ (z : ℤ). int_eq z NAMED_VARIABLES) plain)
-    ∙ c.if-is_class.true)))
-    c.first_of.ensures.value
+    (variables-named c.args.table.now c.args.scope.now c.args.after.now c.table.ensures.centre
+    c.table.ensures.lawful)
 
 pub first_of-requires-then-is_vmd : goal.first_of-requires-then-is_vmd
 first_of-requires-then-is_vmd c =
-    let rows = c.args.centre.now in
-    let same = table_of-slice_get rows c.args.peer c.table.result.now c.table.ensures in
-    let domain = ap (λ (t : Table). filter (is_after c.args.after.now) (t.domain ∷ [])) same in
     subst (λ (names : List (List ℕ)). All IsIdentifier names)
     (sym (ap (map (λ name. name.now)) c.as_mut_slice-then-is_vmd.ensures.value
-    ∙ c.in_ok-names-2.ensures ∙ sym domain))
-    (domain-named rows c.args.peer c.args.after.now c.requires.lawful c.requires.known)
+    ∙ c.in_ok-names-2.ensures))
+    (domain-named c.table.result.now.domain c.args.after.now
+    (rw c.table.ensures.table c.table.ensures.lawful.domain))
+
+pub first_of-requires-then-is_class-3 : goal.first_of-requires-then-is_class-3
+first_of-requires-then-is_class-3 c =
+    let table = offered c.args.table.now in
+    let domain = ap (λ (x : Table). x.domain) (sym c.table.ensures.table) in
+    subst (λ (names : List (List ℕ)). All IsIdentifier names)
+    (sym (ap (map (λ name. name.now)) c.as_mut_slice-then-is_class-3.ensures.value
+    ∙ c.in_ok-names-3.ensures table domain))
+    (sets-named (is_scope_of table c.args.scope.now false) c.args.book.now.sets c.args.after.now
+    c.requires.named)
+
+pub returns-then-is_class-clause-value : goal.returns-then-is_class-clause-value
+returns-then-is_class-clause-value c = λ tables view in_force b.
+    let table = offered c.args.table.now in
+    let domain = ap (λ (x : Table). x.domain) (sym c.table.ensures.table) in
+    let plain = to_z-of_z w64 c.args.class c.ranges.class in
+    let own = sym (c.is_foreign.ensures table domain) ∙ c.if-is_foreign.false in
+    let variables = sym (c.is_class.ensures ∙ ap (λ (z : ℤ). int_eq z NAMED_VARIABLES) plain) in
+    listed_in_force c.first_of.result _ c.args.table.now tables view c.args.class c.args.scope.now
+    c.args.after.now in_force
+    (ap (λ (names : List (List ℕ)). first_of (in_order names))
+    (ap (map (λ name. name.now)) c.as_mut_slice.ensures.value ∙ c.in_ok-names.ensures)
+    ∙ sym (listed_variables table (objects table) (set_names tables view) c.args.class
+    c.args.scope.now c.args.after.now own
+    (variables ∙ c.if-is_class.true)))
+    c.first_of.ensures.value
 
 pub returns-then-is_vmd-clause-value : goal.returns-then-is_vmd-clause-value
-returns-then-is_vmd-clause-value c = λ view b.
-    let rows = c.args.centre.now in
-    let table = own_table rows c.args.peer in
-    let same = table_of-slice_get rows c.args.peer c.table.result.now c.table.ensures in
-    let domain = ap (λ (t : Table). filter (is_after c.args.after.now) (t.domain ∷ [])) same in
+returns-then-is_vmd-clause-value c = λ tables view in_force b.
+    let table = offered c.args.table.now in
+    let domain = ap (λ (x : Table). x.domain) (sym c.table.ensures.table) in
     let plain = to_z-of_z w64 c.args.class c.ranges.class in
-    let own = sym (c.is_foreign.ensures table (ap (λ (t : Table). t.domain) same))
-    ∙ c.if-is_foreign.false in
-    subst (λ (kind : ReplyKind). IfOk c.first_of-then-is_vmd.result (λ reply. reply ≡ kind))
+    let own = sym (c.is_foreign.ensures table domain) ∙ c.if-is_foreign.false in
+    let variables = sym (c.is_class.ensures ∙ ap (λ (z : ℤ). int_eq z NAMED_VARIABLES) plain) in
+    listed_in_force c.first_of-then-is_vmd.result _ c.args.table.now tables view c.args.class
+    c.args.scope.now c.args.after.now in_force
     (ap (λ (names : List (List ℕ)). first_of (in_order names))
-    (ap (map (λ name. name.now)) c.as_mut_slice-then-is_vmd.ensures.value
-    ∙ c.in_ok-names-2.ensures ∙ sym domain)
-    ∙ sym (listed_domain table (own_objects table) (set_names table view) c.args.class
+    (ap (map (λ name. name.now)) c.as_mut_slice-then-is_vmd.ensures.value ∙ c.in_ok-names-2.ensures
+    ∙ ap (λ (d : List ℕ). filter (is_after c.args.after.now) (d ∷ [])) (sym domain))
+    ∙ sym (listed_domain table (objects table) (set_names tables view) c.args.class
     c.args.scope.now c.args.after.now own
-    (sym (c.is_class.ensures ∙ ap (λ (z : ℤ). int_eq z NAMED_VARIABLES) plain)
-    ∙ c.if-is_class.false)
+    (variables ∙ c.if-is_class.false)
     (sym (c.is_class-2.ensures ∙ ap (λ (z : ℤ). int_eq z DOMAINS) plain) ∙ c.if-is_class-2.true)
     (sym c.is_vmd.ensures ∙ c.if-is_vmd.true)))
     c.first_of-then-is_vmd.ensures.value
 
-pub first_of-requires-then-is_class-3 : goal.first_of-requires-then-is_class-3
-first_of-requires-then-is_class-3 c =
-    let rows = c.args.centre.now in
-    let table = own_table rows c.args.peer in
-    let same = table_of-slice_get rows c.args.peer c.table.result.now c.table.ensures in
-    subst (λ (names : List (List ℕ)). All IsIdentifier names)
-    (sym (ap (map (λ name. name.now)) c.as_mut_slice-then-is_class-3.ensures.value
-    ∙ c.in_ok-names-3.ensures table (ap (λ (t : Table). t.domain) same)))
-    (sets-named (is_scope_of table c.args.scope.now false) c.args.book.now.sets c.args.after.now
-    c.requires.named)
-
 pub returns-then-is_class-3-clause-value : goal.returns-then-is_class-3-clause-value
-returns-then-is_class-3-clause-value c = λ view b.
-    let rows = c.args.centre.now in
-    let table = own_table rows c.args.peer in
-    let same = table_of-slice_get rows c.args.peer c.table.result.now c.table.ensures in
+returns-then-is_class-3-clause-value c = λ tables view in_force b.
+    let table = offered c.args.table.now in
+    let domain = ap (λ (x : Table). x.domain) (sym c.table.ensures.table) in
     let plain = to_z-of_z w64 c.args.class c.ranges.class in
-    let own = sym (c.is_foreign.ensures table (ap (λ (t : Table). t.domain) same))
-    ∙ c.if-is_foreign.false in
+    let own = sym (c.is_foreign.ensures table domain) ∙ c.if-is_foreign.false in
+    let variables = sym (c.is_class.ensures ∙ ap (λ (z : ℤ). int_eq z NAMED_VARIABLES) plain) in
     let apart : (int_eq c.args.class DOMAINS && is_vmd c.args.scope.now) ≡ false =
     elim c.else-is_class-2.branch [
       | else-is_class-2-via-then-is_class-2+else-is_vmd w ↦
@@ -111,26 +101,24 @@ returns-then-is_class-3-clause-value c = λ view b.
           (sym (c.is_class-2.ensures ∙ ap (λ (z : ℤ). int_eq z DOMAINS) plain)
           ∙ w.if-is_class-2.false)
     ] in
-    subst (λ (kind : ReplyKind). IfOk c.first_of-then-is_class-3.result (λ reply. reply ≡ kind))
+    let lists = sym (c.is_class-3.ensures ∙ ap (λ (z : ℤ). int_eq z NAMED_VARIABLE_LISTS) plain) in
+    listed_in_force c.first_of-then-is_class-3.result _ c.args.table.now tables view c.args.class
+    c.args.scope.now c.args.after.now in_force
     (ap (λ (names : List (List ℕ)). first_of (in_order names))
     (ap (map (λ name. name.now)) c.as_mut_slice-then-is_class-3.ensures.value
-    ∙ c.in_ok-names-3.ensures table (ap (λ (t : Table). t.domain) same))
-    ∙ listed_sets table view c.args.book.now (own_objects table) c.args.class c.args.scope.now
-    c.args.after.now b own
-    (sym (c.is_class.ensures ∙ ap (λ (z : ℤ). int_eq z NAMED_VARIABLES) plain)
-    ∙ c.if-is_class.false) apart
-    (sym (c.is_class-3.ensures ∙ ap (λ (z : ℤ). int_eq z NAMED_VARIABLE_LISTS) plain)
-    ∙ c.if-is_class-3.true))
+    ∙ c.in_ok-names-3.ensures table domain)
+    ∙ sym (listed_sets table tables view c.args.book.now (objects table) c.args.class
+    c.args.scope.now c.args.after.now b own
+    (variables ∙ c.if-is_class.false) apart (lists ∙ c.if-is_class-3.true)))
     c.first_of-then-is_class-3.ensures.value
 
 pub returns-clause-value : goal.returns-clause-value
-returns-clause-value c = λ view b.
-    let rows = c.args.centre.now in
-    let table = own_table rows c.args.peer in
-    let same = table_of-slice_get rows c.args.peer c.table.result.now c.table.ensures in
+returns-clause-value c = λ tables view in_force b.
+    let table = offered c.args.table.now in
+    let domain = ap (λ (x : Table). x.domain) (sym c.table.ensures.table) in
     let plain = to_z-of_z w64 c.args.class c.ranges.class in
-    let own = sym (c.is_foreign.ensures table (ap (λ (t : Table). t.domain) same))
-    ∙ c.if-is_foreign.false in
+    let own = sym (c.is_foreign.ensures table domain) ∙ c.if-is_foreign.false in
+    let variables = sym (c.is_class.ensures ∙ ap (λ (z : ℤ). int_eq z NAMED_VARIABLES) plain) in
     let apart : (int_eq c.args.class DOMAINS && is_vmd c.args.scope.now) ≡ false =
     elim c.else-is_class-2.branch [
       | else-is_class-2-via-then-is_class-2+else-is_vmd w ↦
@@ -140,9 +128,9 @@ returns-clause-value c = λ view b.
           (sym (c.is_class-2.ensures ∙ ap (λ (z : ℤ). int_eq z DOMAINS) plain)
           ∙ w.if-is_class-2.false)
     ] in
-    sym (listed_nothing table (own_objects table) (set_names table view) c.args.class
+    let lists = sym (c.is_class-3.ensures ∙ ap (λ (z : ℤ). int_eq z NAMED_VARIABLE_LISTS) plain) in
+    sym (listed_nothing table (objects table) (set_names tables view) c.args.class
     c.args.scope.now c.args.after.now own
-    (sym (c.is_class.ensures ∙ ap (λ (z : ℤ). int_eq z NAMED_VARIABLES) plain)
-    ∙ c.if-is_class.false) apart
-    (sym (c.is_class-3.ensures ∙ ap (λ (z : ℤ). int_eq z NAMED_VARIABLE_LISTS) plain)
-    ∙ c.if-is_class-3.false))
+    (variables ∙ c.if-is_class.false) apart (lists ∙ c.if-is_class-3.false))
+    ∙ ap (λ (those : OwnTable). names_listed those (objects those) (set_names tables view)
+    c.args.class c.args.scope.now c.args.after.now) in_force

@@ -1,6 +1,6 @@
 use Rattle.std.proofs.Common.{◌≡◌, ℕ, List, true, false, map, filter, sym, ap, ◌∙◌, subst}
 use Rattle.std.specs.Prelude.{IfOk}
-use Rattle.tase_views.specs.OwnTable.{is_scope_of}
+use Rattle.tase_views.specs.OwnTables.{is_scope_of}
 use Rattle.tase_views.specs.NameLists.{is_after}
 use Rattle.node_core.proofs.OwnObjects.{specials_in-device, specials_in-domain, specials_in-nowhere}
 use Rattle.node_core.proofs.listing.specials.Goals as goal

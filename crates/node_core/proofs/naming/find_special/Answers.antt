@@ -1,5 +1,5 @@
 use Rattle.std.proofs.Common.{◌≡◌, true, false, sym, ◌∙◌}
-use Rattle.tase_views.specs.OwnTable.{is_scope_of}
+use Rattle.tase_views.specs.OwnTables.{is_scope_of}
 use Rattle.node_core.proofs.OwnObjects.{special_at-device, special_at-domain, special_at-nowhere}
 use Rattle.node_core.proofs.naming.find_special.Goals as goal
 

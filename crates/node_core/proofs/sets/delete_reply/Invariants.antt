@@ -1,11 +1,10 @@
-use Rattle.std.proofs.Common.{◌≡◌, ◌≤◌, take, length}
-use Rattle.std.specs.List.{filter}
-use Rattle.node_core.specs.SetsKept.{is_named_in}
+use Rattle.std.proofs.Common.{◌≡◌, ◌+◌, take, drop}
+use Rattle.node_core.specs.SetsKept.{left_by}
+use Rattle.node_core.proofs.Deletions.{matched_by}
 use Rattle.node_core.proofs.sets.delete_reply.Given as goal
 
-abbrev pub invariant-loop-index : goal.invariant-loop-index
-invariant-loop-index l = record {
-  below : l.count ≤ l.index;
-  counted : l.count
-      ≡ length (filter (λ set. is_named_in l.domain l.names set.name) (take l.index l.book.sets));
-}
+abbrev pub invariant-loop-place : goal.invariant-loop-place
+invariant-loop-place l =
+    l.count + matched_by l.domain (drop l.place l.names)
+    (left_by l.domain (take l.place l.names) l.book)
+    ≡ matched_by l.domain l.names l.book

@@ -1,4 +1,4 @@
-use Rattle.tase_views.specs.OwnTable.{own_table}
+use Rattle.tase_views.specs.OwnTables.{own_tables}
 use Rattle.tase_map.specs.Readings.{reading_of}
 use Rattle.tase_map.specs.Out.{talk_of}
 use Rattle.tase_map.proofs.Closing.{spent_later, closed_spent, entries_kept, octets_kept}
@@ -14,5 +14,5 @@ returns-clause-seats c past later key who closed =
 
 pub returns-clause-octets : goal.returns-clause-octets
 returns-clause-octets c rows past later key text ended closed =
-    octets_kept rows (own_table rows key.peer) (talk_of (reading_of text) ended) key later past
+    octets_kept rows (own_tables rows key.peer) (talk_of (reading_of text) ended) key later past
     (closed_spent key past closed)

@@ -1,5 +1,5 @@
 use Rattle.std.proofs.Common.{ap}
-use Rattle.tase_views.specs.OwnTable.{own_table}
+use Rattle.tase_views.specs.OwnTables.{own_tables}
 use Rattle.tase_map.specs.Readings.{reading_of}
 use Rattle.tase_map.specs.Out.{talk_of, turns_behind}
 use Rattle.tase_map.proofs.Passing.{made_apart, quiet_event, left_asked, none_sent, all_left}
@@ -8,7 +8,7 @@ use Rattle.tase_map.proofs.octet_laws.requests_are_taken_in_order.Goals as goal
 pub returns-clause-yet : goal.returns-clause-yet
 returns-clause-yet c rows past key text ended y = (
   all_left rows (talk_of (reading_of text) ended).turns key past y,
-  none_sent rows (own_table rows key.peer) (talk_of (reading_of text) ended) key past y,
+  none_sent rows (own_tables rows key.peer) (talk_of (reading_of text) ended) key past y,
 )
 
 pub returns-clause-request : goal.returns-clause-request

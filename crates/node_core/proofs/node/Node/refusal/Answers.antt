@@ -14,7 +14,7 @@ returns c =
     let past = past_of log in
     let setup : Setup = record { centre = rows; limit = log.limit } in
     let event = c.args.event.now in
-    let found = c.association.ensures rows past c.self.invariant.0 in
+    let found = c.association.ensures ∙ c.self.invariant.0.common.seated c.args.who in
     let P : NodeState → Type 0 = λ node.
     c.first_refusal.result ≡ refusal_of node.setup (reverse node.history) c.args.who event in
     let first : c.first_refusal.result ≡ refusal_of setup past c.args.who event =

@@ -1,27 +1,32 @@
-use Rattle.std.proofs.Common.{◌≤◌, ◌+◌, refl, arith}
+use Rattle.std.proofs.Common.{◌≡◌, ◌≤◌, ◌+◌, refl, arith}
 use Rattle.std.specs.Arc.{arc_value}
+use Rattle.std.specs.HashMap.{hash_map_len}
 use Rattle.tase_views.specs.declared.event.EventKind.TheVariants.{Update}
 use Rattle.tase_views.specs.Setup.{Setup}
 use Rattle.tase_views.specs.Weights.{weight, weight_of}
+use Rattle.node_core.specs.LastValues.{kinds_of, updates_in}
 use Rattle.node_core.specs.Room.{past_of}
 use Rattle.node_core.proofs.Causes.{free_in, named-update, light-fits}
 use Rattle.node_core.proofs.Outcomes.{reverse_push}
 use Rattle.node_core.proofs.Rooms.{MayAppend-reserved}
 use Rattle.node_core.proofs.Steps.{points-there}
+use Rattle.node_core.proofs.NodeSteps.{IsNode-update}
 use Rattle.node_core.proofs.node.Node.update.Goals as goal
 
 pub update-requires : goal.update-requires
 update-requires c =
+    let log = c.self.inside.log in
+    let n = c.self.invariant.0 in
     let rows = arc_value c.self.inside.centre in
-    let past = past_of c.self.inside.log in
-    let setup : Setup = record { centre = rows; limit = c.self.inside.log.limit } in
+    let past = past_of log in
+    let setup : Setup = record { centre = rows; limit = log.limit } in
     let event = Update c.args.point c.args.value in
-    let free = free_in (record { setup = setup; history = c.self.inside.log.entries.items })
-    c.args.self.now c.args.who c.args.event event c.self.view_is c.requires.update c.requires.free
-    in
+    let free = free_in (record { setup = setup; history = log.entries.items })
+    c.args.self.now c.args.who c.args.event event c.self.view_is c.requires.update
+    c.requires.free in
     record {
-      known = points-there rows past _ _ _ _ c.args.point c.args.value
-          (named-update rows c.args.point c.args.value free.named) c.self.invariant.0;
+      known = points-there rows past c.self.inside.hub.points _ c.args.who n.common c.args.point
+          c.args.value (named-update rows c.args.point c.args.value free.named);
     }
 
 pub invariant_of-self : goal.invariant_of-self
@@ -36,29 +41,30 @@ append-requires-clause-light c =
 pub invariant_of-self-2 : goal.invariant_of-self-2
 invariant_of-self-2 c =
     let log = c.self.inside.log in
+    let n = c.self.invariant.0 in
     let rows = arc_value c.self.inside.centre in
     let past = past_of log in
     let setup : Setup = record { centre = rows; limit = log.limit } in
     let event = Update c.args.point c.args.value in
     let free = free_in (record { setup = setup; history = log.entries.items })
-    c.args.self.now c.args.who c.args.event event c.self.view_is c.requires.update c.requires.free
-    in
+    c.args.self.now c.args.who c.args.event event c.self.view_is c.requires.update
+    c.requires.free in
     let fits : weight_of past + weight event ≤ log.limit =
-    light-fits setup past event refl free.light in (
+    light-fits setup past event refl free.light in
+    let same : hash_map_len c.update.new.self.seats ≡ hash_map_len c.self.inside.hub.seats =
+    rw c.update.ensures.seats refl in (
       rw (
         c.append.ensures.entries,
         c.in_ok-reserve.ensures.entries,
         reverse_push,
         c.requires.update,
-      ) (c.update.ensures.kept rows past c.self.invariant.0),
+      ) (IsNode-update rows past c.self.inside.hub c.self.inside.parts n c.args.who
+          c.update.new.self c.self.inside.parts c.args.point c.args.value
+          (c.update.ensures.kept (kinds_of rows) (updates_in past) n.common.kept)
+          c.update.ensures.seats refl),
       c.append.ensures.room _ _ (c.in_ok-reserve.ensures.room _ c.self.invariant.1)
-          (rw c.requires.update c.update.ensures.same_count)
+          (rw c.requires.update same)
           (rw c.requires.update (MayAppend-reserved log c.reserve.new.self event _ refl
           c.in_ok-reserve.ensures.limit c.in_ok-reserve.ensures.entries fits
-          (omega (
-            arith,
-            c.in_ok-reserve.ensures.ok,
-            c.open_count.ensures.count,
-            c.update.ensures.same_count,
-          )))),
+          (omega (arith, c.in_ok-reserve.ensures.ok, c.open_count.ensures.count, same)))),
     )

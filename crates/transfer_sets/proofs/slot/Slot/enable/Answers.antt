@@ -6,5 +6,5 @@ pub returns-clause-state : goal.returns-clause-state
 returns-clause-state c = search rules
 
 pub returns-clause-moves : goal.returns-clause-moves
-returns-clause-moves c = λ is_member moves. begun is_member moves c.args.wish c.args.now _
+returns-clause-moves c = λ places moves. begun places moves c.args.wish c.args.now _
     (returns-clause-state c)

@@ -1,4 +1,5 @@
-use Rattle.std.proofs.Common.{rules}
+use Rattle.std.proofs.Common.{rules, ap}
+use Rattle.transfer_sets.specs.SlotState.{SlotState}
 use Rattle.transfer_sets.proofs.Followed.{kept}
 use Rattle.transfer_sets.proofs.slot.Slot.keep.Goals as goal
 
@@ -6,5 +7,5 @@ pub returns-clause-state : goal.returns-clause-state
 returns-clause-state c = search rules
 
 pub returns-clause-moves : goal.returns-clause-moves
-returns-clause-moves c = λ is_member moves now. kept is_member moves c.args.wish now c.args.self.now _
-    (returns-clause-state c)
+returns-clause-moves c = λ places moves now. kept places moves c.args.wish now _
+    (ap (λ (s : SlotState). s.wish) (returns-clause-state c))

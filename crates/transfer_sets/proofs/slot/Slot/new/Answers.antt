@@ -6,4 +6,5 @@ pub returns-clause-state : goal.returns-clause-state
 returns-clause-state c = search rules
 
 pub returns-clause-moves : goal.returns-clause-moves
-returns-clause-moves c = λ is_member moves ordinal. handed is_member moves ordinal _ (returns-clause-state c)
+returns-clause-moves c =
+    λ places moves ordinal. handed places moves ordinal _ (returns-clause-state c)

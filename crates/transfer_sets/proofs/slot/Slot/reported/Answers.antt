@@ -6,5 +6,5 @@ pub returns-clause-state : goal.returns-clause-state
 returns-clause-state c = search rules
 
 pub returns-clause-moves : goal.returns-clause-moves
-returns-clause-moves c = λ is_member moves. told is_member moves c.args.self.now _
+returns-clause-moves c = λ places moves. told places moves c.args.self.now.state _
     (returns-clause-state c)

@@ -1,0 +1,214 @@
+-- What a node keeps is that of the history with one more entry.
+use Rattle.std.proofs.Common.{◌≡◌, ◌==◌, ℕ, ◌+◌, ◌^◌, ◌<◌, [], ◌∷◌, Option, Some, None}
+use Rattle.std.proofs.Common.{length, refl, sym, ap, subst, ◌∙◌, arith}
+use Rattle.std.specs.Prelude.{if◌then◌else◌, slice_get}
+use Rattle.tase_points.specs.Sample.{Sample}
+use Rattle.point_db.specs.Stored.{Keeps as KeepsPoints}
+use Rattle.bilateral.specs.Rows.{CentreRows, variants_of}
+use Rattle.sbo_device.specs.declared.key.Key.{Key}
+use Rattle.tase_views.specs.declared.event.EventKind.{EventKind}
+use Rattle.tase_views.specs.declared.event.EventKind.TheVariants.{Open, Request, Take, Close}
+use Rattle.tase_views.specs.declared.event.EventKind.TheVariants.{Update, Table, Stop}
+use Rattle.tase_views.specs.declared.call.CallKind.{CallKind}
+use Rattle.tase_views.specs.declared.call.CallKind.TheVariants.{Identify, Read, ReadSet, Write}
+use Rattle.tase_views.specs.declared.call.CallKind.TheVariants.{WriteSet, NameList, Define}
+use Rattle.tase_views.specs.declared.call.CallKind.TheVariants.{MembersOf, Delete, DeleteScope, Odd}
+use Rattle.tase_views.specs.declared.reply.ReplyKind.{ReplyKind}
+use Rattle.tase_views.specs.History.{Past, association_in, next_key, opens_in}
+use Rattle.tase_views.specs.Moves.{opens, closes, moves_by, acts_of_call}
+use Rattle.tase_views.specs.OwnTables.{OwnTables, own_tables, table_in}
+use Rattle.tase_views.specs.View.{View, own, chose, view_of}
+use Rattle.tase_views.specs.Answers.{reply_to, define_replied}
+use Rattle.node_core.specs.declared.hub.Hub.{Hub}
+use Rattle.node_core.specs.declared.parts.Parts.{Parts}
+use Rattle.node_core.specs.declared.peer.Peer.{Peer}
+use Rattle.node_core.specs.LastValues.{kinds_of, updates_in}
+use Rattle.node_core.specs.PeerParts.{IsPart, part_after, IsLawfulAct, EachAct}
+use Rattle.node_core.specs.PeerParts.{IsReplyTo, IsReplyBy, acts_asked}
+use Rattle.node_core.specs.Stored.{IsNode, found_by, IsPeerThere, MayOpen, IsChanged, IsAsked}
+use Rattle.node_core.specs.Stored.{IsRequest, IsReplied}
+use Rattle.node_core.proofs.SetBooks.{fault_alike}
+use Rattle.node_core.proofs.Steps.{IsCommon-open, IsCommon-close, IsCommon-request, IsCommon-take}
+use Rattle.node_core.proofs.Steps.{IsCommon-update, IsCommon-chosen, IsCommon-stop, AreParts-acted}
+use Rattle.node_core.proofs.Steps.{AreParts-take, AreParts-update, AreParts-chosen, AreParts-stop}
+use Rattle.node_core.proofs.Steps.{part_there, IsPeerThere-of, opens-at, MayOpen-of}
+use Rattle.node_core.proofs.Steps.{opens_in-le-length}
+
+-- only what is kept counts
+pub IsNode-alike : (rows : CentreRows) (past : Past) (hub new : Hub) (parts after : Parts)
+    → new.points ≡ hub.points → ((who : ℕ) → found_by new who ≡ found_by hub who)
+    → after.peers.items ≡ parts.peers.items → IsNode rows past hub parts
+    → IsNode rows past new after
+IsNode-alike rows past hub new parts after points seats peers n = record {
+  common = record {
+    lawful = n.common.lawful;
+    kept = rw points n.common.kept;
+    seated = λ who. seats who ∙ n.common.seated who;
+    known = λ who key e. n.common.known who key (sym (seats who) ∙ e);
+  };
+  peers = rw peers n.peers;
+}
+
+module _ (rows : CentreRows) (past : Past) (hub : Hub) (parts : Parts)
+    (n : IsNode rows past hub parts) where
+  -- a peer's part
+  pub its_part : (peer : ℕ) → peer < length rows.tables
+      → (part : Peer) × (slice_get parts.peers.items peer ≡ Some part)
+      × IsPart (own_tables rows peer) (view_of rows peer past) part
+  its_part peer there =
+      let within : peer < length parts.peers.items = omega (arith, there, n.peers.many) in
+      let found = part_there parts.peers.items peer within in
+      (found.0, found.1, n.peers.each peer found.0 found.1)
+
+  pub peer_there : (peer : ℕ) → peer < length rows.tables
+      → IsPeerThere rows parts.peers.items peer
+  peer_there peer there = IsPeerThere-of rows past parts.peers.items n.peers peer there
+
+  -- the peer of a seat's association is there
+  pub seat_there : (who : ℕ) (key : Key) → association_in past who ≡ Some key
+      → key.peer < length rows.tables
+  seat_there who key seated = n.common.known who key (n.common.seated who ∙ seated)
+
+  pub may_open : (peer : ℕ) → length past + 1 < 2 ^ 64 → MayOpen parts.peers.items peer
+  may_open peer room =
+      MayOpen-of rows past parts.peers.items n.peers peer
+      (omega (arith, room, opens_in-le-length past peer))
+
+  -- the association that a peer opens next
+  pub opens_next : (peer : ℕ) (key : Key) → peer < length rows.tables
+      → ((part : Peer) → slice_get parts.peers.items peer ≡ Some part
+      → key ≡ record { peer = peer; ordinal = part.opened_in_all })
+      → key ≡ next_key past peer
+  opens_next peer key there is =
+      let part = its_part peer there in
+      is part.0 part.1
+      ∙ ap (λ (k : ℕ). record { peer = peer; ordinal = k })
+      (opens-at rows past parts.peers.items n.peers peer part.0 part.1)
+
+  module _ (who : ℕ) (new : Hub) (after : Parts) where
+    pub IsNode-open : (peer : ℕ) (key : Key) → peer < length rows.tables
+        → key ≡ next_key past peer → new.points ≡ hub.points
+        → ((asked : ℕ) → found_by new asked
+        ≡ (if who == asked then Some key else found_by hub asked))
+        → ((tables : OwnTables) (ordinal : ℕ) → IsChanged parts.peers.items peer
+        (part_after tables (own ordinal opens)) after.peers.items)
+        → IsNode rows (record { who = who; event = Open peer } ∷ past) new after
+    IsNode-open peer key there key_is points seats changed =
+        let part = its_part peer there in
+        record {
+          common = rw points (IsCommon-open rows past hub.points (found_by hub) who n.common peer
+              (found_by new) there
+              (λ asked. seats asked ∙ ap (λ (k : Key). if who == asked then Some k
+              else found_by hub asked) key_is));
+          peers = rw (changed (own_tables rows peer) (opens_in past peer) part.0 part.1)
+              (AreParts-acted rows past who parts.peers.items (Open peer) (next_key past peer)
+              (opens ∷ []) part.0 refl (tt, tt) part.1 n.peers);
+        }
+
+    pub IsNode-close : (key : Key) → association_in past who ≡ Some key
+        → new.points ≡ hub.points
+        → ((asked : ℕ) → found_by new asked
+        ≡ (if who == asked then None else found_by hub asked))
+        → ((ordinal : ℕ) → IsChanged parts.peers.items key.peer
+        (part_after (own_tables rows key.peer) (own ordinal closes)) after.peers.items)
+        → IsNode rows (record { who = who; event = Close } ∷ past) new after
+    IsNode-close key seated points seats changed =
+        let part = its_part key.peer (seat_there who key seated) in
+        record {
+          common = rw points (IsCommon-close rows past hub.points (found_by hub) who n.common
+              (found_by new) seats);
+          peers = rw (changed key.ordinal part.0 part.1)
+              (AreParts-acted rows past who parts.peers.items Close key (closes ∷ []) part.0
+              (ap (λ (found : Option Key). moves_by found (closes ∷ [])) seated) (tt, tt) part.1
+              n.peers);
+        }
+
+    pub IsNode-take : new ≡ hub → after ≡ parts
+        → IsNode rows (record { who = who; event = Take } ∷ past) new after
+    IsNode-take same alike = record {
+      common = rw same (IsCommon-take rows past hub.points (found_by hub) who n.common);
+      peers = rw alike (AreParts-take rows past who parts.peers.items n.peers);
+    }
+
+    pub IsNode-stop : new ≡ hub → after ≡ parts
+        → IsNode rows (record { who = who; event = Stop } ∷ past) new after
+    IsNode-stop same alike = record {
+      common = rw same (IsCommon-stop rows past hub.points (found_by hub) who n.common);
+      peers = rw alike (AreParts-stop rows past who parts.peers.items n.peers);
+    }
+
+    pub IsNode-update : (point : ℕ) (value : Sample)
+        → KeepsPoints (kinds_of rows) (record { point = point; value = value } ∷ updates_in past)
+        new.points
+        → new.seats ≡ hub.seats → after ≡ parts
+        → IsNode rows (record { who = who; event = Update point value } ∷ past) new after
+    IsNode-update point value kept seats alike = record {
+      common = rw seats (IsCommon-update rows past hub.points (found_by hub) who n.common point
+          value new.points kept);
+      peers = rw alike (AreParts-update rows past who parts.peers.items point value n.peers);
+    }
+
+    pub IsNode-chosen : (peer variant : ℕ) → peer < length rows.tables
+        → variant < length (variants_of rows peer) → new ≡ hub
+        → IsChanged parts.peers.items peer (part_after (own_tables rows peer) (chose variant))
+        after.peers.items
+        → IsNode rows (record { who = who; event = Table peer variant } ∷ past) new after
+    IsNode-chosen peer variant there known same changed =
+        let part = its_part peer there in
+        record {
+          common = rw same (IsCommon-chosen rows past hub.points (found_by hub) who n.common peer
+              variant);
+          peers = rw (changed part.0 part.1)
+              (AreParts-chosen rows past who parts.peers.items peer variant part.0 known part.1
+              n.peers);
+        }
+
+    -- a request, whose reply is that which the view gives
+    pub IsNode-request : (key : Key) (event : EventKind) (reply : ReplyKind)
+        → association_in past who ≡ Some key → IsRequest event
+        → IsReplied rows past key event reply → new ≡ hub
+        → EachAct IsLawfulAct (acts_asked event)
+        → IsAsked rows key (acts_asked event) (λ table book. IsReplyBy table book event reply)
+        parts.peers.items after.peers.items
+        → IsNode rows (record { who = who; event = event } ∷ past) new after
+    IsNode-request key (Open peer) reply seated request replied same lawful asked = absurd request
+    IsNode-request key Take reply seated request replied same lawful asked = absurd request
+    IsNode-request key Close reply seated request replied same lawful asked = absurd request
+    IsNode-request key (Update point value) reply seated request replied same lawful asked =
+        absurd request
+    IsNode-request key (Table peer variant) reply seated request replied same lawful asked =
+        absurd request
+    IsNode-request key Stop reply seated request replied same lawful asked = absurd request
+    IsNode-request key (Request call) reply seated request replied same lawful asked =
+        let part = its_part key.peer (seat_there who key seated) in
+        record {
+          common = rw same (IsCommon-request rows past hub.points (found_by hub) who n.common
+              (Request call) tt);
+          peers = rw (asked part.0 part.1
+              (by_book (own_tables rows key.peer) (view_of rows key.peer past) part.0 call reply
+              key.ordinal part.2 replied))
+              (AreParts-acted rows past who parts.peers.items (Request call) key
+              (acts_of_call call) part.0
+              (ap (λ (found : Option Key). moves_by found (acts_of_call call)) seated) lawful
+              part.1 n.peers);
+        }
+      where
+        -- the book refuses what the view refuses
+        by_book : (tables : OwnTables) (view : View) (part : Peer) (call : CallKind)
+            (reply : ReplyKind) (ordinal : ℕ) → IsPart tables view part
+            → reply ≡ reply_to tables view ordinal call
+            → IsReplyTo (table_in tables part.variant) part.book call reply
+        by_book tables view part (Define set members) reply ordinal p is =
+            subst (λ (k : ℕ). IsReplyTo (table_in tables k) part.book (Define set members) reply)
+            (sym p.in_force)
+            (is ∙ ap define_replied (fault_alike tables view part.book set members p.sets))
+        by_book tables view part Identify reply ordinal p is = tt
+        by_book tables view part (Read names echo) reply ordinal p is = tt
+        by_book tables view part (ReadSet set echo) reply ordinal p is = tt
+        by_book tables view part (Write names values) reply ordinal p is = tt
+        by_book tables view part (WriteSet set values) reply ordinal p is = tt
+        by_book tables view part (NameList class scope from) reply ordinal p is = tt
+        by_book tables view part (MembersOf set) reply ordinal p is = tt
+        by_book tables view part (Delete sets) reply ordinal p is = tt
+        by_book tables view part (DeleteScope scope) reply ordinal p is = tt
+        by_book tables view part (Odd kind code) reply ordinal p is = tt

@@ -1,0 +1,11 @@
+use Rattle.std.proofs.Common.{◌≡◌, map, take}
+use Rattle.bilateral.specs.declared.rows.Table.{Table}
+use Rattle.node_core.specs.declared.peer.Peer.{Peer}
+use Rattle.node_core.specs.PeerParts.{new_part}
+use Rattle.node_core.proofs.parts.Parts.new.Given as goal
+
+abbrev pub part_of : Table → Peer
+part_of table = new_part table.sets
+
+abbrev pub invariant-loop-peer : goal.invariant-loop-peer
+invariant-loop-peer l = l.peers.items ≡ map part_of (take l.peer l.centre.tables)
