@@ -183,6 +183,8 @@ early_by rows past who items said events.Take peer granted v s w = absurd w
 early_by rows past who items said events.Close peer granted v s w = absurd w
 early_by rows past who items said (events.Update point value) peer granted v s w = absurd w
 early_by rows past who items said (events.Table chooser variant) peer granted v s w = absurd w
+early_by rows past who items said (events.Tick now) peer granted v s w = absurd w
+early_by rows past who items said (events.Ask asker slot) peer granted v s w = absurd w
 early_by rows past who items said events.Stop peer granted v s w = absurd w
 
 -- an offer that stands unanswered isn't aborted
@@ -244,6 +246,8 @@ fault_aborts (faults.HistoryFull weight limit) = refl
 fault_aborts faults.NoAssociation = refl
 fault_aborts faults.Already = refl
 fault_aborts faults.UnknownName = refl
+fault_aborts faults.ClockRange = refl
+fault_aborts (faults.Backward last) = refl
 
 -- the node brings the end
 fault_ends : (fault : StepFault) → IsNodesEnd (end_of_fault fault)
@@ -253,6 +257,8 @@ fault_ends (faults.HistoryFull weight limit) = tt
 fault_ends faults.NoAssociation = tt
 fault_ends faults.Already = tt
 fault_ends faults.UnknownName = tt
+fault_ends faults.ClockRange = tt
+fault_ends (faults.Backward last) = tt
 
 -- why it is cut
 fault_cuts : (setup : Setup) (past : Past) (who : ℕ) (items : List Item) (event : EventKind)
@@ -264,6 +270,8 @@ fault_cuts setup past who items event (faults.HistoryFull weight limit) right = 
 fault_cuts setup past who items event faults.NoAssociation right = tt
 fault_cuts setup past who items event faults.Already right = tt
 fault_cuts setup past who items event faults.UnknownName right = tt
+fault_cuts setup past who items event faults.ClockRange right = tt
+fault_cuts setup past who items event (faults.Backward last) right = tt
 
 -- all is said, by whether its association was open
 all_by : (b : Bool) (setup : Setup) (past after : Past) (who : ℕ) (items : List Item)

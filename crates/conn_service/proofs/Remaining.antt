@@ -43,7 +43,8 @@ record NoRefusal (a b c d : Option StepFault) : Type 0 where
   pub seat : b ≡ None
   pub heavy : d ≡ None
 
-no_refusal : (a b c d : Option StepFault) → first_refusal (a ∷ b ∷ c ∷ d ∷ []) ≡ None
+-- of an event that is no tick
+no_refusal : (a b c d : Option StepFault) → first_refusal (a ∷ b ∷ c ∷ None ∷ d ∷ []) ≡ None
     → NoRefusal a b c d
 no_refusal (Some f) b c d e = absurd (some_not e)
 no_refusal None (Some f) c d e = absurd (some_not e)
@@ -141,6 +142,8 @@ asked_less setup past who events.Take askeds.Nothing w r = absurd w
 asked_less setup past who events.Close askeds.Nothing w r = absurd w
 asked_less setup past who (events.Update point value) askeds.Nothing w r = absurd w
 asked_less setup past who (events.Table chooser variant) askeds.Nothing w r = absurd w
+asked_less setup past who (events.Tick now) askeds.Nothing w r = absurd w
+asked_less setup past who (events.Ask asker slot) askeds.Nothing w r = absurd w
 asked_less setup past who events.Stop askeds.Nothing w r = absurd w
 asked_less setup past who (events.Open opened) (askeds.Opening peer granted) w r =
     open_less setup past who opened r
@@ -150,6 +153,10 @@ asked_less setup past who events.Close (askeds.Opening peer granted) w r = absur
 asked_less setup past who (events.Update point value) (askeds.Opening peer granted) w r = absurd w
 asked_less setup past who (events.Table chooser variant) (askeds.Opening peer granted) w r =
     absurd w
+asked_less setup past who (events.Tick now) (askeds.Opening peer granted) w r =
+    absurd w
+asked_less setup past who (events.Ask asker slot) (askeds.Opening peer granted) w r =
+    absurd w
 asked_less setup past who events.Stop (askeds.Opening peer granted) w r = absurd w
 asked_less setup past who (events.Open opened) (askeds.Requesting invoke) w r = absurd w
 asked_less setup past who (events.Request call) (askeds.Requesting invoke) w r =
@@ -158,6 +165,8 @@ asked_less setup past who events.Take (askeds.Requesting invoke) w r = absurd w
 asked_less setup past who events.Close (askeds.Requesting invoke) w r = absurd w
 asked_less setup past who (events.Update point value) (askeds.Requesting invoke) w r = absurd w
 asked_less setup past who (events.Table chooser variant) (askeds.Requesting invoke) w r = absurd w
+asked_less setup past who (events.Tick now) (askeds.Requesting invoke) w r = absurd w
+asked_less setup past who (events.Ask asker slot) (askeds.Requesting invoke) w r = absurd w
 asked_less setup past who events.Stop (askeds.Requesting invoke) w r = absurd w
 asked_less setup past who (events.Open opened) askeds.Taking w r = absurd w
 asked_less setup past who (events.Request call) askeds.Taking w r = absurd w
@@ -165,6 +174,8 @@ asked_less setup past who events.Take askeds.Taking w r = take_less setup past w
 asked_less setup past who events.Close askeds.Taking w r = absurd w
 asked_less setup past who (events.Update point value) askeds.Taking w r = absurd w
 asked_less setup past who (events.Table chooser variant) askeds.Taking w r = absurd w
+asked_less setup past who (events.Tick now) askeds.Taking w r = absurd w
+asked_less setup past who (events.Ask asker slot) askeds.Taking w r = absurd w
 asked_less setup past who events.Stop askeds.Taking w r = absurd w
 asked_less setup past who (events.Open opened) (askeds.Closing cause) w r = absurd w
 asked_less setup past who (events.Request call) (askeds.Closing cause) w r = absurd w
@@ -172,6 +183,8 @@ asked_less setup past who events.Take (askeds.Closing cause) w r = absurd w
 asked_less setup past who events.Close (askeds.Closing cause) w r = close_less setup past who r
 asked_less setup past who (events.Update point value) (askeds.Closing cause) w r = absurd w
 asked_less setup past who (events.Table chooser variant) (askeds.Closing cause) w r = absurd w
+asked_less setup past who (events.Tick now) (askeds.Closing cause) w r = absurd w
+asked_less setup past who (events.Ask asker slot) (askeds.Closing cause) w r = absurd w
 asked_less setup past who events.Stop (askeds.Closing cause) w r = absurd w
 
 -- an event that waits and isn't refused leaves less

@@ -91,6 +91,8 @@ answer_fits (progresses.Running askeds.Nothing) events.Take told w f = absurd w
 answer_fits (progresses.Running askeds.Nothing) events.Close told w f = absurd w
 answer_fits (progresses.Running askeds.Nothing) (events.Update point value) told w f = absurd w
 answer_fits (progresses.Running askeds.Nothing) (events.Table chooser variant) told w f = absurd w
+answer_fits (progresses.Running askeds.Nothing) (events.Tick now) told w f = absurd w
+answer_fits (progresses.Running askeds.Nothing) (events.Ask asker slot) told w f = absurd w
 answer_fits (progresses.Running askeds.Nothing) events.Stop told w f = absurd w
 answer_fits (progresses.Running (askeds.Opening peer granted)) (events.Open opened) told w f =
     opening_fits peer granted opened told f
@@ -102,6 +104,9 @@ answer_fits (progresses.Running (askeds.Opening peer grant)) (events.Update poin
     absurd w
 answer_fits (progresses.Running (askeds.Opening peer granted))
     (events.Table chooser variant) told w f = absurd w
+answer_fits (progresses.Running (askeds.Opening peer granted)) (events.Tick now) told w f = absurd w
+answer_fits (progresses.Running (askeds.Opening peer granted))
+    (events.Ask asker slot) told w f = absurd w
 answer_fits (progresses.Running (askeds.Opening peer granted)) events.Stop told w f = absurd w
 answer_fits (progresses.Running (askeds.Requesting invoke)) (events.Open opened) told w f = absurd w
 answer_fits (progresses.Running (askeds.Requesting invoke)) (events.Request call) told w f =
@@ -112,6 +117,9 @@ answer_fits (progresses.Running (askeds.Requesting invoke)) (events.Update point
     absurd w
 answer_fits (progresses.Running (askeds.Requesting invoke))
     (events.Table chooser variant) told w f = absurd w
+answer_fits (progresses.Running (askeds.Requesting invoke)) (events.Tick now) told w f = absurd w
+answer_fits (progresses.Running (askeds.Requesting invoke))
+    (events.Ask asker slot) told w f = absurd w
 answer_fits (progresses.Running (askeds.Requesting invoke)) events.Stop told w f = absurd w
 answer_fits (progresses.Running askeds.Taking) (events.Open opened) told w f = absurd w
 answer_fits (progresses.Running askeds.Taking) (events.Request call) told w f = absurd w
@@ -120,6 +128,8 @@ answer_fits (progresses.Running askeds.Taking) events.Take told w f =
 answer_fits (progresses.Running askeds.Taking) events.Close told w f = absurd w
 answer_fits (progresses.Running askeds.Taking) (events.Update point value) told w f = absurd w
 answer_fits (progresses.Running askeds.Taking) (events.Table chooser variant) told w f = absurd w
+answer_fits (progresses.Running askeds.Taking) (events.Tick now) told w f = absurd w
+answer_fits (progresses.Running askeds.Taking) (events.Ask asker slot) told w f = absurd w
 answer_fits (progresses.Running askeds.Taking) events.Stop told w f = absurd w
 answer_fits (progresses.Running (askeds.Closing cause)) (events.Open opened) told w f = absurd w
 answer_fits (progresses.Running (askeds.Closing cause)) (events.Request call) told w f = absurd w
@@ -129,6 +139,10 @@ answer_fits (progresses.Running (askeds.Closing cause)) events.Close told w f =
 answer_fits (progresses.Running (askeds.Closing cause)) (events.Update point value) told w f =
     absurd w
 answer_fits (progresses.Running (askeds.Closing cause)) (events.Table chooser variant) told w f =
+    absurd w
+answer_fits (progresses.Running (askeds.Closing cause)) (events.Tick now) told w f =
+    absurd w
+answer_fits (progresses.Running (askeds.Closing cause)) (events.Ask asker slot) told w f =
     absurd w
 answer_fits (progresses.Running (askeds.Closing cause)) events.Stop told w f = absurd w
 answer_fits progresses.Refused (events.Open opened) told w f = absurd w
@@ -158,14 +172,24 @@ answer_fits (progresses.Leaving end true) (events.Update point value) told w f =
 answer_fits (progresses.Ended end) (events.Update point value) told w f = absurd w
 answer_fits (progresses.Cut end) (events.Update point value) told w f = absurd w
 answer_fits progresses.Refused (events.Table chooser variant) told w f = absurd w
+answer_fits progresses.Refused (events.Tick now) told w f = absurd w
+answer_fits progresses.Refused (events.Ask asker slot) told w f = absurd w
 answer_fits progresses.Refused events.Stop told w f = absurd w
 answer_fits (progresses.Leaving end false) (events.Table chooser variant) told w f = absurd w
+answer_fits (progresses.Leaving end false) (events.Tick now) told w f = absurd w
+answer_fits (progresses.Leaving end false) (events.Ask asker slot) told w f = absurd w
 answer_fits (progresses.Leaving end false) events.Stop told w f = absurd w
 answer_fits (progresses.Leaving end true) (events.Table chooser variant) told w f = absurd w
+answer_fits (progresses.Leaving end true) (events.Tick now) told w f = absurd w
+answer_fits (progresses.Leaving end true) (events.Ask asker slot) told w f = absurd w
 answer_fits (progresses.Leaving end true) events.Stop told w f = absurd w
 answer_fits (progresses.Ended end) (events.Table chooser variant) told w f = absurd w
+answer_fits (progresses.Ended end) (events.Tick now) told w f = absurd w
+answer_fits (progresses.Ended end) (events.Ask asker slot) told w f = absurd w
 answer_fits (progresses.Ended end) events.Stop told w f = absurd w
 answer_fits (progresses.Cut end) (events.Table chooser variant) told w f = absurd w
+answer_fits (progresses.Cut end) (events.Tick now) told w f = absurd w
+answer_fits (progresses.Cut end) (events.Ask asker slot) told w f = absurd w
 answer_fits (progresses.Cut end) events.Stop told w f = absurd w
 
 closed_free : (cause : Cause) → IsFree (progress_closed cause)

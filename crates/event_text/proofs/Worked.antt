@@ -12,7 +12,7 @@ use Rattle.mms_data.specs.Datum.{boolean, integer, text}
 use Rattle.tase_views.specs.declared.call.CallKind.TheVariants.{Identify, Read, Write, NameList}
 use Rattle.tase_views.specs.declared.call.CallKind.TheVariants.{Odd}
 use Rattle.tase_views.specs.declared.event.EventKind.TheVariants.{Open, Request, Take, Close}
-use Rattle.tase_views.specs.declared.event.EventKind.TheVariants.{Update, Table, Stop}
+use Rattle.tase_views.specs.declared.event.EventKind.TheVariants.{Update, Table, Tick, Ask, Stop}
 use Rattle.tase_views.specs.declared.reply.ReadSpec.TheVariants as specs
 use Rattle.tase_views.specs.declared.reply.ReplyKind.TheVariants.{Identified, Results, Written}
 use Rattle.tase_views.specs.declared.reply.ReplyKind.TheVariants.{NamesAre, Error, Reject}
@@ -20,7 +20,7 @@ use Rattle.tase_views.specs.EventTexts.{call_text, event_text}
 use Rattle.event_text.specs.ReplyTexts.{reply_text}
 use Rattle.event_text.specs.CallWords.{call_words}
 use Rattle.event_text.specs.WordPlaces.{word_place, blank_place}
-use Rattle.event_text.specs.FeedLines.{feed_event_in}
+use Rattle.event_text.specs.FeedLines.{feed_event_in, centre_event_in}
 
 bus : ObjectName
 bus = record { scope = Domain (codes "DOMA"); item = codes "BUS1" }
@@ -161,7 +161,7 @@ rows =
       points = record { name = codes "BUS1"; kind = kinds.State }
           ∷ record { name = codes "LOAD1"; kind = kinds.Discrete } ∷ [];
       devices = [];
-      tables = record no_table { key = codes "A" } ∷ [];
+      tables = record no_table { key = codes "A"; slots = 1 } ∷ [];
       variants = [] ∷ [];
     }
 
@@ -194,6 +194,31 @@ long_stop-line = refl
 table-line : feed_event_in rows (codes "table A 0") ≡ Some (Table 0 0)
 unfolding rows
 table-line = refl
+
+-- the table offers one transfer set
+ask-line : feed_event_in rows (codes "ask A 1") ≡ Some (Ask 0 0)
+unfolding rows
+ask-line = refl
+
+no_slot-line : feed_event_in rows (codes "ask A 0") ≡ None
+unfolding rows
+no_slot-line = refl
+
+no_such_slot-line : feed_event_in rows (codes "ask A 2") ≡ None
+unfolding rows
+no_such_slot-line = refl
+
+tick-line : centre_event_in rows (codes "tick 2147483647999") ≡ Some (Tick 2147483647999)
+unfolding rows
+tick-line = refl
+
+late_tick-line : centre_event_in rows (codes "tick 2147483648000") ≡ None
+unfolding rows
+late_tick-line = refl
+
+no_tick-line : feed_event_in rows (codes "tick 5") ≡ None
+unfolding rows
+no_tick-line = refl
 
 no_such_table-line : feed_event_in rows (codes "table A 1") ≡ None
 unfolding rows

@@ -1,7 +1,7 @@
 -- The lines of a feed: what the centre's own systems may ask of the node.
-use Rattle.std.specs.Prelude.{ℕ, nat_le, nat_lt, ◌==◌, if◌then◌else◌, pos, negsuc, List, [], ◌∷◌}
+use Rattle.std.specs.Prelude.{ℕ, ◌-◌, nat_le, nat_lt, ◌==◌, if◌then◌else◌, pos, negsuc, List}
 use Rattle.std.specs.Prelude.{◌≡◌, Option, Some, None, option_map, option_and_then, codes, bytes_eq}
-use Rattle.std.specs.Prelude.{length, decimal, IsTrue}
+use Rattle.std.specs.Prelude.{[], ◌∷◌, length, decimal, IsTrue}
 use Rattle.std.specs.Int.{w32}
 use Rattle.std.specs.Int.RustNames.{FitsSigned}
 use Rattle.std.specs.List.{list_all}
@@ -20,9 +20,11 @@ use Rattle.tase_points.specs.Same.{same_kind}
 use Rattle.tase_points.specs.Values.{IsSample}
 use Rattle.bilateral.specs.Rows.{CentreRows, place_of_point, place_of_peer, point_of, variants_of}
 use Rattle.tase_views.specs.declared.event.EventKind.{EventKind}
-use Rattle.tase_views.specs.declared.event.EventKind.TheVariants.{Update, Table, Stop}
+use Rattle.tase_views.specs.declared.event.EventKind.TheVariants.{Update, Table, Tick, Ask, Stop}
 use Rattle.tase_views.specs.EventTexts.{body_text}
-use Rattle.event_text.specs.declared.feed.TheConstants.{TABLE_NUMBER_LIMIT}
+use Rattle.tase_views.specs.Outcomes.{has_slot}
+use Rattle.event_text.specs.declared.feed.TheConstants.{TABLE_NUMBER_LIMIT, SLOT_NUMBER_LIMIT}
+use Rattle.event_text.specs.declared.feed.TheConstants.{MOMENT_LIMIT}
 
 -- a body: `s` and a state, `d` and a discrete value, `r` and the eight digits of a real one
 abbrev pub body_in : List ℕ → Option Body
@@ -70,23 +72,52 @@ choice_in rows (key ∷ number ∷ []) =
     (number_up_to TABLE_NUMBER_LIMIT number)) (place_of_peer rows key)
 choice_in rows words = None
 
+-- the request for a transfer set of a peer, from 1 on, where a table of the peer has it
+abbrev pub ask_of : CentreRows → ℕ → ℕ → Option EventKind
+ask_of rows peer number =
+    if number == 0 then None
+    else (if has_slot rows peer (number - 1) then Some (Ask peer (number - 1)) else None)
+
+-- `KEY NUMBER` behind `ask`
+abbrev pub ask_in : CentreRows → List (List ℕ) → Option EventKind
+ask_in rows (key ∷ number ∷ []) =
+    option_and_then (λ peer. option_and_then (λ n. ask_of rows peer n)
+    (number_up_to SLOT_NUMBER_LIMIT number)) (place_of_peer rows key)
+ask_in rows words = None
+
 -- nothing behind `stop`
 abbrev pub stop_in : List (List ℕ) → Option EventKind
 stop_in [] = Some Stop
 stop_in (word ∷ words) = None
 
--- `update NAME BODY FLAGS SECONDS MILLIS`, `table KEY NUMBER` or `stop`
+-- `update NAME BODY FLAGS SECONDS MILLIS`, `table KEY NUMBER`, `ask KEY NUMBER` or `stop`
 abbrev pub feed_words_in : CentreRows → List (List ℕ) → Option EventKind
 feed_words_in rows [] = None
 feed_words_in rows (verb ∷ words) =
     if bytes_eq verb (codes "update") then update_in rows words
     else (if bytes_eq verb (codes "table") then choice_in rows words
-    else (if bytes_eq verb (codes "stop") then stop_in words else None))
+    else (if bytes_eq verb (codes "ask") then ask_in rows words
+    else (if bytes_eq verb (codes "stop") then stop_in words else None)))
 
 -- the event of seat 0 that a line asks for, where it is one of the forms and names a point of the
--- centre with a value of this point's kind, or a peer and a table of it
+-- centre with a value of this point's kind, or a peer and a table or a transfer set of it
 abbrev pub feed_event_in : CentreRows → List ℕ → Option EventKind
 feed_event_in rows line = option_and_then (feed_words_in rows) (words_in line)
+
+-- `NOW` behind `tick`, in milliseconds since 1970
+abbrev pub tick_in : List (List ℕ) → Option EventKind
+tick_in (now ∷ []) = option_map Tick (number_up_to MOMENT_LIMIT now)
+tick_in words = None
+
+-- `tick NOW`, or a line of a feed
+abbrev pub centre_words_in : CentreRows → List (List ℕ) → Option EventKind
+centre_words_in rows [] = None
+centre_words_in rows (verb ∷ words) =
+    if bytes_eq verb (codes "tick") then tick_in words else feed_words_in rows (verb ∷ words)
+
+-- the event of seat 0 that a line of a scenario asks for
+abbrev pub centre_event_in : CentreRows → List ℕ → Option EventKind
+centre_event_in rows line = option_and_then (centre_words_in rows) (words_in line)
 
 -- each part is one that a word spells: the ranges of every value, a discrete value of 32 bits, the
 -- four octets of a real one

@@ -1,15 +1,17 @@
-//! The lines of a feed, read.
-ghost use Rattle.std.specs.Prelude.{◌≡◌, ◌<◌, length, IfOk};
+//! The lines of a feed, and of the clock, read.
+ghost use Rattle.std.specs.Prelude.{◌≡◌, ◌<◌, ◌≤◌, length, IfOk};
 ghost use Rattle.plain_text.specs.Words.{words};
+ghost use Rattle.event_text.specs.declared.feed.TheConstants.{SLOT_NUMBER_LIMIT};
 ghost use Rattle.event_text.specs.FeedLines.{feed_event_in, update_in, update_of};
-ghost use Rattle.event_text.specs.FeedLines.{choice_in, choice_of};
+ghost use Rattle.event_text.specs.FeedLines.{choice_in, choice_of, ask_in, ask_of, tick_in};
+ghost use Rattle.event_text.specs.FeedLines.{centre_event_in};
 
 use crate::values::read_value;
 use bilateral::Centre;
 use plain_text::{is_spaced, next_word, read_number, two_words};
 use std::alloc::{AllocError, Global};
 use tase_points::PointValue;
-use tase_views::{Event, EventKind};
+use tase_views::{Event, EventKind, has_slot};
 
 /// The largest number of a table that a line names; a peer has fewer.
 pub const TABLE_NUMBER_LIMIT: u64 = 4294967295;
@@ -17,11 +19,57 @@ pub const TABLE_NUMBER_LIMIT: u64 = 4294967295;
 // Definitions cite this limit, so that it stands here as a number too.
 const _: () = prove!(TABLE_NUMBER_LIMIT == 4_294_967_295);
 
+/// The largest number of a transfer set that a line names, from 1 on; a table offers fewer.
+pub const SLOT_NUMBER_LIMIT: u64 = 4294967295;
+
+const _: () = prove!(SLOT_NUMBER_LIMIT == 4_294_967_295);
+
+/// The largest moment that a line names, in milliseconds since 1970.
+pub const MOMENT_LIMIT: u64 = 2147483647999;
+
+const _: () = prove!(MOMENT_LIMIT == 2_147_483_647_999);
+
+/// The event of seat 0 that a line of a scenario asks for: `tick NOW`, the clock in milliseconds
+/// since 1970, or a line of a feed. None for every other line. It takes no memory; `alloc` is for
+/// lines to come.
+pub fn read_centre_line(
+    alloc: Global,
+    centre: &Centre,
+    line: &[u8],
+) -> Result<Option<Event>, AllocError>
+    ensures { IfOk result (λ event. event ≡ centre_event_in centre.now line.now) }
+{
+    if !is_spaced(line) {
+        return Ok(None);
+    }
+    let Some((verb, rest)) = next_word(line) else {
+        return Ok(None);
+    };
+    if verb == b"tick".as_slice() {
+        Ok(read_tick(rest))
+    } else {
+        read_feed_line(alloc, centre, line)
+    }
+}
+
+/// `NOW` behind `tick`: the clock stands at a moment.
+fn read_tick(text: &[u8]) -> Option<Event>
+    ensures { result ≡ tick_in (words text.now) }
+{
+    let (word, rest) = next_word(text)?;
+    if next_word(rest).is_some() {
+        return None;
+    }
+    let now = read_number(word, MOMENT_LIMIT)?;
+    Some(Event::new(EventKind::Tick { now }))
+}
+
 /// The event of seat 0 that a line of a feed or of a scenario asks for:
 /// `update NAME BODY FLAGS SECONDS MILLIS`, where the centre has a point of this name and the value
 /// is of the point's kind; `table KEY NUMBER`, where it has a peer with this key that has this
-/// table, 0 being the peer's own; or `stop`. None for every other line. It takes no memory; `alloc`
-/// is for lines to come.
+/// table, 0 being the peer's first; `ask KEY NUMBER`, where one of the peer's tables offers this
+/// transfer set, 1 being the first; or `stop`. None for every other line. It takes no memory;
+/// `alloc` is for lines to come.
 pub fn read_feed_line(
     _alloc: Global,
     centre: &Centre,
@@ -39,6 +87,8 @@ pub fn read_feed_line(
         Ok(read_update(centre, rest))
     } else if verb == b"table".as_slice() {
         Ok(read_choice(centre, rest))
+    } else if verb == b"ask".as_slice() {
+        Ok(read_ask(centre, rest))
     } else if verb == b"stop".as_slice() && next_word(rest).is_none() {
         Ok(Some(Event::new(EventKind::Stop)))
     } else {
@@ -92,6 +142,32 @@ fn choice_at(centre: &Centre, peer: u32, variant: u32) -> Option<Event>
 {
     if variant < centre.variants(peer) {
         Some(Event::new(EventKind::Table { peer, variant }))
+    } else {
+        None
+    }
+}
+
+/// `KEY NUMBER` behind `ask`: the operator asks for a report of a transfer set of a peer.
+fn read_ask(centre: &Centre, text: &[u8]) -> Option<Event>
+    ensures { result ≡ ask_in centre.now (words text.now) }
+{
+    let (key, word) = two_words(text)?;
+    let peer = centre.find_peer(key)?;
+    let number = read_number(word, SLOT_NUMBER_LIMIT)?;
+    ask_at(centre, peer, number)
+}
+
+/// The request for a transfer set of a peer, which counts from 1, where a table of the peer has it.
+fn ask_at(centre: &Centre, peer: u32, number: u64) -> Option<Event>
+    requires { number ≤ SLOT_NUMBER_LIMIT }
+    ensures { result ≡ ask_of centre.now peer number }
+{
+    if number == 0 {
+        return None;
+    }
+    let slot = (number - 1) as u32;
+    if has_slot(centre, peer, slot) {
+        Some(Event::new(EventKind::Ask { peer, slot }))
     } else {
         None
     }

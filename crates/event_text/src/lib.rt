@@ -7,7 +7,7 @@ mod reading;
 mod values;
 mod writing;
 
-pub use feed::read_feed_line;
+pub use feed::{read_centre_line, read_feed_line};
 pub use laws::{
     call_words_have_one_reading, places_are_of_words, values_are_their_words,
     written_calls_are_read,

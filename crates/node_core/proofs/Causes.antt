@@ -1,6 +1,7 @@
 -- What follows where an event isn't refused, and that a refusal is never for want of memory.
 use Rattle.std.proofs.Common.{◌≡◌, ◌≢◌, ℕ, ◌+◌, ◌<◌, ◌≤◌, Bool, true, false, not, ◌&&◌, [], ◌∷◌}
-use Rattle.std.proofs.Common.{length, reverse, ltb, Option, Some, None, is_some, refl, sym, subst}
+use Rattle.std.proofs.Common.{length, reverse, ltb, leb, Option, Some, None, is_some, refl, sym}
+use Rattle.std.proofs.Common.{subst}
 use Rattle.std.specs.Prelude.{if◌then◌else◌, option_map}
 use Rattle.std.proofs.lemmas.Bool.{true≢false, ltb-true, ltb-false, and_parts}
 use Rattle.std.proofs.lemmas.Option.{none-some}
@@ -8,53 +9,69 @@ use Rattle.tase_points.specs.Sample.{Sample}
 use Rattle.bilateral.specs.Rows.{CentreRows, variants_of}
 use Rattle.sbo_device.specs.declared.key.Key.{Key}
 use Rattle.tase_views.specs.declared.event.EventKind.{EventKind}
+use Rattle.tase_views.specs.declared.event.TheConstants.{CLOCK_LIMIT}
 use Rattle.tase_views.specs.declared.event.EventKind.TheVariants.{Open, Request, Take, Close}
-use Rattle.tase_views.specs.declared.event.EventKind.TheVariants.{Update, Table, Stop}
+use Rattle.tase_views.specs.declared.event.EventKind.TheVariants.{Update, Table, Tick, Ask, Stop}
 use Rattle.tase_views.specs.declared.fault.StepFault.{StepFault}
 use Rattle.tase_views.specs.declared.fault.StepFault.TheVariants.{Memory, Stopped, HistoryFull}
 use Rattle.tase_views.specs.declared.fault.StepFault.TheVariants.{NoAssociation, Already}
-use Rattle.tase_views.specs.declared.fault.StepFault.TheVariants.{UnknownName}
+use Rattle.tase_views.specs.declared.fault.StepFault.TheVariants.{UnknownName, ClockRange, Backward}
 use Rattle.tase_views.specs.Setup.{Setup}
-use Rattle.tase_views.specs.History.{Past, association_in, stop_in}
+use Rattle.tase_views.specs.History.{Past, association_in, stop_in, last_tick}
 use Rattle.tase_views.specs.Weights.{weight, weight_of}
 use Rattle.tase_views.specs.Moves.{EventSort, sort_of, opening, requesting, taking, closing}
-use Rattle.tase_views.specs.Moves.{taking_orders, feeding}
+use Rattle.tase_views.specs.Moves.{taking_orders, feeding, acts, updates, tags, ticks, asks}
+use Rattle.tase_views.specs.Moves.{chooses, takes_orders, stops}
 use Rattle.tase_views.specs.Outcomes.{is_close, is_ending, is_known, has_table, is_named_there}
 use Rattle.tase_views.specs.Outcomes.{stop_refusal, seat_refusal, seat_refusal_by, name_refusal}
-use Rattle.tase_views.specs.Outcomes.{weight_refusal, first_refusal, refusal_of, IsRefusal}
+use Rattle.tase_views.specs.Outcomes.{clock_refusal_by, clock_refusal, weight_refusal}
+use Rattle.tase_views.specs.Outcomes.{first_refusal, refusal_of}
+use Rattle.tase_views.specs.Outcomes.{IsRefusal}
 use Rattle.node_core.specs.NodeState.{NodeState}
 use Rattle.node_core.specs.Stored.{IsRequest}
 use Rattle.node_core.specs.Room.{LeavesSeats}
 
--- none of the four refusals has its cause
+-- none of the five refusals has its cause
 pub record IsFree (setup : Setup) (past : Past) (who : ℕ) (event : EventKind) : Type 0 where
   pub going : stop_refusal past event ≡ None
   pub seated : seat_refusal (association_in past who) event ≡ None
   pub named : name_refusal setup.centre event ≡ None
+  pub timed : clock_refusal past event ≡ None
   pub light : weight_refusal setup past event ≡ None
 
-none_of : (a b c d : Option StepFault) → first_refusal (a ∷ b ∷ c ∷ d ∷ []) ≡ None
-    → (a ≡ None) × (b ≡ None) × (c ≡ None) × (d ≡ None)
-none_of (Some fault) b c d e = absurd (none-some fault (sym e))
-none_of None (Some fault) c d e = absurd (none-some fault (sym e))
-none_of None None (Some fault) d e = absurd (none-some fault (sym e))
-none_of None None None (Some fault) e = absurd (none-some fault (sym e))
-none_of None None None None e = (refl, refl, refl, refl)
+none_of : (a b c d f : Option StepFault) → first_refusal (a ∷ b ∷ c ∷ d ∷ f ∷ []) ≡ None
+    → (a ≡ None) × (b ≡ None) × (c ≡ None) × (d ≡ None) × (f ≡ None)
+none_of (Some fault) b c d f e = absurd (none-some fault (sym e))
+none_of None (Some fault) c d f e = absurd (none-some fault (sym e))
+none_of None None (Some fault) d f e = absurd (none-some fault (sym e))
+none_of None None None (Some fault) f e = absurd (none-some fault (sym e))
+none_of None None None None (Some fault) e = absurd (none-some fault (sym e))
+none_of None None None None None e = (refl, refl, refl, refl, refl)
 
 pub free_of : (setup : Setup) (past : Past) (who : ℕ) (event : EventKind)
     → refusal_of setup past who event ≡ None → IsFree setup past who event
 free_of setup past who event e =
     let parts = none_of (stop_refusal past event) (seat_refusal (association_in past who) event)
-    (name_refusal setup.centre event) (weight_refusal setup past event) e in
-    record { going = parts.0; seated = parts.1; named = parts.2; light = parts.3 }
+    (name_refusal setup.centre event) (clock_refusal past event)
+    (weight_refusal setup past event) e in
+    record {
+      going = parts.0;
+      seated = parts.1;
+      named = parts.2;
+      timed = parts.3;
+      light = parts.4;
+    }
 
--- a refusal by its four parts
+-- a refusal by its five parts
 pub refusal_of-parts : (setup : Setup) (past : Past) (who : ℕ) (event : EventKind)
-    (stopped seated named heavy : Option StepFault) → stopped ≡ stop_refusal past event
+    (stopped seated named timed heavy : Option StepFault) → stopped ≡ stop_refusal past event
     → seated ≡ seat_refusal (association_in past who) event
-    → named ≡ name_refusal setup.centre event → heavy ≡ weight_refusal setup past event
-    → first_refusal (stopped ∷ seated ∷ named ∷ heavy ∷ []) ≡ refusal_of setup past who event
-refusal_of-parts setup past who event stopped seated named heavy a b c d = rw (a, b, c, d) refl
+    → named ≡ name_refusal setup.centre event → timed ≡ clock_refusal past event
+    → heavy ≡ weight_refusal setup past event
+    → first_refusal (stopped ∷ seated ∷ named ∷ timed ∷ heavy ∷ [])
+    ≡ refusal_of setup past who event
+refusal_of-parts setup past who event stopped seated named timed heavy a b c d e =
+    rw (a, b, c, d, e) refl
 
 -- that an event is free, seen by the parts of a node and of an event
 pub free_in : (seen now : NodeState) (who : ℕ) (event is : EventKind) → seen ≡ now → event ≡ is
@@ -128,6 +145,8 @@ is_memory (HistoryFull heavy limit) = false
 is_memory NoAssociation = false
 is_memory Already = false
 is_memory UnknownName = false
+is_memory ClockRange = false
+is_memory (Backward last) = false
 
 -- a refusal, if there is one, isn't for want of memory
 abbrev AreOwn : Option StepFault → Type 0
@@ -158,21 +177,45 @@ own_seat found closing = own_if (is_some found) NoAssociation refl
 own_seat found taking_orders = tt
 own_seat found (feeding move) = tt
 
-own_first : (a b c d : Option StepFault) → AreOwn a → AreOwn b → AreOwn c → AreOwn d
-    → AreOwn (first_refusal (a ∷ b ∷ c ∷ d ∷ []))
-own_first (Some fault) b c d ea eb ec ed = ea
-own_first None (Some fault) c d ea eb ec ed = eb
-own_first None None (Some fault) d ea eb ec ed = ec
-own_first None None None (Some fault) ea eb ec ed = ed
-own_first None None None None ea eb ec ed = tt
+own_clock : (last : ℕ) (sort : EventSort) → AreOwn (clock_refusal_by last sort)
+own_clock last (opening peer) = tt
+own_clock last (requesting call) = tt
+own_clock last taking = tt
+own_clock last closing = tt
+own_clock last taking_orders = tt
+own_clock last (feeding (acts key act)) = tt
+own_clock last (feeding (updates point value)) = tt
+own_clock last (feeding (tags device tag)) = tt
+own_clock last (feeding (asks peer slot)) = tt
+own_clock last (feeding (chooses peer variant)) = tt
+own_clock last (feeding takes_orders) = tt
+own_clock last (feeding stops) = tt
+own_clock last (feeding (ticks now)) = by (leb CLOCK_LIMIT now) (leb now last)
+  where
+    by : (b c : Bool)
+        → AreOwn (if b then Some ClockRange else (if c then Some (Backward last) else None))
+    by true c = refl
+    by false true = refl
+    by false false = tt
+
+own_first : (a b c d e : Option StepFault) → AreOwn a → AreOwn b → AreOwn c → AreOwn d
+    → AreOwn e → AreOwn (first_refusal (a ∷ b ∷ c ∷ d ∷ e ∷ []))
+own_first (Some fault) b c d e ea eb ec ed ee = ea
+own_first None (Some fault) c d e ea eb ec ed ee = eb
+own_first None None (Some fault) d e ea eb ec ed ee = ec
+own_first None None None (Some fault) e ea eb ec ed ee = ed
+own_first None None None None (Some fault) ea eb ec ed ee = ee
+own_first None None None None None ea eb ec ed ee = tt
 
 own_refusal : (setup : Setup) (past : Past) (who : ℕ) (event : EventKind)
     → AreOwn (refusal_of setup past who event)
 own_refusal setup past who event =
     own_first (stop_refusal past event) (seat_refusal (association_in past who) event)
-    (name_refusal setup.centre event) (weight_refusal setup past event)
-    (own_stop (is_close event) (stop_in past)) (own_seat (association_in past who) (sort_of event))
+    (name_refusal setup.centre event) (clock_refusal past event)
+    (weight_refusal setup past event) (own_stop (is_close event) (stop_in past))
+    (own_seat (association_in past who) (sort_of event))
     (own_if (is_named_there setup.centre (sort_of event)) UnknownName refl)
+    (own_clock (last_tick past) (sort_of event))
     (own_unless (not (is_ending event) && ltb setup.limit (weight_of past + weight event))
     (HistoryFull (weight_of past + weight event) setup.limit) refl)
 
@@ -184,6 +227,8 @@ is_refusal event refusal (HistoryFull heavy limit) own e = e
 is_refusal event refusal NoAssociation own e = e
 is_refusal event refusal Already own e = e
 is_refusal event refusal UnknownName own e = e
+is_refusal event refusal ClockRange own e = e
+is_refusal event refusal (Backward last) own e = e
 
 pub IsRefusal-of : (setup : Setup) (past : Past) (who : ℕ) (event : EventKind) (fault : StepFault)
     → refusal_of setup past who event ≡ Some fault
@@ -201,6 +246,8 @@ request-goes_on Take request = absurd request
 request-goes_on Close request = absurd request
 request-goes_on (Update point value) request = absurd request
 request-goes_on (Table peer variant) request = absurd request
+request-goes_on (Tick now) request = absurd request
+request-goes_on (Ask asker slot) request = absurd request
 request-goes_on Stop request = absurd request
 
 pub request-leaves : (event : EventKind) (before behind : ℕ) → IsRequest event → behind ≡ before
@@ -211,4 +258,6 @@ request-leaves Take before behind request same = absurd request
 request-leaves Close before behind request same = absurd request
 request-leaves (Update point value) before behind request same = absurd request
 request-leaves (Table peer variant) before behind request same = absurd request
+request-leaves (Tick now) before behind request same = absurd request
+request-leaves (Ask asker slot) before behind request same = absurd request
 request-leaves Stop before behind request same = absurd request

@@ -8,7 +8,7 @@ use Rattle.bilateral.specs.Rows.{CentreRows, variants_of}
 use Rattle.sbo_device.specs.declared.key.Key.{Key}
 use Rattle.tase_views.specs.declared.event.EventKind.{EventKind}
 use Rattle.tase_views.specs.declared.event.EventKind.TheVariants.{Open, Request, Take, Close}
-use Rattle.tase_views.specs.declared.event.EventKind.TheVariants.{Update, Table, Stop}
+use Rattle.tase_views.specs.declared.event.EventKind.TheVariants.{Update, Table, Tick, Ask, Stop}
 use Rattle.tase_views.specs.declared.call.CallKind.{CallKind}
 use Rattle.tase_views.specs.declared.call.CallKind.TheVariants.{Identify, Read, ReadSet, Write}
 use Rattle.tase_views.specs.declared.call.CallKind.TheVariants.{WriteSet, NameList, Define}
@@ -29,23 +29,27 @@ use Rattle.node_core.specs.Stored.{IsNode, found_by, IsPeerThere, MayOpen, IsCha
 use Rattle.node_core.specs.Stored.{IsRequest, IsReplied}
 use Rattle.node_core.proofs.SetBooks.{fault_alike}
 use Rattle.node_core.proofs.Steps.{IsCommon-open, IsCommon-close, IsCommon-request, IsCommon-take}
-use Rattle.node_core.proofs.Steps.{IsCommon-update, IsCommon-chosen, IsCommon-stop, AreParts-acted}
-use Rattle.node_core.proofs.Steps.{AreParts-take, AreParts-update, AreParts-chosen, AreParts-stop}
+use Rattle.node_core.proofs.Steps.{IsCommon-update, IsCommon-chosen, IsCommon-tick, IsCommon-ask}
+use Rattle.node_core.proofs.Steps.{IsCommon-stop, AreParts-acted}
+use Rattle.node_core.proofs.Steps.{AreParts-take, AreParts-update, AreParts-chosen, AreParts-tick}
+use Rattle.node_core.proofs.Steps.{AreParts-ask, AreParts-stop}
 use Rattle.node_core.proofs.Steps.{part_there, IsPeerThere-of, opens-at, MayOpen-of}
 use Rattle.node_core.proofs.Steps.{opens_in-le-length}
 
 -- only what is kept counts
 pub IsNode-alike : (rows : CentreRows) (past : Past) (hub new : Hub) (parts after : Parts)
-    → new.points ≡ hub.points → ((who : ℕ) → found_by new who ≡ found_by hub who)
+    → new.points ≡ hub.points → new.last_tick ≡ hub.last_tick
+    → ((who : ℕ) → found_by new who ≡ found_by hub who)
     → after.peers.items ≡ parts.peers.items → IsNode rows past hub parts
     → IsNode rows past new after
-IsNode-alike rows past hub new parts after points seats peers n = record {
+IsNode-alike rows past hub new parts after points clock seats peers n = record {
   common = record {
     lawful = n.common.lawful;
     kept = rw points n.common.kept;
     seated = λ who. seats who ∙ n.common.seated who;
     known = λ who key e. n.common.known who key (sym (seats who) ∙ e);
   };
+  clock = clock ∙ n.clock;
   peers = rw peers n.peers;
 }
 
@@ -87,36 +91,38 @@ module _ (rows : CentreRows) (past : Past) (hub : Hub) (parts : Parts)
 
   module _ (who : ℕ) (new : Hub) (after : Parts) where
     pub IsNode-open : (peer : ℕ) (key : Key) → peer < length rows.tables
-        → key ≡ next_key past peer → new.points ≡ hub.points
+        → key ≡ next_key past peer → new.points ≡ hub.points → new.last_tick ≡ hub.last_tick
         → ((asked : ℕ) → found_by new asked
         ≡ (if who == asked then Some key else found_by hub asked))
         → ((tables : OwnTables) (ordinal : ℕ) → IsChanged parts.peers.items peer
         (part_after tables (own ordinal opens)) after.peers.items)
         → IsNode rows (record { who = who; event = Open peer } ∷ past) new after
-    IsNode-open peer key there key_is points seats changed =
+    IsNode-open peer key there key_is points clock seats changed =
         let part = its_part peer there in
         record {
           common = rw points (IsCommon-open rows past hub.points (found_by hub) who n.common peer
               (found_by new) there
               (λ asked. seats asked ∙ ap (λ (k : Key). if who == asked then Some k
               else found_by hub asked) key_is));
+          clock = clock ∙ n.clock;
           peers = rw (changed (own_tables rows peer) (opens_in past peer) part.0 part.1)
               (AreParts-acted rows past who parts.peers.items (Open peer) (next_key past peer)
               (opens ∷ []) part.0 refl (tt, tt) part.1 n.peers);
         }
 
     pub IsNode-close : (key : Key) → association_in past who ≡ Some key
-        → new.points ≡ hub.points
+        → new.points ≡ hub.points → new.last_tick ≡ hub.last_tick
         → ((asked : ℕ) → found_by new asked
         ≡ (if who == asked then None else found_by hub asked))
         → ((ordinal : ℕ) → IsChanged parts.peers.items key.peer
         (part_after (own_tables rows key.peer) (own ordinal closes)) after.peers.items)
         → IsNode rows (record { who = who; event = Close } ∷ past) new after
-    IsNode-close key seated points seats changed =
+    IsNode-close key seated points clock seats changed =
         let part = its_part key.peer (seat_there who key seated) in
         record {
           common = rw points (IsCommon-close rows past hub.points (found_by hub) who n.common
               (found_by new) seats);
+          clock = clock ∙ n.clock;
           peers = rw (changed key.ordinal part.0 part.1)
               (AreParts-acted rows past who parts.peers.items Close key (closes ∷ []) part.0
               (ap (λ (found : Option Key). moves_by found (closes ∷ [])) seated) (tt, tt) part.1
@@ -127,24 +133,43 @@ module _ (rows : CentreRows) (past : Past) (hub : Hub) (parts : Parts)
         → IsNode rows (record { who = who; event = Take } ∷ past) new after
     IsNode-take same alike = record {
       common = rw same (IsCommon-take rows past hub.points (found_by hub) who n.common);
+      clock = rw same n.clock;
       peers = rw alike (AreParts-take rows past who parts.peers.items n.peers);
+    }
+
+    pub IsNode-tick : (now : ℕ) → new ≡ record hub { last_tick = now } → after ≡ parts
+        → IsNode rows (record { who = who; event = Tick now } ∷ past) new after
+    IsNode-tick now same alike = record {
+      common = rw same (IsCommon-tick rows past hub.points (found_by hub) who n.common now);
+      clock = rw same refl;
+      peers = rw alike (AreParts-tick rows past who parts.peers.items now n.peers);
+    }
+
+    pub IsNode-ask : (peer slot : ℕ) → new ≡ hub → after ≡ parts
+        → IsNode rows (record { who = who; event = Ask peer slot } ∷ past) new after
+    IsNode-ask peer slot same alike = record {
+      common = rw same (IsCommon-ask rows past hub.points (found_by hub) who n.common peer slot);
+      clock = rw same n.clock;
+      peers = rw alike (AreParts-ask rows past who parts.peers.items peer slot n.peers);
     }
 
     pub IsNode-stop : new ≡ hub → after ≡ parts
         → IsNode rows (record { who = who; event = Stop } ∷ past) new after
     IsNode-stop same alike = record {
       common = rw same (IsCommon-stop rows past hub.points (found_by hub) who n.common);
+      clock = rw same n.clock;
       peers = rw alike (AreParts-stop rows past who parts.peers.items n.peers);
     }
 
     pub IsNode-update : (point : ℕ) (value : Sample)
         → KeepsPoints (kinds_of rows) (record { point = point; value = value } ∷ updates_in past)
         new.points
-        → new.seats ≡ hub.seats → after ≡ parts
+        → new.seats ≡ hub.seats → new.last_tick ≡ hub.last_tick → after ≡ parts
         → IsNode rows (record { who = who; event = Update point value } ∷ past) new after
-    IsNode-update point value kept seats alike = record {
+    IsNode-update point value kept seats clock alike = record {
       common = rw seats (IsCommon-update rows past hub.points (found_by hub) who n.common point
           value new.points kept);
+      clock = clock ∙ n.clock;
       peers = rw alike (AreParts-update rows past who parts.peers.items point value n.peers);
     }
 
@@ -158,6 +183,7 @@ module _ (rows : CentreRows) (past : Past) (hub : Hub) (parts : Parts)
         record {
           common = rw same (IsCommon-chosen rows past hub.points (found_by hub) who n.common peer
               variant);
+          clock = rw same n.clock;
           peers = rw (changed part.0 part.1)
               (AreParts-chosen rows past who parts.peers.items peer variant part.0 known part.1
               n.peers);
@@ -178,12 +204,17 @@ module _ (rows : CentreRows) (past : Past) (hub : Hub) (parts : Parts)
         absurd request
     IsNode-request key (Table peer variant) reply seated request replied same lawful asked =
         absurd request
+    IsNode-request key (Tick now) reply seated request replied same lawful asked =
+        absurd request
+    IsNode-request key (Ask asker slot) reply seated request replied same lawful asked =
+        absurd request
     IsNode-request key Stop reply seated request replied same lawful asked = absurd request
     IsNode-request key (Request call) reply seated request replied same lawful asked =
         let part = its_part key.peer (seat_there who key seated) in
         record {
           common = rw same (IsCommon-request rows past hub.points (found_by hub) who n.common
               (Request call) tt);
+          clock = rw same n.clock;
           peers = rw (asked part.0 part.1
               (by_book (own_tables rows key.peer) (view_of rows key.peer past) part.0 call reply
               key.ordinal part.2 replied))

@@ -9,7 +9,7 @@ use Rattle.sbo_device.specs.declared.key.Key.{Key}
 use Rattle.tase_views.specs.declared.call.CallKind.{CallKind}
 use Rattle.tase_views.specs.declared.event.EventKind.{EventKind}
 use Rattle.tase_views.specs.declared.event.EventKind.TheVariants.{Open, Request, Take, Close}
-use Rattle.tase_views.specs.declared.event.EventKind.TheVariants.{Update, Table, Stop}
+use Rattle.tase_views.specs.declared.event.EventKind.TheVariants.{Update, Table, Tick, Ask, Stop}
 use Rattle.tase_views.specs.declared.reply.ReplyKind.{ReplyKind}
 use Rattle.tase_views.specs.declared.reply.Answer.TheVariants.{Opened, Reply, Reports, Closed}
 use Rattle.tase_views.specs.declared.reply.Answer.TheVariants.{Noted}
@@ -49,6 +49,16 @@ answer_by-table : (rows : CentreRows) (past : Past) (peer variant : ℕ) (key : 
 answer_by-table rows past peer variant None = refl
 answer_by-table rows past peer variant (Some key) = refl
 
+answer_by-tick : (rows : CentreRows) (past : Past) (now : ℕ) (key : Option Key)
+    → Noted ≡ answer_by rows past (Tick now) key
+answer_by-tick rows past now None = refl
+answer_by-tick rows past now (Some key) = refl
+
+answer_by-ask : (rows : CentreRows) (past : Past) (peer slot : ℕ) (key : Option Key)
+    → Noted ≡ answer_by rows past (Ask peer slot) key
+answer_by-ask rows past peer slot None = refl
+answer_by-ask rows past peer slot (Some key) = refl
+
 answer_by-stop : (rows : CentreRows) (past : Past) (key : Option Key)
     → Noted ≡ answer_by rows past Stop key
 answer_by-stop rows past None = refl
@@ -63,6 +73,16 @@ pub IsAnswer-table : (setup : Setup) (past : Past) (who peer variant : ℕ) (eve
     → event ≡ Table peer variant → IsAnswer setup past who event Noted
 IsAnswer-table setup past who peer variant event is =
     rw is (answer_by-table setup.centre past peer variant (association_in past who))
+
+pub IsAnswer-tick : (setup : Setup) (past : Past) (who now : ℕ) (event : EventKind)
+    → event ≡ Tick now → IsAnswer setup past who event Noted
+IsAnswer-tick setup past who now event is =
+    rw is (answer_by-tick setup.centre past now (association_in past who))
+
+pub IsAnswer-ask : (setup : Setup) (past : Past) (who peer slot : ℕ) (event : EventKind)
+    → event ≡ Ask peer slot → IsAnswer setup past who event Noted
+IsAnswer-ask setup past who peer slot event is =
+    rw is (answer_by-ask setup.centre past peer slot (association_in past who))
 
 pub IsAnswer-stop : (setup : Setup) (past : Past) (who : ℕ) (event : EventKind) → event ≡ Stop
     → IsAnswer setup past who event Noted

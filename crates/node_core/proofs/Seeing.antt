@@ -8,7 +8,7 @@ use Rattle.sbo_device.specs.declared.key.Key.{Key}
 use Rattle.sbo_device.specs.Moves.{DeviceAct}
 use Rattle.tase_views.specs.declared.event.EventKind.{EventKind}
 use Rattle.tase_views.specs.declared.event.EventKind.TheVariants.{Open, Request, Take, Close}
-use Rattle.tase_views.specs.declared.event.EventKind.TheVariants.{Update, Table, Stop}
+use Rattle.tase_views.specs.declared.event.EventKind.TheVariants.{Update, Table, Tick, Ask, Stop}
 use Rattle.tase_views.specs.History.{Past, association_in, opens_in}
 use Rattle.tase_views.specs.OwnTables.{OwnDevice, OwnTable, OwnTables, own_tables, is_point_of}
 use Rattle.tase_views.specs.OwnTables.{is_selectable}
@@ -16,7 +16,7 @@ use Rattle.tase_views.specs.Devices.{Deed, deed_of}
 use Rattle.tase_views.specs.Moves.{Act, opens, takes, closes, reads, writes, defines, deletes}
 use Rattle.tase_views.specs.Moves.{calls}
 use Rattle.tase_views.specs.Moves.{Move, acts, moves_by, acts_of_call}
-use Rattle.tase_views.specs.View.{own, other_acted, other_closed, View, shows_act, deed_seen}
+use Rattle.tase_views.specs.View.{own, other_acted, other_closed, View, shows_act, deed_seen, asked}
 use Rattle.tase_views.specs.View.{other_seen, held_in, view_by, moves_in, view_of, updated, chose}
 use Rattle.node_core.specs.PeerParts.{opens_seen, EachAct}
 use Rattle.node_core.proofs.CallActs.{IsOpenless, openless_call}
@@ -170,6 +170,14 @@ opens_behind rows peer past who (Table chooser variant) same =
     (elim (chooser == peer) as
     (λ b. opens_seen (cons_option (if b
     then Some (chose variant)
+    else None) (view_of rows peer past)) ≡ opens_in past peer)
+    [ true ↦ same | false ↦ same ])
+    ∙ omega arith
+opens_behind rows peer past who (Tick now) same = omega (arith, same)
+opens_behind rows peer past who (Ask asker slot) same =
+    (elim (asker == peer) as
+    (λ b. opens_seen (cons_option (if b
+    then Some (asked slot)
     else None) (view_of rows peer past)) ≡ opens_in past peer)
     [ true ↦ same | false ↦ same ])
     ∙ omega arith

@@ -22,7 +22,7 @@ use Rattle.bilateral.specs.Rows.{CentreRows, IsCentre, no_table, table_of, point
 use Rattle.sbo_device.specs.declared.key.Key.{Key}
 use Rattle.tase_views.specs.declared.event.EventKind.{EventKind}
 use Rattle.tase_views.specs.declared.event.EventKind.TheVariants.{Open, Request, Take, Close}
-use Rattle.tase_views.specs.declared.event.EventKind.TheVariants.{Update, Stop}
+use Rattle.tase_views.specs.declared.event.EventKind.TheVariants.{Update, Tick, Ask, Stop}
 use Rattle.tase_views.specs.declared.event.EventKind.TheVariants.{Table as Choice}
 use Rattle.tase_views.specs.Moves.{Act, takes, Move, acts, moves_of, EventSort, sort_of, opening}
 use Rattle.tase_views.specs.Moves.{requesting, taking, closing, taking_orders, feeding}
@@ -31,7 +31,9 @@ use Rattle.tase_views.specs.History.{key_at, opens_in, counts_open, next_key}
 use Rattle.tase_views.specs.OwnTables.{OwnTables, own_table, own_tables, no_own_table, table_in}
 use Rattle.tase_views.specs.OwnTables.{is_point_of}
 use Rattle.tase_views.specs.Outcomes.{is_known}
-use Rattle.tase_views.specs.View.{own, other_acted, other_closed, updated, chose, stopped}
+use Rattle.tase_views.specs.View.{own, other_acted, other_closed, updated, ticked}
+use Rattle.tase_views.specs.View.{asked as requested, chose}
+use Rattle.tase_views.specs.View.{stopped}
 use Rattle.tase_views.specs.View.{View, view_by, moves_in, view_of}
 use Rattle.node_core.specs.declared.peer.Peer.{Peer}
 use Rattle.node_core.specs.LastValues.{kinds_of, updates_in}
@@ -216,6 +218,26 @@ module _ (rows : CentreRows) (past : Past) (who : ℕ) (peers : List Peer) where
       (λ peer part p. IsPart-after (own_tables rows peer) (own_bare rows peer)
       (view_of rows peer past) part stopped tt p) s
 
+  pub AreParts-tick : (now : ℕ) → AreParts rows past peers
+      → AreParts rows (record { who = who; event = Tick now } ∷ past) peers
+  AreParts-tick now s =
+      AreParts-left (Tick now)
+      (λ peer part p. IsPart-after (own_tables rows peer) (own_bare rows peer)
+      (view_of rows peer past) part (ticked now) tt p) s
+
+  pub AreParts-ask : (asker slot : ℕ) → AreParts rows past peers
+      → AreParts rows (record { who = who; event = Ask asker slot } ∷ past) peers
+  AreParts-ask asker slot s =
+      AreParts-left (Ask asker slot)
+      (λ peer part p.
+      elim (asker == peer) as
+      (λ b. IsPart (own_tables rows peer)
+      (cons_option (if b then Some (requested slot) else None) (view_of rows peer past)) part) [
+        | true ↦ IsPart-after (own_tables rows peer) (own_bare rows peer) (view_of rows peer past)
+            part (requested slot) tt p
+        | false ↦ p
+      ]) s
+
   -- a choice of another table
   pub AreParts-chosen : (chooser variant : ℕ) (part : Peer)
       → variant < length (variants_of rows chooser) → slice_get peers chooser ≡ Some part
@@ -326,6 +348,8 @@ module _ (rows : CentreRows) (past : Past) (points : PointsStored) (found : ℕ 
   IsCommon-request Close request = absurd request
   IsCommon-request (Update point value) request = absurd request
   IsCommon-request (Choice peer variant) request = absurd request
+  IsCommon-request (Tick now) request = absurd request
+  IsCommon-request (Ask asker slot) request = absurd request
   IsCommon-request Stop request = absurd request
 
   pub IsCommon-take : IsCommon rows (record { who = who; event = Take } ∷ past) points found
@@ -345,6 +369,18 @@ module _ (rows : CentreRows) (past : Past) (points : PointsStored) (found : ℕ 
   IsCommon-update point value kept given =
       IsCommon-after rows past points kept found found who (Update point value)
       (λ opener e. absurd cc) given (unseated (Update point value) (λ before. refl)) s
+
+  pub IsCommon-tick : (now : ℕ)
+      → IsCommon rows (record { who = who; event = Tick now } ∷ past) points found
+  IsCommon-tick now =
+      IsCommon-after rows past points points found found who (Tick now)
+      (λ opener e. absurd cc) s.kept (unseated (Tick now) (λ before. refl)) s
+
+  pub IsCommon-ask : (peer slot : ℕ)
+      → IsCommon rows (record { who = who; event = Ask peer slot } ∷ past) points found
+  IsCommon-ask peer slot =
+      IsCommon-after rows past points points found found who (Ask peer slot)
+      (λ opener e. absurd cc) s.kept (unseated (Ask peer slot) (λ before. refl)) s
 
   pub IsCommon-stop : IsCommon rows (record { who = who; event = Stop } ∷ past) points found
   IsCommon-stop =
@@ -412,6 +448,8 @@ counts_open-le-one Take peer = omega arith
 counts_open-le-one Close peer = omega arith
 counts_open-le-one (Update point value) peer = omega arith
 counts_open-le-one (Choice chooser variant) peer = omega arith
+counts_open-le-one (Tick now) peer = omega arith
+counts_open-le-one (Ask asker slot) peer = omega arith
 counts_open-le-one Stop peer = omega arith
 
 -- no peer has opened more associations than the history has entries

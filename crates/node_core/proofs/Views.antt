@@ -10,11 +10,11 @@ use Rattle.bilateral.specs.declared.rows.PointRow.{PointRow}
 use Rattle.bilateral.specs.Rows.{CentreRows, IsCentre, point_of, variants_of, variant_of}
 use Rattle.tase_views.specs.declared.event.EventKind.{EventKind}
 use Rattle.tase_views.specs.declared.event.EventKind.TheVariants.{Open, Request, Take, Close}
-use Rattle.tase_views.specs.declared.event.EventKind.TheVariants.{Update, Table, Stop}
+use Rattle.tase_views.specs.declared.event.EventKind.TheVariants.{Update, Table, Tick, Ask, Stop}
 use Rattle.tase_views.specs.History.{Past, association_in, next_key}
 use Rattle.tase_views.specs.OwnTables.{OwnTable, own_tables, table_in, is_point_of}
 use Rattle.tase_views.specs.Moves.{Act, opens, takes, closes, acts_of_call}
-use Rattle.tase_views.specs.View.{updated, chose, View, moves_in, view_of, force, held}
+use Rattle.tase_views.specs.View.{updated, chose, View, moves_in, view_of, force, held, asked}
 use Rattle.tase_views.specs.Values.{values_in}
 use Rattle.point_db.specs.Updates.{values_given}
 use Rattle.point_db.specs.Stored.{Stored as PointsStored, Keeps as KeepsPoints}
@@ -92,6 +92,12 @@ module _ (rows : CentreRows) (peer p : ℕ) (lawful : IsCentre rows)
   values_behind past who (Table chooser variant) shown =
       elim (chooser == peer) as
       (λ b. values_in (cons_option (if b then Some (chose variant) else None)
+      (view_of rows peer past)) (point_of rows p).name ≡ values_given (updates_in past) p)
+      [ true ↦ shown | false ↦ shown ]
+  values_behind past who (Tick now) shown = shown
+  values_behind past who (Ask asker slot) shown =
+      elim (asker == peer) as
+      (λ b. values_in (cons_option (if b then Some (asked slot) else None)
       (view_of rows peer past)) (point_of rows p).name ≡ values_given (updates_in past) p)
       [ true ↦ shown | false ↦ shown ]
   values_behind past who (Update q new) shown =

@@ -9,7 +9,7 @@ use Rattle.sbo_device.specs.declared.key.Key.{Key}
 use Rattle.tase_views.specs.declared.event.EventKind.{EventKind}
 use Rattle.tase_views.specs.declared.event.EventKind.TheVariants.{Request}
 use Rattle.tase_views.specs.declared.reply.ReplyKind.{ReplyKind}
-use Rattle.tase_views.specs.History.{Past, association_in}
+use Rattle.tase_views.specs.History.{Past, association_in, last_tick}
 use Rattle.tase_views.specs.OwnTables.{OwnTable, own_tables, table_in}
 use Rattle.tase_views.specs.Moves.{Act}
 use Rattle.tase_views.specs.View.{view_of}
@@ -41,6 +41,7 @@ pub record AreParts (rows : CentreRows) (past : Past) (peers : List Peer) : Type
 -- what a node with this past keeps
 pub record IsNode (rows : CentreRows) (past : Past) (hub : Hub) (parts : Parts) : Type 0 where
   pub common : IsCommon rows past hub.points (found_by hub)
+  pub clock : hub.last_tick ≡ last_tick past
   pub peers : AreParts rows past parts.peers.items
 
 -- a peer has a table and a part, whose tables are there

@@ -15,11 +15,13 @@ use std::alloc::{AllocError, Global};
 use std::collections::HashMap;
 use tase_points::{Kind, PointValue};
 
-/// The points, and the associations of the seats.
+/// The points, the clock, and the associations of the seats.
 #[derive(Drop)]
 pub struct Hub {
     /// The last value of each point, and how often it has changed.
     points: PointDb,
+    /// The moment of the last tick, in milliseconds since 1970; before any, 0.
+    last_tick: u64,
     /// The open association of each seat that has one.
     seats: HashMap<u64, Key>,
 }
@@ -30,10 +32,12 @@ impl Hub {
         ensures kept { IfOk result (λ hub. Keeps (kinds_of centre.now) [] hub.points) }
         ensures free { IfOk result (λ hub. (who : ℕ) → found_by hub who ≡ None) }
         ensures none { IfOk result (λ hub. hash_map_len hub.seats ≡ 0) }
+        ensures clock { IfOk result (λ hub. hub.last_tick ≡ 0) }
     {
         let kinds = point_kinds(alloc, centre)?;
         Ok(Hub {
             points: PointDb::new(alloc, kinds.as_slice())?,
+            last_tick: 0,
             seats: HashMap::new(alloc),
         })
     }
@@ -42,6 +46,13 @@ impl Hub {
         ensures { result.now ≡ self.now.points }
     {
         &self.points
+    }
+
+    /// The moment of the last tick, in milliseconds since 1970; before any, 0.
+    pub fn last_tick(&self) -> u64
+        ensures { result ≡ self.now.last_tick }
+    {
+        self.last_tick
     }
 
     /// The open association of a seat.
@@ -62,6 +73,7 @@ impl Hub {
     /// A seat opens an association.
     pub fn seat(&mut self, who: u64, key: Key) -> Result<(), AllocError>
         ensures points { self.new.points ≡ self.old.points }
+        ensures clock { self.new.last_tick ≡ self.old.last_tick }
         ensures ok { OnOk result ((asked : ℕ) → found_by self.new asked
             ≡ (if who == asked then Some key else found_by self.old asked)) }
         ensures count { found_by self.old who ≡ None → OnOk result
@@ -78,6 +90,7 @@ impl Hub {
     /// The association of a seat is closed.
     pub fn unseat(&mut self, who: u64)
         ensures points { self.new.points ≡ self.old.points }
+        ensures clock { self.new.last_tick ≡ self.old.last_tick }
         ensures seats { (asked : ℕ) → found_by self.new asked
             ≡ (if who == asked then None else found_by self.old asked) }
         ensures count { is_some (found_by self.old who) ≡ true
@@ -92,8 +105,16 @@ impl Hub {
         ensures kept { (kinds : List PointKind) (past : Updates) → Keeps kinds past self.old.points
             → Keeps kinds (record { point = point; value = value } ∷ past) self.new.points }
         ensures seats { self.new.seats ≡ self.old.seats }
+        ensures clock { self.new.last_tick ≡ self.old.last_tick }
     {
         self.points.update(point, value);
+    }
+
+    /// The clock stands at a moment.
+    pub fn tick(&mut self, now: u64)
+        ensures { self.new ≡ record self.old { last_tick = now } }
+    {
+        self.last_tick = now;
     }
 }
 

@@ -3,7 +3,8 @@ ghost use Rattle.std.specs.Prelude.{None, false, IfOk, OnOk, OnErr};
 ghost use Rattle.std.specs.Arc.{arc_value};
 ghost use Rattle.bilateral.specs.Rows.{variants_of};
 ghost use Rattle.tase_views.specs.declared.event.EventKind.TheVariants.{Open, Take, Close};
-ghost use Rattle.tase_views.specs.declared.event.EventKind.TheVariants.{Update, Table, Stop};
+ghost use Rattle.tase_views.specs.declared.event.EventKind.TheVariants.{Update, Table, Tick, Ask};
+ghost use Rattle.tase_views.specs.declared.event.EventKind.TheVariants.{Stop};
 ghost use Rattle.tase_views.specs.Setup.{Setup};
 ghost use Rattle.tase_views.specs.History.{association_in};
 ghost use Rattle.tase_views.specs.OwnTables.{own_tables};
@@ -20,7 +21,7 @@ use crate::hub::Hub;
 use crate::in_force::InForce;
 use crate::log::Log;
 use crate::parts::Parts;
-use crate::refusals::{first_refusal, name_refusal, seat_refusal};
+use crate::refusals::{clock_refusal, first_refusal, name_refusal, seat_refusal};
 use crate::replies::PeerView;
 use bilateral::Centre;
 use data_sets::SetBook;
@@ -136,6 +137,7 @@ impl Node {
             self.log.stop_refusal(event),
             seat_refusal(self.hub.association(who), event),
             name_refusal(&self.centre, event),
+            clock_refusal(self.hub.last_tick(), event),
             self.log.weight_refusal(event),
         )
     }
@@ -210,6 +212,15 @@ impl Node {
                 let variant = *variant;
                 self.choose(alloc, who, peer, variant, event)
             }
+            EventKind::Tick { now } => {
+                let now = *now;
+                self.tick(who, now, event)
+            }
+            EventKind::Ask { peer, slot } => {
+                let peer = *peer;
+                let slot = *slot;
+                self.ask(who, peer, slot, event)
+            }
             EventKind::Stop => {
                 self.stop(who, event);
                 Ok(Answer::Noted)
@@ -270,6 +281,35 @@ impl Node {
     {
         self.log.reserve(self.hub.open_count())?;
         self.parts.choose(alloc, &self.centre, peer, variant);
+        self.log.append(who, event);
+        Ok(Answer::Noted)
+    }
+
+    fn tick(&mut self, who: u64, now: u64, event: Event) -> Result<Answer, AllocError>
+        requires tick { event ≡ Tick now }
+        requires free { refusal_of self.old.setup (reverse self.old.history) who event ≡ None }
+        ensures answer { IfOk result
+            (IsAnswer self.old.setup (reverse self.old.history) who event) }
+        ensures ok { OnOk result (self.new ≡ with_entry self.old who event) }
+        ensures err { OnErr result (self.new ≡ self.old) }
+    {
+        self.log.reserve(self.hub.open_count())?;
+        self.hub.tick(now);
+        self.log.append(who, event);
+        Ok(Answer::Noted)
+    }
+
+    /// Adds a request of the operator to the history. The node offers no transfer sets, so it makes
+    /// no report.
+    fn ask(&mut self, who: u64, peer: u32, slot: u32, event: Event) -> Result<Answer, AllocError>
+        requires ask { event ≡ Ask peer slot }
+        requires free { refusal_of self.old.setup (reverse self.old.history) who event ≡ None }
+        ensures answer { IfOk result
+            (IsAnswer self.old.setup (reverse self.old.history) who event) }
+        ensures ok { OnOk result (self.new ≡ with_entry self.old who event) }
+        ensures err { OnErr result (self.new ≡ self.old) }
+    {
+        self.log.reserve(self.hub.open_count())?;
         self.log.append(who, event);
         Ok(Answer::Noted)
     }

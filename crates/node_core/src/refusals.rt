@@ -1,22 +1,25 @@
 //! Why an event is refused.
 ghost use Rattle.std.specs.Prelude.{◌≡◌, [], ◌∷◌};
+ghost use Rattle.tase_views.specs.Moves.{sort_of};
 ghost use Rattle.tase_views.specs.Outcomes as causes;
 
 use bilateral::Centre;
 use sbo_device::Key;
 use tase_points::PointValue;
-use tase_views::{Event, EventKind, StepFault};
+use tase_views::{CLOCK_LIMIT, Event, EventKind, StepFault, has_slot};
 
 /// The first refusal, if there is one.
 pub fn first_refusal(
     stopped: Option<StepFault>,
     seated: Option<StepFault>,
     named: Option<StepFault>,
+    timed: Option<StepFault>,
     heavy: Option<StepFault>,
 ) -> Option<StepFault>
-    ensures { result ≡ causes.first_refusal (stopped ∷ seated ∷ named ∷ heavy ∷ []) }
+    ensures { result ≡ causes.first_refusal (stopped ∷ seated ∷ named ∷ timed
+        ∷ heavy ∷ []) }
 {
-    stopped.or(seated).or(named).or(heavy)
+    stopped.or(seated).or(named).or(timed).or(heavy)
 }
 
 /// Refuses an open of a seat with this association, and what needs one of a seat without.
@@ -26,7 +29,11 @@ pub fn seat_refusal(found: Option<Key>, event: &Event) -> Option<StepFault>
     match event.kind() {
         EventKind::Open { .. } => found.map(|_| StepFault::Already),
         EventKind::Request { .. } | EventKind::Take | EventKind::Close => no_association(found),
-        EventKind::Update { .. } | EventKind::Table { .. } | EventKind::Stop => None,
+        EventKind::Update { .. }
+        | EventKind::Table { .. }
+        | EventKind::Tick { .. }
+        | EventKind::Ask { .. }
+        | EventKind::Stop => None,
     }
 }
 
@@ -40,8 +47,8 @@ fn no_association(found: Option<Key>) -> Option<StepFault>
     }
 }
 
-/// Refuses a peer, a point or a table that the centre hasn't, and a value of another kind than its
-/// point's.
+/// Refuses a peer, a point, a table or a transfer set that the centre hasn't, and a value of
+/// another kind than its point's.
 pub fn name_refusal(centre: &Centre, event: &Event) -> Option<StepFault>
     ensures { result ≡ causes.name_refusal centre.now event.now }
 {
@@ -49,12 +56,29 @@ pub fn name_refusal(centre: &Centre, event: &Event) -> Option<StepFault>
         EventKind::Open { peer } => *peer < centre.peers(),
         EventKind::Update { point, value } => is_known(centre, *point, value),
         EventKind::Table { peer, variant } => has_table(centre, *peer, *variant),
+        EventKind::Ask { peer, slot } => has_slot(centre, *peer, *slot),
         _ => true,
     };
     if known {
         None
     } else {
         Some(StepFault::UnknownName)
+    }
+}
+
+/// Refuses a tick to a moment out of range, and one that isn't above the last one.
+pub fn clock_refusal(last: u64, event: &Event) -> Option<StepFault>
+    ensures { result ≡ causes.clock_refusal_by last (sort_of event.now) }
+{
+    let EventKind::Tick { now } = event.kind() else {
+        return None;
+    };
+    if *now >= CLOCK_LIMIT {
+        Some(StepFault::ClockRange)
+    } else if *now <= last {
+        Some(StepFault::Backward { last })
+    } else {
+        None
     }
 }
 

@@ -9,7 +9,7 @@ use Rattle.sbo_device.specs.declared.key.Key.{Key}
 use Rattle.bilateral.specs.Rows.{CentreRows, table_of, point_of}
 use Rattle.tase_views.specs.declared.event.EventKind.{EventKind}
 use Rattle.tase_views.specs.declared.event.EventKind.TheVariants as events
-use Rattle.tase_views.specs.Moves.{Act, Move, acts, updates, chooses}
+use Rattle.tase_views.specs.Moves.{Act, Move, acts, updates, asks, chooses}
 use Rattle.tase_views.specs.Moves.{acts_of_call, moves_by, moves_of, sort_of}
 use Rattle.tase_views.specs.Moves as act
 use Rattle.tase_views.specs.OwnTables.{OwnDevice, OwnTable, OwnTables, Owns}
@@ -125,6 +125,10 @@ apart_event rows owns key (events.Update point value) found before apart =
 apart_event rows owns key (events.Table chooser variant) found before apart =
     apart_cons key.ordinal (seen_by rows owns key.peer before (chooses chooser variant)) []
     (apart_if (chooser == key.peer) key.ordinal (chose variant) refl) refl
+apart_event rows owns key (events.Tick now) found before apart = refl
+apart_event rows owns key (events.Ask asker slot) found before apart =
+    apart_cons key.ordinal (seen_by rows owns key.peer before (asks asker slot)) []
+    (apart_if (asker == key.peer) key.ordinal (asked slot) refl) refl
 apart_event rows owns key events.Stop found before apart = refl
 
 pub neither : (a b : Bool) → (a || b) ≡ false → (a ≡ false) × (b ≡ false)

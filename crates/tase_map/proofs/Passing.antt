@@ -223,6 +223,10 @@ quiet_event rows key who (events.Update point value) past q e =
     made_noted rows key who (events.Update point value) past tt
 quiet_event rows key who (events.Table chooser variant) past q e =
     made_noted rows key who (events.Table chooser variant) past tt
+quiet_event rows key who (events.Tick now) past q e =
+    made_noted rows key who (events.Tick now) past tt
+quiet_event rows key who (events.Ask asker slot) past q e =
+    made_noted rows key who (events.Ask asker slot) past tt
 quiet_event rows key who events.Stop past q e = made_noted rows key who events.Stop past tt
 
 -- ---- before the open
@@ -250,6 +254,10 @@ yet_none who events.Close past key y e = let g = issued past who key e in omega 
 yet_none who (events.Update point value) past key y e =
     let g = issued past who key e in omega (arith, g, y)
 yet_none who (events.Table chooser variant) past key y e =
+    let g = issued past who key e in omega (arith, g, y)
+yet_none who (events.Tick now) past key y e =
+    let g = issued past who key e in omega (arith, g, y)
+yet_none who (events.Ask asker slot) past key y e =
     let g = issued past who key e in omega (arith, g, y)
 yet_none who events.Stop past key y e = let g = issued past who key e in omega (arith, g, y)
 

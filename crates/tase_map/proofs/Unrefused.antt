@@ -9,7 +9,7 @@ use Rattle.sbo_device.specs.declared.key.Key.{Key}
 use Rattle.bilateral.specs.Rows.{CentreRows}
 use Rattle.tase_views.specs.declared.event.EventKind.{EventKind}
 use Rattle.tase_views.specs.declared.event.EventKind.TheVariants.{Open, Request, Take, Close}
-use Rattle.tase_views.specs.declared.event.EventKind.TheVariants.{Update, Table, Stop}
+use Rattle.tase_views.specs.declared.event.EventKind.TheVariants.{Update, Table, Tick, Ask, Stop}
 use Rattle.tase_views.specs.declared.event.Entry.{Entry}
 use Rattle.tase_views.specs.History.{Past, association_after, association_in}
 use Rattle.tase_views.specs.Outcomes.{seat_refusal, name_refusal}
@@ -26,6 +26,8 @@ last_open (Take ∷ es) = last_open es
 last_open (Close ∷ es) = false
 last_open (Update point value ∷ es) = last_open es
 last_open ((Table chooser variant) ∷ es) = last_open es
+last_open ((Tick now) ∷ es) = last_open es
+last_open ((Ask asker slot) ∷ es) = last_open es
 last_open (Stop ∷ es) = last_open es
 
 after_open : (event : EventKind) (past : Past) (before : Option Key) (es : List EventKind)
@@ -38,6 +40,8 @@ after_open Take past before es e = e
 after_open Close past before es e = refl
 after_open (Update point value) past before es e = e
 after_open (Table chooser variant) past before es e = e
+after_open (Tick now) past before es e = e
+after_open (Ask asker slot) past before es e = e
 after_open Stop past before es e = e
 
 entry_open : (b : Bool) (entry : Entry) (past : Past) (before : Option Key) (es : List EventKind)
@@ -90,6 +94,8 @@ one_served Take rest s = tt
 one_served Close rest s = tt
 one_served (Update point value) rest s = absurd s
 one_served (Table chooser variant) rest s = absurd s
+one_served (Tick now) rest s = absurd s
+one_served (Ask asker slot) rest s = absurd s
 one_served Stop rest s = absurd s
 
 served : (es : List EventKind) (event : EventKind) (rest : List EventKind)
@@ -103,6 +109,8 @@ served (Take ∷ es) event rest s =
 served (Close ∷ es) event rest s = absurd (not_empty es event rest s)
 served (Update point value ∷ es) event rest s = absurd s
 served ((Table chooser variant) ∷ es) event rest s = absurd s
+served ((Tick now) ∷ es) event rest s = absurd s
+served ((Ask asker slot) ∷ es) event rest s = absurd s
 served (Stop ∷ es) event rest s = absurd s
 
 passed_open : (es more : List EventKind) → AreCalled es
@@ -115,6 +123,8 @@ passed_open (Take ∷ es) more a = passed_open es more a.1
 passed_open (Close ∷ es) more a = absurd a.0
 passed_open (Update point value ∷ es) more a = absurd a.0
 passed_open ((Table chooser variant) ∷ es) more a = absurd a.0
+passed_open ((Tick now) ∷ es) more a = absurd a.0
+passed_open ((Ask asker slot) ∷ es) more a = absurd a.0
 passed_open (Stop ∷ es) more a = absurd a.0
 
 all_joined : (es more : List EventKind) → AreCalled es → AreCalled more → AreCalled (es ++ more)
@@ -148,6 +158,8 @@ held rows found Take f s = (rw f refl, refl)
 held rows found Close f s = (rw f refl, refl)
 held rows found (Update point value) f s = absurd s
 held rows found (Table chooser variant) f s = absurd s
+held rows found (Tick now) f s = absurd s
+held rows found (Ask asker slot) f s = absurd s
 held rows found Stop f s = absurd s
 
 opened : (rows : CentreRows) (found : Option Key) (event : EventKind) (rest : List EventKind)
@@ -159,6 +171,8 @@ opened rows found Take rest f t = absurd t
 opened rows found Close rest f t = absurd t
 opened rows found (Update point value) rest f t = absurd t
 opened rows found (Table chooser variant) rest f t = absurd t
+opened rows found (Tick now) rest f t = absurd t
+opened rows found (Ask asker slot) rest f t = absurd t
 opened rows found Stop rest f t = absurd t
 
 by_events : (rows : CentreRows) (found : Option Key) (es : List EventKind) (event : EventKind)
@@ -174,6 +188,8 @@ by_events rows found (Take ∷ es) event rest f t = absurd t
 by_events rows found (Close ∷ es) event rest f t = absurd t
 by_events rows found (Update point value ∷ es) event rest f t = absurd t
 by_events rows found ((Table chooser variant) ∷ es) event rest f t = absurd t
+by_events rows found ((Tick now) ∷ es) event rest f t = absurd t
+by_events rows found ((Ask asker slot) ∷ es) event rest f t = absurd t
 by_events rows found (Stop ∷ es) event rest f t = absurd t
 
 -- an event that comes in turn behind those of its seat

@@ -139,6 +139,12 @@ IsPlayed-refused setup line number scene entry faults.Already history sink own r
 IsPlayed-refused setup line number scene entry faults.UnknownName history sink own refused =
     IsPlayed-bad line number (entry_meaning setup scene entry) history sink
     (accepted_so setup scene entry (Some faults.UnknownName) own refused)
+IsPlayed-refused setup line number scene entry faults.ClockRange history sink own refused =
+    IsPlayed-bad line number (entry_meaning setup scene entry) history sink
+    (accepted_so setup scene entry (Some faults.ClockRange) own refused)
+IsPlayed-refused setup line number scene entry (faults.Backward last) history sink own refused =
+    IsPlayed-bad line number (entry_meaning setup scene entry) history sink
+    (accepted_so setup scene entry (Some (faults.Backward last)) own refused)
 
 -- ---- what a line means
 
@@ -173,3 +179,5 @@ never_done number (faults.HistoryFull weight limit) e = absurd cc
 never_done number faults.NoAssociation e = absurd cc
 never_done number faults.Already e = absurd cc
 never_done number faults.UnknownName e = absurd cc
+never_done number faults.ClockRange e = absurd cc
+never_done number (faults.Backward last) e = absurd cc

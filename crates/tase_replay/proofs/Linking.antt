@@ -260,6 +260,8 @@ begun_by rows scene given end taken s (Some faults.Memory) line number ours = ab
 begun_by rows scene given end taken s (Some faults.NoAssociation) line number ours = absurd ours
 begun_by rows scene given end taken s (Some faults.Already) line number ours = absurd ours
 begun_by rows scene given end taken s (Some faults.UnknownName) line number ours = absurd ours
+begun_by rows scene given end taken s (Some faults.ClockRange) line number ours = absurd ours
+begun_by rows scene given end taken s (Some (faults.Backward last)) line number ours = absurd ours
 
 closing_one : (who : ℕ) (found : Option Key) → IsClosing false (entries_by who (close_of found))
 closing_one who None = tt

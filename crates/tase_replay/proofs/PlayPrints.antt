@@ -11,14 +11,14 @@ use Rattle.plain_text.specs.Numbers.{if_passes, number_in, number_up_to}
 use Rattle.plain_text.specs.Words.{words_in}
 use Rattle.plain_text.specs.Lines.{is_skipped}
 use Rattle.bilateral.specs.Rows.{CentreRows, place_of_peer}
-use Rattle.event_text.specs.FeedLines.{feed_words_in}
+use Rattle.event_text.specs.FeedLines.{centre_words_in}
 use Rattle.tase_views.specs.declared.event.Entry.{Entry}
 use Rattle.tase_views.specs.declared.event.EventKind.{EventKind}
 use Rattle.tase_views.specs.declared.event.EventKind.TheVariants.{Take, Close}
 use Rattle.tase_views.specs.declared.fault.StepFault.{StepFault}
 use Rattle.tase_views.specs.declared.fault.StepFault.TheVariants.{Memory, Stopped, HistoryFull}
 use Rattle.tase_views.specs.declared.fault.StepFault.TheVariants.{NoAssociation, Already}
-use Rattle.tase_views.specs.declared.fault.StepFault.TheVariants.{UnknownName}
+use Rattle.tase_views.specs.declared.fault.StepFault.TheVariants.{UnknownName, ClockRange, Backward}
 use Rattle.tase_views.specs.Setup.{Setup}
 use Rattle.tase_views.specs.History.{Past, association_in}
 use Rattle.tase_views.specs.Outcomes.{refusal_of}
@@ -124,8 +124,8 @@ seated_fits event (seat ∷ more ∷ words) = tt
 
 fed_fits : (rows : CentreRows) (words : List (List ℕ)) → IfSome (fed_in rows words) IsSeated
 fed_fits rows words =
-    if_mapped _ (feed_words_in rows words) (λ event. Unit {0}) IsSeated
-    (if_any (feed_words_in rows words)) (λ event any. omega arith)
+    if_mapped _ (centre_words_in rows words) (λ event. Unit {0}) IsSeated
+    (if_any (centre_words_in rows words)) (λ event any. omega arith)
 
 entry_fits : (rows : CentreRows) (words : List (List ℕ)) → IfSome (entry_of rows words) IsSeated
 entry_fits rows [] = tt
@@ -220,6 +220,8 @@ refused-takes after step (Some (HistoryFull weight limit)) printed = tt
 refused-takes after step (Some NoAssociation) printed = tt
 refused-takes after step (Some Already) printed = tt
 refused-takes after step (Some UnknownName) printed = tt
+refused-takes after step (Some ClockRange) printed = tt
+refused-takes after step (Some (Backward last)) printed = tt
 
 entry-takes : (setup : Setup) (scene : Scene) (entry : Entry) → IsSeated entry
     → TakesPrinted (entry_meaning setup scene entry)
@@ -257,6 +259,8 @@ linked-takes rows scene given end s (Some Memory) fits = tt
 linked-takes rows scene given end s (Some NoAssociation) fits = tt
 linked-takes rows scene given end s (Some Already) fits = tt
 linked-takes rows scene given end s (Some UnknownName) fits = tt
+linked-takes rows scene given end s (Some ClockRange) fits = tt
+linked-takes rows scene given end s (Some (Backward last)) fits = tt
 
 received-takes : (setup : Setup) (scene : Scene) (given : SeatItem) → IsOfSeat given
     → TakesPrinted (received setup scene given)

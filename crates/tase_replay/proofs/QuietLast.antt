@@ -14,7 +14,7 @@ use Rattle.conn_service.specs.Sends.{close_of}
 use Rattle.tase_views.specs.declared.fault.StepFault.{StepFault}
 use Rattle.tase_views.specs.declared.fault.StepFault.TheVariants.{Memory, Stopped, HistoryFull}
 use Rattle.tase_views.specs.declared.fault.StepFault.TheVariants.{NoAssociation, Already}
-use Rattle.tase_views.specs.declared.fault.StepFault.TheVariants.{UnknownName}
+use Rattle.tase_views.specs.declared.fault.StepFault.TheVariants.{UnknownName, ClockRange, Backward}
 use Rattle.tase_views.specs.Setup.{Setup}
 use Rattle.tase_views.specs.History.{Past, association_in}
 use Rattle.tase_views.specs.Outcomes.{refusal_of}
@@ -50,6 +50,8 @@ refusal-leaves after step (Some (HistoryFull weight limit)) = refl
 refusal-leaves after step (Some NoAssociation) = refl
 refusal-leaves after step (Some Already) = refl
 refusal-leaves after step (Some UnknownName) = refl
+refusal-leaves after step (Some ClockRange) = refl
+refusal-leaves after step (Some (Backward last)) = refl
 
 linked-leaves : (rows : CentreRows) (scene : Scene) (given : SeatItem) (end : Option ConnEnd)
     (s : Served) (refusal : Option StepFault)
@@ -62,6 +64,8 @@ linked-leaves rows scene given end s (Some Memory) = refl
 linked-leaves rows scene given end s (Some NoAssociation) = refl
 linked-leaves rows scene given end s (Some Already) = refl
 linked-leaves rows scene given end s (Some UnknownName) = refl
+linked-leaves rows scene given end s (Some ClockRange) = refl
+linked-leaves rows scene given end s (Some (Backward last)) = refl
 
 received-leaves : (setup : Setup) (scene : Scene) (given : SeatItem)
     → LeavesQuiet (received setup scene given)

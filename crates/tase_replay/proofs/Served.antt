@@ -12,7 +12,7 @@ use Rattle.tase_map.proofs.Unrefused.{unrefused}
 use Rattle.conn_service.specs.Served.{Served, served, served_by}
 use Rattle.conn_service.specs.Attending.{TakesEvents}
 use Rattle.conn_service.proofs.Takes.{each_served, takes_each, behind_taken, event_behind}
-use Rattle.conn_service.proofs.Told.{IsOurs, refused_ours}
+use Rattle.conn_service.proofs.Told.{IsOurs, in_turn_timeless, refused_ours}
 
 -- those that were taken, and then the others
 pub served_taken : (setup : Setup) (who : ℕ) (past : Past) (taken rest : List EventKind)
@@ -43,7 +43,8 @@ served_ours setup who past [] t = tt
 served_ours setup who past (event ∷ asked) t =
     let free = unrefused setup.centre past who event asked t in
     refused_by past event (served setup who (with_event who event past) asked)
-    (refusal_of setup past who event) (refused_ours setup past who event free.0 free.1)
+    (refusal_of setup past who event) (refused_ours setup past who event free.0 free.1
+    (in_turn_timeless setup.centre past (reverse (events_by who past)) event asked t))
     (served_ours setup who (with_event who event past) asked
     (subst (λ (es : List EventKind). AreInTurn setup.centre es)
     (sym (ap (λ (es : List EventKind). es ++ asked) (event_behind who past event)

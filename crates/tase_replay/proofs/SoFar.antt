@@ -61,6 +61,8 @@ meaning_given scene after step (Some (faults.HistoryFull weight limit)) e = refl
 meaning_given scene after step (Some faults.NoAssociation) e = refl
 meaning_given scene after step (Some faults.Already) e = refl
 meaning_given scene after step (Some faults.UnknownName) e = refl
+meaning_given scene after step (Some faults.ClockRange) e = refl
+meaning_given scene after step (Some (faults.Backward last)) e = refl
 
 own_given : (scene : Scene) (b : Bool) (meaning : LineMeaning)
     → (scene_by scene meaning).given ≡ scene.given
@@ -84,6 +86,10 @@ refusal_given rows scene given end s (Some faults.NoAssociation) line number e =
 refusal_given rows scene given end s (Some faults.Already) line number e =
     absurd (never_bad line number e)
 refusal_given rows scene given end s (Some faults.UnknownName) line number e =
+    absurd (never_bad line number e)
+refusal_given rows scene given end s (Some faults.ClockRange) line number e =
+    absurd (never_bad line number e)
+refusal_given rows scene given end s (Some (faults.Backward last)) line number e =
     absurd (never_bad line number e)
 
 link_given : (rows : CentreRows) (scene : Scene) (given : SeatItem) (end : Option ConnEnd)

@@ -69,6 +69,12 @@ settles_here rows (events.Update point value) past who found s =
 settles_here rows (events.Table chooser variant) past who found s =
     settles_kept rows (record { who = who; event = (events.Table chooser variant) }) past who found
     (at_seat (events.Table chooser variant) past who) s
+settles_here rows (events.Tick now) past who found s =
+    settles_kept rows (record { who = who; event = (events.Tick now) }) past who found
+    (at_seat (events.Tick now) past who) s
+settles_here rows (events.Ask asker slot) past who found s =
+    settles_kept rows (record { who = who; event = (events.Ask asker slot) }) past who found
+    (at_seat (events.Ask asker slot) past who) s
 settles_here rows events.Stop past who found s =
     settles_kept rows (record { who = who; event = events.Stop }) past who found
     (at_seat events.Stop past who) s

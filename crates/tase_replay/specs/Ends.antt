@@ -74,6 +74,8 @@ end_of_refusal number (faults.HistoryFull weight limit) = Full weight limit
 end_of_refusal number faults.NoAssociation = BadLine number
 end_of_refusal number faults.Already = BadLine number
 end_of_refusal number faults.UnknownName = BadLine number
+end_of_refusal number faults.ClockRange = BadLine number
+end_of_refusal number (faults.Backward last) = BadLine number
 
 -- how a line ends whose text was written so
 abbrev pub end_of_write : {E : Type 0} → Result (Unit {0}) E → ReplayEnd

@@ -7,7 +7,7 @@ use Rattle.bilateral.specs.Rows.{CentreRows, place_of_peer}
 use Rattle.tase_views.specs.declared.event.EventKind.{EventKind}
 use Rattle.tase_views.specs.declared.event.EventKind.TheVariants.{Open, Request, Take, Close}
 use Rattle.tase_views.specs.declared.event.Entry.{Entry}
-use Rattle.event_text.specs.FeedLines.{feed_words_in}
+use Rattle.event_text.specs.FeedLines.{centre_words_in}
 use Rattle.tase_replay.specs.declared.entries.TheConstants.{SEAT_LIMIT}
 use Rattle.tase_replay.specs.CallIn.{call_of_words}
 
@@ -38,9 +38,9 @@ abbrev pub seated_in : EventKind → List (List ℕ) → Option Entry
 seated_in event (seat ∷ []) = option_map (entry_by event) (seat_in seat)
 seated_in event words = None
 
--- the lines of a feed are of seat 0
+-- the lines of the clock and of a feed are of seat 0
 abbrev pub fed_in : CentreRows → List (List ℕ) → Option Entry
-fed_in rows words = option_map (λ event. entry_by event 0) (feed_words_in rows words)
+fed_in rows words = option_map (λ event. entry_by event 0) (centre_words_in rows words)
 
 abbrev pub entry_of : CentreRows → List (List ℕ) → Option Entry
 entry_of rows [] = None

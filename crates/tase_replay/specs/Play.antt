@@ -15,7 +15,7 @@ use Rattle.tase_views.specs.declared.reply.Answer.TheVariants.{Noted}
 use Rattle.tase_views.specs.declared.fault.StepFault.{StepFault}
 use Rattle.tase_views.specs.declared.fault.StepFault.TheVariants.{Memory, Stopped, HistoryFull}
 use Rattle.tase_views.specs.declared.fault.StepFault.TheVariants.{NoAssociation, Already}
-use Rattle.tase_views.specs.declared.fault.StepFault.TheVariants.{UnknownName}
+use Rattle.tase_views.specs.declared.fault.StepFault.TheVariants.{UnknownName, ClockRange, Backward}
 use Rattle.tase_views.specs.Setup.{Setup}
 use Rattle.tase_views.specs.History.{Past, association_in}
 use Rattle.tase_views.specs.declared.event.EventKind.{EventKind}
@@ -115,6 +115,8 @@ meaning_of after step (Some (HistoryFull weight limit)) = too_heavy [] weight li
 meaning_of after step (Some NoAssociation) = bad
 meaning_of after step (Some Already) = bad
 meaning_of after step (Some UnknownName) = bad
+meaning_of after step (Some ClockRange) = bad
+meaning_of after step (Some (Backward last)) = bad
 
 -- an entry that the node doesn't refuse, of a seat that isn't a link's
 abbrev pub entry_meaning : Setup → Scene → Entry → LineMeaning
@@ -190,6 +192,8 @@ linked_by rows scene given by_peer s (Some Memory) = bad
 linked_by rows scene given by_peer s (Some NoAssociation) = bad
 linked_by rows scene given by_peer s (Some Already) = bad
 linked_by rows scene given by_peer s (Some UnknownName) = bad
+linked_by rows scene given by_peer s (Some ClockRange) = bad
+linked_by rows scene given by_peer s (Some (Backward last)) = bad
 
 -- an item of a link, of a seat that no other line uses, and whose connection hasn't ended
 abbrev pub is_unfit : ℕ → Scene → Bool

@@ -9,7 +9,7 @@ ghost use Rattle.tase_replay.specs.Lines.{seat_in, entry_by, open_in, say_in, se
 
 use crate::links::{LineItem, is_link_word, read_given};
 use bilateral::Centre;
-use event_text::{read_call_words, read_feed_line};
+use event_text::{read_call_words, read_centre_line};
 use plain_text::{is_spaced, next_word, read_number};
 use std::alloc::{AllocError, Global};
 use tase_views::{Call, CallKind, Entry, Event, EventKind};
@@ -91,7 +91,7 @@ pub(crate) fn read_entry(
     } else if verb == b"close".as_slice() {
         Ok(read_seated(rest, Event::new(EventKind::Close)))
     } else {
-        Ok(fed(read_feed_line(alloc, centre, line)?))
+        Ok(fed(read_centre_line(alloc, centre, line)?))
     }
 }
 

@@ -231,7 +231,9 @@ fn refused(fault: StepFault, number: u64) -> ReplayEnd
         StepFault::Stopped { .. }
         | StepFault::NoAssociation
         | StepFault::Already
-        | StepFault::UnknownName => ReplayEnd::BadLine { line: number },
+        | StepFault::UnknownName
+        | StepFault::ClockRange
+        | StepFault::Backward { .. } => ReplayEnd::BadLine { line: number },
     }
 }
 

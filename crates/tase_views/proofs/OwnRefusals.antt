@@ -57,13 +57,13 @@ own_refusal-own rows past who event =
     (association_in (entries_by who past) who) (seat_alike past who))
 
 -- the first of a list of refusals, where two of them stand for the first of both
-pub first_refusal-within : (a b c d : Option StepFault)
-    → first_refusal (a ∷ b ∷ c ∷ d ∷ [])
-    ≡ first_refusal (a ∷ first_refusal (b ∷ c ∷ []) ∷ d ∷ [])
-first_refusal-within (Some fault) b c d = refl
-first_refusal-within None (Some fault) c d = refl
-first_refusal-within None None (Some fault) d = refl
-first_refusal-within None None None d = refl
+pub first_refusal-within : (a b c d e : Option StepFault)
+    → first_refusal (a ∷ b ∷ c ∷ d ∷ e ∷ [])
+    ≡ first_refusal (a ∷ first_refusal (b ∷ c ∷ []) ∷ d ∷ e ∷ [])
+first_refusal-within (Some fault) b c d e = refl
+first_refusal-within None (Some fault) c d e = refl
+first_refusal-within None None (Some fault) d e = refl
+first_refusal-within None None None d e = refl
 
 -- an event of a seat that has an association is refused alike in all centres
 refused_with : (here there : CentreRows) (sort : EventSort) (before other : Option Key)

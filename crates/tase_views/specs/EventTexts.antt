@@ -16,7 +16,7 @@ use Rattle.tase_views.specs.declared.call.CallKind.TheVariants.{WriteSet, NameLi
 use Rattle.tase_views.specs.declared.call.CallKind.TheVariants.{MembersOf, Delete, DeleteScope, Odd}
 use Rattle.tase_views.specs.declared.event.EventKind.{EventKind}
 use Rattle.tase_views.specs.declared.event.EventKind.TheVariants.{Open, Request, Take, Close}
-use Rattle.tase_views.specs.declared.event.EventKind.TheVariants.{Update, Table, Stop}
+use Rattle.tase_views.specs.declared.event.EventKind.TheVariants.{Update, Table, Tick, Ask, Stop}
 
 -- a name after a space
 abbrev pub next_name : ObjectName → List ℕ
@@ -77,8 +77,9 @@ value_text value =
     body_text value.body ++ 32 ∷ hex_text (value.flags ∷ []) ++ 32 ∷ decimal value.seconds
     ++ 32 ∷ decimal value.millis
 
--- `open PEER`, `call CALL`, `take`, `close`, `update POINT VALUE`, `table PEER VARIANT` or `stop`;
--- peers, points and tables by their numbers
+-- `open PEER`, `call CALL`, `take`, `close`, `update POINT VALUE`, `table PEER VARIANT`,
+-- `tick NOW`, `ask PEER SLOT` or `stop`; peers, points, tables and transfer sets by their numbers
+-- from 0
 abbrev pub event_text : EventKind → List ℕ
 event_text (Open peer) = codes "open " ++ decimal peer
 event_text (Request call) = codes "call " ++ call_text call
@@ -86,4 +87,6 @@ event_text Take = codes "take"
 event_text Close = codes "close"
 event_text (Update point value) = codes "update " ++ decimal point ++ 32 ∷ value_text value
 event_text (Table peer variant) = codes "table " ++ decimal peer ++ 32 ∷ decimal variant
+event_text (Tick now) = codes "tick " ++ decimal now
+event_text (Ask peer slot) = codes "ask " ++ decimal peer ++ 32 ∷ decimal slot
 event_text Stop = codes "stop"

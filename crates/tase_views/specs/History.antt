@@ -5,7 +5,7 @@ use Rattle.sbo_device.specs.declared.key.Key.{Key}
 use Rattle.tase_views.specs.declared.event.EventKind.{EventKind}
 use Rattle.tase_views.specs.declared.event.Entry.{Entry}
 use Rattle.tase_views.specs.Moves.{EventSort, sort_of, opening, closing}
-use Rattle.tase_views.specs.Moves.{feeding, stops}
+use Rattle.tase_views.specs.Moves.{feeding, ticks, stops}
 
 -- the accepted events with their seats, the newest first
 abbrev pub Past : Type 0
@@ -69,6 +69,16 @@ entries_of key [] = []
 entries_of key (entry ∷ past) =
     if is_key key (key_at entry.event past entry.who) then entry ∷ entries_of key past
     else entries_of key past
+
+-- the moment behind an event, where it was `before` in front of it
+abbrev pub moment_by : EventSort → ℕ → ℕ
+moment_by (feeding (ticks now)) before = now
+moment_by _ before = before
+
+-- the moment of the last tick of a history, in milliseconds since 1970; before any, 0
+abbrev pub last_tick : Past → ℕ
+last_tick [] = 0
+last_tick (entry ∷ past) = moment_by (sort_of entry.event) (last_tick past)
 
 abbrev pub is_stopping : EventSort → Bool
 is_stopping (feeding stops) = true

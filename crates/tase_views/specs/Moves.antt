@@ -12,7 +12,7 @@ use Rattle.tase_views.specs.declared.call.CallKind.TheVariants.{WriteSet, NameLi
 use Rattle.tase_views.specs.declared.call.CallKind.TheVariants.{MembersOf, Delete, DeleteScope, Odd}
 use Rattle.tase_views.specs.declared.event.EventKind.{EventKind}
 use Rattle.tase_views.specs.declared.event.EventKind.TheVariants.{Open, Request, Take, Close}
-use Rattle.tase_views.specs.declared.event.EventKind.TheVariants.{Update, Table, Stop}
+use Rattle.tase_views.specs.declared.event.EventKind.TheVariants.{Update, Table, Tick, Ask, Stop}
 
 -- what an association does: it is opened, takes reports, is closed, reads or writes a variable,
 -- defines or deletes a data set, or makes another call
@@ -58,6 +58,8 @@ sort_of Take = taking
 sort_of Close = closing
 sort_of (Update point value) = feeding (updates point value)
 sort_of (Table peer variant) = feeding (chooses peer variant)
+sort_of (Tick now) = feeding (ticks now)
+sort_of (Ask peer slot) = feeding (asks peer slot)
 sort_of Stop = feeding stops
 
 -- the writes of names, each with the value at its place

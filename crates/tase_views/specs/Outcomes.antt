@@ -1,14 +1,17 @@
 -- When a node may answer an event so: each refusal exactly where its cause holds, and the right
 -- answer elsewhere.
-use Rattle.std.specs.Prelude.{◌≡◌, ℕ, ◌+◌, Bool, true, false, not, ◌&&◌, ◌||◌, nat_lt}
+use Rattle.std.specs.Prelude.{◌≡◌, ℕ, ◌+◌, Bool, true, false, not, ◌&&◌, ◌||◌, nat_lt, nat_le}
 use Rattle.std.specs.Prelude.{if◌then◌else◌, List, [], ◌∷◌, length, Option, Some, None, option_map}
 use Rattle.std.specs.Prelude.{is_some, Result, Ok, Err}
+use Rattle.std.specs.List.{list_any}
 use Rattle.tase_points.specs.Same.{same_kind}
 use Rattle.tase_points.specs.Points.{kind_of}
 use Rattle.tase_points.specs.Sample.{Sample}
+use Rattle.bilateral.specs.declared.rows.Table.{Table}
 use Rattle.bilateral.specs.Rows.{CentreRows, point_of, variants_of}
 use Rattle.sbo_device.specs.declared.key.Key.{Key}
 use Rattle.tase_views.specs.declared.event.EventKind.{EventKind}
+use Rattle.tase_views.specs.declared.event.TheConstants.{CLOCK_LIMIT}
 use Rattle.tase_views.specs.declared.reply.Report.{Report}
 use Rattle.tase_views.specs.declared.reply.Answer.{Answer}
 use Rattle.tase_views.specs.declared.reply.Answer.TheVariants.{Opened, Reply, Reports, Closed}
@@ -16,12 +19,13 @@ use Rattle.tase_views.specs.declared.reply.Answer.TheVariants.{Noted}
 use Rattle.tase_views.specs.declared.fault.StepFault.{StepFault}
 use Rattle.tase_views.specs.declared.fault.StepFault.TheVariants.{Memory, Stopped, HistoryFull}
 use Rattle.tase_views.specs.declared.fault.StepFault.TheVariants.{NoAssociation, Already}
-use Rattle.tase_views.specs.declared.fault.StepFault.TheVariants.{UnknownName}
+use Rattle.tase_views.specs.declared.fault.StepFault.TheVariants.{UnknownName, ClockRange, Backward}
 use Rattle.tase_views.specs.Setup.{Setup}
 use Rattle.tase_views.specs.History.{Past, association_in, key_at, is_stop, stop_in}
+use Rattle.tase_views.specs.History.{last_tick}
 use Rattle.tase_views.specs.Weights.{weight, weight_of}
 use Rattle.tase_views.specs.Moves.{EventSort, sort_of, opening, requesting, taking, closing}
-use Rattle.tase_views.specs.Moves.{feeding, updates, chooses}
+use Rattle.tase_views.specs.Moves.{feeding, updates, ticks, asks, chooses}
 use Rattle.tase_views.specs.OwnTables.{OwnTables, own_tables}
 use Rattle.tase_views.specs.View.{View, view_of}
 use Rattle.tase_views.specs.Answers.{reply_to}
@@ -35,6 +39,12 @@ is_known rows point value =
 abbrev pub has_table : CentreRows → ℕ → ℕ → Bool
 has_table rows peer variant =
     nat_lt peer (length rows.tables) && nat_lt variant (length (variants_of rows peer))
+
+-- whether one of a peer's tables has a transfer set with this number
+abbrev pub has_slot : CentreRows → ℕ → ℕ → Bool
+has_slot rows peer slot =
+    nat_lt peer (length rows.tables)
+    && list_any (λ (table : Table). nat_lt slot table.slots) (variants_of rows peer)
 
 abbrev pub is_closing : EventSort → Bool
 is_closing closing = true
@@ -64,11 +74,13 @@ abbrev pub seat_refusal : Option Key → EventKind → Option StepFault
 seat_refusal found event = seat_refusal_by found (sort_of event)
 
 -- what an event names is there: of an open the peer, of an update the point, and its value is of
--- the point's kind, of a choice the peer and its table
+-- the point's kind, of a choice the peer and its table, of a request of the operator the peer and a
+-- transfer set of one of its tables
 abbrev pub is_named_there : CentreRows → EventSort → Bool
 is_named_there rows (opening peer) = nat_lt peer (length rows.tables)
 is_named_there rows (feeding (updates point value)) = is_known rows point value
 is_named_there rows (feeding (chooses peer variant)) = has_table rows peer variant
+is_named_there rows (feeding (asks peer slot)) = has_slot rows peer slot
 is_named_there rows _ = true
 
 abbrev pub name_refusal : CentreRows → EventKind → Option StepFault
@@ -86,6 +98,16 @@ abbrev pub own_refusal : CentreRows → Past → ℕ → EventKind → Option St
 own_refusal rows past who event = first_refusal
     (seat_refusal (association_in past who) event ∷ name_refusal rows event ∷ [])
 
+-- a tick is to a moment below the limit, and above that of the last one
+abbrev pub clock_refusal_by : ℕ → EventSort → Option StepFault
+clock_refusal_by last (feeding (ticks now)) =
+    if nat_le CLOCK_LIMIT now then Some ClockRange
+    else (if nat_le now last then Some (Backward last) else None)
+clock_refusal_by last _ = None
+
+abbrev pub clock_refusal : Past → EventKind → Option StepFault
+clock_refusal past event = clock_refusal_by (last_tick past) (sort_of event)
+
 -- with the event the history may not weigh more than the limit
 abbrev pub weight_refusal : Setup → Past → EventKind → Option StepFault
 weight_refusal setup past event =
@@ -96,7 +118,8 @@ weight_refusal setup past event =
 abbrev pub refusal_of : Setup → Past → ℕ → EventKind → Option StepFault
 refusal_of setup past who event =
     first_refusal (stop_refusal past event ∷ seat_refusal (association_in past who) event
-    ∷ name_refusal setup.centre event ∷ weight_refusal setup past event ∷ [])
+    ∷ name_refusal setup.centre event ∷ clock_refusal past event
+    ∷ weight_refusal setup past event ∷ [])
 
 -- the reports that were made for the peer's association with this ordinal since its last take: none
 -- is made of tables that offer neither devices nor transfer sets
@@ -132,6 +155,8 @@ IsRefusal event refusal (HistoryFull weight limit) = refusal ≡ Some (HistoryFu
 IsRefusal event refusal NoAssociation = refusal ≡ Some NoAssociation
 IsRefusal event refusal Already = refusal ≡ Some Already
 IsRefusal event refusal UnknownName = refusal ≡ Some UnknownName
+IsRefusal event refusal ClockRange = refusal ≡ Some ClockRange
+IsRefusal event refusal (Backward last) = refusal ≡ Some (Backward last)
 
 -- the right outcome of an event of a seat after this past
 abbrev pub IsRightOutcome : Setup → Past → ℕ → EventKind → Result Answer StepFault → Type 0

@@ -5,6 +5,12 @@ use std::alloc::AllocError;
 use std::marker::Model;
 use tase_points::PointValue;
 
+/// The moments of ticks are below this one, in milliseconds since 1970.
+pub const CLOCK_LIMIT: u64 = 2147483648000;
+
+// Definitions cite this limit, so that it stands here as a number too.
+const _: () = prove!(CLOCK_LIMIT == 2_147_483_648_000);
+
 /// What may happen to a node.
 #[derive(Debug, Drop)]
 pub enum EventKind {
@@ -21,6 +27,10 @@ pub enum EventKind {
     /// The operator chooses a table of a peer, by their numbers: it comes into force at once where
     /// the peer has no open association, else when the last of them is closed.
     Table { peer: u32, variant: u32 },
+    /// The clock stands at this moment, in milliseconds since 1970.
+    Tick { now: u64 },
+    /// The operator asks for a report of a transfer set of a peer, by their numbers from 0.
+    Ask { peer: u32, slot: u32 },
     /// The node stops: afterwards it takes closes alone.
     Stop,
 }
@@ -75,6 +85,11 @@ impl Clone for Event {
             EventKind::Table { peer, variant } => EventKind::Table {
                 peer: *peer,
                 variant: *variant,
+            },
+            EventKind::Tick { now } => EventKind::Tick { now: *now },
+            EventKind::Ask { peer, slot } => EventKind::Ask {
+                peer: *peer,
+                slot: *slot,
             },
             EventKind::Stop => EventKind::Stop,
         };

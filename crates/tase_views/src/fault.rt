@@ -16,8 +16,14 @@ pub enum StepFault {
     NoAssociation,
     /// An open of a seat that has an open association already.
     Already,
-    /// A peer or a point that the centre doesn't have, or a value of another kind than its point's.
+    /// A peer, a point, or a table or transfer set of a peer that the centre doesn't have, or a
+    /// value of another kind than its point's.
     UnknownName,
+    /// A tick to a moment at or above [`CLOCK_LIMIT`](crate::CLOCK_LIMIT).
+    ClockRange,
+    /// A tick to a moment that isn't above that of the last tick, in milliseconds since 1970;
+    /// before any it is 0.
+    Backward { last: u64 },
 }
 
 impl From<AllocError> for StepFault {

@@ -27,7 +27,7 @@ ghost use Rattle.tase_views.specs.View.{steps_in, moves_seen, peer_number};
 ghost use Rattle.tase_views.specs.Answers.{object_written, reply_to};
 ghost use Rattle.tase_views.specs.Reports.{reports_pending, AreDueAt, due_conditions};
 ghost use Rattle.tase_views.specs.Outcomes.{first_refusal, own_refusal, refusal_of, answer_to};
-ghost use Rattle.tase_views.specs.Outcomes.{stop_refusal, weight_refusal};
+ghost use Rattle.tase_views.specs.Outcomes.{stop_refusal, clock_refusal, weight_refusal};
 
 /// Two worlds. Two centres with two histories in which a peer has the same own tables and the same
 /// view give that peer the same reply to each call, the same reports at each take and, where both
@@ -137,14 +137,15 @@ pub fn seats_are_unseen()
         → view_of rows peer (reseated seat past) ≡ view_of rows peer past }
 {}
 
-/// But for a stop of the node and a full history, an event is refused for what its own seat has
-/// done and for what it names, and for nothing that other seats do.
+/// But for a stop of the node, the clock and a full history, an event is refused for what its own
+/// seat has done and for what it names, and for nothing that other seats do.
 pub fn refusals_are_of_the_seat()
     ensures own { (rows : CentreRows) (past : Past) (who : ℕ) (event : AnyEvent)
         → own_refusal rows past who event ≡ own_refusal rows (entries_by who past) who event }
     ensures all { (setup : Setup) (past : Past) (who : ℕ) (event : AnyEvent)
         → refusal_of setup past who event ≡ first_refusal (stop_refusal past event
-        ∷ own_refusal setup.centre past who event ∷ weight_refusal setup past event ∷ []) }
+        ∷ own_refusal setup.centre past who event ∷ clock_refusal past event
+        ∷ weight_refusal setup past event ∷ []) }
 {}
 
 /// By tables that offer neither devices nor transfer sets no report is ever made; a peer's tables

@@ -8,10 +8,11 @@ mod event;
 mod fault;
 mod laws;
 mod reply;
+mod slots;
 mod weights;
 
 pub use call::{Call, CallKind, DOMAINS, NAMED_VARIABLE_LISTS, NAMED_VARIABLES, Values};
-pub use event::{Entry, Event, EventKind};
+pub use event::{CLOCK_LIMIT, Entry, Event, EventKind};
 pub use fault::StepFault;
 pub use laws::{
     devices_are_seen_as_they_are, due_conditions_are_those, nothing_is_made_without_offers,
@@ -23,4 +24,5 @@ pub use reply::{
     OBJECT_ACCESS_DENIED, OBJECT_ACCESS_UNSUPPORTED, OBJECT_NON_EXISTENT, OTHER, ObjectNames,
     RESOURCE_ERRORS, ReadSpec, Reply, ReplyKind, Report, Reports, Results, UNDEFINED, WriteResults,
 };
+pub use slots::has_slot;
 pub use weights::weight;

@@ -3,7 +3,7 @@ ghost use Rattle.std.specs.Prelude.{◌≡◌, ◌≤◌, length, flat_map};
 ghost use Rattle.plain_text.specs.Lengths.{capped_len};
 ghost use Rattle.plain_text.specs.declared.lengths.TheConstants.{MOST_LEN};
 ghost use Rattle.tase_points.specs.declared.body.Body.{Body as AnyBody};
-ghost use Rattle.tase_views.specs.declared.event.EventKind.TheVariants.{Update, Table};
+ghost use Rattle.tase_views.specs.declared.event.EventKind.TheVariants.{Update, Table, Ask};
 ghost use Rattle.tase_views.specs.declared.call.CallKind.{CallKind as AnyCall};
 ghost use Rattle.tase_views.specs.EventTexts.{call_text, read_verb, next_name};
 ghost use Rattle.tase_views.specs.EventTexts.{read_set_verb, next_value};
@@ -30,6 +30,8 @@ pub fn weight(event: &Event) -> u64
         EventKind::Close => 5,
         EventKind::Update { point, value } => update_len(*point, value),
         EventKind::Table { peer, variant } => table_len(*peer, *variant),
+        EventKind::Tick { now } => 5 + decimal_len(*now),
+        EventKind::Ask { peer, slot } => ask_len(*peer, *slot),
         EventKind::Stop => 4,
     }
 }
@@ -39,6 +41,13 @@ fn table_len(peer: u32, variant: u32) -> u64
     ensures { result ≡ weight (Table peer variant) }
 {
     7 + decimal_len(u64::from(peer)) + decimal_len(u64::from(variant))
+}
+
+/// How many octets the text of a request of the operator has.
+fn ask_len(peer: u32, slot: u32) -> u64
+    ensures { result ≡ weight (Ask peer slot) }
+{
+    5 + decimal_len(u64::from(peer)) + decimal_len(u64::from(slot))
 }
 
 /// How many octets the text of an update has.

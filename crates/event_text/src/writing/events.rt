@@ -21,6 +21,8 @@ pub(crate) fn put_event(out: &mut Vec<u8>, event: &Event) -> Result<(), AllocErr
         EventKind::Close => out.extend_from_slice(b"close"),
         EventKind::Update { point, value } => put_update(out, *point, value),
         EventKind::Table { peer, variant } => put_choice(out, *peer, *variant),
+        EventKind::Tick { now } => put_tick(out, *now),
+        EventKind::Ask { peer, slot } => put_ask(out, *peer, *slot),
         EventKind::Stop => out.extend_from_slice(b"stop"),
     }
 }
@@ -70,6 +72,29 @@ fn put_choice(out: &mut Vec<u8>, peer: u32, variant: u32) -> Result<(), AllocErr
     push_decimal(out, u64::from(peer))?;
     out.push(b' ')?;
     push_decimal(out, u64::from(variant))
+}
+
+/// Appends `tick` and a moment.
+#[tactic(auto, using(crate::proofs::Extended::extended))]
+fn put_tick(out: &mut Vec<u8>, now: u64) -> Result<(), AllocError>
+    ensures ok { OnOk result (out.new.items ≡ out.old.items ++ codes "tick " ++ decimal now) }
+    ensures err { OnErr result (Extends out.old.items out.new.items) }
+{
+    out.extend_from_slice(b"tick ")?;
+    push_decimal(out, now)
+}
+
+/// Appends `ask`, a peer's number and that of a transfer set of it.
+#[tactic(auto, using(crate::proofs::Extended::extended))]
+fn put_ask(out: &mut Vec<u8>, peer: u32, slot: u32) -> Result<(), AllocError>
+    ensures ok { OnOk result (out.new.items
+        ≡ out.old.items ++ codes "ask " ++ decimal peer ++ 32 ∷ decimal slot) }
+    ensures err { OnErr result (Extends out.old.items out.new.items) }
+{
+    out.extend_from_slice(b"ask ")?;
+    push_decimal(out, u64::from(peer))?;
+    out.push(b' ')?;
+    push_decimal(out, u64::from(slot))
 }
 
 /// Appends a body, its flags, its seconds and its milliseconds.

@@ -62,7 +62,7 @@ invariant_of-self c =
       rw (c.append.ensures.entries, reverse_push, c.requires.close)
           (IsNode-close rows past c.self.inside.hub c.self.inside.parts n c.args.who
           c.unseat.new.self c.close.new.self key seated c.unseat.ensures.points
-          c.unseat.ensures.seats changed),
+          c.unseat.ensures.clock c.unseat.ensures.seats changed),
       c.append.ensures.room _ _ c.self.invariant.1 (rw c.requires.close one_less)
           (rw c.requires.close tt),
     )

@@ -21,6 +21,7 @@ invariant_of-result c =
           (subst (λ (those : CentreRows). KeepsPoints (kinds_of those) [] hub.points)
           c.deref.ensures c.in_ok-hub.ensures.kept)
           c.in_ok-hub.ensures.free;
+      clock = c.in_ok-hub.ensures.clock;
       peers = AreParts-new rows parts.peers.items
           (subst (λ (those : CentreRows). parts.peers.items
           ≡ map (λ (table : Table). new_part table.sets) those.tables) c.deref-2.ensures

@@ -40,7 +40,7 @@ invariant_of-self-in_err-seat c =
     let past = past_of c.self.inside.log in (
       rw c.in_ok-reserve.ensures.entries (IsNode-alike rows past c.self.inside.hub
           c.seat.new.self c.self.inside.parts c.self.inside.parts c.in_err-seat.ensures.points
-          c.in_err-seat.ensures.err refl c.self.invariant.0),
+          c.in_err-seat.ensures.clock c.in_err-seat.ensures.err refl c.self.invariant.0),
       rw c.in_err-seat.ensures.same_count (c.in_ok-reserve.ensures.room _ c.self.invariant.1),
     )
 
@@ -90,7 +90,8 @@ invariant_of-self-2 c =
       rw (c.append.ensures.entries, c.in_ok-reserve.ensures.entries, reverse_push, c.requires.open)
           (IsNode-open rows past c.self.inside.hub c.self.inside.parts n c.args.who
           c.seat.new.self c.open.new.self c.args.peer c.next_key-key.result there key_is
-          c.in_ok-seat.ensures.points c.in_ok-seat.ensures.ok c.open.ensures),
+          c.in_ok-seat.ensures.points c.in_ok-seat.ensures.clock c.in_ok-seat.ensures.ok
+          c.open.ensures),
       c.append.ensures.room _ _ (c.in_ok-reserve.ensures.room _ c.self.invariant.1)
           (rw c.requires.open one_more)
           (rw c.requires.open (MayAppend-reserved log c.reserve.new.self event _ refl

@@ -41,7 +41,7 @@ invariant_of-self-in_err-request c =
     let rows = arc_value c.self.inside.centre in
     let past = past_of c.self.inside.log in (
       rw c.in_ok-reserve.ensures.entries (IsNode-alike rows past c.self.inside.hub
-          c.self.inside.hub c.self.inside.parts c.request.new.self refl (λ who. refl)
+          c.self.inside.hub c.self.inside.parts c.request.new.self refl refl (λ who. refl)
           c.in_err-request.ensures.err c.self.invariant.0),
       c.in_ok-reserve.ensures.room _ c.self.invariant.1,
     )

@@ -61,7 +61,7 @@ invariant_of-self-2 c =
       ) (IsNode-update rows past c.self.inside.hub c.self.inside.parts n c.args.who
           c.update.new.self c.self.inside.parts c.args.point c.args.value
           (c.update.ensures.kept (kinds_of rows) (updates_in past) n.common.kept)
-          c.update.ensures.seats refl),
+          c.update.ensures.seats c.update.ensures.clock refl),
       c.append.ensures.room _ _ (c.in_ok-reserve.ensures.room _ c.self.invariant.1)
           (rw c.requires.update same)
           (rw c.requires.update (MayAppend-reserved log c.reserve.new.self event _ refl
