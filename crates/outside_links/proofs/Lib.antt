@@ -1,0 +1,3 @@
+pub mod NewLinks
+pub mod Saying
+pub mod Sent

@@ -1,0 +1,20 @@
+-- A link and a listener in memory may go to another thread. It is shown from the inside out.
+use denote.Param.Send.{IsSend, sendable}
+use Rattle.std.proofs.Crossing.{crosses}
+use Rattle.outside_links.proofs.answers.Answers.TheLaws.TheKnot as knot
+use Rattle.outside_links.specs.contracts.script.LinkItem as item
+use Rattle.outside_links.specs.contracts.script.Script as script
+use Rattle.outside_links.specs.contracts.script_link.ScriptLink as link
+use Rattle.outside_links.specs.contracts.script_listener.ScriptListener as listener
+
+item_send : IsSend item.the_row
+item_send = search (sendable, crosses) depth 20
+
+script_send : IsSend script.the_row
+script_send = search (item_send, sendable, crosses) depth 20
+
+pub link_send : IsSend link.the_row
+link_send = search (script_send, knot.crosses, sendable, crosses) depth 60
+
+pub listener_send : IsSend listener.the_row
+listener_send = search (link_send, sendable, crosses) depth 20

@@ -1,0 +1,9 @@
+pub mod Answered
+pub mod Clocks
+pub mod Jobs
+pub mod LinkAnswers
+pub mod Links
+pub mod Listeners
+pub mod Readings
+pub mod ScriptStates
+pub mod Scripts
