@@ -24,7 +24,7 @@ use Rattle.tase_views.specs.declared.event.EventKind.TheVariants.{Update, Table,
 use Rattle.tase_views.specs.EventTexts.{body_text}
 use Rattle.tase_views.specs.Outcomes.{has_slot}
 use Rattle.event_text.specs.declared.feed.TheConstants.{TABLE_NUMBER_LIMIT, SLOT_NUMBER_LIMIT}
-use Rattle.event_text.specs.declared.feed.TheConstants.{MOMENT_LIMIT}
+use Rattle.event_text.specs.declared.feed.TheConstants.{LAST_MOMENT}
 
 -- a body: `s` and a state, `d` and a discrete value, `r` and the eight digits of a real one
 abbrev pub body_in : List ℕ → Option Body
@@ -106,7 +106,7 @@ feed_event_in rows line = option_and_then (feed_words_in rows) (words_in line)
 
 -- `NOW` behind `tick`, in milliseconds since 1970
 abbrev pub tick_in : List (List ℕ) → Option EventKind
-tick_in (now ∷ []) = option_map Tick (number_up_to MOMENT_LIMIT now)
+tick_in (now ∷ []) = option_map Tick (number_up_to LAST_MOMENT now)
 tick_in words = None
 
 -- `tick NOW`, or a line of a feed

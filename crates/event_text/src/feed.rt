@@ -25,9 +25,9 @@ pub const SLOT_NUMBER_LIMIT: u64 = 4294967295;
 const _: () = prove!(SLOT_NUMBER_LIMIT == 4_294_967_295);
 
 /// The largest moment that a line names, in milliseconds since 1970.
-pub const MOMENT_LIMIT: u64 = 2147483647999;
+pub const LAST_MOMENT: u64 = 2147483647999;
 
-const _: () = prove!(MOMENT_LIMIT == 2_147_483_647_999);
+const _: () = prove!(LAST_MOMENT == 2_147_483_647_999);
 
 /// The event of seat 0 that a line of a scenario asks for: `tick NOW`, the clock in milliseconds
 /// since 1970, or a line of a feed. None for every other line. It takes no memory; `alloc` is for
@@ -60,7 +60,7 @@ fn read_tick(text: &[u8]) -> Option<Event>
     if next_word(rest).is_some() {
         return None;
     }
-    let now = read_number(word, MOMENT_LIMIT)?;
+    let now = read_number(word, LAST_MOMENT)?;
     Some(Event::new(EventKind::Tick { now }))
 }
 

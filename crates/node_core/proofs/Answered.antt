@@ -1,42 +1,52 @@
--- What a read or a write gives: by what a node keeps beside its history, and for several names each
--- as for one.
-use Rattle.std.proofs.Common.{◌≡◌, ◌<◌, ℕ, ◌+◌, ◌%◌, Bool, true, false, List, [], ◌∷◌, ◌++◌, map}
-use Rattle.std.proofs.Common.{take, get_or, Option, Some, None, Ok, Err, Result, is_some, length}
-use Rattle.std.proofs.Common.{refl, sym, ap, subst, ◌∙◌, arith, IfOk}
-use Rattle.std.specs.List.{All, find}
-use Rattle.std.specs.Option.{option_map, unwrap_or}
+-- What a read gives: by what a node keeps beside its history, and for several names each behind those
+-- before it.
+use Rattle.std.proofs.Common.{◌≡◌, ◌<◌, ◌≤◌, ℕ, ◌+◌, ◌%◌, Bool, true, false, List, [], ◌∷◌, ◌++◌}
+use Rattle.std.proofs.Common.{Option, Some, None, Ok, Err, Result, is_some, length}
+use Rattle.std.proofs.Common.{refl, sym, ap, subst, ◌∙◌, IfOk, OnOk, get_or, drop, append_assoc}
+use Rattle.std.specs.List.{All}
+use Rattle.std.specs.Option.{option_map, option_map_or, unwrap_or}
 use Rattle.std.specs.Prelude.{if◌then◌else◌}
 use Rattle.std.proofs.lemmas.Option.{slice_get-map, slice_get-get_or}
-use Rattle.std.proofs.lemmas.Bool.{false≢true, true≢false}
-use Rattle.std.proofs.lemmas.List.{map_more}
+use Rattle.std.proofs.lemmas.List.{at_drop_more}
 use Rattle.std.proofs.lemmas.List.Elements.{All-nil, All-cons, All-append}
 use Rattle.tase_points.specs.declared.kind.Kind.TheVariants.{State}
 use Rattle.tase_points.specs.declared.layout.TheConstants.{COV_MODULUS}
 use Rattle.tase_points.specs.Sample.{Sample}
-use Rattle.mms_data.specs.Datum.{Datum}
+use Rattle.mms_data.specs.Datum.{boolean}
 use Rattle.mms_data.specs.ObjectName.{ObjectName}
 use Rattle.mms_data.specs.declared.outcome.Outcome.{Outcome}
-use Rattle.mms_data.specs.declared.outcome.Outcome.TheVariants.{Good}
+use Rattle.mms_data.specs.declared.outcome.Outcome.TheVariants.{Good, Fail}
 use Rattle.point_data.specs.Shown.{shown_as}
 use Rattle.point_db.specs.Updates.{Updates, last_value, change_count, kind_at}
 use Rattle.bilateral.specs.declared.rows.PointRow.{PointRow}
 use Rattle.bilateral.specs.declared.rows.See.{See}
+use Rattle.bilateral.specs.declared.rows.TheConstants.{SLOT_LIMIT}
 use Rattle.bilateral.specs.Rows.{CentreRows, place_of_see, point_of, no_point}
-use Rattle.tase_views.specs.declared.reply.TheConstants.{OBJECT_NON_EXISTENT}
+use Rattle.transfer_sets.specs.declared.wish.Wish.{Wish}
+use Rattle.transfer_sets.specs.SlotMoves.{last_wish}
+use Rattle.transfer_sets.specs.WishData.{shown_wish}
+use Rattle.transfer_sets.specs.Banks.{OwnedSlot, slot_at, is_owned_by}
 use Rattle.tase_views.specs.declared.reply.TheConstants.{OBJECT_ACCESS_DENIED}
-use Rattle.tase_views.specs.OwnTables.{OwnPoint, OwnTable, OwnTables, own_point}
+use Rattle.tase_views.specs.OwnTables.{OwnTable, OwnTables, own_point}
 use Rattle.tase_views.specs.Objects.{Object, constant, report_variable, indication_point}
 use Rattle.tase_views.specs.Objects.{next_transfer_set, control_point, selection, device_tag}
-use Rattle.tase_views.specs.Objects.{timeout, transfer_set, transfer_set_status}
-use Rattle.tase_views.specs.Objects.{NamedObject, point_object, is_named, objects, object_named}
-use Rattle.tase_views.specs.Moves.{reads, writes}
+use Rattle.tase_views.specs.Objects.{timeout, transfer_set, transfer_set_status, object_named}
+use Rattle.tase_views.specs.Moves.{reads}
 use Rattle.tase_views.specs.View.{View, own, held}
 use Rattle.tase_views.specs.Values.{values_in}
-use Rattle.tase_views.specs.Answers.{outcome_of_point, object_read, read_outcomes, object_written}
-use Rattle.tase_views.specs.Answers.{write_outcomes}
+use Rattle.tase_views.specs.Slots.{is_next_slot, slot_moves}
+use Rattle.tase_views.specs.Answers.{outcome_of_point, object_read, read_outcomes, slot_name}
+use Rattle.tase_views.specs.Answers.{temporarily_unavailable}
 use Rattle.node_core.specs.LastValues.{kinds_of}
-use Rattle.node_core.specs.Found.{TableInForce, offered}
-use Rattle.node_core.specs.Shown.{Shown, IsShown, InEachView, refused_write}
+use Rattle.node_core.specs.declared.naming.Special.{Special}
+use Rattle.node_core.specs.declared.naming.Special.TheVariants as specials
+use Rattle.node_core.specs.Found.{TableInForce, offered, special_object}
+use Rattle.node_core.specs.SlotsKept.{IsBank, slots_read, all_read, object_shown}
+use Rattle.node_core.specs.SlotsKept.{outcomes_shown, first_free, handed_by, Drafted, drafted}
+use Rattle.node_core.specs.SlotsKept.{HasDrafted, handed_all}
+use Rattle.node_core.specs.Shown.{Shown, IsShown, InEachView}
+use Rattle.node_core.proofs.SlotBanks.{owned_alike, free_alike, IsBank-reads}
+use Rattle.node_core.proofs.Offered.{IsOffered, offered_named}
 
 -- the kind of a point of the centre
 kind_there : (rows : CentreRows) (p : ℕ) → p < length rows.points
@@ -63,167 +73,103 @@ outcome_of_point-row updates tables view shown see value count s there named val
       kind_there shown.table.rows see.point there,
     ) refl
 
--- ---- the objects of a table that is offered
+-- ---- reads
 
--- a constant, a report variable or a point
-abbrev pub IsPlain : Object → Type 0
-IsPlain (constant value) = Unit {0}
-IsPlain (report_variable variable) = Unit {0}
-IsPlain (indication_point point) = Unit {0}
-IsPlain _ = ⊥
-
-abbrev pub IsPlainly : Option Object → Type 0
-IsPlainly None = Unit {0}
-IsPlainly (Some object) = IsPlain object
-
-abbrev ArePlain : List NamedObject → Type 0
-ArePlain [] = Unit {0}
-ArePlain (o ∷ objects) = IsPlain o.object × ArePlain objects
-
-points_plain : (points : List OwnPoint) → ArePlain (map point_object points)
-points_plain [] = tt
-points_plain (point ∷ points) = (tt, points_plain points)
-
--- the version, the features, the identifier, eight report variables
-objects_plain : (t : TableInForce) → ArePlain (objects (offered t))
-objects_plain t = (
-  tt,
-  (
-    tt,
-    (
-      tt,
-      (
-        tt,
-        (
-          tt,
-          (
-            tt,
-            (
-              tt,
-              (
-                tt,
-                (
-                  tt,
-                  (
-                    tt,
-                    (
-                      tt,
-                      points_plain (offered t).points,
-                    ),
-                  ),
-                ),
-              ),
-            ),
-          ),
-        ),
-      ),
-    ),
-  ),
-)
-
-found_plain : (test : NamedObject → Bool) (objects : List NamedObject) → ArePlain objects
-    → IsPlainly (option_map (λ (o : NamedObject). o.object) (find test objects))
-found_plain test [] plain = tt
-found_plain test (o ∷ objects) plain = by (test o) (found_plain test objects plain.1)
-  where
-    by : (b : Bool)
-        → IsPlainly (option_map (λ (o : NamedObject). o.object) (find test objects))
-        → IsPlainly (option_map (λ (o : NamedObject). o.object)
-        (if b then Some o else find test objects))
-    by true rest = plain.0
-    by false rest = rest
-
-named_plain : (t : TableInForce) (name : ObjectName) → IsPlainly (object_named (offered t) name)
-named_plain t name = found_plain (is_named (offered t) name) (objects (offered t)) (objects_plain t)
-
--- such an object gives what it gives in every view with the same values
-read_alike : (tables : OwnTables) (v w : View) (ordinal : ℕ) (object : Option Object)
-    → ((name : List ℕ) → values_in v name ≡ values_in w name) → IsPlainly object
-    → object_read tables v ordinal object ≡ object_read tables w ordinal object
-read_alike tables v w ordinal None same plain = refl
-read_alike tables v w ordinal (Some (constant value)) same plain = refl
-read_alike tables v w ordinal (Some (report_variable variable)) same plain = refl
-read_alike tables v w ordinal (Some (indication_point point)) same plain =
+-- an object gives what it gives by the transfer sets that are kept, and in every view with the same
+-- values
+object_alike : (tables : OwnTables) (v w : View) (ordinal : ℕ) (slots : List OwnedSlot)
+    (object : Option Object) → IsBank tables v slots
+    → ((name : List ℕ) → values_in v name ≡ values_in w name) → IsOffered object
+    → object_read tables v ordinal object
+    ≡ object_shown tables (held tables v) w ordinal slots object
+object_alike tables v w ordinal slots None k same o = refl
+object_alike tables v w ordinal slots (Some (constant value)) k same o = refl
+object_alike tables v w ordinal slots (Some (report_variable variable)) k same o = refl
+object_alike tables v w ordinal slots (Some (indication_point point)) k same o =
     rw (same point.name) refl
-read_alike tables v w ordinal (Some next_transfer_set) same plain = absurd plain
-read_alike tables v w ordinal (Some (control_point device)) same plain = absurd plain
-read_alike tables v w ordinal (Some (selection device)) same plain = absurd plain
-read_alike tables v w ordinal (Some (device_tag device)) same plain = absurd plain
-read_alike tables v w ordinal (Some (timeout device)) same plain = absurd plain
-read_alike tables v w ordinal (Some (transfer_set slot)) same plain = absurd plain
-read_alike tables v w ordinal (Some (transfer_set_status slot)) same plain = absurd plain
+object_alike tables v w ordinal slots (Some next_transfer_set) k same o =
+    ap (λ (free : Option ℕ). option_map_or (λ s. Good (slot_name (held tables v) s)) free
+    (Fail temporarily_unavailable)) (sym (free_alike tables v slots k))
+object_alike tables v w ordinal slots (Some (transfer_set s)) k same o =
+    ap (λ (mine : Bool). if mine
+    then Good (shown_wish (last_wish (slot_moves tables v s)).0) else Fail OBJECT_ACCESS_DENIED)
+    (sym (owned_alike tables v slots k ordinal s))
+    ∙ ap (λ (wish : Wish). if is_owned_by ordinal (slot_at slots s)
+    then Good (shown_wish wish) else Fail OBJECT_ACCESS_DENIED) (sym (k.wish s))
+object_alike tables v w ordinal slots (Some (transfer_set_status s)) k same o =
+    ap (λ (mine : Bool). if mine
+    then Good (boolean (last_wish (slot_moves tables v s)).0.status)
+    else Fail OBJECT_ACCESS_DENIED) (sym (owned_alike tables v slots k ordinal s))
+    ∙ ap (λ (wish : Wish). if is_owned_by ordinal (slot_at slots s)
+    then Good (boolean wish.status) else Fail OBJECT_ACCESS_DENIED) (sym (k.wish s))
+object_alike tables v w ordinal slots (Some (control_point device)) k same o = absurd o
+object_alike tables v w ordinal slots (Some (selection device)) k same o = absurd o
+object_alike tables v w ordinal slots (Some (device_tag device)) k same o = absurd o
+object_alike tables v w ordinal slots (Some (timeout device)) k same o = absurd o
 
--- and is written by nobody
-pub written_plain : (tables : OwnTables) (view : View) (ordinal : ℕ) (object : Option Object)
-    (value : Datum) → IsPlainly object
-    → object_written tables view ordinal object value ≡ refused_write object
-written_plain tables view ordinal None value plain = refl
-written_plain tables view ordinal (Some (constant shown)) value plain = refl
-written_plain tables view ordinal (Some (report_variable variable)) value plain = refl
-written_plain tables view ordinal (Some (indication_point point)) value plain = refl
-written_plain tables view ordinal (Some next_transfer_set) value plain = absurd plain
-written_plain tables view ordinal (Some (control_point device)) value plain = absurd plain
-written_plain tables view ordinal (Some (selection device)) value plain = absurd plain
-written_plain tables view ordinal (Some (device_tag device)) value plain = absurd plain
-written_plain tables view ordinal (Some (timeout device)) value plain = absurd plain
-written_plain tables view ordinal (Some (transfer_set slot)) value plain = absurd plain
-written_plain tables view ordinal (Some (transfer_set_status slot)) value plain = absurd plain
+module _ (tables : OwnTables) (ordinal : ℕ) where
+  reads_alike : (v w : View) (names : List ObjectName) (slots : List OwnedSlot)
+      → ((name : ObjectName) → IsOffered (object_named (held tables v) name))
+      → (held tables v).slots ≤ SLOT_LIMIT → IsBank tables v slots
+      → ((name : List ℕ) → values_in v name ≡ values_in w name)
+      → read_outcomes tables v ordinal names
+      ≡ outcomes_shown tables (held tables v) w ordinal names slots
+  reads_alike v w [] slots offered few k same = refl
+  reads_alike v w (name ∷ names) slots offered few k same =
+      let table = held tables v in
+      let behind : View = own ordinal (reads name) ∷ v in
+      ap (λ (outcome : Outcome). outcome ∷ read_outcomes tables behind ordinal names)
+      (object_alike tables v w ordinal slots (object_named table name) k same (offered name))
+      ∙ ap (λ (rest : List Outcome). object_shown tables table w ordinal slots
+      (object_named table name) ∷ rest)
+      (reads_alike behind w names (slots_read table ordinal name slots) offered few
+      (IsBank-reads tables v slots k ordinal name few) same)
 
--- what a name gives a read
-abbrev pub read_named : OwnTables → ℕ → View → ObjectName → Outcome
-read_named tables ordinal view name =
-    object_read tables view ordinal (object_named (held tables view) name)
+  -- what reads give by what is kept is what they give by the view
+  pub read_outcomes-shown : (t : TableInForce) (view : View) (names : List ObjectName)
+      (slots : List OwnedSlot) → offered t ≡ held tables view → t.table.slots ≤ SLOT_LIMIT
+      → IsBank tables view slots
+      → outcomes_shown tables (offered t) view ordinal names slots
+      ≡ read_outcomes tables view ordinal names
+  read_outcomes-shown t view names slots in_force few k =
+      ap (λ (table : OwnTable). outcomes_shown tables table view ordinal names slots) in_force
+      ∙ sym (reads_alike view view names slots
+      (λ name. subst (λ (table : OwnTable). IsOffered (object_named table name)) in_force
+      (offered_named t name))
+      (subst (λ (table : OwnTable). table.slots ≤ SLOT_LIMIT) in_force few) k (λ name. refl))
 
-module _ (t : TableInForce) (tables : OwnTables) (ordinal : ℕ) where
-  reads_alike : (v w : View) (names : List ObjectName) → offered t ≡ held tables v
-      → offered t ≡ held tables w → ((name : List ℕ) → values_in v name ≡ values_in w name)
-      → read_outcomes tables v ordinal names ≡ map (read_named tables ordinal w) names
-  reads_alike v w [] in_force there same = refl
-  reads_alike v w (name ∷ names) in_force there same =
-      let here : read_named tables ordinal v name ≡ read_named tables ordinal w name =
-      ap (λ (table : OwnTable). object_read tables v ordinal (object_named table name))
-      (sym in_force)
-      ∙ read_alike tables v w ordinal (object_named (offered t) name) same (named_plain t name)
-      ∙ ap (λ (table : OwnTable). object_read tables w ordinal (object_named table name)) there in
-      ap (λ (outcome : Outcome). outcome
-      ∷ read_outcomes tables (own ordinal (reads name) ∷ v) ordinal names) here
-      ∙ ap (λ (rest : List Outcome). read_named tables ordinal w name ∷ rest)
-      (reads_alike (own ordinal (reads name) ∷ v) w names in_force there same)
+-- one read more, ahead of those that are left
+pub shown-step : (tables : OwnTables) (table : OwnTable) (view : View) (ordinal : ℕ)
+    (names : List ObjectName) (i : ℕ) (name : ObjectName) (slots after : List OwnedSlot)
+    (done all : List Outcome) (outcome : Outcome) → i < length names → name ≡ get_or names i name
+    → all ≡ done ++ outcome ∷ []
+    → outcome ≡ object_shown tables table view ordinal slots (object_named table name)
+    → after ≡ slots_read table ordinal name slots
+    → all ++ outcomes_shown tables table view ordinal (drop (i + 1) names) after
+    ≡ done ++ outcomes_shown tables table view ordinal (drop i names) slots
+shown-step tables table view ordinal names i name slots after done all outcome within at pushed is
+    behind =
+    let more = drop (i + 1) names in
+    ap (λ (xs : List Outcome). xs ++ outcomes_shown tables table view ordinal more after) pushed
+    ∙ append_assoc done (outcome ∷ []) (outcomes_shown tables table view ordinal more after)
+    ∙ ap (λ (xs : List Outcome). done ++ xs)
+    (ap (λ (o : Outcome). o ∷ outcomes_shown tables table view ordinal more after) is
+    ∙ ap (λ (left : List OwnedSlot). object_shown tables table view ordinal slots
+    (object_named table name) ∷ outcomes_shown tables table view ordinal more left) behind
+    ∙ ap (λ (n : ObjectName). outcomes_shown tables table view ordinal (n ∷ more) slots) at
+    ∙ sym (at_drop_more (λ ns. outcomes_shown tables table view ordinal ns slots) names i name
+    within))
 
-  -- the reads within one call don't change what later ones give
-  pub read_outcomes-map : (view : View) (names : List ObjectName) → offered t ≡ held tables view
-      → read_outcomes tables view ordinal names ≡ map (read_named tables ordinal view) names
-  read_outcomes-map view names in_force =
-      reads_alike view view names in_force in_force (λ name. refl)
-
-  -- nor do its writes
-  pub write_outcomes-map : (view : View) (names : List ObjectName) (values : List Datum)
-      → offered t ≡ held tables view → length values ≡ length names
-      → write_outcomes tables view ordinal names values
-      ≡ map (λ name. refused_write (object_named (offered t) name)) names
-  write_outcomes-map view [] values in_force same = refl
-  write_outcomes-map view (name ∷ names) [] in_force same = absurd (omega (arith, same))
-  write_outcomes-map view (name ∷ names) (value ∷ values) in_force same =
-      let behind = own ordinal (writes name value) ∷ view in
-      let here : object_written tables view ordinal (object_named (held tables view) name) value
-      ≡ refused_write (object_named (offered t) name) =
-      ap (λ (table : OwnTable). object_written tables view ordinal (object_named table name) value)
-      (sym in_force)
-      ∙ written_plain tables view ordinal (object_named (offered t) name) value
-      (named_plain t name) in
-      ap (λ (reason : Option ℕ). reason ∷ write_outcomes tables behind ordinal names values) here
-      ∙ ap (λ (rest : List (Option ℕ)). refused_write (object_named (offered t) name) ∷ rest)
-      (write_outcomes-map behind names values in_force (omega (arith, same)))
-
--- one item more of a list that is mapped
-pub map_pushed : {X Y : Type 0} (f : X → Y) (xs : List X) (i : ℕ) (d : X) (y : Y)
-    (so_far all : List Y) → i < length xs → y ≡ f (get_or xs i d) → so_far ≡ map f (take i xs)
-    → all ≡ so_far ++ y ∷ [] → all ≡ map f (take (i + 1) xs)
-map_pushed {Y = Y} f xs i d y so_far all within here before pushed =
-    pushed
-    ∙ ap (λ (ys : List Y). ys ++ y ∷ []) before
-    ∙ ap (λ (last : Y). map f (take i xs) ++ last ∷ []) here
-    ∙ sym (map_more f xs i d within)
+pub read-step : (table : OwnTable) (ordinal : ℕ) (names : List ObjectName) (i : ℕ)
+    (name : ObjectName) (slots after : List OwnedSlot) → i < length names
+    → name ≡ get_or names i name → after ≡ slots_read table ordinal name slots
+    → all_read table ordinal (drop (i + 1) names) after
+    ≡ all_read table ordinal (drop i names) slots
+read-step table ordinal names i name slots after within at behind =
+    let more = drop (i + 1) names in
+    ap (all_read table ordinal more) behind
+    ∙ ap (λ (n : ObjectName). all_read table ordinal (n ∷ more) slots) at
+    ∙ sym (at_drop_more (λ ns. all_read table ordinal ns slots) names i name within)
 
 -- one item more of a list of which all have a property
 pub All-pushed : {X : Type 0} (P : X → Type 0) (so_far all : List X) (x : X)
@@ -232,18 +178,75 @@ All-pushed P so_far all x pushed before here =
     subst (All P) (sym pushed)
     (All-append P so_far (x ∷ []) before (All-cons P x [] here (All-nil P)))
 
--- why a variable isn't written
-pub refused_there : (object : Option Object) → is_some object ≡ true
-    → Some OBJECT_ACCESS_DENIED ≡ refused_write object
-refused_there None e = absurd (false≢true e)
-refused_there (Some object) e = refl
+-- ---- one read, by what its object is
 
-pub refused_absent : (object : Option Object) → is_some object ≡ false
-    → Some OBJECT_NON_EXISTENT ≡ refused_write object
-refused_absent None e = refl
-refused_absent (Some object) e = absurd (true≢false e)
+-- an object of the protocol itself is shown as it is read, and hands nothing out
+pub shown_special : (whose : OwnTable) (special : Special) (tables : OwnTables) (table : OwnTable)
+    (view : View) (ordinal : ℕ) (slots : List OwnedSlot)
+    → object_shown tables table view ordinal slots (Some (special_object whose special))
+    ≡ object_read tables view ordinal (Some (special_object whose special))
+shown_special whose specials.Version tables table view ordinal slots = refl
+shown_special whose specials.Features tables table view ordinal slots = refl
+shown_special whose specials.TableId tables table view ordinal slots = refl
+shown_special whose specials.SetName tables table view ordinal slots = refl
+shown_special whose specials.TimeStamp tables table view ordinal slots = refl
+shown_special whose specials.Conditions tables table view ordinal slots = refl
+shown_special whose specials.EventCode tables table view ordinal slots = refl
+
+pub special_kept : (whose : OwnTable) (special : Special)
+    → is_next_slot (Some (special_object whose special)) ≡ false
+special_kept whose specials.Version = refl
+special_kept whose specials.Features = refl
+special_kept whose specials.TableId = refl
+special_kept whose specials.SetName = refl
+special_kept whose specials.TimeStamp = refl
+special_kept whose specials.Conditions = refl
+special_kept whose specials.EventCode = refl
+
+-- what isn't the next transfer set hands nothing out
+pub drafted-kept : {A E : Type 0} (result : Result A E) (table : OwnTable) (name : ObjectName)
+    (object : Option Object) (d : Drafted) → object ≡ object_named table name
+    → is_next_slot object ≡ false
+    → OnOk result (HasDrafted d d (slots_read table d.ordinal name (drafted d)))
+drafted-kept (Err e) table name object d named other = tt
+drafted-kept (Ok x) table name object d named other =
+    record {
+      bank = refl;
+      ordinal = refl;
+      slots = ap (λ (next : Bool). if next
+          then handed_by d.ordinal (first_free table.slots (drafted d)) (drafted d)
+          else drafted d) (sym other ∙ ap is_next_slot named);
+    }
+
+-- the next one hands out the first that is free
+pub drafted-next : {A E : Type 0} (result : Result A E) (table : OwnTable) (name : ObjectName)
+    (count : ℕ) (old new : Drafted) → Some next_transfer_set ≡ object_named table name
+    → count ≡ table.slots
+    → OnOk result (HasDrafted old new
+    (handed_by old.ordinal (first_free count (drafted old)) (drafted old)))
+    → OnOk result (HasDrafted old new (slots_read table old.ordinal name (drafted old)))
+drafted-next (Err e) table name count old new named same drafting = tt
+drafted-next (Ok x) table name count old new named same drafting = record {
+  bank = drafting.bank;
+  ordinal = drafting.ordinal;
+  slots = drafting.slots
+      ∙ ap (λ (n : ℕ). handed_by old.ordinal (first_free n (drafted old)) (drafted old)) same
+      ∙ ap (λ (o : Option Object). if is_next_slot o
+      then handed_by old.ordinal (first_free table.slots (drafted old)) (drafted old)
+      else drafted old) named;
+}
 
 -- ---- in whatever view
+
+-- what holds of a result in each view that has what is shown, said in other words of that
+pub ok_each : {A E : Type 0} (given shown : Shown) (P : Shown → A → OwnTables → View → Type 0)
+    (result : Result A E) → given ≡ shown
+    → ((updates : Updates) (tables : OwnTables) (view : View)
+    → IsShown updates tables view given → IfOk result (λ x. P given x tables view))
+    → IfOk result (λ x. InEachView shown (P shown x))
+ok_each given shown P (Ok x) same each =
+    subst (λ (s : Shown). InEachView s (P s x)) same each
+ok_each given shown P (Err e) same each = tt
 
 pub ok_of : {A E : Type 0} {P Q : A → Type 0} (result : Result A E) → ((x : A) → P x → Q x)
     → IfOk result P → IfOk result Q
@@ -258,6 +261,44 @@ pub in_each : {A : Type 0} (given shown : Shown) (F : OwnTables → View → ℕ
 in_each given shown F x same each =
     subst (λ (s : Shown). InEachView s (λ tables view. (ordinal : ℕ) → x ≡ F tables view ordinal))
     same each
+
+pub in_view : {A : Type 0} (given shown : Shown) (F : OwnTables → View → A) (x : A)
+    → given ≡ shown → InEachView given (λ tables view. x ≡ F tables view)
+    → InEachView shown (λ tables view. x ≡ F tables view)
+in_view given shown F x same each =
+    subst (λ (s : Shown). InEachView s (λ tables view. x ≡ F tables view)) same each
+
+-- reads that begin with nothing handed out give what the view gives
+pub read_by_draft : (shown : Shown) (updates : Updates) (tables : OwnTables) (view : View)
+    (ordinal : ℕ) (names : List ObjectName) (results : List Outcome) (d : Drafted)
+    (bank : List OwnedSlot) → d ≡ record { bank = bank; ordinal = ordinal; handed = [] }
+    → bank ≡ shown.slots → shown.table.table.slots ≤ SLOT_LIMIT → IsShown updates tables view shown
+    → results ≡ outcomes_shown tables (offered shown.table) view d.ordinal names (drafted d)
+    → results ≡ read_outcomes tables view ordinal names
+read_by_draft shown updates tables view ordinal names results d bank fresh same few s read =
+    read
+    ∙ ap (λ (x : Drafted). outcomes_shown tables (offered shown.table) view x.ordinal names
+    (drafted x)) fresh
+    ∙ ap (λ (slots : List OwnedSlot). outcomes_shown tables (offered shown.table) view ordinal names
+    slots) same
+    ∙ read_outcomes-shown tables ordinal shown.table view names shown.slots s.table few s.slots
+
+-- and hand out what they have drafted
+pub hands_out : (table : OwnTable) (ordinal : ℕ) (names : List ObjectName)
+    (bank slots : List OwnedSlot) (old new : Drafted) (handed : List ℕ)
+    → old ≡ record { bank = bank; ordinal = ordinal; handed = [] } → bank ≡ slots
+    → handed ≡ new.handed
+    → HasDrafted old new (all_read table old.ordinal names (drafted old))
+    → handed_all ordinal handed slots ≡ all_read table ordinal names slots
+hands_out table ordinal names bank slots old new handed fresh same taken h =
+    ap (λ (these : List ℕ). handed_all ordinal these slots) taken
+    ∙ ap (λ (o : ℕ). handed_all o new.handed slots)
+    (sym (h.ordinal ∙ ap (λ (d : Drafted). d.ordinal) fresh))
+    ∙ ap (λ (b : List OwnedSlot). handed_all new.ordinal new.handed b)
+    (sym (h.bank ∙ ap (λ (d : Drafted). d.bank) fresh ∙ same))
+    ∙ h.slots
+    ∙ ap (λ (d : Drafted). all_read table d.ordinal names (drafted d)) fresh
+    ∙ ap (λ (b : List OwnedSlot). all_read table ordinal names b) same
 
 -- so of a result
 pub ok_in_each : {A E : Type 0} (given shown : Shown) (F : OwnTables → View → ℕ → A)

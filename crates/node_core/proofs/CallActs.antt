@@ -1,5 +1,5 @@
 -- What holds of each act of a call, and what its acts make of a part.
-use Rattle.std.proofs.Common.{◌≡◌, ◌≢◌, ℕ, List, [], ◌∷◌, ◌++◌, map, reverse, Some, None}
+use Rattle.std.proofs.Common.{◌≡◌, ◌≢◌, ℕ, Bool, List, [], ◌∷◌, ◌++◌, map, reverse, Some, None}
 use Rattle.std.proofs.Common.{refl, sym, ap, subst, ◌∙◌}
 use Rattle.std.proofs.lemmas.List.{reverse-append}
 use Rattle.mms_data.specs.Datum.{Datum}
@@ -16,8 +16,11 @@ use Rattle.tase_views.specs.Moves.{writes_of, acts_of_call}
 use Rattle.tase_views.specs.View.{own}
 use Rattle.tase_views.specs.Sets.{SetError}
 use Rattle.node_core.specs.declared.peer.Peer.{Peer}
-use Rattle.node_core.specs.SetsKept.{left_by, left_behind}
-use Rattle.node_core.specs.PeerParts.{fault_in, part_after, part_behind, IsLawfulAct, EachAct}
+use Rattle.node_core.specs.SetsKept.{left_by}
+use Rattle.node_core.specs.SlotsKept.{all_read, all_written}
+use Rattle.node_core.specs.PeerParts.{fault_in, kept_in, part_after, part_behind, IsLawfulAct}
+use Rattle.node_core.specs.PeerParts.{EachAct}
+use Rattle.node_core.specs.Shown.{IsCalm}
 
 each-append : (Q : Act → Type 0) (xs ys : List Act) → EachAct Q xs → EachAct Q ys
     → EachAct Q (xs ++ ys)
@@ -68,11 +71,9 @@ each_of_call Q r w c (Odd kind code) defining deleting = (c (Odd kind code), tt)
 
 -- an act that changes nothing of a part
 abbrev pub IsIdle : Act → Type 0
-IsIdle opens = ⊥
-IsIdle closes = ⊥
-IsIdle (defines set members) = ⊥
-IsIdle (deletes set) = ⊥
-IsIdle act = Unit {0}
+IsIdle takes = Unit {0}
+IsIdle (calls call) = Unit {0}
+IsIdle act = ⊥
 
 -- one that opens no association
 abbrev pub IsOpenless : Act → Type 0
@@ -101,63 +102,121 @@ idle_lawful (defines set members) idle = absurd idle
 idle_lawful (deletes set) idle = tt
 idle_lawful (calls call) idle = tt
 
-pub idle_act : (tables : OwnTables) (ordinal : ℕ) (act : Act) (part : Peer) → IsIdle act
-    → part_after tables (own ordinal act) part ≡ part
-idle_act tables ordinal opens part idle = absurd idle
-idle_act tables ordinal takes part idle = refl
-idle_act tables ordinal closes part idle = absurd idle
-idle_act tables ordinal (reads name) part idle = refl
-idle_act tables ordinal (writes name value) part idle = refl
-idle_act tables ordinal (defines set members) part idle = absurd idle
-idle_act tables ordinal (deletes set) part idle = absurd idle
-idle_act tables ordinal (calls call) part idle = refl
+pub idle_act : (tables : OwnTables) (now ordinal : ℕ) (act : Act) (part : Peer) → IsIdle act
+    → part_after tables now (own ordinal act) part ≡ part
+idle_act tables now ordinal opens part idle = absurd idle
+idle_act tables now ordinal takes part idle = refl
+idle_act tables now ordinal closes part idle = absurd idle
+idle_act tables now ordinal (reads name) part idle = absurd idle
+idle_act tables now ordinal (writes name value) part idle = absurd idle
+idle_act tables now ordinal (defines set members) part idle = absurd idle
+idle_act tables now ordinal (deletes set) part idle = absurd idle
+idle_act tables now ordinal (calls call) part idle = refl
 
-idle_acts : (tables : OwnTables) (ordinal : ℕ) (these : List Act) (part : Peer)
-    → EachAct IsIdle these → part_behind tables ordinal these part ≡ part
-idle_acts tables ordinal [] part idle = refl
-idle_acts tables ordinal (act ∷ these) part idle =
-    ap (part_after tables (own ordinal act)) (idle_acts tables ordinal these part idle.1)
-    ∙ idle_act tables ordinal act part idle.0
+-- a call that reads, writes, defines or deletes
+abbrev pub IsActive : CallKind → Type 0
+IsActive (Read names echo) = Unit {0}
+IsActive (Write names values) = Unit {0}
+IsActive (Define set members) = Unit {0}
+IsActive (Delete sets) = Unit {0}
+IsActive call = ⊥
 
--- a call that is neither a definition nor a deletion leaves a part
-pub idle_call : (tables : OwnTables) (ordinal : ℕ) (call : CallKind) (part : Peer)
+pub calm_idle : (call : CallKind) → IsCalm call
     → ((set : ObjectName) (members : List ObjectName) → call ≢ Define set members)
-    → ((sets : List ObjectName) → call ≢ Delete sets)
-    → part_behind tables ordinal (acts_of_call call) part ≡ part
-idle_call tables ordinal call part undefining undeleting =
-    idle_acts tables ordinal (acts_of_call call) part
-    (each_of_call IsIdle (λ name. tt) (λ name value. tt) (λ other. tt) call
-    (λ set members e. undefining set members e) (λ sets e set. undeleting sets e))
+    → ((sets : List ObjectName) → call ≢ Delete sets) → IsActive call → ⊥
+calm_idle Identify calm undefining undeleting active = active
+calm_idle (Read names echo) calm undefining undeleting active = calm
+calm_idle (ReadSet set echo) calm undefining undeleting active = active
+calm_idle (Write names values) calm undefining undeleting active = calm
+calm_idle (WriteSet set values) calm undefining undeleting active = active
+calm_idle (NameList class scope after) calm undefining undeleting active = active
+calm_idle (Define set members) calm undefining undeleting active = undefining set members refl
+calm_idle (MembersOf set) calm undefining undeleting active = active
+calm_idle (Delete sets) calm undefining undeleting active = undeleting sets refl
+calm_idle (DeleteScope scope) calm undefining undeleting active = active
+calm_idle (Odd kind code) calm undefining undeleting active = active
 
-part_behind-append : (tables : OwnTables) (ordinal : ℕ) (xs ys : List Act) (part : Peer)
-    → part_behind tables ordinal (xs ++ ys) part
-    ≡ part_behind tables ordinal xs (part_behind tables ordinal ys part)
-part_behind-append tables ordinal [] ys part = refl
-part_behind-append tables ordinal (x ∷ xs) ys part =
-    ap (part_after tables (own ordinal x)) (part_behind-append tables ordinal xs ys part)
+-- each other call leaves a part
+pub idle_call : (tables : OwnTables) (now ordinal : ℕ) (call : CallKind) (part : Peer)
+    → (IsActive call → ⊥) → part_behind tables now ordinal (acts_of_call call) part ≡ part
+idle_call tables now ordinal Identify part idle = refl
+idle_call tables now ordinal (Read names echo) part idle = absurd (idle tt)
+idle_call tables now ordinal (ReadSet set echo) part idle = refl
+idle_call tables now ordinal (Write names values) part idle = absurd (idle tt)
+idle_call tables now ordinal (WriteSet set values) part idle = refl
+idle_call tables now ordinal (NameList class scope after) part idle = refl
+idle_call tables now ordinal (Define set members) part idle = absurd (idle tt)
+idle_call tables now ordinal (MembersOf set) part idle = refl
+idle_call tables now ordinal (Delete sets) part idle = absurd (idle tt)
+idle_call tables now ordinal (DeleteScope scope) part idle = refl
+idle_call tables now ordinal (Odd kind code) part idle = refl
+
+part_behind-append : (tables : OwnTables) (now ordinal : ℕ) (xs ys : List Act) (part : Peer)
+    → part_behind tables now ordinal (xs ++ ys) part
+    ≡ part_behind tables now ordinal xs (part_behind tables now ordinal ys part)
+part_behind-append tables now ordinal [] ys part = refl
+part_behind-append tables now ordinal (x ∷ xs) ys part =
+    ap (part_after tables now (own ordinal x)) (part_behind-append tables now ordinal xs ys part)
+
+-- one act, and then those of a list
+part_behind-first : (tables : OwnTables) (now ordinal : ℕ) (act : Act) (these : List Act)
+    (part : Peer) → part_behind tables now ordinal (reverse (act ∷ these)) part
+    ≡ part_behind tables now ordinal (reverse these) (part_after tables now (own ordinal act) part)
+part_behind-first tables now ordinal act these part =
+    ap (λ (acted : List Act). part_behind tables now ordinal acted part)
+    (reverse-append (act ∷ []) these)
+    ∙ part_behind-append tables now ordinal (reverse these) (act ∷ []) part
 
 -- deletions take the data sets away, one after another
-pub deleting_call : (tables : OwnTables) (ordinal : ℕ) (sets : List ObjectName) (part : Peer)
-    → part_behind tables ordinal (acts_of_call (Delete sets)) part
-    ≡ record part { book = left_by (table_in tables part.variant).domain sets part.book }
-deleting_call tables ordinal [] part = refl
-deleting_call tables ordinal (set ∷ sets) part =
-    ap (λ (these : List Act). part_behind tables ordinal these part)
-    (reverse-append (deletes set ∷ []) (map deletes sets))
-    ∙ part_behind-append tables ordinal (reverse (map deletes sets)) (deletes set ∷ []) part
-    ∙ deleting_call tables ordinal sets
-    (record part { book = left_behind (table_in tables part.variant).domain part.book set })
+pub deleting_call : (tables : OwnTables) (now ordinal : ℕ) (sets : List ObjectName) (part : Peer)
+    → part_behind tables now ordinal (acts_of_call (Delete sets)) part
+    ≡ record part {
+      book = left_by (kept_in (table_in tables part.variant) part.slots)
+          (table_in tables part.variant).domain sets part.book;
+    }
+deleting_call tables now ordinal [] part = refl
+deleting_call tables now ordinal (set ∷ sets) part =
+    part_behind-first tables now ordinal (deletes set) (map deletes sets) part
+    ∙ deleting_call tables now ordinal sets
+    (part_after tables now (own ordinal (deletes set)) part)
+
+-- reads hand transfer sets out, one after another
+pub reading_call : (tables : OwnTables) (now ordinal : ℕ) (names : List ObjectName) (echo : Bool)
+    (part : Peer) → part_behind tables now ordinal (acts_of_call (Read names echo)) part
+    ≡ record part {
+      slots = all_read (table_in tables part.variant) ordinal names part.slots;
+    }
+reading_call tables now ordinal [] echo part = refl
+reading_call tables now ordinal (name ∷ names) echo part =
+    part_behind-first tables now ordinal (reads name) (map reads names) part
+    ∙ reading_call tables now ordinal names echo
+    (part_after tables now (own ordinal (reads name)) part)
+
+-- writes take wishes, one after another
+pub writing_call : (tables : OwnTables) (now ordinal : ℕ) (names : List ObjectName)
+    (values : List Datum) (part : Peer)
+    → part_behind tables now ordinal (acts_of_call (Write names values)) part
+    ≡ record part {
+      slots = all_written (table_in tables part.variant) part.book ordinal now names values
+          part.slots;
+    }
+writing_call tables now ordinal [] values part = refl
+writing_call tables now ordinal (name ∷ names) [] part = refl
+writing_call tables now ordinal (name ∷ names) (value ∷ values) part =
+    part_behind-first tables now ordinal (writes name value) (writes_of names values) part
+    ∙ writing_call tables now ordinal names values
+    (part_after tables now (own ordinal (writes name value)) part)
 
 -- a definition, which has an error or none
-pub refused_call : (tables : OwnTables) (ordinal : ℕ) (set : ObjectName)
+pub refused_call : (tables : OwnTables) (now ordinal : ℕ) (set : ObjectName)
     (members : List ObjectName) (part : Peer) (error : SetError)
     → fault_in (table_in tables part.variant) part.book set members ≡ Some error
-    → part_behind tables ordinal (defines set members ∷ []) part ≡ part
-refused_call tables ordinal set members part error fault = rw fault refl
+    → part_behind tables now ordinal (defines set members ∷ []) part ≡ part
+refused_call tables now ordinal set members part error fault = rw fault refl
 
-pub defining_call : (tables : OwnTables) (ordinal : ℕ) (set : ObjectName)
+pub defining_call : (tables : OwnTables) (now ordinal : ℕ) (set : ObjectName)
     (members : List ObjectName) (part : Peer)
     → fault_in (table_in tables part.variant) part.book set members ≡ None
-    → part_behind tables ordinal (defines set members ∷ []) part
+    → part_behind tables now ordinal (defines set members ∷ []) part
     ≡ record part { book = defined part.book set.item members }
-defining_call tables ordinal set members part fault = rw fault refl
+defining_call tables now ordinal set members part fault = rw fault refl

@@ -9,7 +9,7 @@ use Rattle.tase_points.specs.Sample.{Sample}
 use Rattle.bilateral.specs.Rows.{CentreRows, variants_of}
 use Rattle.sbo_device.specs.declared.key.Key.{Key}
 use Rattle.tase_views.specs.declared.event.EventKind.{EventKind}
-use Rattle.tase_views.specs.declared.event.TheConstants.{CLOCK_LIMIT}
+use Rattle.sbo_device.specs.declared.device.TheConstants.{MOMENT_LIMIT}
 use Rattle.tase_views.specs.declared.event.EventKind.TheVariants.{Open, Request, Take, Close}
 use Rattle.tase_views.specs.declared.event.EventKind.TheVariants.{Update, Table, Tick, Ask, Stop}
 use Rattle.tase_views.specs.declared.fault.StepFault.{StepFault}
@@ -190,7 +190,7 @@ own_clock last (feeding (asks peer slot)) = tt
 own_clock last (feeding (chooses peer variant)) = tt
 own_clock last (feeding takes_orders) = tt
 own_clock last (feeding stops) = tt
-own_clock last (feeding (ticks now)) = by (leb CLOCK_LIMIT now) (leb now last)
+own_clock last (feeding (ticks now)) = by (leb MOMENT_LIMIT now) (leb now last)
   where
     by : (b c : Bool)
         → AreOwn (if b then Some ClockRange else (if c then Some (Backward last) else None))

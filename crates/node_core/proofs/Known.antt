@@ -29,7 +29,7 @@ pub table_is_lawful : (rows : CentreRows) (peer : ℕ) → IsCentre rows → pee
     → IsTable (length rows.points) (table_of rows peer)
 table_is_lawful rows peer lawful there = lawful.tables peer no_table there
 
-further_are_lawful : (rows : CentreRows) (peer : ℕ) → IsCentre rows
+pub further_are_lawful : (rows : CentreRows) (peer : ℕ) → IsCentre rows
     → All (IsTable (length rows.points)) (further_of rows peer)
 further_are_lawful rows peer lawful = (lawful.further peer).tables
 

@@ -1,12 +1,13 @@
--- The names that stand in a list: those of the protocol's own objects, of the rows of a table and
--- of the data sets of a book, each of them an identifier.
+-- The names that stand in a list: those of the protocol's own objects, of the transfer sets and the
+-- rows of a table and of the data sets of a book, each of them an identifier.
 use Rattle.std.proofs.Common.{◌≡◌, ◌==◌, ℕ, zero, suc, ◌+◌, ◌<◌, ◌≤◌, min, Bool, true, false, not}
 use Rattle.std.proofs.Common.{◌&&◌, List, [], ◌∷◌, ◌++◌, map, take, length, get_or, Bor}
 use Rattle.std.proofs.Common.{Option, Some, None, refl, sym, ap, ◌∙◌, arith, ⊎_elim, take_all}
 use Rattle.std.proofs.Common.{append-nil, append_assoc, subst}
 use Rattle.std.specs.Prelude.{if◌then◌else◌, filter, IsPermutation, ℤ, Result, IfOk}
 use Rattle.std.specs.Ordering.{int_eq}
-use Rattle.std.specs.List.{All, filter_map, cons_option, list_all}
+use Rattle.std.specs.Fmt.{digits}
+use Rattle.std.specs.List.{All, filter_map, flat_map, cons_option, list_all, range_with_len}
 use Rattle.std.proofs.lemmas.Bool.{cases_lt, false≢true, and_parts}
 use Rattle.std.proofs.lemmas.List.{get_or-map, take-map, length-map, take_more, map_push}
 use Rattle.std.proofs.lemmas.List.{map-append}
@@ -19,6 +20,7 @@ use Rattle.data_sets.specs.declared.book.DataSet.{DataSet}
 use Rattle.data_sets.specs.Books.{Book}
 use Rattle.bilateral.specs.declared.rows.See.{See}
 use Rattle.table_words.specs.Words.{is_name, is_identifier}
+use Rattle.bilateral.specs.declared.rows.TheConstants.{SLOT_LIMIT}
 use Rattle.bilateral.specs.Rows.{CentreRows, IsCentre, IsTable, no_point}
 use Rattle.table_words.proofs.VisibleWords.{IsVisible-from_name, IsVisible-from_identifier}
 use Rattle.tase_views.specs.declared.call.TheConstants.{NAMED_VARIABLES, NAMED_VARIABLE_LISTS}
@@ -28,14 +30,16 @@ use Rattle.tase_views.specs.declared.reply.ReplyKind.TheVariants.{Error}
 use Rattle.tase_views.specs.declared.reply.TheConstants.{NAMES_LIMIT, ACCESS_ERRORS, ACCESS_DENIED}
 use Rattle.tase_views.specs.OwnTables.{OwnTable, OwnTables, own_point, is_scope_of}
 use Rattle.tase_views.specs.Objects.{NamedObject, special_objects, point_object, objects}
+use Rattle.tase_views.specs.Objects.{objects_of_slot}
 use Rattle.tase_views.specs.View.{View, held}
 use Rattle.tase_views.specs.Answers.{set_names}
 use Rattle.tase_views.specs.NameLists.{is_after, variables_in, is_foreign, is_vmd, in_order}
 use Rattle.tase_views.specs.NameLists.{first_of, names_listed}
-use Rattle.node_core.specs.Found.{TableInForce, offered}
+use Rattle.node_core.specs.Found.{TableInForce, offered, transfer_objects}
 use Rattle.node_core.specs.SetsKept.{IsBook}
 use Rattle.node_core.proofs.SetNames.{book_names, names_ordered}
-use Rattle.node_core.proofs.OwnObjects.{specials_in}
+use Rattle.node_core.proofs.OwnObjects.{specials_in, objects_parted}
+use Rattle.node_core.proofs.SlotNames.{next_object, slot_object, status_object, some_transfers}
 
 abbrev pub names_of : List (Bor (List ℕ)) → List (List ℕ)
 names_of names = map (λ name. name.now) names
@@ -87,24 +91,40 @@ variables-append table scope some more =
     (filter (λ o. is_scope_of table scope o.vmd) some)
     (filter (λ o. is_scope_of table scope o.vmd) more)
 
--- the names of the protocol's own objects in a scope that stand in the list
+-- the names of the protocol's own objects in a scope that stand in the list, and those of transfer
+-- sets
 abbrev pub specials_listed : OwnTable → Scope → Option (List ℕ) → List (List ℕ)
 specials_listed table scope after = filter (is_after after) (specials_in table scope)
 
--- the variables of a scope that stand in the list: those of the protocol itself, and row by row
+abbrev pub transfers_listed : OwnTable → Scope → Option (List ℕ) → List (List ℕ)
+transfers_listed table scope after =
+    filter (is_after after) (variables_in table (transfer_objects table.slots) scope)
+
+abbrev pub front_listed : OwnTable → Scope → Option (List ℕ) → List (List ℕ)
+front_listed table scope after =
+    specials_listed table scope after ++ transfers_listed table scope after
+
+-- the variables of a scope that stand in the list: those two, and row by row
 pub variables-listed : (t : TableInForce) (scope : Scope) (after : Option (List ℕ))
     → filter (is_after after) (variables_in (offered t) (objects (offered t)) scope)
-    ≡ specials_listed (offered t) scope after
+    ≡ front_listed (offered t) scope after
     ++ filter_map (row_listed t.rows (offered t) scope after) t.table.sees
 variables-listed t scope after =
     let table = offered t in
-    let sees = t.table.sees in
-    ap (filter (is_after after))
-    (variables-append table scope (special_objects table) (points_of t.rows sees))
-    ∙ filter-append (is_after after) (specials_in table scope)
-    (variables_in table (points_of t.rows sees) scope)
-    ∙ ap (λ (names : List (List ℕ)). specials_listed table scope after ++ names)
-    (listed_rows t.rows table scope after sees)
+    let rows = points_of t.rows t.table.sees in
+    let specials = special_objects table in
+    let transfers = transfer_objects table.slots in
+    let test = is_after after in
+    ap (λ (all : List NamedObject). filter test (variables_in table all scope)) (objects_parted t)
+    ∙ ap (filter test) (variables-append table scope (specials ++ transfers) rows)
+    ∙ filter-append test (variables_in table (specials ++ transfers) scope)
+    (variables_in table rows scope)
+    ∙ ap (λ (names : List (List ℕ)). filter test names ++ filter test
+    (variables_in table rows scope)) (variables-append table scope specials transfers)
+    ∙ ap (λ (names : List (List ℕ)). names ++ filter test (variables_in table rows scope))
+    (filter-append test (specials_in table scope) (variables_in table transfers scope))
+    ∙ ap (λ (names : List (List ℕ)). front_listed table scope after ++ names)
+    (listed_rows t.rows table scope after t.table.sees)
 
 -- names that were appended, where they stand in the list
 pub filtered_twice : (test : List ℕ → Bool) (some more names all : List (List ℕ))
@@ -208,14 +228,44 @@ named_by_test (o ∷ objects) e =
 specials_named : (table : OwnTable) → All NamedWell (special_objects table)
 specials_named table = named_by_test (special_objects table) refl
 
-pub specials_listed-named : (table : OwnTable) (scope : Scope) (after : Option (List ℕ))
-    → All IsIdentifier (specials_listed table scope after)
-specials_listed-named table scope after =
-    All-filter (is_after after) IsIdentifier (specials_in table scope)
+-- so are those of transfer sets
+most_transfers_named : All NamedWell (transfer_objects SLOT_LIMIT)
+unfolding digits
+most_transfers_named = named_by_test (transfer_objects SLOT_LIMIT) refl
+
+fewer_named : (first few many : ℕ) → few ≤ many
+    → All NamedWell (flat_map objects_of_slot (range_with_len first many))
+    → All NamedWell (flat_map objects_of_slot (range_with_len first few))
+fewer_named first zero many fits named = All-nil NamedWell
+fewer_named first (suc few) zero fits named = absurd (omega (arith, fits))
+fewer_named first (suc few) (suc many) fits named =
+    let item = slot_object first in
+    let status = status_object first in
+    let all = flat_map objects_of_slot (range_with_len (first + 1) many) in
+    let more = flat_map objects_of_slot (range_with_len (first + 1) few) in
+    let rest = All-tail NamedWell item (status ∷ all) named in
+    All-cons NamedWell item (status ∷ more) (All-head NamedWell item (status ∷ all) named)
+    (All-cons NamedWell status more (All-head NamedWell status all rest)
+    (fewer_named (first + 1) few many (omega (arith, fits)) (All-tail NamedWell status all rest)))
+
+transfers_named : (slots : ℕ) → 1 ≤ slots → slots ≤ SLOT_LIMIT
+    → All NamedWell (transfer_objects slots)
+transfers_named slots least most =
+    let all = flat_map objects_of_slot (range_with_len 0 SLOT_LIMIT) in
+    rw (some_transfers slots least)
+    (All-cons NamedWell next_object (flat_map objects_of_slot (range_with_len 0 slots))
+    (All-head NamedWell next_object all most_transfers_named)
+    (fewer_named 0 slots SLOT_LIMIT most (All-tail NamedWell next_object all most_transfers_named)))
+
+-- the objects of a scope that stand in the list, where all are named well
+listed-named : (table : OwnTable) (scope : Scope) (after : Option (List ℕ))
+    (objects : List NamedObject) → All NamedWell objects
+    → All IsIdentifier (filter (is_after after) (variables_in table objects scope))
+listed-named table scope after objects named =
+    All-filter (is_after after) IsIdentifier (variables_in table objects scope)
     (All-map IsIdentifier (λ (o : NamedObject). o.item)
-    (filter (λ o. is_scope_of table scope o.vmd) (special_objects table))
-    (All-filter (λ o. is_scope_of table scope o.vmd) NamedWell (special_objects table)
-    (specials_named table)))
+    (filter (λ o. is_scope_of table scope o.vmd) objects)
+    (All-filter (λ o. is_scope_of table scope o.vmd) NamedWell objects named))
 
 -- each of the variables that stand in the list has an identifier
 pub variables-named : (t : TableInForce) (scope : Scope) (after : Option (List ℕ))
@@ -223,12 +273,17 @@ pub variables-named : (t : TableInForce) (scope : Scope) (after : Option (List �
     → All IsIdentifier (filter (is_after after)
     (variables_in (offered t) (objects (offered t)) scope))
 variables-named t scope after lawful own =
+    let table = offered t in
     subst (λ (names : List (List ℕ)). All IsIdentifier names)
     (sym (variables-listed t scope after))
-    (All-append IsIdentifier (specials_listed (offered t) scope after)
-    (filter_map (row_listed t.rows (offered t) scope after) t.table.sees)
-    (specials_listed-named (offered t) scope after)
-    (rows_named t.rows (offered t) scope after t.table.sees lawful own.known))
+    (All-append IsIdentifier (front_listed table scope after)
+    (filter_map (row_listed t.rows table scope after) t.table.sees)
+    (All-append IsIdentifier (specials_listed table scope after)
+    (transfers_listed table scope after)
+    (listed-named table scope after (special_objects table) (specials_named table))
+    (listed-named table scope after (transfer_objects table.slots)
+    (transfers_named table.slots own.slots_least own.slots)))
+    (rows_named t.rows table scope after t.table.sees lawful own.known))
 
 -- so has each data set of a book, where its scope is the domain
 pub sets-named : (here : Bool) (sets : List DataSet) (after : Option (List ℕ))

@@ -40,7 +40,7 @@ copied-IsSome None x e = absurd (none-some x e)
 copied-IsSome (Some r) x e = refl
 
 -- tests that agree find alike
-find_alike : {X : Type 0} (test same : X → Bool) (xs : List X) → All (λ x. test x ≡ same x) xs
+pub find_alike : {X : Type 0} (test same : X → Bool) (xs : List X) → All (λ x. test x ≡ same x) xs
     → find test xs ≡ find same xs
 find_alike test same [] agree = refl
 find_alike test same (x ∷ xs) agree =
@@ -49,7 +49,7 @@ find_alike test same (x ∷ xs) agree =
     rw (All-head (λ x. test x ≡ same x) x xs agree, rest) refl
 
 -- nothing passes
-find-none : {X : Type 0} (test : X → Bool) (xs : List X) → All (λ x. test x ≡ false) xs
+pub find-none : {X : Type 0} (test : X → Bool) (xs : List X) → All (λ x. test x ≡ false) xs
     → find test xs ≡ None
 find-none test [] fails = refl
 find-none test (x ∷ xs) fails =

@@ -1,7 +1,9 @@
 -- What a node keeps is that of the history with one more entry.
-use Rattle.std.proofs.Common.{◌≡◌, ◌==◌, ℕ, ◌+◌, ◌^◌, ◌<◌, [], ◌∷◌, Option, Some, None}
+use Rattle.std.proofs.Common.{◌≡◌, ◌==◌, ℕ, ◌+◌, ◌^◌, ◌<◌, Bool, List, [], ◌∷◌, Option, Some, None}
 use Rattle.std.proofs.Common.{length, refl, sym, ap, subst, ◌∙◌, arith}
-use Rattle.std.specs.Prelude.{if◌then◌else◌, slice_get}
+use Rattle.std.specs.Prelude.{if◌then◌else◌, slice_get, slice_set}
+use Rattle.mms_data.specs.Datum.{Datum}
+use Rattle.mms_data.specs.ObjectName.{ObjectName}
 use Rattle.tase_points.specs.Sample.{Sample}
 use Rattle.point_db.specs.Stored.{Keeps as KeepsPoints}
 use Rattle.bilateral.specs.Rows.{CentreRows, variants_of}
@@ -23,10 +25,17 @@ use Rattle.node_core.specs.declared.hub.Hub.{Hub}
 use Rattle.node_core.specs.declared.parts.Parts.{Parts}
 use Rattle.node_core.specs.declared.peer.Peer.{Peer}
 use Rattle.node_core.specs.LastValues.{kinds_of, updates_in}
-use Rattle.node_core.specs.PeerParts.{IsPart, part_after, IsLawfulAct, EachAct}
+use Rattle.node_core.specs.PeerParts.{IsPart, part_after, part_behind, IsLawfulAct, EachAct}
+use Rattle.node_core.specs.SlotsKept.{handed_all, all_read}
+use Rattle.node_core.specs.SlotWrites.{all_asked, all_slots}
 use Rattle.node_core.specs.PeerParts.{IsReplyTo, IsReplyBy, acts_asked}
 use Rattle.node_core.specs.Stored.{IsNode, found_by, IsPeerThere, MayOpen, IsChanged, IsAsked}
-use Rattle.node_core.specs.Stored.{IsRequest, IsReplied}
+use Rattle.node_core.specs.Stored.{IsCalmRequest, IsReplied}
+use Rattle.node_core.specs.declared.writes.Asked.{Asked}
+use Rattle.transfer_sets.specs.Banks.{OwnedSlot}
+use Rattle.node_core.proofs.CallActs.{lawful_call, reading_call, writing_call}
+use Rattle.node_core.proofs.SlotWrites.{all_slots_alike}
+use Rattle.node_core.proofs.Offered.{own_offered}
 use Rattle.node_core.proofs.SetBooks.{fault_alike}
 use Rattle.node_core.proofs.Steps.{IsCommon-open, IsCommon-close, IsCommon-request, IsCommon-take}
 use Rattle.node_core.proofs.Steps.{IsCommon-update, IsCommon-chosen, IsCommon-tick, IsCommon-ask}
@@ -66,7 +75,7 @@ module _ (rows : CentreRows) (past : Past) (hub : Hub) (parts : Parts)
 
   pub peer_there : (peer : ℕ) → peer < length rows.tables
       → IsPeerThere rows parts.peers.items peer
-  peer_there peer there = IsPeerThere-of rows past parts.peers.items n.peers peer there
+  peer_there peer there = IsPeerThere-of rows past parts.peers.items n.peers n.common.lawful peer there
 
   -- the peer of a seat's association is there
   pub seat_there : (who : ℕ) (key : Key) → association_in past who ≡ Some key
@@ -94,8 +103,8 @@ module _ (rows : CentreRows) (past : Past) (hub : Hub) (parts : Parts)
         → key ≡ next_key past peer → new.points ≡ hub.points → new.last_tick ≡ hub.last_tick
         → ((asked : ℕ) → found_by new asked
         ≡ (if who == asked then Some key else found_by hub asked))
-        → ((tables : OwnTables) (ordinal : ℕ) → IsChanged parts.peers.items peer
-        (part_after tables (own ordinal opens)) after.peers.items)
+        → ((tables : OwnTables) (now ordinal : ℕ) → IsChanged parts.peers.items peer
+        (part_after tables now (own ordinal opens)) after.peers.items)
         → IsNode rows (record { who = who; event = Open peer } ∷ past) new after
     IsNode-open peer key there key_is points clock seats changed =
         let part = its_part peer there in
@@ -105,8 +114,8 @@ module _ (rows : CentreRows) (past : Past) (hub : Hub) (parts : Parts)
               (λ asked. seats asked ∙ ap (λ (k : Key). if who == asked then Some k
               else found_by hub asked) key_is));
           clock = clock ∙ n.clock;
-          peers = rw (changed (own_tables rows peer) (opens_in past peer) part.0 part.1)
-              (AreParts-acted rows past who parts.peers.items (Open peer) (next_key past peer)
+          peers = rw (changed (own_tables rows peer) 0 (opens_in past peer) part.0 part.1)
+              (AreParts-acted rows n.common.lawful past who parts.peers.items 0 (Open peer) (next_key past peer)
               (opens ∷ []) part.0 refl (tt, tt) part.1 n.peers);
         }
 
@@ -114,8 +123,8 @@ module _ (rows : CentreRows) (past : Past) (hub : Hub) (parts : Parts)
         → new.points ≡ hub.points → new.last_tick ≡ hub.last_tick
         → ((asked : ℕ) → found_by new asked
         ≡ (if who == asked then None else found_by hub asked))
-        → ((ordinal : ℕ) → IsChanged parts.peers.items key.peer
-        (part_after (own_tables rows key.peer) (own ordinal closes)) after.peers.items)
+        → ((now : ℕ) → IsChanged parts.peers.items key.peer
+        (part_after (own_tables rows key.peer) now (own key.ordinal closes)) after.peers.items)
         → IsNode rows (record { who = who; event = Close } ∷ past) new after
     IsNode-close key seated points clock seats changed =
         let part = its_part key.peer (seat_there who key seated) in
@@ -123,8 +132,8 @@ module _ (rows : CentreRows) (past : Past) (hub : Hub) (parts : Parts)
           common = rw points (IsCommon-close rows past hub.points (found_by hub) who n.common
               (found_by new) seats);
           clock = clock ∙ n.clock;
-          peers = rw (changed key.ordinal part.0 part.1)
-              (AreParts-acted rows past who parts.peers.items Close key (closes ∷ []) part.0
+          peers = rw (changed 0 part.0 part.1)
+              (AreParts-acted rows n.common.lawful past who parts.peers.items 0 Close key (closes ∷ []) part.0
               (ap (λ (found : Option Key). moves_by found (closes ∷ [])) seated) (tt, tt) part.1
               n.peers);
         }
@@ -134,7 +143,7 @@ module _ (rows : CentreRows) (past : Past) (hub : Hub) (parts : Parts)
     IsNode-take same alike = record {
       common = rw same (IsCommon-take rows past hub.points (found_by hub) who n.common);
       clock = rw same n.clock;
-      peers = rw alike (AreParts-take rows past who parts.peers.items n.peers);
+      peers = rw alike (AreParts-take rows n.common.lawful past who parts.peers.items n.peers);
     }
 
     pub IsNode-tick : (now : ℕ) → new ≡ record hub { last_tick = now } → after ≡ parts
@@ -142,7 +151,7 @@ module _ (rows : CentreRows) (past : Past) (hub : Hub) (parts : Parts)
     IsNode-tick now same alike = record {
       common = rw same (IsCommon-tick rows past hub.points (found_by hub) who n.common now);
       clock = rw same refl;
-      peers = rw alike (AreParts-tick rows past who parts.peers.items now n.peers);
+      peers = rw alike (AreParts-tick rows n.common.lawful past who parts.peers.items now n.peers);
     }
 
     pub IsNode-ask : (peer slot : ℕ) → new ≡ hub → after ≡ parts
@@ -150,7 +159,7 @@ module _ (rows : CentreRows) (past : Past) (hub : Hub) (parts : Parts)
     IsNode-ask peer slot same alike = record {
       common = rw same (IsCommon-ask rows past hub.points (found_by hub) who n.common peer slot);
       clock = rw same n.clock;
-      peers = rw alike (AreParts-ask rows past who parts.peers.items peer slot n.peers);
+      peers = rw alike (AreParts-ask rows n.common.lawful past who parts.peers.items peer slot n.peers);
     }
 
     pub IsNode-stop : new ≡ hub → after ≡ parts
@@ -158,7 +167,7 @@ module _ (rows : CentreRows) (past : Past) (hub : Hub) (parts : Parts)
     IsNode-stop same alike = record {
       common = rw same (IsCommon-stop rows past hub.points (found_by hub) who n.common);
       clock = rw same n.clock;
-      peers = rw alike (AreParts-stop rows past who parts.peers.items n.peers);
+      peers = rw alike (AreParts-stop rows n.common.lawful past who parts.peers.items n.peers);
     }
 
     pub IsNode-update : (point : ℕ) (value : Sample)
@@ -170,13 +179,13 @@ module _ (rows : CentreRows) (past : Past) (hub : Hub) (parts : Parts)
       common = rw seats (IsCommon-update rows past hub.points (found_by hub) who n.common point
           value new.points kept);
       clock = clock ∙ n.clock;
-      peers = rw alike (AreParts-update rows past who parts.peers.items point value n.peers);
+      peers = rw alike (AreParts-update rows n.common.lawful past who parts.peers.items point value n.peers);
     }
 
     pub IsNode-chosen : (peer variant : ℕ) → peer < length rows.tables
         → variant < length (variants_of rows peer) → new ≡ hub
-        → IsChanged parts.peers.items peer (part_after (own_tables rows peer) (chose variant))
-        after.peers.items
+        → ((now : ℕ) → IsChanged parts.peers.items peer
+        (part_after (own_tables rows peer) now (chose variant)) after.peers.items)
         → IsNode rows (record { who = who; event = Table peer variant } ∷ past) new after
     IsNode-chosen peer variant there known same changed =
         let part = its_part peer there in
@@ -184,17 +193,84 @@ module _ (rows : CentreRows) (past : Past) (hub : Hub) (parts : Parts)
           common = rw same (IsCommon-chosen rows past hub.points (found_by hub) who n.common peer
               variant);
           clock = rw same n.clock;
-          peers = rw (changed part.0 part.1)
-              (AreParts-chosen rows past who parts.peers.items peer variant part.0 known part.1
-              n.peers);
+          peers = rw (changed 0 part.0 part.1)
+              (AreParts-chosen rows n.common.lawful past who parts.peers.items 0 peer variant part.0
+              known part.1 n.peers);
         }
 
-    -- a request, whose reply is that which the view gives
+    -- a call, behind whose acts its peer's part stands
+    IsNode-called : (now : ℕ) (key : Key) (call : CallKind) → association_in past who ≡ Some key
+        → new ≡ hub → EachAct IsLawfulAct (acts_of_call call)
+        → ((part : Peer) → slice_get parts.peers.items key.peer ≡ Some part
+        → IsPart (own_tables rows key.peer) (view_of rows key.peer past) part
+        → after.peers.items ≡ slice_set parts.peers.items key.peer
+        (part_behind (own_tables rows key.peer) now key.ordinal (acts_of_call call) part))
+        → IsNode rows (record { who = who; event = Request call } ∷ past) new after
+    IsNode-called now key call seated same lawful changed =
+        let part = its_part key.peer (seat_there who key seated) in
+        record {
+          common = rw same (IsCommon-request rows past hub.points (found_by hub) who n.common
+              (Request call) tt);
+          clock = rw same n.clock;
+          peers = rw (changed part.0 part.1 part.2)
+              (AreParts-acted rows n.common.lawful past who parts.peers.items now (Request call) key
+              (acts_of_call call) part.0
+              (ap (λ (found : Option Key). moves_by found (acts_of_call call)) seated) lawful
+              part.1 n.peers);
+        }
+
+    -- a read hands transfer sets out
+    pub IsNode-read : (key : Key) (names : List ObjectName) (echo : Bool) (handed : List ℕ)
+        → association_in past who ≡ Some key → new ≡ hub
+        → ((part : Peer) → slice_get parts.peers.items key.peer ≡ Some part
+        → handed_all key.ordinal handed part.slots
+        ≡ all_read (table_in (own_tables rows key.peer) part.variant) key.ordinal names part.slots)
+        → IsChanged parts.peers.items key.peer
+        (λ part. record part { slots = handed_all key.ordinal handed part.slots })
+        after.peers.items
+        → IsNode rows (record { who = who; event = Request (Read names echo) } ∷ past) new after
+    IsNode-read key names echo handed seated same hands changed =
+        IsNode-called 0 key (Read names echo) seated same
+        (lawful_call (Read names echo) (λ set members e. absurd cc))
+        (λ part at p. changed part at
+        ∙ ap (λ (x : Peer). slice_set parts.peers.items key.peer x)
+        (ap (λ (slots : List OwnedSlot). record part { slots = slots }) (hands part at)
+        ∙ sym (reading_call (own_tables rows key.peer) 0 key.ordinal names echo part)))
+
+    -- a write takes wishes
+    pub IsNode-write : (now : ℕ) (key : Key) (names : List ObjectName) (values : List Datum)
+        (asked : List Asked) → association_in past who ≡ Some key → new ≡ hub
+        → ((part : Peer) → slice_get parts.peers.items key.peer ≡ Some part
+        → asked ≡ all_asked (table_in (own_tables rows key.peer) part.variant) names values)
+        → IsChanged parts.peers.items key.peer
+        (λ part. record part {
+          slots = all_slots (table_in (own_tables rows key.peer) part.variant) part.book
+              key.ordinal now asked part.slots;
+        })
+        after.peers.items
+        → IsNode rows (record { who = who; event = Request (Write names values) } ∷ past) new after
+    IsNode-write now key names values asked seated same asks changed =
+        IsNode-called now key (Write names values) seated same
+        (lawful_call (Write names values) (λ set members e. absurd cc))
+        (λ part at p.
+        let tables = own_tables rows key.peer in
+        let table = table_in tables part.variant in
+        changed part at
+        ∙ ap (λ (x : Peer). slice_set parts.peers.items key.peer x)
+        (ap (λ (these : List Asked). record part {
+          slots = all_slots table part.book key.ordinal now these part.slots;
+        }) (asks part at)
+        ∙ ap (λ (slots : List OwnedSlot). record part { slots = slots })
+        (all_slots_alike table part.book key.ordinal now
+        (λ name. own_offered rows key.peer part.variant name) names values part.slots)
+        ∙ sym (writing_call tables now key.ordinal names values part)))
+
+    -- a request that neither reads nor writes, whose reply is that which the view gives
     pub IsNode-request : (key : Key) (event : EventKind) (reply : ReplyKind)
-        → association_in past who ≡ Some key → IsRequest event
+        → association_in past who ≡ Some key → IsCalmRequest event
         → IsReplied rows past key event reply → new ≡ hub
         → EachAct IsLawfulAct (acts_asked event)
-        → IsAsked rows key (acts_asked event) (λ table book. IsReplyBy table book event reply)
+        → IsAsked rows 0 key (acts_asked event) (λ table book. IsReplyBy table book event reply)
         parts.peers.items after.peers.items
         → IsNode rows (record { who = who; event = event } ∷ past) new after
     IsNode-request key (Open peer) reply seated request replied same lawful asked = absurd request
@@ -210,19 +286,10 @@ module _ (rows : CentreRows) (past : Past) (hub : Hub) (parts : Parts)
         absurd request
     IsNode-request key Stop reply seated request replied same lawful asked = absurd request
     IsNode-request key (Request call) reply seated request replied same lawful asked =
-        let part = its_part key.peer (seat_there who key seated) in
-        record {
-          common = rw same (IsCommon-request rows past hub.points (found_by hub) who n.common
-              (Request call) tt);
-          clock = rw same n.clock;
-          peers = rw (asked part.0 part.1
-              (by_book (own_tables rows key.peer) (view_of rows key.peer past) part.0 call reply
-              key.ordinal part.2 replied))
-              (AreParts-acted rows past who parts.peers.items (Request call) key
-              (acts_of_call call) part.0
-              (ap (λ (found : Option Key). moves_by found (acts_of_call call)) seated) lawful
-              part.1 n.peers);
-        }
+        IsNode-called 0 key call seated same lawful
+        (λ part at p. asked part at
+        (by_book (own_tables rows key.peer) (view_of rows key.peer past) part call reply key.ordinal
+        p replied))
       where
         -- the book refuses what the view refuses
         by_book : (tables : OwnTables) (view : View) (part : Peer) (call : CallKind)

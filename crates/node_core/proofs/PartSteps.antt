@@ -1,12 +1,14 @@
 -- A part behind one more move that its peer sees is the part of the longer view.
 use Rattle.std.proofs.Common.{◌≡◌, ◌≢◌, ◌==◌, ℕ, ◌+◌, ◌-◌, ◌<◌, ◌≤◌, Bool, true, false, not, ◌&&◌}
-use Rattle.std.proofs.Common.{List, [], ◌∷◌, length, None}
+use Rattle.std.proofs.Common.{List, [], ◌∷◌, length, map, None}
 use Rattle.std.proofs.Common.{refl, sym, ap, subst, ◌∙◌, arith}
 use Rattle.std.specs.Prelude.{if◌then◌else◌}
 use Rattle.std.specs.List.{All}
 use Rattle.std.proofs.lemmas.Bool.{eq-eqb, ne_eqb, eqb-true, eqb-false}
 use Rattle.std.proofs.lemmas.List.Elements.{All-nil}
 use Rattle.mms_data.specs.ObjectName.{IsIdentifier}
+use Rattle.bilateral.specs.declared.rows.TheConstants.{SLOT_LIMIT}
+use Rattle.transfer_sets.specs.Banks.{OwnedSlot, freed}
 use Rattle.data_sets.specs.declared.book.DataSet.{DataSet}
 use Rattle.data_sets.specs.Books.{Book}
 use Rattle.tase_views.specs.OwnTables.{OwnTables, table_in}
@@ -16,12 +18,15 @@ use Rattle.tase_views.specs.Force.{TableMove, opened, closed, chosen, open_count
 use Rattle.tase_views.specs.Force.{force_of}
 use Rattle.tase_views.specs.View.{Seen, own, other_acted, other_closed, updated, tagged, asked}
 use Rattle.tase_views.specs.View.{chose, ticked, stopped, View, force, held, keeps_force}
-use Rattle.tase_views.specs.Slots.{sets_in}
+use Rattle.tase_views.specs.Slots.{sets_in, slot_moves}
 use Rattle.node_core.specs.declared.peer.Peer.{Peer}
 use Rattle.node_core.specs.SetsKept.{IsBook}
+use Rattle.node_core.specs.SlotsKept.{IsBank, slots_read, slots_written}
 use Rattle.node_core.specs.PeerParts.{table_moves, opens_seen, IsPart, no_sets, new_part, settled}
 use Rattle.node_core.specs.PeerParts.{part_after, IsLawfulAct}
 use Rattle.node_core.proofs.SetBooks.{IsBook-still, IsBook-defines, IsBook-deletes}
+use Rattle.node_core.proofs.SlotBanks.{IsBank-new, IsBank-still, IsBank-updated, IsBank-asked}
+use Rattle.node_core.proofs.SlotBanks.{IsBank-ticked, IsBank-closes, IsBank-reads, IsBank-writes}
 
 -- ---- the table in force
 
@@ -56,16 +61,18 @@ IsPart-new tables some = record {
     named = All-nil (λ (s : DataSet). IsIdentifier s.name);
     some = All-nil (λ (s : DataSet). 0 < length s.members);
   };
+  slots = IsBank-new tables;
 }
 
 -- ---- moves that bear on no table
 
--- what a move leaves of all but the data sets
-IsPart-booked : (tables : OwnTables) (view : View) (part : Peer) (seen : Seen) (book : Book)
-    → table_moves (seen ∷ view) ≡ table_moves view → opens_seen (seen ∷ view) ≡ opens_seen view
-    → IsBook tables (seen ∷ view) book → IsPart tables view part
-    → IsPart tables (seen ∷ view) (record part { book = book })
-IsPart-booked tables view part seen book same unopened b p = record {
+-- what a move leaves of all but the data sets and the transfer sets
+IsPart-kept : (tables : OwnTables) (view : View) (part : Peer) (seen : Seen) (book : Book)
+    (slots : List OwnedSlot) → table_moves (seen ∷ view) ≡ table_moves view
+    → opens_seen (seen ∷ view) ≡ opens_seen view → IsBook tables (seen ∷ view) book
+    → IsBank tables (seen ∷ view) slots → IsPart tables view part
+    → IsPart tables (seen ∷ view) (record part { book = book; slots = slots })
+IsPart-kept tables view part seen book slots same unopened b k p = record {
   in_force = p.in_force ∙ sym (ap force_of same);
   last = p.last ∙ sym (ap last_chosen same);
   now_open = p.now_open ∙ sym (ap open_count same);
@@ -74,17 +81,20 @@ IsPart-booked tables view part seen book same unopened b p = record {
   force_there = p.force_there;
   last_there = p.last_there;
   sets = b;
+  slots = k;
 }
 
--- one that leaves the data sets too
-IsPart-still : (tables : OwnTables) (view : View) (part : Peer) (seen : Seen)
-    → table_moves (seen ∷ view) ≡ table_moves view → opens_seen (seen ∷ view) ≡ opens_seen view
+-- one that leaves the data sets
+IsPart-booked : (tables : OwnTables) (view : View) (part : Peer) (seen : Seen)
+    (slots : List OwnedSlot) → table_moves (seen ∷ view) ≡ table_moves view
+    → opens_seen (seen ∷ view) ≡ opens_seen view
     → ((name : List ℕ) → sets_in tables (seen ∷ view) name
     ≡ (if keeps_force seen view then sets_in tables view name else None))
-    → IsPart tables view part → IsPart tables (seen ∷ view) part
-IsPart-still tables view part seen same unopened shown p =
-    IsPart-booked tables view part seen part.book same unopened
-    (IsBook-still tables view seen part.book (ap force_of same) shown p.sets) p
+    → IsBank tables (seen ∷ view) slots → IsPart tables view part
+    → IsPart tables (seen ∷ view) (record part { slots = slots })
+IsPart-booked tables view part seen slots same unopened shown k p =
+    IsPart-kept tables view part seen part.book slots same unopened
+    (IsBook-still tables view seen part.book (ap force_of same) shown p.sets) k p
 
 -- ---- moves that bear on a table
 
@@ -127,9 +137,9 @@ IsPart-settled : (tables : OwnTables) (view : View) (seen : Seen) (move : TableM
     → part.opened_in_all ≡ opens_seen (seen ∷ view)
     → ((name : List ℕ) → sets_in tables (seen ∷ view) name
     ≡ (if keeps_force seen view then sets_in tables view name else None))
-    → IsUnsettled tables view move part
+    → IsUnsettled tables view move part → IsBank tables (seen ∷ view) part.slots
     → IsPart tables (seen ∷ view) (settled tables part)
-IsPart-settled tables view seen move part moves in_all shown u =
+IsPart-settled tables view seen move part moves in_all shown u bank =
     by (part.open_now == 0) (part.chosen_last == part.variant) refl refl
   where
     forced : force (seen ∷ view) ≡ (if part.open_now == 0 then part.chosen_last else part.variant)
@@ -145,6 +155,7 @@ IsPart-settled tables view seen move part moves in_all shown u =
       force_there = u.force_there;
       last_there = u.last_there;
       sets = IsBook-still tables view seen part.book (sym same ∙ u.before) shown u.sets;
+      slots = bank;
     }
 
     changes : part.chosen_last ≡ force (seen ∷ view) → part.chosen_last ≢ part.variant
@@ -164,6 +175,7 @@ IsPart-settled tables view seen move part moves in_all shown u =
       sets = IsBook-fresh tables view seen (table_in tables part.chosen_last).sets
           (ap (λ (n : ℕ). (table_in tables n).sets) same)
           (λ e. other (same ∙ e ∙ sym u.before)) shown;
+      slots = bank;
     }
 
     by : (none alike : Bool) → (part.open_now == 0) ≡ none
@@ -189,10 +201,21 @@ IsLawfulMove tables (own ordinal act) = IsLawfulAct act
 IsLawfulMove tables (chose variant) = variant < length tables.tables
 IsLawfulMove tables _ = Unit {0}
 
-module _ (tables : OwnTables) (bare : (n : ℕ) → (table_in tables n).slots ≡ 0) (view : View)
-    (part : Peer) where
+module _ (tables : OwnTables) (few : (n : ℕ) → (table_in tables n).slots ≤ SLOT_LIMIT)
+    (view : View) (part : Peer) (now : ℕ) where
+  -- a move that is nothing to the data sets and transfer sets
+  IsPart-still : (seen : Seen) → table_moves (seen ∷ view) ≡ table_moves view
+      → opens_seen (seen ∷ view) ≡ opens_seen view
+      → ((name : List ℕ) → sets_in tables (seen ∷ view) name
+      ≡ (if keeps_force seen view then sets_in tables view name else None))
+      → ((s : ℕ) → slot_moves tables (seen ∷ view) s ≡ slot_moves tables view s)
+      → IsPart tables view part → IsPart tables (seen ∷ view) part
+  IsPart-still seen same unopened shown moves p =
+      IsPart-booked tables view part seen part.slots same unopened shown
+      (IsBank-still tables view seen part.slots moves p.slots) p
+
   pub IsPart-after : (seen : Seen) → IsLawfulMove tables seen → IsPart tables view part
-      → IsPart tables (seen ∷ view) (part_after tables seen part)
+      → IsPart tables (seen ∷ view) (part_after tables now seen part)
   IsPart-after (own ordinal opens) lawful p =
       let after : Peer = record part {
         opened_in_all = part.opened_in_all + 1;
@@ -212,10 +235,12 @@ module _ (tables : OwnTables) (bare : (n : ℕ) → (table_in tables n).slots �
         force_there = p.force_there;
         last_there = p.last_there;
         sets = p.sets;
-      }))
+      })
+      (IsBank-still tables view (own ordinal opens) part.slots (λ s. refl) p.slots))
   IsPart-after (own ordinal closes) lawful p =
       IsPart-settled tables view (own ordinal closes) closed
-      (record part { open_now = part.open_now - 1 }) refl p.in_all (λ name. refl)
+      (record part { open_now = part.open_now - 1; slots = map (freed ordinal) part.slots }) refl
+      p.in_all (λ name. refl)
       (record {
         before = p.in_force;
         last = p.last;
@@ -225,6 +250,7 @@ module _ (tables : OwnTables) (bare : (n : ℕ) → (table_in tables n).slots �
         last_there = p.last_there;
         sets = p.sets;
       })
+      (IsBank-closes tables view ordinal part.slots p.slots)
   IsPart-after (chose variant) lawful p =
       IsPart-settled tables view (chose variant) (chosen variant)
       (record part { chosen_last = variant }) refl p.in_all (λ name. refl)
@@ -237,33 +263,48 @@ module _ (tables : OwnTables) (bare : (n : ℕ) → (table_in tables n).slots �
         last_there = lawful;
         sets = p.sets;
       })
+      (IsBank-still tables view (chose variant) part.slots (λ s. refl) p.slots)
   IsPart-after (own ordinal (defines set members)) lawful p =
-      IsPart-booked tables view part (own ordinal (defines set members)) _ refl refl
+      IsPart-kept tables view part (own ordinal (defines set members)) _ part.slots refl refl
       (IsBook-defines tables view part.book ordinal set members part.variant p.in_force lawful
-      p.sets) p
+      p.sets)
+      (IsBank-still tables view (own ordinal (defines set members)) part.slots (λ s. refl) p.slots)
+      p
   IsPart-after (own ordinal (deletes set)) lawful p =
-      IsPart-booked tables view part (own ordinal (deletes set)) _ refl refl
-      (IsBook-deletes tables view part.book ordinal set part.variant p.in_force
-      (bare (force view)) p.sets) p
+      IsPart-kept tables view part (own ordinal (deletes set)) _ part.slots refl refl
+      (IsBook-deletes tables view part.book part.slots ordinal set part.variant p.in_force p.slots
+      p.sets)
+      (IsBank-still tables view (own ordinal (deletes set)) part.slots (λ s. refl) p.slots) p
   IsPart-after (own ordinal takes) lawful p =
-      IsPart-still tables view part (own ordinal takes) refl refl (λ name. refl) p
+      IsPart-still (own ordinal takes) refl refl (λ name. refl) (λ s. refl) p
   IsPart-after (own ordinal (reads name)) lawful p =
-      IsPart-still tables view part (own ordinal (reads name)) refl refl (λ other. refl) p
+      IsPart-booked tables view part (own ordinal (reads name)) _ refl refl (λ other. refl)
+      (subst (λ (n : ℕ). IsBank tables (own ordinal (reads name) ∷ view)
+      (slots_read (table_in tables n) ordinal name part.slots)) (sym p.in_force)
+      (IsBank-reads tables view part.slots p.slots ordinal name (few (force view)))) p
   IsPart-after (own ordinal (writes name value)) lawful p =
-      IsPart-still tables view part (own ordinal (writes name value)) refl refl (λ other. refl) p
+      IsPart-booked tables view part (own ordinal (writes name value)) _ refl refl (λ other. refl)
+      (subst (λ (n : ℕ). IsBank tables (own ordinal (writes name value) ∷ view)
+      (slots_written (table_in tables n) part.book ordinal now name value part.slots))
+      (sym p.in_force)
+      (IsBank-writes tables view part.slots p.slots part.book p.sets.members ordinal now name
+      value)) p
   IsPart-after (own ordinal (calls call)) lawful p =
-      IsPart-still tables view part (own ordinal (calls call)) refl refl (λ name. refl) p
+      IsPart-still (own ordinal (calls call)) refl refl (λ name. refl) (λ s. refl) p
   IsPart-after (other_acted key ordinal device act) lawful p =
-      IsPart-still tables view part (other_acted key ordinal device act) refl refl (λ name. refl) p
+      IsPart-still (other_acted key ordinal device act) refl refl (λ name. refl) (λ s. refl) p
   IsPart-after (other_closed key ordinal) lawful p =
-      IsPart-still tables view part (other_closed key ordinal) refl refl (λ name. refl) p
+      IsPart-still (other_closed key ordinal) refl refl (λ name. refl) (λ s. refl) p
   IsPart-after (updated name value) lawful p =
-      IsPart-still tables view part (updated name value) refl refl (λ other. refl) p
+      IsPart-booked tables view part (updated name value) part.slots refl refl (λ other. refl)
+      (IsBank-updated tables view name value part.slots p.slots) p
   IsPart-after (tagged name tag) lawful p =
-      IsPart-still tables view part (tagged name tag) refl refl (λ other. refl) p
+      IsPart-still (tagged name tag) refl refl (λ other. refl) (λ s. refl) p
   IsPart-after (asked slot) lawful p =
-      IsPart-still tables view part (asked slot) refl refl (λ name. refl) p
-  IsPart-after (ticked now) lawful p =
-      IsPart-still tables view part (ticked now) refl refl (λ name. refl) p
+      IsPart-booked tables view part (asked slot) part.slots refl refl (λ name. refl)
+      (IsBank-asked tables view slot part.slots p.slots) p
+  IsPart-after (ticked moment) lawful p =
+      IsPart-booked tables view part (ticked moment) part.slots refl refl (λ name. refl)
+      (IsBank-ticked tables view moment part.slots p.slots) p
   IsPart-after stopped lawful p =
-      IsPart-still tables view part stopped refl refl (λ name. refl) p
+      IsPart-still stopped refl refl (λ name. refl) (λ s. refl) p

@@ -1,5 +1,5 @@
 -- The data sets that a book keeps behind one more move that its peer sees.
-use Rattle.std.proofs.Common.{◌≡◌, ◌≢◌, ◌==◌, ℕ, ◌+◌, ◌<◌, ◌≤◌, ltb, leb, Bool, true, false, not}
+use Rattle.std.proofs.Common.{◌≡◌, ◌≢◌, ◌==◌, ℕ, ◌<◌, ◌≤◌, ltb, leb, Bool, true, false, not}
 use Rattle.std.proofs.Common.{◌&&◌, List, [], ◌∷◌, ◌++◌, length, Option, Some, None, is_some}
 use Rattle.std.proofs.Common.{bytes_eq, refl, sym, ap, subst, ◌∙◌, arith, length-append}
 use Rattle.std.specs.Prelude.{if◌then◌else◌}
@@ -17,13 +17,16 @@ use Rattle.mms_data.specs.ObjectName.{ObjectName, IsIdentifier, same_scope}
 use Rattle.data_sets.specs.declared.book.DataSet.{DataSet}
 use Rattle.data_sets.specs.declared.book.TheConstants.{MOST_MEMBERS}
 use Rattle.data_sets.specs.Books.{Book, is_set_named, members_in, defined, deleted}
+use Rattle.transfer_sets.specs.Banks.{OwnedSlot}
 use Rattle.tase_views.specs.OwnTables.{OwnTables, table_in}
 use Rattle.tase_views.specs.Moves.{Act, defines, deletes}
 use Rattle.tase_views.specs.View.{View, Seen, own, force, held, keeps_force}
 use Rattle.tase_views.specs.Sets.{SetError, define_fault, set_behind}
 use Rattle.tase_views.specs.Slots.{is_wished, sets_in, slot_moves}
 use Rattle.node_core.specs.SetsKept.{IsBook, left_behind}
+use Rattle.node_core.specs.SlotsKept.{IsBank, is_kept}
 use Rattle.node_core.specs.PeerParts.{fault_in, book_defined, IsLawfulAct}
+use Rattle.node_core.proofs.Kept.{kept_wished}
 use Rattle.node_core.proofs.Faults.{is_own, exceeds, fits, fault_told, faultless}
 
 -- ---- moves that leave the data sets
@@ -251,12 +254,47 @@ found_left name gone (set ∷ sets) b e =
     by false false g n rest = rw n rest
 
 module _ (tables : OwnTables) (view : View) (book : Book) (ordinal : ℕ) (set : ObjectName)
-    (bare : (held tables view).slots ≡ 0) (b : IsBook tables view book) where
-  -- a name of the domain takes the data set with this name away
-  deleted_by : (c : Bool) → same_scope set.scope (Domain (held tables view).domain) ≡ c
+    (b : IsBook tables view book) where
+  abbrev wished : List ℕ → Bool
+  wished = is_wished (held tables view) (slot_moves tables view)
+
+  -- whether a deletion by the name takes a data set away
+  abbrev takes_away : Bool
+  takes_away = same_scope set.scope (Domain (held tables view).domain) && not (wished set.item)
+
+  -- the data sets that are shown behind it
+  set_left : (name : List ℕ) → sets_in tables (own ordinal (deletes set) ∷ view) name
+      ≡ (if takes_away then (if bytes_eq set.item name then None else sets_in tables view name)
+      else sets_in tables view name)
+  set_left name =
+      set_shown tables view ordinal (deletes set) name refl
+      ∙ by (same_scope set.scope (Domain (held tables view).domain)) (bytes_eq set.item name)
+      (wished name) (wished set.item) (sets_in tables view name)
+      (λ same. sym (ap wished ((bytes_eq-Decides set.item name).0 same)))
+    where
+      by : (c d k l : Bool) (found : Option (List ObjectName)) → (d ≡ true → k ≡ l)
+          → (if (c && d) && not k then None else found)
+          ≡ (if c && not l then (if d then None else found) else found)
+      by false d k l found alike = refl
+      by true false k true found alike = refl
+      by true false k false found alike = refl
+      by true true k true found alike = rw (alike refl) refl
+      by true true k false found alike = rw (alike refl) refl
+
+  shown : (name : List ℕ) (c : Bool) → takes_away ≡ c
+      → sets_in tables (own ordinal (deletes set) ∷ view) name
+      ≡ (if c then (if bytes_eq set.item name then None else sets_in tables view name)
+      else sets_in tables view name)
+  shown name c takes =
+      set_left name
+      ∙ ap (λ (t : Bool). if t then (if bytes_eq set.item name then None
+      else sets_in tables view name) else sets_in tables view name) takes
+
+  -- a name of the domain takes the data set with this name away, unless it is wished
+  deleted_by : (c : Bool) → takes_away ≡ c
       → IsBook tables (own ordinal (deletes set) ∷ view)
       (if c then deleted book set.item else book)
-  deleted_by true scope = record {
+  deleted_by true takes = record {
     limit = b.limit;
     few = omega (
       arith,
@@ -265,8 +303,9 @@ module _ (tables : OwnTables) (view : View) (book : Book) (ordinal : ℕ) (set :
       b.few,
     );
     members = λ name. found_left name set.item book.sets (bytes_eq set.item name) refl
-        ∙ by name (bytes_eq set.item name)
-        ∙ sym (set_shown tables view ordinal (deletes set) name refl ∙ rw (scope, bare) refl);
+        ∙ ap (λ (found : Option (List ObjectName)). if bytes_eq set.item name then None else found)
+        (b.members name)
+        ∙ sym (shown name true takes);
     once = AllPairs-filter (λ (x y : DataSet). x.name ≢ y.name)
         (λ s. not (is_set_named set.item s)) book.sets b.once;
     named = All-filter (λ s. not (is_set_named set.item s))
@@ -274,24 +313,25 @@ module _ (tables : OwnTables) (view : View) (book : Book) (ordinal : ℕ) (set :
     some = All-filter (λ s. not (is_set_named set.item s))
         (λ (s : DataSet). 0 < length s.members) book.sets b.some;
   }
-    where
-      by : (name : List ℕ) (c : Bool)
-          → (if c then None else members_in book.sets name)
-          ≡ (if (true && c) && true then None else sets_in tables view name)
-      by name true = refl
-      by name false = b.members name
   -- another name takes none away
-  deleted_by false scope =
-      IsBook-still tables view (own ordinal (deletes set)) book refl (λ name. rw scope refl) b
+  deleted_by false takes =
+      IsBook-still tables view (own ordinal (deletes set)) book refl
+      (λ name. shown name false takes ∙ sym (rw (eq-eqb (force view) (force view) refl) refl)) b
 
 -- a deletion
-pub IsBook-deletes : (tables : OwnTables) (view : View) (book : Book) (ordinal : ℕ)
-    (set : ObjectName) (variant : ℕ) → variant ≡ force view → (held tables view).slots ≡ 0
-    → IsBook tables view book
+pub IsBook-deletes : (tables : OwnTables) (view : View) (book : Book) (slots : List OwnedSlot)
+    (ordinal : ℕ) (set : ObjectName) (variant : ℕ) → variant ≡ force view
+    → IsBank tables view slots → IsBook tables view book
     → IsBook tables (own ordinal (deletes set) ∷ view)
-    (left_behind (table_in tables variant).domain book set)
-IsBook-deletes tables view book ordinal set variant same bare b =
+    (let table = table_in tables variant in
+    left_behind (is_kept table.domain table.slots slots) table.domain book set)
+IsBook-deletes tables view book slots ordinal set variant same bank b =
     subst (λ (n : ℕ). IsBook tables (own ordinal (deletes set) ∷ view)
-    (left_behind (table_in tables n).domain book set)) (sym same)
-    (deleted_by tables view book ordinal set bare b
-    (same_scope set.scope (Domain (held tables view).domain)) refl)
+    (let table = table_in tables n in
+    left_behind (is_kept table.domain table.slots slots) table.domain book set)) (sym same)
+    (subst (λ (kept : Bool). IsBook tables (own ordinal (deletes set) ∷ view)
+    (if same_scope set.scope (Domain (held tables view).domain) && not kept
+    then deleted book set.item else book)) (sym (kept_wished tables view slots set.item bank))
+    (deleted_by tables view book ordinal set b
+    (same_scope set.scope (Domain (held tables view).domain)
+    && not (is_wished (held tables view) (slot_moves tables view) set.item)) refl))

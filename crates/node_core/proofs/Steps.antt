@@ -5,11 +5,12 @@ use Rattle.std.proofs.Common.{List, [], ◌∷◌, ◌++◌, map, set, length, g
 use Rattle.std.proofs.Common.{None}
 use Rattle.std.proofs.Common.{refl, sym, ap, ◌∙◌, subst, ⊎_elim, arith, length-set, slice_get}
 use Rattle.std.proofs.Common.{get_or-set_same, get_or-set_other}
-use Rattle.std.specs.Prelude.{if◌then◌else◌}
+use Rattle.std.specs.Prelude.{if◌then◌else◌, slice_index_or}
 use Rattle.std.specs.List.{cons_option}
 use Rattle.std.specs.Option.{option_map}
 use Rattle.std.proofs.lemmas.Bool.{cases_eq, cases_lt, eq-eqb, ne_eqb, and_parts, ltb-true}
 use Rattle.std.proofs.lemmas.List.{length-map, get_or-map, get_or_past}
+use Rattle.std.proofs.lemmas.List.Elements.{All-cons}
 use Rattle.std.proofs.lemmas.Option.{slice_get-get_or, slice_get-map}
 use Rattle.std.proofs.lemmas.Option.{slice_get_within, get_or_from_slice_get, same_Some, none-some}
 use Rattle.tase_points.specs.Points.{kind_of}
@@ -18,7 +19,9 @@ use Rattle.tase_points.specs.Sample.{Sample}
 use Rattle.point_db.specs.Stored.{Stored as PointsStored, Keeps as KeepsPoints}
 use Rattle.bilateral.specs.declared.rows.PointRow.{PointRow}
 use Rattle.bilateral.specs.declared.rows.Table.{Table}
-use Rattle.bilateral.specs.Rows.{CentreRows, IsCentre, no_table, table_of, point_of, variants_of}
+use Rattle.bilateral.specs.declared.rows.TheConstants.{SLOT_LIMIT}
+use Rattle.bilateral.specs.Rows.{CentreRows, IsCentre, no_table, table_of, further_of, point_of}
+use Rattle.bilateral.specs.Rows.{variants_of}
 use Rattle.sbo_device.specs.declared.key.Key.{Key}
 use Rattle.tase_views.specs.declared.event.EventKind.{EventKind}
 use Rattle.tase_views.specs.declared.event.EventKind.TheVariants.{Open, Request, Take, Close}
@@ -41,6 +44,7 @@ use Rattle.node_core.specs.PeerParts.{IsPart, new_part, part_after, part_behind,
 use Rattle.node_core.specs.PeerParts.{EachAct}
 use Rattle.node_core.specs.Stored.{IsCommon, AreParts, IsPeerThere, MayOpen, IsRequest}
 use Rattle.node_core.proofs.CallActs.{IsIdle, idle_act, idle_lawful}
+use Rattle.node_core.proofs.Known.{table_is_lawful, further_are_lawful}
 use Rattle.node_core.proofs.PartSteps.{IsPart-new, IsPart-after}
 use Rattle.node_core.proofs.Seeing.{IsKept, by_others, by_seat, opens_in_view}
 
@@ -81,15 +85,35 @@ own_at rows peer n table at =
     (slice_get_within (variants_of rows peer) n table at)
     ∙ ap (own_table rows) (get_or_from_slice_get (variants_of rows peer) n table no_table at)
 
--- the tables as the node offers them have no transfer sets
-own_bare : (rows : CentreRows) (peer n : ℕ) → (table_in (own_tables rows peer) n).slots ≡ 0
-own_bare rows peer n =
+-- a table has no more transfer sets than there is room for
+few_slots : (rows : CentreRows) → IsCentre rows → (peer n : ℕ)
+    → (slice_index_or (variants_of rows peer) n no_table).slots ≤ SLOT_LIMIT
+few_slots rows lawful peer n =
+    ⊎_elim
+    (λ there. All-cons Few (table_of rows peer) (further_of rows peer) own
+    (λ k d within. (further_are_lawful rows peer lawful k d within).slots) n no_table there)
+    (λ past. rw (get_or_past (variants_of rows peer) n no_table past) (omega arith))
+    (cases_lt n (length (variants_of rows peer)))
+  where
+    Few : Table → Type 0
+    Few table = table.slots ≤ SLOT_LIMIT
+
+    own : (table_of rows peer).slots ≤ SLOT_LIMIT
+    own =
+        ⊎_elim
+        (λ there. (table_is_lawful rows peer lawful there).slots)
+        (λ past. rw (get_or_past rows.tables peer no_table past) (omega arith))
+        (cases_lt peer (length rows.tables))
+
+pub own_few : (rows : CentreRows) → IsCentre rows → (peer n : ℕ)
+    → (table_in (own_tables rows peer) n).slots ≤ SLOT_LIMIT
+own_few rows lawful peer n =
     ⊎_elim
     (λ there. rw (get_or-map (own_table rows) (variants_of rows peer) n no_table no_own_table there)
-    refl)
+    (few_slots rows lawful peer n))
     (λ past. let many = length-map (variants_of rows peer) (own_table rows) in
     rw (get_or_past (map (own_table rows) (variants_of rows peer)) n no_own_table (omega arith))
-    refl)
+    (omega arith))
     (cases_lt n (length (variants_of rows peer)))
 
 own_count : (rows : CentreRows) (peer : ℕ)
@@ -117,45 +141,47 @@ AreParts-new rows peers are = record {
 }
 
 -- a part stays where its peer is shown nothing of its own
-part_kept : (tables : OwnTables) (bare : (n : ℕ) → (table_in tables n).slots ≡ 0) (part : Peer)
+part_kept : (tables : OwnTables) (few : (n : ℕ) → (table_in tables n).slots ≤ SLOT_LIMIT)
+    (part : Peer)
     → IsKept (λ (view : View). IsPart tables view part) IsIdle
-part_kept tables bare part = record {
+part_kept tables few part = record {
   acted = λ key ordinal device act view p.
-      IsPart-after tables bare view part (other_acted key ordinal device act) tt p;
+      IsPart-after tables few view part 0 (other_acted key ordinal device act) tt p;
   closed = λ key ordinal view p.
-      IsPart-after tables bare view part (other_closed key ordinal) tt p;
+      IsPart-after tables few view part 0 (other_closed key ordinal) tt p;
   own = λ ordinal act view idle p.
       subst (λ (x : Peer). IsPart tables (own ordinal act ∷ view) x)
-      (idle_act tables ordinal act part idle)
-      (IsPart-after tables bare view part (own ordinal act) (idle_lawful act idle) p);
+      (idle_act tables 0 ordinal act part idle)
+      (IsPart-after tables few view part 0 (own ordinal act) (idle_lawful act idle) p);
 }
 
-module _ (rows : CentreRows) (past : Past) (who : ℕ) (peers : List Peer) where
+module _ (rows : CentreRows) (lawful_rows : IsCentre rows) (past : Past) (who : ℕ)
+    (peers : List Peer) where
   -- the view of a peer behind the moves of an event
   abbrev behind : ℕ → List Move → View
   behind peer moves = view_by rows (own_tables rows) peer (moves ++ moves_in past)
 
   -- acts of an association: its peer's part behind them, and all others as they were
-  acted_part : (key : Key) (these : List Act) (part : Peer) → EachAct IsLawfulAct these
+  acted_part : (now : ℕ) (key : Key) (these : List Act) (part : Peer) → EachAct IsLawfulAct these
       → IsPart (own_tables rows key.peer) (view_of rows key.peer past) part
       → IsPart (own_tables rows key.peer) (behind key.peer (map (acts key) these))
-      (part_behind (own_tables rows key.peer) key.ordinal these part)
-  acted_part key [] part lawful p = p
-  acted_part key (act ∷ these) part lawful p =
+      (part_behind (own_tables rows key.peer) now key.ordinal these part)
+  acted_part now key [] part lawful p = p
+  acted_part now key (act ∷ these) part lawful p =
       rw (eq-eqb key.peer key.peer refl)
-      (IsPart-after (own_tables rows key.peer) (own_bare rows key.peer)
+      (IsPart-after (own_tables rows key.peer) (own_few rows lawful_rows key.peer)
       (behind key.peer (map (acts key) these))
-      (part_behind (own_tables rows key.peer) key.ordinal these part) (own key.ordinal act)
-      lawful.0 (acted_part key these part lawful.1 p))
+      (part_behind (own_tables rows key.peer) now key.ordinal these part) now
+      (own key.ordinal act) lawful.0 (acted_part now key these part lawful.1 p))
 
-  pub AreParts-acted : (event : EventKind) (key : Key) (these : List Act) (part : Peer)
+  pub AreParts-acted : (now : ℕ) (event : EventKind) (key : Key) (these : List Act) (part : Peer)
       → moves_of (sort_of event) (key_at event past who) ≡ map (acts key) these
       → EachAct IsLawfulAct these → slice_get peers key.peer ≡ Some part
       → AreParts rows past peers
       → AreParts rows (record { who = who; event = event } ∷ past)
-      (set peers key.peer (part_behind (own_tables rows key.peer) key.ordinal these part))
-  AreParts-acted event key these part moves lawful at s =
-      let after = part_behind (own_tables rows key.peer) key.ordinal these part in
+      (set peers key.peer (part_behind (own_tables rows key.peer) now key.ordinal these part))
+  AreParts-acted now event key these part moves lawful at s =
+      let after = part_behind (own_tables rows key.peer) now key.ordinal these part in
       record {
         many = length-set peers key.peer after ∙ s.many;
         each = λ peer new here.
@@ -167,10 +193,10 @@ module _ (rows : CentreRows) (past : Past) (who : ℕ) (peers : List Peer) where
             (sym mine.0)
             (subst (λ (x : Peer). IsPart (own_tables rows key.peer)
             (behind key.peer (map (acts key) these)) x) (sym mine.1)
-            (acted_part key these part lawful (s.each key.peer part at))))
+            (acted_part now key these part lawful (s.each key.peer part at))))
             (λ (other : (peer ≢ key.peer) × (slice_get peers peer ≡ Some new)).
             by_others (λ (view : View). IsPart (own_tables rows peer) view new) IsIdle
-            (part_kept (own_tables rows peer) (own_bare rows peer) new) rows peer key these
+            (part_kept (own_tables rows peer) (own_few rows lawful_rows peer) new) rows peer key these
             (moves_in past) (ne_eqb key.peer peer (λ e. other.0 (sym e)))
             (s.each peer new other.1))
             (set_cases peers key.peer peer after new here));
@@ -194,7 +220,7 @@ module _ (rows : CentreRows) (past : Past) (who : ℕ) (peers : List Peer) where
       AreParts-left Take
       (λ peer part p.
       by_seat (λ (view : View). IsPart (own_tables rows peer) view part) IsIdle
-      (part_kept (own_tables rows peer) (own_bare rows peer) part) rows peer
+      (part_kept (own_tables rows peer) (own_few rows lawful_rows peer) part) rows peer
       (association_in past who) (takes ∷ []) (moves_in past) (tt, tt) p) s
 
   pub AreParts-update : (point : ℕ) (value : Sample) → AreParts rows past peers
@@ -206,8 +232,8 @@ module _ (rows : CentreRows) (past : Past) (who : ℕ) (peers : List Peer) where
       (λ b. IsPart (own_tables rows peer)
       (cons_option (if b then Some (updated (point_of rows point).name value) else None)
       (view_of rows peer past)) part) [
-        | true ↦ IsPart-after (own_tables rows peer) (own_bare rows peer) (view_of rows peer past)
-            part (updated (point_of rows point).name value) tt p
+        | true ↦ IsPart-after (own_tables rows peer) (own_few rows lawful_rows peer) (view_of rows peer past)
+            part 0 (updated (point_of rows point).name value) tt p
         | false ↦ p
       ]) s
 
@@ -215,15 +241,15 @@ module _ (rows : CentreRows) (past : Past) (who : ℕ) (peers : List Peer) where
       → AreParts rows (record { who = who; event = Stop } ∷ past) peers
   AreParts-stop s =
       AreParts-left Stop
-      (λ peer part p. IsPart-after (own_tables rows peer) (own_bare rows peer)
-      (view_of rows peer past) part stopped tt p) s
+      (λ peer part p. IsPart-after (own_tables rows peer) (own_few rows lawful_rows peer)
+      (view_of rows peer past) part 0 stopped tt p) s
 
   pub AreParts-tick : (now : ℕ) → AreParts rows past peers
       → AreParts rows (record { who = who; event = Tick now } ∷ past) peers
   AreParts-tick now s =
       AreParts-left (Tick now)
-      (λ peer part p. IsPart-after (own_tables rows peer) (own_bare rows peer)
-      (view_of rows peer past) part (ticked now) tt p) s
+      (λ peer part p. IsPart-after (own_tables rows peer) (own_few rows lawful_rows peer)
+      (view_of rows peer past) part 0 (ticked now) tt p) s
 
   pub AreParts-ask : (asker slot : ℕ) → AreParts rows past peers
       → AreParts rows (record { who = who; event = Ask asker slot } ∷ past) peers
@@ -233,19 +259,19 @@ module _ (rows : CentreRows) (past : Past) (who : ℕ) (peers : List Peer) where
       elim (asker == peer) as
       (λ b. IsPart (own_tables rows peer)
       (cons_option (if b then Some (requested slot) else None) (view_of rows peer past)) part) [
-        | true ↦ IsPart-after (own_tables rows peer) (own_bare rows peer) (view_of rows peer past)
-            part (requested slot) tt p
+        | true ↦ IsPart-after (own_tables rows peer) (own_few rows lawful_rows peer) (view_of rows peer past)
+            part 0 (requested slot) tt p
         | false ↦ p
       ]) s
 
   -- a choice of another table
-  pub AreParts-chosen : (chooser variant : ℕ) (part : Peer)
+  pub AreParts-chosen : (now chooser variant : ℕ) (part : Peer)
       → variant < length (variants_of rows chooser) → slice_get peers chooser ≡ Some part
       → AreParts rows past peers
       → AreParts rows (record { who = who; event = Choice chooser variant } ∷ past)
-      (set peers chooser (part_after (own_tables rows chooser) (chose variant) part))
-  AreParts-chosen chooser variant part there at s =
-      let after = part_after (own_tables rows chooser) (chose variant) part in
+      (set peers chooser (part_after (own_tables rows chooser) now (chose variant) part))
+  AreParts-chosen now chooser variant part there at s =
+      let after = part_after (own_tables rows chooser) now (chose variant) part in
       record {
         many = length-set peers chooser after ∙ s.many;
         each = λ peer new here.
@@ -258,8 +284,8 @@ module _ (rows : CentreRows) (past : Past) (who : ℕ) (peers : List Peer) where
             (view_of rows chooser (record { who = who; event = Choice chooser variant } ∷ past)) x)
             (sym mine.1)
             (rw (eq-eqb chooser chooser refl)
-            (IsPart-after (own_tables rows chooser) (own_bare rows chooser)
-            (view_of rows chooser past) part (chose variant)
+            (IsPart-after (own_tables rows chooser) (own_few rows lawful_rows chooser)
+            (view_of rows chooser past) part now (chose variant)
             (omega (arith, there, own_count rows chooser)) (s.each chooser part at)))))
             (λ (other : (peer ≢ chooser) × (slice_get peers peer ≡ Some new)).
             rw (ne_eqb chooser peer (λ e. other.0 (sym e))) (s.each peer new other.1))
@@ -418,14 +444,22 @@ part_there (part ∷ peers) peer there =
     (get_or (part ∷ peers) peer part, slice_get-get_or (part ∷ peers) peer part there)
 
 module _ (rows : CentreRows) (past : Past) (peers : List Peer) (s : AreParts rows past peers) where
-  pub IsPeerThere-of : (peer : ℕ) → peer < length rows.tables → IsPeerThere rows peers peer
-  IsPeerThere-of peer there = record {
+  pub IsPeerThere-of : IsCentre rows → (peer : ℕ) → peer < length rows.tables
+      → IsPeerThere rows peers peer
+  IsPeerThere-of lawful peer there = record {
     table = there;
     part = omega (arith, there, s.many);
     in_force = λ part at.
         omega (arith, (s.each peer part at).force_there, own_count rows peer);
     chosen = λ part at.
         omega (arith, (s.each peer part at).last_there, own_count rows peer);
+    few = λ part at.
+        omega (
+          arith,
+          own_few rows lawful peer part.variant,
+          (s.each peer part at).slots.many,
+        );
+    slots = λ part at. (s.each peer part at).slots.many;
   }
 
   -- how many associations a peer has opened

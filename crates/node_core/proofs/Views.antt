@@ -7,22 +7,22 @@ use Rattle.std.proofs.lemmas.Bool.{false≢true, false_from_ne_true, eqb-true}
 use Rattle.std.proofs.lemmas.List.{length-map}
 use Rattle.tase_points.specs.Sample.{Sample}
 use Rattle.bilateral.specs.declared.rows.PointRow.{PointRow}
-use Rattle.bilateral.specs.Rows.{CentreRows, IsCentre, point_of, variants_of, variant_of}
+use Rattle.bilateral.specs.Rows.{CentreRows, IsCentre, point_of, variants_of}
 use Rattle.tase_views.specs.declared.event.EventKind.{EventKind}
 use Rattle.tase_views.specs.declared.event.EventKind.TheVariants.{Open, Request, Take, Close}
 use Rattle.tase_views.specs.declared.event.EventKind.TheVariants.{Update, Table, Tick, Ask, Stop}
 use Rattle.tase_views.specs.History.{Past, association_in, next_key}
-use Rattle.tase_views.specs.OwnTables.{OwnTable, own_tables, table_in, is_point_of}
+use Rattle.tase_views.specs.OwnTables.{OwnTable, own_table, own_tables, table_in, is_point_of}
 use Rattle.tase_views.specs.Moves.{Act, opens, takes, closes, acts_of_call}
-use Rattle.tase_views.specs.View.{updated, chose, View, moves_in, view_of, force, held, asked}
+use Rattle.tase_views.specs.View.{updated, chose, View, moves_in, view_of, held, asked}
 use Rattle.tase_views.specs.Values.{values_in}
 use Rattle.point_db.specs.Updates.{values_given}
 use Rattle.point_db.specs.Stored.{Stored as PointsStored, Keeps as KeepsPoints}
-use Rattle.data_sets.specs.Books.{Book}
 use Rattle.node_core.specs.LastValues.{kinds_of, updates_in}
 use Rattle.node_core.specs.Found.{IsThere, table_at, offered}
-use Rattle.node_core.specs.SetsKept.{IsBook}
-use Rattle.node_core.specs.Shown.{IsShown, IsShowable}
+use Rattle.node_core.specs.declared.peer.Peer.{Peer}
+use Rattle.node_core.specs.PeerParts.{IsPart}
+use Rattle.node_core.specs.Shown.{IsShown, IsShowable, shown_of}
 use Rattle.node_core.proofs.Known.{point_is_there, bytes_eq-names, offered-at, named_by_variant}
 use Rattle.node_core.proofs.Known.{variant_is_lawful}
 use Rattle.node_core.proofs.CallActs.{each_of_call}
@@ -115,34 +115,45 @@ module _ (rows : CentreRows) (peer p : ℕ) (lawful : IsCentre rows)
   values_in-view_of (entry ∷ past) =
       values_behind past entry.who entry.event (values_in-view_of past)
 
--- what a node shows a peer by what it keeps is what the peer's view has
-pub IsShown-of : (rows : CentreRows) (past : Past) (peer variant : ℕ) (book : Book)
-    (points : PointsStored) → IsCentre rows → variant ≡ force (view_of rows peer past)
-    → variant < length (variants_of rows peer)
-    → IsBook (own_tables rows peer) (view_of rows peer past) book
-    → KeepsPoints (kinds_of rows) (updates_in past) points
-    → IsShown (updates_in past) (own_tables rows peer) (view_of rows peer past)
-    (record { table = table_at rows peer variant; book = book; points = points })
-IsShown-of rows past peer variant book points lawful same there b kept = record {
-  table = offered-at rows peer variant there ∙ ap (table_in (own_tables rows peer)) same;
-  book = b;
-  kept = kept;
-  values = λ p seen. values_in-view_of rows peer p lawful
-      (named_by_variant rows peer variant p there seen) past;
-}
+module _ (rows : CentreRows) (past : Past) (peer : ℕ) (part : Peer) (points : PointsStored)
+    (lawful : IsCentre rows) (known : peer < length rows.tables)
+    (p : IsPart (own_tables rows peer) (view_of rows peer past) part)
+    (kept : KeepsPoints (kinds_of rows) (updates_in past) points) where
+  there : part.variant < length (variants_of rows peer)
+  there = omega (arith, p.force_there, length-map (variants_of rows peer) (own_table rows))
 
-pub IsShowable-of : (rows : CentreRows) (past : Past) (peer variant : ℕ) (book : Book)
-    (points : PointsStored) → IsThere rows peer variant → variant ≡ force (view_of rows peer past)
-    → IsBook (own_tables rows peer) (view_of rows peer past) book
-    → KeepsPoints (kinds_of rows) (updates_in past) points
-    → IsShowable (record { table = table_at rows peer variant; book = book; points = points })
-IsShowable-of rows past peer variant book points at same b kept =
-    let limit : (held (own_tables rows peer) (view_of rows peer past)).sets
-    ≡ (variant_of rows peer variant).sets =
-    ap (λ (t : OwnTable). t.sets) (sym (offered-at rows peer variant at.there
-    ∙ ap (table_in (own_tables rows peer)) same)) in
-    record {
-      points = kept.points ∙ length-map rows.points (λ (row : PointRow). row.kind);
-      named = b.named;
-      few = omega (arith, b.few, limit, (variant_is_lawful rows peer variant at).sets);
-    }
+  in_force : offered (table_at rows peer part.variant)
+      ≡ held (own_tables rows peer) (view_of rows peer past)
+  in_force =
+      offered-at rows peer part.variant there ∙ ap (table_in (own_tables rows peer)) p.in_force
+
+  -- its table is there
+  pub IsThere-of : IsThere rows peer part.variant
+  IsThere-of = record { lawful = lawful; known = known; there = there }
+
+  -- what a node shows a peer by what it keeps is what the peer's view has
+  pub IsShown-of : IsShown (updates_in past) (own_tables rows peer) (view_of rows peer past)
+      (shown_of rows peer part points)
+  IsShown-of = record {
+    table = in_force;
+    book = p.sets;
+    slots = p.slots;
+    kept = kept;
+    values = λ point seen. values_in-view_of rows peer point lawful
+        (named_by_variant rows peer part.variant point there seen) past;
+  }
+
+  pub IsShowable-of : IsShowable (shown_of rows peer part points)
+  IsShowable-of =
+      let limit = ap (λ (t : OwnTable). t.sets) in_force in
+      record {
+        points = kept.points ∙ length-map rows.points (λ (row : PointRow). row.kind);
+        named = p.sets.named;
+        few = omega (
+          arith,
+          p.sets.few,
+          limit,
+          (variant_is_lawful rows peer part.variant IsThere-of).sets,
+        );
+        slots = p.slots.many;
+      }

@@ -1,6 +1,7 @@
 -- What names stand for by the table of a peer that is in force.
-use Rattle.std.specs.Prelude.{◌≡◌, ℕ, ◌<◌, ◌&&◌, true, List, length, find, Option, bytes_eq}
-use Rattle.std.specs.Prelude.{is_some}
+use Rattle.std.specs.Prelude.{◌≡◌, ℕ, ◌<◌, ◌&&◌, true, List, ◌++◌, length, flat_map, find, Option}
+use Rattle.std.specs.Prelude.{bytes_eq, is_some}
+use Rattle.std.specs.List.{range_with_len}
 use Rattle.mms_data.specs.Datum.{text}
 use Rattle.mms_data.specs.ObjectName.{ObjectName}
 use Rattle.bilateral.specs.declared.rows.See.{See}
@@ -9,7 +10,9 @@ use Rattle.bilateral.specs.Rows.{CentreRows, IsCentre, variants_of, variant_of, 
 use Rattle.bilateral.specs.Rows.{place_of_see}
 use Rattle.tase_views.specs.OwnTables.{OwnPoint, OwnTable, own_point, own_table, is_scope_of}
 use Rattle.tase_views.specs.Objects.{Object, constant, report_variable, indication_point, set_name}
+use Rattle.tase_views.specs.Objects.{next_transfer_set, transfer_set, transfer_set_status}
 use Rattle.tase_views.specs.Objects.{time_stamp, conditions_detected, event_code, version, features}
+use Rattle.tase_views.specs.Objects.{NamedObject, next_objects, objects_of_slot}
 use Rattle.node_core.specs.declared.naming.Special.{Special}
 use Rattle.node_core.specs.declared.naming.Special.TheVariants as specials
 use Rattle.node_core.specs.declared.naming.Found.{Found}
@@ -43,6 +46,10 @@ abbrev pub point_named : OwnTable → ObjectName → Option OwnPoint
 point_named table name =
     find (λ p. is_scope_of table name.scope p.vmd && bytes_eq p.name name.item) table.points
 
+-- the next transfer set, and each of so many transfer sets with its status
+abbrev pub transfer_objects : ℕ → List NamedObject
+transfer_objects slots = next_objects slots ++ flat_map objects_of_slot (range_with_len 0 slots)
+
 -- the object that an object of the protocol itself is for a peer with this table
 abbrev pub special_object : OwnTable → Special → Object
 special_object table specials.Version = constant version
@@ -56,9 +63,15 @@ special_object table specials.EventCode = report_variable event_code
 -- the object that was found
 abbrev pub object_found : TableInForce → Found → Object
 object_found t (found.Special special) = special_object (offered t) special
+object_found t found.NextSlot = next_transfer_set
+object_found t (found.Slot slot) = transfer_set slot
+object_found t (found.SlotStatus slot) = transfer_set_status slot
 object_found t (found.Point see) = indication_point (own_point t.rows see.now)
 
--- a row that was found is one of the table
+-- a row and a transfer set that were found are the table's
 abbrev pub IsOfTable : Table → Found → Type 0
 IsOfTable table (found.Special special) = Unit {0}
+IsOfTable table found.NextSlot = Unit {0}
+IsOfTable table (found.Slot slot) = slot < table.slots
+IsOfTable table (found.SlotStatus slot) = slot < table.slots
 IsOfTable table (found.Point see) = is_some (place_of_see table see.now.point) ≡ true

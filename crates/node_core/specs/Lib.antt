@@ -1,8 +1,11 @@
 pub mod NodeState
 pub mod LastValues
 pub mod SetsKept
+pub mod SlotsKept
+pub mod SlotWrites
 pub mod Found
 pub mod Shown
+pub mod CallSorts
 pub mod PeerParts
 pub mod Stored
 pub mod Room

@@ -1,13 +1,15 @@
 -- What a node keeps of one peer, and what a move that the peer sees makes of it.
 use Rattle.std.specs.Prelude.{◌≡◌, ℕ, ◌+◌, ◌-◌, ◌<◌, ◌≤◌, ◌==◌, nat_le, nat_lt, not, ◌&&◌, ◌||◌}
 use Rattle.std.specs.Prelude.{if◌then◌else◌, List, [], ◌∷◌, length, filter_map, Option, Some, None}
-use Rattle.std.specs.Prelude.{is_some}
+use Rattle.std.specs.Prelude.{Bool, is_some, map}
 use Rattle.std.specs.List.{list_all}
 use Rattle.mms_data.specs.declared.object_name.Scope.TheVariants.{Domain}
 use Rattle.mms_data.specs.ObjectName.{ObjectName, IsIdentifier, same_scope}
 use Rattle.table_words.specs.Words.{is_identifier}
 use Rattle.data_sets.specs.declared.book.TheConstants.{MOST_MEMBERS}
 use Rattle.data_sets.specs.Books.{Book, members_in, defined}
+use Rattle.bilateral.specs.declared.rows.TheConstants.{SLOT_LIMIT}
+use Rattle.transfer_sets.specs.Banks.{OwnedSlot, free_slots, freed}
 use Rattle.tase_views.specs.declared.reply.TheConstants.{ACCESS_ERRORS, ACCESS_DENIED}
 use Rattle.tase_views.specs.declared.reply.TheConstants.{DEFINITION_ERRORS, UNDEFINED, EXISTS}
 use Rattle.tase_views.specs.declared.reply.TheConstants.{RESOURCE_ERRORS, OTHER}
@@ -18,13 +20,15 @@ use Rattle.tase_views.specs.declared.event.EventKind.TheVariants.{Request}
 use Rattle.tase_views.specs.declared.reply.ReplyKind.{ReplyKind}
 use Rattle.tase_views.specs.OwnTables.{OwnTable, OwnTables, table_in}
 use Rattle.tase_views.specs.Objects.{object_named, is_member}
-use Rattle.tase_views.specs.Moves.{Act, opens, closes, defines, deletes, acts_of_call}
+use Rattle.tase_views.specs.Moves.{Act, opens, closes, reads, writes, defines, deletes}
+use Rattle.tase_views.specs.Moves.{acts_of_call}
 use Rattle.tase_views.specs.Force.{TableMove, open_count, last_chosen}
 use Rattle.tase_views.specs.View.{Seen, own, chose, View, table_seen, force}
 use Rattle.tase_views.specs.Sets.{SetError, error_of}
 use Rattle.tase_views.specs.Answers.{define_replied}
 use Rattle.node_core.specs.declared.peer.Peer.{Peer}
 use Rattle.node_core.specs.SetsKept.{IsBook, left_behind}
+use Rattle.node_core.specs.SlotsKept.{IsBank, is_kept, slots_read, slots_written}
 
 -- what a view shows of the peer's table in force
 abbrev pub table_moves : View → List TableMove
@@ -37,7 +41,7 @@ opens_seen (own ordinal opens ∷ view) = opens_seen view + 1
 opens_seen (_ ∷ view) = opens_seen view
 
 -- A part has of its peer: the table in force, and that which was chosen last; how many associations
--- it has opened, and how many are open; and its data sets. Both tables are there.
+-- it has opened, and how many are open; its data sets, and its transfer sets. Both tables are there.
 pub record IsPart (tables : OwnTables) (view : View) (part : Peer) : Type 0 where
   pub in_force : part.variant ≡ force view
   pub last : part.chosen_last ≡ last_chosen (table_moves view)
@@ -47,6 +51,7 @@ pub record IsPart (tables : OwnTables) (view : View) (part : Peer) : Type 0 wher
   pub force_there : part.variant < length tables.tables
   pub last_there : part.chosen_last < length tables.tables
   pub sets : IsBook tables view part.book
+  pub slots : IsBank tables view part.slots
 
 -- no data sets, of which there may be so many
 abbrev pub no_sets : ℕ → Book
@@ -60,6 +65,7 @@ new_part limit = record {
   opened_in_all = 0;
   open_now = 0;
   book = no_sets limit;
+  slots = free_slots SLOT_LIMIT;
 }
 
 -- Where no association is open, the table that was chosen last comes into force. Another one than
@@ -89,27 +95,39 @@ abbrev pub book_defined : Option SetError → ObjectName → List ObjectName →
 book_defined None set members book = defined book set.item members
 book_defined (Some error) set members book = book
 
--- a part behind one more move that its peer sees
-abbrev pub part_after : OwnTables → Seen → Peer → Peer
-part_after tables (own ordinal opens) part =
+-- which data sets are kept whatever is deleted: those that an enabled transfer set wishes
+abbrev pub kept_in : OwnTable → List OwnedSlot → List ℕ → Bool
+kept_in table slots = is_kept table.domain table.slots slots
+
+-- a part behind one more move that its peer sees, at a moment
+abbrev pub part_after : OwnTables → ℕ → Seen → Peer → Peer
+part_after tables now (own ordinal opens) part =
     record part { opened_in_all = part.opened_in_all + 1; open_now = part.open_now + 1 }
-part_after tables (own ordinal closes) part =
-    settled tables (record part { open_now = part.open_now - 1 })
-part_after tables (own ordinal (defines set members)) part =
+part_after tables now (own ordinal closes) part =
+    settled tables
+    (record part { open_now = part.open_now - 1; slots = map (freed ordinal) part.slots })
+part_after tables now (own ordinal (reads name)) part =
+    record part { slots = slots_read (table_in tables part.variant) ordinal name part.slots }
+part_after tables now (own ordinal (writes name value)) part =
+    let table = table_in tables part.variant in
+    record part { slots = slots_written table part.book ordinal now name value part.slots }
+part_after tables now (own ordinal (defines set members)) part =
     let table = table_in tables part.variant in
     record part {
       book = book_defined (fault_in table part.book set members) set members part.book;
     }
-part_after tables (own ordinal (deletes set)) part =
-    record part { book = left_behind (table_in tables part.variant).domain part.book set }
-part_after tables (chose variant) part = settled tables (record part { chosen_last = variant })
-part_after tables _ part = part
+part_after tables now (own ordinal (deletes set)) part =
+    let table = table_in tables part.variant in
+    record part { book = left_behind (kept_in table part.slots) table.domain part.book set }
+part_after tables now (chose variant) part =
+    settled tables (record part { chosen_last = variant })
+part_after tables now _ part = part
 
 -- a part behind acts of an association of its peer, the newest first
-abbrev pub part_behind : OwnTables → ℕ → List Act → Peer → Peer
-part_behind tables ordinal [] part = part
-part_behind tables ordinal (act ∷ these) part =
-    part_after tables (own ordinal act) (part_behind tables ordinal these part)
+abbrev pub part_behind : OwnTables → ℕ → ℕ → List Act → Peer → Peer
+part_behind tables now ordinal [] part = part
+part_behind tables now ordinal (act ∷ these) part =
+    part_after tables now (own ordinal act) (part_behind tables now ordinal these part)
 
 -- a definition's name is an identifier, and it has a member
 abbrev pub IsLawfulAct : Act → Type 0

@@ -1,5 +1,5 @@
 -- What a node keeps of the data sets of a peer.
-use Rattle.std.specs.Prelude.{◌≡◌, ◌≢◌, ℕ, ◌<◌, ◌≤◌, ◌&&◌, Bool, if◌then◌else◌, List, [], ◌∷◌}
+use Rattle.std.specs.Prelude.{◌≡◌, ◌≢◌, ℕ, ◌<◌, ◌≤◌, not, ◌&&◌, Bool, if◌then◌else◌, List, [], ◌∷◌}
 use Rattle.std.specs.Prelude.{length, is_some, bytes_eq}
 use Rattle.std.specs.List.{All, AllPairs, list_any}
 use Rattle.mms_data.specs.declared.object_name.Scope.TheVariants.{Domain}
@@ -30,12 +30,14 @@ abbrev pub is_in_book : List ℕ → Book → ObjectName → Bool
 is_in_book domain book name =
     same_scope name.scope (Domain domain) && is_some (members_in book.sets name.item)
 
--- a book behind a deletion by a name: one of the domain takes its data set away
-abbrev pub left_behind : List ℕ → Book → ObjectName → Book
-left_behind domain book name =
-    if same_scope name.scope (Domain domain) then deleted book name.item else book
+-- a book behind a deletion by a name: one of the domain takes its data set away, unless that is kept
+abbrev pub left_behind : (List ℕ → Bool) → List ℕ → Book → ObjectName → Book
+left_behind kept domain book name =
+    if same_scope name.scope (Domain domain) && not (kept name.item)
+    then deleted book name.item else book
 
 -- behind deletions by names, one after another
-abbrev pub left_by : List ℕ → List ObjectName → Book → Book
-left_by domain [] book = book
-left_by domain (name ∷ names) book = left_by domain names (left_behind domain book name)
+abbrev pub left_by : (List ℕ → Bool) → List ℕ → List ObjectName → Book → Book
+left_by kept domain [] book = book
+left_by kept domain (name ∷ names) book =
+    left_by kept domain names (left_behind kept domain book name)

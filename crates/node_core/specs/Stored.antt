@@ -1,8 +1,9 @@
 -- What a node keeps beside its history, so that no step looks through it.
-use Rattle.std.specs.Prelude.{◌≡◌, ℕ, ◌+◌, ◌^◌, ◌<◌, List, length, Option, Some, slice_get}
+use Rattle.std.specs.Prelude.{◌≡◌, ℕ, ◌+◌, ◌^◌, ◌<◌, ◌≤◌, List, length, Option, Some, slice_get}
 use Rattle.std.specs.Prelude.{slice_set, nat_eq}
 use Rattle.std.specs.HashMap.{get}
 use Rattle.point_db.specs.Stored.{Stored as PointsStored, Keeps as KeepsPoints}
+use Rattle.bilateral.specs.declared.rows.TheConstants.{SLOT_LIMIT}
 use Rattle.bilateral.specs.Rows.{CentreRows, IsCentre, variants_of}
 use Rattle.data_sets.specs.Books.{Book}
 use Rattle.sbo_device.specs.declared.key.Key.{Key}
@@ -18,6 +19,7 @@ use Rattle.node_core.specs.declared.hub.Hub.{Hub}
 use Rattle.node_core.specs.declared.parts.Parts.{Parts}
 use Rattle.node_core.specs.declared.peer.Peer.{Peer}
 use Rattle.node_core.specs.LastValues.{kinds_of, updates_in}
+use Rattle.node_core.specs.Shown.{IsCalm}
 use Rattle.node_core.specs.PeerParts.{IsPart, part_behind}
 
 -- the centre is lawful; the points, and each seat's association, are those of this past
@@ -44,7 +46,7 @@ pub record IsNode (rows : CentreRows) (past : Past) (hub : Hub) (parts : Parts) 
   pub clock : hub.last_tick ≡ last_tick past
   pub peers : AreParts rows past parts.peers.items
 
--- a peer has a table and a part, whose tables are there
+-- a peer has a table and a part, whose tables are there, with room for their transfer sets
 pub record IsPeerThere (rows : CentreRows) (peers : List Peer) (peer : ℕ) : Type 0 where
   pub table : peer < length rows.tables
   pub part : peer < length peers
@@ -52,6 +54,9 @@ pub record IsPeerThere (rows : CentreRows) (peers : List Peer) (peer : ℕ) : Ty
       → part.variant < length (variants_of rows peer)
   pub chosen : (part : Peer) → slice_get peers peer ≡ Some part
       → part.chosen_last < length (variants_of rows peer)
+  pub few : (part : Peer) → slice_get peers peer ≡ Some part
+      → (table_in (own_tables rows peer) part.variant).slots ≤ length part.slots
+  pub slots : (part : Peer) → slice_get peers peer ≡ Some part → length part.slots ≡ SLOT_LIMIT
 
 -- a peer may open one more association, as far as numbers of 64 bits go
 abbrev pub MayOpen : List Peer → ℕ → Type 0
@@ -65,18 +70,23 @@ IsChanged old peer change new = (part : Peer) → slice_get old peer ≡ Some pa
 
 -- parts behind acts of an association, where what is said of its peer's table in force and of its
 -- data sets holds
-abbrev pub IsAsked : CentreRows → Key → List Act → (OwnTable → Book → Type 0) → List Peer
+abbrev pub IsAsked : CentreRows → ℕ → Key → List Act → (OwnTable → Book → Type 0) → List Peer
     → List Peer → Type 0
-IsAsked rows key these Said old new =
+IsAsked rows now key these Said old new =
     let tables = own_tables rows key.peer in
     (part : Peer) → slice_get old key.peer ≡ Some part
     → Said (table_in tables part.variant) part.book
-    → new ≡ slice_set old key.peer (part_behind tables key.ordinal these part)
+    → new ≡ slice_set old key.peer (part_behind tables now key.ordinal these part)
 
 -- a request
 abbrev pub IsRequest : EventKind → Type 0
 IsRequest (Request call) = Unit {0}
 IsRequest event = ⊥
+
+-- a request that neither reads nor writes variables
+abbrev pub IsCalmRequest : EventKind → Type 0
+IsCalmRequest (Request call) = IsCalm call
+IsCalmRequest event = ⊥
 
 -- the reply to an event that is a request of the association with this key, behind this past
 abbrev pub IsReplied : CentreRows → Past → Key → EventKind → ReplyKind → Type 0

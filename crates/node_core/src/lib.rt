@@ -1,6 +1,7 @@
 //! One step of a TASE.2 node: from an event to its answer and one more entry in the history.
 #![tactic(auto)]
 
+mod draft;
 mod hub;
 mod in_force;
 mod listing;
@@ -12,5 +13,7 @@ mod peer;
 mod refusals;
 mod replies;
 mod sets;
+mod sorts;
+mod writes;
 
 pub use node::Node;

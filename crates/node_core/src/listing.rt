@@ -1,20 +1,23 @@
 //! Lists of names.
 ghost use Rattle.std.specs.Prelude.{◌≡◌, ◌<◌, ◌&&◌, true, false, length, map, filter, Some, None};
 ghost use Rattle.std.specs.Prelude.{if◌then◌else◌, IfOk, not, option_map, [], ◌∷◌, ◌++◌, OnOk};
-ghost use Rattle.std.specs.List.{All};
+ghost use Rattle.std.specs.Prelude.{◌≤◌, flat_map};
+ghost use Rattle.std.specs.List.{All, range_with_len};
 ghost use Rattle.std.specs.Ordering.{int_eq};
 ghost use Rattle.mms_data.specs.ObjectName.{IsIdentifier};
+ghost use Rattle.bilateral.specs.declared.rows.TheConstants.{SLOT_LIMIT};
 ghost use Rattle.tase_views.specs.OwnTables.{OwnTable, OwnTables, own_point, is_scope_of};
 ghost use Rattle.tase_views.specs.Objects.{objects, special_objects, report_variables};
+ghost use Rattle.tase_views.specs.Objects.{objects_of_slot};
 ghost use Rattle.tase_views.specs.View.{View, held};
 ghost use Rattle.tase_views.specs.Answers.{set_names};
 ghost use Rattle.tase_views.specs.NameLists as lists;
 ghost use Rattle.tase_views.specs.Replies.{IsReply};
-ghost use Rattle.node_core.specs.Found.{offered};
+ghost use Rattle.node_core.specs.Found.{offered, transfer_objects};
 ghost use Rattle.node_core.specs.SetsKept.{IsBook};
 
 use crate::in_force::InForce;
-use crate::naming::is_found_in;
+use crate::naming::{is_found_in, slot_item, slot_status_item};
 use ber_values::Visible;
 use bilateral::See;
 use data_sets::SetBook;
@@ -208,6 +211,45 @@ fn push_report_variables<'a>(
     Ok(())
 }
 
+/// Appends the names of a table's transfer sets in a scope that stand in a list.
+fn push_transfers<'a>(
+    names: &mut Vec<&'a [u8]>,
+    table: &InForce<'_>,
+    scope: &Scope,
+    after: &Option<Visible>,
+) -> Result<(), AllocError>
+    ensures { OnOk result (map (λ name. name.now) names.new.items
+        ≡ map (λ name. name.now) names.old.items ++ filter (lists.is_after after.now)
+        (lists.variables_in (offered table.now) (transfer_objects table.now.table.slots)
+        scope.now)) }
+{
+    let own = table.table();
+    if !is_found_in(&own.domain, scope, false) {
+        return Ok(());
+    }
+    push_after(names, after, b"Next_DSTransfer_Set")?;
+    push_slots(names, own.slots, after)?;
+    Ok(())
+}
+
+/// Appends the names of so many transfer sets, and of their status, that stand in a list.
+fn push_slots<'a>(
+    names: &mut Vec<&'a [u8]>,
+    slots: u32,
+    after: &Option<Visible>,
+) -> Result<(), AllocError>
+    requires { slots ≤ SLOT_LIMIT }
+    ensures { OnOk result (map (λ name. name.now) names.new.items
+        ≡ map (λ name. name.now) names.old.items ++ filter (lists.is_after after.now)
+        (map (λ o. o.item) (flat_map objects_of_slot (range_with_len 0 slots)))) }
+{
+    for slot in 0..slots {
+        push_after(names, after, slot_item(slot))?;
+        push_after(names, after, slot_status_item(slot))?;
+    }
+    Ok(())
+}
+
 /// Appends a name, if it stands in a list.
 fn push_after<'a>(
     names: &mut Vec<&'a [u8]>,
@@ -226,7 +268,7 @@ fn push_after<'a>(
 }
 
 /// The names of the variables that there are for a peer in a scope that stand in a list: those of
-/// the protocol itself, and of the peer's points.
+/// the protocol itself, of the peer's transfer sets and of its points.
 fn variables<'a>(
     alloc: Global,
     table: &InForce<'a>,
@@ -239,6 +281,7 @@ fn variables<'a>(
 {
     let own = table.table();
     let mut names = specials(alloc, &own.domain, scope, after)?;
+    push_transfers(&mut names, table, scope, after)?;
     for see in own.sees.as_slice() {
         if let Some(name) = listed_name(table, scope, after, see) {
             names.push(name)?;

@@ -1,12 +1,15 @@
 //! What names stand for.
-ghost use Rattle.std.specs.Prelude.{◌≡◌, ◌&&◌, not, Some, true, is_some, IfSome};
-ghost use Rattle.std.specs.Prelude.{option_map, find, bytes_eq};
+ghost use Rattle.std.specs.Prelude.{◌≡◌, ◌<◌, ◌≤◌, ◌&&◌, not, Some, true, is_some, IfSome};
+ghost use Rattle.std.specs.Prelude.{option_map, find, flat_map, bytes_eq, codes, ◌++◌};
+ghost use Rattle.std.specs.List.{range_with_len};
+ghost use Rattle.bilateral.specs.declared.rows.Table.{Table};
+ghost use Rattle.bilateral.specs.declared.rows.TheConstants.{SLOT_LIMIT};
 ghost use Rattle.bilateral.specs.Rows.{place_of_see};
 ghost use Rattle.tase_views.specs.OwnTables.{OwnTable, own_point, is_scope_of};
 ghost use Rattle.tase_views.specs.Objects.{object_named, special_objects, is_named};
 ghost use Rattle.tase_views.specs.Objects as objects;
 ghost use Rattle.node_core.specs.Found.{offered, special_object, object_found, point_named};
-ghost use Rattle.node_core.specs.Found.{IsOfTable};
+ghost use Rattle.node_core.specs.Found.{TableInForce, IsOfTable, transfer_objects};
 
 use crate::in_force::InForce;
 use ber_values::Visible;
@@ -18,6 +21,12 @@ use mms_data::{Name, Scope};
 pub enum Found<'a> {
     /// An object of the protocol itself.
     Special(Special),
+    /// The next transfer set.
+    NextSlot,
+    /// A transfer set; the first is 0.
+    Slot(u32),
+    /// The status of a transfer set.
+    SlotStatus(u32),
     /// The point of a row of the table.
     Point(&'a See),
 }
@@ -104,6 +113,101 @@ fn report_variable(item: &[u8]) -> Option<Special>
     }
 }
 
+// The names of transfer sets.
+const SLOT_ITEMS: [&[u8]; 16] = [
+    b"DSTrans1",
+    b"DSTrans2",
+    b"DSTrans3",
+    b"DSTrans4",
+    b"DSTrans5",
+    b"DSTrans6",
+    b"DSTrans7",
+    b"DSTrans8",
+    b"DSTrans9",
+    b"DSTrans10",
+    b"DSTrans11",
+    b"DSTrans12",
+    b"DSTrans13",
+    b"DSTrans14",
+    b"DSTrans15",
+    b"DSTrans16",
+];
+
+// The names of their status.
+const SLOT_STATUS_ITEMS: [&[u8]; 16] = [
+    b"DSTrans1$Status",
+    b"DSTrans2$Status",
+    b"DSTrans3$Status",
+    b"DSTrans4$Status",
+    b"DSTrans5$Status",
+    b"DSTrans6$Status",
+    b"DSTrans7$Status",
+    b"DSTrans8$Status",
+    b"DSTrans9$Status",
+    b"DSTrans10$Status",
+    b"DSTrans11$Status",
+    b"DSTrans12$Status",
+    b"DSTrans13$Status",
+    b"DSTrans14$Status",
+    b"DSTrans15$Status",
+    b"DSTrans16$Status",
+];
+
+/// The name of a transfer set; the first is 0.
+pub fn slot_item(slot: u32) -> &'static [u8]
+    requires { slot < SLOT_LIMIT }
+    ensures { result.now ≡ objects.slot_item slot }
+{
+    let items = SLOT_ITEMS.as_slice();
+    items[slot as usize]
+}
+
+/// The name of a transfer set's status.
+pub fn slot_status_item(slot: u32) -> &'static [u8]
+    requires { slot < SLOT_LIMIT }
+    ensures { result.now ≡ objects.slot_item slot ++ codes "$Status" }
+{
+    let items = SLOT_STATUS_ITEMS.as_slice();
+    items[slot as usize]
+}
+
+/// The first of so many transfer sets that has this name, or whose status has it.
+fn find_slot<'a>(item: &[u8], slots: u32) -> Option<Found<'a>>
+    requires { slots ≤ SLOT_LIMIT }
+    ensures named { (t : TableInForce) → option_map (object_found t) result
+        ≡ option_map (λ o. o.object) (find (λ o. bytes_eq o.item item.now)
+        (flat_map objects.objects_of_slot (range_with_len 0 slots))) }
+    ensures there { (table : Table) → table.slots ≡ slots → IfSome result (IsOfTable table) }
+{
+    for slot in 0..slots {
+        if slot_item(slot) == item {
+            return Some(Found::Slot(slot));
+        }
+        if slot_status_item(slot) == item {
+            return Some(Found::SlotStatus(slot));
+        }
+    }
+    None
+}
+
+/// What a name stands for among the transfer sets of a table.
+fn find_transfer<'a>(table: &InForce<'_>, name: &Name) -> Option<Found<'a>>
+    ensures named { option_map (object_found table.now) result
+        ≡ option_map (λ o. o.object) (find (is_named (offered table.now) name.now)
+        (transfer_objects table.now.table.slots)) }
+    ensures there { IfSome result (IsOfTable table.now.table) }
+{
+    let own = table.table();
+    if !is_found_in(&own.domain, name.scope(), false) {
+        return None;
+    }
+    let item = name.item().as_slice();
+    if b"Next_DSTransfer_Set".as_slice() == item {
+        return Some(Found::NextSlot);
+    }
+    find_slot(item, own.slots)
+}
+
 /// What a name stands for by a table; nothing else exists.
 pub fn find_object<'a>(table: &InForce<'a>, name: &Name) -> Option<Found<'a>>
     ensures named { option_map (object_found table.now) result
@@ -112,9 +216,12 @@ pub fn find_object<'a>(table: &InForce<'a>, name: &Name) -> Option<Found<'a>>
 {
     match find_special(&table.table().domain, name) {
         Some(special) => Some(Found::Special(special)),
-        None => match find_point(table, name) {
-            Some(see) => Some(Found::Point(see)),
-            None => None,
+        None => match find_transfer(table, name) {
+            Some(found) => Some(found),
+            None => match find_point(table, name) {
+                Some(see) => Some(Found::Point(see)),
+                None => None,
+            },
         },
     }
 }
@@ -145,7 +252,7 @@ pub fn is_member(table: &InForce<'_>, name: &Name) -> bool
     match find_object(table, name) {
         Some(Found::Special(special)) => is_report_variable(special),
         Some(Found::Point(_)) => true,
-        None => false,
+        Some(Found::NextSlot | Found::Slot(_) | Found::SlotStatus(_)) | None => false,
     }
 }
 

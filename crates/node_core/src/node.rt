@@ -14,23 +14,28 @@ ghost use Rattle.tase_views.specs.Weights.{weight_of};
 ghost use Rattle.tase_views.specs.Answers as answers;
 ghost use Rattle.tase_views.specs.Outcomes.{is_ending, refusal_of, IsAnswer, IsRightOutcome};
 ghost use Rattle.node_core.specs.NodeState.{with_entry};
-ghost use Rattle.node_core.specs.SetsKept.{IsBook};
-ghost use Rattle.node_core.specs.Stored.{IsRequest, IsReplied};
+ghost use Rattle.node_core.specs.declared.sorts.CallSort.TheVariants as sorts;
+ghost use Rattle.node_core.specs.Shown.{IsCalm};
+ghost use Rattle.node_core.specs.CallSorts.{IsRequestOf};
+ghost use Rattle.node_core.specs.Stored.{IsCalmRequest, IsReplied};
 
 use crate::hub::Hub;
 use crate::in_force::InForce;
 use crate::log::Log;
 use crate::parts::Parts;
 use crate::refusals::{clock_refusal, first_refusal, name_refusal, seat_refusal};
-use crate::replies::PeerView;
+use crate::replies::{ReadReply, peer_view};
+use crate::sorts::{CallSort, sort_of};
+use crate::writes::{read_writes, written};
 use bilateral::Centre;
-use data_sets::SetBook;
 use sbo_device::Key;
 use std::alloc::{AllocError, Global};
 use std::marker::Model;
 use std::sync::Arc;
 use tase_points::PointValue;
-use tase_views::{Answer, Call, Entry, Event, EventKind, Reply, ReplyKind, Reports, StepFault};
+use tase_views::{
+    Answer, Call, CallKind, Entry, Event, EventKind, Reply, ReplyKind, Reports, StepFault,
+};
 
 /// A TASE.2 node without input and output: its centre's tables and the history of its accepted
 /// events.
@@ -152,25 +157,16 @@ impl Node {
         self.parts.force(peer)
     }
 
-    /// The data sets of a peer.
-    fn book(&self, peer: u32) -> &SetBook
-        requires { peer < length self.now.setup.centre.tables }
-        ensures { let rows = self.now.setup.centre in IsBook (own_tables rows peer)
-            (view_of rows peer (reverse self.now.history)) result.now }
-    {
-        self.parts.book(peer)
-    }
-
-    /// The reply to a call of an association.
+    /// The reply to a call of an association that neither reads nor writes variables.
     fn reply_to(&self, alloc: Global, key: Key, call: &Call) -> Result<Reply, AllocError>
-        requires { key.peer < length self.now.setup.centre.tables }
+        requires known { key.peer < length self.now.setup.centre.tables }
+        requires calm { IsCalm call.now }
         ensures { let rows = self.now.setup.centre in IfOk result (λ reply. reply
             ≡ answers.reply_to (own_tables rows key.peer)
             (view_of rows key.peer (reverse self.now.history)) key.ordinal call.now) }
     {
-        let table = InForce::new(&self.centre, key.peer, self.force(key.peer));
-        let shown = PeerView::new(table, self.book(key.peer), self.hub.points());
-        let reply = shown.reply_to(alloc, call)?;
+        let shown = peer_view(&self.centre, &self.parts, self.hub.points(), key.peer);
+        let reply = shown.reply_to(alloc, key.ordinal, call)?;
         Ok(reply)
     }
 
@@ -189,10 +185,8 @@ impl Node {
                 self.open(who, peer, event)
             }
             EventKind::Request { call } => {
-                let key = self.hub.association(who).unwrap();
-                let reply = self.reply_to(alloc, key, call)?;
-                self.request(who, key, event, reply.kind())?;
-                Ok(Answer::Reply(reply))
+                let call = sort_of(call);
+                self.request(alloc, who, call, event)
             }
             EventKind::Take => {
                 self.take(who, event)?;
@@ -314,15 +308,108 @@ impl Node {
         Ok(Answer::Noted)
     }
 
-    /// Adds a request to the history, and notes what it changes, which has this reply.
+    /// Takes a request.
     fn request(
+        &mut self,
+        alloc: Global,
+        who: u64,
+        sort: CallSort,
+        event: Event,
+    ) -> Result<Answer, AllocError>
+        requires request { IsRequestOf sort event }
+        requires free { refusal_of self.old.setup (reverse self.old.history) who event ≡ None }
+        ensures answer { IfOk result
+            (IsAnswer self.old.setup (reverse self.old.history) who event) }
+        ensures ok { OnOk result (self.new ≡ with_entry self.old who event) }
+        ensures err { OnErr result (self.new ≡ self.old) }
+    {
+        match sort {
+            CallSort::Read => self.read(alloc, who, event),
+            CallSort::Write => self.write(alloc, who, event),
+            CallSort::Other => self.reply(alloc, who, event),
+        }
+    }
+
+    /// Takes a read of variables, and hands out the transfer sets that it reads as the next.
+    fn read(&mut self, alloc: Global, who: u64, event: Event) -> Result<Answer, AllocError>
+        requires request { IsRequestOf sorts.Read event }
+        requires free { refusal_of self.old.setup (reverse self.old.history) who event ≡ None }
+        ensures answer { IfOk result
+            (IsAnswer self.old.setup (reverse self.old.history) who event) }
+        ensures ok { OnOk result (self.new ≡ with_entry self.old who event) }
+        ensures err { OnErr result (self.new ≡ self.old) }
+    {
+        let key = self.hub.association(who).unwrap();
+        let EventKind::Request { call } = event.kind() else {
+            unreachable!();
+        };
+        let CallKind::Read { names, echo } = call.kind() else {
+            unreachable!();
+        };
+        let shown = peer_view(&self.centre, &self.parts, self.hub.points(), key.peer);
+        let ReadReply { reply, handed } = shown.read_reply(alloc, key.ordinal, names, *echo)?;
+        self.log.reserve(self.hub.open_count())?;
+        self.parts.hand_out(alloc, key, handed.as_slice());
+        self.log.append(who, event);
+        Ok(Answer::Reply(reply))
+    }
+
+    /// Takes a write of variables, and does what it asks of transfer sets.
+    fn write(&mut self, alloc: Global, who: u64, event: Event) -> Result<Answer, AllocError>
+        requires request { IsRequestOf sorts.Write event }
+        requires free { refusal_of self.old.setup (reverse self.old.history) who event ≡ None }
+        ensures answer { IfOk result
+            (IsAnswer self.old.setup (reverse self.old.history) who event) }
+        ensures ok { OnOk result (self.new ≡ with_entry self.old who event) }
+        ensures err { OnErr result (self.new ≡ self.old) }
+    {
+        let key = self.hub.association(who).unwrap();
+        let EventKind::Request { call } = event.kind() else {
+            unreachable!();
+        };
+        let CallKind::Write { names, values } = call.kind() else {
+            unreachable!();
+        };
+        let table = InForce::new(&self.centre, key.peer, self.parts.force(key.peer));
+        let asked = read_writes(alloc, &table, names.as_slice(), values.as_slice())?;
+        let mut results = Vec::new(alloc);
+        results.reserve(asked.len())?;
+        self.log.reserve(self.hub.open_count())?;
+        let now = self.hub.last_tick();
+        self.parts
+            .write(&self.centre, key, now, asked, &mut results);
+        self.log.append(who, event);
+        Ok(Answer::Reply(written(results)))
+    }
+
+    /// Takes a request that neither reads nor writes variables.
+    fn reply(&mut self, alloc: Global, who: u64, event: Event) -> Result<Answer, AllocError>
+        requires request { IsRequestOf sorts.Other event }
+        requires free { refusal_of self.old.setup (reverse self.old.history) who event ≡ None }
+        ensures answer { IfOk result
+            (IsAnswer self.old.setup (reverse self.old.history) who event) }
+        ensures ok { OnOk result (self.new ≡ with_entry self.old who event) }
+        ensures err { OnErr result (self.new ≡ self.old) }
+    {
+        let key = self.hub.association(who).unwrap();
+        let EventKind::Request { call } = event.kind() else {
+            unreachable!();
+        };
+        let reply = self.reply_to(alloc, key, call)?;
+        self.note(who, key, event, reply.kind())?;
+        Ok(Answer::Reply(reply))
+    }
+
+    /// Adds a request that neither reads nor writes variables to the history, and notes what it
+    /// changes, which has this reply.
+    fn note(
         &mut self,
         who: u64,
         key: Key,
         event: Event,
         reply: &ReplyKind,
     ) -> Result<(), AllocError>
-        requires request { IsRequest event }
+        requires request { IsCalmRequest event }
         requires seated { association_in (reverse self.old.history) who ≡ Some key }
         requires replied { IsReplied self.old.setup.centre (reverse self.old.history) key event
             reply.now }
@@ -354,7 +441,7 @@ impl Node {
     {
         let key = self.hub.association(who).unwrap();
         self.hub.unseat(who);
-        self.parts.close(alloc, &self.centre, key.peer);
+        self.parts.close(alloc, &self.centre, key);
         self.log.append(who, event);
     }
 

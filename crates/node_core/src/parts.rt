@@ -1,19 +1,24 @@
 //! What a node keeps of its peers.
-ghost use Rattle.std.specs.Prelude.{◌≡◌, ◌<◌, ℕ, [], ◌∷◌, map, length, Some, slice_get, vec_len};
-ghost use Rattle.std.specs.Prelude.{IfOk, OnOk, OnErr};
+ghost use Rattle.std.specs.Prelude.{◌≡◌, ◌<◌, ◌≤◌, ◌+◌, ◌++◌, ℕ, [], ◌∷◌, map, length, Some};
+ghost use Rattle.std.specs.Prelude.{slice_get, vec_len, vec_capacity, IfOk, OnOk, OnErr};
+ghost use Rattle.std.specs.List.{All};
+ghost use Rattle.bilateral.specs.declared.rows.TheConstants.{SLOT_LIMIT};
 ghost use Rattle.bilateral.specs.Rows.{CentreRows, IsCentre, variants_of};
 ghost use Rattle.tase_views.specs.declared.call.CallKind.{CallKind as AnyCall};
 ghost use Rattle.tase_views.specs.Moves.{acts_of_call, opens, closes, defines};
-ghost use Rattle.tase_views.specs.OwnTables.{OwnTables, own_tables};
+ghost use Rattle.tase_views.specs.OwnTables.{OwnTables, own_tables, table_in};
 ghost use Rattle.tase_views.specs.View.{own, chose};
 ghost use Rattle.node_core.specs.PeerParts.{new_part, part_after, EachAct, IsLawfulAct};
 ghost use Rattle.node_core.specs.PeerParts.{IsReplyTo, IsReplyBy, acts_asked};
-ghost use Rattle.node_core.specs.Stored.{IsPeerThere, MayOpen, IsChanged, IsAsked, IsRequest};
+ghost use Rattle.node_core.specs.Shown.{IsCalm};
+ghost use Rattle.node_core.specs.SlotsKept.{handed_all, AreSlots};
+ghost use Rattle.node_core.specs.SlotWrites.{IsAskedThere, all_answers, all_slots};
+ghost use Rattle.node_core.specs.Stored.{IsPeerThere, MayOpen, IsChanged, IsAsked, IsCalmRequest};
 
 use crate::peer::Peer;
 use crate::sets::is_defined;
+use crate::writes::Asked;
 use bilateral::Centre;
-use data_sets::SetBook;
 use mms_data::{Name, Names};
 use sbo_device::Key;
 use std::alloc::{AllocError, Global};
@@ -34,7 +39,7 @@ impl Parts {
     {
         let mut peers = Vec::new(alloc);
         for peer in 0..centre.peers() {
-            peers.push(Peer::new(alloc, centre.table(peer).sets))?;
+            peers.push(Peer::new(alloc, centre.table(peer).sets)?)?;
         }
         Ok(Parts { peers })
     }
@@ -60,49 +65,49 @@ impl Parts {
         self.peers[peer as usize].variant
     }
 
-    /// The data sets of a peer.
-    pub fn book(&self, peer: u32) -> &SetBook
+    /// The part of a peer.
+    pub fn part(&self, peer: u32) -> &Peer
         requires { peer < vec_len self.now.peers }
-        ensures { (part : Peer) → slice_get self.now.peers.items peer ≡ Some part
-            → result.now ≡ part.book }
+        ensures { slice_get self.now.peers.items peer ≡ Some result.now }
     {
-        &self.peers[peer as usize].book
+        &self.peers[peer as usize]
     }
 
     /// A peer opens an association.
     pub fn open(&mut self, peer: u32)
         requires known { peer < vec_len self.old.peers }
         requires room { MayOpen self.old.peers.items peer }
-        ensures { (tables : OwnTables) (ordinal : ℕ) → IsChanged self.old.peers.items peer
-            (part_after tables (own ordinal opens)) self.new.peers.items }
+        ensures { (tables : OwnTables) (now ordinal : ℕ) → IsChanged self.old.peers.items peer
+            (part_after tables now (own ordinal opens)) self.new.peers.items }
     {
         self.peers[peer as usize].open();
     }
 
     /// An association of a peer is closed.
-    pub fn close(&mut self, alloc: Global, centre: &Centre, peer: u32)
-        requires there { IsPeerThere centre.now self.old.peers.items peer }
-        ensures { (ordinal : ℕ) → IsChanged self.old.peers.items peer
-            (part_after (own_tables centre.now peer) (own ordinal closes)) self.new.peers.items }
+    pub fn close(&mut self, alloc: Global, centre: &Centre, key: Key)
+        requires there { IsPeerThere centre.now self.old.peers.items key.peer }
+        ensures { (now : ℕ) → IsChanged self.old.peers.items key.peer
+            (part_after (own_tables centre.now key.peer) now (own key.ordinal closes))
+            self.new.peers.items }
     {
-        let place = peer as usize;
-        let limit = centre.variant(peer, self.peers[place].chosen_last).sets;
-        self.peers[place].close(alloc, limit);
+        let place = key.peer as usize;
+        let limit = centre.variant(key.peer, self.peers[place].chosen_last).sets;
+        self.peers[place].close(alloc, key.ordinal, limit);
     }
 
     /// The operator chooses a table of a peer.
     pub fn choose(&mut self, alloc: Global, centre: &Centre, peer: u32, variant: u32)
         requires there { IsPeerThere centre.now self.old.peers.items peer }
         requires variant { variant < length (variants_of centre.now peer) }
-        ensures { IsChanged self.old.peers.items peer
-            (part_after (own_tables centre.now peer) (chose variant)) self.new.peers.items }
+        ensures { (now : ℕ) → IsChanged self.old.peers.items peer
+            (part_after (own_tables centre.now peer) now (chose variant)) self.new.peers.items }
     {
         let limit = centre.variant(peer, variant).sets;
         self.peers[peer as usize].choose(alloc, variant, limit);
     }
 
-    /// An association asks something, which has this reply. After want of memory nothing has
-    /// changed.
+    /// An association asks something that neither reads nor writes variables, which has this reply.
+    /// After want of memory nothing has changed.
     pub fn request(
         &mut self,
         centre: &Centre,
@@ -110,9 +115,9 @@ impl Parts {
         event: &Event,
         reply: &ReplyKind,
     ) -> Result<(), AllocError>
-        requires request { IsRequest event.now }
+        requires request { IsCalmRequest event.now }
         requires there { IsPeerThere centre.now self.old.peers.items key.peer }
-        ensures ok { OnOk result (IsAsked centre.now key (acts_asked event.now)
+        ensures ok { (now : ℕ) → OnOk result (IsAsked centre.now now key (acts_asked event.now)
             (λ table book. IsReplyBy table book event.now reply.now)
             self.old.peers.items self.new.peers.items) }
         ensures lawful { OnOk result (EachAct IsLawfulAct (acts_asked event.now)) }
@@ -133,8 +138,9 @@ impl Parts {
         call: &Call,
         reply: &ReplyKind,
     ) -> Result<(), AllocError>
+        requires calm { IsCalm call.now }
         requires there { IsPeerThere centre.now self.old.peers.items key.peer }
-        ensures ok { OnOk result (IsAsked centre.now key (acts_of_call call.now)
+        ensures ok { (now : ℕ) → OnOk result (IsAsked centre.now now key (acts_of_call call.now)
             (λ table book. IsReplyTo table book call.now reply.now)
             self.old.peers.items self.new.peers.items) }
         ensures lawful { OnOk result (EachAct IsLawfulAct (acts_of_call call.now)) }
@@ -147,8 +153,8 @@ impl Parts {
             }
             CallKind::Delete { sets } => {
                 let place = key.peer as usize;
-                let domain = &centre.variant(key.peer, self.peers[place].variant).domain;
-                self.peers[place].delete(domain, sets.as_slice());
+                let table = centre.variant(key.peer, self.peers[place].variant);
+                self.peers[place].delete(&table.domain, table.slots, sets.as_slice());
                 Ok(())
             }
             _ => Ok(()),
@@ -165,7 +171,7 @@ impl Parts {
     ) -> Result<(), AllocError>
         requires known { key.peer < vec_len self.old.peers }
         requires some { 0 < length members.now }
-        ensures ok { OnOk result ((rows : CentreRows) → IsAsked rows key
+        ensures ok { OnOk result ((rows : CentreRows) (now : ℕ) → IsAsked rows now key
             (defines set.now members.now ∷ [])
             (λ table book. IsReplyTo table book (AnyCall.Define set.now members.now) reply.now)
             self.old.peers.items self.new.peers.items) }
@@ -178,5 +184,45 @@ impl Parts {
         }
         self.peers[key.peer as usize].define(name, members)?;
         Ok(())
+    }
+
+    /// Hands transfer sets of a peer out to an association, in order. It takes no memory.
+    pub fn hand_out(&mut self, alloc: Global, key: Key, handed: &[u32])
+        requires known { key.peer < vec_len self.old.peers }
+        requires many { (part : Peer) → slice_get self.old.peers.items key.peer ≡ Some part
+            → length part.slots ≡ SLOT_LIMIT }
+        requires there { AreSlots handed.now }
+        ensures { IsChanged self.old.peers.items key.peer
+            (λ part. record part { slots = handed_all key.ordinal handed.now part.slots })
+            self.new.peers.items }
+    {
+        self.peers[key.peer as usize].hand_out(alloc, key.ordinal, handed);
+    }
+
+    /// Does what writes of an association ask, at this moment, and appends what comes of each. It
+    /// takes no memory.
+    pub fn write(
+        &mut self,
+        centre: &Centre,
+        key: Key,
+        now: u64,
+        asked: Vec<Asked>,
+        results: &mut Vec<Option<u8>>,
+    )
+        requires there { IsPeerThere centre.now self.old.peers.items key.peer }
+        requires asked { All IsAskedThere asked.items }
+        requires room { vec_len results.old + length asked.items ≤ vec_capacity results.old }
+        ensures answers { (part : Peer) → slice_get self.old.peers.items key.peer ≡ Some part
+            → results.new.items ≡ results.old.items
+            ++ all_answers (table_in (own_tables centre.now key.peer) part.variant) part.book
+            key.ordinal now asked.items part.slots }
+        ensures parts { IsChanged self.old.peers.items key.peer (λ part. record part {
+          slots = all_slots (table_in (own_tables centre.now key.peer) part.variant) part.book
+              key.ordinal now asked.items part.slots;
+        }) self.new.peers.items }
+    {
+        let place = key.peer as usize;
+        let domain = &centre.variant(key.peer, self.peers[place].variant).domain;
+        self.peers[place].write(domain, key.ordinal, now, asked, results);
     }
 }

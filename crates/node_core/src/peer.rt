@@ -1,14 +1,24 @@
 //! What a node keeps of one peer.
-ghost use Rattle.std.specs.Prelude.{◌≡◌, ◌+◌, ◌-◌, ◌^◌, ◌<◌, length, OnOk, OnErr};
+ghost use Rattle.std.specs.Prelude.{◌≡◌, ◌+◌, ◌-◌, ◌^◌, ◌<◌, ◌≤◌, ◌++◌, length, map, vec_len};
+ghost use Rattle.std.specs.Prelude.{vec_capacity, IfOk, OnOk, OnErr};
+ghost use Rattle.std.specs.List.{All};
+ghost use Rattle.bilateral.specs.declared.rows.TheConstants.{SLOT_LIMIT as SLOTS};
 ghost use Rattle.data_sets.specs.Books.{defined};
+ghost use Rattle.transfer_sets.specs.Banks.{freed};
+ghost use Rattle.tase_views.specs.OwnTables.{OwnTable};
 ghost use Rattle.node_core.specs.SetsKept.{left_by};
+ghost use Rattle.node_core.specs.SlotsKept.{is_kept, handed_all, AreSlots};
+ghost use Rattle.node_core.specs.SlotWrites.{IsAskedThere, all_answers, all_slots};
 ghost use Rattle.node_core.specs.PeerParts.{new_part, settled_by};
 
 use crate::sets::delete_sets;
+use crate::writes::{Asked, write_all};
 use ber_values::Visible;
+use bilateral::SLOT_LIMIT;
 use data_sets::SetBook;
 use mms_data::{Name, Names};
 use std::alloc::{AllocError, Global};
+use transfer_sets::SlotBank;
 
 /// The part of one peer.
 #[derive(Drop)]
@@ -23,20 +33,23 @@ pub struct Peer {
     pub open_now: u64,
     /// Its data sets, by the table in force.
     pub book: SetBook,
+    /// Its transfer sets, one for each that a table may offer.
+    pub slots: SlotBank,
 }
 
 impl Peer {
     /// A peer of which nothing was seen, whose first table allows so many data sets.
-    pub fn new(alloc: Global, limit: u32) -> Peer
-        ensures { result ≡ new_part limit }
+    pub fn new(alloc: Global, limit: u32) -> Result<Peer, AllocError>
+        ensures { IfOk result (λ peer. peer ≡ new_part limit) }
     {
-        Peer {
+        Ok(Peer {
             variant: 0,
             chosen_last: 0,
             opened_in_all: 0,
             open_now: 0,
             book: SetBook::new(alloc, limit),
-        }
+            slots: SlotBank::new(alloc, SLOT_LIMIT as u32)?,
+        })
     }
 
     /// It opens an association.
@@ -53,11 +66,14 @@ impl Peer {
     }
 
     /// An association of it is closed; the table chosen last allows so many data sets.
-    pub fn close(&mut self, alloc: Global, limit: u32)
-        ensures { self.new
-            ≡ settled_by limit (record self.old { open_now = self.old.open_now - 1 }) }
+    pub fn close(&mut self, alloc: Global, ordinal: u64, limit: u32)
+        ensures { self.new ≡ settled_by limit (record self.old {
+          open_now = self.old.open_now - 1;
+          slots = map (freed ordinal) self.old.slots;
+        }) }
     {
         self.open_now = self.open_now.saturating_sub(1);
+        self.slots.free(alloc, ordinal);
         self.settle(alloc, limit);
     }
 
@@ -94,12 +110,69 @@ impl Peer {
         Ok(())
     }
 
-    /// Deletes the data sets of a domain that are named.
-    pub fn delete(&mut self, domain: &Visible, sets: &[Name])
+    /// Deletes the data sets of a domain that are named, unless one of the first so many transfer
+    /// sets wishes them.
+    pub fn delete(&mut self, domain: &Visible, count: u32, sets: &[Name])
+        requires { count ≤ length self.old.slots }
         ensures { self.new ≡ record self.old {
-          book = left_by domain.now sets.now self.old.book;
+          book = left_by (is_kept domain.now count self.old.slots) domain.now sets.now
+              self.old.book;
         } }
     {
-        delete_sets(domain, &mut self.book, sets);
+        delete_sets(domain, &mut self.book, &self.slots, count, sets);
+    }
+
+    /// Hands transfer sets out to an association, in order. It takes no memory.
+    pub fn hand_out(&mut self, alloc: Global, ordinal: u64, handed: &[u32])
+        requires many { length self.old.slots ≡ SLOTS }
+        requires there { AreSlots handed.now }
+        ensures { self.new ≡ record self.old {
+          slots = handed_all ordinal handed.now self.old.slots;
+        } }
+    {
+        hand_out_all(alloc, &mut self.slots, ordinal, handed);
+    }
+
+    /// Does what writes of an association ask, at this moment, and appends what comes of each. It
+    /// takes no memory.
+    pub fn write(
+        &mut self,
+        domain: &Visible,
+        ordinal: u64,
+        now: u64,
+        asked: Vec<Asked>,
+        results: &mut Vec<Option<u8>>,
+    )
+        requires many { length self.old.slots ≡ SLOTS }
+        requires there { All IsAskedThere asked.items }
+        requires room { vec_len results.old + length asked.items ≤ vec_capacity results.old }
+        ensures answers { (table : OwnTable) → table.domain ≡ domain.now → results.new.items
+            ≡ results.old.items
+            ++ all_answers table self.old.book ordinal now asked.items self.old.slots }
+        ensures slots { (table : OwnTable) → table.domain ≡ domain.now → self.new
+            ≡ record self.old {
+              slots = all_slots table self.old.book ordinal now asked.items self.old.slots;
+            } }
+    {
+        write_all(
+            domain,
+            &self.book,
+            &mut self.slots,
+            ordinal,
+            now,
+            asked,
+            results,
+        );
+    }
+}
+
+/// Hands transfer sets out to an association, in order.
+fn hand_out_all(alloc: Global, slots: &mut SlotBank, ordinal: u64, handed: &[u32])
+    requires many { length slots.old ≡ SLOTS }
+    requires there { AreSlots handed.now }
+    ensures { slots.new ≡ handed_all ordinal handed.now slots.old }
+{
+    for slot in handed {
+        slots.hand_out(alloc, *slot, ordinal);
     }
 }

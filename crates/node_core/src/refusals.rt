@@ -4,9 +4,9 @@ ghost use Rattle.tase_views.specs.Moves.{sort_of};
 ghost use Rattle.tase_views.specs.Outcomes as causes;
 
 use bilateral::Centre;
-use sbo_device::Key;
+use sbo_device::{Key, MOMENT_LIMIT};
 use tase_points::PointValue;
-use tase_views::{CLOCK_LIMIT, Event, EventKind, StepFault, has_slot};
+use tase_views::{Event, EventKind, StepFault, has_slot};
 
 /// The first refusal, if there is one.
 pub fn first_refusal(
@@ -73,7 +73,7 @@ pub fn clock_refusal(last: u64, event: &Event) -> Option<StepFault>
     let EventKind::Tick { now } = event.kind() else {
         return None;
     };
-    if *now >= CLOCK_LIMIT {
+    if *now >= MOMENT_LIMIT {
         Some(StepFault::ClockRange)
     } else if *now <= last {
         Some(StepFault::Backward { last })

@@ -1,24 +1,39 @@
 //! Replies to calls.
-ghost use Rattle.std.specs.Prelude.{◌≡◌, ◌<◌, ℕ, length, map, true, is_some, Some, IfOk};
+ghost use Rattle.std.specs.Prelude.{◌≡◌, ◌<◌, ◌≤◌, ℕ, length, slice_get, true, is_some, Some};
+ghost use Rattle.std.specs.Prelude.{IfOk, OnOk};
 ghost use Rattle.std.specs.List.{All};
+ghost use Rattle.std.specs.Option.{option_map_or};
+ghost use Rattle.mms_data.specs.Datum.{boolean};
+ghost use Rattle.mms_data.specs.Lawful.{IsLawful};
+ghost use Rattle.mms_data.specs.declared.outcome.Outcome.TheVariants.{Good, Fail};
 ghost use Rattle.mms_data.specs.OutcomeOctets.{IsLawfulOutcome};
-ghost use Rattle.bilateral.specs.Rows.{place_of_see};
+ghost use Rattle.bilateral.specs.declared.rows.TheConstants.{SLOT_LIMIT};
+ghost use Rattle.bilateral.specs.Rows.{IsCentre, place_of_see};
+ghost use Rattle.transfer_sets.specs.WishData.{shown_wish};
+ghost use Rattle.transfer_sets.specs.Banks.{slot_at};
 ghost use Rattle.tase_views.specs.declared.call.CallKind.{CallKind as AnyCall};
 ghost use Rattle.tase_views.specs.OwnTables.{OwnTable, OwnTables, own_point};
 ghost use Rattle.tase_views.specs.Objects.{object_named};
 ghost use Rattle.tase_views.specs.Objects as objects;
-ghost use Rattle.tase_views.specs.View.{View, held};
+ghost use Rattle.tase_views.specs.View.{View};
 ghost use Rattle.tase_views.specs.Answers as answers;
 ghost use Rattle.tase_views.specs.Replies.{IsReply};
 ghost use Rattle.node_core.specs.Found.{offered, special_object};
-ghost use Rattle.node_core.specs.Shown.{InEachView, IsShowable, refused_write};
+ghost use Rattle.node_core.specs.SlotsKept.{first_free, handed_by, slots_read, all_read, shown_to};
+ghost use Rattle.node_core.specs.SlotsKept.{object_shown, outcomes_shown, drafted, HasDrafted};
+ghost use Rattle.node_core.specs.SlotsKept.{HandsOut};
+ghost use Rattle.node_core.specs.declared.peer.Peer.{Peer as PeerPart};
+ghost use Rattle.node_core.specs.Shown.{InEachView, IsShowable, shown_of, IsCalm};
+ghost use Rattle.node_core.specs.Stored.{IsPeerThere};
 
+use crate::draft::Draft;
 use crate::in_force::InForce;
 use crate::listing::list_names;
-use crate::naming::{Found, Special, find_object, is_there};
+use crate::naming::{Found, Special, find_object, slot_item};
+use crate::parts::Parts;
 use crate::sets::{define_reply, delete_reply, find_set, members_reply};
 use ber_values::{BitString, Visible};
-use bilateral::See;
+use bilateral::{Centre, See, Table};
 use data_sets::SetBook;
 use mms_data::{DataKind, DataList, MmsData, Name, Names, Outcome, Scope};
 use point_data::to_data;
@@ -27,15 +42,21 @@ use std::alloc::{AllocError, Global};
 use std::marker::Model;
 use tase_views::{
     ACCESS_DENIED, ACCESS_ERRORS, Call, CallKind, NON_EXISTENT, OBJECT_ACCESS_DENIED,
-    OBJECT_ACCESS_UNSUPPORTED, OBJECT_NON_EXISTENT, ReadSpec, Reply, ReplyKind, Results, Values,
-    WriteResults,
+    OBJECT_ACCESS_UNSUPPORTED, OBJECT_NON_EXISTENT, ReadSpec, Reply, ReplyKind, Results,
 };
+use transfer_sets::SlotBank;
 
-/// What a peer is answered from: its table in force, its data sets, and the points.
+/// The reason of an access that an object isn't there just now (ISO 9506-2, `DataAccessError`:
+/// temporarily-unavailable).
+const TEMPORARILY_UNAVAILABLE: u8 = 2;
+
+/// What a peer is answered from: its table in force, its data sets, its transfer sets, and the
+/// points.
 #[derive(Drop)]
 pub struct PeerView<'a> {
     table: InForce<'a>,
     book: &'a SetBook,
+    slots: &'a SlotBank,
     points: &'a PointDb,
 }
 
@@ -44,43 +65,71 @@ impl<'a> Model for PeerView<'a> {
 
     ghost Value = { Shown };
 
-    ghost view = { λ p. record { table = p.table; book = p.book.now; points = p.points.now } };
+    ghost view = { λ p. record {
+      table = p.table;
+      book = p.book.now;
+      slots = p.slots.now;
+      points = p.points.now;
+    } };
 
-    ghost invariant = { λ p. IsShowable
-        (record { table = p.table; book = p.book.now; points = p.points.now }) };
+    ghost invariant = { λ p. IsShowable (record {
+      table = p.table;
+      book = p.book.now;
+      slots = p.slots.now;
+      points = p.points.now;
+    }) };
 }
 
 impl<'a> PeerView<'a> {
-    pub fn new(table: InForce<'a>, book: &'a SetBook, points: &'a PointDb) -> PeerView<'a>
-        requires { IsShowable (record { table = table; book = book.now; points = points.now }) }
-        ensures { result ≡ record { table = table.entry; book = book.now; points = points.now } }
+    pub fn new(
+        table: InForce<'a>,
+        book: &'a SetBook,
+        slots: &'a SlotBank,
+        points: &'a PointDb,
+    ) -> PeerView<'a>
+        requires { IsShowable (record {
+          table = table;
+          book = book.now;
+          slots = slots.now;
+          points = points.now;
+        }) }
+        ensures { result ≡ record {
+          table = table.entry;
+          book = book.now;
+          slots = slots.now;
+          points = points.now;
+        } }
     {
         PeerView {
             table,
             book,
+            slots,
             points,
         }
     }
 
-    /// The reply to a call of an association of the peer.
-    pub fn reply_to(&self, alloc: Global, call: &Call) -> Result<Reply, AllocError>
-        ensures { IfOk result (λ reply. InEachView self.now (λ tables view. (ordinal : ℕ)
-            → reply ≡ answers.reply_to tables view ordinal call.now)) }
+    /// The reply to a call of an association of the peer, but for a read and a write of variables,
+    /// which do something.
+    pub fn reply_to(&self, alloc: Global, ordinal: u64, call: &Call) -> Result<Reply, AllocError>
+        requires { IsCalm call.now }
+        ensures { IfOk result (λ reply. InEachView self.now (λ tables view. reply
+            ≡ answers.reply_to tables view ordinal call.now)) }
     {
-        let kind = self.reply_kind(alloc, call)?;
+        let kind = self.reply_kind(alloc, ordinal, call)?;
         Ok(Reply::new(kind))
     }
 
-    fn reply_kind(&self, alloc: Global, call: &Call) -> Result<ReplyKind, AllocError>
-        ensures value { IfOk result (λ kind. InEachView self.now (λ tables view.
-            (ordinal : ℕ) → kind ≡ answers.reply_to tables view ordinal call.now)) }
+    fn reply_kind(&self, alloc: Global, ordinal: u64, call: &Call) -> Result<ReplyKind, AllocError>
+        requires { IsCalm call.now }
+        ensures value { IfOk result (λ kind. InEachView self.now (λ tables view. kind
+            ≡ answers.reply_to tables view ordinal call.now)) }
         ensures lawful { IfOk result IsReply }
     {
         match call.kind() {
             CallKind::Identify => Ok(ReplyKind::Identified),
-            CallKind::Read { names, echo } => self.read_reply(alloc, names, *echo),
-            CallKind::ReadSet { set, echo } => self.read_set_reply(alloc, set, *echo),
-            CallKind::Write { names, values } => self.write_reply(alloc, names, values),
+            CallKind::Read { .. } => unreachable!(),
+            CallKind::ReadSet { set, echo } => self.read_set_reply(alloc, ordinal, set, *echo),
+            CallKind::Write { .. } => unreachable!(),
             CallKind::NameList {
                 class,
                 scope,
@@ -88,7 +137,7 @@ impl<'a> PeerView<'a> {
             } => self.list_reply(alloc, *class, scope, after),
             CallKind::Define { set, members } => Ok(self.definition_reply(set, members)),
             CallKind::MembersOf { set } => self.set_reply(set),
-            CallKind::Delete { sets } => Ok(self.deletion_reply(sets)),
+            CallKind::Delete { sets } => self.deletion_reply(sets),
             CallKind::WriteSet { .. } | CallKind::DeleteScope { .. } => Ok(ReplyKind::Error {
                 class: ACCESS_ERRORS,
                 code: ACCESS_DENIED,
@@ -135,18 +184,25 @@ impl<'a> PeerView<'a> {
     }
 
     /// The reply to a deletion of data sets.
-    fn deletion_reply(&self, sets: &Names) -> ReplyKind
-        ensures value { InEachView self.now (λ tables view. (ordinal : ℕ)
-            → result ≡ answers.reply_to tables view ordinal (AnyCall.Delete sets.now)) }
-        ensures lawful { IsReply result }
+    fn deletion_reply(&self, sets: &Names) -> Result<ReplyKind, AllocError>
+        ensures value { IfOk result (λ kind. InEachView self.now (λ tables view. (ordinal : ℕ)
+            → kind ≡ answers.reply_to tables view ordinal (AnyCall.Delete sets.now))) }
+        ensures lawful { IfOk result IsReply }
     {
-        delete_reply(&self.table.table().domain, self.book, sets)
+        let table = self.table.table();
+        delete_reply(&table.domain, self.book, self.slots, table.slots, sets)
     }
 
-    /// The reply to a read of a data set: its members are read in order.
-    fn read_set_reply(&self, alloc: Global, set: &Name, echo: bool) -> Result<ReplyKind, AllocError>
-        ensures value { IfOk result (λ kind. InEachView self.now (λ tables view. (ordinal : ℕ)
-            → kind ≡ answers.reply_to tables view ordinal (AnyCall.ReadSet set.now echo))) }
+    /// The reply to a read of a data set by an association: its members are read in order.
+    fn read_set_reply(
+        &self,
+        alloc: Global,
+        ordinal: u64,
+        set: &Name,
+        echo: bool,
+    ) -> Result<ReplyKind, AllocError>
+        ensures value { IfOk result (λ kind. InEachView self.now (λ tables view. kind
+            ≡ answers.reply_to tables view ordinal (AnyCall.ReadSet set.now echo))) }
         ensures lawful { IfOk result IsReply }
     {
         let Some(members) = find_set(&self.table.table().domain, self.book, set) else {
@@ -156,60 +212,75 @@ impl<'a> PeerView<'a> {
             });
         };
         let spec = repeated_set(set, echo)?;
-        let results = self.read(alloc, members)?;
+        let mut draft = Draft::new(alloc, self.slots, ordinal);
+        let results = self.read(alloc, &mut draft, members)?;
         Ok(ReplyKind::Results { spec, results })
     }
 
-    fn read_reply(&self, alloc: Global, names: &Names, echo: bool) -> Result<ReplyKind, AllocError>
-        requires some { 0 < length names.now }
-        ensures value { IfOk result (λ kind. InEachView self.now (λ tables view. (ordinal : ℕ)
-            → kind ≡ answers.reply_to tables view ordinal (AnyCall.Read names.now echo))) }
-        ensures lawful { IfOk result IsReply }
-    {
-        let spec = repeated(names, echo)?;
-        let results = self.read(alloc, names)?;
-        Ok(ReplyKind::Results { spec, results })
-    }
-
-    fn write_reply(
+    /// The reply to a read of variables by an association, and the transfer sets that it hands out.
+    pub fn read_reply(
         &self,
         alloc: Global,
+        ordinal: u64,
         names: &Names,
-        values: &Values,
-    ) -> Result<ReplyKind, AllocError>
-        requires same { length values.now ≡ length names.now }
-        ensures value { IfOk result (λ kind. InEachView self.now (λ tables view. (ordinal : ℕ)
-            → kind ≡ answers.reply_to tables view ordinal
-            (AnyCall.Write names.now values.now))) }
-        ensures lawful { IfOk result IsReply }
+        echo: bool,
+    ) -> Result<ReadReply, AllocError>
+        requires some { 0 < length names.now }
+        ensures value { IfOk result (λ done. InEachView self.now (λ tables view. done.reply
+            ≡ answers.reply_to tables view ordinal (AnyCall.Read names.now echo))) }
+        ensures handed { IfOk result (λ done. HandsOut (offered self.now.table) ordinal names.now
+            self.now.slots done.handed.items) }
     {
-        let results = self.write(alloc, names)?;
-        Ok(ReplyKind::Written(results))
+        let _lawful = self.table.table();
+        let spec = repeated(names, echo)?;
+        let mut draft = Draft::new(alloc, self.slots, ordinal);
+        let results = self.read(alloc, &mut draft, names)?;
+        Ok(ReadReply {
+            reply: Reply::new(ReplyKind::Results { spec, results }),
+            handed: draft.into_handed(),
+        })
     }
 
     /// Reads the named variables, in order.
-    fn read(&self, alloc: Global, names: &Names) -> Result<Results, AllocError>
-        ensures value { IfOk result (λ results. InEachView self.now (λ tables view. (ordinal : ℕ)
-            → results ≡ answers.read_outcomes tables view ordinal names.now)) }
+    fn read(
+        &self,
+        alloc: Global,
+        draft: &mut Draft<'_>,
+        names: &Names,
+    ) -> Result<Results, AllocError>
+        ensures value { IfOk result (λ results. InEachView self.now (λ tables view. results
+            ≡ outcomes_shown tables (offered self.now.table) view draft.old.ordinal names.now
+            (drafted draft.old))) }
+        ensures draft { OnOk result (HasDrafted draft.old draft.new
+            (all_read (offered self.now.table) draft.old.ordinal names.now (drafted draft.old))) }
         ensures lawful { IfOk result (All IsLawfulOutcome) }
     {
         let mut results = Results::new(alloc);
         for name in names.as_slice() {
-            results.push(self.read_one(alloc, name)?)?;
+            results.push(self.read_one(alloc, draft, name)?)?;
         }
         Ok(results)
     }
 
-    fn read_one(&self, alloc: Global, name: &Name) -> Result<Outcome, AllocError>
-        ensures value { IfOk result (λ outcome. InEachView self.now (λ tables view. (ordinal : ℕ)
-            → outcome ≡ answers.object_read tables view ordinal
-            (object_named (held tables view) name.now))) }
+    fn read_one(
+        &self,
+        alloc: Global,
+        draft: &mut Draft<'_>,
+        name: &Name,
+    ) -> Result<Outcome, AllocError>
+        ensures value { IfOk result (λ outcome. InEachView self.now (λ tables view. outcome
+            ≡ object_shown tables (offered self.now.table) view draft.old.ordinal
+            (drafted draft.old) (object_named (offered self.now.table) name.now))) }
+        ensures draft { OnOk result (HasDrafted draft.old draft.new
+            (slots_read (offered self.now.table) draft.old.ordinal name.now (drafted draft.old))) }
         ensures lawful { IfOk result IsLawfulOutcome }
     {
+        let table = self.table.table();
         match find_object(&self.table, name) {
-            Some(Found::Special(special)) => {
-                read_special(alloc, &self.table.table().id, special)
-            }
+            Some(Found::Special(special)) => read_special(alloc, &table.id, special),
+            Some(Found::NextSlot) => read_next(alloc, table, draft),
+            Some(Found::Slot(slot)) => read_slot(alloc, draft, slot),
+            Some(Found::SlotStatus(slot)) => Ok(read_status(draft, slot)),
             Some(Found::Point(see)) => self.read_point(alloc, see),
             None => Ok(Outcome::Fail(OBJECT_NON_EXISTENT)),
         }
@@ -228,30 +299,32 @@ impl<'a> PeerView<'a> {
         let shown = to_data(alloc, value, count, &see.layout)?;
         Ok(Outcome::Good(shown))
     }
+}
 
-    /// What a write of the named variables gives, in order.
-    fn write(&self, alloc: Global, names: &Names) -> Result<WriteResults, AllocError>
-        ensures { IfOk result (λ results. results
-            ≡ map (λ name. refused_write (object_named (offered self.now.table) name))
-            names.now) }
-    {
-        let mut results = WriteResults::new(alloc);
-        for name in names.as_slice() {
-            results.push(Some(self.write_one(name)))?;
-        }
-        Ok(results)
-    }
+/// The reply to a read, and the transfer sets that it hands out, in order.
+#[derive(Drop)]
+pub struct ReadReply {
+    pub reply: Reply,
+    pub handed: Vec<u32>,
+}
 
-    /// Why a variable isn't written.
-    fn write_one(&self, name: &Name) -> u8
-        ensures { Some result ≡ refused_write (object_named (offered self.now.table) name.now) }
-    {
-        if is_there(&self.table, name) {
-            OBJECT_ACCESS_DENIED
-        } else {
-            OBJECT_NON_EXISTENT
-        }
-    }
+/// What a peer is answered from, by what is kept of it.
+pub fn peer_view<'a>(
+    centre: &'a Centre,
+    parts: &'a Parts,
+    points: &'a PointDb,
+    peer: u32,
+) -> PeerView<'a>
+    requires lawful { IsCentre centre.now }
+    requires there { IsPeerThere centre.now parts.now.peers.items peer }
+    requires shown { (part : PeerPart) → slice_get parts.now.peers.items peer ≡ Some part
+        → IsShowable (shown_of centre.now peer part points.now) }
+    ensures { (part : PeerPart) → slice_get parts.now.peers.items peer ≡ Some part
+        → result ≡ shown_of centre.now peer part points.now }
+{
+    let part = parts.part(peer);
+    let table = InForce::new(centre, peer, part.variant);
+    PeerView::new(table, &part.book, &part.slots, points)
 }
 
 /// What an object of the protocol itself gives a read, for a peer whose table has this identifier.
@@ -269,6 +342,67 @@ fn read_special(alloc: Global, id: &Visible, special: Special) -> Result<Outcome
             Ok(Outcome::Fail(OBJECT_ACCESS_UNSUPPORTED))
         }
     }
+}
+
+/// Hands the first transfer set that nobody owns out to the association, whose name it reads; if
+/// there is one.
+fn read_next(alloc: Global, table: &Table, draft: &mut Draft<'_>) -> Result<Outcome, AllocError>
+    requires few { table.now.slots ≤ SLOT_LIMIT }
+    ensures value { (own : OwnTable) → own.domain ≡ table.now.domain → own.slots ≡ table.now.slots
+        → IfOk result (λ outcome. outcome ≡ option_map_or (λ s. Good (answers.slot_name own s))
+        (first_free own.slots (drafted draft.old)) (Fail answers.temporarily_unavailable)) }
+    ensures draft { OnOk result (HasDrafted draft.old draft.new (handed_by draft.old.ordinal
+        (first_free table.now.slots (drafted draft.old)) (drafted draft.old))) }
+    ensures lawful { IfOk result IsLawfulOutcome }
+{
+    let Some(slot) = draft.first_free(table.slots) else {
+        return Ok(Outcome::Fail(TEMPORARILY_UNAVAILABLE));
+    };
+    let name = slot_name(alloc, &table.domain, slot)?;
+    draft.hand_out(slot)?;
+    Ok(Outcome::Good(name))
+}
+
+/// What is wished of a transfer set, as its owner reads it.
+fn read_slot(alloc: Global, draft: &Draft<'_>, slot: u32) -> Result<Outcome, AllocError>
+    requires { slot < SLOT_LIMIT }
+    ensures value { IfOk result (λ outcome. outcome ≡ shown_to draft.now.ordinal
+        (slot_at (drafted draft.now) slot)
+        (shown_wish (slot_at (drafted draft.now) slot).state.wish)) }
+    ensures lawful { IfOk result IsLawfulOutcome }
+{
+    if !draft.owns(slot) {
+        return Ok(Outcome::Fail(OBJECT_ACCESS_DENIED));
+    }
+    Ok(Outcome::Good(draft.wish(alloc, slot)?))
+}
+
+/// Whether a transfer set is enabled, as its owner reads it.
+fn read_status(draft: &Draft<'_>, slot: u32) -> Outcome
+    requires { slot < SLOT_LIMIT }
+    ensures value { result ≡ shown_to draft.now.ordinal (slot_at (drafted draft.now) slot)
+        (boolean (slot_at (drafted draft.now) slot).state.wish.status) }
+    ensures lawful { IsLawfulOutcome result }
+{
+    if !draft.owns(slot) {
+        return Outcome::Fail(OBJECT_ACCESS_DENIED);
+    }
+    Outcome::Good(MmsData::new(DataKind::Boolean(draft.status(slot))))
+}
+
+/// The name of a transfer set of a domain as data: scope, domain, item.
+fn slot_name(alloc: Global, domain: &Visible, slot: u32) -> Result<MmsData, AllocError>
+    requires { slot < SLOT_LIMIT }
+    ensures value { (own : OwnTable) → own.domain ≡ domain.now
+        → IfOk result (λ name. name ≡ answers.slot_name own slot) }
+    ensures lawful { IfOk result (λ name. IsLawful name) }
+{
+    let mut parts = DataList::new(alloc);
+    parts.push(MmsData::new(DataKind::Integer(1)))?;
+    parts.push(MmsData::new(DataKind::Text(domain.clone()?)))?;
+    let item = Vec::from_slice(alloc, slot_item(slot))?;
+    parts.push(MmsData::new(DataKind::Text(Visible::new(item))))?;
+    Ok(MmsData::new(DataKind::Structure(parts)))
 }
 
 /// The protocol's version: 2000, 8.

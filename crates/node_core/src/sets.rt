@@ -1,13 +1,13 @@
 //! The data sets of a peer: replies about them.
-ghost use Rattle.std.specs.Prelude.{◌≡◌, ◌<◌, ◌^◌, ◌&&◌, ◌||◌, ◌↔◌, ℕ, IsTrue, IfSome};
-ghost use Rattle.std.specs.Prelude.{if◌then◌else◌, length, is_some, nat_le, nat_lt};
-ghost use Rattle.std.specs.Prelude.{IfOk};
+ghost use Rattle.std.specs.Prelude.{◌≡◌, ◌<◌, ◌≤◌, ◌^◌, ◌&&◌, ◌||◌, ◌↔◌, not, ℕ, IsTrue, IfSome};
+ghost use Rattle.std.specs.Prelude.{length, is_some, nat_le, nat_lt, bytes_eq};
+ghost use Rattle.std.specs.Prelude.{IfOk, IsOk};
 ghost use Rattle.std.specs.List.{list_all};
 ghost use Rattle.std.specs.Option.{option_copied};
 ghost use Rattle.mms_data.specs.declared.object_name.Scope.TheVariants.{Domain as InDomain};
 ghost use Rattle.mms_data.specs.ObjectName.{same_scope};
 ghost use Rattle.table_words.specs.Words as identifiers;
-ghost use Rattle.data_sets.specs.Books.{members_in, deleted};
+ghost use Rattle.data_sets.specs.Books.{members_in};
 ghost use Rattle.tase_views.specs.OwnTables.{OwnTables};
 ghost use Rattle.tase_views.specs.Objects as objects;
 ghost use Rattle.tase_views.specs.View.{View, held};
@@ -16,7 +16,9 @@ ghost use Rattle.tase_views.specs.Slots.{sets_in, members_of};
 ghost use Rattle.tase_views.specs.Answers as answers;
 ghost use Rattle.tase_views.specs.Replies.{IsReply};
 ghost use Rattle.node_core.specs.Found.{offered};
-ghost use Rattle.node_core.specs.SetsKept.{IsBook, is_named_in, is_in_book, left_by};
+ghost use Rattle.node_core.specs.SetsKept.{IsBook, is_named_in, is_in_book, left_behind, left_by};
+ghost use Rattle.node_core.specs.SlotsKept.{IsBank};
+ghost use Rattle.node_core.specs.SlotsKept as banks;
 
 use crate::in_force::InForce;
 use crate::naming::is_member;
@@ -29,6 +31,7 @@ use tase_views::{
     ACCESS_DENIED, ACCESS_ERRORS, DEFINITION_ERRORS, EXISTS, NON_EXISTENT, OTHER, RESOURCE_ERRORS,
     ReplyKind, UNDEFINED,
 };
+use transfer_sets::{SlotBank, Wish};
 
 /// The reply to the definition of a data set (ISO 9506-2, `DefineNamedVariableList`).
 pub fn define_reply(table: &InForce<'_>, book: &SetBook, set: &Name, members: &Names) -> ReplyKind
@@ -136,45 +139,87 @@ pub fn members_reply(domain: &Visible, book: &SetBook, set: &Name) -> Result<Rep
     }
 }
 
-/// The reply to a deletion (ISO 9506-2, `DeleteNamedVariableList`): each name counts that is of a
-/// data set which is there behind the deletions by the names before it.
-pub fn delete_reply(domain: &Visible, book: &SetBook, names: &Names) -> ReplyKind
-    requires few { length book.now.sets < 2 ^ 32 }
+/// The reply to a deletion (ISO 9506-2, `DeleteNamedVariableList`). A name is matched if it is that
+/// of a data set which is there behind the deletions by the names before it, and this one is deleted
+/// unless an enabled one of the first so many transfer sets wishes it. There is no memory for more
+/// names than a reply can count.
+pub fn delete_reply(
+    domain: &Visible,
+    book: &SetBook,
+    slots: &SlotBank,
+    count: u32,
+    names: &Names,
+) -> Result<ReplyKind, AllocError>
+    requires { count ≤ length slots.now }
     ensures value { (tables : OwnTables) (view : View) (ordinal : ℕ)
-        → (held tables view).domain ≡ domain.now → (held tables view).slots ≡ 0
-        → IsBook tables view book.now → result
-        ≡ answers.delete_replied (answers.deletion_of tables view ordinal names.now) }
-    ensures lawful { IsReply result }
+        → (held tables view).domain ≡ domain.now → (held tables view).slots ≡ count
+        → IsBook tables view book.now → IsBank tables view slots.now → IfOk result (λ kind. kind
+        ≡ answers.delete_replied (answers.deletion_of tables view ordinal names.now)) }
+    ensures counted { length names.now < 2 ^ 32 → IsOk result }
+    ensures lawful { IfOk result IsReply }
 {
     let names = names.as_slice();
-    let mut count = 0u32;
+    if names.len() > u32::MAX as usize {
+        return Err(AllocError);
+    }
+    let mut matched = 0u32;
+    let mut deleted = 0u32;
     for place in 0..names.len() {
-        if is_left(domain, book, &names[place], &names[..place]) {
-            count += 1;
+        let name = &names[place];
+        if is_left(domain, book, slots, count, name, &names[..place]) {
+            matched += 1;
+            if !is_kept(domain, slots, count, name.item()) {
+                deleted += 1;
+            }
         }
     }
-    ReplyKind::Deleted {
-        matched: count,
-        deleted: count,
-    }
+    Ok(ReplyKind::Deleted { matched, deleted })
 }
 
 /// Whether a name is that of a data set which is there behind deletions by the names before it.
-fn is_left(domain: &Visible, book: &SetBook, name: &Name, before: &[Name]) -> bool
-    ensures { result ≡ is_in_book domain.now (left_by domain.now before.now book.now) name.now }
+fn is_left(
+    domain: &Visible,
+    book: &SetBook,
+    slots: &SlotBank,
+    count: u32,
+    name: &Name,
+    before: &[Name],
+) -> bool
+    requires { count ≤ length slots.now }
+    ensures { result ≡ is_in_book domain.now
+        (left_by (banks.is_kept domain.now count slots.now) domain.now before.now book.now)
+        name.now }
 {
-    is_in_domain(domain, name) && is_set_left(domain, book, name.item(), before)
+    is_in_domain(domain, name) && is_set_left(domain, book, slots, count, name.item(), before)
 }
 
 /// Whether a data set has this name behind deletions by these names.
-fn is_set_left(domain: &Visible, book: &SetBook, set: &Visible, names: &[Name]) -> bool
-    ensures { result ≡ is_some
-        (members_in (left_by domain.now names.now book.now).sets set.now) }
+fn is_set_left(
+    domain: &Visible,
+    book: &SetBook,
+    slots: &SlotBank,
+    count: u32,
+    set: &Visible,
+    names: &[Name],
+) -> bool
+    requires { count ≤ length slots.now }
+    ensures { result ≡ is_some (members_in
+        (left_by (banks.is_kept domain.now count slots.now) domain.now names.now book.now).sets
+        set.now) }
 {
-    if is_among(domain, set, names) {
+    if is_gone(domain, slots, count, set, names) {
         return false;
     }
     has_set(book, set)
+}
+
+/// Whether deletions by these names take the data set with this name away.
+fn is_gone(domain: &Visible, slots: &SlotBank, count: u32, set: &Visible, names: &[Name]) -> bool
+    requires { count ≤ length slots.now }
+    ensures { result ≡ is_named_in domain.now names.now set.now
+        && not (banks.is_kept domain.now count slots.now set.now) }
+{
+    is_among(domain, set, names) && !is_kept(domain, slots, count, set)
 }
 
 /// Whether the data set with this name is among those that are named.
@@ -186,20 +231,60 @@ fn is_among(domain: &Visible, set: &Visible, names: &[Name]) -> bool
         .any(|name| is_in_domain(domain, name) && name.item() == set)
 }
 
-/// Deletes the data sets of a domain that are named.
-pub fn delete_sets(domain: &Visible, book: &mut SetBook, names: &[Name])
-    ensures { book.new ≡ left_by domain.now names.now book.old }
+/// Whether an enabled one of the first so many transfer sets wishes this data set of a domain.
+fn is_kept(domain: &Visible, slots: &SlotBank, count: u32, set: &Visible) -> bool
+    requires { count ≤ length slots.now }
+    ensures { result ≡ banks.is_kept domain.now count slots.now set.now }
+{
+    for slot in 0..count {
+        if is_wish_for(slots.wish(slot), domain, set) {
+            return true;
+        }
+    }
+    false
+}
+
+/// Whether an enabled transfer set with this wish sends this data set of a domain.
+fn is_wish_for(wish: &Wish, domain: &Visible, set: &Visible) -> bool
+    ensures { result ≡ wish.now.status && bytes_eq wish.now.set_domain domain.now
+        && bytes_eq wish.now.set_name set.now }
+{
+    wish.status && wish.set_domain == *domain && wish.set_name == *set
+}
+
+/// Deletes the data sets of a domain that are named, but for those that an enabled one of the first
+/// so many transfer sets wishes.
+pub fn delete_sets(
+    domain: &Visible,
+    book: &mut SetBook,
+    slots: &SlotBank,
+    count: u32,
+    names: &[Name],
+)
+    requires { count ≤ length slots.now }
+    ensures { book.new
+        ≡ left_by (banks.is_kept domain.now count slots.now) domain.now names.now book.old }
 {
     for name in names {
-        delete_set(domain, book, name);
+        delete_set(domain, book, slots, count, name);
     }
 }
 
-fn delete_set(domain: &Visible, book: &mut SetBook, name: &Name)
-    ensures { book.new ≡ (if same_scope name.now.scope (InDomain domain.now)
-        then deleted book.old name.now.item else book.old) }
+fn delete_set(domain: &Visible, book: &mut SetBook, slots: &SlotBank, count: u32, name: &Name)
+    requires { count ≤ length slots.now }
+    ensures { book.new ≡ left_behind (banks.is_kept domain.now count slots.now) domain.now
+        book.old name.now }
 {
-    if is_in_domain(domain, name) {
+    if is_to_delete(domain, slots, count, name) {
         book.delete(name.item());
     }
+}
+
+/// Whether a deletion by this name takes the data set with it away.
+fn is_to_delete(domain: &Visible, slots: &SlotBank, count: u32, name: &Name) -> bool
+    requires { count ≤ length slots.now }
+    ensures { result ≡ same_scope name.now.scope (InDomain domain.now)
+        && not (banks.is_kept domain.now count slots.now name.now.item) }
+{
+    is_in_domain(domain, name) && !is_kept(domain, slots, count, name.item())
 }

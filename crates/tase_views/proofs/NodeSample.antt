@@ -21,7 +21,8 @@ use Rattle.tase_views.specs.Moves.{Act, reads, writes, defines, Move, acts, upda
 use Rattle.tase_views.specs.OwnTables.{OwnTables, whole_tables}
 use Rattle.tase_views.specs.View.{View, view_by}
 use Rattle.tase_views.specs.Answers.{reply_to}
-use Rattle.tase_views.specs.Reports.{MadeReport, reports_pending}
+use Rattle.tase_views.specs.Reports.{reports_pending}
+use Rattle.tase_views.specs.declared.reply.ReportKind.{ReportKind}
 
 abbrev pub table_a : Table
 table_a =
@@ -113,10 +114,10 @@ told_a moves call = reply_to (tables_of 0) (seen_of 0 moves) 0 call
 abbrev pub told_b : List Move → CallKind → ReplyKind
 told_b moves call = reply_to (tables_of 1) (seen_of 1 moves) 0 call
 
-abbrev pub taken_a : List Move → List MadeReport
+abbrev pub taken_a : List Move → List ReportKind
 taken_a moves = reports_pending (tables_of 0) (seen_of 0 moves) 0
 
-abbrev pub taken_b : List Move → List MadeReport
+abbrev pub taken_b : List Move → List ReportKind
 taken_b moves = reports_pending (tables_of 1) (seen_of 1 moves) 0
 
 abbrev pub read_one : ObjectName → CallKind

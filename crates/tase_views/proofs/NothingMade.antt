@@ -1,26 +1,24 @@
 -- By tables without devices and transfer sets no report is made.
-use Rattle.std.proofs.Common.{◌≡◌, ℕ, ◌<◌, ◌==◌, nat_eq, Bool, true, false, ◌&&◌}
+use Rattle.std.proofs.Common.{◌≡◌, ℕ, ◌==◌, nat_eq, Bool, true, false, ◌&&◌}
 use Rattle.std.proofs.Common.{if◌then◌else◌, List, [], ◌∷◌, ◌++◌, length, Option, Some, None}
 use Rattle.std.proofs.Common.{Result, Ok, Err, refl, sym, ap, subst, ◌∙◌, ⊎_elim}
-use Rattle.std.specs.Prelude.{All, find, filter_map, flat_map, is_none, slice_index_or, map}
+use Rattle.std.specs.Prelude.{All, find, filter_map, flat_map, is_none, slice_index_or}
 use Rattle.std.specs.List.{range_with_len}
 use Rattle.std.specs.Option.{option_eq}
 use Rattle.std.proofs.lemmas.Bool.{cases_lt}
-use Rattle.std.proofs.lemmas.List.{get_or_past, get_or-map, length-map}
-use Rattle.bilateral.specs.declared.rows.Table.{Table}
-use Rattle.bilateral.specs.Rows.{CentreRows, variants_of, no_table}
+use Rattle.std.proofs.lemmas.List.{get_or_past}
 use Rattle.transfer_sets.specs.declared.wish.Wish.{Wish}
 use Rattle.transfer_sets.specs.SlotMoves.{SlotMove, owner_in, handed_out, PointChange, changes}
 use Rattle.transfer_sets.specs.SlotMoves.{reports}
 use Rattle.tase_views.specs.Moves.{opens, takes, closes, reads, writes, defines, deletes, calls}
 use Rattle.tase_views.specs.OwnTables.{OwnDevice, OwnTable, OwnTables, no_own_table}
-use Rattle.tase_views.specs.OwnTables.{own_table, own_tables}
 use Rattle.tase_views.specs.View.{Seen, own, other_acted, other_closed, updated, tagged, asked}
 use Rattle.tase_views.specs.View.{chose}
 use Rattle.tase_views.specs.View.{ticked, stopped, View, force, held}
 use Rattle.tase_views.specs.Slots.{owns, with_wish, lowest_free}
 use Rattle.tase_views.specs.Slots.{slot_moves, Slots}
-use Rattle.tase_views.specs.Reports.{MadeReport, timeout_report, own_reports, reports_by}
+use Rattle.tase_views.specs.Reports.{timeout_report, own_reports, reports_by}
+use Rattle.tase_views.specs.declared.reply.ReportKind.{ReportKind}
 use Rattle.tase_views.specs.Reports.{due_conditions}
 use Rattle.tase_views.specs.Reports.{reports_pending}
 
@@ -109,7 +107,7 @@ unowned : (tables : OwnTables) → All OffersNothing tables.tables → (view : V
 unowned tables none view ordinal s =
     ap (λ (o : Option ℕ). option_eq nat_eq o (Some ordinal)) (no_owner tables none view s)
 
-no_reports : (b : Bool) (made : List MadeReport) → b ≡ false → (if b then made else []) ≡ []
+no_reports : (b : Bool) (made : List ReportKind) → b ≡ false → (if b then made else []) ≡ []
 no_reports b made e = rw e refl
 
 -- no move makes one
@@ -140,7 +138,7 @@ one_more : (tables : OwnTables) → All OffersNothing tables.tables → (view : 
 one_more tables none view ordinal move before =
     rw (before, made_by tables none view ordinal move) refl
 
-taken : (b : Bool) (made : List MadeReport) → made ≡ [] → (if b then [] else made) ≡ []
+taken : (b : Bool) (made : List ReportKind) → made ≡ [] → (if b then [] else made) ≡ []
 taken true made e = refl
 taken false made e = e
 
@@ -189,15 +187,3 @@ nothing_pending tables (ticked now ∷ view) ordinal none =
     one_more tables none view ordinal (ticked now) (nothing_pending tables view ordinal none)
 nothing_pending tables (stopped ∷ view) ordinal none =
     one_more tables none view ordinal stopped (nothing_pending tables view ordinal none)
-
--- the node offers neither as yet
-own-offers : (rows : CentreRows) (tables : List Table)
-    → All OffersNothing (map (own_table rows) tables)
-own-offers rows tables k other within =
-    subst OffersNothing (sym (get_or-map (own_table rows) tables k no_table other
-    (subst (λ n. k < n) (length-map tables (own_table rows)) within))) (refl, refl)
-
-pub none_offered : (rows : CentreRows) (peer : ℕ) (view : View) (ordinal : ℕ)
-    → reports_pending (own_tables rows peer) view ordinal ≡ []
-none_offered rows peer view ordinal =
-    nothing_pending (own_tables rows peer) view ordinal (own-offers rows (variants_of rows peer))

@@ -46,7 +46,7 @@ table_a =
       sees = record { point = 1; vmd = false; layout = Value ∷ Cov ∷ [] }
           ∷ record { point = 0; vmd = false; layout = Value ∷ [] } ∷ [];
       controls = [];
-      slots = 8;
+      slots = 1;
       sets = 64;
       pending = 1048576;
     }
@@ -108,13 +108,16 @@ no_names_of_an_association = refl
 names-are :
     asked (names 0 (codes "DOMA") None)
     ≡ Reply (NamesAre (codes "BUS1" ∷ codes "Bilateral_Table_ID" ∷ codes "DSConditions_Detected"
-    ∷ codes "Event_Code_Detected" ∷ codes "LOAD1" ∷ codes "Transfer_Set_Name"
-    ∷ codes "Transfer_Set_Time_Stamp" ∷ []) false)
+    ∷ codes "DSTrans1" ∷ codes "DSTrans1$Status" ∷ codes "Event_Code_Detected" ∷ codes "LOAD1"
+    ∷ codes "Next_DSTransfer_Set" ∷ codes "Transfer_Set_Name" ∷ codes "Transfer_Set_Time_Stamp"
+    ∷ []) false)
+unfolding digits
 names-are = refl
 
 names_after-are : asked (names 0 (codes "DOMA") (Some (codes "Event_Code_Detected")))
-    ≡ Reply (NamesAre (codes "LOAD1" ∷ codes "Transfer_Set_Name" ∷ codes "Transfer_Set_Time_Stamp"
-    ∷ []) false)
+    ≡ Reply (NamesAre (codes "LOAD1" ∷ codes "Next_DSTransfer_Set" ∷ codes "Transfer_Set_Name"
+    ∷ codes "Transfer_Set_Time_Stamp" ∷ []) false)
+unfolding digits
 names_after-are = refl
 
 names_of_the_device-are : asked (NameList (pos 0) Vmd None)

@@ -11,7 +11,7 @@ use Rattle.tase_views.specs.declared.reply.ReplyKind.TheVariants.{Results, Writt
 use Rattle.tase_views.specs.Moves.{opens, closes, reads, writes, Move, ticks, takes_orders}
 use Rattle.tase_views.specs.OwnTables.{whole_tables}
 use Rattle.tase_views.specs.View.{own, other_acted, other_closed}
-use Rattle.tase_views.specs.Reports.{of_variables}
+use Rattle.tase_views.specs.declared.reply.ReportKind.TheVariants.{Variables}
 use Rattle.tase_views.specs.Orders.{orders_left}
 use Rattle.tase_views.proofs.NodeSample.{rows, seen_of, by_a, by_b, in_a, in_b, told_a, told_b}
 use Rattle.tase_views.proofs.NodeSample.{taken_a}
@@ -103,7 +103,7 @@ at_the_end = refl
 
 time_out_is_reported :
     taken_a run_out
-    ≡ (of_variables (in_a (codes "BRK1_TIMEOUT") ∷ []) (Good (integer (pos 77)) ∷ []) ∷ [])
+    ≡ (Variables (in_a (codes "BRK1_TIMEOUT") ∷ []) (Good (integer (pos 77)) ∷ []) ∷ [])
 unfolding digits
 time_out_is_reported = refl
 

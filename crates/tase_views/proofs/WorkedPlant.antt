@@ -16,7 +16,9 @@ use Rattle.tase_views.specs.Moves.{opens, closes, reads, writes, Move, ticks}
 use Rattle.tase_views.specs.OwnTables.{whole_tables}
 use Rattle.tase_views.specs.View.{View, view_by, own, other_acted}
 use Rattle.tase_views.specs.Answers.{reply_to}
-use Rattle.tase_views.specs.Reports.{MadeReport, of_variables, reports_pending}
+use Rattle.tase_views.specs.Reports.{reports_pending}
+use Rattle.tase_views.specs.declared.reply.ReportKind.{ReportKind}
+use Rattle.tase_views.specs.declared.reply.ReportKind.TheVariants.{Variables}
 use Rattle.tase_views.proofs.NodeSample.{by_a, by_b, in_a, in_b, read_one, write_one}
 
 abbrev table_a : Table
@@ -88,7 +90,7 @@ told_a moves call = reply_to (whole_tables rows 0) (seen_of 0 moves) 0 call
 abbrev told_b : List Move → CallKind → ReplyKind
 told_b moves call = reply_to (whole_tables rows 1) (seen_of 1 moves) 0 call
 
-abbrev taken_a : List Move → List MadeReport
+abbrev taken_a : List Move → List ReportKind
 taken_a moves = reports_pending (whole_tables rows 0) (seen_of 0 moves) 0
 
 abbrev both_open : List Move
@@ -106,8 +108,8 @@ tap_is_held = refl
 -- both selections end at one tick, and are told in the order of the table
 both_run_out :
     taken_a (ticks 70000 ∷ ticks 69999 ∷ both_held)
-    ≡ (of_variables (in_a (codes "TAP1_TIMEOUT") ∷ []) (Good (integer (pos 5)) ∷ [])
-    ∷ of_variables (in_a (codes "BRK1_TIMEOUT") ∷ []) (Good (integer (pos 77)) ∷ []) ∷ [])
+    ≡ (Variables (in_a (codes "TAP1_TIMEOUT") ∷ []) (Good (integer (pos 5)) ∷ [])
+    ∷ Variables (in_a (codes "BRK1_TIMEOUT") ∷ []) (Good (integer (pos 77)) ∷ []) ∷ [])
 unfolding digits
 both_run_out = refl
 

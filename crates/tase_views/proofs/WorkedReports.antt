@@ -18,7 +18,9 @@ use Rattle.tase_views.specs.Moves.{Act, opens, takes, closes, reads, writes, del
 use Rattle.tase_views.specs.Moves.{asks, ticks}
 use Rattle.tase_views.specs.Answers.{reply_to}
 use Rattle.tase_views.specs.OwnTables.{table_in}
-use Rattle.tase_views.specs.Reports.{MadeReport, of_set, of_variables, slot_reports, AreDueAt}
+use Rattle.tase_views.specs.Reports.{slot_reports, AreDueAt}
+use Rattle.tase_views.specs.declared.reply.ReportKind.{ReportKind}
+use Rattle.tase_views.specs.declared.reply.ReportKind.TheVariants.{Set, Variables}
 use Rattle.tase_views.specs.Reports.{slot_state}
 use Rattle.tase_views.proofs.NodeSample.{tables_of, seen_of}
 use Rattle.tase_views.proofs.NodeSample.{by_a, by_b, in_a, in_b, told_a, told_b, taken_a, taken_b}
@@ -52,9 +54,9 @@ nothing_after_one_second : taken_a (ticks 11000 ∷ running) ≡ []
 unfolding digits
 nothing_after_one_second = refl
 
-abbrev report : MadeReport
+abbrev report : ReportKind
 report =
-    of_set (in_a (codes "S1"))
+    Set (in_a (codes "S1"))
     (Good first_slot ∷ Good (bits (record { count = 5; octets = 128 ∷ [] })) ∷ Good (octet 48) ∷ [])
 
 report_after_two_seconds :
@@ -75,7 +77,7 @@ all_variables =
 
 variables_are_told :
     taken_a (ticks 12500 ∷ wished_a each_two (codes "S1") all_variables opened)
-    ≡ (of_set (in_a (codes "S1"))
+    ≡ (Set (in_a (codes "S1"))
     (Good first_slot ∷ Good (integer (pos 12))
     ∷ Good (bits (record { count = 5; octets = 128 ∷ [] })) ∷ Good (integer (pos 0)) ∷ []) ∷ [])
 unfolding digits
@@ -97,7 +99,7 @@ unfolding digits
 nothing_within_the_buffer = refl
 
 change_after_the_buffer : taken_a (ticks 23000 ∷ ticks 22000 ∷ changed)
-    ≡ (of_variables (in_a (codes "LOAD1") ∷ [])
+    ≡ (Variables (in_a (codes "LOAD1") ∷ [])
     (Good (structure (data_of (integer (pos 5) ∷ unsigned 3 ∷ []))) ∷ []) ∷ [])
 unfolding digits
 change_after_the_buffer = refl
@@ -115,7 +117,7 @@ first_told = ticks 31000 ∷ update 0 (State 1) 30 ∷ both_wished
 
 first_report_of_a :
     taken_a first_told
-    ≡ (of_variables (in_a (codes "BUS1") ∷ []) (Good (octet 64) ∷ []) ∷ [])
+    ≡ (Variables (in_a (codes "BUS1") ∷ []) (Good (octet 64) ∷ []) ∷ [])
 unfolding digits
 first_report_of_a = refl
 
@@ -124,13 +126,13 @@ second_told = ticks 35000 ∷ update 0 (State 2) 31 ∷ by_a takes ∷ first_tol
 
 second_report_of_a :
     taken_a second_told
-    ≡ (of_variables (in_a (codes "BUS1") ∷ []) (Good (octet 128) ∷ []) ∷ [])
+    ≡ (Variables (in_a (codes "BUS1") ∷ []) (Good (octet 128) ∷ []) ∷ [])
 unfolding digits
 second_report_of_a = refl
 
 report_of_b :
     taken_b second_told
-    ≡ (of_variables (in_b (codes "BUS1") ∷ [])
+    ≡ (Variables (in_b (codes "BUS1") ∷ [])
     (Good (structure (data_of (octet 128 ∷ integer (pos 31) ∷ []))) ∷ []) ∷ [])
 unfolding digits
 report_of_b = refl
@@ -204,7 +206,7 @@ no_change_is_noted = refl
 on_request : taken_a (asks 0 0
     ∷ wished_a (record (wish_a (codes "S1")) { conditions = 16 }) (codes "S1")
     (in_a (codes "DSConditions_Detected") ∷ []) opened)
-    ≡ (of_set (in_a (codes "S1")) (Good (bits (record { count = 5; octets = 16 ∷ [] })) ∷ []) ∷ [])
+    ≡ (Set (in_a (codes "S1")) (Good (bits (record { count = 5; octets = 16 ∷ [] })) ∷ []) ∷ [])
 unfolding digits
 on_request = refl
 
@@ -274,7 +276,7 @@ mixed =
 only_what_changed :
     taken_a (ticks 23000 ∷ update 1 (Discrete (pos 5)) 100
     ∷ wished_a on_change (codes "S2") mixed (by_a opens ∷ ticks 20000 ∷ []))
-    ≡ (of_variables
+    ≡ (Variables
     (in_a (codes "Transfer_Set_Time_Stamp") ∷ in_a (codes "DSConditions_Detected")
     ∷ in_a (codes "LOAD1") ∷ [])
     (Good (integer (pos 23)) ∷ Good (bits (record { count = 5; octets = 32 ∷ [] }))
@@ -298,9 +300,9 @@ with_integrity =
     (in_a (codes "DSConditions_Detected") ∷ in_a (codes "BUS1") ∷ in_a (codes "LOAD1") ∷ [])
     (by_a opens ∷ ticks 20000 ∷ [])
 
-abbrev whole_of : ℕ → MadeReport
+abbrev whole_of : ℕ → ReportKind
 whole_of conditions =
-    of_set (in_a (codes "S2"))
+    Set (in_a (codes "S2"))
     (Good (bits (record { count = 5; octets = conditions ∷ [] })) ∷ Good (octet 48)
     ∷ Good (structure (data_of (integer (pos 5) ∷ unsigned 1 ∷ []))) ∷ [])
 
@@ -319,7 +321,7 @@ each_change :
     taken_a (ticks 23000 ∷ update 1 (Discrete (pos 5)) 102 ∷ update 1 (Discrete (pos 9)) 101
     ∷ wished_a (record on_change { all_changes = true }) (codes "S2") mixed
     (update 1 (Discrete (pos 5)) 100 ∷ by_a opens ∷ ticks 20000 ∷ []))
-    ≡ (of_variables
+    ≡ (Variables
     (in_a (codes "Transfer_Set_Time_Stamp") ∷ in_a (codes "DSConditions_Detected")
     ∷ in_a (codes "LOAD1") ∷ in_a (codes "LOAD1") ∷ [])
     (Good (integer (pos 23)) ∷ Good (bits (record { count = 5; octets = 32 ∷ [] }))
@@ -342,9 +344,9 @@ noted n =
       });
     }
 
-abbrev size_of : MadeReport → ℕ
-size_of (of_set set outcomes) = length outcomes
-size_of (of_variables names outcomes) = length outcomes
+abbrev size_of : ReportKind → ℕ
+size_of (Set set outcomes) = length outcomes
+size_of (Variables names outcomes) = length outcomes
 
 abbrev sizes : ℕ → List ℕ
 sizes n = map size_of (slot_reports (table_in (tables_of 0) 0) [] 0 21000 32 (noted n) mixed)

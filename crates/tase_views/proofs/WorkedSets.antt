@@ -73,7 +73,7 @@ own_names_are_read = refl
 -- report variables are found in both scopes, the others in one
 scopes_of_names :
     asked begun 1 (Read (in_vmd (codes "Event_Code_Detected") ∷ in_a (codes "TASE2_Version")
-    ∷ in_vmd (codes "Bilateral_Table_ID") ∷ in_a (codes "Next_DSTransfer_Set") ∷ []) false)
+    ∷ in_vmd (codes "Bilateral_Table_ID") ∷ in_vmd (codes "Next_DSTransfer_Set") ∷ []) false)
     ≡ Reply (Results None (Fail 9 ∷ Fail 10 ∷ Fail 10 ∷ Fail 10 ∷ []))
 scopes_of_names = refl
 

@@ -9,10 +9,10 @@ use Rattle.tase_points.specs.Points.{kind_of}
 use Rattle.tase_points.specs.Sample.{Sample}
 use Rattle.bilateral.specs.declared.rows.Table.{Table}
 use Rattle.bilateral.specs.Rows.{CentreRows, point_of, variants_of}
+use Rattle.sbo_device.specs.declared.device.TheConstants.{MOMENT_LIMIT}
 use Rattle.sbo_device.specs.declared.key.Key.{Key}
 use Rattle.tase_views.specs.declared.event.EventKind.{EventKind}
-use Rattle.tase_views.specs.declared.event.TheConstants.{CLOCK_LIMIT}
-use Rattle.tase_views.specs.declared.reply.Report.{Report}
+use Rattle.tase_views.specs.declared.reply.ReportKind.{ReportKind}
 use Rattle.tase_views.specs.declared.reply.Answer.{Answer}
 use Rattle.tase_views.specs.declared.reply.Answer.TheVariants.{Opened, Reply, Reports, Closed}
 use Rattle.tase_views.specs.declared.reply.Answer.TheVariants.{Noted}
@@ -101,7 +101,7 @@ own_refusal rows past who event = first_refusal
 -- a tick is to a moment below the limit, and above that of the last one
 abbrev pub clock_refusal_by : ℕ → EventSort → Option StepFault
 clock_refusal_by last (feeding (ticks now)) =
-    if nat_le CLOCK_LIMIT now then Some ClockRange
+    if nat_le MOMENT_LIMIT now then Some ClockRange
     else (if nat_le now last then Some (Backward last) else None)
 clock_refusal_by last _ = None
 
@@ -121,9 +121,9 @@ refusal_of setup past who event =
     ∷ name_refusal setup.centre event ∷ clock_refusal past event
     ∷ weight_refusal setup past event ∷ [])
 
--- the reports that were made for the peer's association with this ordinal since its last take: none
--- is made of tables that offer neither devices nor transfer sets
-abbrev pub reports_for : OwnTables → View → ℕ → List Report
+-- the reports that were made for the peer's association with this ordinal since its last take: the
+-- node makes none yet
+abbrev pub reports_for : OwnTables → View → ℕ → List ReportKind
 reports_for tables view ordinal = []
 
 -- the answer to an event of a peer's association, from its own tables and its view alone

@@ -12,7 +12,7 @@ use Rattle.bilateral.specs.declared.rows.See.{See}
 use Rattle.bilateral.specs.declared.rows.Control.{Control}
 use Rattle.bilateral.specs.declared.rows.DeviceRow.{DeviceRow}
 use Rattle.bilateral.specs.declared.rows.Table.{Table}
-use Rattle.bilateral.specs.Rows.{CentreRows, table_of, variants_of, point_of, device_of}
+use Rattle.bilateral.specs.Rows.{CentreRows, variants_of, point_of, device_of}
 use Rattle.bilateral.specs.Rows.{place_of_see}
 use Rattle.sbo_device.specs.Moves.{ControlPoint}
 
@@ -66,9 +66,9 @@ whole_table rows table =
       sets = table.sets;
     }
 
--- a table as the node offers it: devices and transfer sets aren't built yet
+-- a table as the node offers it: devices aren't built yet
 abbrev pub own_table : CentreRows → Table → OwnTable
-own_table rows table = record (whole_table rows table) { devices = []; slots = 0 }
+own_table rows table = record (whole_table rows table) { devices = [] }
 
 -- the tables of each peer, by its number
 abbrev pub Owns : Type 0

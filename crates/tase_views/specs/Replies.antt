@@ -1,5 +1,5 @@
--- What every reply keeps.
-use Rattle.std.specs.Prelude.{◌<◌, ◌≤◌, length, IfSome}
+-- What every reply and every report keeps.
+use Rattle.std.specs.Prelude.{◌≡◌, ◌<◌, ◌≤◌, length, IfSome}
 use Rattle.std.specs.List.{All}
 use Rattle.mms_data.specs.ObjectName.{IsIdentifier}
 use Rattle.mms_data.specs.OutcomeOctets.{IsLawfulOutcome}
@@ -9,6 +9,8 @@ use Rattle.tase_views.specs.declared.reply.ReplyKind.{ReplyKind}
 use Rattle.tase_views.specs.declared.reply.ReplyKind.TheVariants.{Identified, Results, Written}
 use Rattle.tase_views.specs.declared.reply.ReplyKind.TheVariants.{NamesAre, Defined, MembersAre}
 use Rattle.tase_views.specs.declared.reply.ReplyKind.TheVariants.{Deleted, Error, Reject}
+use Rattle.tase_views.specs.declared.reply.ReportKind.{ReportKind}
+use Rattle.tase_views.specs.declared.reply.ReportKind.TheVariants.{Set, Variables}
 
 -- a list of names has a name
 abbrev pub IsReadSpec : ReadSpec → Type 0
@@ -27,3 +29,9 @@ IsReply (MembersAre names) = 0 < length names
 IsReply (Deleted matched deleted) = Unit {0}
 IsReply (Error class code) = class ≤ 15
 IsReply (Reject kind code) = (1 ≤ kind) × (kind ≤ 15)
+
+-- the data are lawful; variables are one at the least, with an outcome each
+abbrev pub IsReport : ReportKind → Type 0
+IsReport (Set set results) = All IsLawfulOutcome results
+IsReport (Variables names results) =
+    (0 < length names) × (length results ≡ length names) × All IsLawfulOutcome results

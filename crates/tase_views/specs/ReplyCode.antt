@@ -1,4 +1,4 @@
--- Replies as data that a proof can tell apart.
+-- Replies and reports as data that a proof can tell apart.
 use Rattle.std.specs.Prelude.{◌≡◌, ℕ, Bool, ◌⊎◌, List, Option, refl}
 use Rattle.std.specs.Coded.{Coded, code_by, coded×, coded⊎, coded_ℕ, coded_bool, coded_list}
 use Rattle.std.specs.Coded.{coded_option}
@@ -12,6 +12,8 @@ use Rattle.tase_views.specs.declared.reply.ReplyKind.{ReplyKind}
 use Rattle.tase_views.specs.declared.reply.ReplyKind.TheVariants.{Identified, Results, Written}
 use Rattle.tase_views.specs.declared.reply.ReplyKind.TheVariants.{NamesAre, Defined, MembersAre}
 use Rattle.tase_views.specs.declared.reply.ReplyKind.TheVariants.{Deleted, Error, Reject}
+use Rattle.tase_views.specs.declared.reply.ReportKind.{ReportKind}
+use Rattle.tase_views.specs.declared.reply.ReportKind.TheVariants as reports
 use Rattle.tase_views.specs.Codes.{outcome_code, name_code}
 
 abbrev pub spec_parts : ReadSpec → List ObjectName ⊎ ObjectName
@@ -89,3 +91,25 @@ reply_code =
     (coded⊎ (coded× (coded_list (coded_list coded_ℕ)) coded_bool)
     (coded⊎ (coded× coded_ℕ coded_ℕ) (coded⊎ (coded× coded_ℕ coded_ℕ) set_reply_code))))))
     reply_parts reply_from reply_from-parts
+
+-- a data set or variables, and the outcomes
+abbrev pub ReportParts : Type 0
+ReportParts = (ObjectName ⊎ List ObjectName) × List Outcome
+
+abbrev pub report_parts : ReportKind → ReportParts
+report_parts (reports.Set set results) = (inl set, results)
+report_parts (reports.Variables names results) = (inr names, results)
+
+abbrev pub report_from : ReportParts → ReportKind
+report_from (inl set, results) = reports.Set set results
+report_from (inr names, results) = reports.Variables names results
+
+pub report_from-parts : (r : ReportKind) → report_from (report_parts r) ≡ r
+report_from-parts (reports.Set set results) = refl
+report_from-parts (reports.Variables names results) = refl
+
+abbrev pub report_code : Coded ReportKind
+report_code =
+    code_by ReportParts
+    (coded× (coded⊎ name_code (coded_list name_code)) (coded_list outcome_code))
+    report_parts report_from report_from-parts

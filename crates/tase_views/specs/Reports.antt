@@ -15,6 +15,8 @@ use Rattle.sbo_device.specs.States.{same_key, hold_ended}
 use Rattle.transfer_sets.specs.declared.noted.Noted.{Noted}
 use Rattle.transfer_sets.specs.SlotState.{SlotState, tells_all}
 use Rattle.transfer_sets.specs.Due.{AreDue, conditions_due, noted_limit}
+use Rattle.tase_views.specs.declared.reply.ReportKind.{ReportKind}
+use Rattle.tase_views.specs.declared.reply.ReportKind.TheVariants.{Set, Variables}
 use Rattle.tase_views.specs.declared.reply.TheConstants.{OBJECT_NON_EXISTENT}
 use Rattle.tase_views.specs.OwnTables.{OwnDevice, OwnTable, OwnTables, domain_name, control_of}
 use Rattle.tase_views.specs.Objects.{Object, ReportVariable, set_name, time_stamp}
@@ -27,20 +29,14 @@ use Rattle.tase_views.specs.Answers.{outcome_of_point, slot_name}
 use Rattle.tase_views.specs.Slots.{owns, members_told, state_by, only_changes, makes_report}
 use Rattle.tase_views.specs.Slots.{asked_conditions, sets_in, slot_moves}
 
--- a report (ISO 9506-2, InformationReport): a data set with outcomes of all its members, or
--- variables with an outcome each
-pub data MadeReport : Type 0 where
-  of_set : ObjectName → List Outcome → MadeReport
-  of_variables : List ObjectName → List Outcome → MadeReport
-
 -- a variable with its outcome
 pub record Told : Type 0 where
   pub name : ObjectName
   pub outcome : Outcome
 
-abbrev pub report_of_all : List Told → MadeReport
+abbrev pub report_of_all : List Told → ReportKind
 report_of_all told =
-    of_variables (map (λ (t : Told). t.name) told) (map (λ (t : Told). t.outcome) told)
+    Variables (map (λ (t : Told). t.name) told) (map (λ (t : Told). t.outcome) told)
 
 -- what a report variable tells: the transfer set's name; the moment in whole seconds; the
 -- conditions as five bits; no event's code
@@ -97,13 +93,13 @@ module _ (table : OwnTable) (view : View) (s now conditions : ℕ) where
       }) members
 
   -- the report of the whole data set
-  abbrev pub whole_report : SlotState → List ObjectName → MadeReport
+  abbrev pub whole_report : SlotState → List ObjectName → ReportKind
   whole_report state members =
-      of_set (domain_name table state.wish.set_name)
+      Set (domain_name table state.wish.set_name)
       (map (λ (t : Told). t.outcome) (told_of members))
 
   -- the report of the report variables and the members that changed, in the set's order
-  abbrev pub changed_report : SlotState → List ObjectName → MadeReport
+  abbrev pub changed_report : SlotState → List ObjectName → ReportKind
   changed_report state members =
       report_of_all (told_of (members_where table 0
       (λ place object. is_variable object
@@ -115,7 +111,7 @@ module _ (table : OwnTable) (view : View) (s now conditions : ℕ) where
       let name = unwrap_or (slice_get members noted.member) (domain_name table []) in
       record { name = name; outcome = noted_told noted (object_named table name) }
 
-  abbrev pub change_reports : SlotState → List ObjectName → List MadeReport
+  abbrev pub change_reports : SlotState → List ObjectName → List ReportKind
   change_reports state members =
       let variables = told_of (members_where table 0 (λ place. is_variable) members) in
       map (λ part. report_of_all (variables ++ map (noted_of members) part))
@@ -124,7 +120,7 @@ module _ (table : OwnTable) (view : View) (s now conditions : ℕ) where
   -- the reports that conditions make of a transfer set at a moment: where its wish has changes
   -- reported and the conditions are none but interval and change, of the changes; else one of the
   -- whole data set
-  abbrev pub slot_reports : SlotState → List ObjectName → List MadeReport
+  abbrev pub slot_reports : SlotState → List ObjectName → List ReportKind
   slot_reports state members =
       if not (makes_report state conditions) then []
       else if not (state.wish.rbe && only_changes conditions) then whole_report state members ∷ []
@@ -149,16 +145,16 @@ module _ (tables : OwnTables) where
 
   -- the report of a selection of this association that a tick ends: the device's time-out with the
   -- number that answered the select
-  abbrev pub timeout_report : View → ℕ → ℕ → OwnDevice → Option MadeReport
+  abbrev pub timeout_report : View → ℕ → ℕ → OwnDevice → Option ReportKind
   timeout_report view ordinal now d =
       let ended = hold_ended (control_of d) (moves_seen tables view d.row.name) now in
       let name = domain_name (held tables view) (d.row.name ++ codes "_TIMEOUT") in
       let mine = own_key ordinal in
       if option_map_or (λ (hold : Hold). same_key hold.key mine) ended false
-      then Some (of_variables (name ∷ []) (Good (integer d.row.checkback) ∷ [])) else None
+      then Some (Variables (name ∷ []) (Good (integer d.row.checkback) ∷ [])) else None
 
   -- the reports that conditions make of a transfer set, where this association owns it
-  abbrev pub own_reports : View → ℕ → ℕ → (ℕ → ℕ) → ℕ → List MadeReport
+  abbrev pub own_reports : View → ℕ → ℕ → (ℕ → ℕ) → ℕ → List ReportKind
   own_reports view ordinal now conditions s =
       let table = held tables view in
       let moves = slot_moves tables view s in
@@ -170,7 +166,7 @@ module _ (tables : OwnTables) where
   -- the reports that a move makes for an association: a tick those of its selections that end, in
   -- the table's order, then those of its transfer sets that are due; a request of the operator
   -- those of its transfer set
-  abbrev pub reports_by : View → ℕ → Seen → List MadeReport
+  abbrev pub reports_by : View → ℕ → Seen → List ReportKind
   reports_by view ordinal (ticked now) =
       let table = held tables view in
       filter_map (timeout_report view ordinal now) table.devices
@@ -181,13 +177,13 @@ module _ (tables : OwnTables) where
   reports_by view ordinal _ = []
 
   -- the reports made for an association, the oldest first
-  abbrev pub reports_made : View → ℕ → List MadeReport
+  abbrev pub reports_made : View → ℕ → List ReportKind
   reports_made [] ordinal = []
   reports_made (move ∷ view) ordinal =
       reports_made view ordinal ++ reports_by view ordinal move
 
   -- those made since its last take
-  abbrev pub reports_pending : View → ℕ → List MadeReport
+  abbrev pub reports_pending : View → ℕ → List ReportKind
   reports_pending [] ordinal = []
   reports_pending (own other takes ∷ view) ordinal =
       if other == ordinal then [] else reports_pending view ordinal

@@ -5,12 +5,6 @@ use std::alloc::AllocError;
 use std::marker::Model;
 use tase_points::PointValue;
 
-/// The moments of ticks are below this one, in milliseconds since 1970.
-pub const CLOCK_LIMIT: u64 = 2147483648000;
-
-// Definitions cite this limit, so that it stands here as a number too.
-const _: () = prove!(CLOCK_LIMIT == 2_147_483_648_000);
-
 /// What may happen to a node.
 #[derive(Debug, Drop)]
 pub enum EventKind {

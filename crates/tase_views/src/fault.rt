@@ -19,7 +19,7 @@ pub enum StepFault {
     /// A peer, a point, or a table or transfer set of a peer that the centre doesn't have, or a
     /// value of another kind than its point's.
     UnknownName,
-    /// A tick to a moment at or above [`CLOCK_LIMIT`](crate::CLOCK_LIMIT).
+    /// A tick to a moment at or above [`MOMENT_LIMIT`](sbo_device::MOMENT_LIMIT).
     ClockRange,
     /// A tick to a moment that isn't above that of the last tick, in milliseconds since 1970;
     /// before any it is 0.

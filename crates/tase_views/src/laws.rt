@@ -18,7 +18,7 @@ ghost use Rattle.tase_views.specs.Moves.{Act, closes, Move, acts, updates, tags,
 ghost use Rattle.tase_views.specs.Moves.{takes_orders, EventSort, sort_of, feeding};
 ghost use Rattle.tase_views.specs.History.{Past, association_in, key_at, entries_by};
 ghost use Rattle.tase_views.specs.Seats.{reseated, IsInjective};
-ghost use Rattle.tase_views.specs.OwnTables.{OwnDevice, OwnTables, Owns, whole_tables, own_tables};
+ghost use Rattle.tase_views.specs.OwnTables.{OwnDevice, OwnTables, Owns, whole_tables};
 ghost use Rattle.tase_views.specs.OwnTables.{device_named, is_selectable, control_of};
 ghost use Rattle.tase_views.specs.Objects.{control_point, object_named};
 ghost use Rattle.tase_views.specs.Devices.{Deed, deed_of, number_in, moment_of, device_moves};
@@ -148,14 +148,11 @@ pub fn refusals_are_of_the_seat()
         ∷ weight_refusal setup past event ∷ []) }
 {}
 
-/// By tables that offer neither devices nor transfer sets no report is ever made; a peer's tables
-/// as the node offers them are such.
+/// By tables that offer neither devices nor transfer sets no report is ever made.
 pub fn nothing_is_made_without_offers()
-    ensures none { (tables : OwnTables) (view : View) (ordinal : ℕ)
+    ensures { (tables : OwnTables) (view : View) (ordinal : ℕ)
         → All (λ table. (table.devices ≡ []) × (table.slots ≡ 0)) tables.tables
         → reports_pending tables view ordinal ≡ [] }
-    ensures offered { (rows : CentreRows) (peer : ℕ) (view : View) (ordinal : ℕ)
-        → reports_pending (own_tables rows peer) view ordinal ≡ [] }
 {}
 
 /// The conditions that are due at a tick are those that some whole multiple of a period, a change

@@ -12,7 +12,7 @@ mod slots;
 mod weights;
 
 pub use call::{Call, CallKind, DOMAINS, NAMED_VARIABLE_LISTS, NAMED_VARIABLES, Values};
-pub use event::{CLOCK_LIMIT, Entry, Event, EventKind};
+pub use event::{Entry, Event, EventKind};
 pub use fault::StepFault;
 pub use laws::{
     devices_are_seen_as_they_are, due_conditions_are_those, nothing_is_made_without_offers,
@@ -22,7 +22,8 @@ pub use laws::{
 pub use reply::{
     ACCESS_DENIED, ACCESS_ERRORS, Answer, DEFINITION_ERRORS, EXISTS, NAMES_LIMIT, NON_EXISTENT,
     OBJECT_ACCESS_DENIED, OBJECT_ACCESS_UNSUPPORTED, OBJECT_NON_EXISTENT, OTHER, ObjectNames,
-    RESOURCE_ERRORS, ReadSpec, Reply, ReplyKind, Report, Reports, Results, UNDEFINED, WriteResults,
+    RESOURCE_ERRORS, ReadSpec, Reply, ReplyKind, Report, ReportKind, Reports, Results, UNDEFINED,
+    WriteResults,
 };
 pub use slots::has_slot;
 pub use weights::weight;

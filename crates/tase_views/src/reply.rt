@@ -1,5 +1,5 @@
 ghost use Rattle.std.specs.Prelude.{◌≡◌};
-ghost use Rattle.tase_views.specs.Replies.{IsReply};
+ghost use Rattle.tase_views.specs.Replies.{IsReply, IsReport};
 
 use ber_values::Visible;
 use item_list::ItemList;
@@ -148,9 +148,53 @@ impl Reply {
     }
 }
 
-/// A report to a peer. No kind of report is made yet.
+/// What a report tells (ISO 9506-2, `InformationReport`).
 #[derive(Drop)]
-pub enum Report {}
+pub enum ReportKind {
+    /// A data set, with the outcomes of its members, in order.
+    Set { set: Name, results: Results },
+    /// Variables, with an outcome each, in order.
+    Variables { names: Names, results: Results },
+}
+
+/// A report to a peer: a [`ReportKind`] with at least one name in variables, and as many outcomes
+/// as names.
+#[derive(Drop)]
+pub struct Report {
+    kind: ReportKind,
+}
+
+impl Model for Report {
+    ghost use Rattle.tase_views.specs.declared.reply.ReportKind.{ReportKind};
+
+    ghost Value = { ReportKind };
+
+    ghost use Rattle.tase_views.specs.ReplyCode.{report_code};
+
+    ghost coded = { report_code };
+
+    ghost use Rattle.tase_views.specs.Replies.{IsReport};
+
+    ghost view = { λ report. report.kind };
+
+    ghost invariant = { λ report. IsReport report.kind };
+}
+
+impl Report {
+    pub fn new(kind: ReportKind) -> Report
+        requires { IsReport kind }
+        ensures { result ≡ kind }
+    {
+        Report { kind }
+    }
+
+    pub fn kind(&self) -> &ReportKind
+        ensures value { result.now ≡ self.now }
+        ensures lawful { IsReport self.now }
+    {
+        &self.kind
+    }
+}
 
 /// Reports in the order in which they were made.
 pub type Reports = ItemList<Report>;

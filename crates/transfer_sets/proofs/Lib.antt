@@ -4,3 +4,4 @@ mod DueLater
 mod Followed
 mod Worked
 mod WorkedMoves
+mod BankLists

@@ -1,5 +1,6 @@
 pub mod Wishes
 pub mod SlotState
+pub mod Banks
 pub mod Due
 pub mod SlotMoves
 pub mod Components

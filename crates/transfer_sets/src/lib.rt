@@ -2,6 +2,7 @@
 //! transfer sets).
 #![tactic(auto)]
 
+mod bank;
 mod laws;
 mod noted;
 mod parts;
@@ -10,6 +11,7 @@ mod slot;
 mod wish;
 mod writing;
 
+pub use bank::SlotBank;
 pub use laws::{
     due_conditions_last, due_is_one_number, shown_wishes_are_read, slots_follow_their_moves,
 };

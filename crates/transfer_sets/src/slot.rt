@@ -10,7 +10,6 @@ ghost use Rattle.transfer_sets.specs.Wishes.{HasCondition};
 
 use crate::noted::Noted;
 use crate::wish::{CHANGE, INTEGRITY, INTERVAL, Wish, base_of, has};
-use ber_values::Visible;
 use std::alloc::{AllocError, Global};
 use std::marker::Model;
 use tase_points::PointValue;
@@ -49,22 +48,7 @@ impl Slot {
             → FollowsMoves places (handed_out ordinal ∷ moves) result.state }
     {
         Slot {
-            wish: Wish {
-                set_domain: Visible::new(Vec::new(alloc)),
-                set_name: Visible::new(Vec::new(alloc)),
-                start: 0,
-                interval: 0,
-                tle: 0,
-                buffer: 0,
-                integrity: 0,
-                conditions: 0,
-                block: false,
-                critical: false,
-                rbe: false,
-                all_changes: false,
-                status: false,
-                event_code: 0,
-            },
+            wish: Wish::empty(alloc),
             base: 0,
             first: None,
             noted: Vec::new(alloc),
@@ -83,6 +67,22 @@ impl Slot {
         self.first = None;
         self.noted.clear();
         self.wish = wish;
+        self.wish.status = true;
+    }
+
+    /// Enables the slot with the wish that stands, at this moment: also one that is enabled, which
+    /// begins anew.
+    pub fn renew(&mut self, now: u64)
+        ensures state { self.new.state ≡ enabled_by self.old.state.wish now }
+        ensures spare { self.old.spare ≤ self.new.spare }
+        ensures moves { (places : Places) (moves : List SlotMove)
+            → FollowsMoves places moves self.old.state
+            → FollowsMoves places
+            (wishes (with_status true (last_wish moves).0) now ∷ moves) self.new.state }
+    {
+        self.base = base_of(&self.wish, now);
+        self.first = None;
+        self.noted.clear();
         self.wish.status = true;
     }
 

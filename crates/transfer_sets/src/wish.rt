@@ -1,9 +1,9 @@
 //! What a peer wishes of a transfer set.
 ghost use Rattle.std.specs.Prelude.{◌≡◌, ◌<◌, ◌↔◌, IsTrue};
-ghost use Rattle.transfer_sets.specs.Wishes.{HasCondition, may_enable, base_of};
+ghost use Rattle.transfer_sets.specs.Wishes.{HasCondition, empty_wish, may_enable, base_of};
 
 use ber_values::Visible;
-use std::alloc::AllocError;
+use std::alloc::{AllocError, Global};
 
 /// The condition that the interval has gone by (IEC 60870-6-802, DS conditions).
 pub const INTERVAL: u8 = 128;
@@ -57,6 +57,30 @@ pub struct Wish {
     pub status: bool,
     /// The number of the event outside.
     pub event_code: i16,
+}
+
+impl Wish {
+    /// Nothing is wished. It takes no memory.
+    pub fn empty(alloc: Global) -> Wish
+        ensures { result ≡ empty_wish }
+    {
+        Wish {
+            set_domain: Visible::new(Vec::new(alloc)),
+            set_name: Visible::new(Vec::new(alloc)),
+            start: 0,
+            interval: 0,
+            tle: 0,
+            buffer: 0,
+            integrity: 0,
+            conditions: 0,
+            block: false,
+            critical: false,
+            rbe: false,
+            all_changes: false,
+            status: false,
+            event_code: 0,
+        }
+    }
 }
 
 /// Why data are no wish.

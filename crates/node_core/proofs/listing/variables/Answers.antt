@@ -5,22 +5,25 @@ use Rattle.std.specs.Option.{option_map}
 use Rattle.bilateral.specs.declared.rows.See.{See}
 use Rattle.bilateral.specs.declared.rows.Table.{Table}
 use Rattle.node_core.specs.Found.{offered}
-use Rattle.node_core.proofs.Listed.{row_listed, specials_listed, variables-listed, row_pushed}
-use Rattle.node_core.proofs.Listed.{row_passed}
+use Rattle.node_core.proofs.Listed.{row_listed, front_listed, variables-listed, row_pushed}
+use Rattle.node_core.proofs.Listed.{row_passed, transfers_listed}
 use Rattle.node_core.proofs.listing.variables.Goals as goal
 use Rattle.node_core.proofs.listing.variables.Goals.{in-Some+in_ok-push, in_default}
 
 pub loop-see-init : goal.loop-see-init
 loop-see-init c =
     let table = offered c.args.table.now in
-    c.in_ok-names.ensures table (ap (λ (t : Table). t.domain) (sym c.table-own.ensures.table))
-    ∙ sym (append-nil (specials_listed table c.args.scope.now c.args.after.now))
+    c.in_ok-push_transfers.ensures
+    ∙ ap (λ (names : List (List ℕ)). names
+    ++ transfers_listed table c.args.scope.now c.args.after.now)
+    (c.in_ok-names.ensures table (ap (λ (t : Table). t.domain) (sym c.table-own.ensures.table)))
+    ∙ sym (append-nil (front_listed table c.args.scope.now c.args.after.now))
 
 pub returns : goal.returns
 returns c =
     let t = c.args.table.now in
     let listed = row_listed t.rows (offered t) c.args.scope.now c.args.after.now in
-    let first = specials_listed (offered t) c.args.scope.now c.args.after.now in
+    let first = front_listed (offered t) c.args.scope.now c.args.after.now in
     c.loop-see.invariant
     ∙ ap (λ (sees : List See). first ++ filter_map listed sees)
     (take_all c.loop-see.see-index c.as_slice-see-items.result.now (omega arith)
@@ -31,7 +34,7 @@ pub loop-see-preserved : goal.loop-see-preserved
 loop-see-preserved c =
     let t = c.args.table.now in
     let listed = row_listed t.rows (offered t) c.args.scope.now c.args.after.now in
-    let first = specials_listed (offered t) c.args.scope.now c.args.after.now in
+    let first = front_listed (offered t) c.args.scope.now c.args.after.now in
     let items = c.as_slice-see-items.result.now in
     let index = c.loop-see.see-index in
     let item = c.see-item.result in

@@ -1,4 +1,4 @@
-use Rattle.std.proofs.Common.{◌<◌, ◌≤◌, ◌+◌, length, refl, sym, subst, arith}
+use Rattle.std.proofs.Common.{ℕ, ◌<◌, ◌≤◌, ◌+◌, length, refl, sym, subst, arith}
 use Rattle.std.specs.Arc.{arc_value}
 use Rattle.bilateral.specs.Rows.{CentreRows, variants_of}
 use Rattle.tase_views.specs.declared.event.EventKind.TheVariants.{Table}
@@ -66,8 +66,9 @@ invariant_of-self-2 c =
     let fits : weight_of past + weight event ≤ log.limit =
     light-fits setup past event refl free.light in
     let named = named-table rows c.args.peer c.args.variant free.named in
-    let changed = subst (λ (those : CentreRows). IsChanged c.self.inside.parts.peers.items
-    c.args.peer (part_after (own_tables those c.args.peer) (chose c.args.variant))
+    let changed = subst (λ (those : CentreRows). (now : ℕ)
+    → IsChanged c.self.inside.parts.peers.items c.args.peer
+    (part_after (own_tables those c.args.peer) now (chose c.args.variant))
     c.choose.new.self.peers.items) c.deref.ensures c.choose.ensures in (
       rw (
         c.append.ensures.entries,

@@ -54,9 +54,10 @@ invariant_of-self c =
     let found = sym c.association.ensures ∙ c.unwrap-key.ensures in
     let seated : association_in past c.args.who ≡ Some key =
     sym (n.common.seated c.args.who) ∙ found in
-    let changed = subst (λ (those : CentreRows). (ordinal : ℕ)
+    let changed = subst (λ (those : CentreRows). (now : ℕ)
     → IsChanged c.self.inside.parts.peers.items key.peer
-    (part_after (own_tables those key.peer) (own ordinal closes)) c.close.new.self.peers.items)
+    (part_after (own_tables those key.peer) now (own key.ordinal closes))
+    c.close.new.self.peers.items)
     c.deref.ensures c.close.ensures in
     let one_less = c.unseat.ensures.count (ap is_some found) in (
       rw (c.append.ensures.entries, reverse_push, c.requires.close)

@@ -1,104 +1,47 @@
-use Rattle.std.proofs.Common.{◌≡◌, ◌<◌, length, reverse, sym, ap, subst, ◌∙◌}
+use Rattle.std.proofs.Common.{reverse, sym, ap, subst, ◌∙◌}
 use Rattle.std.specs.Arc.{arc_value}
-use Rattle.point_db.specs.Stored.{Stored as PointsStored}
-use Rattle.bilateral.specs.Rows.{CentreRows, variants_of}
+use Rattle.bilateral.specs.Rows.{CentreRows, IsCentre}
 use Rattle.tase_views.specs.OwnTables.{own_tables}
-use Rattle.tase_views.specs.View.{view_of, force}
+use Rattle.tase_views.specs.View.{view_of}
 use Rattle.tase_views.specs.Answers.{reply_to}
 use Rattle.node_core.specs.LastValues.{updates_in}
 use Rattle.node_core.specs.NodeState.{NodeState}
-use Rattle.node_core.specs.Found.{TableInForce, IsThere, table_at}
-use Rattle.node_core.specs.SetsKept.{IsBook}
-use Rattle.node_core.specs.Shown.{Shown, IsShown, IsShowable}
 use Rattle.node_core.specs.Room.{past_of}
-use Rattle.node_core.proofs.Views.{IsShown-of, IsShowable-of}
+use Rattle.node_core.specs.Stored.{IsPeerThere}
+use Rattle.node_core.proofs.NodeSteps.{peer_there}
+use Rattle.node_core.proofs.PeerViews.{showable, shown_is}
 use Rattle.node_core.proofs.node.Node.reply_to.Goals as goal
 
-pub new-table-requires : goal.new-table-requires
-new-table-requires c =
-    let rows = arc_value c.self.inside.centre in
-    let peer = c.args.key.peer in
-    let known : peer < length rows.tables = rw (← c.self.view_is) at c.requires in
-    let there = subst (λ (node : NodeState). c.force.result
-    < length (variants_of node.setup.centre peer)) (sym c.self.view_is) c.force.ensures.there in
-    let its_table : IsThere rows peer c.force.result = record {
-      lawful = c.self.invariant.0.common.lawful;
-      known = known;
-      there = there;
-    } in
-    subst (λ (those : CentreRows). IsThere those peer c.force.result) (sym c.deref.ensures)
-    its_table
+pub peer_view-shown-requires-clause-lawful : goal.peer_view-shown-requires-clause-lawful
+peer_view-shown-requires-clause-lawful c =
+    subst (λ (those : CentreRows). IsCentre those) (sym c.deref.ensures)
+    c.self.invariant.0.common.lawful
 
-pub new-shown-requires : goal.new-shown-requires
-new-shown-requires c =
-    let rows = arc_value c.self.inside.centre in
-    let peer = c.args.key.peer in
-    let known : peer < length rows.tables = rw (← c.self.view_is) at c.requires in
-    let there = subst (λ (node : NodeState). c.force.result
-    < length (variants_of node.setup.centre peer)) (sym c.self.view_is) c.force.ensures.there in
-    let its_table : IsThere rows peer c.force.result = record {
-      lawful = c.self.invariant.0.common.lawful;
-      known = known;
-      there = there;
-    } in
-    let past = past_of c.self.inside.log in
-    let forced = subst (λ (node : NodeState). c.force.result
-    ≡ force (view_of node.setup.centre peer (reverse node.history))) (sym c.self.view_is)
-    c.force.ensures.force in
-    let book = c.book.result.now in
-    let kept = subst (λ (node : NodeState). IsBook (own_tables node.setup.centre peer)
-    (view_of node.setup.centre peer (reverse node.history)) book) (sym c.self.view_is)
-    c.book.ensures in
-    let table_is = c.new-table.ensures
-    ∙ ap (λ (those : CentreRows). table_at those peer c.force.result) c.deref.ensures in
-    subst (λ (t : TableInForce). IsShowable (record {
-      table = t;
-      book = book;
-      points = c.points.result.now;
-    })) (sym table_is)
-    (subst (λ (stored : PointsStored). IsShowable (record {
-      table = table_at rows peer c.force.result;
-      book = book;
-      points = stored;
-    })) (sym c.points.ensures)
-    (IsShowable-of rows past peer c.force.result book c.self.inside.hub.points its_table
-    forced kept c.self.invariant.0.common.kept))
+pub peer_view-shown-requires-clause-there : goal.peer_view-shown-requires-clause-there
+peer_view-shown-requires-clause-there c =
+    let known = rw (← c.self.view_is) at c.requires.known in
+    subst (λ (those : CentreRows). IsPeerThere those c.self.inside.parts.peers.items
+    c.args.key.peer) (sym c.deref.ensures)
+    (peer_there (arc_value c.self.inside.centre) (past_of c.self.inside.log) c.self.inside.hub
+    c.self.inside.parts c.self.invariant.0 c.args.key.peer known)
+
+pub peer_view-shown-requires-clause-shown : goal.peer_view-shown-requires-clause-shown
+peer_view-shown-requires-clause-shown c =
+    let known = rw (← c.self.view_is) at c.requires.known in
+    showable (arc_value c.self.inside.centre) (past_of c.self.inside.log) c.self.inside.hub
+    c.self.inside.parts c.self.invariant.0 c.args.key.peer known c.deref.result.now
+    c.points.result.now c.deref.ensures c.points.ensures
 
 pub returns : goal.returns
 returns c =
     let rows = arc_value c.self.inside.centre in
     let past = past_of c.self.inside.log in
     let peer = c.args.key.peer in
-    let book = c.book.result.now in
-    let kept = subst (λ (node : NodeState). IsBook (own_tables node.setup.centre peer)
-    (view_of node.setup.centre peer (reverse node.history)) book) (sym c.self.view_is)
-    c.book.ensures in
-    let forced = subst (λ (node : NodeState). c.force.result
-    ≡ force (view_of node.setup.centre peer (reverse node.history))) (sym c.self.view_is)
-    c.force.ensures.force in
-    let there = subst (λ (node : NodeState). c.force.result
-    < length (variants_of node.setup.centre peer)) (sym c.self.view_is) c.force.ensures.there in
-    let table_is = c.new-table.ensures
-    ∙ ap (λ (those : CentreRows). table_at those peer c.force.result) c.deref.ensures in
-    let shown = subst (λ (t : TableInForce).
-    IsShown (updates_in past) (own_tables rows peer) (view_of rows peer past) (record {
-      table = t;
-      book = book;
-      points = c.points.result.now;
-    })) (sym table_is)
-    (subst (λ (stored : PointsStored).
-    IsShown (updates_in past) (own_tables rows peer) (view_of rows peer past) (record {
-      table = table_at rows peer c.force.result;
-      book = book;
-      points = stored;
-    })) (sym c.points.ensures)
-    (IsShown-of rows past peer c.force.result book c.self.inside.hub.points
-    c.self.invariant.0.common.lawful forced there kept c.self.invariant.0.common.kept)) in
-    let told = subst (λ (s : Shown).
-    IsShown (updates_in past) (own_tables rows peer) (view_of rows peer past) s)
-    (sym c.new-shown.ensures) shown in
-    c.in_ok-reply.ensures (updates_in past) (own_tables rows peer) (view_of rows peer past) told
-    c.args.key.ordinal
+    let known = rw (← c.self.view_is) at c.requires.known in
+    let shown = shown_is rows past c.self.inside.hub c.self.inside.parts c.self.invariant.0 peer
+    known c.deref.result.now c.points.result.now c.deref.ensures c.points.ensures
+    c.peer_view-shown.result c.peer_view-shown.ensures in
+    c.in_ok-reply.ensures (updates_in past) (own_tables rows peer) (view_of rows peer past) shown
     ∙ ap (λ (node : NodeState). reply_to (own_tables node.setup.centre peer)
     (view_of node.setup.centre peer (reverse node.history)) c.args.key.ordinal c.args.call.now)
     c.self.view_is

@@ -1,30 +1,52 @@
-use Rattle.std.proofs.Common.{◌≡◌, ◌<◌, ℕ, List, length, Some, sym, ap, subst, ◌∙◌}
+use Rattle.std.proofs.Common.{◌≡◌, ◌<◌, ◌≤◌, ℕ, List, length, Some, sym, ap, subst, ◌∙◌}
 use Rattle.std.specs.Prelude.{slice_get, slice_set}
 use Rattle.std.proofs.lemmas.Option.{slice_get-get_or, same_Some}
 use Rattle.mms_data.specs.ObjectName.{ObjectName}
 use Rattle.tase_views.specs.declared.call.CallKind.{CallKind}
 use Rattle.tase_views.specs.declared.call.CallKind.TheVariants.{Define, Delete}
-use Rattle.tase_views.specs.OwnTables.{OwnTable, own_tables, table_in}
+use Rattle.tase_views.specs.OwnTables.{OwnTable, own_table, own_tables, table_in}
 use Rattle.tase_views.specs.Moves.{acts_of_call}
 use Rattle.node_core.specs.declared.peer.Peer.{Peer}
 use Rattle.node_core.specs.SetsKept.{left_by}
-use Rattle.node_core.specs.PeerParts.{part_behind, IsLawfulAct, EachAct, IsReplyTo}
+use Rattle.node_core.specs.SlotsKept.{is_kept}
+use Rattle.node_core.specs.PeerParts.{kept_in, part_behind, IsLawfulAct, EachAct, IsReplyTo}
 use Rattle.node_core.specs.Stored.{IsAsked}
-use Rattle.node_core.proofs.CallActs.{lawful_call, idle_call, deleting_call}
+use Rattle.node_core.proofs.CallActs.{lawful_call, calm_idle, idle_call, deleting_call}
 use Rattle.node_core.proofs.Steps.{set_same, own_at}
 use Rattle.node_core.proofs.parts.Parts.call.Goals as goal
 
 pub returns-in_ok-define-in-Define-clause-ok : goal.returns-in_ok-define-in-Define-clause-ok
-returns-in_ok-define-in-Define-clause-ok c =
+returns-in_ok-define-in-Define-clause-ok c = λ now.
     let rows = c.args.centre.now in
     let call : Define c.in-Define.set c.in-Define.members ≡ c.args.call.now =
     sym c.in-Define.is ∙ c.kind.ensures.value in
-    subst (λ (k : CallKind). IsAsked rows c.args.key (acts_of_call k)
+    subst (λ (k : CallKind). IsAsked rows now c.args.key (acts_of_call k)
     (λ table book. IsReplyTo table book k c.args.reply.now) c.args.self.now.peers.items
-    c.define.new.self.peers.items) call (c.in_ok-define-in-Define.ensures.ok rows)
+    c.define.new.self.peers.items) call (c.in_ok-define-in-Define.ensures.ok rows now)
+
+pub delete-requires : goal.delete-requires
+delete-requires c =
+    let rows = c.args.centre.now in
+    let peer = c.args.key.peer in
+    let items = c.args.self.now.peers.items in
+    let old = c.index_mut.result.now in
+    let within : peer < length items = c.requires.there.part in
+    let here : slice_get items peer ≡ Some old =
+    slice_get-get_or items peer _ within
+    ∙ ap (λ (x : Peer). Some x) (sym c.index_mut.ensures.value) in
+    let read : slice_get items peer ≡ Some c.index.result.now =
+    slice_get-get_or items peer _ within ∙ ap (λ (x : Peer). Some x) (sym c.index.ensures) in
+    let variant : c.index.result.now ≡ old =
+    same_Some c.index.result.now old (sym read ∙ here) in
+    let offered = own_at rows peer c.index.result.now.variant c.variant-table.result.now
+    c.variant-table.ensures in
+    subst (λ (n : ℕ). n ≤ length old.slots)
+    (ap (λ (x : Peer). (table_in (own_tables rows peer) x.variant).slots) (sym variant)
+    ∙ ap (λ (t : OwnTable). t.slots) offered)
+    (c.requires.there.few old here)
 
 pub returns-in-Delete-clause-ok : goal.returns-in-Delete-clause-ok
-returns-in-Delete-clause-ok c = λ part at said.
+returns-in-Delete-clause-ok c = λ now part at said.
     let rows = c.args.centre.now in
     let peer = c.args.key.peer in
     let tables = own_tables rows peer in
@@ -37,24 +59,28 @@ returns-in-Delete-clause-ok c = λ part at said.
     ∙ ap (λ (x : Peer). Some x) (sym c.index_mut.ensures.value) in
     let read : slice_get items peer ≡ Some c.index.result.now =
     slice_get-get_or items peer _ within ∙ ap (λ (x : Peer). Some x) (sym c.index.ensures) in
-    let domain = c.variant.result.now.domain in
+    let table = c.variant-table.result.now in
     let variant : c.index.result.now.variant ≡ part.variant =
     ap (λ (x : Peer). x.variant) (same_Some c.index.result.now part (sym read ∙ at)) in
-    let named : domain ≡ (table_in tables part.variant).domain =
-    sym (ap (λ (t : OwnTable). t.domain)
-    (own_at rows peer c.index.result.now.variant c.variant.result.now c.variant.ensures))
-    ∙ ap (λ (n : ℕ). (table_in tables n).domain) variant in
-    let left : c.delete.new.self ≡ record part { book = left_by domain sets part.book } =
-    subst (λ (x : Peer). c.delete.new.self ≡ record x { book = left_by domain sets x.book })
-    (same_Some old part (sym here ∙ at)) c.delete.ensures in
+    let offered : own_table rows table ≡ table_in tables part.variant =
+    sym (own_at rows peer c.index.result.now.variant table c.variant-table.ensures)
+    ∙ ap (table_in tables) variant in
+    let left : c.delete.new.self ≡ record part {
+      book = left_by (is_kept table.domain table.slots part.slots) table.domain sets part.book;
+    } =
+    subst (λ (x : Peer). c.delete.new.self ≡ record x {
+      book = left_by (is_kept table.domain table.slots x.slots) table.domain sets x.book;
+    }) (same_Some old part (sym here ∙ at)) c.delete.ensures in
     let call : Delete sets ≡ c.args.call.now =
     ap (λ (names : List ObjectName). Delete names) c.as_slice.ensures
     ∙ sym c.in-Delete.is ∙ c.kind.ensures.value in
     ap (λ (x : Peer). slice_set items peer x)
     (left
-    ∙ ap (λ (name : List ℕ). record part { book = left_by name sets part.book }) named
-    ∙ sym (deleting_call tables c.args.key.ordinal sets part)
-    ∙ ap (λ (k : CallKind). part_behind tables c.args.key.ordinal (acts_of_call k) part) call)
+    ∙ ap (λ (t : OwnTable). record part {
+      book = left_by (kept_in t part.slots) t.domain sets part.book;
+    }) offered
+    ∙ sym (deleting_call tables now c.args.key.ordinal sets part)
+    ∙ ap (λ (k : CallKind). part_behind tables now c.args.key.ordinal (acts_of_call k) part) call)
 
 pub returns-in-Delete-clause-lawful : goal.returns-in-Delete-clause-lawful
 returns-in-Delete-clause-lawful c =
@@ -67,13 +93,14 @@ returns-in-Delete-clause-lawful c =
 pub returns-in_default : goal.returns-in_default
 returns-in_default c =
     record {
-      ok = λ part at said.
+      ok = λ now part at said.
           set_same c.args.self.now.peers.items c.args.key.peer part at
           ∙ ap (λ (x : Peer). slice_set c.args.self.now.peers.items c.args.key.peer x)
-          (sym (idle_call (own_tables c.args.centre.now c.args.key.peer) c.args.key.ordinal
+          (sym (idle_call (own_tables c.args.centre.now c.args.key.peer) now c.args.key.ordinal
           c.args.call.now part
+          (calm_idle c.args.call.now c.requires.calm
           (λ set members e. c.in_default.not-Define set members (c.kind.ensures.value ∙ e))
-          (λ sets e. c.in_default.not-Delete sets (c.kind.ensures.value ∙ e))));
+          (λ sets e. c.in_default.not-Delete sets (c.kind.ensures.value ∙ e)))));
       lawful = lawful_call c.args.call.now
           (λ set members e. absurd (c.in_default.not-Define set members
           (c.kind.ensures.value ∙ e)));

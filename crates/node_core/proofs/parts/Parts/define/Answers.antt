@@ -14,7 +14,7 @@ use Rattle.node_core.proofs.Steps.{set_same}
 use Rattle.node_core.proofs.parts.Parts.define.Goals as goal
 
 pub returns-then-not-is_defined-clause-ok : goal.returns-then-not-is_defined-clause-ok
-returns-then-not-is_defined-clause-ok c = λ rows part at replied.
+returns-then-not-is_defined-clause-ok c = λ rows now part at replied.
     let tables = own_tables rows c.args.key.peer in
     let set = c.args.set.now in
     let members = c.args.members.now in
@@ -25,13 +25,13 @@ returns-then-not-is_defined-clause-ok c = λ rows part at replied.
     (λ e. false≢true (sym c.if-not-is_defined.true ∙ c.is_defined.ensures.1 (replied ∙ e))) in
     set_same items c.args.key.peer part at
     ∙ ap (λ (x : Peer). slice_set items c.args.key.peer x)
-    (sym (refused_call tables c.args.key.ordinal set members part error.0 error.1))
+    (sym (refused_call tables now c.args.key.ordinal set members part error.0 error.1))
 
 pub returns-then-not-is_defined-clause-lawful : goal.returns-then-not-is_defined-clause-lawful
 returns-then-not-is_defined-clause-lawful c = ((c.item-name.ensures.named.1, c.requires.some), tt)
 
 pub returns-clause-ok : goal.returns-clause-ok
-returns-clause-ok c = λ rows part at replied.
+returns-clause-ok c = λ rows now part at replied.
     let tables = own_tables rows c.args.key.peer in
     let set = c.args.set.now in
     let members = c.args.members.now in
@@ -54,7 +54,7 @@ returns-clause-ok c = λ rows part at replied.
     ≡ record x { book = defined x.book set.item members }) (same_Some old part (sym here ∙ at))
     named in
     ap (λ (x : Peer). slice_set items c.args.key.peer x)
-    (made ∙ sym (defining_call tables c.args.key.ordinal set members part none))
+    (made ∙ sym (defining_call tables now c.args.key.ordinal set members part none))
 
 pub returns-clause-lawful : goal.returns-clause-lawful
 returns-clause-lawful c = ((c.item-name.ensures.named.1, c.requires.some), tt)

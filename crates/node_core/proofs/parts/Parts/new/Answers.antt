@@ -11,4 +11,4 @@ loop-peer-preserved c =
     no_table c.table.ensures in
     let more = map_more part_of c.args.centre.now.tables c.loop-peer.peer no_table
     (omega arith) in
-    rw (more, row, c.in_ok-push.ensures.items, c.loop-peer.invariant, c.new.ensures) refl
+    rw (more, row, c.in_ok-push.ensures.items, c.loop-peer.invariant, c.in_ok-new.ensures) refl

@@ -12,6 +12,7 @@ returns-clause-value c =
     let given : Shown = record {
       table = c.self.inside.table;
       book = c.self.inside.book.now;
+      slots = c.self.inside.slots.now;
       points = c.self.inside.points.now;
     } in
     let plain = to_z-of_z w64 c.args.class c.ranges.class in

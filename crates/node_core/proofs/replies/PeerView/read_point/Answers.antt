@@ -39,6 +39,7 @@ returns-clause-value c =
     let given : Shown = record {
       table = c.self.inside.table;
       book = c.self.inside.book.now;
+      slots = c.self.inside.slots.now;
       points = c.self.inside.points.now;
     } in
     subst (λ (shown : Shown). InEachView shown (λ tables view. Good c.in_ok-shown.shown

@@ -9,10 +9,11 @@ use Rattle.node_core.specs.PeerParts.{acts_asked, IsReplyBy}
 use Rattle.node_core.specs.Room.{past_of}
 use Rattle.node_core.specs.Stored.{IsReplied, IsPeerThere, IsAsked}
 use Rattle.node_core.proofs.Causes.{free_in, light-fits, request-goes_on, request-leaves}
+use Rattle.node_core.proofs.Calls.{calm_request}
 use Rattle.node_core.proofs.Outcomes.{reverse_push}
 use Rattle.node_core.proofs.Rooms.{MayAppend-reserved}
 use Rattle.node_core.proofs.NodeSteps.{IsNode-request, IsNode-alike, peer_there, seat_there}
-use Rattle.node_core.proofs.node.Node.request.Goals as goal
+use Rattle.node_core.proofs.node.Node.note.Goals as goal
 
 pub request-requires-clause-there : goal.request-requires-clause-there
 request-requires-clause-there c =
@@ -61,11 +62,12 @@ invariant_of-self-2 c =
     c.requires.seated in
     let replied = subst (λ (node : NodeState). IsReplied node.setup.centre (reverse node.history)
     c.args.key event c.args.reply.now) (sym c.self.view_is) c.requires.replied in
-    let asked = subst (λ (those : CentreRows). IsAsked those c.args.key (acts_asked event)
+    let asked = subst (λ (those : CentreRows). IsAsked those 0 c.args.key (acts_asked event)
     (λ table book. IsReplyBy table book event c.args.reply.now)
     c.self.inside.parts.peers.items c.request.new.self.peers.items) c.deref.ensures
-    c.in_ok-request.ensures.ok in
-    let goes_on = request-goes_on event c.requires.request in
+    (c.in_ok-request.ensures.ok 0) in
+    let request = calm_request event c.requires.request in
+    let goes_on = request-goes_on event request in
     let fits : weight_of past + weight event ≤ log.limit =
     light-fits setup past event goes_on free.light in (
       rw (c.append.ensures.entries, c.in_ok-reserve.ensures.entries, reverse_push)
@@ -73,7 +75,7 @@ invariant_of-self-2 c =
           c.self.inside.hub c.request.new.self c.args.key event c.args.reply.now seated
           c.requires.request replied refl c.in_ok-request.ensures.lawful asked),
       c.append.ensures.room _ _ (c.in_ok-reserve.ensures.room _ c.self.invariant.1)
-          (request-leaves event _ _ c.requires.request refl)
+          (request-leaves event _ _ request refl)
           (MayAppend-reserved log c.reserve.new.self event _ goes_on
           c.in_ok-reserve.ensures.limit c.in_ok-reserve.ensures.entries fits
           (omega (arith, c.in_ok-reserve.ensures.ok, c.open_count.ensures.count))),
