@@ -35,7 +35,7 @@ use Rattle.tase_conn.specs.declared.stage.Progress.{Progress}
 use Rattle.tase_conn.specs.declared.stage.Progress.TheVariants as progresses
 use Rattle.tase_conn.specs.declared.stage.Stage.{Stage}
 use Rattle.tase_conn.specs.declared.stage.Stage.TheVariants as stages
-use Rattle.tase_conn.specs.Talking.{Talking, pending_of, is_open_stage}
+use Rattle.tase_conn.specs.Talking.{Talking, pending_of, is_open_stage, is_leaving}
 use Rattle.tase_conn.specs.Places.{ConnStandsAt, Runs, BeginsTurns, has_begun, Position}
 use Rattle.tase_conn.specs.Places.{position_by, Reach}
 use Rattle.tase_conn.proofs.Known.{opening_position, begun_connected, early_unaccepted}
@@ -45,7 +45,7 @@ use Rattle.tase_conn.specs.Answering.{progress_told, stage_told}
 use Rattle.tase_conn.specs.Leaving.{IsLeft, Parts}
 use Rattle.tase_conn.specs.Wanting.{WantsClose, progress_closing, IsLeaving}
 use Rattle.conn_laws.specs.Cutting.{IsClosingFor, parting, LeftOpen, LeftClosed, IsSaidEarly, HasSetupOf}
-use Rattle.conn_laws.specs.Cutting.{LeftBy, HasLeft, left_said, is_leaving}
+use Rattle.conn_laws.specs.Cutting.{LeftBy, HasLeft, left_said}
 use Rattle.conn_laws.specs.Serving.{SaysBy, SaysOpen, SaysClosed, Serves, HasTold}
 use Rattle.conn_laws.specs.Serving.{HoldsOfAllInput}
 use Rattle.conn_laws.proofs.Answered.{opens_early, request_served, take_served, IsServedAt}

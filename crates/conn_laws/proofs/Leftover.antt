@@ -24,7 +24,7 @@ use Rattle.tase_conn.specs.declared.stage.Progress.{Progress}
 use Rattle.tase_conn.specs.declared.stage.Progress.TheVariants as progresses
 use Rattle.tase_conn.specs.declared.stage.Stage.{Stage}
 use Rattle.tase_conn.specs.declared.stage.Stage.TheVariants as stages
-use Rattle.tase_conn.specs.Talking.{Talking, is_open_stage}
+use Rattle.tase_conn.specs.Talking.{Talking, is_open_stage, is_leaving}
 use Rattle.tase_conn.specs.Places.{ConnStandsAt}
 use Rattle.tase_conn.specs.Taken.{TakesIn}
 use Rattle.tase_conn.specs.Answering as answering
@@ -32,7 +32,7 @@ use Rattle.tase_map.proofs.AskedOn.{turns_on}
 use Rattle.tase_map.proofs.AskedOn.{asks_join}
 use Rattle.conn_laws.specs.Cutting.{IsClosingFor, parting, LeftClosed}
 use Rattle.conn_laws.specs.Cutting.{LeftBy, HasLeft, HasSaidSome, WasLeft, IsUnexplained}
-use Rattle.conn_laws.specs.Cutting.{is_leaving, IsSaidEarly, HasSetupOf, IsSaidButMissing}
+use Rattle.conn_laws.specs.Cutting.{IsSaidEarly, HasSetupOf, IsSaidButMissing}
 use Rattle.conn_laws.specs.Cutting.{IsSaidToClose, IsSaidAndParted}
 use Rattle.conn_laws.proofs.Left.{kept_on}
 use Rattle.conn_laws.specs.Serving.{AreOthers}

@@ -11,5 +11,6 @@ pub mod Ended
 pub mod Left
 pub mod Leftover
 pub mod Unnoted
+pub mod TooLong
 pub mod Unopened
 pub mod Resumed

@@ -14,12 +14,12 @@ use Rattle.tase_conn.specs.declared.stage.Progress.{Progress}
 use Rattle.tase_conn.specs.declared.stage.Progress.TheVariants as progresses
 use Rattle.tase_conn.specs.declared.stage.Stage.{Stage}
 use Rattle.tase_conn.specs.declared.stage.Stage.TheVariants as stages
-use Rattle.tase_conn.specs.Talking.{Talking, is_open_stage}
+use Rattle.tase_conn.specs.Talking.{Talking, is_open_stage, is_leaving}
 use Rattle.tase_conn.specs.Places.{ConnStandsAt}
 use Rattle.tase_conn.specs.Taken.{SendsSome}
 use Rattle.tase_conn.specs.Leaving.{IsLeft}
 use Rattle.tase_conn.specs.Wanting.{IsLeaving}
-use Rattle.conn_laws.specs.Cutting.{IsClosingFor, LeftBy, HasLeft, is_leaving}
+use Rattle.conn_laws.specs.Cutting.{IsClosingFor, LeftBy, HasLeft}
 use Rattle.conn_laws.specs.Serving.{IsWaiting, SaysBy, Serves}
 use Rattle.conn_laws.proofs.Left.{stands_by, kept_on}
 

@@ -20,10 +20,12 @@ use Rattle.sbo_device.specs.declared.key.Key.{Key}
 use Rattle.tase_views.specs.declared.call.CallKind.{CallKind}
 use Rattle.tase_views.specs.declared.event.EventKind.TheVariants as events
 use Rattle.tase_views.specs.declared.reply.ReplyKind.{ReplyKind}
+use Rattle.tase_views.specs.declared.reply.ReportKind.{ReportKind}
 use Rattle.tase_views.specs.History.{Past, next_key, opens_in}
 use Rattle.tase_views.specs.OwnTables.{own_tables}
 use Rattle.tase_views.specs.View.{view_of}
 use Rattle.tase_views.specs.Answers.{reply_to}
+use Rattle.tase_views.specs.Outcomes.{reports_for}
 use Rattle.tase_map.specs.Inputs.{Item, IsLinkInput, text_given, link_has_ended}
 use Rattle.tase_map.specs.Readings.{reading_of}
 use Rattle.tase_map.specs.Replied.{pdu_of_reply}
@@ -32,7 +34,7 @@ use Rattle.tase_map.specs.Turns.{turns_of}
 use Rattle.tase_map.specs.Asks.{is_last, asks_behind, without_pauses}
 use Rattle.tase_map.specs.Out.{talk_of, accept_wire, detail_of, behind_offer, said, within}
 use Rattle.tase_map.specs.Out.{reply_octets, close_octets, concluded_octets, release_wire}
-use Rattle.tase_map.specs.Out.{abort_wire, turns_behind}
+use Rattle.tase_map.specs.Out.{abort_wire, turns_behind, reports_said}
 use Rattle.tase_map.specs.Sent.{association_octets, with_event}
 use Rattle.tase_map.proofs.Adding.{open_adds, take_adds, close_adds, asked_adds}
 use Rattle.tase_map.proofs.Passing.{left_asked, quiet_event, none_sent, all_left}
@@ -172,19 +174,46 @@ requested_says rows past who items told answered invoke call detail octets v s c
 
 -- ---- a take
 
+abbrev pub reports_octets : CentreRows → Past → Key → Course → ℤ → List ℕ
+reports_octets rows past key v detail = reports_said v.setup detail
+    (reports_for (own_tables rows key.peer) (view_of rows key.peer past) key.ordinal)
+
+reports_are : (told : List Arrival) (detail : ℤ) (v : Course) (text : List ℕ) (ended : Bool)
+    (reports : List ReportKind) → IsFixed told v (reading_of text)
+    → detail ≡ detail_of (first_in connect_in told)
+    → reports_said v.setup detail reports
+    ≡ reports_said (talk_of (reading_of text) ended).setup (talk_of (reading_of text) ended).detail
+    reports
+reports_are told detail v text ended reports x d =
+    ap (λ (s : AssociationSetup). reports_said s detail reports) (x.course_setup ∙ sym x.setup)
+    ∙ ap (λ (z : ℤ). reports_said (setup_after (reading_of text).told) z reports)
+    (d ∙ ap (λ (c : Option Connecting). detail_of c) (sym x.first))
+
 pub taken_says : (rows : CentreRows) (past : Past) (who : ℕ) (items : List Item)
-    (answered : List Turn) (octets : List ℕ) → SaysOpen rows past who items answered octets
-    → SaysOpen rows (with_event who events.Take past) who items (answered ++ pauses ∷ []) octets
-taken_says rows past who items answered octets o =
+    (told : List Arrival) (answered : List Turn) (detail : ℤ) (octets : List ℕ) (v : Course)
+    → CourseStands called (text_given items) told v → is_some (first_in connect_in told) ≡ true
+    → detail ≡ detail_of (first_in connect_in told)
+    → (o : SaysOpen rows past who items answered octets)
+    → SaysOpen rows (with_event who events.Take past) who items (answered ++ pauses ∷ [])
+    (octets ++ reports_octets rows past o.key v detail)
+taken_says rows past who items told answered detail octets v s connect d o =
     let key = o.key in
     record {
       key = key;
       seat = at_seat events.Take past who ∙ o.seat;
       octets = λ more i rest t.
-          let talk = talk_of (reading_of (text_given (items ++ more))) (link_has_ended (items ++ more)) in
+          let text = text_given (items ++ more) in
+          let ended = link_has_ended (items ++ more) in
+          let talk = talk_of (reading_of text) ended in
+          let table = own_tables rows key.peer in
+          let x = fixed_over items more told v s connect in
           let before = o.octets more i (pauses ∷ rest)
           (t ∙ append_assoc answered (pauses ∷ []) rest) in (
-            before.0 ∙ sym (take_adds rows (own_tables rows key.peer) talk key who past o.seat),
+            ap (λ (os : List ℕ). os ++ reports_octets rows past key v detail) before.0
+                ∙ ap (λ (os : List ℕ). association_octets rows past key text ended ++ os)
+                (reports_are told detail v text ended
+                (reports_for table (view_of rows key.peer past) key.ordinal) x d)
+                ∙ sym (take_adds rows table talk key who past o.seat),
             ap (λ m. turns_behind talk.turns m)
                 (quiet_event rows key who events.Take past tt o.seat) ∙ before.1,
           );

@@ -31,8 +31,7 @@ use Rattle.tase_conn.specs.Answering.{stage_told, told_said}
 use Rattle.tase_conn.specs.Leaving.{IsLeft}
 use Rattle.conn_laws.specs.Cutting.{HasLeft, LeftBy, LeftOpen, HasSetupOf, left_said, parting}
 use Rattle.conn_laws.specs.Serving.{IsWaiting, SaysBy, Serves, HoldsOfAllInput, owed}
-use Rattle.conn_laws.proofs.Answered.{follows_by, asked_more, opens_early, request_served}
-use Rattle.conn_laws.proofs.Answered.{take_served, close_served}
+use Rattle.conn_laws.proofs.Answered.{follows_by, asked_more}
 use Rattle.conn_laws.proofs.Left.{leaves, setup_known}
 use Rattle.conn_laws.proofs.Seats.{event_here, goes_at}
 use Rattle.tase_conn.proofs.LastTurns.{goes_front}
@@ -41,7 +40,7 @@ use Rattle.conn_laws.proofs.TurnLists.{never_empty}
 use Rattle.conn_laws.proofs.Wanted.{waiting_of, answered_goes}
 
 -- where an event waits a connect was told
-connected_asked : (rows : CentreRows) (items : List Item) (told : List Arrival) (turns : List Turn)
+pub connected_asked : (rows : CentreRows) (items : List Item) (told : List Arrival) (turns : List Turn)
     (asked : PendingEvent) (event : EventKind) (v : Talking)
     → IsWaiting (progresses.Running asked) (Some event) → Runs rows items told turns asked v
     → is_some (first_in connect_in told) ≡ true
@@ -53,7 +52,7 @@ connected_asked rows items told turns askeds.Taking event v w r = asked_connecte
 connected_asked rows items told turns (askeds.Closing cause) event v w r = asked_connected r tt
 
 -- the turns with that which asked for the event begin those up to the last
-read_with : (rows : CentreRows) (past : Past) (who : ℕ) (items : List Item) (octets : List ℕ)
+pub read_with : (rows : CentreRows) (past : Past) (who : ℕ) (items : List Item) (octets : List ℕ)
     (event : EventKind) (asked : PendingEvent) (v : Talking)
     → (s : Serves rows past who items octets (Some event) v)
     → Runs rows items s.told s.turns asked v

@@ -1,15 +1,17 @@
 -- A connection that was left before the peer brought its end: the node refused an event, or it was
 -- given up.
 use Rattle.std.specs.Prelude.{◌≡◌, ℕ, Bool, true, false, if◌then◌else◌, ◌⊎◌, List, [], ◌∷◌, ◌++◌}
-use Rattle.std.specs.Prelude.{reverse, Option, Some, None}
+use Rattle.std.specs.Prelude.{reverse, Ok, Option, Some, None}
 use Rattle.stack_wire.specs.declared.setup.AssociationSetup.{AssociationSetup}
 use Rattle.stack_assoc.specs.declared.end_state.EndState.{EndState}
 use Rattle.stack_assoc.specs.Courses.{Course, is_accepted}
 use Rattle.stack_assoc.specs.Arrivals.{Arrival}
 use Rattle.bilateral.specs.Rows.{CentreRows}
 use Rattle.sbo_device.specs.declared.key.Key.{Key}
+use Rattle.tase_views.specs.Setup.{Setup}
 use Rattle.tase_views.specs.declared.event.EventKind.{EventKind}
 use Rattle.tase_views.specs.declared.event.EventKind.TheVariants as events
+use Rattle.tase_views.specs.declared.reply.Answer.{Answer}
 use Rattle.tase_views.specs.History.{Past, association_in}
 use Rattle.tase_map.specs.Inputs.{Item, IsLinkInput, text_given, link_has_ended}
 use Rattle.tase_map.specs.Readings.{reading_of}
@@ -17,16 +19,16 @@ use Rattle.tase_map.specs.Turns.{Turn, asks, turns_of}
 use Rattle.tase_map.specs.Asks.{up_to_last, asks_behind, asks_of}
 use Rattle.tase_map.specs.Out.{talk_of, abort_wire, close_octets, early_octets}
 use Rattle.tase_map.specs.Closed.{is_closed}
-use Rattle.tase_map.specs.Sent.{events_by, association_octets, turns_left}
+use Rattle.tase_map.specs.Sent.{events_by, with_event, association_octets, turns_left}
 use Rattle.tase_map.specs.Linked.{opened_in, link_octets}
 use Rattle.tase_conn.specs.declared.stage.ConnEnd.{ConnEnd}
 use Rattle.tase_conn.specs.declared.stage.Stage.{Stage}
 use Rattle.tase_conn.specs.declared.stage.Stage.TheVariants as stages
 use Rattle.tase_conn.specs.declared.stage.Progress.{Progress}
 use Rattle.tase_conn.specs.declared.stage.Progress.TheVariants as progresses
-use Rattle.tase_conn.specs.Talking.{Talking, is_open_stage}
+use Rattle.tase_conn.specs.Talking.{Talking, is_open_stage, is_leaving}
 use Rattle.tase_conn.specs.Places.{ConnStandsAt, BeginsTurns}
-use Rattle.tase_conn.specs.Answering.{aborts, parting_octets}
+use Rattle.tase_conn.specs.Answering.{aborts, parting_octets, told_said}
 use Rattle.conn_laws.specs.Serving.{HoldsOfAllInput}
 
 -- which event waits of a connection that was left for this end: none, or once it was asked the
@@ -36,11 +38,6 @@ IsClosingFor (progresses.Leaving end false) None left = end ≡ left
 IsClosingFor (progresses.Leaving end true) (Some events.Close) left = end ≡ left
 IsClosingFor (progresses.Cut end) None left = end ≡ left
 IsClosingFor _ _ left = ⊥
-
--- its association is still to be closed
-abbrev pub is_leaving : Progress → Bool
-is_leaving (progresses.Leaving end asked) = true
-is_leaving _ = false
 
 -- the octets with which a connection is left, by how its association stood: those of an abort,
 -- unless the link can't take them
@@ -150,6 +147,19 @@ pub record HasLeft (whole : Bool) (end : ConnEnd) (standing : EndState) (rows : 
   pub answered : List Turn
   pub read : BeginsTurns answered (up_to_last rows (turns_of items))
   pub says : LeftBy whole v.stage end standing v.course rows past who items answered said
+
+-- the answer to a take brings a connection this end: it is left, and once its association is closed,
+-- and aborted, all was said that its peer is sent
+pub record LeavesTooLong (setup : Setup) (past : Past) (who : ℕ) (items : List Item)
+    (said : List ℕ) (event : EventKind) (answer : Answer) (end : ConnEnd) (old new : Talking) :
+    Type 0 where
+  pub progress : new.progress ≡ progresses.Leaving end false
+  pub event_is : event ≡ events.Take
+  pub left : HasLeft true end old.course.standing setup.centre (with_event who event past) who items
+      (said ++ told_said old.progress old.stage old.course (Ok answer)) None new
+  pub whole : (said ++ told_said old.progress old.stage old.course (Ok answer))
+      ++ parting_octets new.course end
+      ≡ link_octets setup.centre (with_event who events.Close (with_event who event past)) who items
 
 -- ---- what that means
 

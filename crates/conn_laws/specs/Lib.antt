@@ -1,2 +1,3 @@
+pub mod AnswerEnd
 pub mod Serving
 pub mod Cutting

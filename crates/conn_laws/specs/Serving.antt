@@ -24,7 +24,7 @@ use Rattle.tase_conn.specs.declared.stage.Stage.TheVariants as stages
 use Rattle.tase_conn.specs.declared.stage.PendingEvent.TheVariants as askeds
 use Rattle.tase_conn.specs.declared.stage.Progress.{Progress}
 use Rattle.tase_conn.specs.declared.stage.Progress.TheVariants as progresses
-use Rattle.tase_conn.specs.Talking.{Talking}
+use Rattle.tase_conn.specs.Talking.{Talking, is_leaving}
 use Rattle.tase_conn.specs.Places.{ConnStandsAt}
 use Rattle.tase_conn.specs.Wanting.{WaitsFor}
 use Rattle.tase_conn.specs.Answering.{progress_told, stage_told}
@@ -139,6 +139,8 @@ pub record HasTold (rows : CentreRows) (items : List Item) (told : List Arrival)
   pub stands : ConnStandsAt rows items told turns new
   pub progress : new.progress ≡ progress_told old.progress old.stage outcome
   pub stage : new.stage ≡ stage_told old.progress outcome old.stage
+  -- where it is left, its association stands as it stood
+  pub course : is_leaving new.progress ≡ true → new.course ≡ old.course
 
 -- ---- what that means
 

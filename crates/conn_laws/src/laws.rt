@@ -27,15 +27,17 @@ ghost use Rattle.tase_conn.specs.Leaving.{IsLeft};
 ghost use Rattle.tase_conn.specs.Answering.{told_said, stage_told, IsAnswerFor, end_of_fault};
 ghost use Rattle.tase_conn.specs.Answering.{aborts};
 ghost use Rattle.conn_laws.specs.Cutting.{HasLeft, LeftClosed, WasLeft, IsUnexplained};
+ghost use Rattle.conn_laws.specs.Cutting.{LeavesTooLong};
+ghost use Rattle.conn_laws.specs.AnswerEnd.{end_answered};
 ghost use Rattle.conn_laws.specs.Serving.{Serves, AreOthers, HasTold, HasServed};
 
 /// A connection serves a seat of the node: it does from its beginning on, with each item that its
 /// link gives, whatever other seats do and however its octets are sent, where it asks for an event
-/// or for none, and where the node's right answer was told. Each event that it asks is the next
-/// that the input asks, and none is refused for want of an association, or because the seat has
-/// one, or for its peer. Once nothing is left of what its link gave, the seat has had all events
-/// that the input asks, and the connection has said all octets that the peer is sent over the
-/// history, and no others.
+/// or for none, and where the node's right answer was told, of which no report is longer than was
+/// agreed on. Each event that it asks is the next that the input asks, and none is refused for want
+/// of an association, or because the seat has one, or for its peer. Once nothing is left of what
+/// its link gave, the seat has had all events that the input asks, and the connection has said all
+/// octets that the peer is sent over the history, and no others.
 pub fn connections_serve()
     ensures begun { (rows : CentreRows) (past : Past) (who : ℕ) (v : Talking)
         → events_by who past ≡ [] → ConnStandsAt rows [] [] [] v
@@ -82,6 +84,7 @@ pub fn connections_serve()
         → (s : Serves setup.centre past who items octets (Some event) old)
         → IsRightOutcome setup past who event (Ok answer)
         → HasTold setup.centre items s.told s.turns (Ok answer) old new
+        → end_answered items answer ≡ None
         → Serves setup.centre (with_event who event past) who items
         (octets ++ told_said old.progress old.stage old.course (Ok answer)) None new }
     ensures served { (rows : CentreRows) (past : Past) (who : ℕ) (items : List Item)
@@ -90,13 +93,14 @@ pub fn connections_serve()
 {}
 
 /// A connection that is left before the peer brings its end, since the node has refused an event,
-/// or it was given up, or memory was wanting for the last answer and it was given up then
-/// (`unnoted`), has its association closed by its seat, if one is open, and says no more than the
-/// octets of an abort. Once it has ended, the seat has had the first of the events that the input
-/// asks, and then that close; and but for the abort no more was said than the peer is sent. All was
-/// said where the association was closed since the connection was left, no answer was lost for want
-/// of memory, and the text tells nothing at that place that explains the close; and where an open
-/// was refused.
+/// or has answered a take by a report that is longer than was agreed on, or it was given up, or
+/// memory was wanting for the last answer and it was given up then (`unnoted`), has its association
+/// closed by its seat, if one is open, and says no more than the octets of an abort. Once it has
+/// ended, the seat has had the first of the events that the input asks, and then that close; and
+/// but for the abort no more was said than the peer is sent. All was said where the association was
+/// closed since the connection was left, no answer was lost for want of memory, and the text tells
+/// nothing at that place that explains the close, as for a long report; and where an open was
+/// refused.
 pub fn connections_leave()
     ensures refused { (rows : CentreRows) (past : Past) (who : ℕ) (items : List Item)
         (octets added : List ℕ) (event : AnyEvent) (fault : StepFault) (old new : Talking)
@@ -126,6 +130,13 @@ pub fn connections_leave()
         → pending_of new ≡ pending_of old ++ added
         → HasLeft false end old.course.standing setup.centre (with_event who event past) who items
         (octets ++ added) None new }
+    ensures too_long { (setup : Setup) (past : Past) (who : ℕ) (items : List Item)
+        (octets : List ℕ) (event : AnyEvent) (answer : Answer) (end : AnyEnd) (old new : Talking)
+        → (s : Serves setup.centre past who items octets (Some event) old)
+        → IsRightOutcome setup past who event (Ok answer)
+        → HasTold setup.centre items s.told s.turns (Ok answer) old new
+        → end_answered items answer ≡ Some end
+        → LeavesTooLong setup past who items octets event answer end old new }
     ensures closing { (rows : CentreRows) (past : Past) (who : ℕ) (items : List Item)
         (octets : List ℕ) (event : Option AnyEvent) (whole : Bool) (end : AnyEnd)
         (standing : EndState) (old new : Talking)

@@ -7,7 +7,7 @@ use Rattle.bilateral.specs.Rows.{CentreRows}
 use Rattle.std.specs.List.{list_any}
 use Rattle.tase_views.specs.Setup.{Setup}
 use Rattle.tase_views.specs.History.{Past}
-use Rattle.tase_views.specs.Outcomes.{refusal_of}
+use Rattle.tase_views.specs.Outcomes.{refusal_of, answer_of}
 use Rattle.tase_views.specs.declared.event.EventKind.{EventKind}
 use Rattle.tase_map.specs.Inputs.{Item}
 use Rattle.tase_map.specs.Turns.{Turn, turns_of}
@@ -17,6 +17,8 @@ use Rattle.tase_conn.specs.declared.stage.Progress.{Progress}
 use Rattle.tase_conn.specs.declared.stage.Progress.TheVariants as progresses
 use Rattle.tase_conn.specs.Talking.{Talking, pending_of, conn_end_in, IsResting}
 use Rattle.tase_conn.specs.Places.{GoesBy, Runs, Reach, IsReadToEnd, ReadsNoMore}
+use Rattle.tase_conn.specs.declared.stage.ConnEnd.{ConnEnd}
+use Rattle.conn_laws.specs.AnswerEnd.{end_answered}
 use Rattle.conn_laws.specs.Serving.{Serves, IsWaiting, HasServed}
 use Rattle.tase_map.specs.Sent.{with_event}
 use Rattle.conn_laws.proofs.Served.{has_served, all_done}
@@ -25,10 +27,12 @@ use Rattle.tase_conn.specs.PeerEnd.{peer_end}
 use Rattle.tase_conn.proofs.LastTurns.{at_end, brought_end, none_brought}
 use Rattle.conn_service.specs.Sends.{Sends, IsSaidByEnd}
 use Rattle.conn_service.specs.Attending.{AddsPending, Attends, AnswersEvent, IsServed, IsAsking}
-use Rattle.conn_service.specs.Attending.{IsWanted, IsAtRest, IsCut, SendsOn, remaining}
+use Rattle.conn_service.specs.Attending.{IsWanted, IsAtRest, IsCut, IsBrought, TakesTo, SendsOn}
+use Rattle.conn_service.specs.Attending.{remaining}
 use Rattle.conn_service.proofs.Closed.{said_whole, cut_sends}
 use Rattle.conn_service.proofs.Remaining.{waits_less}
-use Rattle.conn_service.proofs.Takes.{TakesEach, taken_on, each_takes, takes_each, events_taken}
+use Rattle.conn_service.proofs.Takes.{TakesEach, taken_on, each_takes, last_takes, takes_each}
+use Rattle.conn_service.proofs.Takes.{events_taken}
 use Rattle.conn_service.proofs.Wanted.{WantedSo, AnswersSo}
 
 -- ---- how it goes
@@ -37,7 +41,7 @@ use Rattle.conn_service.proofs.Wanted.{WantedSo, AnswersSo}
 pub record Goes (setup : Setup) (past : Past) (who : ℕ) (items : List Item) (said : List ℕ)
     (waiting : Option EventKind) (old : Talking) (after : Past) (new : Talking) : Type 0 where
   pub taken : List EventKind
-  pub takes : TakesEach setup who past taken after
+  pub takes : TakesEach setup who items past taken after
   pub adds : AddsPending old new
   pub serves : Serves setup.centre after who items (said ++ adds.added) waiting new
 
@@ -68,7 +72,7 @@ pub goes_wanted : (setup : Setup) (past after next : Past) (who : ℕ) (items : 
     → Goes setup past who items said (Some event) old next new
 goes_wanted setup past after next who items said event old between new g w = record {
   taken = g.taken;
-  takes = subst (λ (p : Past). TakesEach setup who past g.taken p) (sym w.0) g.takes;
+  takes = subst (λ (p : Past). TakesEach setup who items past g.taken p) (sym w.0) g.takes;
   adds = then_adds old between new w.1.added g.adds w.1.pending;
   serves = subst (λ (p : Past). Serves setup.centre p who items (said ++ (g.adds.added ++ w.1.added))
       (Some event) new) (sym w.0)
@@ -83,8 +87,8 @@ pub goes_answered : (setup : Setup) (past between after : Past) (who : ℕ) (ite
     → Goes setup past who items said None old after new
 goes_answered setup past between after who items said event old v new g a = record {
   taken = g.taken ++ event ∷ [];
-  takes = subst (λ (p : Past). TakesEach setup who past (g.taken ++ event ∷ []) p) (sym a.1)
-      (taken_on setup who past g.taken between event g.takes a.0);
+  takes = subst (λ (p : Past). TakesEach setup who items past (g.taken ++ event ∷ []) p) (sym a.1)
+      (taken_on setup who items past g.taken between event g.takes a.0 a.4);
   adds = then_adds old v new a.2.added g.adds a.2.pending;
   serves = subst (λ (os : List ℕ). Serves setup.centre after who items os None new)
       (append_assoc said g.adds.added a.2.added) a.3;
@@ -94,15 +98,19 @@ goes_answered setup past between after who items said event old v new g a = reco
 
 -- behind these events
 goes_cut : (setup : Setup) (past between after : Past) (who : ℕ) (items : List Item)
-    (said first : List ℕ) (taken : List EventKind) (old v new : Talking)
-    → TakesEach setup who past taken between → pending_of v ≡ pending_of old ++ first
-    → IsCut setup between who items (said ++ first) v after new
+    (said first : List ℕ) (taken : List EventKind) (brought : Option ConnEnd)
+    (old v new : Talking) → TakesTo brought setup who items past taken between
+    → pending_of v ≡ pending_of old ++ first
+    → (c : IsCut setup between who items (said ++ first) v after new) → IsBrought c.end brought
     → Attends setup past who items said old after new
-goes_cut setup past between after who items said first taken old v new takes pending c =
+goes_cut setup past between after who items said first taken brought old v new takes pending c
+    brings =
     inr (record {
       taken = taken;
       between = between;
-      takes = each_takes setup who past taken between takes;
+      brought = brought;
+      takes = takes;
+      brings = brings;
       cut = record {
         adds = record {
           added = first ++ c.adds.added;
@@ -129,12 +137,12 @@ pub goes_stopped : (setup : Setup) (past between after : Past) (who : ℕ) (item
     → AnswersEvent setup between who items (said ++ g.adds.added) event v false after new
     → Attends setup past who items said old after new
 goes_stopped setup past between after who items said event old v new g (inl c) =
-    goes_cut setup past between after who items said g.adds.added g.taken old v new g.takes
-    g.adds.pending c
+    goes_cut setup past between after who items said g.adds.added g.taken None old v new
+    (each_takes setup who items past g.taken between g.takes) g.adds.pending c.0 c.1
 goes_stopped setup past between after who items said event old v new g (inr c) =
     goes_cut setup past (with_event who event between) after who items said g.adds.added
-    (g.taken ++ event ∷ []) old v new
-    (taken_on setup who past g.taken between event g.takes c.0) g.adds.pending c.1
+    (g.taken ++ event ∷ []) (end_answered items (answer_of setup between who event)) old v new
+    (last_takes setup who items past g.taken between event g.takes c.0) g.adds.pending c.1.0 c.1.1
 
 -- ---- nothing is wanted
 
@@ -181,8 +189,8 @@ goes_through setup past after next who items said old between new g r =
     subst (λ (p : Past). Attends setup past who items said old p new) (sym r.after_is) (inl (record {
       adds = then_adds old between new r.adds.added g.adds r.adds.pending;
       taken = g.taken;
-      takes = each_takes setup who past g.taken after g.takes;
-      asks_are = sym all.asked ∙ events_taken setup who past g.taken after g.takes;
+      takes = each_takes setup who items past g.taken after g.takes;
+      asks_are = sym all.asked ∙ events_taken setup who items past g.taken after g.takes;
       serves = serves;
       resting = r.resting;
       octets = all.octets;
@@ -198,8 +206,8 @@ pub goes_ended : (setup : Setup) (past after next : Past) (who : ℕ) (items : L
 goes_ended setup past after next who items said old between new g (inl r) =
     goes_through setup past after next who items said old between new g r
 goes_ended setup past after next who items said old between new g (inr c) =
-    goes_cut setup past after next who items said g.adds.added g.taken old between new g.takes
-    g.adds.pending c
+    goes_cut setup past after next who items said g.adds.added g.taken None old between new
+    (each_takes setup who items past g.taken after g.takes) g.adds.pending c.0 c.1
 
 -- ---- what the loop keeps
 
@@ -301,8 +309,8 @@ attends_sends setup past who items said old after new (inl a) =
       adds = a.adds;
       sends = record {
         events = inl (record {
-          events = events_taken setup who past a.taken after
-              (takes_each setup who past a.taken after a.takes) ∙ sym a.asks_are;
+          events = events_taken setup who items past a.taken after
+              (takes_each setup who items past a.taken after a.takes) ∙ sym a.asks_are;
           by_peer = sym a.end;
         });
         said = subst (λ (os : List ℕ). IsSaidByEnd items end os

@@ -25,10 +25,10 @@ use Rattle.tase_conn.specs.declared.stage.ConnEnd.TheVariants as conn_ends
 use Rattle.tase_conn.specs.declared.stage.Progress.TheVariants as progresses
 use Rattle.tase_conn.specs.declared.stage.Stage.{Stage}
 use Rattle.tase_conn.specs.declared.stage.Stage.TheVariants as stages
-use Rattle.tase_conn.specs.Talking.{Talking, is_open_stage}
+use Rattle.tase_conn.specs.Talking.{Talking, is_open_stage, is_leaving}
 use Rattle.tase_conn.specs.Answering.{aborts}
 use Rattle.conn_laws.specs.Cutting.{HasLeft, LeftBy, HasSaidSome, HasShut}
-use Rattle.conn_laws.specs.Cutting.{parting, is_leaving}
+use Rattle.conn_laws.specs.Cutting.{parting}
 use Rattle.conn_laws.proofs.Leftover.{was_left}
 use Rattle.conn_laws.proofs.Seats.{event_here, none_open, seat_opened}
 use Rattle.tase_map.specs.Linked.{link_octets, opened_in}

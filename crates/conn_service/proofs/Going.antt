@@ -2,11 +2,10 @@
 use Rattle.std.proofs.Common.{◌≡◌, ℕ, Bool, true, false, List, [], ◌++◌, reverse}
 use Rattle.std.proofs.lemmas.List.{append-nil}
 use Rattle.std.proofs.Common.{Option}
-use Rattle.std.proofs.Common.{Some, None, Result, Ok, Err, is_some, refl, sym, ap, subst, ◌∙◌, inl}
-use Rattle.std.proofs.Common.{inr}
+use Rattle.std.proofs.Common.{Some, None, Result, Ok, Err, is_some, refl, sym, ap, subst, ◌∙◌}
 use Rattle.std.specs.Prelude.{MatchBool, unwrap_or, if◌then◌else◌, OnOk, IsOk}
 use Rattle.std.specs.declared.alloc.AllocError.{AllocError}
-use Rattle.std.proofs.lemmas.Bool.{false≢true, true≢false}
+use Rattle.std.proofs.lemmas.Bool.{false≢true}
 use Rattle.stack_assoc.specs.Arrivals.{Arrival}
 use Rattle.stack_assoc.specs.Courses.{Course}
 use Rattle.stack_assoc.specs.declared.end_state.EndState.{EndState}
@@ -14,7 +13,7 @@ use Rattle.bilateral.specs.Rows.{CentreRows}
 use Rattle.sbo_device.specs.declared.key.Key.{Key}
 use Rattle.tase_views.specs.Setup.{Setup}
 use Rattle.tase_views.specs.History.{Past, association_in}
-use Rattle.tase_views.specs.Outcomes.{IsRightOutcome, refusal_of}
+use Rattle.tase_views.specs.Outcomes.{IsRightOutcome}
 use Rattle.tase_views.specs.Outcomes.{answer_by, answer_of}
 use Rattle.tase_views.specs.declared.event.EventKind.{EventKind}
 use Rattle.tase_views.specs.declared.event.EventKind.TheVariants as events
@@ -36,6 +35,7 @@ use Rattle.tase_conn.specs.declared.stage.Stage.TheVariants as stages
 use Rattle.tase_conn.specs.declared.stage.Progress.{Progress}
 use Rattle.tase_conn.specs.declared.stage.Progress.TheVariants as progresses
 use Rattle.tase_conn.specs.Talking.{Talking, pending_of, is_open_stage, is_running, IsFree}
+use Rattle.tase_conn.specs.Talking.{is_leaving}
 use Rattle.tase_conn.specs.Places.{ConnStandsAt, IsPlaced, GoesBy, Runs, IsAskedAt, KeepsPlace}
 use Rattle.tase_conn.specs.Wanting.{Wants, WantsBy, WantsSo, WantsClose, IsLeaving}
 use Rattle.tase_conn.specs.Wanting.{progress_closing}
@@ -44,13 +44,12 @@ use Rattle.tase_conn.specs.Answering.{told_said, progress_told, IsAnswerFor, Tel
 use Rattle.tase_conn.specs.Answering.{parting_octets, end_of_fault}
 use Rattle.conn_laws.specs.Serving.{Serves, SaysBy, IsWaiting}
 use Rattle.tase_map.specs.Sent.{with_event}
-use Rattle.conn_laws.specs.Cutting.{HasLeft, IsClosingFor, is_leaving, LeftBy, left_said}
-use Rattle.conn_laws.proofs.Answered.{answered_serves}
+use Rattle.conn_laws.specs.Cutting.{HasLeft, IsClosingFor, LeftBy, left_said}
 use Rattle.conn_laws.proofs.Left.{refused_leaves, closing_leaves, closed_leaves, stands_by}
 use Rattle.conn_laws.proofs.Seats.{none_open}
 use Rattle.conn_laws.proofs.Served.{never_refused}
 use Rattle.conn_laws.proofs.Wanted.{waiting_of}
-use Rattle.conn_service.specs.Attending.{AnswersEvent, IsServed, IsAsking, IsParting}
+use Rattle.conn_service.specs.Attending.{IsServed, IsAsking, IsParting}
 use Rattle.conn_service.specs.Attending.{ClosesLeft, closing_said, AsksClose, IsAskingClose}
 use Rattle.conn_service.proofs.Closed.{seat_left}
 use Rattle.conn_service.proofs.Told.{waits_free, closing_free, right_told, waiting_refused}
@@ -124,30 +123,6 @@ same_past before after is = ap (λ (n : NodeState). reverse n.history) is
 pub told_ok : (P : Type 0) (result : Result (Unit {0}) AllocError) → IsOk result → OnOk result P → P
 told_ok P (Ok told) is p = p
 told_ok P (Err error) is p = absurd (false≢true is)
-
-pub answered_on : (before after : NodeState) (who : ℕ) (items : List Item) (said : List ℕ)
-    (event : EventKind) (answer : Answer) (old new : Talking)
-    → after ≡ with_entry before who event
-    → IsRightOutcome before.setup (reverse before.history) who event (Ok answer)
-    → KeepsPlace old new → TellsAnswer (Ok answer) old new
-    → Serves before.setup.centre (reverse before.history) who items said (Some event) old
-    → AnswersEvent before.setup (reverse before.history) who items said event old true
-    (reverse after.history) new
-answered_on before after who items said event answer old new is right stays tells s =
-    let past = reverse before.history in
-    let more = told_said old.progress old.stage old.course (Ok answer) in
-    let g = grown before after who event is in (
-      right.0,
-      g,
-      record { added = more; pending = tells.said },
-      subst (λ (p : Past). Serves before.setup.centre p who items (said ++ more) None new) (sym g)
-          (answered_serves before.setup past who items said event answer old new s right
-          (record {
-            stands = stays before.setup.centre items s.told s.turns s.stands;
-            progress = tells.progress;
-            stage = tells.stage;
-          })),
-    )
 
 -- ---- a connection that is left
 
@@ -353,6 +328,7 @@ closed_on before after whole end standing who items said event answer old betwee
       stands = stays rows items c.left.told c.left.turns c.left.stands;
       progress = tells.progress;
       stage = tells.stage;
+      course = tells.course;
     }) in
     record {
       after_is = g ∙ ap (λ (e : EventKind). with_event who e past) c.event_is

@@ -7,4 +7,5 @@ pub mod Wanted
 pub mod Going
 pub mod Refused
 pub mod Memory
+pub mod TooLong
 pub mod Attended

@@ -2,14 +2,13 @@
 use Rattle.std.proofs.Common.{◌≡◌, ℕ, Bool, true, false, List, [], ◌∷◌, ◌++◌, reverse}
 use Rattle.std.proofs.Common.{Option, Some, None, Ok, refl, sym, ap, subst, ◌∙◌, append_assoc}
 use Rattle.std.proofs.lemmas.Bool.{false≢true}
-use Rattle.std.proofs.lemmas.List.{append-nil}
 use Rattle.stack_assoc.specs.declared.end_state.EndState.{EndState}
 use Rattle.stack_assoc.specs.Arrivals.{called}
 use Rattle.stack_assoc.specs.Handing.{answers_to}
 use Rattle.bilateral.specs.Rows.{CentreRows}
 use Rattle.tase_views.specs.Setup.{Setup}
 use Rattle.tase_views.specs.History.{Past}
-use Rattle.tase_views.specs.Outcomes.{IsRightOutcome}
+use Rattle.tase_views.specs.Outcomes.{IsRightOutcome, answer_of}
 use Rattle.tase_views.specs.declared.event.EventKind.{EventKind}
 use Rattle.tase_views.specs.declared.reply.Answer.{Answer}
 use Rattle.node_core.specs.NodeState.{NodeState, with_entry}
@@ -19,6 +18,7 @@ use Rattle.tase_map.specs.Asks.{asks_of, asks_behind, up_to_last}
 use Rattle.tase_map.specs.Sent.{events_by, with_event}
 use Rattle.tase_map.proofs.AskedOn.{asks_join}
 use Rattle.tase_conn.specs.declared.stage.PendingEvent.TheVariants as askeds
+use Rattle.tase_conn.specs.declared.stage.ConnEnd.{ConnEnd}
 use Rattle.tase_conn.specs.declared.stage.ConnEnd.TheVariants as conn_ends
 use Rattle.tase_conn.specs.declared.stage.Progress.{Progress}
 use Rattle.tase_conn.specs.declared.stage.Progress.TheVariants as progresses
@@ -34,7 +34,8 @@ use Rattle.conn_laws.proofs.Left.{given_up, stands_by}
 use Rattle.tase_conn.proofs.LastTurns.{goes_front}
 use Rattle.conn_laws.proofs.Served.{begins_turns, next_asked}
 use Rattle.conn_laws.proofs.Unnoted.{unnoted_leaves}
-use Rattle.conn_service.specs.Attending.{IsServed, IsAsking, IsParting, IsCut, ClosesLeft}
+use Rattle.conn_service.specs.Attending.{IsServed, IsAsking, IsParting, CutsOff, ClosesLeft}
+use Rattle.conn_laws.specs.AnswerEnd.{end_answered}
 use Rattle.conn_service.specs.Attending.{closing_said}
 use Rattle.conn_service.proofs.Closed.{none_left, said_in_part}
 use Rattle.conn_service.proofs.Going.{grown, placed_of}
@@ -44,37 +45,40 @@ use Rattle.conn_service.proofs.Takes.{event_behind}
 -- once it was left, it is cut by its close
 memory_cut : (setup : Setup) (past after : Past) (who : ℕ) (items : List Item)
     (said more : List ℕ) (whole : Bool) (standing : EndState) (others : List EventKind)
-    (old between new : Talking) → pending_of between ≡ pending_of old ++ more
+    (brought : Option ConnEnd) (old between new : Talking)
+    → pending_of between ≡ pending_of old ++ more
     → asks_of setup.centre items ≡ reverse (events_by who past) ++ others
     → ClosesLeft whole conn_ends.Memory standing setup.centre past who items (said ++ more) between
-    after new → IsCut setup past who items said old after new
-memory_cut setup past after who items said more whole standing others old between new pending asks
-    c =
+    after new → CutsOff setup past who items said old brought after new
+memory_cut setup past after who items said more whole standing others brought old between new
+    pending asks c =
     let closing = closing_said between conn_ends.Memory in
     let said_is : (said ++ more) ++ closing ≡ said ++ (more ++ closing) =
     append_assoc said more closing in
     let left : HasLeft whole conn_ends.Memory standing setup.centre after who items
     (said ++ (more ++ closing)) None new =
     subst (λ (os : List ℕ). HasLeft whole conn_ends.Memory standing setup.centre after who items os
-    None new) said_is c.left in
-    record {
-      adds = record {
-        added = more ++ closing;
-        pending = c.pending ∙ ap (λ (os : List ℕ). os ++ closing) pending
-            ∙ append_assoc (pending_of old) more closing;
-      };
-      end = conn_ends.Memory;
-      by_node = tt;
-      ended = c.ended;
-      others = others;
-      asks_are = asks;
-      cause = tt;
-      after_is = c.after_is;
-      none_open = none_left whole conn_ends.Memory standing setup.centre after who items
-          (said ++ (more ++ closing)) new left c.ended;
-      said_is = said_in_part setup after who items (said ++ (more ++ closing)) whole
-          conn_ends.Memory standing new left c.ended;
-    }
+    None new) said_is c.left in (
+      record {
+        adds = record {
+          added = more ++ closing;
+          pending = c.pending ∙ ap (λ (os : List ℕ). os ++ closing) pending
+              ∙ append_assoc (pending_of old) more closing;
+        };
+        end = conn_ends.Memory;
+        by_node = tt;
+        ended = c.ended;
+        others = others;
+        asks_are = asks;
+        cause = tt;
+        after_is = c.after_is;
+        none_open = none_left whole conn_ends.Memory standing setup.centre after who items
+            (said ++ (more ++ closing)) new left c.ended;
+        said_is = said_in_part setup after who items (said ++ (more ++ closing)) whole
+            conn_ends.Memory standing new left c.ended;
+      },
+      tt,
+    )
 
 -- what it says when it is left
 abbrev leaving_said : Talking → List ℕ
@@ -120,7 +124,8 @@ pub unnoted_cut : (before middle after : NodeState) (who : ℕ) (items : List It
     → between ≡ unnoted (Ok answer) old → KeepsPlace old between → KeepsPlace between left
     → IsLeft conn_ends.Memory between left → ClosesSo middle after who left new
     → Serves before.setup.centre (reverse before.history) who items said (Some event) old
-    → IsCut before.setup (with_event who event (reverse before.history)) who items said old
+    → CutsOff before.setup (with_event who event (reverse before.history)) who items said old
+    (end_answered items (answer_of before.setup (reverse before.history) who event))
     (reverse after.history) new
 unnoted_cut before middle after who items said event answer old between left new taken right is
     stays on parts closes s =
@@ -134,7 +139,7 @@ unnoted_cut before middle after who items said event answer old between left new
     closed_of (unnoted_left setup past who items said event answer old between left right is stays on
     parts s) in
     memory_cut setup now (reverse after.history) who items said more false old.course.standing n.0
-    old left new
+    (end_answered items (answer_of setup past who event)) old left new
     (left_pending between left parts ∙ ap (λ (v : Talking). pending_of v ++ more) is)
     (n.1 ∙ sym (append_assoc (reverse (events_by who past)) (event ∷ []) n.0)
     ∙ ap (λ (es : List EventKind). es ++ n.0) (sym (event_behind who past event))) closes_so
@@ -270,7 +275,8 @@ pub given_cut : (before after : NodeState) (who : ℕ) (items : List Item) (said
     → IsIdle between.progress → between.stage ≡ old.stage → KeepsPlace between left
     → IsLeft conn_ends.Memory between left → ClosesSo before after who left new
     → Serves before.setup.centre (reverse before.history) who items said None old
-    → IsCut before.setup (reverse before.history) who items said old (reverse after.history) new
+    → CutsOff before.setup (reverse before.history) who items said old None (reverse after.history)
+    new
 given_cut before after who items said old between left new runs passes idle stage on parts closes
     s =
     let rows = before.setup.centre in
@@ -281,7 +287,7 @@ given_cut before after who items said old between left new runs passes idle stag
     let said_is : (said ++ w.added) ++ more ≡ said ++ (w.added ++ more) =
     append_assoc said w.added more in
     memory_cut before.setup past (reverse after.history) who items said (w.added ++ more) true
-    between.course.standing w.others old left new
+    between.course.standing w.others None old left new
     (left_pending between left parts ∙ ap (λ (os : List ℕ). os ++ more) w.pending
     ∙ append_assoc (pending_of old) w.added more) w.asks_are
     (closes true conn_ends.Memory between.course.standing items (said ++ (w.added ++ more))

@@ -1,14 +1,12 @@
 -- Of a connection whose event the node has refused: all octets that its peer is sent are said once
 -- its association is closed.
 use Rattle.std.proofs.Common.{◌≡◌, ℕ, Bool, true, false, List, [], ◌∷◌, ◌++◌, reverse}
-use Rattle.std.proofs.Common.{Option, Some, None, Err, refl, sym, ap, subst, ◌∙◌}
+use Rattle.std.proofs.Common.{Some, None, Err, refl, sym, ap, subst, ◌∙◌}
 use Rattle.std.proofs.Common.{append_assoc}
-use Rattle.std.specs.Prelude.{if◌then◌else◌, MatchOption}
+use Rattle.std.specs.Prelude.{if◌then◌else◌}
 use Rattle.std.proofs.lemmas.Bool.{false≢true, true≢false}
 use Rattle.std.proofs.lemmas.List.{append-nil}
 use Rattle.mms_services.specs.declared.initiate.Initiate.{Initiate}
-use Rattle.stack_messages.specs.declared.fault.StackFault.{StackFault}
-use Rattle.stack_assoc.specs.Arrivals.{Arrival}
 use Rattle.stack_assoc.specs.Courses.{Course, is_accepted}
 use Rattle.stack_assoc.specs.declared.end_state.EndState.{EndState}
 use Rattle.bilateral.specs.Rows.{CentreRows}
@@ -26,17 +24,14 @@ use Rattle.tase_map.specs.Turns.{pauses, turns_of}
 use Rattle.tase_map.specs.Asks.{without_pauses}
 use Rattle.tase_conn.specs.declared.stage.PendingEvent.{PendingEvent}
 use Rattle.tase_conn.specs.declared.stage.PendingEvent.TheVariants as askeds
-use Rattle.tase_conn.specs.declared.stage.Behind.{Behind}
-use Rattle.tase_conn.specs.declared.stage.Behind.TheVariants as behinds
-use Rattle.tase_conn.specs.declared.stage.Coming.{Coming}
 use Rattle.tase_conn.specs.declared.stage.ConnEnd.{ConnEnd}
 use Rattle.tase_conn.specs.declared.stage.Progress.{Progress}
 use Rattle.tase_conn.specs.declared.stage.Progress.TheVariants as progresses
 use Rattle.tase_conn.specs.declared.stage.Stage.{Stage}
 use Rattle.tase_conn.specs.declared.stage.Stage.TheVariants as stages
-use Rattle.tase_conn.specs.Talking.{Talking, pending_of, is_open_stage}
-use Rattle.tase_conn.specs.Places.{GoesBy, Runs, ReadsBy, IsDone, Position, has_begun}
-use Rattle.tase_conn.specs.Places.{BeginsTurns, IsPassed, KeepsPlace, turns_held}
+use Rattle.tase_conn.specs.Talking.{Talking, pending_of, is_open_stage, is_leaving}
+use Rattle.tase_conn.specs.Places.{GoesBy, Runs, Position, has_begun}
+use Rattle.tase_conn.specs.Places.{KeepsPlace}
 use Rattle.tase_conn.proofs.Known.{begun_connected, served_position, opening_position}
 use Rattle.tase_conn.specs.Leaving.{IsLeft}
 use Rattle.tase_conn.specs.Answering.{parting_octets, IsAnswerFor, aborts as aborts_for}
@@ -44,16 +39,16 @@ use Rattle.tase_conn.specs.Answering.{end_of_fault}
 use Rattle.conn_laws.specs.Serving.{Serves, SaysBy, SaysOpen, IsWaiting}
 use Rattle.tase_map.specs.Sent.{with_event}
 use Rattle.conn_laws.specs.Serving.{HoldsOfAllInput}
-use Rattle.conn_laws.specs.Cutting.{IsUnexplained, HasLeft, HasSetupOf, left_said, is_leaving}
+use Rattle.conn_laws.specs.Cutting.{IsUnexplained, HasLeft, HasSetupOf, left_said}
 use Rattle.conn_laws.proofs.Answered.{asked_turn, opens_early, request_served, take_served}
-use Rattle.conn_laws.proofs.Answered.{IsServedAt}
+use Rattle.conn_laws.proofs.Answered.{IsServedAt, take_whole}
 use Rattle.conn_laws.proofs.Left.{setup_known, stands_by, unparted, open_left, closed_says}
 use Rattle.conn_laws.proofs.Leftover.{all_said}
 use Rattle.conn_laws.proofs.Served.{begins_turns, next_asked}
 use Rattle.conn_laws.proofs.Unopened.{unopened_said}
 use Rattle.conn_laws.proofs.Wanted.{waiting_of}
-use Rattle.conn_service.specs.Attending.{IsAsking, IsParting, IsCut, ClosesLeft}
-use Rattle.conn_service.specs.Attending.{closing_said, IsNodesEnd}
+use Rattle.conn_service.specs.Attending.{IsAsking, IsParting, ClosesLeft}
+use Rattle.conn_service.specs.Attending.{closing_said, IsNodesEnd, IsBrought, CutsOff}
 use Rattle.conn_service.specs.Served.{with_closed}
 use Rattle.conn_service.specs.Sends.{IsCutFor, IsSaidByEnd}
 use Rattle.tase_map.specs.Linked.{link_octets}
@@ -88,24 +83,6 @@ refused_at rows past who items said event asked rest v s r w is un accepted =
       accepted = accepted;
       setup = setup_known items s.told s.answered rows s.turns asked v r connect;
     }
-
--- behind a take that waits nothing stands
-take_whole : (rows : CentreRows) (items : List Item) (told : List Arrival) (turns : List Turn)
-    (v : Talking) → Runs rows items told turns askeds.Taking v → turns_of items ≡ turns
-take_whole rows items told turns v r =
-    let held = (take_served v.stage v.held r.waits).held_is in
-    let seen = turns ++ turns_held v.held in
-    let clear : v.course.fault ≡ None =
-    ap (λ (p : Position). p.fault) (served_position r tt) in
-    let read : v.behind ≡ behinds.Nothing =
-    subst (λ (h : Option Coming). IsPassed h v.behind askeds.Taking) held r.passed in
-    let reads : ReadsBy v.behind items told seen v =
-    subst (λ (f : Option StackFault). MatchOption f (ReadsBy v.behind items told seen v)
-    (λ fault. BeginsTurns seen (turns_of items))) clear r.reads in
-    let done : IsDone items told seen v =
-    subst (λ (b : Behind). ReadsBy b items told seen v) read reads in
-    sym done.seen_is ∙ ap (λ (h : Option Coming). turns ++ turns_held h) held
-    ∙ append-nil turns
 
 open_never : (stage : Stage) → stage ≡ stages.Early → is_open_stage stage ≡ true → ⊥
 open_never stage early is = false≢true (sym (ap (λ (x : Stage). is_open_stage x) early) ∙ is)
@@ -249,6 +226,17 @@ fault_aborts faults.UnknownName = refl
 fault_aborts faults.ClockRange = refl
 fault_aborts (faults.Backward last) = refl
 
+-- and its answers none
+fault_brings : (fault : StepFault) → IsBrought (end_of_fault fault) None
+fault_brings faults.Memory = tt
+fault_brings (faults.Stopped place) = refl
+fault_brings (faults.HistoryFull weight limit) = refl
+fault_brings faults.NoAssociation = tt
+fault_brings faults.Already = tt
+fault_brings faults.UnknownName = tt
+fault_brings faults.ClockRange = tt
+fault_brings (faults.Backward last) = tt
+
 -- the node brings the end
 fault_ends : (fault : StepFault) → IsNodesEnd (end_of_fault fault)
 fault_ends faults.Memory = tt
@@ -333,7 +321,8 @@ pub refused_cut : (before middle after : NodeState) (who : ℕ) (items : List It
     → KeepsPlace old between → IsLeft (end_of_fault fault) old between
     → ClosesSo middle after who between new
     → Serves before.setup.centre (reverse before.history) who items said (Some event) old
-    → IsCut before.setup (reverse before.history) who items said old (reverse after.history) new
+    → CutsOff before.setup (reverse before.history) who items said old None (reverse after.history)
+    new
 refused_cut before middle after who items said event fault old between new same right stays left
     closes s =
     let setup = before.setup in
@@ -347,28 +336,30 @@ refused_cut before middle after who items said event fault old between new same 
     let c = closes_so true end old.course.standing items (said ++ more)
     (refused_left setup past who items said event fault old between right stays left s) in
     let l = stands_by (is_open_stage old.stage) end old between refl left in
-    let n = next_asked rows past who items said event old s in
-    record {
-      adds = record {
-        added = more ++ closing;
-        pending = c.pending ∙ ap (λ (os : List ℕ). os ++ closing) l.pending
-            ∙ append_assoc (pending_of old) more closing;
-      };
-      end = end;
-      by_node = fault_ends fault;
-      ended = c.ended;
-      others = event ∷ n.0;
-      asks_are = n.1;
-      cause = fault_cuts setup past who items event fault right;
-      after_is = c.after_is;
-      none_open = none_left true end old.course.standing rows (reverse after.history) who items
-          ((said ++ more) ++ closing) new c.left c.ended;
-      said_is = subst (λ (os : List ℕ). IsSaidByEnd items (Some end) os
-          (link_octets rows (reverse after.history) who items))
-          (sym (all_by (is_open_stage old.stage) setup past (reverse after.history) who items said
-          event fault old between refl right left s c.after_is))
-          (said_whole items (Some end) (link_octets rows (reverse after.history) who items));
-    }
+    let n = next_asked rows past who items said event old s in (
+      record {
+        adds = record {
+          added = more ++ closing;
+          pending = c.pending ∙ ap (λ (os : List ℕ). os ++ closing) l.pending
+              ∙ append_assoc (pending_of old) more closing;
+        };
+        end = end;
+        by_node = fault_ends fault;
+        ended = c.ended;
+        others = event ∷ n.0;
+        asks_are = n.1;
+        cause = fault_cuts setup past who items event fault right;
+        after_is = c.after_is;
+        none_open = none_left true end old.course.standing rows (reverse after.history) who items
+            ((said ++ more) ++ closing) new c.left c.ended;
+        said_is = subst (λ (os : List ℕ). IsSaidByEnd items (Some end) os
+            (link_octets rows (reverse after.history) who items))
+            (sym (all_by (is_open_stage old.stage) setup past (reverse after.history) who items said
+            event fault old between refl right left s c.after_is))
+            (said_whole items (Some end) (link_octets rows (reverse after.history) who items));
+      },
+      fault_brings fault,
+    )
 
 -- what its close is asked of
 pub parting_on : (before middle : NodeState) (who : ℕ) (event : EventKind) (fault : StepFault)

@@ -7,7 +7,7 @@ use Rattle.sbo_device.specs.declared.key.Key.{Key}
 use Rattle.tase_views.specs.Setup.{Setup}
 use Rattle.tase_views.specs.Weights.{weight_of}
 use Rattle.tase_views.specs.History.{Past, association_in}
-use Rattle.tase_views.specs.Outcomes.{refusal_of}
+use Rattle.tase_views.specs.Outcomes.{refusal_of, answer_of}
 use Rattle.tase_views.specs.declared.event.EventKind.{EventKind}
 use Rattle.tase_views.specs.declared.event.EventKind.TheVariants as events
 use Rattle.tase_map.specs.Inputs.{Item}
@@ -16,10 +16,11 @@ use Rattle.tase_map.specs.Sent.{events_by, with_event}
 use Rattle.tase_conn.specs.declared.stage.ConnEnd.{ConnEnd}
 use Rattle.tase_conn.specs.declared.stage.ConnEnd.TheVariants as conn_ends
 use Rattle.tase_conn.specs.declared.stage.Progress.TheVariants as progresses
-use Rattle.tase_conn.specs.Talking.{Talking, pending_of, conn_end_in, IsResting}
+use Rattle.tase_conn.specs.Talking.{Talking, pending_of, conn_end_in, IsResting, is_leaving}
 use Rattle.tase_conn.specs.Answering.{parting_octets}
 use Rattle.conn_laws.specs.Serving.{Serves}
-use Rattle.conn_laws.specs.Cutting.{HasLeft, is_leaving}
+use Rattle.conn_laws.specs.Cutting.{HasLeft}
+use Rattle.conn_laws.specs.AnswerEnd.{end_answered}
 use Rattle.tase_map.specs.Linked.{link_octets}
 use Rattle.tase_conn.specs.PeerEnd.{peer_end}
 use Rattle.conn_service.specs.Served.{served, with_closed}
@@ -81,6 +82,7 @@ IsAskingClose rows past who event v = (whole : Bool) × (end : ConnEnd) × (stan
 
 -- an end that a node brings
 abbrev pub IsNodesEnd : ConnEnd → Type 0
+IsNodesEnd (conn_ends.TooLong len detail) = Unit {0}
 IsNodesEnd conn_ends.Stopped = Unit {0}
 IsNodesEnd (conn_ends.Full weight limit) = Unit {0}
 IsNodesEnd conn_ends.Memory = Unit {0}
@@ -102,12 +104,29 @@ pub record IsCut (setup : Setup) (past : Past) (who : ℕ) (items : List Item) (
   pub said_is : IsSaidByEnd items (Some end) (said ++ adds.added)
       (link_octets setup.centre after who items)
 
+-- the end that the last answer brings is the one for which it is cut, and where it is refused none;
+-- where memory was wanting it may be that for what is said of a report that is too long
+abbrev pub IsBrought : ConnEnd → Option ConnEnd → Type 0
+IsBrought (conn_ends.TooLong len detail) brought = brought ≡ Some (conn_ends.TooLong len detail)
+IsBrought conn_ends.Memory brought = Unit {0}
+IsBrought end brought = brought ≡ None
+
+-- behind an answer that brings this end, if it brings one
+abbrev pub CutsOff : Setup → Past → ℕ → List Item → List ℕ → Talking → Option ConnEnd → Past
+    → Talking → Type 0
+CutsOff setup past who items said old brought after new =
+    (c : IsCut setup past who items said old after new) × IsBrought c.end brought
+
 -- ---- all that its link gave
 
--- a node takes these events of a seat, and refuses none
-abbrev pub TakesEvents : Setup → ℕ → Past → List EventKind → Past → Type 0
-TakesEvents setup who past taken after =
-    served setup who past taken ≡ record { taken = taken; past = after; refusal = None }
+-- a node takes these events of a seat, and refuses none, and the answer to the last of them brings
+-- this end, if it brings one
+abbrev pub TakesTo : Option ConnEnd → Setup → ℕ → List Item → Past → List EventKind → Past → Type 0
+TakesTo brought setup who items past taken after = served setup who items past taken
+    ≡ record { taken = taken; past = after; refusal = None; end = brought }
+
+abbrev pub TakesEvents : Setup → ℕ → List Item → Past → List EventKind → Past → Type 0
+TakesEvents setup who items past taken after = TakesTo None setup who items past taken after
 
 -- all that the link asks was taken: it goes on, with nothing left of what the link gave, or the peer
 -- has ended it
@@ -115,7 +134,7 @@ pub record IsAllServed (setup : Setup) (past : Past) (who : ℕ) (items : List I
     (said : List ℕ) (old : Talking) (after : Past) (new : Talking) : Type 0 where
   pub adds : AddsPending old new
   pub taken : List EventKind
-  pub takes : TakesEvents setup who past taken after
+  pub takes : TakesEvents setup who items past taken after
   pub asks_are : asks_of setup.centre items ≡ reverse (events_by who past) ++ taken
   pub serves : Serves setup.centre after who items (said ++ adds.added) None new
   pub resting : IsResting new
@@ -127,8 +146,10 @@ pub record IsServedTo (setup : Setup) (past : Past) (who : ℕ) (items : List It
     (said : List ℕ) (old : Talking) (after : Past) (new : Talking) : Type 0 where
   pub taken : List EventKind
   pub between : Past
-  pub takes : TakesEvents setup who past taken between
+  pub brought : Option ConnEnd
+  pub takes : TakesTo brought setup who items past taken between
   pub cut : IsCut setup between who items said old after new
+  pub brings : IsBrought cut.end brought
 
 -- one of both
 abbrev pub Attends : Setup → Past → ℕ → List Item → List ℕ → Talking → Past → Talking → Type 0
@@ -160,18 +181,32 @@ IsWanted setup past who items said old (Some event) after new = (after ≡ past)
     × (a : AddsPending old new)
     × Serves setup.centre past who items (said ++ a.added) (Some event) new
 IsWanted setup past who items said old None after new =
-    IsAtRest setup past who items said old after new ⊎ IsCut setup past who items said old after new
+    IsAtRest setup past who items said old after new
+    ⊎ CutsOff setup past who items said old None after new
 
 -- the event that waited was answered; or it was refused, and the connection cut; or that was cut
--- behind it, since memory was wanting for what is said
+-- behind it, since a report is too long, or memory was wanting for what is said
 abbrev pub AnswersEvent : Setup → Past → ℕ → List Item → List ℕ → EventKind → Talking → Bool → Past
     → Talking → Type 0
 AnswersEvent setup past who items said event old true after new =
     (refusal_of setup past who event ≡ None) × (after ≡ with_event who event past)
     × (a : AddsPending old new) × Serves setup.centre after who items (said ++ a.added) None new
+    × (end_answered items (answer_of setup past who event) ≡ None)
 AnswersEvent setup past who items said event old false after new =
-    IsCut setup past who items said old after new ⊎ ((refusal_of setup past who event ≡ None)
-    × IsCut setup (with_event who event past) who items said old after new)
+    CutsOff setup past who items said old None after new
+    ⊎ ((refusal_of setup past who event ≡ None)
+    × CutsOff setup (with_event who event past) who items said old
+    (end_answered items (answer_of setup past who event)) after new)
+
+-- a connection that was told an answer goes on as it is; or it was left by that, and then its
+-- association is closed
+abbrev pub GoesOrCloses : Bool → CentreRows → Past → ℕ → Talking → Past → Talking → Type 0
+GoesOrCloses true rows past who old after new =
+    (is_leaving old.progress ≡ false) × (after ≡ past) × (new ≡ old)
+GoesOrCloses false rows past who old after new = (is_leaving old.progress ≡ true)
+    × ((whole : Bool) (end : ConnEnd) (standing : EndState) (items : List Item) (said : List ℕ)
+    → HasLeft whole end standing rows past who items said None old
+    → ClosesLeft whole end standing rows past who items said old after new)
 
 -- ---- how long it goes on
 

@@ -1,9 +1,8 @@
 -- What is owed to the peer of a link, whoever serves its connection: which events of the seat have
 -- come of what the link gave, and which octets were said.
 use Rattle.std.specs.Prelude.{◌≡◌, ◌⊎◌, ℕ, ◌<◌, List, [], ◌∷◌, ◌++◌, reverse, Option, Some, None}
-use Rattle.std.specs.Prelude.{ℤ, unsigned_abs}
+use Rattle.std.specs.Prelude.{unsigned_abs}
 use Rattle.sbo_device.specs.declared.key.Key.{Key}
-use Rattle.stack_assoc.specs.Arrivals.{first_in, connect_in}
 use Rattle.stack_assoc.specs.Expectations.{setup_after}
 use Rattle.tase_views.specs.Setup.{Setup}
 use Rattle.tase_views.specs.History.{Past, association_in}
@@ -11,17 +10,17 @@ use Rattle.tase_views.specs.Outcomes.{refusal_of, answer_of}
 use Rattle.tase_views.specs.declared.event.EventKind.{EventKind}
 use Rattle.tase_views.specs.declared.event.EventKind.TheVariants as events
 use Rattle.tase_views.specs.declared.reply.Answer.TheVariants as answers
-use Rattle.tase_views.specs.declared.reply.Report.{Report}
+use Rattle.tase_views.specs.declared.reply.ReportKind.{ReportKind}
 use Rattle.tase_views.specs.declared.fault.StepFault.{StepFault}
 use Rattle.tase_views.specs.declared.fault.StepFault.TheVariants as faults
 use Rattle.tase_map.specs.Inputs.{Item, text_given}
 use Rattle.tase_map.specs.Readings.{reading_of}
 use Rattle.tase_map.specs.Asks.{asks_of}
-use Rattle.tase_map.specs.Out.{abort_wire, detail_of, first_too_long}
+use Rattle.tase_map.specs.Out.{abort_wire, first_too_long}
 use Rattle.tase_map.specs.Sent.{events_by, with_event}
 use Rattle.tase_conn.specs.declared.stage.ConnEnd.{ConnEnd}
 use Rattle.tase_conn.specs.declared.stage.ConnEnd.TheVariants as conn_ends
-use Rattle.tase_map.specs.Linked.{link_octets}
+use Rattle.tase_map.specs.Linked.{link_octets, detail_given}
 use Rattle.tase_conn.specs.PeerEnd.{peer_end}
 
 -- ---- the events
@@ -37,10 +36,6 @@ abbrev pub first_refused : Setup → Past → ℕ → List EventKind → Option 
 first_refused setup past who [] = None
 first_refused setup past who (event ∷ events) = refusal_of setup past who event
 
--- the most octets of a PDU, as agreed on in what the link gave
-abbrev pub detail_given : List Item → ℤ
-detail_given items = detail_of (first_in connect_in (reading_of (text_given items)).told)
-
 -- the seat's last event was a take, and the first of its reports that is longer than was agreed on
 -- has so many octets
 pub record TakesTooLong (setup : Setup) (past : Past) (who : ℕ) (items : List Item)
@@ -49,7 +44,7 @@ pub record TakesTooLong (setup : Setup) (past : Past) (who : ℕ) (items : List 
   pub before : Past
   pub past_is : past ≡ later ++ with_event who events.Take before
   pub last : events_by who later ≡ []
-  pub reports : List Report
+  pub reports : List ReportKind
   pub answer : answer_of setup before who events.Take ≡ answers.Reports reports
   pub len_is : first_too_long (detail_given items) reports ≡ Some len
   pub detail_is : detail ≡ unsigned_abs (detail_given items)

@@ -1,9 +1,9 @@
 //! A node attends to a connection.
 ghost use Rattle.std.specs.Prelude.{◌≡◌, ℕ, Bool, List, None, Some, reverse};
-ghost use Rattle.std.specs.Prelude.{false};
+ghost use Rattle.std.specs.Prelude.{true, false};
 ghost use Rattle.stack_assoc.specs.declared.end_state.EndState.{EndState};
 ghost use Rattle.tase_conn.specs.declared.stage.ConnEnd.{ConnEnd as AnyEnd};
-ghost use Rattle.tase_conn.specs.Talking.{Talking as AnyTalking, IsFree, is_running};
+ghost use Rattle.tase_conn.specs.Talking.{Talking as AnyTalking, IsFree, is_running, is_leaving};
 ghost use Rattle.tase_conn.specs.Places.{IsPlaced};
 ghost use Rattle.tase_conn.specs.Wanting.{WantsSo};
 ghost use Rattle.tase_map.specs.Inputs.{Item};
@@ -11,7 +11,7 @@ ghost use Rattle.conn_laws.specs.Serving.{Serves};
 ghost use Rattle.conn_laws.specs.Cutting.{HasLeft};
 ghost use Rattle.conn_service.specs.Attending.{IsServed, IsAsking, IsParting, Attends, SendsOn};
 ghost use Rattle.conn_service.specs.Attending.{IsWanted, AnswersEvent, ClosesLeft, AsksClose};
-ghost use Rattle.conn_service.specs.Attending.{IsAskingClose};
+ghost use Rattle.conn_service.specs.Attending.{IsAskingClose, GoesOrCloses};
 
 use node_core::Node;
 use std::alloc::Global;
@@ -71,7 +71,7 @@ fn wanted(alloc: Global, node: &mut Node, who: u64, conn: &mut Conn) -> Option<E
 }
 
 /// Takes an event that a connection wants, and tells it the answer. Whether the connection goes on:
-/// not where the event was refused, or memory was wanting for what is said.
+/// not where the event was refused, a report is too long, or memory was wanting for what is said.
 fn answer(alloc: Global, node: &mut Node, who: u64, conn: &mut Conn, event: Event) -> bool
     requires waits { IsAsking node.old.setup.centre (reverse node.old.history) who event conn.old }
     ensures answers { (items : List Item) (said : List ℕ)
@@ -83,7 +83,7 @@ fn answer(alloc: Global, node: &mut Node, who: u64, conn: &mut Conn, event: Even
 {
     match node.step(alloc, who, event) {
         Ok(answer) => match conn.tell(Ok(answer)) {
-            Ok(()) => true,
+            Ok(()) => goes_on(alloc, node, who, conn),
             Err(_) => {
                 conn.give_up(ConnEnd::Memory);
                 close(alloc, node, who, conn);
@@ -97,6 +97,22 @@ fn answer(alloc: Global, node: &mut Node, who: u64, conn: &mut Conn, event: Even
             false
         }
     }
+}
+
+/// Whether a connection goes on that was told an answer. Where it was left by that its association
+/// is closed.
+fn goes_on(alloc: Global, node: &mut Node, who: u64, conn: &mut Conn) -> bool
+    requires left { is_leaving conn.old.progress ≡ true
+        → IsParting node.old.setup.centre (reverse node.old.history) who conn.old }
+    ensures goes { GoesOrCloses result node.old.setup.centre (reverse node.old.history) who
+        conn.old (reverse node.new.history) conn.new }
+    ensures setup { node.new.setup ≡ node.old.setup }
+{
+    if !conn.is_leaving() {
+        return true;
+    }
+    close(alloc, node, who, conn);
+    false
 }
 
 /// Closes the association of a connection that was left, where one is open. No memory is taken.

@@ -3,6 +3,8 @@
 #![tactic(auto)]
 
 #[cfg(test)]
+mod octets;
+#[cfg(test)]
 mod play;
 #[cfg(test)]
 mod rows;

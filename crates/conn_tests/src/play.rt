@@ -2,13 +2,12 @@
 ghost use Rattle.std.specs.Prelude.{OnOk};
 ghost use Rattle.conn_tests.specs.Playing.{IsAtRest};
 
+use crate::octets::{joined, octets_of};
 use crate::rows::{Leave, ROWS, Row};
 use crate::steps::{conn_of, give_up, goes_on, send, serve, take};
-use plain_text::read_hex;
 use std::alloc::Global;
 use std::test::*;
 use tase_conn::{Conn, ConnEnd};
-use tase_views::StepFault;
 
 /// What came of a connection: what it wanted, a letter for each event, what it sent, and how it
 /// ended.
@@ -19,34 +18,11 @@ struct Played {
     end: Option<ConnEnd>,
 }
 
-/// The octets of hexadecimal digits.
-fn octets_of(alloc: Global, digits: &str) -> Result<Vec<u8>, Fail> {
-    Ok(read_hex(alloc, digits.as_bytes())?.ok_or("not hexadecimal")?)
-}
-
-/// The octets of parts, one behind another.
-fn joined(alloc: Global, parts: &[&str]) -> Result<Vec<u8>, Fail> {
-    let mut all = Vec::new(alloc);
-    for part in parts {
-        let octets = octets_of(alloc, part)?;
-        all.extend_from_slice(octets.as_slice())?;
-    }
-    Ok(all)
-}
-
-/// What the node refuses, if it refuses something.
-fn refused(leave: Leave) -> Option<(u8, StepFault)> {
-    match leave {
-        Leave::Refused(letter, fault) => Some((letter, fault)),
-        Leave::GivenUp(_) => None,
-    }
-}
-
 fn feed(
     alloc: Global,
     conn: &mut Conn,
     digits: &str,
-    refused: Option<(u8, StepFault)>,
+    leave: Leave,
     made: &mut Played,
 ) -> Result<(), Fail>
     requires { IsAtRest conn.old }
@@ -54,7 +30,7 @@ fn feed(
 {
     let piece = octets_of(alloc, digits)?;
     take(conn, piece.as_slice())?;
-    serve(alloc, conn, &mut made.wants, refused)?;
+    serve(alloc, conn, &mut made.wants, leave)?;
     send(conn, &mut made.out)
 }
 
@@ -62,14 +38,14 @@ fn feed_all(
     alloc: Global,
     conn: &mut Conn,
     pieces: &[&str],
-    refused: Option<(u8, StepFault)>,
+    leave: Leave,
     made: &mut Played,
 ) -> Result<(), Fail>
     requires { IsAtRest conn.old }
     ensures { OnOk result (IsAtRest conn.new) }
 {
     for piece in pieces {
-        feed(alloc, conn, piece, refused, made)?;
+        feed(alloc, conn, piece, leave, made)?;
     }
     Ok(())
 }
@@ -83,7 +59,7 @@ fn leave_for(alloc: Global, conn: &mut Conn, end: ConnEnd, made: &mut Played) ->
         return Ok(());
     }
     give_up(conn, end);
-    serve(alloc, conn, &mut made.wants, None)
+    serve(alloc, conn, &mut made.wants, Leave::GivenUp(end))
 }
 
 /// Gives the connection up, if it is to be.
@@ -93,7 +69,7 @@ fn leave(alloc: Global, conn: &mut Conn, leave: Leave, made: &mut Played) -> Res
 {
     match leave {
         Leave::GivenUp(end) => leave_for(alloc, conn, end, made),
-        Leave::Refused(..) => Ok(()),
+        Leave::Refused(..) | Leave::Reported(_) => Ok(()),
     }
 }
 
@@ -109,7 +85,7 @@ fn play_row(alloc: Global, conn: &mut Conn, row: &Row, made: &mut Played) -> Res
     requires { IsAtRest conn.old }
     ensures { OnOk result (IsAtRest conn.new) }
 {
-    feed_all(alloc, conn, row.given, refused(row.leave), made)?;
+    feed_all(alloc, conn, row.given, row.leave, made)?;
     leave(alloc, conn, row.leave, made)?;
     send(conn, &mut made.out)
 }

@@ -1,6 +1,6 @@
 //! Streams of a peer whose connection is left: the node refuses an event since its history is full or
-//! memory is wanting, or the connection is given up. Octets worked out by hand from RFC 1006,
-//! ISO 8073, ISO 8327-1, ISO 8823-1, ISO 8650-1 and ISO 9506-2.
+//! memory is wanting, a report is longer than was agreed on, or the connection is given up. Octets
+//! worked out by hand from RFC 1006, ISO 8073, ISO 8327-1, ISO 8823-1, ISO 8650-1 and ISO 9506-2.
 use tase_conn::ConnEnd;
 use tase_views::StepFault;
 
@@ -17,6 +17,8 @@ pub(crate) enum Leave {
     Refused(u8, StepFault),
     /// It is given up behind its stream.
     GivenUp(ConnEnd),
+    /// The node answers a take by these reports, each in parts, of which one is too long.
+    Reported(&'static [&'static [&'static str]]),
 }
 
 /// One stream.
@@ -63,6 +65,38 @@ const CONCLUDED: &str = "0300001602f0800100010061093007020103a0028c00";
 
 /// The abort.
 const ABORT: &str = "0300001e02f080191511010bc110a00e610c300a020101a0056403800100";
+
+/// A connect that offers PDUs of 1000 octets, and its accept.
+const SHORT_CONNECT: &str = "030000b002f0800da70506130100160102140200023302000134020001c19131818ea0\
+    03800101a28186810400000001820400000001a423300f0201010604520100013004060251013010020103060528ca2\
+    2020130040602510161533051020101a04c604aa107060528ca220203a606060429876701a70302010cbe3228300602\
+    5101020103a027a825800203e8810105820105830105a416800101810305f100820c03ee1c00000408000079ef18";
+
+const SHORT_ACCEPT: &str = "0300008e02f0800e8505061301001601021402000234020001c1733171a003800101a26\
+    a830400000001a512300780010081025101300780010081025101614e304c020101a0476145a107060528ca220203a2\
+    03020100a305a103020100be2e282c020103a027a925800203e8810105820105830105a416800101810305e100820c0\
+    36c1c000000000000000110";
+
+/// The report `set DOMA/S=i5,!3`, and as it is sent.
+const SET_REPORT: &str = "a317a015a10ba1091a04444f4d411a0153a006850105800103";
+
+const SET_SENT: &str =
+    "0300002d02f080010001006120301e020103a019a317a015a10ba1091a04444f4d411a0153a006850105800103";
+
+/// The report `vars DOMA/BRK1_TIMEOUT=i77`, and as it is sent.
+const VARS_REPORT: &str =
+    "a323a021a01a3018a016a1141a04444f4d411a0c42524b315f54494d454f5554a00385014d";
+
+const VARS_SENT: &str = "0300003902f08001000100612c302a020103a025a323a021a01a3018a016a1141a04444f4d\
+    411a0c42524b315f54494d454f5554a00385014d";
+
+/// A report of DOMA/S with 330 outcomes, which has 1015 octets, without the outcomes.
+const LONG_REPORT: &str = "a38203f3a08203efa10ba1091a04444f4d411a0153a08203de";
+
+/// Of these outcomes 33.
+const OUTCOMES: &str = "800103800103800103800103800103800103800103800103800103800103800103800103800\
+    10380010380010380010380010380010380010380010380010380010380010380010380010380010380010380010380\
+    0103800103800103800103800103";
 
 const FULL: StepFault = StepFault::HistoryFull {
     weight: 9,
@@ -154,5 +188,33 @@ pub(crate) const ROWS: &[Row] = &[
         wants: "OTC",
         sent: &[CONFIRM, ACCEPT, CONCLUDED, ABORT],
         end: ConnEnd::Stopped,
+    },
+    Row {
+        name: "a long report",
+        given: &[REQUEST, SHORT_CONNECT],
+        leave: Leave::Reported(&[
+            &[SET_REPORT],
+            &[VARS_REPORT],
+            &[
+                LONG_REPORT,
+                OUTCOMES,
+                OUTCOMES,
+                OUTCOMES,
+                OUTCOMES,
+                OUTCOMES,
+                OUTCOMES,
+                OUTCOMES,
+                OUTCOMES,
+                OUTCOMES,
+                OUTCOMES,
+            ],
+            &[SET_REPORT],
+        ]),
+        wants: "OTC",
+        sent: &[CONFIRM, SHORT_ACCEPT, SET_SENT, VARS_SENT, ABORT],
+        end: ConnEnd::TooLong {
+            len: 1015,
+            detail: 1000,
+        },
     },
 ];

@@ -1,20 +1,24 @@
 //! The steps of a connection with a node that answers opens, takes and closes, unless it is to refuse
 //! them.
 ghost use Rattle.std.specs.Prelude.{◌≡◌, ◌≤◌, Ok, Err, None, true, IfOk, OnOk, length};
+ghost use Rattle.mms_services.specs.Lawful.{IsLawfulPdu};
 ghost use Rattle.tase_conn.specs.Talking.{conn_end_in, next_pending};
 ghost use Rattle.tase_conn.specs.Places.{IsPlaced};
 ghost use Rattle.tase_conn.specs.Answering.{IsAnswerFor, IsCutFault};
 ghost use Rattle.conn_tests.specs.Playing.{IsReady, IsAtRest, IsAwaited, HasWanted, HasServed};
 ghost use Rattle.conn_tests.specs.Playing.{IsAnswerOf};
 
-use crate::rows::TABLES;
+use crate::octets::joined;
+use crate::rows::{Leave, TABLES};
 use bilateral::{Centre, read_centre};
+use mms_services::{MmsPdu, read_pdu};
 use sbo_device::Key;
 use std::alloc::{AllocError, Global};
 use std::sync::Arc;
 use std::test::Fail;
 use tase_conn::{Conn, ConnEnd};
-use tase_views::{Answer, Event, EventKind, Reports, StepFault};
+use tase_map::report_of;
+use tase_views::{Answer, Event, EventKind, Report, Reports, StepFault};
 
 fn centre_of(alloc: Global) -> Result<Centre, Fail> {
     match read_centre(alloc, TABLES.as_bytes())? {
@@ -48,8 +52,42 @@ fn letter(kind: &EventKind) -> u8 {
     }
 }
 
+/// The PDU that octets are.
+fn pdu_of(alloc: Global, octets: &[u8]) -> Result<MmsPdu, Fail>
+    ensures { IfOk result (λ pdu. IsLawfulPdu pdu) }
+{
+    match read_pdu(alloc, octets)? {
+        Ok(pdu) => Ok(pdu),
+        Err(_) => Err("no PDU".into()),
+    }
+}
+
+/// The report that octets are.
+fn report_told(alloc: Global, octets: &[u8]) -> Result<Report, Fail> {
+    let pdu = pdu_of(alloc, octets)?;
+    Ok(report_of(alloc, &pdu)?.ok_or("no report")?)
+}
+
+/// The reports that a node tells, each by the parts of its octets.
+fn reports_of(alloc: Global, told: &[&[&str]]) -> Result<Reports, Fail> {
+    let mut reports = Reports::new(alloc);
+    for parts in told {
+        let octets = joined(alloc, parts)?;
+        reports.push(report_told(alloc, octets.as_slice())?)?;
+    }
+    Ok(reports)
+}
+
+/// The reports that are told to a take.
+fn told_to_take(leave: Leave) -> &'static [&'static [&'static str]] {
+    match leave {
+        Leave::Reported(told) => told,
+        _ => &[],
+    }
+}
+
 /// What a node answers that refuses nothing; no request comes to it.
-fn answer_to(alloc: Global, kind: &EventKind) -> Result<Answer, Fail>
+fn answer_to(alloc: Global, kind: &EventKind, leave: Leave) -> Result<Answer, Fail>
     ensures { IfOk result (λ answer. IsAnswerOf kind.now (Ok answer)) }
 {
     match kind {
@@ -59,7 +97,7 @@ fn answer_to(alloc: Global, kind: &EventKind) -> Result<Answer, Fail>
                 ordinal: 1,
             },
         }),
-        EventKind::Take => Ok(Answer::Reports(Reports::new(alloc))),
+        EventKind::Take => Ok(Answer::Reports(reports_of(alloc, told_to_take(leave))?)),
         EventKind::Close => Ok(Answer::Closed),
         _ => Err("no event that is answered".into()),
     }
@@ -84,24 +122,20 @@ fn refusal_of(kind: &EventKind, fault: StepFault) -> Result<StepFault, Fail>
     }
 }
 
-/// What a node answers that refuses the event, if for a reason.
-fn told_of(
-    alloc: Global,
-    event: &Event,
-    fault: Option<StepFault>,
-) -> Result<Result<Answer, StepFault>, Fail>
+/// What a node answers to the event, or why it refuses it.
+fn told_of(alloc: Global, event: &Event, leave: Leave) -> Result<Result<Answer, StepFault>, Fail>
     ensures { IfOk result (λ told. IsAnswerOf event.now told) }
 {
-    match fault {
+    match fault_of(leave, letter(event.kind())) {
         Some(fault) => Ok(Err(refusal_of(event.kind(), fault)?)),
-        None => Ok(Ok(answer_to(alloc, event.kind())?)),
+        None => Ok(Ok(answer_to(alloc, event.kind(), leave)?)),
     }
 }
 
 /// Why an event of this letter is refused, if it is.
-fn fault_of(refused: Option<(u8, StepFault)>, letter: u8) -> Option<StepFault> {
-    match refused {
-        Some((at, fault)) if at == letter => Some(fault),
+fn fault_of(leave: Leave, letter: u8) -> Option<StepFault> {
+    match leave {
+        Leave::Refused(at, fault) if at == letter => Some(fault),
         _ => None,
     }
 }
@@ -137,13 +171,13 @@ fn answer_event(
     conn: &mut Conn,
     event: &Event,
     wants: &mut Vec<u8>,
-    refused: Option<(u8, StepFault)>,
+    leave: Leave,
 ) -> Result<(), Fail>
     requires placed { IsPlaced conn.old }
     requires awaited { IsAwaited conn.old.progress event.now }
     ensures { OnOk result (IsReady conn.new) }
 {
-    let told = told_of(alloc, event, fault_of(refused, letter(event.kind())))?;
+    let told = told_of(alloc, event, leave)?;
     wants.push(letter(event.kind()))?;
     Ok(answer(conn, event, told)?)
 }
@@ -153,7 +187,7 @@ fn serve_one(
     alloc: Global,
     conn: &mut Conn,
     wants: &mut Vec<u8>,
-    refused: Option<(u8, StepFault)>,
+    leave: Leave,
 ) -> Result<bool, Fail>
     requires { IsReady conn.old }
     ensures { IfOk result (λ served. HasServed served conn.new) }
@@ -161,24 +195,24 @@ fn serve_one(
     match want(conn)? {
         None => Ok(false),
         Some(event) => {
-            answer_event(alloc, conn, &event, wants, refused)?;
+            answer_event(alloc, conn, &event, wants, leave)?;
             Ok(true)
         }
     }
 }
 
-/// Answers all that is wanted; the events of a letter are refused, if some are to be.
+/// Answers all that is wanted, by why the connection is to be left.
 pub(crate) fn serve(
     alloc: Global,
     conn: &mut Conn,
     wants: &mut Vec<u8>,
-    refused: Option<(u8, StepFault)>,
+    leave: Leave,
 ) -> Result<(), Fail>
     requires { IsReady conn.old }
     ensures { OnOk result (IsAtRest conn.new) }
 {
     for _ in 0..100 {
-        if !serve_one(alloc, conn, wants, refused)? {
+        if !serve_one(alloc, conn, wants, leave)? {
             return Ok(());
         }
     }

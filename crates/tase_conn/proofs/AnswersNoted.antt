@@ -1,11 +1,12 @@
 -- Where a connection stands behind the node's answers.
-use Rattle.std.proofs.Common.{◌≡◌, ℕ, Bool, true, false, List, [], ◌∷◌, ◌++◌}
+use Rattle.std.proofs.Common.{◌≡◌, ℕ, Bool, true, false, List, [], ◌++◌}
 use Rattle.std.proofs.Common.{ℤ, ◌≤ℤ◌, Option, Some, None, Result, Ok, Err, MatchOption, MatchBool}
 use Rattle.std.proofs.Common.{refl, sym, ap, subst, ◌∙◌, append_assoc, arith}
 use Rattle.std.specs.Prelude.{Vec, if◌then◌else◌, IfSome, OnOk, OnErr, bytes_eq, option_map}
 use Rattle.std.specs.Option.{option_eq}
 use Rattle.std.specs.Int.{int_min}
 use Rattle.std.specs.declared.alloc.Global.{Global}
+use Rattle.std.proofs.lemmas.Bool.{false≢true}
 use Rattle.std.proofs.lemmas.Int.{ints, int_min_is}
 use Rattle.std.proofs.lemmas.List.{append-nil}
 use Rattle.std.proofs.lemmas.List.Quantifiers.{position-Some}
@@ -24,17 +25,15 @@ use Rattle.stack_messages.specs.declared.expecting.Side.TheVariants as sides
 use Rattle.stack_messages.specs.declared.heard.Connecting.{Connecting}
 use Rattle.stack_wire.specs.Tsdus.{accept_tsdu}
 use Rattle.stack_assoc.specs.declared.input.StackState.TheVariants as states
-use Rattle.stack_assoc.specs.declared.end_state.EndState.{EndState}
 use Rattle.stack_assoc.specs.declared.end_state.EndState.TheVariants as standings
 use Rattle.stack_assoc.specs.Arrivals.{Arrival, Role, called, first_in, connect_in}
 use Rattle.stack_assoc.specs.Tellings.{StopsTelling}
-use Rattle.stack_assoc.specs.Courses.{Course, CourseStands, ReadsMessages, stack_state_of, state_with, state_by}
+use Rattle.stack_assoc.specs.Courses.{Course, CourseStands, ReadsMessages, stack_state_of, state_with}
 use Rattle.stack_assoc.specs.Saying.{with_standing, with_said, role_by, says_conclude, may_leave}
 use Rattle.stack_assoc.specs.Saying.{leaving}
 use Rattle.stack_assoc.proofs.SaidMore.{stands_standing, stands_said}
 use Rattle.tase_views.specs.declared.reply.Answer.{Answer}
 use Rattle.tase_views.specs.declared.reply.Answer.TheVariants as answers
-use Rattle.tase_views.specs.declared.reply.Report.{Report}
 use Rattle.tase_views.specs.declared.fault.StepFault.{StepFault}
 use Rattle.tase_map.specs.Inputs.{Item, text_given}
 use Rattle.tase_map.specs.Readings.{Reading, reading_of}
@@ -57,7 +56,7 @@ use Rattle.tase_conn.specs.declared.stage.PendingEvent.TheVariants as askeds
 use Rattle.tase_conn.specs.declared.stage.Progress.{Progress}
 use Rattle.tase_conn.specs.declared.stage.Progress.TheVariants as progresses
 use Rattle.tase_conn.specs.PeerEnd.{end_at}
-use Rattle.tase_conn.specs.Talking.{Talking, pending_of, is_open_stage, stage_peer}
+use Rattle.tase_conn.specs.Talking.{Talking, pending_of, is_open_stage, stage_peer, is_leaving}
 use Rattle.tase_conn.specs.Places.{turns_held, BeginsTurns, Position, IsAgreed, is_ending}
 use Rattle.tase_conn.specs.Places.{IsAskedAt, turn_for, Runs, IsReadToEnd, GoesBy}
 use Rattle.tase_conn.specs.Places.{IsPeer, HasAbortRoom, RoomBy, ConnStandsAt, IsPlaced}
@@ -69,7 +68,6 @@ use Rattle.tase_conn.specs.Answering.{detail_at, answer_said, told_said}
 use Rattle.tase_conn.specs.Answering.{progress_reported}
 use Rattle.tase_conn.specs.Leaving.{finished, Parts, IsLeft, MayAnswer, AddsAnswer, EndsFor}
 use Rattle.tase_conn.specs.Noting.{with_nothing_waiting, with_open, answered, NotesAsked, NotesAnswer}
-use Rattle.tase_conn.specs.Noting.{with_reports_said}
 use Rattle.tase_conn.proofs.LastTurns.{BringsEnd, brought_end, brought_whole}
 use Rattle.tase_conn.proofs.SeenTurns.{seen_front}
 use Rattle.tase_conn.proofs.ToldAll.{told_open}
@@ -135,19 +133,37 @@ detail_few : (o : Option Connecting) → detail_of o ≤ℤ MOST_DETAIL
 detail_few None = omega (arith, ints)
 detail_few (Some c) = granted_few c.initiate.detail
 
-detail_so : (told : List Arrival) (invoke : ℕ) (stage : Stage) (held : Option Coming)
-    → IsAskedAt (askeds.Requesting invoke) stage held
-    → IsAgreed told stage (askeds.Requesting invoke) → detail_at stage ≤ℤ MOST_DETAIL
-detail_so told invoke (stages.Open peer detail) None w g =
+detail_so : (told : List Arrival) (asked : PendingEvent) (stage : Stage)
+    → IsAgreed told stage asked → detail_at stage ≤ℤ MOST_DETAIL
+detail_so told asked (stages.Open peer detail) g =
     subst (λ (d : ℤ). d ≤ℤ MOST_DETAIL) (sym g) (detail_few (first_in connect_in told))
-detail_so told invoke (stages.Open peer detail) (Some coming) w g = absurd w
-detail_so told invoke stages.Early held w g = absurd w
-detail_so told invoke (stages.Closed peer) held w g = absurd w
+detail_so told asked stages.Early g = omega (arith, ints)
+detail_so told asked (stages.Closed peer) g = omega (arith, ints)
 
 -- no more octets were agreed on than may be said
 pub requesting_detail : (invoke : ℕ) (v : Talking) → Waits (askeds.Requesting invoke) v
     → detail_at v.stage ≤ℤ MOST_DETAIL
-requesting_detail invoke v w = detail_so w.2 invoke v.stage v.held w.4.waits w.4.agreed
+requesting_detail invoke v w =
+    detail_so w.2 (askeds.Requesting invoke) v.stage w.4.agreed
+
+-- the association stands, and is open, while a take waits
+pub taking_accepted : (v : Talking) → Waits askeds.Taking v
+    → stack_state_of v.course ≡ states.Accepted
+taking_accepted v w = ap (λ (p : Position). state_with p.fault p.standing)
+    (served_position w.4 tt)
+
+pub taking_detail : (v : Talking) → Waits askeds.Taking v → detail_at v.stage ≤ℤ MOST_DETAIL
+taking_detail v w = detail_so w.2 askeds.Taking v.stage w.4.agreed
+
+taking_at : (stage : Stage) (held : Option Coming) → IsAskedAt askeds.Taking stage held
+    → is_open_stage stage ≡ true
+taking_at (stages.Open peer detail) None w = refl
+taking_at (stages.Open peer detail) (Some coming) w = absurd w
+taking_at stages.Early held w = absurd w
+taking_at (stages.Closed peer) held w = absurd w
+
+pub taking_open : (v : Talking) → Waits askeds.Taking v → is_open_stage v.stage ≡ true
+taking_open v w = taking_at v.stage v.held w.4.waits
 
 -- what asked for the close may be answered
 pub closing_may : (cause : Cause) (v : Talking) → Waits (askeds.Closing cause) v
@@ -265,23 +281,6 @@ with_octets long octets v = record v {
   progress = progress_reported v.stage long;
   out = v.out ++ octets;
 }
-
--- no kind of report is made yet, so nothing is said of any
-none_reported : (reports : List Report) (v : Talking)
-    → with_nothing_waiting v ≡ with_reports_said reports v
-none_reported [] v = ap (λ (out : List ℕ). record v {
-  progress = progresses.Running askeds.Nothing;
-  out = out;
-}) (sym (append-nil v.out))
-none_reported (report ∷ reports) v = elim report [ ]
-
-pub taking_said : (answer : Answer) (v : Talking) → IsAnswerTo askeds.Taking (Ok answer)
-    → NotesAsked askeds.Taking answer v (with_nothing_waiting v)
-taking_said (answers.Reports reports) v right = none_reported reports v
-taking_said (answers.Opened key) v right = absurd right
-taking_said (answers.Reply reply) v right = absurd right
-taking_said answers.Closed v right = absurd right
-taking_said answers.Noted v right = absurd right
 
 taking_noted : (long : Option ℕ) (octets : List ℕ) (rows : CentreRows) (items : List Item)
     (told : List Arrival) (turns : List Turn)
@@ -688,7 +687,58 @@ noted_progress (progresses.Leaving end asked) answer old new right n =
 noted_progress (progresses.Ended end) answer old new right n = absurd right
 noted_progress (progresses.Cut end) answer old new right n = absurd right
 
+-- ---- how its association stands
+
+going_on : (p q : Progress) → p ≡ q → is_leaving q ≡ false → is_leaving p ≡ true → ⊥
+going_on p q e goes left = false≢true (sym goes ∙ ap (λ (x : Progress). is_leaving x) (sym e) ∙ left)
+
+closed_goes : (cause : Cause) → is_leaving (progress_closed cause) ≡ false
+closed_goes causes.Concluded = refl
+closed_goes causes.Released = refl
+closed_goes causes.Aborted = refl
+closed_goes causes.LinkEnd = refl
+closed_goes (causes.Broken fault) = refl
+
+asked_course : (asked : PendingEvent) (answer : Answer) (old new : Talking)
+    → IsAnswerTo asked (Ok answer) → NotesAsked asked answer old new
+    → new.progress ≡ progress_by old.stage asked answer → is_leaving new.progress ≡ true
+    → new.course ≡ old.course
+asked_course (askeds.Opening peer granted) answer old new right n p left =
+    absurd (going_on new.progress (progresses.Running askeds.Nothing) p refl left)
+asked_course (askeds.Requesting invoke) answer old new right n p left =
+    absurd (going_on new.progress (progresses.Running askeds.Nothing) p refl left)
+asked_course askeds.Taking (answers.Reports reports) old new right n p left =
+    ap (λ (v : Talking). v.course) n
+asked_course askeds.Taking (answers.Opened key) old new right n p left = absurd right
+asked_course askeds.Taking (answers.Reply reply) old new right n p left = absurd right
+asked_course askeds.Taking answers.Closed old new right n p left = absurd right
+asked_course askeds.Taking answers.Noted old new right n p left = absurd right
+asked_course (askeds.Closing cause) answer old new right n p left =
+    absurd (going_on new.progress (progress_closed cause) p (closed_goes cause) left)
+asked_course askeds.Nothing answer old new right n p left = absurd right
+
+pub noted_course : (progress : Progress) (answer : Answer) (old new : Talking)
+    → IsAnswerFor progress (Ok answer) → NotesAnswer progress answer old new
+    → new.progress ≡ progress_told progress old.stage (Ok answer) → is_leaving new.progress ≡ true
+    → new.course ≡ old.course
+noted_course (progresses.Running asked) answer old new right n p left =
+    asked_course asked answer old new right n p left
+noted_course progresses.Refused answer old new right n p left = absurd right
+noted_course (progresses.Leaving end asked) answer old new right n p left =
+    absurd (going_on new.progress (progresses.Cut end) p refl left)
+noted_course (progresses.Ended end) answer old new right n p left = absurd right
+noted_course (progresses.Cut end) answer old new right n p left = absurd right
+
 -- ---- where the node refused
+
+left_course : (b : Bool) (end : ConnEnd) (old new : Talking)
+    → MatchBool b (new ≡ record old { progress = progresses.Leaving end false })
+    (Parts (progresses.Cut end) (parting_octets old.course end) old new)
+    → is_leaving new.progress ≡ true → new.course ≡ old.course
+left_course true end old new l left = ap (λ (v : Talking). v.course) l
+left_course false end old new l left =
+    absurd (going_on new.progress (progresses.Cut end) (ap (λ (v : Talking). v.progress) l.is) refl
+    left)
 
 left_said : (b : Bool) (end : ConnEnd) (old new : Talking)
     → MatchBool b (new ≡ record old { progress = progresses.Leaving end false })
@@ -798,6 +848,13 @@ told_goes told answer old new e right n =
     (subst (λ (t : Result Answer StepFault). IsAnswerFor old.progress t) e right) n
     ∙ ap (λ (t : Result Answer StepFault). progress_told old.progress old.stage t) (sym e)
 
+pub told_course : (told : Result Answer StepFault) (answer : Answer) (old new : Talking)
+    → told ≡ Ok answer → IsAnswerFor old.progress told → NotesAnswer old.progress answer old new
+    → is_leaving new.progress ≡ true → new.course ≡ old.course
+told_course told answer old new e right n left =
+    let r = subst (λ (t : Result Answer StepFault). IsAnswerFor old.progress t) e right in
+    noted_course old.progress answer old new r n (noted_progress old.progress answer old new r n) left
+
 -- a refusal was told
 abbrev pub Refuses : Result Answer StepFault → StepFault → ConnEnd → Talking → Talking → Type 0
 Refuses told fault end old new = (told ≡ Err fault) × (end ≡ end_of_fault fault)
@@ -830,6 +887,12 @@ refused_stays told fault end old new r =
     (subst (λ (t : Result Answer StepFault). IsAnswerFor old.progress t) r.0 r.2)
     (subst (λ (e : ConnEnd). IsLeft e old new) r.1 r.3)
     ∙ ap (λ (t : Result Answer StepFault). stage_told old.progress t old.stage) (sym r.0)
+
+pub refused_course : (told : Result Answer StepFault) (fault : StepFault) (end : ConnEnd)
+    (old new : Talking) → Refuses told fault end old new → is_leaving new.progress ≡ true
+    → new.course ≡ old.course
+refused_course told fault end old new r left =
+    left_course (is_open_stage old.stage) end old new r.3 left
 
 pub not_left : (progress : Progress) (fault : StepFault) → IsAnswerFor progress (Err fault)
     → IsLeaving progress → ⊥

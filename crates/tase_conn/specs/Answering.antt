@@ -11,7 +11,6 @@ use Rattle.stack_assoc.specs.Courses.{Course, is_accepted}
 use Rattle.bilateral.specs.Rows.{CentreRows, table_of}
 use Rattle.tase_views.specs.declared.reply.Answer.{Answer}
 use Rattle.tase_views.specs.declared.reply.Answer.TheVariants as answers
-use Rattle.tase_views.specs.declared.reply.Report.{Report}
 use Rattle.tase_views.specs.declared.fault.StepFault.{StepFault}
 use Rattle.tase_views.specs.declared.fault.StepFault.TheVariants as faults
 use Rattle.tase_map.specs.Replied.{pdu_of_reply}
@@ -26,7 +25,7 @@ use Rattle.tase_conn.specs.declared.stage.PendingEvent.{PendingEvent}
 use Rattle.tase_conn.specs.declared.stage.PendingEvent.TheVariants as askeds
 use Rattle.tase_conn.specs.declared.stage.Progress.{Progress}
 use Rattle.tase_conn.specs.declared.stage.Progress.TheVariants as progresses
-use Rattle.tase_conn.specs.Talking.{Talking, pending_of, is_open_stage}
+use Rattle.tase_conn.specs.Talking.{Talking, pending_of, is_open_stage, is_leaving}
 
 -- ---- which answers may be told
 
@@ -177,6 +176,8 @@ pub record TellsAnswer (told : Result Answer StepFault) (old new : Talking) : Ty
   pub said : pending_of new ≡ pending_of old ++ told_said old.progress old.stage old.course told
   pub progress : new.progress ≡ progress_told old.progress old.stage told
   pub stage : new.stage ≡ stage_told old.progress told old.stage
+  -- where it is left, its association stands as it stood
+  pub course : is_leaving new.progress ≡ true → new.course ≡ old.course
 
 -- memory was wanting for what is said: it is to be given up
 abbrev pub unnoted : Result Answer StepFault → Talking → Talking

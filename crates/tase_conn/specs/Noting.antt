@@ -1,14 +1,17 @@
 -- What a connection is once an answer of the node was noted.
-use Rattle.std.specs.Prelude.{◌≡◌, ◌++◌, ℕ, List}
+use Rattle.std.specs.Prelude.{◌≡◌, ◌++◌, ℕ, ℤ, pos, int_lt, if◌then◌else◌, List, [], Option}
+use Rattle.std.specs.Prelude.{Some, None}
 use Rattle.tpkt_cotp.specs.Written.{wire}
 use Rattle.mms_services.specs.declared.initiate.Initiate.{Initiate}
 use Rattle.mms_services.specs.declared.pdu.MmsPdu.{MmsPdu}
+use Rattle.mms_services.specs.PduOctets.{pdu_len}
+use Rattle.stack_wire.specs.declared.setup.AssociationSetup.{AssociationSetup}
 use Rattle.stack_wire.specs.Tsdus.{accept_tsdu}
 use Rattle.stack_assoc.specs.declared.end_state.EndState.TheVariants as standings
 use Rattle.stack_assoc.specs.Saying.{with_standing, with_said}
 use Rattle.tase_views.specs.declared.reply.Answer.{Answer}
 use Rattle.tase_views.specs.declared.reply.Answer.TheVariants as answers
-use Rattle.tase_views.specs.declared.reply.Report.{Report}
+use Rattle.tase_views.specs.declared.reply.ReportKind.{ReportKind}
 use Rattle.tase_map.specs.Replied.{pdu_of_reply}
 use Rattle.tase_map.specs.Out.{said, within, reports_said, first_too_long}
 use Rattle.tase_conn.specs.declared.stage.Stage.TheVariants as stages
@@ -42,8 +45,17 @@ answered pdu v = record v {
   out = v.out ++ said v.course.setup pdu;
 }
 
+-- how many octets a PDU has, where it has more than were agreed on; it isn't said then
+abbrev pub len_above : ℤ → MmsPdu → Option ℕ
+len_above detail pdu =
+    if int_lt detail (pos (pdu_len pdu)) then Some (pdu_len pdu) else None
+
+abbrev pub said_up_to : ℤ → AssociationSetup → MmsPdu → List ℕ
+said_up_to detail setup pdu =
+    if int_lt detail (pos (pdu_len pdu)) then [] else said setup pdu
+
 -- these reports were said, up to one that is too long
-abbrev pub with_reports_said : List Report → Talking → Talking
+abbrev pub with_reports_said : List ReportKind → Talking → Talking
 with_reports_said reports v = record v {
   progress = progress_reported v.stage (first_too_long (detail_at v.stage) reports);
   out = v.out ++ reports_said v.course.setup (detail_at v.stage) reports;

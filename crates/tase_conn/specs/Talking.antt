@@ -86,3 +86,8 @@ stage_peer (stages.Closed peer) = Some peer
 abbrev pub is_running : Progress → Bool
 is_running (progresses.Running asked) = true
 is_running _ = false
+
+-- whether it was left, and its association is still to be closed
+abbrev pub is_leaving : Progress → Bool
+is_leaving (progresses.Leaving end asked) = true
+is_leaving _ = false

@@ -11,6 +11,7 @@ ghost use Rattle.tase_map.specs.Inputs.{piece as a_piece, idle, ended};
 ghost use Rattle.tase_conn.specs.declared.stage.Progress.TheVariants as progresses;
 ghost use Rattle.tase_conn.specs.declared.stage.PendingEvent.TheVariants as askeds;
 ghost use Rattle.tase_conn.specs.Talking.{pending_of, next_pending, conn_end_in, IsResting};
+ghost use Rattle.tase_conn.specs.Talking.{is_leaving};
 ghost use Rattle.tase_conn.specs.Talking.{is_running};
 ghost use Rattle.tase_conn.specs.Places.{ConnStandsAt, IsPlaced, KeepsPlace, GainsItem};
 ghost use Rattle.tase_conn.specs.Taken.{TakesIn, SendsSome};
@@ -210,6 +211,13 @@ impl Conn {
     {
         let pending = len_of(&self.out).saturating_add(len_of(&self.farewell));
         (self.stack.held() as u64).saturating_add(pending)
+    }
+
+    /// Whether it was left, and its association is still to be closed.
+    pub fn is_leaving(&self) -> bool
+        ensures { result ≡ is_leaving self.now.progress }
+    {
+        matches!(self.progress, Progress::Leaving { .. })
     }
 
     /// How the connection ended, if it has.

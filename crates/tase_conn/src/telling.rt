@@ -1,16 +1,19 @@
 //! What a connection says of the node's answers.
-ghost use Rattle.std.specs.Prelude.{◌≡◌, ◌++◌, ◌≤◌, ◌≤ℤ◌, Ok, Err, OnOk, OnErr, IsOk};
+ghost use Rattle.std.specs.Prelude.{◌≡◌, ◌++◌, ◌≤◌, ◌≤ℤ◌, true, false, Ok, Err, OnOk, OnErr};
+ghost use Rattle.std.specs.Prelude.{IfOk, IsOk, length, take};
 ghost use Rattle.mms_services.specs.Initiates.{IsFullInitiate};
 ghost use Rattle.mms_services.specs.PduOctets.{IsWritablePdu, pdu_len};
 ghost use Rattle.mms_services.specs.declared.initiate.TheConstants.{MOST_DETAIL};
 ghost use Rattle.stack_assoc.specs.declared.input.StackState.TheVariants as states;
 ghost use Rattle.stack_assoc.specs.declared.end_state.EndState.TheVariants as standings;
 ghost use Rattle.stack_assoc.specs.Courses.{stack_state_of};
-ghost use Rattle.tase_map.specs.Replied.{pdu_of_reply};
-ghost use Rattle.tase_map.specs.Out.{within, too_long};
+ghost use Rattle.stack_assoc.specs.Saying.{says_conclude};
+ghost use Rattle.tase_map.specs.Replied.{pdu_of_reply, pdu_of_report};
+ghost use Rattle.tase_map.specs.Out.{within, too_long, reports_said, first_too_long};
 ghost use Rattle.tase_conn.specs.declared.stage.PendingEvent.TheVariants as askeds;
 ghost use Rattle.tase_conn.specs.declared.stage.Stage.TheVariants as stages;
 ghost use Rattle.tase_conn.specs.declared.stage.Progress.TheVariants as progresses;
+ghost use Rattle.tase_conn.specs.Talking.{is_open_stage};
 ghost use Rattle.tase_conn.specs.Places.{IsPlaced, HasAbortRoom, KeepsPlace};
 ghost use Rattle.tase_conn.specs.Wanting.{IsLeaving};
 ghost use Rattle.tase_conn.specs.Answering.{IsAnswerTo, IsAnswerFor, TellsAnswer, unnoted};
@@ -19,14 +22,15 @@ ghost use Rattle.tase_conn.specs.Answering.{detail_at, stage_closed, parting_oct
 ghost use Rattle.tase_views.specs.declared.fault.StepFault.{StepFault as AnyFault};
 ghost use Rattle.tase_conn.specs.Leaving.{IsLeft, Parts, MayAnswer, EndsFor};
 ghost use Rattle.tase_conn.specs.Noting.{NotesAnswer, NotesAsked, with_open, answered};
-ghost use Rattle.tase_conn.specs.Noting.{with_nothing_waiting};
+ghost use Rattle.tase_conn.specs.Noting.{with_nothing_waiting, with_reports_said, len_above};
+ghost use Rattle.tase_conn.specs.Noting.{said_up_to};
 
 use crate::conn::Conn;
 use crate::stage::{Cause, ConnEnd, PendingEvent, Progress, Stage};
 use mms_services::{ErrorPdu, Initiate, MOST_DETAIL, MmsPdu, pdu_len};
 use std::alloc::AllocError;
-use tase_map::pdu_of;
-use tase_views::{Answer, Reply, StepFault};
+use tase_map::{pdu_of, report_pdu};
+use tase_views::{Answer, Reply, Report, StepFault};
 
 /// The end of a connection whose event is refused so.
 fn end_of(fault: StepFault) -> ConnEnd
@@ -162,21 +166,10 @@ impl Conn {
         match asked {
             PendingEvent::Opening { peer, granted } => self.open(peer, granted),
             PendingEvent::Requesting { invoke } => self.note_reply(invoke, answer),
+            PendingEvent::Taking => self.note_reports(answer),
             PendingEvent::Closing(cause) => self.close(cause),
-            // No kind of report is made yet, so a take brings none to say.
-            PendingEvent::Taking => {
-                self.note_nothing();
-                Ok(())
-            }
             PendingEvent::Nothing => Ok(()),
         }
-    }
-
-    /// Nothing waits any more.
-    fn note_nothing(&mut self)
-        ensures { self.new ≡ with_nothing_waiting self.old }
-    {
-        self.progress = Progress::Running(PendingEvent::Nothing);
     }
 
     /// The association is open, and its offer is accepted.
@@ -237,6 +230,125 @@ impl Conn {
         self.stack.say(pdu, &mut self.out)?;
         self.progress = Progress::Running(PendingEvent::Nothing);
         Ok(())
+    }
+
+    fn note_reports(&mut self, answer: &Answer) -> Result<(), AllocError>
+        requires right { IsAnswerTo askeds.Taking (Ok answer.now) }
+        requires open { is_open_stage self.old.stage ≡ true }
+        requires accepted { stack_state_of self.old.course ≡ states.Accepted }
+        requires detail { detail_at self.old.stage ≤ℤ MOST_DETAIL }
+        requires room { HasAbortRoom self.old }
+        ensures ok { OnOk result (NotesAsked askeds.Taking answer.now self.old self.new) }
+        ensures stage { self.new.stage ≡ self.old.stage }
+        ensures err { OnErr result (self.new ≡ self.old) }
+    {
+        match answer {
+            Answer::Reports(reports) => self.answer_take(reports.as_slice()),
+            _ => Ok(()),
+        }
+    }
+
+    /// Says reports, and where one is too long the connection is left.
+    fn answer_take(&mut self, reports: &[Report]) -> Result<(), AllocError>
+        requires open { is_open_stage self.old.stage ≡ true }
+        requires accepted { stack_state_of self.old.course ≡ states.Accepted }
+        requires detail { detail_at self.old.stage ≤ℤ MOST_DETAIL }
+        requires room { HasAbortRoom self.old }
+        ensures ok { OnOk result (self.new ≡ with_reports_said reports.now self.old) }
+        ensures stage { self.new.stage ≡ self.old.stage }
+        ensures err { OnErr result (self.new ≡ self.old) }
+    {
+        let start = self.out.len();
+        match self.say_reports(reports) {
+            Ok(None) => {
+                self.note_nothing();
+                Ok(())
+            }
+            Ok(Some(len)) => {
+                let detail = self.detail().unsigned_abs();
+                self.leave(ConnEnd::TooLong { len, detail });
+                Ok(())
+            }
+            Err(error) => {
+                self.out.truncate(start);
+                Err(error)
+            }
+        }
+    }
+
+    /// Nothing waits any more.
+    fn note_nothing(&mut self)
+        ensures { self.new ≡ with_nothing_waiting self.old }
+    {
+        self.progress = Progress::Running(PendingEvent::Nothing);
+    }
+
+    /// Says reports, up to one that is too long: how many octets that has, if there is one. After
+    /// want of memory `out` begins with what it was.
+    fn say_reports(&mut self, reports: &[Report]) -> Result<Option<u64>, AllocError>
+        requires accepted { stack_state_of self.old.course ≡ states.Accepted }
+        requires detail { detail_at self.old.stage ≤ℤ MOST_DETAIL }
+        ensures long { IfOk result (λ long.
+            long ≡ first_too_long (detail_at self.old.stage) reports.now) }
+        ensures said { OnOk result (self.new.out ≡ self.old.out
+            ++ reports_said self.old.course.setup (detail_at self.old.stage) reports.now) }
+        ensures same { self.new ≡ record self.old { out = self.new.out } }
+        ensures front { take (length self.old.out) self.new.out ≡ self.old.out }
+    {
+        for report in reports {
+            if let Some(len) = self.say_report(report)? {
+                return Ok(Some(len));
+            }
+        }
+        Ok(None)
+    }
+
+    /// Says a report, unless it is too long: how many octets it has then.
+    fn say_report(&mut self, report: &Report) -> Result<Option<u64>, AllocError>
+        requires accepted { stack_state_of self.old.course ≡ states.Accepted }
+        requires detail { detail_at self.old.stage ≤ℤ MOST_DETAIL }
+        ensures long { IfOk result (λ long.
+            long ≡ len_above (detail_at self.old.stage) (pdu_of_report report.now)) }
+        ensures said { OnOk result (self.new.out ≡ self.old.out ++ said_up_to
+            (detail_at self.old.stage) self.old.course.setup (pdu_of_report report.now)) }
+        ensures same { self.new ≡ record self.old { out = self.new.out } }
+        ensures err { OnErr result (self.new ≡ self.old) }
+    {
+        let pdu = report_pdu(self.alloc, report)?;
+        self.say_up_to(&pdu)
+    }
+
+    /// Says a PDU, unless it has more octets than were agreed on: how many it has then.
+    fn say_up_to(&mut self, pdu: &MmsPdu) -> Result<Option<u64>, AllocError>
+        requires accepted { stack_state_of self.old.course ≡ states.Accepted }
+        requires writable { IsWritablePdu pdu.now }
+        requires quiet { says_conclude pdu.now ≡ false }
+        requires detail { detail_at self.old.stage ≤ℤ MOST_DETAIL }
+        ensures long { IfOk result (λ long.
+            long ≡ len_above (detail_at self.old.stage) pdu.now) }
+        ensures said { OnOk result (self.new.out ≡ self.old.out
+            ++ said_up_to (detail_at self.old.stage) self.old.course.setup pdu.now) }
+        ensures same { self.new ≡ record self.old { out = self.new.out } }
+        ensures err { OnErr result (self.new ≡ self.old) }
+    {
+        if let Some(len) = self.len_above(pdu) {
+            return Ok(Some(len));
+        }
+        self.stack.say(pdu, &mut self.out)?;
+        Ok(None)
+    }
+
+    /// How many octets a PDU has, where it has more than were agreed on.
+    fn len_above(&self, pdu: &MmsPdu) -> Option<u64>
+        requires writable { IsWritablePdu pdu.now }
+        ensures { result ≡ len_above (detail_at self.now.stage) pdu.now }
+    {
+        let len = pdu_len(pdu);
+        if len as i64 > self.detail() {
+            Some(len as u64)
+        } else {
+            None
+        }
     }
 
     fn detail(&self) -> i64

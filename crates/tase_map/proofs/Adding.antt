@@ -395,10 +395,10 @@ pub take_adds : (rows : CentreRows) (table : OwnTables) (talk : Talk) (key : Key
     (past : Past) → key_at events.Take past who ≡ Some key
     → octets_in table key.ordinal talk (view_of rows key.peer (with_event who events.Take past))
     ≡ octets_in table key.ordinal talk (view_of rows key.peer past)
+    ++ act_octets table key.ordinal talk (view_of rows key.peer past) act.takes
 take_adds rows table talk key who past e =
     one_adds rows table talk key who events.Take past act.takes
     (shown rows key (moves_in past) (key_at events.Take past who) (act.takes ∷ []) e)
-    ∙ append-nil (octets_in table key.ordinal talk (view_of rows key.peer past))
 
 pub close_adds : (rows : CentreRows) (table : OwnTables) (talk : Talk) (key : Key) (who : ℕ)
     (past : Past) → key_at events.Close past who ≡ Some key

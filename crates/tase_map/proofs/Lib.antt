@@ -1,6 +1,7 @@
 pub mod Apart
 pub mod AskedLaws
 pub mod RepliedLaws
+pub mod ReportedLaws
 pub mod ReadingLaws
 pub mod AskedOn
 pub mod Uncut
@@ -18,3 +19,4 @@ pub mod Unrefused
 pub mod Worked
 pub mod WorkedStream
 mod WorkedSets
+mod WorkedReports

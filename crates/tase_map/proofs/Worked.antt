@@ -132,7 +132,7 @@ request = heard (heards.Pdu (pdus.Request 1 requests.Identify))
 abbrev conclude : Arrival
 conclude = heard (heards.Pdu pdus.Conclude)
 
-abbrev reading : List Arrival → Reading
+abbrev pub reading : List Arrival → Reading
 reading told = record { told = told; broken = None }
 
 told_turns : turns_told (reading (first_two ++ request ∷ conclude ∷ heard heards.Finish ∷ []))

@@ -1,11 +1,13 @@
 -- The association that a seat has opened last, and the octets that the peer of its link is sent.
-use Rattle.std.specs.Prelude.{ℕ, ◌==◌, if◌then◌else◌, List, [], ◌∷◌, Option, Some, None}
+use Rattle.std.specs.Prelude.{ℕ, ℤ, ◌==◌, if◌then◌else◌, List, [], ◌∷◌, Option, Some, None}
+use Rattle.stack_assoc.specs.Arrivals.{first_in, connect_in}
 use Rattle.bilateral.specs.Rows.{CentreRows}
 use Rattle.sbo_device.specs.declared.key.Key.{Key}
 use Rattle.tase_views.specs.Moves.{EventSort, sort_of, opening}
 use Rattle.tase_views.specs.History.{Past, next_key}
 use Rattle.tase_map.specs.Inputs.{Item, text_given, link_has_ended}
-use Rattle.tase_map.specs.Out.{early_octets}
+use Rattle.tase_map.specs.Readings.{reading_of}
+use Rattle.tase_map.specs.Out.{early_octets, detail_of}
 use Rattle.tase_map.specs.Sent.{association_octets}
 
 -- the association that a seat has opened last, behind an event of its own
@@ -18,6 +20,10 @@ abbrev pub opened_in : Past → ℕ → Option Key
 opened_in [] who = None
 opened_in (entry ∷ past) who = if entry.who == who
     then opened_by (sort_of entry.event) past (opened_in past who) else opened_in past who
+
+-- the most octets of a PDU, as agreed on in what the link gave
+abbrev pub detail_given : List Item → ℤ
+detail_given items = detail_of (first_in connect_in (reading_of (text_given items)).told)
 
 -- what the peer of an association is sent, or of a connection without one
 abbrev pub octets_by : CentreRows → Past → List Item → Option Key → List ℕ

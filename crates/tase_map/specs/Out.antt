@@ -16,7 +16,7 @@ use Rattle.stack_assoc.specs.Expectations.{setup_after}
 use Rattle.stack_assoc.specs.Handing.{answers_to}
 use Rattle.bilateral.specs.Rows.{CentreRows}
 use Rattle.tase_views.specs.declared.reply.ReplyKind.{ReplyKind}
-use Rattle.tase_views.specs.declared.reply.Report.{Report}
+use Rattle.tase_views.specs.declared.reply.ReportKind.{ReportKind}
 use Rattle.tase_views.specs.OwnTables.{OwnTables}
 use Rattle.tase_views.specs.Moves.{Act, acts_of_call}
 use Rattle.tase_views.specs.View.{View, Seen, own}
@@ -88,14 +88,14 @@ reply_octets talk invoke reply = said talk.setup
 
 -- reports, up to the first that is longer than was agreed on: neither that nor what follows it is
 -- said
-abbrev pub reports_said : AssociationSetup → ℤ → List Report → List ℕ
+abbrev pub reports_said : AssociationSetup → ℤ → List ReportKind → List ℕ
 reports_said setup detail [] = []
 reports_said setup detail (report ∷ reports) =
     if int_lt detail (pos (pdu_len (pdu_of_report report))) then []
     else said setup (pdu_of_report report) ++ reports_said setup detail reports
 
 -- how many octets the first report has that is longer than was agreed on, if there is one
-abbrev pub first_too_long : ℤ → List Report → Option ℕ
+abbrev pub first_too_long : ℤ → List ReportKind → Option ℕ
 first_too_long detail [] = None
 first_too_long detail (report ∷ reports) =
     if int_lt detail (pos (pdu_len (pdu_of_report report)))

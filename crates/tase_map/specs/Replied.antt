@@ -1,5 +1,5 @@
--- Replies of the node as PDUs of MMS, and PDUs as replies (IEC 60870-6-503 on ISO 9506-2): data
--- sets are named variable lists.
+-- Replies and reports of the node as PDUs of MMS, and PDUs as these (IEC 60870-6-503 on ISO
+-- 9506-2): data sets are named variable lists.
 use Rattle.std.specs.Prelude.{ℕ, List, Option, Some, None, option_map}
 use Rattle.mms_data.specs.declared.outcome.Outcome.{Outcome}
 use Rattle.mms_access.specs.declared.spec.Spec.{Spec}
@@ -12,7 +12,8 @@ use Rattle.tase_views.specs.declared.reply.ReadSpec.{ReadSpec}
 use Rattle.tase_views.specs.declared.reply.ReadSpec.TheVariants as named
 use Rattle.tase_views.specs.declared.reply.ReplyKind.{ReplyKind}
 use Rattle.tase_views.specs.declared.reply.ReplyKind.TheVariants as replies
-use Rattle.tase_views.specs.declared.reply.Report.{Report}
+use Rattle.tase_views.specs.declared.reply.ReportKind.{ReportKind}
+use Rattle.tase_views.specs.declared.reply.ReportKind.TheVariants as reports
 
 -- what a read named, as the variables of a service
 abbrev pub spec_in : ReadSpec → Spec
@@ -38,10 +39,6 @@ pdu_of_reply invoke (replies.Error class code) =
     pdus.Error (record { invoke = invoke; class = class; code = code })
 pdu_of_reply invoke (replies.Reject kind code) =
     pdus.Reject (record { invoke = Some invoke; kind = kind; code = code })
-
--- the PDU that a report is: no kind of report is made yet
-abbrev pub pdu_of_report : Report → MmsPdu
-pdu_of_report report = elim report [ ]
 
 -- the results of a read that named these variables or this data set, or doesn't repeat them
 abbrev pub results_reply : List Outcome → Option Spec → Option ReplyKind
@@ -73,3 +70,19 @@ answered_number (pdus.Response invoke response) = Some invoke
 answered_number (pdus.Error e) = Some e.invoke
 answered_number (pdus.Reject r) = r.invoke
 answered_number pdu = None
+
+-- the PDU that a report is: it reports the variables by their names, or by that of a data set
+abbrev pub pdu_of_report : ReportKind → MmsPdu
+pdu_of_report (reports.Set set results) =
+    pdus.Report (record { spec = specs.Set set; results = results })
+pdu_of_report (reports.Variables names results) =
+    pdus.Report (record { spec = specs.List names; results = results })
+
+abbrev pub report_with : List Outcome → Spec → ReportKind
+report_with results (specs.Set name) = reports.Set name results
+report_with results (specs.List names) = reports.Variables names results
+
+-- the report that a PDU is, if it is one
+abbrev pub report_in : MmsPdu → Option ReportKind
+report_in (pdus.Report r) = Some (report_with r.results r.spec)
+report_in pdu = None

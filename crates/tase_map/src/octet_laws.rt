@@ -18,12 +18,12 @@ ghost use Rattle.tase_views.specs.History.{Past, opens_in, association_in, entri
 ghost use Rattle.tase_views.specs.OwnTables.{own_tables};
 ghost use Rattle.tase_views.specs.View.{view_of};
 ghost use Rattle.tase_views.specs.Answers.{reply_to};
-ghost use Rattle.tase_views.specs.Outcomes.{seat_refusal, name_refusal};
+ghost use Rattle.tase_views.specs.Outcomes.{seat_refusal, name_refusal, reports_for};
 ghost use Rattle.tase_map.specs.Inputs.{Item, IsLinkInput, text_given, link_has_ended};
 ghost use Rattle.tase_map.specs.Readings.{reading_of, TellsReading};
 ghost use Rattle.tase_map.specs.Asks.{asks_of, without_takes, AreInTurn};
 ghost use Rattle.tase_map.specs.Closed.{is_closed};
-ghost use Rattle.tase_map.specs.Out.{talk_of, end_turns, reply_octets, close_octets};
+ghost use Rattle.tase_map.specs.Out.{talk_of, end_turns, reply_octets, reports_said, close_octets};
 ghost use Rattle.tase_map.specs.Out.{concluded_octets, octets_out};
 ghost use Rattle.tase_map.specs.Sent.{events_by, association_octets, turns_left, AreInText};
 ghost use Rattle.tase_map.specs.Sent.{IsFixed, AsksNoService};
@@ -71,7 +71,8 @@ pub fn events_come_in_turn()
 
 /// Each entry of an association adds its octets behind those before it: an open its beginning; a
 /// request, where it is the one that stands at that place in the text, the reply to it over the view
-/// before it; a take none; a close those by what stands at its place. No other entry adds any.
+/// before it; a take the reports that were made since the last one, up to the first that is longer
+/// than was agreed on; a close those by what stands at its place. No other entry adds any.
 pub fn each_entry_adds_its_octets()
     ensures other { (rows : CentreRows) (past : Past) (key : Key) (who : ℕ) (event : AnyEvent)
         (text : List ℕ) (ended : Bool) → key_at event past who ≢ Some key
@@ -92,7 +93,10 @@ pub fn each_entry_adds_its_octets()
     ensures take { (rows : CentreRows) (past : Past) (key : Key) (who : ℕ) (text : List ℕ)
         (ended : Bool) → key_at Take past who ≡ Some key
         → association_octets rows (record { who = who; event = Take } ∷ past) key text ended
-        ≡ association_octets rows past key text ended }
+        ≡ association_octets rows past key text ended
+        ++ reports_said (talk_of (reading_of text) ended).setup
+        (talk_of (reading_of text) ended).detail
+        (reports_for (own_tables rows key.peer) (view_of rows key.peer past) key.ordinal) }
     ensures noted { (rows : CentreRows) (past : Past) (key : Key) (who : ℕ) (event : AnyEvent)
         (text : List ℕ) (ended : Bool) → IsNoted event
         → association_octets rows (record { who = who; event = event } ∷ past) key text ended

@@ -1,6 +1,6 @@
 //! Replies of the node as PDUs of MMS, and PDUs as replies.
 ghost use Rattle.std.specs.Prelude.{◌≡◌, Some, IfOk, option_map};
-ghost use Rattle.mms_services.specs.Lawful.{IsLawfulPdu, IsLawfulResponse};
+ghost use Rattle.mms_services.specs.Lawful.{IsLawfulPdu};
 ghost use Rattle.mms_services.specs.PduOctets.{IsWritablePdu};
 ghost use Rattle.tase_views.specs.declared.reply.ReplyKind.TheVariants as replies;
 ghost use Rattle.tase_map.specs.Replied.{pdu_of_reply, spec_in, reply_in, reply_in_response};

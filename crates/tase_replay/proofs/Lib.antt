@@ -17,7 +17,6 @@ pub mod Pending
 pub mod Own
 pub mod Players
 pub mod TakenLines
-pub mod Reports
 pub mod Printable
 pub mod TextLines
 pub mod PrintedBack

@@ -14,7 +14,7 @@ use Rattle.bilateral.specs.Rows.{CentreRows}
 use Rattle.sbo_device.specs.declared.key.Key.{Key}
 use Rattle.tase_views.specs.Setup.{Setup}
 use Rattle.tase_views.specs.History.{Past, association_in}
-use Rattle.tase_views.specs.Outcomes.{refusal_of}
+use Rattle.tase_views.specs.Outcomes.{refusal_of, answer_of}
 use Rattle.tase_views.specs.declared.event.Entry.{Entry}
 use Rattle.tase_views.specs.declared.event.EventKind.{EventKind}
 use Rattle.tase_views.specs.declared.event.EventKind.TheVariants as events
@@ -27,10 +27,11 @@ use Rattle.tase_conn.specs.declared.stage.ConnEnd.{ConnEnd}
 use Rattle.tase_conn.specs.declared.stage.ConnEnd.TheVariants as conn_ends
 use Rattle.tase_map.specs.Linked.{link_octets}
 use Rattle.tase_conn.specs.PeerEnd.{peer_end}
-use Rattle.conn_service.specs.Served.{Served, served, with_closed}
+use Rattle.conn_laws.specs.AnswerEnd.{end_answered}
+use Rattle.conn_service.specs.Served.{Served, served, served_by, with_closed}
 use Rattle.conn_service.specs.Sends.{close_of}
-use Rattle.conn_service.specs.Attending.{TakesEvents}
-use Rattle.conn_service.proofs.Takes.{TakesEach, takes_each, behind_taken, events_taken}
+use Rattle.conn_service.specs.Attending.{TakesEvents, TakesTo}
+use Rattle.conn_service.proofs.Takes.{behind_taken}
 use Rattle.conn_service.proofs.Told.{IsOurs}
 use Rattle.tase_replay.specs.declared.playing.ReplayEnd.{ReplayEnd}
 use Rattle.tase_replay.specs.declared.playing.ReplayEnd.TheVariants.{Full, Memory}
@@ -39,6 +40,7 @@ use Rattle.tase_replay.specs.Links.{SeatItem, items_of, item_by, asks_more}
 use Rattle.tase_replay.specs.Links.{line_of_out, line_of_end}
 use Rattle.tase_replay.specs.Play.{Step, Scene, LineMeaning, bad, entry_step, entry_steps, served_item}
 use Rattle.tase_replay.specs.Play.{received, is_unfit, linked, linked_by, link_step, octets_between}
+use Rattle.tase_replay.specs.Play.{linked_up_to, items_with, cut_steps}
 use Rattle.tase_replay.specs.Play.{behind_link, play_line, ends_there}
 use Rattle.tase_replay.specs.Play.{steps_of, entries_in, printed_in}
 use Rattle.tase_replay.specs.PrintedLines.{ShownToPeer, shown_by}
@@ -46,7 +48,8 @@ use Rattle.tase_replay.specs.Standing.{AreOf}
 use Rattle.tase_replay.specs.Ends.{IsPlayed, IsShown, TakesPart, IsClosing}
 use Rattle.tase_replay.proofs.Taking.{entries_in-append, printed_in-append, shown_by-append}
 use Rattle.tase_replay.proofs.Taking.{shown_by-silent, TakesPart-front}
-use Rattle.tase_replay.proofs.Served.{served_taken, served_refused, served_ours}
+use Rattle.tase_replay.proofs.Served.{served_taken, served_refused, served_ours, all_taken}
+use Rattle.tase_replay.proofs.Served.{events_up_to, left_alone}
 use Rattle.tase_replay.proofs.Entering.{IsPlayed-shown}
 
 -- ---- events of one seat, of which nothing is printed
@@ -92,14 +95,34 @@ entries_own who (event ∷ events) =
     (entries_own who events) (refl, tt))
 
 -- the history behind events that a node took
-pub taken_past : (setup : Setup) (who : ℕ) (past : Past) (taken : List EventKind) (after : Past)
-    → TakesEach setup who past taken after → after ≡ reverse (entries_by who taken) ++ past
-taken_past setup who past [] after t = t
-taken_past setup who past (event ∷ taken) after t =
-    taken_past setup who (with_event who event past) taken after t.1
-    ∙ sym (append_assoc (reverse (entries_by who taken)) (entry_by event who ∷ []) past)
-    ∙ ap (λ (es : Past). es ++ past)
-    (sym (reverse-append (entry_by event who ∷ []) (entries_by who taken)))
+past_served : (setup : Setup) (who : ℕ) (items : List Item) (past : Past)
+    (events : List EventKind) → (served setup who items past events).past
+    ≡ reverse (entries_by who (served setup who items past events).taken) ++ past
+past_served setup who items past [] = refl
+past_served setup who items past (event ∷ events) =
+    by (refusal_of setup past who event) (end_answered items (answer_of setup past who event))
+    (served setup who items (with_event who event past) events)
+    (past_served setup who items (with_event who event past) events)
+  where
+    by : (r : Option StepFault) (left : Option ConnEnd) (more : Served)
+        → more.past ≡ reverse (entries_by who more.taken) ++ with_event who event past
+        → (served_by past (with_event who event past) event r left more).past
+        ≡ reverse (entries_by who
+        (served_by past (with_event who event past) event r left more).taken) ++ past
+    by None None more e =
+        e ∙ sym (append_assoc (reverse (entries_by who more.taken)) (entry_by event who ∷ []) past)
+        ∙ ap (λ (es : Past). es ++ past)
+        (sym (reverse-append (entry_by event who ∷ []) (entries_by who more.taken)))
+    by None (Some end) more e = refl
+    by (Some fault) left more e = refl
+
+pub taken_past : (setup : Setup) (who : ℕ) (items : List Item) (past : Past)
+    (taken : List EventKind) (after : Past) (left : Option ConnEnd)
+    → TakesTo left setup who items past taken after
+    → after ≡ reverse (entries_by who taken) ++ past
+taken_past setup who items past taken after left t =
+    ap (λ (s : Served). s.past) (sym t) ∙ past_served setup who items past taken
+    ∙ ap (λ (s : Served). reverse (entries_by who s.taken) ++ past) t
 
 closed_by : (past : Past) (who : ℕ) (found : Option Key)
     → (if is_some found then with_event who events.Close past else past)
@@ -108,14 +131,15 @@ closed_by past who None = refl
 closed_by past who (Some key) = refl
 
 -- and behind the close of an association, if one is open
-pub cut_past : (setup : Setup) (who : ℕ) (past : Past) (taken : List EventKind) (between : Past)
-    → TakesEvents setup who past taken between → with_closed who between
+pub cut_past : (setup : Setup) (who : ℕ) (items : List Item) (past : Past)
+    (taken : List EventKind) (between : Past) (left : Option ConnEnd)
+    → TakesTo left setup who items past taken between → with_closed who between
     ≡ reverse (entries_by who (taken ++ close_of (association_in between who))) ++ past
-cut_past setup who past taken between t =
+cut_past setup who items past taken between left t =
     let close = close_of (association_in between who) in
     closed_by between who (association_in between who)
     ∙ ap (λ (p : Past). reverse (entries_by who close) ++ p)
-    (taken_past setup who past taken between (takes_each setup who past taken between t))
+    (taken_past setup who items past taken between left t)
     ∙ sym (append_assoc (reverse (entries_by who close)) (reverse (entries_by who taken)) past)
     ∙ ap (λ (es : Past). es ++ past)
     (sym (ap (λ (es : List Entry). reverse es)
@@ -154,14 +178,31 @@ pub served_so : (setup : Setup) (scene : Scene) (given : SeatItem) (taken rest :
     ≡ asks_of setup.centre (items_of given.who scene.given)
     → asks_of setup.centre (items_of given.who scene.given ++ given.item ∷ [])
     ≡ (reverse (events_by given.who scene.past) ++ taken) ++ rest
-    → TakesEvents setup given.who scene.past taken between
+    → TakesEvents setup given.who (items_with scene given) scene.past taken between
     → served_item setup scene given
-    ≡ behind_taken taken (served setup given.who between rest)
+    ≡ behind_taken taken (served setup given.who (items_with scene given) between rest)
 served_so setup scene given taken rest between e asks t =
-    ap (λ (es : List EventKind). served setup given.who scene.past es)
+    let items = items_with scene given in
+    ap (λ (es : List EventKind). served setup given.who items scene.past es)
     (asks_more_so setup.centre (items_of given.who scene.given) given.item
     (reverse (events_by given.who scene.past)) taken rest e asks)
-    ∙ served_taken setup given.who scene.past taken rest between t
+    ∙ served_taken setup given.who items scene.past taken rest between t
+
+-- where the answer to the last brings an end
+pub served_left : (setup : Setup) (scene : Scene) (given : SeatItem) (taken rest : List EventKind)
+    (between : Past) (end : ConnEnd)
+    → reverse (events_by given.who scene.past)
+    ≡ asks_of setup.centre (items_of given.who scene.given)
+    → asks_of setup.centre (items_of given.who scene.given ++ given.item ∷ [])
+    ≡ (reverse (events_by given.who scene.past) ++ taken) ++ rest
+    → TakesTo (Some end) setup given.who (items_with scene given) scene.past taken between
+    → served_item setup scene given ≡ all_taken taken between (Some end)
+served_left setup scene given taken rest between end e asks t =
+    let items = items_with scene given in
+    ap (λ (es : List EventKind). served setup given.who items scene.past es)
+    (asks_more_so setup.centre (items_of given.who scene.given) given.item
+    (reverse (events_by given.who scene.past)) taken rest e asks)
+    ∙ left_alone setup given.who items scene.past taken rest between end t
 
 abbrev by_peer : CentreRows → Scene → SeatItem → Option ConnEnd
 by_peer rows scene given = peer_end rows (items_of given.who scene.given ++ given.item ∷ [])
@@ -183,12 +224,13 @@ pub through_so : (setup : Setup) (scene : Scene) (given : SeatItem) (taken : Lis
     ≡ asks_of setup.centre (items_of given.who scene.given)
     → asks_of setup.centre (items_of given.who scene.given ++ given.item ∷ [])
     ≡ reverse (events_by given.who scene.past) ++ taken
-    → TakesEvents setup given.who scene.past taken after
+    → TakesEvents setup given.who (items_with scene given) scene.past taken after
     → received setup scene given ≡ linked setup.centre scene given
     (entry_steps given.who taken) after (by_peer setup.centre scene given)
 through_so setup scene given taken after fit e asks t =
     let had = reverse (events_by given.who scene.past) in
-    received_so setup scene given (behind_taken taken (served setup given.who after [])) fit
+    received_so setup scene given
+    (behind_taken taken (served setup given.who (items_with scene given) after [])) fit
     (served_so setup scene given taken [] after e (asks ∙ sym (append-nil (had ++ taken))) t)
     ∙ ap (λ (these : List EventKind). linked setup.centre scene given
     (entry_steps given.who these) after (by_peer setup.centre scene given)) (append-nil taken)
@@ -201,42 +243,49 @@ pub refused_so : (setup : Setup) (scene : Scene) (given : SeatItem) (taken : Lis
     ≡ asks_of setup.centre (items_of given.who scene.given)
     → asks_of setup.centre (items_of given.who scene.given ++ given.item ∷ [])
     ≡ (reverse (events_by given.who scene.past) ++ taken) ++ event ∷ later
-    → TakesEvents setup given.who scene.past taken between
+    → TakesEvents setup given.who (items_with scene given) scene.past taken between
     → refusal_of setup between given.who event ≡ Some fault
     → received setup scene given ≡ linked_by setup.centre scene given
     (by_peer setup.centre scene given)
-    (record { taken = taken; past = between; refusal = Some fault }) (Some fault)
+    (record { taken = taken; past = between; refusal = Some fault; end = None }) (Some fault)
 refused_so setup scene given taken between event later fault fit e asks t is =
-    received_so setup scene given (record { taken = taken; past = between; refusal = Some fault }) fit
+    received_so setup scene given
+    (record { taken = taken; past = between; refusal = Some fault; end = None }) fit
     (served_so setup scene given taken (event ∷ later) between e asks t
     ∙ ap (λ (s : Served). behind_taken taken s)
-    (served_refused setup given.who between event later fault is)
+    (served_refused setup given.who (items_with scene given) between event later fault is)
     ∙ ap (λ (these : List EventKind). record {
       taken = these;
       past = between;
       refusal = Some fault;
+      end = None;
     }) (append-nil taken))
+
+-- a report was too long
+pub long_so : (setup : Setup) (scene : Scene) (given : SeatItem) (taken rest : List EventKind)
+    (between : Past) (end : ConnEnd) → is_unfit given.who scene ≡ false
+    → reverse (events_by given.who scene.past)
+    ≡ asks_of setup.centre (items_of given.who scene.given)
+    → asks_of setup.centre (items_of given.who scene.given ++ given.item ∷ [])
+    ≡ (reverse (events_by given.who scene.past) ++ taken) ++ rest
+    → TakesTo (Some end) setup given.who (items_with scene given) scene.past taken between
+    → received setup scene given ≡ linked setup.centre scene given
+    (entry_steps given.who (taken ++ close_of (association_in between given.who)))
+    (with_closed given.who between) (Some end)
+long_so setup scene given taken rest between end fit e asks t =
+    received_so setup scene given (all_taken taken between (Some end)) fit
+    (served_left setup scene given taken rest between end e asks t)
 
 -- ---- memory was wanting
 
-begun_by : (rows : CentreRows) (scene : Scene) (given : SeatItem) (end : Option ConnEnd)
-    (taken : List EventKind) (s : Served) (r : Option StepFault) (line : List ℕ) (number : ℕ)
-    → IsOurs r → (more : List Step)
-    × (steps_of (play_line line number (linked_by rows scene given end (behind_taken taken s) r)
+-- with the close of an association, if one is open
+begun_cut : (rows : CentreRows) (scene : Scene) (given : SeatItem) (taken : List EventKind)
+    (s : Served) (over : Option ConnEnd) (line : List ℕ) (number : ℕ) → (more : List Step)
+    × (steps_of (play_line line number (linked rows scene given
+    (cut_steps given.who (behind_taken taken s)) (with_closed given.who s.past) over)
     ends_there) ≡ entry_steps given.who taken ++ more)
-begun_by rows scene given end taken s None line number ours =
-    let link : Step = link_step rows scene (behind_link scene s.past given end) given end in
-    let first = entry_steps given.who taken in
-    let next = entry_steps given.who s.taken in
-    let all = entry_steps given.who (taken ++ s.taken) ++ link ∷ [] in (
-      next ++ link ∷ [],
-      append-nil (all ++ []) ∙ append-nil all
-          ∙ ap (λ (steps : List Step). steps ++ link ∷ []) (steps-append given.who taken s.taken)
-          ∙ append_assoc first next (link ∷ []),
-    )
-begun_by rows scene given end taken s (Some (faults.Stopped place)) line number ours =
+begun_cut rows scene given taken s over line number =
     let close = close_of (association_in s.past given.who) in
-    let over = Some conn_ends.Stopped in
     let after = with_closed given.who s.past in
     let link : Step = link_step rows scene (behind_link scene after given over) given over in
     let first = entry_steps given.who taken in
@@ -250,6 +299,35 @@ begun_by rows scene given end taken s (Some (faults.Stopped place)) line number 
           (steps-append given.who taken (s.taken ++ close))
           ∙ append_assoc first next (link ∷ []),
     )
+
+-- by the end that the answer to the last event brings
+begun_up_to : (rows : CentreRows) (scene : Scene) (given : SeatItem) (end : Option ConnEnd)
+    (taken : List EventKind) (s : Served) (left : Option ConnEnd) (line : List ℕ) (number : ℕ)
+    → (more : List Step) × (steps_of (play_line line number
+    (linked_up_to rows scene given end (behind_taken taken s) left) ends_there)
+    ≡ entry_steps given.who taken ++ more)
+begun_up_to rows scene given end taken s None line number =
+    let link : Step = link_step rows scene (behind_link scene s.past given end) given end in
+    let first = entry_steps given.who taken in
+    let next = entry_steps given.who s.taken in
+    let all = entry_steps given.who (taken ++ s.taken) ++ link ∷ [] in (
+      next ++ link ∷ [],
+      append-nil (all ++ []) ∙ append-nil all
+          ∙ ap (λ (steps : List Step). steps ++ link ∷ []) (steps-append given.who taken s.taken)
+          ∙ append_assoc first next (link ∷ []),
+    )
+begun_up_to rows scene given end taken s (Some over) line number =
+    begun_cut rows scene given taken s (Some over) line number
+
+begun_by : (rows : CentreRows) (scene : Scene) (given : SeatItem) (end : Option ConnEnd)
+    (taken : List EventKind) (s : Served) (r : Option StepFault) (line : List ℕ) (number : ℕ)
+    → IsOurs r → (more : List Step)
+    × (steps_of (play_line line number (linked_by rows scene given end (behind_taken taken s) r)
+    ends_there) ≡ entry_steps given.who taken ++ more)
+begun_by rows scene given end taken s None line number ours =
+    begun_up_to rows scene given end taken s s.end line number
+begun_by rows scene given end taken s (Some (faults.Stopped place)) line number ours =
+    begun_cut rows scene given taken s (Some conn_ends.Stopped) line number
 begun_by rows scene given end taken s (Some (faults.HistoryFull weight limit)) line number ours =
     let close = close_of (association_in s.past given.who) in (
       entry_steps given.who (s.taken ++ close),
@@ -267,43 +345,66 @@ closing_one : (who : ℕ) (found : Option Key) → IsClosing false (entries_by w
 closing_one who None = tt
 closing_one who (Some key) = refl
 
+-- what comes of a line, by what was taken before, whatever the answer to the last brings
+begun_served : (setup : Setup) (scene : Scene) (given : SeatItem) (taken rest : List EventKind)
+    (between : Past) (left : Option ConnEnd)
+    → reverse (events_by given.who scene.past)
+    ≡ asks_of setup.centre (items_of given.who scene.given)
+    → AreInTurn setup.centre (reverse (events_by given.who between) ++ rest)
+    → asks_of setup.centre (items_of given.who scene.given ++ given.item ∷ [])
+    ≡ (reverse (events_by given.who scene.past) ++ taken) ++ rest
+    → TakesTo left setup given.who (items_with scene given) scene.past taken between
+    → (s : Served) × (served_item setup scene given ≡ behind_taken taken s) × IsOurs s.refusal
+begun_served setup scene given taken rest between None asked turn asks t =
+    let items = items_with scene given in (
+      served setup given.who items between rest,
+      served_so setup scene given taken rest between asked asks t,
+      served_ours setup given.who items between rest turn,
+    )
+begun_served setup scene given taken rest between (Some end) asked turn asks t = (
+  all_taken [] between (Some end),
+  served_left setup scene given taken rest between end asked asks t
+      ∙ ap (λ (es : List EventKind). all_taken es between (Some end)) (sym (append-nil taken)),
+  tt,
+)
+
 -- the first events were taken, the association was closed, and nothing was printed
 pub IsPlayed-begun : (setup : Setup) (line : List ℕ) (number : ℕ) (scene : Scene) (given : SeatItem)
     (history now : List Entry) (sink : SinkTold) (taken rest : List EventKind) (between after : Past)
+    (left : Option ConnEnd)
     → scene.past ≡ reverse history → after ≡ reverse now → is_unfit given.who scene ≡ false
     → reverse (events_by given.who scene.past)
     ≡ asks_of setup.centre (items_of given.who scene.given)
     → AreInTurn setup.centre
     (asks_of setup.centre (items_of given.who scene.given ++ given.item ∷ []))
-    → TakesEvents setup given.who scene.past taken between
+    → TakesTo left setup given.who (items_with scene given) scene.past taken between
     → asks_of setup.centre (items_of given.who scene.given ++ given.item ∷ [])
     ≡ reverse (events_by given.who between) ++ rest
     → after ≡ with_closed given.who between
     → IsPlayed (play_line line number (received setup scene given) ends_there) history now sink
     sink Memory
-IsPlayed-begun setup line number scene given history now sink taken rest between after e f fit asked
-    turn t asks closed =
+IsPlayed-begun setup line number scene given history now sink taken rest between after left e f fit
+    asked turn t asks closed =
     let who = given.who in
+    let items = items_with scene given in
     let steps = entry_steps who taken in
-    let s : Served = served setup who between rest in
     let close = close_of (association_in between who) in
     let had : reverse (events_by who between) ≡ reverse (events_by who scene.past) ++ taken =
-    events_taken setup who scene.past taken between (takes_each setup who scene.past taken between t)
-    in
-    let ours : IsOurs s.refusal = served_ours setup who between rest
-    (subst (λ (es : List EventKind). AreInTurn setup.centre es) asks turn) in
+    events_up_to setup who items scene.past taken between left t in
+    let found = begun_served setup scene given taken rest between left asked
+    (subst (λ (es : List EventKind). AreInTurn setup.centre es) asks turn)
+    (asks ∙ ap (λ (es : List EventKind). es ++ rest) had) t in
+    let s : Served = found.0 in
     let b = begun_by setup.centre scene given (by_peer setup.centre scene given) taken s s.refusal
-    line number ours in
+    line number found.2 in
     let same : steps_of (play_line line number (received setup scene given) ends_there)
     ≡ steps ++ b.0 =
     ap (λ (m : LineMeaning). steps_of (play_line line number m ends_there))
-    (received_so setup scene given (behind_taken taken s) fit
-    (served_so setup scene given taken rest between asked
-    (asks ∙ ap (λ (es : List EventKind). es ++ rest) had) t)) ∙ b.1 in
+    (received_so setup scene given (behind_taken taken s) fit found.1) ∙ b.1 in
     let whole : take (length steps) steps ≡ steps = take-length steps in
     let grown : now ≡ (history ++ entries_in steps) ++ entries_by who close =
     grown_so who history now scene.past after (taken ++ close) e f
-    (closed ∙ cut_past setup who scene.past taken between t)
+    (closed ∙ cut_past setup who items scene.past taken between left t)
     ∙ ap (λ (es : List Entry). history ++ es)
     (map-append (λ event. entry_by event who) taken close
     ∙ ap (λ (es : List Entry). es ++ entries_by who close) (sym (entries_steps who taken)))
@@ -329,7 +430,7 @@ pub IsPlayed-full : (setup : Setup) (line : List ℕ) (number : ℕ) (scene : Sc
     ≡ asks_of setup.centre (items_of given.who scene.given)
     → asks_of setup.centre (items_of given.who scene.given ++ given.item ∷ [])
     ≡ (reverse (events_by given.who scene.past) ++ taken) ++ event ∷ later
-    → TakesEvents setup given.who scene.past taken between
+    → TakesEvents setup given.who (items_with scene given) scene.past taken between
     → refusal_of setup between given.who event ≡ Some (faults.HistoryFull weight limit)
     → after ≡ with_closed given.who between
     → IsPlayed (play_line line number (received setup scene given) ends_there) history now sink
@@ -345,7 +446,7 @@ IsPlayed-full setup line number scene given history now sink taken between after
       refl,
       record {
         entries = grown_so who history now scene.past after all e f
-            (closed ∙ cut_past setup who scene.past taken between t)
+            (closed ∙ cut_past setup who (items_with scene given) scene.past taken between None t)
             ∙ ap (λ (es : List Entry). history ++ es) (sym (entries_steps who all));
         shown = subst (λ (os : List ℕ). AppendsAll sink sink os) (sym (printed_steps who all))
             (Appends-none sink);

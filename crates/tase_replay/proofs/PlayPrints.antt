@@ -36,6 +36,7 @@ use Rattle.tase_replay.specs.Play.{Step, Scene, LineMeaning, bad, too_heavy, giv
 use Rattle.tase_replay.specs.Play.{Played, step_of, meaning_of, entry_meaning, entry_step}
 use Rattle.tase_replay.specs.Play.{entry_steps}
 use Rattle.tase_replay.specs.Play.{link_step, linked, linked_by, received, is_unfit, served_item}
+use Rattle.tase_replay.specs.Play.{linked_up_to}
 use Rattle.tase_replay.specs.Play.{is_linked, with_taken, means, line_meaning, play_line, play}
 use Rattle.tase_replay.specs.Play.{steps_in, steps_of, behind_link}
 use Rattle.tase_replay.proofs.PrintedBack.{IsPrintedStep}
@@ -246,10 +247,18 @@ with_sent rows scene given events past end fits =
     (entries-printed given.who events fits)
     (sent-step rows scene (behind_link scene past given end) given end fits, tt)
 
+up_to-takes : (rows : CentreRows) (scene : Scene) (given : SeatItem) (end : Option ConnEnd)
+    (s : Served) (left : Option ConnEnd) → IsOfSeat given
+    → TakesPrinted (linked_up_to rows scene given end s left)
+up_to-takes rows scene given end s None fits = with_sent rows scene given s.taken s.past end fits
+up_to-takes rows scene given end s (Some over) fits =
+    with_sent rows scene given (s.taken ++ close_of (association_in s.past given.who))
+    (with_closed given.who s.past) (Some over) fits
+
 linked-takes : (rows : CentreRows) (scene : Scene) (given : SeatItem) (end : Option ConnEnd)
     (s : Served) (refusal : Option StepFault) → IsOfSeat given
     → TakesPrinted (linked_by rows scene given end s refusal)
-linked-takes rows scene given end s None fits = with_sent rows scene given s.taken s.past end fits
+linked-takes rows scene given end s None fits = up_to-takes rows scene given end s s.end fits
 linked-takes rows scene given end s (Some (Stopped place)) fits =
     with_sent rows scene given (s.taken ++ close_of (association_in s.past given.who))
     (with_closed given.who s.past) (Some conn_ends.Stopped) fits

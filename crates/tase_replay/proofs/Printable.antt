@@ -1,4 +1,5 @@
--- Neither the text of a reply nor the words of an end have an octet below 32, whatever they hold.
+-- Neither the texts of replies and reports nor the words of an end have an octet below 32, whatever
+-- they hold.
 use Rattle.std.proofs.Common.{◌≡◌, ℕ, zero, suc, ◌/◌, ◌%◌, ℤ, Bool, true, false, cond, eqb, leb}
 use Rattle.std.proofs.Common.{List, [], ◌∷◌, ◌++◌, Option, Some, None, decimal, refl, arith}
 use Rattle.std.specs.Prelude.{pos, negsuc, flat_map, codes}
@@ -27,8 +28,11 @@ use Rattle.tase_views.specs.declared.reply.ReplyKind.{ReplyKind}
 use Rattle.tase_views.specs.declared.reply.ReplyKind.TheVariants.{Identified, Results, Written}
 use Rattle.tase_views.specs.declared.reply.ReplyKind.TheVariants.{NamesAre, Defined, MembersAre}
 use Rattle.tase_views.specs.declared.reply.ReplyKind.TheVariants.{Deleted, Error, Reject}
+use Rattle.tase_views.specs.declared.reply.ReportKind.{ReportKind}
+use Rattle.tase_views.specs.declared.reply.ReportKind.TheVariants.{Set, Variables}
 use Rattle.tase_views.specs.EventTexts.{read_verb, next_name}
 use Rattle.event_text.specs.ReplyTexts.{result_text, written_text, item_text, more_text, reply_text}
+use Rattle.report_text.specs.ReportTexts.{next_outcome, told_text, report_text}
 use Rattle.tase_replay.specs.Links.{end_text}
 
 -- a text without an octet below 32
@@ -192,6 +196,23 @@ reply-printable (Error class code) =
     numbers-printable (codes "error ") class code (of_words _ refl)
 reply-printable (Reject kind code) =
     numbers-printable (codes "reject ") kind code (of_words _ refl)
+
+-- ---- reports
+
+told-printable : (names : List ObjectName) (outcomes : List Outcome)
+    → IsPrintable (told_text names outcomes)
+told-printable [] outcomes = printable-nil
+told-printable (name ∷ names) [] = printable-nil
+told-printable (name ∷ names) (outcome ∷ outcomes) = printable-append
+    (printable-append (name-printable name) (printable-cons refl (outcome-printable outcome)))
+    (told-printable names outcomes)
+
+pub report-printable : (report : ReportKind) → IsPrintable (report_text report)
+report-printable (Set set results) = printable-append
+    (printable-append (of_words (codes "set") refl) (name-printable set))
+    (printable-all next_outcome (λ outcome. printable-cons refl (outcome-printable outcome)) _)
+report-printable (Variables names results) =
+    printable-append (of_words (codes "vars") refl) (told-printable names results)
 
 -- ---- ends
 

@@ -28,12 +28,14 @@ use Rattle.ber_values.specs.Octets.{IsOctets}
 use Rattle.ber_values.proofs.BitsLemmas.{list_all-octets}
 use Rattle.tase_conn.specs.declared.stage.ConnEnd.{ConnEnd}
 use Rattle.tase_views.specs.declared.reply.ReplyKind.{ReplyKind}
+use Rattle.tase_views.specs.declared.reply.ReportKind.{ReportKind}
 use Rattle.tase_views.specs.declared.reply.Answer.{Answer}
 use Rattle.tase_views.specs.declared.reply.Answer.TheVariants.{Opened, Reply, Reports, Closed}
 use Rattle.tase_views.specs.declared.reply.Answer.TheVariants.{Noted}
 use Rattle.event_text.specs.ReplyTexts.{reply_text}
+use Rattle.report_text.specs.ReportTexts.{report_text}
 use Rattle.tase_replay.specs.Links.{line_of_out, line_of_end, end_text}
-use Rattle.tase_replay.specs.Play.{Step, printed_of, line_of_reply, printed_in}
+use Rattle.tase_replay.specs.Play.{Step, printed_of, line_of_reply, line_of_report, printed_in}
 use Rattle.tase_replay.specs.PrintedLines.{ShownToPeer, sent_octet, end_words, behind_front}
 use Rattle.tase_replay.specs.PrintedLines.{digits_shown, octets_shown}
 use Rattle.tase_replay.specs.PrintedLines.{words_shown, line_shows, shown_to, end_shown, all_shown}
@@ -41,7 +43,7 @@ use Rattle.tase_replay.specs.PrintedLines.{step_shows, shown_by, octets_to}
 use Rattle.tase_replay.specs.Standing.{HasOctets}
 use Rattle.tase_replay.proofs.Printable.{IsPrintable, of_words, printable-append, printable-cons}
 use Rattle.tase_replay.proofs.Printable.{decimal-printable, hex-printable, reply-printable}
-use Rattle.tase_replay.proofs.Printable.{end-printable}
+use Rattle.tase_replay.proofs.Printable.{report-printable, end-printable}
 use Rattle.tase_replay.proofs.TextLines.{lines-more}
 
 -- ---- which steps these are
@@ -174,12 +176,26 @@ reply-nothing who from reply rest =
     (line-printable (codes "reply ") from (reply_text reply) (of_words _ refl)
     (reply-printable reply))
 
+report-nothing : (who from : ℕ) (report : ReportKind) (rest : List ℕ)
+    → shown_to who (line_of_report from report ++ rest) ≡ shown_to who rest
+report-nothing who from report rest =
+    line-shown who (codes "report " ++ decimal from ++ 32 ∷ report_text report) rest
+    (line-printable (codes "report ") from (report_text report) (of_words _ refl)
+    (report-printable report))
+
+reports-nothing : (who from : ℕ) (reports : List ReportKind) (rest : List ℕ)
+    → shown_to who (flat_map (line_of_report from) reports ++ rest) ≡ shown_to who rest
+reports-nothing who from [] rest = refl
+reports-nothing who from (report ∷ reports) rest =
+    let more : List ℕ = flat_map (line_of_report from) reports in
+    ap (shown_to who) (append_assoc (line_of_report from report) more rest)
+    ∙ report-nothing who from report (more ++ rest) ∙ reports-nothing who from reports rest
+
 answer-nothing : (who from : ℕ) (answer : Answer) (rest : List ℕ)
     → shown_to who (printed_of from answer ++ rest) ≡ shown_to who rest
 answer-nothing who from (Opened key) rest = refl
 answer-nothing who from (Reply reply) rest = reply-nothing who from reply rest
-answer-nothing who from (Reports []) rest = refl
-answer-nothing who from (Reports (report ∷ reports)) rest = elim report [ ]
+answer-nothing who from (Reports reports) rest = reports-nothing who from reports rest
 answer-nothing who from Closed rest = refl
 answer-nothing who from Noted rest = refl
 

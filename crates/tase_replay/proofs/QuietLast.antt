@@ -21,6 +21,7 @@ use Rattle.tase_views.specs.Outcomes.{refusal_of}
 use Rattle.tase_replay.specs.Links.{SeatItem, Asking, an_event, an_item, asking_in, items_of}
 use Rattle.tase_replay.specs.Play.{Step, Scene, LineMeaning, bad, too_heavy, gives, Played}
 use Rattle.tase_replay.specs.Play.{step_of, meaning_of, entry_meaning, linked_by, received}
+use Rattle.tase_replay.specs.Play.{linked_up_to}
 use Rattle.tase_replay.specs.Play.{is_unfit, served_item, is_linked, with_taken, means}
 use Rattle.tase_replay.specs.Play.{line_meaning, play_line, play, steps_in, printed_in, shown_of}
 use Rattle.tase_replay.proofs.Linking.{printed_steps}
@@ -53,10 +54,15 @@ refusal-leaves after step (Some UnknownName) = refl
 refusal-leaves after step (Some ClockRange) = refl
 refusal-leaves after step (Some (Backward last)) = refl
 
+up_to-leaves : (rows : CentreRows) (scene : Scene) (given : SeatItem) (end : Option ConnEnd)
+    (s : Served) (left : Option ConnEnd) → LeavesQuiet (linked_up_to rows scene given end s left)
+up_to-leaves rows scene given end s None = refl
+up_to-leaves rows scene given end s (Some over) = refl
+
 linked-leaves : (rows : CentreRows) (scene : Scene) (given : SeatItem) (end : Option ConnEnd)
     (s : Served) (refusal : Option StepFault)
     → LeavesQuiet (linked_by rows scene given end s refusal)
-linked-leaves rows scene given end s None = refl
+linked-leaves rows scene given end s None = up_to-leaves rows scene given end s s.end
 linked-leaves rows scene given end s (Some (Stopped place)) = refl
 linked-leaves rows scene given end s (Some (HistoryFull weight limit)) =
     printed_steps given.who (s.taken ++ close_of (association_in s.past given.who))

@@ -42,21 +42,23 @@ use Rattle.conn_laws.proofs.Served.{has_served, all_done}
 use Rattle.conn_laws.proofs.Texts.{text_turns}
 use Rattle.conn_laws.proofs.TurnLists.{any_back}
 use Rattle.conn_service.specs.Attending.{AddsPending, Attends, IsServedTo, TakesEvents, IsNodesEnd}
+use Rattle.conn_service.specs.Attending.{TakesTo, IsBrought}
 use Rattle.tase_map.specs.Linked.{link_octets}
 use Rattle.tase_conn.specs.PeerEnd.{peer_end, end_at, last_turn}
 use Rattle.conn_service.proofs.Closed.{cut_sends}
-use Rattle.conn_service.proofs.Takes.{takes_each, events_taken}
 use Rattle.tase_replay.specs.declared.playing.ReplayEnd.{ReplayEnd}
 use Rattle.tase_replay.specs.declared.playing.ReplayEnd.TheVariants.{Done, Full, Memory}
 use Rattle.tase_replay.specs.Links.{SeatItem, items_of, line_of_out, line_of_end}
 use Rattle.tase_replay.specs.Play.{Scene, LineMeaning, received, is_unfit, conn_has_ended, linked}
 use Rattle.tase_replay.specs.Play.{behind_link, link_step, play_line, ends_there, scene_by}
-use Rattle.tase_replay.specs.Play.{entry_steps}
+use Rattle.tase_replay.specs.Play.{entry_steps, items_with}
+use Rattle.conn_service.specs.Served.{with_closed}
 use Rattle.conn_service.specs.Sends.{HasEvents, IsCutFor, IsSaidByEnd, first_refused, close_of}
 use Rattle.tase_replay.specs.Standing.{LinkGoesOn, StandsOn, IsAwaiting, IsBehind}
 use Rattle.tase_replay.specs.Ends.{IsPlayed, IsShown, end_of_cut}
+use Rattle.tase_replay.proofs.Served.{events_up_to}
 use Rattle.tase_replay.proofs.Linking.{entries_by, entries_own, taken_past, cut_past, through_so}
-use Rattle.tase_replay.proofs.Linking.{refused_so, IsPlayed-begun, IsPlayed-full}
+use Rattle.tase_replay.proofs.Linking.{refused_so, long_so, IsPlayed-begun, IsPlayed-full}
 use Rattle.tase_replay.proofs.Linking.{IsPlayed-linked, link_text, items_behind}
 
 -- ---- an item more
@@ -153,7 +155,9 @@ attends_on setup past who items said old between new after e (inl a) = inl (reco
 attends_on setup past who items said old between new after e (inr a) = inr (record {
   taken = a.taken;
   between = a.between;
+  brought = a.brought;
   takes = a.takes;
+  brings = a.brings;
   cut = record {
     adds = adds_on old between new e a.cut.adds;
     end = a.cut.end;
@@ -234,7 +238,7 @@ none_refused e = absurd cc
 
 refused_next : (setup : Setup) (scene : Scene) (given : SeatItem) (taken : List EventKind)
     (between : Past) (others : List EventKind) (fault : StepFault)
-    → TakesEvents setup given.who scene.past taken between
+    → TakesEvents setup given.who (items_with scene given) scene.past taken between
     → asks_of setup.centre (items_of given.who scene.given ++ given.item ∷ [])
     ≡ reverse (events_by given.who between) ++ others
     → first_refused setup between given.who others ≡ Some fault
@@ -244,10 +248,43 @@ refused_next setup scene given taken between (event ∷ later) fault takes e is 
   event = event;
   later = later;
   asks_are = e ∙ ap (λ (es : List EventKind). es ++ event ∷ later)
-      (events_taken setup given.who scene.past taken between
-      (takes_each setup given.who scene.past taken between takes));
+      (events_up_to setup given.who (items_with scene given) scene.past taken between None takes);
   refused = is;
 }
+
+-- the line is taken, and the connection has ended
+cut_came : (setup : Setup) (scene : Scene) (given : SeatItem) (old conn : Talking) (after : Past)
+    (end : ConnEnd)
+    → (a : IsServedTo setup scene.past given.who (items_with scene given)
+    (link_octets setup.centre scene.past given.who (items_of given.who scene.given)) old after conn)
+    → a.cut.end ≡ end
+    → link_octets setup.centre scene.past given.who (items_of given.who scene.given)
+    ++ a.cut.adds.added ≡ link_octets setup.centre after given.who (items_with scene given)
+    → received setup scene given ≡ linked setup.centre scene given (entry_steps given.who
+    (a.taken ++ close_of (association_in a.between given.who))) (with_closed given.who a.between)
+    (Some end)
+    → Came setup scene given old after conn
+cut_came setup scene given old conn after end a e said is =
+    let who = given.who in
+    let items = items_with scene given in
+    let all = a.taken ++ close_of (association_in a.between who) in
+    record {
+      adds = a.cut.adds;
+      events = all;
+      end = Some end;
+      received_is = is ∙ ap (λ (p : Past). linked setup.centre scene given (entry_steps who all) p
+          (Some end)) (sym a.cut.after_is);
+      grown = a.cut.after_is
+          ∙ cut_past setup who items scene.past a.taken a.between a.brought a.takes;
+      octets = said;
+      acted = subst (λ (x : ConnEnd). HasEvents setup after who items (Some x)) e
+          (cut_sends setup a.between who items
+          (link_octets setup.centre scene.past who (items_of who scene.given)) old after conn
+          a.cut).events;
+      end_is = ap (λ (p : Progress). conn_end_in p) a.cut.ended
+          ∙ ap (λ (x : ConnEnd). Some x) e;
+      goes = λ none. absurd (some_end (Some end) end refl none);
+    }
 
 -- it is taken unless the connection was cut for a full history, or for want of memory
 came_cut : (setup : Setup) (scene : Scene) (given : SeatItem) (old conn : Talking) (after : Past)
@@ -259,41 +296,43 @@ came_cut : (setup : Setup) (scene : Scene) (given : SeatItem) (old conn : Talkin
     → Came setup scene given old after conn
 came_cut setup scene given old conn after conn_ends.Stopped g fit a e node goes =
     let who = given.who in
-    let items = items_of who scene.given ++ given.item ∷ [] in
-    let all = a.taken ++ close_of (association_in a.between who) in
+    let items = items_with scene given in
     let cause : IsCutFor setup a.between who items conn_ends.Stopped
     (first_refused setup a.between who a.cut.others) =
     subst (λ (x : ConnEnd). IsCutFor setup a.between who items x
     (first_refused setup a.between who a.cut.others)) e a.cut.cause in
+    let none : a.brought ≡ None = subst (λ (x : ConnEnd). IsBrought x a.brought) e a.brings in
+    let takes : TakesEvents setup who items scene.past a.taken a.between =
+    subst (λ (o : Option ConnEnd). TakesTo o setup who items scene.past a.taken a.between) none
+    a.takes in
     let r = refused_next setup scene given a.taken a.between a.cut.others (faults.Stopped cause.0)
-    a.takes a.cut.asks_are cause.1 in
-    let said = subst (λ (x : ConnEnd). IsSaidByEnd items (Some x)
+    takes a.cut.asks_are cause.1 in
+    cut_came setup scene given old conn after conn_ends.Stopped a e
+    (subst (λ (x : ConnEnd). IsSaidByEnd items (Some x)
     (link_octets setup.centre scene.past who (items_of who scene.given) ++ a.cut.adds.added)
-    (link_octets setup.centre after who items)) e a.cut.said_is in
-    record {
-      adds = a.cut.adds;
-      events = all;
-      end = Some conn_ends.Stopped;
-      received_is = refused_so setup scene given a.taken a.between r.event r.later
-          (faults.Stopped cause.0) fit (asked_so setup.centre scene who old g) r.asks_are a.takes
-          r.refused
-          ∙ ap (λ (p : Past). linked setup.centre scene given (entry_steps who all) p
-          (Some conn_ends.Stopped)) (sym a.cut.after_is);
-      grown = a.cut.after_is ∙ cut_past setup who scene.past a.taken a.between a.takes;
-      octets = said;
-      acted = subst (λ (x : ConnEnd). HasEvents setup after who items (Some x)) e
-          (cut_sends setup a.between who items
-          (link_octets setup.centre scene.past who (items_of who scene.given)) old after conn
-          a.cut).events;
-      end_is = ap (λ (p : Progress). conn_end_in p) a.cut.ended
-          ∙ ap (λ (x : ConnEnd). Some x) e;
-      goes = λ none. absurd (some_end (Some conn_ends.Stopped) conn_ends.Stopped refl none);
-    }
+    (link_octets setup.centre after who items)) e a.cut.said_is)
+    (refused_so setup scene given a.taken a.between r.event r.later (faults.Stopped cause.0) fit
+    (asked_so setup.centre scene who old g) r.asks_are takes r.refused)
+came_cut setup scene given old conn after (conn_ends.TooLong len detail) g fit a e node goes =
+    let who = given.who in
+    let items = items_with scene given in
+    let end = conn_ends.TooLong len detail in
+    let long : a.brought ≡ Some end =
+    subst (λ (x : ConnEnd). IsBrought x a.brought) e a.brings in
+    let takes : TakesTo (Some end) setup who items scene.past a.taken a.between =
+    subst (λ (o : Option ConnEnd). TakesTo o setup who items scene.past a.taken a.between) long
+    a.takes in
+    cut_came setup scene given old conn after end a e
+    (subst (λ (x : ConnEnd). IsSaidByEnd items (Some x)
+    (link_octets setup.centre scene.past who (items_of who scene.given) ++ a.cut.adds.added)
+    (link_octets setup.centre after who items)) e a.cut.said_is)
+    (long_so setup scene given a.taken a.cut.others a.between end fit
+    (asked_so setup.centre scene who old g)
+    (a.cut.asks_are ∙ ap (λ (es : List EventKind). es ++ a.cut.others)
+    (events_up_to setup who items scene.past a.taken a.between (Some end) takes)) takes)
 came_cut setup scene given old conn after (conn_ends.Full weight limit) g fit a e node goes =
     absurd cc
 came_cut setup scene given old conn after conn_ends.Memory g fit a e node goes = absurd cc
-came_cut setup scene given old conn after (conn_ends.TooLong len detail) g fit a e node goes =
-    absurd node
 came_cut setup scene given old conn after (conn_ends.Overflow pending limit) g fit a e node goes =
     absurd node
 came_cut setup scene given old conn after conn_ends.LinkFault g fit a e node goes = absurd node
@@ -310,17 +349,17 @@ pub came : (setup : Setup) (scene : Scene) (given : SeatItem) (old conn : Talkin
 came setup scene given old conn after g fit (inl t) none =
     let who = given.who in
     let items = items_of who scene.given ++ given.item ∷ [] in
-    let each = takes_each setup who scene.past t.taken after t.takes in
     record {
       adds = t.adds;
       events = t.taken;
       end = peer_end setup.centre items;
       received_is = through_so setup scene given t.taken after fit
           (asked_so setup.centre scene who old g) t.asks_are t.takes;
-      grown = taken_past setup who scene.past t.taken after each;
+      grown = taken_past setup who items scene.past t.taken after None t.takes;
       octets = t.octets;
       acted = inl (record {
-        events = events_taken setup who scene.past t.taken after each ∙ sym t.asks_are;
+        events = events_up_to setup who items scene.past t.taken after None t.takes
+            ∙ sym t.asks_are;
         by_peer = refl;
       });
       end_is = t.end;
@@ -442,12 +481,16 @@ cut_played setup line number scene given history now sink (conn_ends.Full weight
     subst (λ (x : ConnEnd). IsCutFor setup a.between who
     (items_of who scene.given ++ given.item ∷ []) x
     (first_refused setup a.between who a.cut.others)) is a.cut.cause in
+    let none : a.brought ≡ None = subst (λ (x : ConnEnd). IsBrought x a.brought) is a.brings in
+    let takes : TakesEvents setup who (items_with scene given) scene.past a.taken a.between =
+    subst (λ (o : Option ConnEnd). TakesTo o setup who (items_with scene given) scene.past a.taken
+    a.between) none a.takes in
     let r = refused_next setup scene given a.taken a.between a.cut.others
-    (faults.HistoryFull weight limit) a.takes a.cut.asks_are cause in
+    (faults.HistoryFull weight limit) takes a.cut.asks_are cause in
     subst (λ (x : ReplayEnd). IsPlayed (play_line line number (received setup scene given) ends_there)
     history now sink sink x) (end_is (Full weight limit) end ends)
     (IsPlayed-full setup line number scene given history now sink a.taken a.between past r.event
-    r.later weight limit e f fit (asked_so setup.centre scene who old g) r.asks_are a.takes r.refused
+    r.later weight limit e f fit (asked_so setup.centre scene who old g) r.asks_are takes r.refused
     a.cut.after_is)
   where
     end_is : (x y : ReplayEnd) → Some x ≡ Some y → x ≡ y
@@ -457,7 +500,7 @@ cut_played setup line number scene given history now sink conn_ends.Memory end o
     subst (λ (x : ReplayEnd). IsPlayed (play_line line number (received setup scene given) ends_there)
     history now sink sink x) (end_is Memory end ends)
     (IsPlayed-begun setup line number scene given history now sink a.taken a.cut.others a.between past
-    e f fit (asked_so setup.centre scene given.who old g)
+    a.brought e f fit (asked_so setup.centre scene given.who old g)
     (asked_in_turn setup.centre (items_of given.who scene.given ++ given.item ∷ [])
     (going_input setup.centre scene given.who given.item old g)) a.takes a.cut.asks_are
     a.cut.after_is)

@@ -30,6 +30,7 @@ use Rattle.tase_replay.specs.Play.{Step, Scene, LineMeaning, bad, gives, too_hea
 use Rattle.tase_replay.specs.Play.{bad_line, history_full, TakenLine, steps_in, steps_of, entries_in, printed_in}
 use Rattle.tase_replay.specs.Play.{step_of, with_taken, meaning_of, is_linked, cut_steps}
 use Rattle.tase_replay.specs.Play.{is_unfit, served_item, linked_by, means, line_meaning}
+use Rattle.tase_replay.specs.Play.{linked_up_to}
 use Rattle.tase_replay.specs.Play.{play_line, ends_there, scene_by, steps_by, first_scene}
 use Rattle.tase_replay.specs.AllSent.{given_asked, given_by_line, given_by_lines, AreSentTo, SentBy}
 use Rattle.tase_replay.specs.PrintedLines.{shown_to, shown_by}
@@ -71,11 +72,19 @@ own_given scene true meaning e = refl
 own_given scene false meaning e = e
 
 -- a line of a link gives its item
+up_to_given : (rows : CentreRows) (scene : Scene) (given : SeatItem) (end : Option ConnEnd)
+    (s : Served) (left : Option ConnEnd)
+    → (scene_by scene (linked_up_to rows scene given end s left)).given
+    ≡ scene.given ++ given ∷ []
+up_to_given rows scene given end s None = refl
+up_to_given rows scene given end s (Some over) = refl
+
 refusal_given : (rows : CentreRows) (scene : Scene) (given : SeatItem) (end : Option ConnEnd)
     (s : Served) (refusal : Option StepFault) (line : List ℕ) (number : ℕ)
     → (play_line line number (linked_by rows scene given end s refusal) ends_there).end ≡ done
     → (scene_by scene (linked_by rows scene given end s refusal)).given ≡ scene.given ++ given ∷ []
-refusal_given rows scene given end s None line number e = refl
+refusal_given rows scene given end s None line number e =
+    up_to_given rows scene given end s s.end
 refusal_given rows scene given end s (Some (faults.Stopped place)) line number e = refl
 refusal_given rows scene given end s (Some (faults.HistoryFull weight limit)) line number e =
     absurd (never_heavy (cut_steps given.who s) weight limit line number e)

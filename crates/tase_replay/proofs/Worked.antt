@@ -10,14 +10,18 @@ use Rattle.bilateral.specs.Reading.{centre_in, no_rows}
 use Rattle.tase_views.specs.Setup.{Setup}
 use Rattle.mms_data.specs.Datum.{integer, bits}
 use Rattle.mms_data.specs.declared.object_name.Scope.TheVariants.{Domain}
+use Rattle.mms_data.specs.declared.outcome.Outcome.TheVariants.{Good}
 use Rattle.mms_data.specs.ObjectName.{ObjectName}
 use Rattle.mms_text.specs.DatumIn.{datum_in}
 use Rattle.mms_text.proofs.TextReading.{datum_in-text}
 use Rattle.tase_views.specs.declared.call.CallKind.TheVariants.{Write, WriteSet}
 use Rattle.tase_views.specs.declared.event.EventKind.TheVariants.{Request}
 use Rattle.tase_views.specs.declared.event.Entry.{Entry}
+use Rattle.tase_views.specs.declared.reply.Answer.TheVariants.{Reports}
+use Rattle.tase_views.specs.declared.reply.ReportKind.TheVariants.{Set, Variables}
 use Rattle.tase_replay.specs.Links.{Asking, an_event, asking_in}
 use Rattle.tase_replay.specs.Play.{Played, done, bad_line, history_full, shown_of, scenario_of}
+use Rattle.tase_replay.specs.Play.{printed_of}
 use Rattle.tase_replay.specs.Play.{Scene, first_scene, means, line_meaning, play_line, ends_there}
 
 -- lines, each with its end
@@ -28,7 +32,7 @@ text_of texts = flat_map (λ line. line ++ 10 ∷ []) texts
 abbrev pub tables : List ℕ
 tables =
     text_of (codes "point BUS1 state" ∷ codes "point LOAD1 discrete" ∷ codes "point FREQ1 real"
-    ∷ codes "peer A 1.1.999.1 DOMA TBLA" ∷ codes "see BUS1 domain value"
+    ∷ codes "peer A 1.1.999.1 DOMA TBLA" ∷ codes "slots 1" ∷ codes "see BUS1 domain value"
     ∷ codes "see LOAD1 domain value,cov"
     ∷ codes "peer B 1.1.999.2 DOMB TBLB" ∷ codes "see BUS1 domain value,time"
     ∷ codes "see LOAD1 domain value,flags" ∷ codes "see FREQ1 vmd value" ∷ [])
@@ -102,9 +106,11 @@ listed = codes "open 1 A" ∷ codes "say 1 names 9 vmd:" ∷ codes "say 1 names 
 listed-shown : shown_of (played listed)
     ≡ text_of (codes "reply 1 names end DOMA" ∷ codes "reply 1 error 7 2"
     ∷ codes "reply 1 names end"
-    ∷ (codes "reply 1 names end BUS1 Bilateral_Table_ID DSConditions_Detected"
-    ++ codes " Event_Code_Detected LOAD1 Transfer_Set_Name Transfer_Set_Time_Stamp")
-    ∷ codes "reply 1 names end LOAD1 Transfer_Set_Name Transfer_Set_Time_Stamp" ∷ [])
+    ∷ (codes "reply 1 names end BUS1 Bilateral_Table_ID DSConditions_Detected DSTrans1"
+    ++ codes " DSTrans1$Status Event_Code_Detected LOAD1 Next_DSTransfer_Set"
+    ++ codes " Transfer_Set_Name Transfer_Set_Time_Stamp")
+    ∷ (codes "reply 1 names end LOAD1 Next_DSTransfer_Set Transfer_Set_Name"
+    ++ codes " Transfer_Set_Time_Stamp") ∷ [])
 unfolding digits
 listed-shown = refl
 
@@ -195,6 +201,15 @@ written-shown =
     (line_meaning setup (first_scene []) (codes "open 1 A"))
     (λ (after : Scene). play_line write_line 2 (means setup after found) ends_there)))
     write_line-asking
+
+-- the reports that a seat takes, a line each
+reports-printed : printed_of 7 (Reports (Set (name_a (codes "S1"))
+    (Good (bits (record { count = 8; octets = 128 ∷ [] })) ∷ Good (integer (pos 5)) ∷ [])
+    ∷ Variables (name_a (codes "BRK1_TIMEOUT") ∷ []) (Good (integer (pos 77)) ∷ []) ∷ []))
+    ≡ text_of (codes "report 7 set DOMA/S1 b8.80 i5" ∷ codes "report 7 vars DOMA/BRK1_TIMEOUT=i77"
+    ∷ [])
+unfolding digits
+reports-printed = refl
 
 -- data sets, and the names of the protocol itself
 abbrev sets : List (List ℕ)

@@ -7,7 +7,7 @@ use Rattle.tase_replay.specs.PrintedLines.{sent_octet, end_words, shown_to}
 
 abbrev example : List ℕ
 example = codes "reply 7 read i5" ++ 10 ∷ codes "out 7 0aff" ++ 10 ∷ codes "out 70 00" ++ 10 ∷
-    codes "out 7 10" ++ 10 ∷ codes "ended 7 refused acse 3 tag" ++ 10 ∷ []
+    codes "report 7 vars DOMA/LOAD1={i5,u3}" ++ 10 ∷ codes "out 7 10" ++ 10 ∷ codes "ended 7 refused acse 3 tag" ++ 10 ∷ []
 
 own_lines : shown_to 7 example
     ≡ map sent_octet (10 ∷ 255 ∷ 16 ∷ []) ++ end_words (codes "refused acse 3 tag") ∷ []

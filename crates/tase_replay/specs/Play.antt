@@ -9,7 +9,7 @@ use Rattle.plain_text.specs.Lines.{is_skipped}
 use Rattle.tase_views.specs.declared.event.Entry.{Entry}
 use Rattle.tase_views.specs.declared.reply.ReplyKind.{ReplyKind}
 use Rattle.tase_views.specs.declared.reply.Answer.{Answer}
-use Rattle.tase_views.specs.declared.reply.Report.{Report}
+use Rattle.tase_views.specs.declared.reply.ReportKind.{ReportKind}
 use Rattle.tase_views.specs.declared.reply.Answer.TheVariants.{Opened, Reply, Reports, Closed}
 use Rattle.tase_views.specs.declared.reply.Answer.TheVariants.{Noted}
 use Rattle.tase_views.specs.declared.fault.StepFault.{StepFault}
@@ -25,6 +25,7 @@ use Rattle.tase_conn.specs.declared.stage.ConnEnd.{ConnEnd}
 use Rattle.tase_conn.specs.declared.stage.ConnEnd.TheVariants as conn_ends
 use Rattle.tase_views.specs.Outcomes.{refusal_of, answer_of}
 use Rattle.event_text.specs.ReplyTexts.{reply_text}
+use Rattle.report_text.specs.ReportTexts.{report_text}
 use Rattle.tase_replay.specs.Lines.{entry_by}
 use Rattle.tase_map.specs.Linked.{link_octets}
 use Rattle.tase_conn.specs.PeerEnd.{peer_end}
@@ -38,12 +39,8 @@ use Rattle.tase_replay.specs.Links.{line_of_out, line_of_end}
 abbrev pub line_of_reply : ℕ → ReplyKind → List ℕ
 line_of_reply who reply = codes "reply " ++ decimal who ++ 32 ∷ reply_text reply ++ 10 ∷ []
 
--- no report is made yet
-abbrev pub report_text : Report → List ℕ
-report_text report = elim report [ ]
-
 -- a report to a seat, as a line
-abbrev pub line_of_report : ℕ → Report → List ℕ
+abbrev pub line_of_report : ℕ → ReportKind → List ℕ
 line_of_report who report = codes "report " ++ decimal who ++ 32 ∷ report_text report ++ 10 ∷ []
 
 -- what is printed of an answer to a seat: the reply to a request, and the reports that are taken
@@ -178,11 +175,19 @@ linked rows scene given steps past end =
     let after : Scene = behind_link scene past given end in
     gives (steps ++ link_step rows scene after given end ∷ []) after
 
--- by what a node takes of the events of a connection, and how the peer ends that, if it does
+-- by what a node takes of the events of a connection, none of which it refuses, and how the peer
+-- ends that, if it does: where the answer to the last event brings an end, a report is too long
+abbrev pub linked_up_to : CentreRows → Scene → SeatItem → Option ConnEnd → Served → Option ConnEnd
+    → LineMeaning
+linked_up_to rows scene given by_peer s None =
+    linked rows scene given (entry_steps given.who s.taken) s.past by_peer
+linked_up_to rows scene given by_peer s (Some end) =
+    linked rows scene given (cut_steps given.who s) (with_closed given.who s.past) (Some end)
+
+-- or refuses one
 abbrev pub linked_by : CentreRows → Scene → SeatItem → Option ConnEnd → Served → Option StepFault
     → LineMeaning
-linked_by rows scene given by_peer s None =
-    linked rows scene given (entry_steps given.who s.taken) s.past by_peer
+linked_by rows scene given by_peer s None = linked_up_to rows scene given by_peer s s.end
 linked_by rows scene given by_peer s (Some (Stopped place)) =
     linked rows scene given (cut_steps given.who s) (with_closed given.who s.past)
     (Some conn_ends.Stopped)
@@ -199,14 +204,18 @@ linked_by rows scene given by_peer s (Some (Backward last)) = bad
 abbrev pub is_unfit : ℕ → Scene → Bool
 is_unfit who scene = is_seated who scene || conn_has_ended who scene
 
+-- all that its link has given then
+abbrev pub items_with : Scene → SeatItem → List Item
+items_with scene given = items_of given.who scene.given ++ given.item ∷ []
+
 abbrev pub served_item : Setup → Scene → SeatItem → Served
-served_item setup scene given = served setup given.who scene.past
+served_item setup scene given = served setup given.who (items_with scene given) scene.past
     (asks_more setup.centre (items_of given.who scene.given) given.item)
 
 abbrev pub received : Setup → Scene → SeatItem → LineMeaning
 received setup scene given = if is_unfit given.who scene then bad
     else linked_by setup.centre scene given
-    (peer_end setup.centre (items_of given.who scene.given ++ given.item ∷ []))
+    (peer_end setup.centre (items_with scene given))
     (served_item setup scene given) (served_item setup scene given).refusal
 
 -- ---- a line

@@ -12,7 +12,7 @@ ghost use Rattle.tase_conn.specs.Talking.{conn_end_in};
 
 use crate::entries::{LineRequest, read_asked};
 use crate::links::{LineItem, Seats, receive};
-use crate::printing::{print_reply, print_sent};
+use crate::printing::{print_reply, print_reports, print_sent};
 use node_core::Node;
 use outside::Sink;
 use plain_text::{is_skipped, next_line};
@@ -243,8 +243,7 @@ fn print_answer<K: Sink>(who: u64, answer: &Answer, sink: &mut K, text: &mut Vec
 {
     match answer {
         Answer::Reply(reply) => print_reply(who, reply, sink, text),
-        // No kind of report is made yet, so there is none to print.
-        Answer::Reports(_) => ReplayEnd::Done,
+        Answer::Reports(reports) => print_reports(who, reports.as_slice(), sink, text),
         Answer::Opened { .. } | Answer::Closed | Answer::Noted => ReplayEnd::Done,
     }
 }

@@ -1,23 +1,24 @@
 ghost use Rattle.std.specs.Prelude.{◌≡◌, [], ◌∷◌, ◌++◌, length, drop, OnOk, Some, codes};
-ghost use Rattle.std.specs.Prelude.{decimal};
+ghost use Rattle.std.specs.Prelude.{decimal, flat_map};
 ghost use Rattle.plain_text.specs.Octets.{hex_text};
 ghost use Rattle.tase_conn.specs.Talking.{pending_of, next_pending, conn_end_in};
 ghost use Rattle.tase_conn.specs.Places.{KeepsPlace};
 ghost use Rattle.tase_conn.specs.Taken.{SendsSome};
 ghost use Rattle.tase_replay.specs.declared.playing.ReplayEnd.TheVariants.{Done};
 ghost use Rattle.tase_replay.specs.Links.{line_of_out, line_of_end, end_text, fault_text};
-ghost use Rattle.tase_replay.specs.Play.{line_of_reply};
+ghost use Rattle.tase_replay.specs.Play.{line_of_reply, line_of_report};
 ghost use Rattle.tase_replay.specs.Ends.{IsShown, end_of_write};
 
 use crate::playing::ReplayEnd;
 use event_text::spell_reply;
 use outside::{Sink, SinkFailed, write_all};
 use plain_text::{push_decimal, push_hex};
+use report_text::spell_report;
 use stack_messages::StackFault;
 use std::alloc::AllocError;
 use stream_listing::{layer_name, why_name};
 use tase_conn::{Conn, ConnEnd};
-use tase_views::Reply;
+use tase_views::{Reply, Report};
 
 /// Prints a reply to a seat as a line. `text` is where the line is put together; what it held is
 /// gone.
@@ -61,6 +62,46 @@ fn spell_line(text: &mut Vec<u8>, who: u64, reply: &Reply) -> Result<(), AllocEr
     push_decimal(text, who)?;
     text.push(b' ')?;
     spell_reply(text, reply)?;
+    text.push(b'\n')?;
+    Ok(())
+}
+
+/// Prints the reports that a seat takes, a line each. `text` is where the lines are put together;
+/// what it held is gone.
+pub(crate) fn print_reports<K: Sink>(
+    who: u64,
+    reports: &[Report],
+    sink: &mut K,
+    text: &mut Vec<u8>,
+) -> ReplayEnd
+    ensures { IsShown (flat_map (line_of_report who) reports.now)
+        (K.told sink.old) (K.told sink.new) result }
+{
+    if spell_lines(text, who, reports).is_err() {
+        return ReplayEnd::Memory;
+    }
+    print_text(sink, text.as_slice())
+}
+
+/// Puts the lines of reports into `text`, in place of what that held.
+fn spell_lines(text: &mut Vec<u8>, who: u64, reports: &[Report]) -> Result<(), AllocError>
+    ensures { OnOk result (text.new.items ≡ flat_map (line_of_report who) reports.now) }
+{
+    text.clear();
+    for report in reports {
+        put_report(text, who, report)?;
+    }
+    Ok(())
+}
+
+/// Appends the line of a report.
+fn put_report(text: &mut Vec<u8>, who: u64, report: &Report) -> Result<(), AllocError>
+    ensures { OnOk result (text.new.items ≡ text.old.items ++ line_of_report who report.now) }
+{
+    text.extend_from_slice(b"report ")?;
+    push_decimal(text, who)?;
+    text.push(b' ')?;
+    spell_report(text, report)?;
     text.push(b'\n')?;
     Ok(())
 }

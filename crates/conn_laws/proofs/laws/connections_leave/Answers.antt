@@ -1,5 +1,6 @@
 use Rattle.conn_laws.proofs.Left.{refused_leaves, given_up, closing_leaves, closed_leaves}
 use Rattle.conn_laws.proofs.Leftover.{others_leave, dropped_leaves, was_left, all_said}
+use Rattle.conn_laws.proofs.TooLong.{too_long_leaves}
 use Rattle.conn_laws.proofs.Unnoted.{unnoted_leaves}
 use Rattle.conn_laws.proofs.Unopened.{unopened_said}
 use Rattle.tase_conn.specs.Leaving.{IsLeft}
@@ -22,6 +23,10 @@ returns-clause-unnoted c setup past who items octets added event answer end old 
     is stands left pending =
     unnoted_leaves setup past who items octets added event answer end old new s right stands
     (subst (λ (v : Talking). IsLeft end v new) is left) pending
+
+pub returns-clause-too_long : goal.returns-clause-too_long
+returns-clause-too_long c setup past who items octets event answer end old new s right told long =
+    too_long_leaves setup past who items octets event answer end old new s right told long
 
 pub returns-clause-closing : goal.returns-clause-closing
 returns-clause-closing c rows past who items octets event whole end standing old new h leaving l =

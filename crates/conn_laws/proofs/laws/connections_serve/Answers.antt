@@ -33,8 +33,8 @@ returns-clause-unrefused c rows past who items octets event v s =
     never_refused rows past who items octets event v s
 
 pub returns-clause-answered : goal.returns-clause-answered
-returns-clause-answered c setup past who items octets event answer old new s right told =
-    answered_serves setup past who items octets event answer old new s right told
+returns-clause-answered c setup past who items octets event answer old new s right told none =
+    answered_serves setup past who items octets event answer old new s right told none
 
 pub returns-clause-served : goal.returns-clause-served
 returns-clause-served c rows past who items octets v s at =

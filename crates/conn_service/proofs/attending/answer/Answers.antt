@@ -1,7 +1,8 @@
-use Rattle.std.proofs.Common.{reverse, Some, Ok, Err, refl, inl, inr}
-use Rattle.conn_service.proofs.Going.{asking_told, asking_placed, asking_refused, answered_on}
+use Rattle.std.proofs.Common.{reverse, Ok, Err, refl, inl, inr}
+use Rattle.conn_service.proofs.Going.{asking_told, asking_placed, asking_refused}
 use Rattle.conn_service.proofs.Memory.{unnoted_cut, unnoted_parting, unnoted_free, stays_placed}
 use Rattle.conn_service.proofs.Refused.{refused_cut, parting_on}
+use Rattle.conn_service.proofs.TooLong.{told_on, told_parting}
 use Rattle.conn_service.proofs.attending.answer.Goals as goal
 
 -- the node has answered
@@ -15,9 +16,17 @@ tell-requires-clause-placed c = asking_placed c.args.node.now.setup.centre
 
 pub returns-in-Ok-tell-clause-answers : goal.returns-in-Ok-tell-clause-answers
 returns-in-Ok-tell-clause-answers c = λ items said s.
-    answered_on c.args.node.now c.step.new.self c.args.who items said c.args.event c.in-Ok.answer
-    c.args.conn.now c.tell.new.self c.in-Ok.ensures.ok c.in-Ok.ensures.right
-    c.tell.ensures.stands c.in-Ok-tell.ensures.told s
+    told_on c.goes_on.result c.args.node.now c.step.new.self c.goes_on.new.node c.args.who items
+    said c.args.event c.in-Ok.answer c.args.conn.now c.tell.new.self c.goes_on.new.conn
+    c.in-Ok.ensures.ok c.in-Ok.ensures.right c.tell.ensures.stands c.in-Ok-tell.ensures.told
+    c.goes_on.ensures.goes s
+
+pub goes_on-requires : goal.goes_on-requires
+goes_on-requires c = record {
+  left = told_parting c.args.node.now c.step.new.self c.args.who c.args.event c.in-Ok.answer
+      c.args.conn.now c.tell.new.self c.in-Ok.ensures.ok c.in-Ok.ensures.right
+      c.tell.ensures.stands c.in-Ok-tell.ensures.told c.requires.waits;
+}
 
 -- and memory was wanting for what is said
 pub give_up-requires-clause-free : goal.give_up-requires-clause-free

@@ -9,7 +9,7 @@ use Rattle.tase_conn.proofs.Placing.{left_stands}
 use Rattle.tase_conn.proofs.AnswersNoted.{on_ok, told_stands, told_octets, told_goes, answer_room}
 use Rattle.tase_conn.proofs.AnswersNoted.{refused_octets, refused_goes, refused_stays, told_stage}
 use Rattle.tase_conn.proofs.AnswersNoted.{answered_no_fault, refused_left, refused_stands, on_both}
-use Rattle.tase_conn.proofs.AnswersNoted.{Refuses}
+use Rattle.tase_conn.proofs.AnswersNoted.{Refuses, told_course, refused_course}
 use Rattle.tase_conn.proofs.conn.Conn.tell.Goals as goal
 
 pub returns-in-Ok-clause-stands : goal.returns-in-Ok-clause-stands
@@ -37,6 +37,7 @@ returns-in-Ok-clause-told c =
       progress = told_goes c.args.told c.in-Ok.answer old new c.in-Ok.is c.requires.right n;
       stage = told_stage c.args.told c.in-Ok.answer old new c.in-Ok.is
           c.note_or_refuse.ensures.stage;
+      course = told_course c.args.told c.in-Ok.answer old new c.in-Ok.is c.requires.right n;
     }) c.note_or_refuse.ensures.ok
 
 pub returns-in-Err-clause-stands : goal.returns-in-Err-clause-stands
@@ -55,6 +56,7 @@ returns-in-Err-clause-told c =
       said = refused_octets c.args.told c.in-Err.fault end old new r;
       progress = refused_goes c.args.told c.in-Err.fault end old new r;
       stage = refused_stays c.args.told c.in-Err.fault end old new r;
+      course = refused_course c.args.told c.in-Err.fault end old new r;
     }
 
 pub returns-in-Ok-clause-refused : goal.returns-in-Ok-clause-refused
