@@ -1,16 +1,17 @@
 -- A slot stands where its moves have brought it.
-use Rattle.std.proofs.Common.{◌≡◌, ℕ, ◌==◌, ◌≤◌, Bool, true, false, not, List, [], ◌∷◌, ◌++◌}
+use Rattle.std.proofs.Common.{◌≡◌, ℕ, ◌==◌, ◌≤◌, ◌||◌, Bool, true, false, not, List, [], ◌∷◌, ◌++◌}
 use Rattle.std.proofs.Common.{length, map, reverse, Option, None, refl, sym, ap, ◌∙◌, subst, inl}
 use Rattle.std.proofs.Common.{inr}
 use Rattle.std.specs.List.{filter, flat_map}
-use Rattle.std.proofs.lemmas.Bool.{false≢true}
+use Rattle.std.proofs.lemmas.Bool.{false≢true, and_parts, eqb-true}
 use Rattle.std.proofs.lemmas.Grind.{flat_map-append, reverse_onto}
-use Rattle.std.proofs.lemmas.List.{append-nil}
+use Rattle.std.proofs.lemmas.List.{append-nil, append_assoc}
+use Rattle.std.proofs.lemmas.List.Folds.{list_any-append}
 use Rattle.tase_points.specs.Sample.{Sample}
 use Rattle.transfer_sets.specs.declared.noted.Noted.{Noted}
 use Rattle.transfer_sets.specs.declared.wish.Wish.{Wish}
 use Rattle.transfer_sets.specs.SlotState.{SlotState, IsSlotLike, new_slot, with_status, enabled_by}
-use Rattle.transfer_sets.specs.SlotState.{noted_at, tells_all}
+use Rattle.transfer_sets.specs.SlotState.{noted_at, tells_all, is_noted, noted_behind}
 use Rattle.transfer_sets.specs.SlotMoves.{SlotMove, PointChange, Places, handed_out, changes}
 use Rattle.transfer_sets.specs.SlotMoves.{reports, wishes, last_wish, untold, first_moment}
 use Rattle.transfer_sets.specs.SlotMoves.{noted_by, slot_in, FollowsMoves}
@@ -26,6 +27,7 @@ resting s other wish off = record {
   base = λ on. absurd (never on);
   first = λ on. absurd (never on);
   noted = λ on all. absurd (never on);
+  members = λ on rbe member. absurd (never on);
 }
   where
     never : s.wish.status ≡ true → ⊥
@@ -40,6 +42,9 @@ likes one s other a b =
       first = λ on. a.first on ∙ sym (b.first (ap (λ (w : Wish). w.status) back ∙ on));
       noted = λ on all. a.noted on all
           ∙ sym (b.noted (ap (λ (w : Wish). w.status) back ∙ on) (ap tells_all back ∙ all));
+      members = λ on rbe member. a.members on rbe member
+          ∙ sym (b.members (ap (λ (w : Wish). w.status) back ∙ on)
+          (ap (λ (w : Wish). w.rbe) back ∙ rbe) member);
     }
 
 abbrev state_of : Wish → ℕ → Option ℕ → List Noted → SlotState
@@ -100,6 +105,7 @@ handed places moves ordinal new is = rw is (record {
   base = λ on. refl;
   first = λ on. refl;
   noted = λ on all. refl;
+  members = λ on rbe member. refl;
 })
 
 pub begun : (places : Places) (moves : List SlotMove) (wish : Wish) (now : ℕ)
@@ -110,6 +116,7 @@ begun places moves wish now new is = rw is (record {
   base = λ on. refl;
   first = λ on. refl;
   noted = λ on all. refl;
+  members = λ on rbe member. refl;
 })
 
 pub kept : (places : Places) (moves : List SlotMove) (wish : Wish) (now : ℕ)
@@ -163,10 +170,64 @@ passed_in : (places : Places) (moves : List SlotMove) (change : PointChange)
     → slot_in places (changes change ∷ moves) ≡ slot_in places moves
 passed_in places moves change e = rw e refl
 
+-- all notes behind others
+all_behind : (noted notes : List Noted) → noted_behind true noted notes ≡ noted ++ notes
+all_behind noted [] = sym (append-nil noted)
+all_behind noted (note ∷ notes) =
+    all_behind (noted ++ note ∷ []) notes ∙ append_assoc noted (note ∷ []) notes
+
+parted : (a b c : Bool) → ((a || (b || false)) || c) ≡ (a || (b || c))
+parted true b c = refl
+parted false true c = refl
+parted false false c = refl
+
+already : (all noted : Bool) → (all || not noted) ≡ false → noted ≡ true
+already true noted e = absurd (false≢true (sym e))
+already false true e = refl
+already false false e = absurd (false≢true (sym e))
+
+-- a note of a member that is among the notes adds none
+there : (noted : List Noted) (note : Noted) (m : ℕ) (more : Bool)
+    → is_noted noted note.member ≡ true
+    → (is_noted noted m || more) ≡ (is_noted noted m || ((note.member == m) || more))
+there noted note m more among = by (note.member == m) refl
+  where
+    by : (b : Bool) → (note.member == m) ≡ b
+        → (is_noted noted m || more) ≡ (is_noted noted m || ((note.member == m) || more))
+    by true e = let here : is_noted noted m ≡ true =
+        ap (is_noted noted) (sym (eqb-true note.member m e)) ∙ among in rw here refl
+    by false e = rw e refl
+
+-- a member is among notes behind others where it is among these or those
+abbrev ors : (all : Bool) (m : ℕ) (noted notes : List Noted) → Type 0
+ors all m noted notes =
+    is_noted (noted_behind all noted notes) m ≡ (is_noted noted m || is_noted notes m)
+
+one_behind : (all : Bool) (m : ℕ) (noted : List Noted) (note : Noted) (notes : List Noted) (b : Bool)
+    → (all || not (is_noted noted note.member)) ≡ b → ors all m (noted ++ note ∷ []) notes
+    → ors all m noted notes → ors all m noted (note ∷ notes)
+one_behind all m noted note notes true e more same = rw e (more
+    ∙ ap (λ (b : Bool). b || is_noted notes m)
+    (list_any-append (λ (n : Noted). n.member == m) noted (note ∷ []))
+    ∙ parted (is_noted noted m) (note.member == m) (is_noted notes m))
+one_behind all m noted note notes false e more same = rw e (same
+    ∙ there noted note m (is_noted notes m) (already all (is_noted noted note.member) e))
+
+or_false : (b : Bool) → b ≡ (b || false)
+or_false true = refl
+or_false false = refl
+
+members_behind : (all : Bool) (m : ℕ) (noted notes : List Noted) → ors all m noted notes
+members_behind all m noted [] = or_false (is_noted noted m)
+members_behind all m noted (note ∷ notes) =
+    one_behind all m noted note notes (all || not (is_noted noted note.member)) refl
+    (members_behind all m (noted ++ note ∷ []) notes) (members_behind all m noted notes)
+
 pub changed : (places : Places) (moves : List SlotMove) (change : PointChange)
     (old new : SlotState) → is_of_member places change ≡ true → new.wish ≡ old.wish
     → new.base ≡ old.base → new.first ≡ noted_at change.moment old.first
-    → (tells_all old.wish ≡ true → new.noted ≡ old.noted ++ noted_by places change)
+    → (old.wish.rbe ≡ true
+    → new.noted ≡ noted_behind old.wish.all_changes old.noted (noted_by places change))
     → FollowsMoves places moves old → FollowsMoves places (changes change ∷ moves) new
 changed places moves change old new member wish base first noted f =
     let here = noted_in places moves change member in
@@ -177,17 +238,32 @@ changed places moves change old new member wish base first noted f =
       first = λ on. first ∙ ap (noted_at change.moment) (f.first (on_old on))
           ∙ sym (ap (λ (s : SlotState). s.first) here);
       noted = λ on all. (let all_old : tells_all old.wish ≡ true = ap tells_all (sym wish) ∙ all in
-          noted all_old
+          noted (and_parts old.wish.rbe old.wish.all_changes all_old).0
+          ∙ ap (λ (all : Bool). noted_behind all old.noted (noted_by places change))
+          (and_parts old.wish.rbe old.wish.all_changes all_old).1
+          ∙ all_behind old.noted (noted_by places change)
           ∙ ap (λ (l : List Noted). l ++ noted_by places change) (f.noted (on_old on) all_old)
           ∙ sym (ap (λ (s : SlotState). s.noted) here));
+      members = λ on rbe m. (let rbe_old : old.wish.rbe ≡ true =
+          ap (λ (w : Wish). w.rbe) (sym wish) ∙ rbe in
+          ap (λ (l : List Noted). is_noted l m) (noted rbe_old)
+          ∙ members_behind old.wish.all_changes m old.noted (noted_by places change)
+          ∙ ap (λ (b : Bool). b || is_noted (noted_by places change) m)
+          (f.members (on_old on) rbe_old m)
+          ∙ sym (list_any-append (λ (n : Noted). n.member == m) (slot_in places moves).noted
+          (noted_by places change))
+          ∙ sym (ap (λ (s : SlotState). is_noted s.noted m) here));
     }
 
--- a change of members of a slot that has every change told
+-- a change of members of a slot that has changes told
 pub all_noted : (places : Places) (moves : List SlotMove) (change : PointChange)
     (here : List ℕ) (old mid new : SlotState) → places change.point ≡ here
     → (length here == 0) ≡ false
     → mid ≡ record old { first = noted_at change.moment old.first }
-    → new ≡ record mid { noted = mid.noted ++ map (noted_with change.value change.count) here }
+    → new ≡ record mid {
+      noted = noted_behind mid.wish.all_changes mid.noted
+          (map (noted_with change.value change.count) here);
+    }
     → FollowsMoves places moves old → FollowsMoves places (changes change ∷ moves) new
 all_noted places moves change here old mid new same some first noted f =
     changed places moves change old new
@@ -195,9 +271,11 @@ all_noted places moves change here old mid new same some first noted f =
     (ap (λ (s : SlotState). s.wish) noted ∙ ap (λ (s : SlotState). s.wish) first)
     (ap (λ (s : SlotState). s.base) noted ∙ ap (λ (s : SlotState). s.base) first)
     (ap (λ (s : SlotState). s.first) noted ∙ ap (λ (s : SlotState). s.first) first)
-    (λ all. ap (λ (s : SlotState). s.noted) noted
-    ∙ ap (λ (s : SlotState). s.noted ++ map (noted_with change.value change.count) here) first
-    ∙ ap (λ (l : List ℕ). old.noted ++ map (noted_with change.value change.count) l) (sym same))
+    (λ rbe. ap (λ (s : SlotState). s.noted) noted
+    ∙ ap (λ (s : SlotState). noted_behind s.wish.all_changes s.noted
+    (map (noted_with change.value change.count) here)) first
+    ∙ ap (λ (l : List ℕ). noted_behind old.wish.all_changes old.noted
+    (map (noted_with change.value change.count) l)) (sym same))
     f
 
 pub passed : (places : Places) (moves : List SlotMove) (s : SlotState) (change : PointChange)
@@ -210,6 +288,8 @@ passed places moves s change f other = record {
       ∙ sym (ap (λ (t : SlotState). t.first) (passed_in places moves change (other on)));
   noted = λ on all. f.noted on all
       ∙ sym (ap (λ (t : SlotState). t.noted) (passed_in places moves change (other on)));
+  members = λ on rbe m. f.members on rbe m
+      ∙ sym (ap (λ (t : SlotState). is_noted t.noted m) (passed_in places moves change (other on)));
 }
 
 pub told : (places : Places) (moves : List SlotMove) (old new : SlotState)
@@ -220,6 +300,7 @@ told places moves old new is f = rw is (record {
   base = f.base;
   first = λ on. refl;
   noted = λ on all. refl;
+  members = λ on rbe member. refl;
 })
 
 pub over_others : (places other : Places) (moves : List SlotMove) (s : SlotState)

@@ -1,7 +1,7 @@
 pub mod Readings
 pub mod DueNumbers
 mod DueLater
-mod Followed
+pub mod Followed
 mod Worked
 mod WorkedMoves
 mod BankLists

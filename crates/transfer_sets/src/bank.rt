@@ -1,13 +1,17 @@
 //! The transfer sets of a peer, each with the association that owns it.
-ghost use Rattle.std.specs.Prelude.{◌≡◌, ◌<◌, List, length, map, slice_set, IfOk};
+ghost use Rattle.std.specs.Prelude.{◌≡◌, ◌<◌, ◌≤◌, ℕ, List, length, map, slice_set, IfOk, OnOk};
+ghost use Rattle.std.specs.Prelude.{OnErr, is_some};
 ghost use Rattle.transfer_sets.specs.SlotState.{with_status};
 ghost use Rattle.transfer_sets.specs.Banks.{OwnedSlot, free_slot, free_slots, handed_slot, slot_at};
-ghost use Rattle.transfer_sets.specs.Banks.{with_wish, freed};
+ghost use Rattle.transfer_sets.specs.Banks.{with_wish, freed, told, HasMoreRoom, HasChanged};
+ghost use Rattle.transfer_sets.specs.Due.{AreDue};
 
+use crate::noted::Noted;
 use crate::slot::Slot;
 use crate::wish::Wish;
 use std::alloc::{AllocError, Global};
 use std::marker::Model;
+use tase_points::PointValue;
 
 /// A transfer set, and the association that owns it, by its number.
 #[derive(Drop)]
@@ -21,7 +25,11 @@ impl Model for OwnSlot {
 
     ghost Value = { OwnedSlot };
 
-    ghost view = { λ s. record { owner = s.owner; state = s.slot.state } };
+    ghost view = { λ s. record {
+      owner = s.owner;
+      state = s.slot.state;
+      spare = s.slot.spare;
+    } };
 }
 
 impl OwnSlot {
@@ -71,6 +79,12 @@ impl OwnSlot {
         } else {
             self.slot.disable();
         }
+    }
+
+    fn reported(&mut self)
+        ensures { self.new ≡ told self.old }
+    {
+        self.slot.reported();
     }
 
     fn free(&mut self, alloc: Global, ordinal: u64)
@@ -151,6 +165,65 @@ impl SlotBank {
             (with_wish (with_status status old.state.wish) now old) }
     {
         self.slots[slot as usize].set_status(status, now);
+    }
+
+    /// The conditions, as their sum, on which a report of a transfer set is due where the clock goes
+    /// on from a moment to another, in milliseconds since 1970.
+    pub fn due(&self, slot: u32, from: u64, to: u64) -> u8
+        requires { slot < length self.now }
+        ensures { AreDue (slot_at self.now slot).state from to result }
+    {
+        self.slots[slot as usize].slot.due(from, to)
+    }
+
+    /// Whether a member of the data set of a transfer set has changed since its last report.
+    pub fn has_change(&self, slot: u32) -> bool
+        requires { slot < length self.now }
+        ensures { result ≡ is_some (slot_at self.now slot).state.first }
+    {
+        self.slots[slot as usize].slot.has_change()
+    }
+
+    /// The members of a transfer set that changed since its last report, in order, where its wish
+    /// has changes told: with each change, or with the first of each member.
+    pub fn noted(&self, slot: u32) -> &[Noted]
+        requires { slot < length self.now }
+        ensures { result.now ≡ (slot_at self.now slot).state.noted }
+    {
+        self.slots[slot as usize].slot.noted()
+    }
+
+    /// A report has told all changes of a transfer set.
+    pub fn reported(&mut self, slot: u32)
+        requires { slot < length self.old }
+        ensures { self.new ≡ slice_set self.old slot (told (slot_at self.old slot)) }
+    {
+        self.slots[slot as usize].reported();
+    }
+
+    /// Makes room in a transfer set for this many further notes.
+    pub fn room(&mut self, slot: u32, n: usize) -> Result<(), AllocError>
+        requires { slot < length self.old }
+        ensures ok { OnOk result (n ≤ (slot_at self.new slot).spare) }
+        ensures more { HasMoreRoom self.old self.new }
+        ensures err { OnErr result (self.new ≡ self.old) }
+    {
+        self.slots[slot as usize].slot.room(n)
+    }
+
+    /// A point has changed at this moment, in milliseconds since 1970, of which the value and the
+    /// shown count of changes are now these; the members at these places of the data set of a
+    /// transfer set name it.
+    pub fn change(&mut self, slot: u32, now: u64, value: PointValue, cov: u16, places: &[u32])
+        requires there { slot < length self.old }
+        requires room { length places.now ≤ (slot_at self.old slot).spare }
+        ensures { (point : List ℕ) → HasChanged places.now
+            (record { point = point; moment = now; value = value; count = cov }) slot self.old
+            self.new }
+    {
+        self.slots[slot as usize]
+            .slot
+            .change(now, value, cov, places);
     }
 
     /// An association has ended: nobody owns its transfer sets. It takes no memory.

@@ -1,8 +1,9 @@
 //! One transfer set of a peer.
 ghost use Rattle.std.specs.Prelude.{◌≡◌, ◌↔◌, ◌⊎◌, ◌+◌, ◌%◌, ◌<◌, ◌≤◌, ◌++◌, ℕ, IsTrue, true};
-ghost use Rattle.std.specs.Prelude.{false, List, [], ◌∷◌, map, length, None, IsOk, OnOk, OnErr};
+ghost use Rattle.std.specs.Prelude.{false, List, [], ◌∷◌, map, length, None, is_some, IsOk, OnOk};
+ghost use Rattle.std.specs.Prelude.{OnErr};
 ghost use Rattle.transfer_sets.specs.SlotState.{new_slot, with_status, enabled_by, noted_at};
-ghost use Rattle.transfer_sets.specs.SlotState.{tells_all};
+ghost use Rattle.transfer_sets.specs.SlotState.{is_noted, noted_behind};
 ghost use Rattle.transfer_sets.specs.SlotMoves.{SlotMove, handed_out, wishes, changes, reports};
 ghost use Rattle.transfer_sets.specs.SlotMoves.{Places, last_wish, slot_in, FollowsMoves};
 ghost use Rattle.transfer_sets.specs.Due.{PassesMultiple, HasWaited, IsFull, AreDue, milliseconds};
@@ -26,24 +27,29 @@ pub struct Slot {
     base: u64,
     first: Option<u64>,
     noted: Vec<Noted>,
+    /// How many members can be noted without memory: room was made for them.
+    room: usize,
 }
 
 impl Model for Slot {
-    ghost use Rattle.std.specs.Prelude.{◌-◌, vec_len, vec_capacity};
+    ghost use Rattle.std.specs.Prelude.{◌+◌, ◌≤◌, vec_len, vec_capacity};
     ghost use Rattle.transfer_sets.specs.SlotState.{KeptSlot};
 
     ghost Value = { KeptSlot };
 
     ghost view = { λ s. record {
       state = record { wish = s.wish; base = s.base; first = s.first; noted = s.noted.items };
-      spare = vec_capacity s.noted - vec_len s.noted;
+      spare = s.room;
     } };
+
+    ghost invariant = { λ s. vec_len s.noted + s.room ≤ vec_capacity s.noted };
 }
 
 impl Slot {
     /// A slot that isn't enabled and of which nothing is wished, as one is handed out.
     pub fn new(alloc: Global) -> Slot
         ensures state { result.state ≡ new_slot }
+        ensures spare { result.spare ≡ 0 }
         ensures moves { (places : Places) (moves : List SlotMove) (ordinal : ℕ)
             → FollowsMoves places (handed_out ordinal ∷ moves) result.state }
     {
@@ -52,6 +58,7 @@ impl Slot {
             base: 0,
             first: None,
             noted: Vec::new(alloc),
+            room: 0,
         }
     }
 
@@ -59,7 +66,7 @@ impl Slot {
     /// The wish's status is true from now on.
     pub fn enable(&mut self, wish: Wish, now: u64)
         ensures state { self.new.state ≡ enabled_by wish now }
-        ensures spare { self.old.spare ≤ self.new.spare }
+        ensures spare { self.new.spare ≡ self.old.spare }
         ensures moves { (places : Places) (moves : List SlotMove)
             → FollowsMoves places (wishes (with_status true wish) now ∷ moves) self.new.state }
     {
@@ -74,7 +81,7 @@ impl Slot {
     /// begins anew.
     pub fn renew(&mut self, now: u64)
         ensures state { self.new.state ≡ enabled_by self.old.state.wish now }
-        ensures spare { self.old.spare ≤ self.new.spare }
+        ensures spare { self.new.spare ≡ self.old.spare }
         ensures moves { (places : Places) (moves : List SlotMove)
             → FollowsMoves places moves self.old.state
             → FollowsMoves places
@@ -91,7 +98,7 @@ impl Slot {
     pub fn keep(&mut self, wish: Wish)
         ensures state { self.new.state
             ≡ record self.old.state { wish = with_status false wish; first = None; noted = [] } }
-        ensures spare { self.old.spare ≤ self.new.spare }
+        ensures spare { self.new.spare ≡ self.old.spare }
         ensures moves { (places : Places) (moves : List SlotMove) (now : ℕ)
             → FollowsMoves places (wishes (with_status false wish) now ∷ moves) self.new.state }
     {
@@ -109,7 +116,7 @@ impl Slot {
           first = None;
           noted = [];
         } }
-        ensures spare { self.old.spare ≤ self.new.spare }
+        ensures spare { self.new.spare ≡ self.old.spare }
         ensures moves { (places : Places) (moves : List SlotMove) (now : ℕ)
             → FollowsMoves places moves self.old.state
             → FollowsMoves places
@@ -173,7 +180,11 @@ impl Slot {
         ensures err { OnErr result (self.new ≡ self.old) }
         ensures succeeds { n ≤ self.old.spare → IsOk result }
     {
-        self.noted.reserve(n)
+        if self.room < n {
+            self.noted.reserve(n)?;
+            self.room = n;
+        }
+        Ok(())
     }
 
     /// Notes that a member of the data set has changed at this moment.
@@ -196,13 +207,15 @@ impl Slot {
         ensures spare { self.new.spare + 1 ≡ self.old.spare }
     {
         self.noted.push_reserved(Noted { member, value, cov });
+        self.room -= 1;
     }
 
     /// A point has changed at this moment, of which the value and the shown count of changes are
-    /// now these; the data set's members at these places name it. Where the wish has every change
-    /// told they are noted, in order. Nothing befalls a slot that isn't enabled.
+    /// now these; the data set's members at these places name it. Where the wish has changes told
+    /// they are noted, in order: each, or those that aren't yet. Nothing befalls a slot that isn't
+    /// enabled.
     pub fn change(&mut self, now: u64, value: PointValue, cov: u16, places: &[u32])
-        requires room { self.old.state.wish.status ≡ true → tells_all self.old.state.wish ≡ true
+        requires room { self.old.state.wish.status ≡ true → self.old.state.wish.rbe ≡ true
             → length places.now ≤ self.old.spare }
         ensures wish { self.new.state.wish ≡ self.old.state.wish }
         ensures spare { self.old.spare ≤ self.new.spare + length places.now }
@@ -216,29 +229,39 @@ impl Slot {
             return;
         }
         self.note_change(now);
-        if self.wish.rbe && self.wish.all_changes {
+        if self.wish.rbe {
             self.note_members(value, cov, places);
         }
     }
 
-    /// Notes the members at these places, in order.
+    /// Notes the members at these places, in order: each, or, where the wish hasn't every change
+    /// told, those that aren't noted yet.
     fn note_members(&mut self, value: PointValue, cov: u16, places: &[u32])
         requires room { length places.now ≤ self.old.spare }
         ensures state { self.new.state ≡ record self.old.state {
-          noted = self.old.state.noted
-              ++ map (λ member. record { member = member; value = value; cov = cov }) places.now;
+          noted = noted_behind self.old.state.wish.all_changes self.old.state.noted
+              (map (λ member. record { member = member; value = value; cov = cov }) places.now);
         } }
-        ensures spare { self.new.spare + length places.now ≡ self.old.spare }
+        ensures spare { self.old.spare ≤ self.new.spare + length places.now }
     {
         for &member in places {
-            self.note_member(member, value, cov);
+            if self.wish.all_changes || !self.is_noted(member) {
+                self.note_member(member, value, cov);
+            }
         }
+    }
+
+    /// Whether a member of the data set is noted.
+    fn is_noted(&self, member: u32) -> bool
+        ensures { result ≡ is_noted self.now.state.noted member }
+    {
+        self.noted.iter().any(|note| note.member == member)
     }
 
     /// Notes that a report has told all changes.
     pub fn reported(&mut self)
         ensures state { self.new.state ≡ record self.old.state { first = None; noted = [] } }
-        ensures spare { self.old.spare ≤ self.new.spare }
+        ensures spare { self.new.spare ≡ self.old.spare }
         ensures moves { (places : Places) (moves : List SlotMove)
             → FollowsMoves places moves self.old.state
             → FollowsMoves places (reports ∷ moves) self.new.state }
@@ -247,12 +270,19 @@ impl Slot {
         self.noted.clear();
     }
 
-    /// The members that changed since the last report, in order, where the wish has every change
-    /// told.
+    /// The members that changed since the last report, in order, where the wish has changes told:
+    /// with each change, or with the first of each member.
     pub fn noted(&self) -> &[Noted]
         ensures { result.now ≡ self.now.state.noted }
     {
         self.noted.as_slice()
+    }
+
+    /// Whether a member has changed since the last report.
+    pub fn has_change(&self) -> bool
+        ensures { result ≡ is_some self.now.state.first }
+    {
+        self.first.is_some()
     }
 
     /// What is wished; its status says whether the slot is enabled.

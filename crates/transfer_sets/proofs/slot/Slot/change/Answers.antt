@@ -4,8 +4,8 @@ use Rattle.transfer_sets.specs.SlotState.{KeptSlot}
 use Rattle.transfer_sets.proofs.Followed.{all_noted}
 use Rattle.transfer_sets.proofs.slot.Slot.change.Goals as goal
 
-pub returns-then-self-2-clause-moves : goal.returns-then-self-2-clause-moves
-returns-then-self-2-clause-moves c = λ members moves point same f.
+pub returns-then-self-clause-moves : goal.returns-then-self-clause-moves
+returns-then-self-clause-moves c = λ members moves point same f.
     let change : PointChange = record {
       point = point;
       moment = c.args.now;
