@@ -22,7 +22,7 @@ use Rattle.tase_views.specs.Outcomes.{answer_by, IsRightOutcome}
 use Rattle.tase_views.specs.OwnTables.{own_tables}
 use Rattle.tase_views.specs.View.{view_of}
 use Rattle.tase_views.specs.Answers.{reply_to}
-use Rattle.tase_views.specs.Outcomes.{reports_for}
+use Rattle.tase_views.specs.Reports.{reports_pending}
 use Rattle.tase_views.specs.Setup.{Setup}
 use Rattle.tase_map.specs.Inputs.{Item, text_given}
 use Rattle.tase_map.specs.Turns.{Turn, offers, asks, pauses, turns_of}
@@ -380,7 +380,7 @@ taken_follows rows past who items octets event answer old s p r right =
     let a = asked_turn rows s.answered s.turns event pauses s.are r.last in
     let ev = if_event (is_open_behind rows s.answered) events.Take event a.asks in
     let o = says_at s w.stage_is refl in
-    let reports = reports_for (own_tables rows o.key.peer) (view_of rows o.key.peer past)
+    let reports = reports_pending (own_tables rows o.key.peer) (view_of rows o.key.peer past)
     o.key.ordinal in
     let answer_is : answer ≡ answers.Reports reports =
     right_by rows past who event events.Take answer right ev

@@ -25,7 +25,7 @@ use Rattle.tase_views.specs.History.{Past, next_key, opens_in}
 use Rattle.tase_views.specs.OwnTables.{own_tables}
 use Rattle.tase_views.specs.View.{view_of}
 use Rattle.tase_views.specs.Answers.{reply_to}
-use Rattle.tase_views.specs.Outcomes.{reports_for}
+use Rattle.tase_views.specs.Reports.{reports_pending}
 use Rattle.tase_map.specs.Inputs.{Item, IsLinkInput, text_given, link_has_ended}
 use Rattle.tase_map.specs.Readings.{reading_of}
 use Rattle.tase_map.specs.Replied.{pdu_of_reply}
@@ -176,7 +176,7 @@ requested_says rows past who items told answered invoke call detail octets v s c
 
 abbrev pub reports_octets : CentreRows → Past → Key → Course → ℤ → List ℕ
 reports_octets rows past key v detail = reports_said v.setup detail
-    (reports_for (own_tables rows key.peer) (view_of rows key.peer past) key.ordinal)
+    (reports_pending (own_tables rows key.peer) (view_of rows key.peer past) key.ordinal)
 
 reports_are : (told : List Arrival) (detail : ℤ) (v : Course) (text : List ℕ) (ended : Bool)
     (reports : List ReportKind) → IsFixed told v (reading_of text)
@@ -212,7 +212,7 @@ taken_says rows past who items told answered detail octets v s connect d o =
             ap (λ (os : List ℕ). os ++ reports_octets rows past key v detail) before.0
                 ∙ ap (λ (os : List ℕ). association_octets rows past key text ended ++ os)
                 (reports_are told detail v text ended
-                (reports_for table (view_of rows key.peer past) key.ordinal) x d)
+                (reports_pending table (view_of rows key.peer past) key.ordinal) x d)
                 ∙ sym (take_adds rows table talk key who past o.seat),
             ap (λ m. turns_behind talk.turns m)
                 (quiet_event rows key who events.Take past tt o.seat) ∙ before.1,

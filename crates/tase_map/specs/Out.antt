@@ -22,7 +22,7 @@ use Rattle.tase_views.specs.Moves.{Act, acts_of_call}
 use Rattle.tase_views.specs.View.{View, Seen, own}
 use Rattle.tase_views.specs.Moves as acts
 use Rattle.tase_views.specs.Answers.{reply_to}
-use Rattle.tase_views.specs.Outcomes.{reports_for}
+use Rattle.tase_views.specs.Reports.{reports_pending}
 use Rattle.tase_map.specs.Replied.{pdu_of_reply, pdu_of_report}
 use Rattle.tase_map.specs.Readings.{Reading, reading_of}
 use Rattle.tase_map.specs.Turns.{Turn, offers, offers_badly, asks, concludes, releases, aborts}
@@ -164,7 +164,7 @@ first_reply table ordinal talk view _ = []
 abbrev pub act_octets : OwnTables → ℕ → Talk → View → Act → List ℕ
 act_octets table ordinal talk view acts.opens = talk.opening
 act_octets table ordinal talk view acts.takes =
-    reports_said talk.setup talk.detail (reports_for table view ordinal)
+    reports_said talk.setup talk.detail (reports_pending table view ordinal)
 act_octets table ordinal talk view acts.closes =
     close_octets talk.setup (turns_behind talk.turns (acts_made ordinal view))
 act_octets table ordinal talk view _ =

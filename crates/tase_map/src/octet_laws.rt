@@ -18,7 +18,8 @@ ghost use Rattle.tase_views.specs.History.{Past, opens_in, association_in, entri
 ghost use Rattle.tase_views.specs.OwnTables.{own_tables};
 ghost use Rattle.tase_views.specs.View.{view_of};
 ghost use Rattle.tase_views.specs.Answers.{reply_to};
-ghost use Rattle.tase_views.specs.Outcomes.{seat_refusal, name_refusal, reports_for};
+ghost use Rattle.tase_views.specs.Outcomes.{seat_refusal, name_refusal};
+ghost use Rattle.tase_views.specs.Reports.{reports_pending};
 ghost use Rattle.tase_map.specs.Inputs.{Item, IsLinkInput, text_given, link_has_ended};
 ghost use Rattle.tase_map.specs.Readings.{reading_of, TellsReading};
 ghost use Rattle.tase_map.specs.Asks.{asks_of, without_takes, AreInTurn};
@@ -96,7 +97,7 @@ pub fn each_entry_adds_its_octets()
         ≡ association_octets rows past key text ended
         ++ reports_said (talk_of (reading_of text) ended).setup
         (talk_of (reading_of text) ended).detail
-        (reports_for (own_tables rows key.peer) (view_of rows key.peer past) key.ordinal) }
+        (reports_pending (own_tables rows key.peer) (view_of rows key.peer past) key.ordinal) }
     ensures noted { (rows : CentreRows) (past : Past) (key : Key) (who : ℕ) (event : AnyEvent)
         (text : List ℕ) (ended : Bool) → IsNoted event
         → association_octets rows (record { who = who; event = event } ∷ past) key text ended

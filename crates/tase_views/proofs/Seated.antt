@@ -30,7 +30,7 @@ use Rattle.tase_views.proofs.OpenKeys.{is_open, AreOrderly, open_behind_open}
 use Rattle.tase_views.proofs.OpenKeys.{open_behind_close}
 
 -- a key that was given out
-abbrev IsGiven : Key → Past → Type 0
+abbrev pub IsGiven : Key → Past → Type 0
 IsGiven key past = key.ordinal < opens_in past key.peer
 
 opened_given : (past : Past) (peer : ℕ)
@@ -71,7 +71,7 @@ given_chosen true entry past before key g e =
 given_chosen false entry past before key g e = let h : IsGiven key past = g e in omega (arith, h)
 
 -- a seat's association has a key that was given out
-issued : (past : Past) (who : ℕ) (key : Key) → association_in past who ≡ Some key
+pub issued : (past : Past) (who : ℕ) (key : Key) → association_in past who ≡ Some key
     → IsGiven key past
 issued [] who key e = absurd (none-some key e)
 issued (entry ∷ past) who key e =

@@ -12,7 +12,6 @@ use Rattle.bilateral.specs.Rows.{CentreRows, point_of, variants_of}
 use Rattle.sbo_device.specs.declared.device.TheConstants.{MOMENT_LIMIT}
 use Rattle.sbo_device.specs.declared.key.Key.{Key}
 use Rattle.tase_views.specs.declared.event.EventKind.{EventKind}
-use Rattle.tase_views.specs.declared.reply.ReportKind.{ReportKind}
 use Rattle.tase_views.specs.declared.reply.Answer.{Answer}
 use Rattle.tase_views.specs.declared.reply.Answer.TheVariants.{Opened, Reply, Reports, Closed}
 use Rattle.tase_views.specs.declared.reply.Answer.TheVariants.{Noted}
@@ -29,6 +28,7 @@ use Rattle.tase_views.specs.Moves.{feeding, updates, ticks, asks, chooses}
 use Rattle.tase_views.specs.OwnTables.{OwnTables, own_tables}
 use Rattle.tase_views.specs.View.{View, view_of}
 use Rattle.tase_views.specs.Answers.{reply_to}
+use Rattle.tase_views.specs.Reports.{reports_pending}
 
 -- a point of the centre, and a value of its kind
 abbrev pub is_known : CentreRows → ℕ → Sample → Bool
@@ -121,16 +121,11 @@ refusal_of setup past who event =
     ∷ name_refusal setup.centre event ∷ clock_refusal past event
     ∷ weight_refusal setup past event ∷ [])
 
--- the reports that were made for the peer's association with this ordinal since its last take: the
--- node makes none yet
-abbrev pub reports_for : OwnTables → View → ℕ → List ReportKind
-reports_for tables view ordinal = []
-
 -- the answer to an event of a peer's association, from its own tables and its view alone
 abbrev pub answer_to : OwnTables → View → Key → EventSort → Answer
 answer_to tables view key (opening peer) = Opened key
 answer_to tables view key (requesting call) = Reply (reply_to tables view key.ordinal call)
-answer_to tables view key taking = Reports (reports_for tables view key.ordinal)
+answer_to tables view key taking = Reports (reports_pending tables view key.ordinal)
 answer_to tables view key closing = Closed
 answer_to tables view key _ = Noted
 
