@@ -1,5 +1,5 @@
--- What a read gives: by what a node keeps beside its history, and for several names each behind those
--- before it.
+-- What a read gives: by what a node keeps beside its history, and for several names each behind
+-- those before it.
 use Rattle.std.proofs.Common.{◌≡◌, ◌<◌, ◌≤◌, ℕ, ◌+◌, ◌%◌, Bool, true, false, List, [], ◌∷◌, ◌++◌}
 use Rattle.std.proofs.Common.{Option, Some, None, Ok, Err, Result, is_some, length}
 use Rattle.std.proofs.Common.{refl, sym, ap, subst, ◌∙◌, IfOk, OnOk, get_or, drop, append_assoc}
@@ -49,7 +49,7 @@ use Rattle.node_core.proofs.SlotBanks.{owned_alike, free_alike, IsBank-reads}
 use Rattle.node_core.proofs.Offered.{IsOffered, offered_named}
 
 -- the kind of a point of the centre
-kind_there : (rows : CentreRows) (p : ℕ) → p < length rows.points
+pub kind_there : (rows : CentreRows) (p : ℕ) → p < length rows.points
     → kind_at (kinds_of rows) p ≡ (point_of rows p).kind
 kind_there rows p there =
     ap (λ o. unwrap_or o State) (slice_get-map (λ (row : PointRow). row.kind) rows.points p
@@ -95,13 +95,13 @@ object_alike tables v w ordinal slots (Some (transfer_set s)) k same o =
     then Good (shown_wish (last_wish (slot_moves tables v s)).0) else Fail OBJECT_ACCESS_DENIED)
     (sym (owned_alike tables v slots k ordinal s))
     ∙ ap (λ (wish : Wish). if is_owned_by ordinal (slot_at slots s)
-    then Good (shown_wish wish) else Fail OBJECT_ACCESS_DENIED) (sym (k.wish s))
+    then Good (shown_wish wish) else Fail OBJECT_ACCESS_DENIED) (sym (k.state s).wish)
 object_alike tables v w ordinal slots (Some (transfer_set_status s)) k same o =
     ap (λ (mine : Bool). if mine
     then Good (boolean (last_wish (slot_moves tables v s)).0.status)
     else Fail OBJECT_ACCESS_DENIED) (sym (owned_alike tables v slots k ordinal s))
     ∙ ap (λ (wish : Wish). if is_owned_by ordinal (slot_at slots s)
-    then Good (boolean wish.status) else Fail OBJECT_ACCESS_DENIED) (sym (k.wish s))
+    then Good (boolean wish.status) else Fail OBJECT_ACCESS_DENIED) (sym (k.state s).wish)
 object_alike tables v w ordinal slots (Some (control_point device)) k same o = absurd o
 object_alike tables v w ordinal slots (Some (selection device)) k same o = absurd o
 object_alike tables v w ordinal slots (Some (device_tag device)) k same o = absurd o

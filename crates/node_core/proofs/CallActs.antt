@@ -69,11 +69,17 @@ each_of_call Q r w c (Delete sets) defining deleting =
 each_of_call Q r w c (DeleteScope scope) defining deleting = (c (DeleteScope scope), tt)
 each_of_call Q r w c (Odd kind code) defining deleting = (c (Odd kind code), tt)
 
--- an act that changes nothing of a part
-abbrev pub IsIdle : Act → Type 0
-IsIdle takes = Unit {0}
-IsIdle (calls call) = Unit {0}
-IsIdle act = ⊥
+-- an act of a call
+abbrev pub IsOfCall : Act → Type 0
+IsOfCall opens = ⊥
+IsOfCall takes = ⊥
+IsOfCall closes = ⊥
+IsOfCall act = Unit {0}
+
+pub of_call : (call : CallKind) → EachAct IsOfCall (acts_of_call call)
+of_call call =
+    each_of_call IsOfCall (λ name. tt) (λ name value. tt) (λ other. tt) call
+    (λ set members e. tt) (λ sets e set. tt)
 
 -- one that opens no association
 abbrev pub IsOpenless : Act → Type 0
@@ -92,26 +98,25 @@ lawful_call call defining =
     each_of_call IsLawfulAct (λ name. tt) (λ name value. tt) (λ other. tt) call defining
     (λ sets e set. tt)
 
-pub idle_lawful : (act : Act) → IsIdle act → IsLawfulAct act
-idle_lawful opens idle = tt
-idle_lawful takes idle = tt
-idle_lawful closes idle = tt
-idle_lawful (reads name) idle = tt
-idle_lawful (writes name value) idle = tt
-idle_lawful (defines set members) idle = absurd idle
-idle_lawful (deletes set) idle = tt
-idle_lawful (calls call) idle = tt
+-- acts of a call leave the associations of a part
+pub call_keeps : (tables : OwnTables) (now ordinal : ℕ) (act : Act) (part : Peer) → IsOfCall act
+    → (part_after tables now (own ordinal act) part).associations ≡ part.associations
+call_keeps tables now ordinal opens part of = absurd of
+call_keeps tables now ordinal takes part of = absurd of
+call_keeps tables now ordinal closes part of = absurd of
+call_keeps tables now ordinal (reads name) part of = refl
+call_keeps tables now ordinal (writes name value) part of = refl
+call_keeps tables now ordinal (defines set members) part of = refl
+call_keeps tables now ordinal (deletes set) part of = refl
+call_keeps tables now ordinal (calls call) part of = refl
 
-pub idle_act : (tables : OwnTables) (now ordinal : ℕ) (act : Act) (part : Peer) → IsIdle act
-    → part_after tables now (own ordinal act) part ≡ part
-idle_act tables now ordinal opens part idle = absurd idle
-idle_act tables now ordinal takes part idle = refl
-idle_act tables now ordinal closes part idle = absurd idle
-idle_act tables now ordinal (reads name) part idle = absurd idle
-idle_act tables now ordinal (writes name value) part idle = absurd idle
-idle_act tables now ordinal (defines set members) part idle = absurd idle
-idle_act tables now ordinal (deletes set) part idle = absurd idle
-idle_act tables now ordinal (calls call) part idle = refl
+pub calls_keep : (tables : OwnTables) (now ordinal : ℕ) (these : List Act) (part : Peer)
+    → EachAct IsOfCall these
+    → (part_behind tables now ordinal these part).associations ≡ part.associations
+calls_keep tables now ordinal [] part of = refl
+calls_keep tables now ordinal (act ∷ these) part of =
+    call_keeps tables now ordinal act (part_behind tables now ordinal these part) of.0
+    ∙ calls_keep tables now ordinal these part of.1
 
 -- a call that reads, writes, defines or deletes
 abbrev pub IsActive : CallKind → Type 0

@@ -1,32 +1,27 @@
 -- What follows where an event isn't refused, and that a refusal is never for want of memory.
-use Rattle.std.proofs.Common.{◌≡◌, ◌≢◌, ℕ, ◌+◌, ◌<◌, ◌≤◌, Bool, true, false, not, ◌&&◌, [], ◌∷◌}
-use Rattle.std.proofs.Common.{length, reverse, ltb, leb, Option, Some, None, is_some, refl, sym}
+use Rattle.std.proofs.Common.{◌≡◌, ℕ, ◌+◌, ◌<◌, ◌≤◌, Bool, true, false, [], ◌∷◌}
+use Rattle.std.proofs.Common.{length, reverse, ltb, Option, Some, None, is_some, refl, sym}
 use Rattle.std.proofs.Common.{subst}
 use Rattle.std.specs.Prelude.{if◌then◌else◌, option_map}
-use Rattle.std.proofs.lemmas.Bool.{true≢false, ltb-true, ltb-false, and_parts}
+use Rattle.std.proofs.lemmas.Bool.{ltb-true, ltb-false, and_parts}
 use Rattle.std.proofs.lemmas.Option.{none-some}
 use Rattle.tase_points.specs.Sample.{Sample}
 use Rattle.bilateral.specs.Rows.{CentreRows, variants_of}
 use Rattle.sbo_device.specs.declared.key.Key.{Key}
 use Rattle.tase_views.specs.declared.event.EventKind.{EventKind}
-use Rattle.sbo_device.specs.declared.device.TheConstants.{MOMENT_LIMIT}
 use Rattle.tase_views.specs.declared.event.EventKind.TheVariants.{Open, Request, Take, Close}
 use Rattle.tase_views.specs.declared.event.EventKind.TheVariants.{Update, Table, Tick, Ask, Stop}
 use Rattle.tase_views.specs.declared.fault.StepFault.{StepFault}
-use Rattle.tase_views.specs.declared.fault.StepFault.TheVariants.{Memory, Stopped, HistoryFull}
+use Rattle.tase_views.specs.declared.fault.StepFault.TheVariants.{Stopped, HistoryFull}
 use Rattle.tase_views.specs.declared.fault.StepFault.TheVariants.{NoAssociation, Already}
-use Rattle.tase_views.specs.declared.fault.StepFault.TheVariants.{UnknownName, ClockRange, Backward}
+use Rattle.tase_views.specs.declared.fault.StepFault.TheVariants.{UnknownName}
 use Rattle.tase_views.specs.Setup.{Setup}
-use Rattle.tase_views.specs.History.{Past, association_in, stop_in, last_tick}
+use Rattle.tase_views.specs.History.{Past, association_in, stop_in}
 use Rattle.tase_views.specs.Weights.{weight, weight_of}
-use Rattle.tase_views.specs.Moves.{EventSort, sort_of, opening, requesting, taking, closing}
-use Rattle.tase_views.specs.Moves.{taking_orders, feeding, acts, updates, tags, ticks, asks}
-use Rattle.tase_views.specs.Moves.{chooses, takes_orders, stops}
-use Rattle.tase_views.specs.Outcomes.{is_close, is_ending, is_known, has_table, is_named_there}
-use Rattle.tase_views.specs.Outcomes.{stop_refusal, seat_refusal, seat_refusal_by, name_refusal}
-use Rattle.tase_views.specs.Outcomes.{clock_refusal_by, clock_refusal, weight_refusal}
+use Rattle.tase_views.specs.Outcomes.{is_close, is_ending, is_known, has_table, has_slot}
+use Rattle.tase_views.specs.Outcomes.{stop_refusal, seat_refusal, name_refusal}
+use Rattle.tase_views.specs.Outcomes.{clock_refusal, weight_refusal}
 use Rattle.tase_views.specs.Outcomes.{first_refusal, refusal_of}
-use Rattle.tase_views.specs.Outcomes.{IsRefusal}
 use Rattle.node_core.specs.NodeState.{NodeState}
 use Rattle.node_core.specs.Stored.{IsRequest}
 use Rattle.node_core.specs.Room.{LeavesSeats}
@@ -129,113 +124,19 @@ named-table rows peer variant e =
       ltb-true variant (length (variants_of rows peer)) parts.1,
     )
 
+pub named-ask : (rows : CentreRows) (peer slot : ℕ) → name_refusal rows (Ask peer slot) ≡ None
+    → peer < length rows.tables
+named-ask rows peer slot e =
+    let parts = and_parts (ltb peer (length rows.tables)) _
+    (passes (has_slot rows peer slot) UnknownName e) in
+    ltb-true peer (length rows.tables) parts.0
+
 pub light-fits : (setup : Setup) (past : Past) (event : EventKind) → is_ending event ≡ false
     → weight_refusal setup past event ≡ None → weight_of past + weight event ≤ setup.limit
 light-fits setup past event going e =
     ltb-false setup.limit (weight_of past + weight event)
     (fails (ltb setup.limit (weight_of past + weight event))
     (HistoryFull (weight_of past + weight event) setup.limit) (rw going at e))
-
--- ---- a refusal is the event's own
-
-abbrev is_memory : StepFault → Bool
-is_memory Memory = true
-is_memory (Stopped place) = false
-is_memory (HistoryFull heavy limit) = false
-is_memory NoAssociation = false
-is_memory Already = false
-is_memory UnknownName = false
-is_memory ClockRange = false
-is_memory (Backward last) = false
-
--- a refusal, if there is one, isn't for want of memory
-abbrev AreOwn : Option StepFault → Type 0
-AreOwn None = Unit {0}
-AreOwn (Some fault) = is_memory fault ≡ false
-
-own_if : (b : Bool) (fault : StepFault) → is_memory fault ≡ false
-    → AreOwn (if b then None else Some fault)
-own_if true fault e = tt
-own_if false fault e = e
-
-own_unless : (b : Bool) (fault : StepFault) → is_memory fault ≡ false
-    → AreOwn (if b then Some fault else None)
-own_unless true fault e = e
-own_unless false fault e = tt
-
-own_stop : (b : Bool) (place : Option ℕ)
-    → AreOwn (if b then None else option_map (λ p. Stopped p) place)
-own_stop true place = tt
-own_stop false None = tt
-own_stop false (Some p) = refl
-
-own_seat : (found : Option Key) (sort : EventSort) → AreOwn (seat_refusal_by found sort)
-own_seat found (opening peer) = own_unless (is_some found) Already refl
-own_seat found (requesting call) = own_if (is_some found) NoAssociation refl
-own_seat found taking = own_if (is_some found) NoAssociation refl
-own_seat found closing = own_if (is_some found) NoAssociation refl
-own_seat found taking_orders = tt
-own_seat found (feeding move) = tt
-
-own_clock : (last : ℕ) (sort : EventSort) → AreOwn (clock_refusal_by last sort)
-own_clock last (opening peer) = tt
-own_clock last (requesting call) = tt
-own_clock last taking = tt
-own_clock last closing = tt
-own_clock last taking_orders = tt
-own_clock last (feeding (acts key act)) = tt
-own_clock last (feeding (updates point value)) = tt
-own_clock last (feeding (tags device tag)) = tt
-own_clock last (feeding (asks peer slot)) = tt
-own_clock last (feeding (chooses peer variant)) = tt
-own_clock last (feeding takes_orders) = tt
-own_clock last (feeding stops) = tt
-own_clock last (feeding (ticks now)) = by (leb MOMENT_LIMIT now) (leb now last)
-  where
-    by : (b c : Bool)
-        → AreOwn (if b then Some ClockRange else (if c then Some (Backward last) else None))
-    by true c = refl
-    by false true = refl
-    by false false = tt
-
-own_first : (a b c d e : Option StepFault) → AreOwn a → AreOwn b → AreOwn c → AreOwn d
-    → AreOwn e → AreOwn (first_refusal (a ∷ b ∷ c ∷ d ∷ e ∷ []))
-own_first (Some fault) b c d e ea eb ec ed ee = ea
-own_first None (Some fault) c d e ea eb ec ed ee = eb
-own_first None None (Some fault) d e ea eb ec ed ee = ec
-own_first None None None (Some fault) e ea eb ec ed ee = ed
-own_first None None None None (Some fault) ea eb ec ed ee = ee
-own_first None None None None None ea eb ec ed ee = tt
-
-own_refusal : (setup : Setup) (past : Past) (who : ℕ) (event : EventKind)
-    → AreOwn (refusal_of setup past who event)
-own_refusal setup past who event =
-    own_first (stop_refusal past event) (seat_refusal (association_in past who) event)
-    (name_refusal setup.centre event) (clock_refusal past event)
-    (weight_refusal setup past event) (own_stop (is_close event) (stop_in past))
-    (own_seat (association_in past who) (sort_of event))
-    (own_if (is_named_there setup.centre (sort_of event)) UnknownName refl)
-    (own_clock (last_tick past) (sort_of event))
-    (own_unless (not (is_ending event) && ltb setup.limit (weight_of past + weight event))
-    (HistoryFull (weight_of past + weight event) setup.limit) refl)
-
-is_refusal : (event : EventKind) (refusal : Option StepFault) (fault : StepFault)
-    → is_memory fault ≡ false → refusal ≡ Some fault → IsRefusal event refusal fault
-is_refusal event refusal Memory own e = absurd (true≢false own)
-is_refusal event refusal (Stopped place) own e = e
-is_refusal event refusal (HistoryFull heavy limit) own e = e
-is_refusal event refusal NoAssociation own e = e
-is_refusal event refusal Already own e = e
-is_refusal event refusal UnknownName own e = e
-is_refusal event refusal ClockRange own e = e
-is_refusal event refusal (Backward last) own e = e
-
-pub IsRefusal-of : (setup : Setup) (past : Past) (who : ℕ) (event : EventKind) (fault : StepFault)
-    → refusal_of setup past who event ≡ Some fault
-    → IsRefusal event (refusal_of setup past who event) fault
-IsRefusal-of setup past who event fault e =
-    is_refusal event (refusal_of setup past who event) fault
-    (rw e at (own_refusal setup past who event)) e
 
 -- ---- requests
 

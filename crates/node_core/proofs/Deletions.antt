@@ -18,8 +18,9 @@ use Rattle.tase_views.specs.Slots.{sets_in, members_of}
 use Rattle.tase_views.specs.Answers.{deletion_of}
 use Rattle.node_core.specs.SetsKept.{IsBook, is_named_in, is_in_book, left_behind, left_by}
 use Rattle.node_core.specs.SlotsKept.{IsBank, is_kept}
-use Rattle.node_core.proofs.Kept.{kept_wished, IsBank-deletes}
+use Rattle.node_core.proofs.Kept.{kept_wished}
 use Rattle.node_core.proofs.SetBooks.{found_left, IsBook-deletes}
+use Rattle.node_core.proofs.SlotBanks.{IsBank-deletes-set}
 
 -- ---- what the names of a deletion count
 
@@ -147,7 +148,7 @@ deletion_of-told tables view book slots ordinal (set ∷ sets) b bank =
           (left_behind (is_kept (held tables view).domain (held tables view).slots slots)
           (held tables view).domain book set) slots ordinal sets
           (IsBook-deletes tables view book slots ordinal set (force view) refl bank b)
-          (IsBank-deletes tables view slots ordinal set bank),
+          (IsBank-deletes-set tables view slots ordinal set bank),
     ) refl
   where
     there : is_some (members_of tables view set) ≡ is_in_book (held tables view).domain book set

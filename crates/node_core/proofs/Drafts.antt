@@ -1,5 +1,6 @@
 -- What a request has handed out, and the transfer sets as it finds them.
-use Rattle.std.proofs.Common.{◌≡◌, ◌==◌, ℕ, suc, ◌+◌, ◌-◌, ◌<◌, ◌≤◌, Bool, true, false, ◌||◌, List, []}
+use Rattle.std.proofs.Common.{◌≡◌, ◌==◌, ℕ, suc, ◌+◌, ◌-◌, ◌<◌, ◌≤◌, Bool, true, false, ◌||◌, List}
+use Rattle.std.proofs.Common.{[]}
 use Rattle.std.proofs.Common.{◌∷◌, ◌++◌, length, set, Some, None, refl, ap, ◌∙◌, arith}
 use Rattle.std.proofs.Common.{length-set}
 use Rattle.std.specs.Prelude.{if◌then◌else◌, find}

@@ -5,13 +5,11 @@ use Rattle.std.specs.List.{range_with_len, list_any}
 use Rattle.std.proofs.lemmas.List.{take_all}
 use Rattle.std.proofs.lemmas.List.Folds.{list_any_at, list_any_more}
 use Rattle.std.proofs.lemmas.List.FromFn.{length-range_with_len, get_or-range_with_len}
-use Rattle.mms_data.specs.ObjectName.{ObjectName}
 use Rattle.transfer_sets.specs.declared.wish.Wish.{Wish}
 use Rattle.transfer_sets.specs.SlotMoves.{last_wish}
 use Rattle.transfer_sets.specs.Banks.{OwnedSlot, slot_at}
 use Rattle.tase_views.specs.OwnTables.{OwnTables}
-use Rattle.tase_views.specs.Moves.{deletes}
-use Rattle.tase_views.specs.View.{View, own, held}
+use Rattle.tase_views.specs.View.{View, held}
 use Rattle.tase_views.specs.Slots.{is_wished, slot_moves}
 use Rattle.node_core.specs.SlotsKept.{IsBank, is_kept}
 
@@ -40,18 +38,8 @@ kept_wished tables view slots name bank =
     let domain = (held tables view).domain in
     any_alike (is_kept_by domain slots name)
     (λ s. is_wish_for domain name (last_wish (slot_moves tables view s)).0)
-    (λ s. ap (is_wish_for domain name) (bank.wish s))
+    (λ s. ap (is_wish_for domain name) (bank.state s).wish)
     (range_with_len 0 (held tables view).slots)
-
--- a deletion leaves the transfer sets
-pub IsBank-deletes : (tables : OwnTables) (view : View) (slots : List OwnedSlot) (ordinal : ℕ)
-    (set : ObjectName) → IsBank tables view slots
-    → IsBank tables (own ordinal (deletes set) ∷ view) slots
-IsBank-deletes tables view slots ordinal set bank = record {
-  many = bank.many;
-  owner = bank.owner;
-  wish = bank.wish;
-}
 
 -- ---- the first so many transfer sets, one after another
 

@@ -1,11 +1,17 @@
 -- What a node keeps is that of the history with one more entry.
-use Rattle.std.proofs.Common.{◌≡◌, ◌==◌, ℕ, ◌+◌, ◌^◌, ◌<◌, Bool, List, [], ◌∷◌, Option, Some, None}
-use Rattle.std.proofs.Common.{length, refl, sym, ap, subst, ◌∙◌, arith}
+use Rattle.std.proofs.Common.{◌≡◌, ◌≢◌, ◌==◌, ℕ, ◌+◌, ◌^◌, ◌%◌, ◌<◌, Bool, true, false, List, []}
+use Rattle.std.proofs.Common.{◌∷◌, Option, Some, None, length, refl, sym, ap, subst, ◌∙◌, ⊎_elim}
+use Rattle.std.proofs.Common.{arith}
+use Rattle.std.proofs.lemmas.Bool.{false≢true, eq-eqb, ne_eqb, eqb-true, cases_eq}
+use Rattle.std.proofs.lemmas.Option.{slice_get_within, same_Some}
 use Rattle.std.specs.Prelude.{if◌then◌else◌, slice_get, slice_set}
 use Rattle.mms_data.specs.Datum.{Datum}
 use Rattle.mms_data.specs.ObjectName.{ObjectName}
+use Rattle.tase_points.specs.declared.layout.TheConstants.{COV_MODULUS}
 use Rattle.tase_points.specs.Sample.{Sample}
-use Rattle.point_db.specs.Stored.{Keeps as KeepsPoints}
+use Rattle.tase_points.specs.Values.{is_change}
+use Rattle.point_db.specs.Updates.{last_value, change_count}
+use Rattle.point_db.specs.Stored.{Stored as PointsStored, Keeps as KeepsPoints}
 use Rattle.bilateral.specs.Rows.{CentreRows, variants_of}
 use Rattle.sbo_device.specs.declared.key.Key.{Key}
 use Rattle.tase_views.specs.declared.event.EventKind.{EventKind}
@@ -16,20 +22,29 @@ use Rattle.tase_views.specs.declared.call.CallKind.TheVariants.{Identify, Read, 
 use Rattle.tase_views.specs.declared.call.CallKind.TheVariants.{WriteSet, NameList, Define}
 use Rattle.tase_views.specs.declared.call.CallKind.TheVariants.{MembersOf, Delete, DeleteScope, Odd}
 use Rattle.tase_views.specs.declared.reply.ReplyKind.{ReplyKind}
-use Rattle.tase_views.specs.History.{Past, association_in, next_key, opens_in}
-use Rattle.tase_views.specs.Moves.{opens, closes, moves_by, acts_of_call}
+use Rattle.tase_views.specs.declared.reply.ReportKind.{ReportKind}
+use Rattle.tase_views.specs.History.{Past, association_in, next_key, last_tick}
+use Rattle.tase_views.specs.Moves.{opens, takes, closes, acts_of_call}
 use Rattle.tase_views.specs.OwnTables.{OwnTables, own_tables, table_in}
 use Rattle.tase_views.specs.View.{View, own, chose, view_of}
 use Rattle.tase_views.specs.Answers.{reply_to, define_replied}
+use Rattle.tase_views.specs.Reports.{reports_pending}
+use Rattle.node_core.specs.declared.cause.ReportCause.{ReportCause}
 use Rattle.node_core.specs.declared.hub.Hub.{Hub}
 use Rattle.node_core.specs.declared.parts.Parts.{Parts}
 use Rattle.node_core.specs.declared.peer.Peer.{Peer}
 use Rattle.node_core.specs.LastValues.{kinds_of, updates_in}
+use Rattle.node_core.specs.Associations.{is_open_in, made_last}
+use Rattle.node_core.specs.Shown.{IsShown, shown_of}
+use Rattle.node_core.specs.SlotFeeds.{move_of, moment_before}
+use Rattle.node_core.specs.PartFeeds.{IsAlike, IsDrafted, IsReported, IsReady, IsNoted}
+use Rattle.node_core.specs.PartFeeds.{OneBecomes, EachBecomes}
 use Rattle.node_core.specs.PeerParts.{IsPart, part_after, part_behind, IsLawfulAct, EachAct}
 use Rattle.node_core.specs.SlotsKept.{handed_all, all_read}
 use Rattle.node_core.specs.SlotWrites.{all_asked, all_slots}
 use Rattle.node_core.specs.PeerParts.{IsReplyTo, IsReplyBy, acts_asked}
-use Rattle.node_core.specs.Stored.{IsNode, found_by, IsPeerThere, MayOpen, IsChanged, IsAsked}
+use Rattle.node_core.specs.Stored.{AreParts, IsNode, found_by, IsPeerThere, MayOpen, IsChanged}
+use Rattle.node_core.specs.Stored.{IsAsked}
 use Rattle.node_core.specs.Stored.{IsCalmRequest, IsReplied}
 use Rattle.node_core.specs.declared.writes.Asked.{Asked}
 use Rattle.transfer_sets.specs.Banks.{OwnedSlot}
@@ -37,11 +52,17 @@ use Rattle.node_core.proofs.CallActs.{lawful_call, reading_call, writing_call}
 use Rattle.node_core.proofs.SlotWrites.{all_slots_alike}
 use Rattle.node_core.proofs.Offered.{own_offered}
 use Rattle.node_core.proofs.SetBooks.{fault_alike}
+use Rattle.node_core.proofs.AssociationSteps.{drafted_open, open_alike, made_last-is}
+use Rattle.node_core.proofs.Moments.{moment_is}
+use Rattle.node_core.proofs.PartLists.{IsAlike-refl}
+use Rattle.node_core.proofs.PartSteps.{IsPart-reported, IsPart-alike}
+use Rattle.node_core.proofs.PointChanges.{IsPart-noted}
+use Rattle.node_core.proofs.Views.{IsShown-of}
 use Rattle.node_core.proofs.Steps.{IsCommon-open, IsCommon-close, IsCommon-request, IsCommon-take}
 use Rattle.node_core.proofs.Steps.{IsCommon-update, IsCommon-chosen, IsCommon-tick, IsCommon-ask}
-use Rattle.node_core.proofs.Steps.{IsCommon-stop, AreParts-acted}
-use Rattle.node_core.proofs.Steps.{AreParts-take, AreParts-update, AreParts-chosen, AreParts-tick}
-use Rattle.node_core.proofs.Steps.{AreParts-ask, AreParts-stop}
+use Rattle.node_core.proofs.Steps.{IsCommon-stop, AreParts-called, AreParts-take, AreParts-open}
+use Rattle.node_core.proofs.Steps.{AreParts-close, AreParts-each, AreParts-stop, AreParts-chosen}
+use Rattle.node_core.proofs.Steps.{own_offers}
 use Rattle.node_core.proofs.Steps.{part_there, IsPeerThere-of, opens-at, MayOpen-of}
 use Rattle.node_core.proofs.Steps.{opens_in-le-length}
 
@@ -62,6 +83,63 @@ IsNode-alike rows past hub new parts after points clock seats peers n = record {
   peers = rw peers n.peers;
 }
 
+-- a seat that is given an association, which is taken back, is as before
+pub unseated_again : (who : ℕ) (key : Key) (old mid new : ℕ → Option Key) → old who ≡ None
+    → ((asked : ℕ) → mid asked ≡ (if who == asked then Some key else old asked))
+    → ((asked : ℕ) → new asked ≡ (if who == asked then None else mid asked))
+    → (asked : ℕ) → new asked ≡ old asked
+unseated_again who key old mid new none seats back asked =
+    back asked ∙ by (who == asked) refl (seats asked)
+  where
+    by : (b : Bool) → (who == asked) ≡ b → mid asked ≡ (if b then Some key else old asked)
+        → (if b then None else mid asked) ≡ old asked
+    by true e seat = sym none ∙ ap old (eqb-true who asked e)
+    by false e seat = seat
+
+-- ---- other drafts
+
+AreParts-alike : (rows : CentreRows) (past : Past) (peers new : List Peer)
+    → EachBecomes (λ peer. IsAlike) peers new → AreParts rows past peers → AreParts rows past new
+AreParts-alike rows past peers new alike s = record {
+  many = alike.many ∙ s.many;
+  each = λ peer part here.
+      let old = before peer part here in
+      IsPart-alike (own_tables rows peer) (view_of rows peer past) old.0 part
+      (alike.each peer old.0 part old.1 here) (s.each peer old.0 old.1);
+  seated = λ who key part seat here.
+      let old = before key.peer part here in
+      open_alike old.0.associations part.associations
+      (alike.each key.peer old.0 part old.1 here).associations key.ordinal
+      ∙ s.seated who key old.0 seat old.1;
+}
+  where
+    before : (peer : ℕ) (part : Peer) → slice_get new peer ≡ Some part
+        → (old : Peer) × (slice_get peers peer ≡ Some old)
+    before peer part here =
+        part_there peers peer (omega (arith, alike.many, slice_get_within new peer part here))
+
+pub one_each : (peer : ℕ) (old new : List Peer) → OneBecomes IsAlike peer old new
+    → EachBecomes (λ peer. IsAlike) old new
+one_each peer old new one = record {
+  many = one.many;
+  each = λ other part after at here.
+      ⊎_elim
+      (λ (mine : other ≡ peer). one.here part after (ap (slice_get old) (sym mine) ∙ at)
+      (ap (slice_get new) (sym mine) ∙ here))
+      (λ apart. subst (IsAlike part)
+      (same_Some part after (sym at ∙ sym (one.others other apart) ∙ here)) (IsAlike-refl part))
+      (cases_eq other peer);
+}
+
+pub IsNode-drafted : (rows : CentreRows) (past : Past) (hub : Hub) (parts after : Parts)
+    → EachBecomes (λ peer. IsAlike) parts.peers.items after.peers.items
+    → IsNode rows past hub parts → IsNode rows past hub after
+IsNode-drafted rows past hub parts after alike n = record {
+  common = n.common;
+  clock = n.clock;
+  peers = AreParts-alike rows past parts.peers.items after.peers.items alike n.peers;
+}
+
 module _ (rows : CentreRows) (past : Past) (hub : Hub) (parts : Parts)
     (n : IsNode rows past hub parts) where
   -- a peer's part
@@ -75,7 +153,8 @@ module _ (rows : CentreRows) (past : Past) (hub : Hub) (parts : Parts)
 
   pub peer_there : (peer : ℕ) → peer < length rows.tables
       → IsPeerThere rows parts.peers.items peer
-  peer_there peer there = IsPeerThere-of rows past parts.peers.items n.peers n.common.lawful peer there
+  peer_there peer there =
+      IsPeerThere-of rows past parts.peers.items n.peers n.common.lawful peer there
 
   -- the peer of a seat's association is there
   pub seat_there : (who : ℕ) (key : Key) → association_in past who ≡ Some key
@@ -98,25 +177,42 @@ module _ (rows : CentreRows) (past : Past) (hub : Hub) (parts : Parts)
       ∙ ap (λ (k : ℕ). record { peer = peer; ordinal = k })
       (opens-at rows past parts.peers.items n.peers peer part.0 part.1)
 
+  -- what a take is given
+  pub made_is : (who : ℕ) (key : Key) (reports : List ReportKind)
+      → association_in past who ≡ Some key
+      → ((part : Peer) → slice_get parts.peers.items key.peer ≡ Some part
+      → reports ≡ made_last key.ordinal part.associations [])
+      → reports
+      ≡ reports_pending (own_tables rows key.peer) (view_of rows key.peer past) key.ordinal
+  made_is who key reports seated made =
+      let part = its_part key.peer (seat_there who key seated) in
+      made part.0 part.1
+      ∙ made_last-is (own_tables rows key.peer) (view_of rows key.peer past) key.ordinal
+      part.0.associations part.0.open_now part.0.opened_in_all
+      (n.peers.seated who key part.0 seated part.1) part.2.open_ones
+
   module _ (who : ℕ) (new : Hub) (after : Parts) where
     pub IsNode-open : (peer : ℕ) (key : Key) → peer < length rows.tables
         → key ≡ next_key past peer → new.points ≡ hub.points → new.last_tick ≡ hub.last_tick
         → ((asked : ℕ) → found_by new asked
         ≡ (if who == asked then Some key else found_by hub asked))
-        → ((tables : OwnTables) (now ordinal : ℕ) → IsChanged parts.peers.items peer
-        (part_after tables now (own ordinal opens)) after.peers.items)
+        → ((tables : OwnTables) (now : ℕ) → IsChanged parts.peers.items peer
+        (λ part. part_after tables now (own part.opened_in_all opens) part) after.peers.items)
         → IsNode rows (record { who = who; event = Open peer } ∷ past) new after
     IsNode-open peer key there key_is points clock seats changed =
         let part = its_part peer there in
+        let all = opens-at rows past parts.peers.items n.peers peer part.0 part.1 in
         record {
           common = rw points (IsCommon-open rows past hub.points (found_by hub) who n.common peer
               (found_by new) there
               (λ asked. seats asked ∙ ap (λ (k : Key). if who == asked then Some k
               else found_by hub asked) key_is));
           clock = clock ∙ n.clock;
-          peers = rw (changed (own_tables rows peer) 0 (opens_in past peer) part.0 part.1)
-              (AreParts-acted rows n.common.lawful past who parts.peers.items 0 (Open peer) (next_key past peer)
-              (opens ∷ []) part.0 refl (tt, tt) part.1 n.peers);
+          peers = rw (changed (own_tables rows peer) (last_tick past) part.0 part.1
+              ∙ ap (λ (k : ℕ). slice_set parts.peers.items peer (part_after (own_tables rows peer)
+              (last_tick past) (own k opens) part.0)) all)
+              (AreParts-open rows n.common.lawful past who parts.peers.items peer part.0 part.1 all
+              n.peers);
         }
 
     pub IsNode-close : (key : Key) → association_in past who ≡ Some key
@@ -132,35 +228,127 @@ module _ (rows : CentreRows) (past : Past) (hub : Hub) (parts : Parts)
           common = rw points (IsCommon-close rows past hub.points (found_by hub) who n.common
               (found_by new) seats);
           clock = clock ∙ n.clock;
-          peers = rw (changed 0 part.0 part.1)
-              (AreParts-acted rows n.common.lawful past who parts.peers.items 0 Close key (closes ∷ []) part.0
-              (ap (λ (found : Option Key). moves_by found (closes ∷ [])) seated) (tt, tt) part.1
-              n.peers);
+          peers = rw (changed (last_tick past) part.0 part.1)
+              (AreParts-close rows n.common.lawful past who parts.peers.items key part.0 seated
+              part.1 n.peers);
         }
 
-    pub IsNode-take : new ≡ hub → after ≡ parts
+    pub IsNode-take : (key : Key) → association_in past who ≡ Some key → new ≡ hub
+        → ((tables : OwnTables) (now : ℕ) → IsChanged parts.peers.items key.peer
+        (part_after tables now (own key.ordinal takes)) after.peers.items)
         → IsNode rows (record { who = who; event = Take } ∷ past) new after
-    IsNode-take same alike = record {
-      common = rw same (IsCommon-take rows past hub.points (found_by hub) who n.common);
-      clock = rw same n.clock;
-      peers = rw alike (AreParts-take rows n.common.lawful past who parts.peers.items n.peers);
-    }
+    IsNode-take key seated same changed =
+        let part = its_part key.peer (seat_there who key seated) in
+        record {
+          common = rw same (IsCommon-take rows past hub.points (found_by hub) who n.common);
+          clock = rw same n.clock;
+          peers = rw (changed (own_tables rows key.peer) (last_tick past) part.0 part.1)
+              (AreParts-take rows n.common.lawful past who parts.peers.items key part.0 seated
+              part.1 n.peers);
+        }
 
-    pub IsNode-tick : (now : ℕ) → new ≡ record hub { last_tick = now } → after ≡ parts
+    -- the part of a peer behind a cause of reports, which were drafted
+    reported : (centre : CentreRows) (points : PointsStored) → centre ≡ rows
+        → points ≡ hub.points → (cause : ReportCause) (peer : ℕ) (part behind : Peer)
+        → peer < length rows.tables → moment_before cause ≡ hub.last_tick
+        → IsPart (own_tables rows peer) (view_of rows peer past) part
+        → IsDrafted centre peer points cause part → IsReported cause part behind
+        → IsPart (own_tables rows peer) (move_of cause ∷ view_of rows peer past) behind
+    reported centre points same kept cause peer part behind there clock p drafted r =
+        let before = moment_is rows peer past ∙ sym n.clock ∙ sym clock in
+        let shown : IsShown (updates_in past) (own_tables rows peer) (view_of rows peer past)
+        (shown_of centre peer part points) =
+        subst (λ (c : CentreRows). IsShown (updates_in past) (own_tables rows peer)
+        (view_of rows peer past) (shown_of c peer part points)) (sym same)
+        (subst (λ (s : PointsStored). IsShown (updates_in past) (own_tables rows peer)
+        (view_of rows peer past) (shown_of rows peer part s)) (sym kept)
+        (IsShown-of rows past peer part hub.points n.common.lawful there p n.common.kept)) in
+        IsPart-reported (own_tables rows peer) (own_offers rows n.common.lawful peer)
+        (view_of rows peer past) part _ refl cause behind before
+        (λ i d within. drafted i d within (updates_in past) (own_tables rows peer)
+        (view_of rows peer past) shown before)
+        r p
+
+    pub IsNode-tick : (centre : CentreRows) (points : PointsStored) (from now : ℕ) (mid : Parts)
+        → centre ≡ rows → points ≡ hub.points → from ≡ hub.last_tick
+        → EachBecomes (λ peer. IsAlike) parts.peers.items mid.peers.items
+        → EachBecomes (λ peer part behind.
+        IsDrafted centre peer points (ReportCause.Tick from now) behind)
+        parts.peers.items mid.peers.items
+        → EachBecomes (λ peer. IsReported (ReportCause.Tick from now)) mid.peers.items
+        after.peers.items
+        → new ≡ record hub { last_tick = now }
         → IsNode rows (record { who = who; event = Tick now } ∷ past) new after
-    IsNode-tick now same alike = record {
-      common = rw same (IsCommon-tick rows past hub.points (found_by hub) who n.common now);
-      clock = rw same refl;
-      peers = rw alike (AreParts-tick rows n.common.lawful past who parts.peers.items now n.peers);
-    }
+    IsNode-tick centre points from now mid is kept clock alike drafted noted same =
+        let cause = ReportCause.Tick from now in
+        let m = AreParts-alike rows past parts.peers.items mid.peers.items alike n.peers in
+        record {
+          common = rw same (IsCommon-tick rows past hub.points (found_by hub) who n.common now);
+          clock = rw same refl;
+          peers = AreParts-each rows n.common.lawful past who mid.peers.items (Tick now)
+              after.peers.items (λ before. refl) noted.many
+              (λ peer part behind at here p.
+              let within = slice_get_within mid.peers.items peer part at in
+              let old = part_there parts.peers.items peer (omega (arith, within, alike.many)) in
+              let r = noted.each peer part behind at here in (
+                reported centre points is kept cause peer part behind
+                    (omega (arith, within, m.many)) clock p
+                    (drafted.each peer old.0 part old.1 at) r,
+                λ ordinal there. ap (λ (x : Peer). is_open_in ordinal x.associations) r.same
+                    ∙ drafted_open ordinal part.associations ∙ there,
+              )) m;
+        }
 
-    pub IsNode-ask : (peer slot : ℕ) → new ≡ hub → after ≡ parts
-        → IsNode rows (record { who = who; event = Ask peer slot } ∷ past) new after
-    IsNode-ask peer slot same alike = record {
-      common = rw same (IsCommon-ask rows past hub.points (found_by hub) who n.common peer slot);
-      clock = rw same n.clock;
-      peers = rw alike (AreParts-ask rows n.common.lawful past who parts.peers.items peer slot n.peers);
-    }
+    pub IsNode-ask : (centre : CentreRows) (points : PointsStored) (from asker slot : ℕ)
+        (mid : Parts) → centre ≡ rows → points ≡ hub.points → from ≡ hub.last_tick
+        → asker < length rows.tables
+        → OneBecomes IsAlike asker parts.peers.items mid.peers.items
+        → OneBecomes (λ part behind.
+        IsDrafted centre asker points (ReportCause.Ask slot from) behind) asker
+        parts.peers.items mid.peers.items
+        → OneBecomes (IsReported (ReportCause.Ask slot from)) asker mid.peers.items
+        after.peers.items
+        → new ≡ hub
+        → IsNode rows (record { who = who; event = Ask asker slot } ∷ past) new after
+    IsNode-ask centre points from asker slot mid is kept clock there alike drafted noted same =
+        let cause = ReportCause.Ask slot from in
+        let m = AreParts-alike rows past parts.peers.items mid.peers.items
+        (one_each asker parts.peers.items mid.peers.items alike) n.peers in
+        record {
+          common = rw same (IsCommon-ask rows past hub.points (found_by hub) who n.common asker
+              slot);
+          clock = rw same n.clock;
+          peers = AreParts-each rows n.common.lawful past who mid.peers.items (Ask asker slot)
+              after.peers.items (λ before. refl) noted.many
+              (λ peer part behind at here p.
+              ⊎_elim
+              (λ (mine : peer ≡ asker).
+              let at_asker = ap (slice_get mid.peers.items) (sym mine) ∙ at in
+              let here_asker = ap (slice_get after.peers.items) (sym mine) ∙ here in
+              let old = part_there parts.peers.items asker (omega (arith, there, n.peers.many)) in
+              let r = noted.here part behind at_asker here_asker in (
+                subst (λ (q : ℕ). IsPart (own_tables rows q)
+                    (view_of rows q (record { who = who; event = Ask asker slot } ∷ past)) behind)
+                    (sym mine)
+                    (rw (eq-eqb asker asker refl)
+                    (reported centre points is kept cause asker part behind there clock
+                    (subst (λ (q : ℕ). IsPart (own_tables rows q) (view_of rows q past) part) mine
+                    p) (drafted.here old.0 part old.1 at_asker) r)),
+                λ ordinal open_one.
+                    ap (λ (x : Peer). is_open_in ordinal x.associations) r.same
+                    ∙ drafted_open ordinal part.associations ∙ open_one,
+              ))
+              (λ (apart : peer ≢ asker).
+              let stays = same_Some part behind (sym at ∙ sym (noted.others peer apart) ∙ here)
+              in (
+                subst (λ (x : Peer). IsPart (own_tables rows peer)
+                    (view_of rows peer (record { who = who; event = Ask asker slot } ∷ past)) x)
+                    stays (rw (ne_eqb asker peer (λ e. apart (sym e))) p),
+                λ ordinal open_one. ap (λ (x : Peer). is_open_in ordinal x.associations)
+                    (sym stays) ∙ open_one,
+              ))
+              (cases_eq peer asker)) m;
+        }
 
     pub IsNode-stop : new ≡ hub → after ≡ parts
         → IsNode rows (record { who = who; event = Stop } ∷ past) new after
@@ -170,17 +358,75 @@ module _ (rows : CentreRows) (past : Past) (hub : Hub) (parts : Parts)
       peers = rw alike (AreParts-stop rows n.common.lawful past who parts.peers.items n.peers);
     }
 
-    pub IsNode-update : (point : ℕ) (value : Sample)
+    pub IsNode-update : (centre : CentreRows) (from point : ℕ) (value : Sample) (mid : Parts)
+        (changed : Bool) (cov : ℕ) → centre ≡ rows → from ≡ hub.last_tick
+        → point < length rows.points
+        → EachBecomes (λ peer. IsAlike) parts.peers.items mid.peers.items
+        → EachBecomes (λ peer part behind. IsReady centre peer point behind) parts.peers.items
+        mid.peers.items
         → KeepsPoints (kinds_of rows) (record { point = point; value = value } ∷ updates_in past)
         new.points
-        → new.seats ≡ hub.seats → new.last_tick ≡ hub.last_tick → after ≡ parts
+        → changed ≡ is_change (last_value (kinds_of rows) (updates_in past) point) value
+        → cov ≡ change_count (kinds_of rows)
+        (record { point = point; value = value } ∷ updates_in past) point % COV_MODULUS
+        → (changed ≡ true → EachBecomes (λ peer. IsNoted from value cov)
+        mid.peers.items after.peers.items)
+        → (changed ≡ false → after.peers.items ≡ mid.peers.items)
+        → new.seats ≡ hub.seats → new.last_tick ≡ hub.last_tick
         → IsNode rows (record { who = who; event = Update point value } ∷ past) new after
-    IsNode-update point value kept seats clock alike = record {
-      common = rw seats (IsCommon-update rows past hub.points (found_by hub) who n.common point
-          value new.points kept);
-      clock = clock ∙ n.clock;
-      peers = rw alike (AreParts-update rows n.common.lawful past who parts.peers.items point value n.peers);
-    }
+    IsNode-update centre from point value mid changed cov same at_now known alike ready kept is
+        cov_is noting leaving seats clock =
+        let m = AreParts-alike rows past parts.peers.items mid.peers.items alike n.peers in
+        record {
+          common = rw seats (IsCommon-update rows past hub.points (found_by hub) who n.common point
+              value new.points kept);
+          clock = clock ∙ n.clock;
+          peers = by m changed refl;
+        }
+      where
+        noted : (peer : ℕ) (part behind : Peer) → slice_get mid.peers.items peer ≡ Some part
+            → AreParts rows past mid.peers.items
+            → (changed ≡ true → IsNoted (last_tick past) value cov part behind)
+            → (changed ≡ false → behind ≡ part)
+            → IsPart (own_tables rows peer) (view_of rows peer past) part
+            → IsPart (own_tables rows peer)
+            (view_of rows peer (record { who = who; event = Update point value } ∷ past)) behind
+        noted peer part behind at m some none p =
+            let within = slice_get_within mid.peers.items peer part at in
+            let old = part_there parts.peers.items peer (omega (arith, within, alike.many)) in
+            IsPart-noted rows n.common.lawful past who point peer value known part
+            (omega (arith, within, m.many)) p (own_offers rows n.common.lawful peer) changed cov
+            behind is cov_is some none
+            (subst (λ (r : CentreRows). IsReady r peer point part) same
+            (ready.each peer old.0 part old.1 at))
+
+        by : AreParts rows past mid.peers.items → (c : Bool) → changed ≡ c
+            → AreParts rows (record { who = who; event = Update point value } ∷ past)
+            after.peers.items
+        by m true e =
+            let all = noting e in
+            AreParts-each rows n.common.lawful past who mid.peers.items (Update point value)
+            after.peers.items (λ before. refl) all.many
+            (λ peer part behind at here p.
+            let r = all.each peer part behind at here in (
+              noted peer part behind at m
+                  (λ yes_changed. subst (λ (k : ℕ). IsNoted k value cov part behind)
+                  (at_now ∙ n.clock) r)
+                  (λ unchanged. absurd (false≢true (sym unchanged ∙ e))) p,
+              λ ordinal open_one. ap (λ (x : Peer). is_open_in ordinal x.associations) r.same
+                  ∙ open_one,
+            )) m
+        by m false e =
+            AreParts-each rows n.common.lawful past who mid.peers.items (Update point value)
+            after.peers.items (λ before. refl) (ap length (leaving e))
+            (λ peer part behind at here p.
+            let stays : behind ≡ part = same_Some behind part
+            (sym here ∙ ap (λ (ps : List Peer). slice_get ps peer) (leaving e) ∙ at) in (
+              noted peer part behind at m (λ other. absurd (false≢true (sym e ∙ other)))
+                  (λ unchanged. stays) p,
+              λ ordinal open_one. ap (λ (x : Peer). is_open_in ordinal x.associations) stays
+                  ∙ open_one,
+            )) m
 
     pub IsNode-chosen : (peer variant : ℕ) → peer < length rows.tables
         → variant < length (variants_of rows peer) → new ≡ hub
@@ -193,30 +439,29 @@ module _ (rows : CentreRows) (past : Past) (hub : Hub) (parts : Parts)
           common = rw same (IsCommon-chosen rows past hub.points (found_by hub) who n.common peer
               variant);
           clock = rw same n.clock;
-          peers = rw (changed 0 part.0 part.1)
-              (AreParts-chosen rows n.common.lawful past who parts.peers.items 0 peer variant part.0
+          peers = rw (changed (last_tick past) part.0 part.1)
+              (AreParts-chosen rows n.common.lawful past who parts.peers.items peer variant part.0
               known part.1 n.peers);
         }
 
     -- a call, behind whose acts its peer's part stands
-    IsNode-called : (now : ℕ) (key : Key) (call : CallKind) → association_in past who ≡ Some key
+    IsNode-called : (key : Key) (call : CallKind) → association_in past who ≡ Some key
         → new ≡ hub → EachAct IsLawfulAct (acts_of_call call)
         → ((part : Peer) → slice_get parts.peers.items key.peer ≡ Some part
         → IsPart (own_tables rows key.peer) (view_of rows key.peer past) part
         → after.peers.items ≡ slice_set parts.peers.items key.peer
-        (part_behind (own_tables rows key.peer) now key.ordinal (acts_of_call call) part))
+        (part_behind (own_tables rows key.peer) (last_tick past) key.ordinal (acts_of_call call)
+        part))
         → IsNode rows (record { who = who; event = Request call } ∷ past) new after
-    IsNode-called now key call seated same lawful changed =
+    IsNode-called key call seated same lawful changed =
         let part = its_part key.peer (seat_there who key seated) in
         record {
           common = rw same (IsCommon-request rows past hub.points (found_by hub) who n.common
               (Request call) tt);
           clock = rw same n.clock;
           peers = rw (changed part.0 part.1 part.2)
-              (AreParts-acted rows n.common.lawful past who parts.peers.items now (Request call) key
-              (acts_of_call call) part.0
-              (ap (λ (found : Option Key). moves_by found (acts_of_call call)) seated) lawful
-              part.1 n.peers);
+              (AreParts-called rows n.common.lawful past who parts.peers.items key call part.0
+              seated lawful part.1 n.peers);
         }
 
     -- a read hands transfer sets out
@@ -230,17 +475,18 @@ module _ (rows : CentreRows) (past : Past) (hub : Hub) (parts : Parts)
         after.peers.items
         → IsNode rows (record { who = who; event = Request (Read names echo) } ∷ past) new after
     IsNode-read key names echo handed seated same hands changed =
-        IsNode-called 0 key (Read names echo) seated same
+        IsNode-called key (Read names echo) seated same
         (lawful_call (Read names echo) (λ set members e. absurd cc))
         (λ part at p. changed part at
         ∙ ap (λ (x : Peer). slice_set parts.peers.items key.peer x)
         (ap (λ (slots : List OwnedSlot). record part { slots = slots }) (hands part at)
-        ∙ sym (reading_call (own_tables rows key.peer) 0 key.ordinal names echo part)))
+        ∙ sym (reading_call (own_tables rows key.peer) (last_tick past) key.ordinal names echo
+        part)))
 
     -- a write takes wishes
     pub IsNode-write : (now : ℕ) (key : Key) (names : List ObjectName) (values : List Datum)
-        (asked : List Asked) → association_in past who ≡ Some key → new ≡ hub
-        → ((part : Peer) → slice_get parts.peers.items key.peer ≡ Some part
+        (asked : List Asked) → now ≡ last_tick past → association_in past who ≡ Some key
+        → new ≡ hub → ((part : Peer) → slice_get parts.peers.items key.peer ≡ Some part
         → asked ≡ all_asked (table_in (own_tables rows key.peer) part.variant) names values)
         → IsChanged parts.peers.items key.peer
         (λ part. record part {
@@ -249,8 +495,8 @@ module _ (rows : CentreRows) (past : Past) (hub : Hub) (parts : Parts)
         })
         after.peers.items
         → IsNode rows (record { who = who; event = Request (Write names values) } ∷ past) new after
-    IsNode-write now key names values asked seated same asks changed =
-        IsNode-called now key (Write names values) seated same
+    IsNode-write now key names values asked clock seated same asks changed =
+        IsNode-called key (Write names values) seated same
         (lawful_call (Write names values) (λ set members e. absurd cc))
         (λ part at p.
         let tables = own_tables rows key.peer in
@@ -263,14 +509,17 @@ module _ (rows : CentreRows) (past : Past) (hub : Hub) (parts : Parts)
         ∙ ap (λ (slots : List OwnedSlot). record part { slots = slots })
         (all_slots_alike table part.book key.ordinal now
         (λ name. own_offered rows key.peer part.variant name) names values part.slots)
-        ∙ sym (writing_call tables now key.ordinal names values part)))
+        ∙ sym (writing_call tables now key.ordinal names values part)
+        ∙ ap (λ (k : ℕ). part_behind tables k key.ordinal (acts_of_call (Write names values)) part)
+        clock))
 
     -- a request that neither reads nor writes, whose reply is that which the view gives
     pub IsNode-request : (key : Key) (event : EventKind) (reply : ReplyKind)
         → association_in past who ≡ Some key → IsCalmRequest event
         → IsReplied rows past key event reply → new ≡ hub
         → EachAct IsLawfulAct (acts_asked event)
-        → IsAsked rows 0 key (acts_asked event) (λ table book. IsReplyBy table book event reply)
+        → IsAsked rows (last_tick past) key (acts_asked event)
+        (λ table book. IsReplyBy table book event reply)
         parts.peers.items after.peers.items
         → IsNode rows (record { who = who; event = event } ∷ past) new after
     IsNode-request key (Open peer) reply seated request replied same lawful asked = absurd request
@@ -286,7 +535,7 @@ module _ (rows : CentreRows) (past : Past) (hub : Hub) (parts : Parts)
         absurd request
     IsNode-request key Stop reply seated request replied same lawful asked = absurd request
     IsNode-request key (Request call) reply seated request replied same lawful asked =
-        IsNode-called 0 key call seated same lawful
+        IsNode-called key call seated same lawful
         (λ part at p. asked part at
         (by_book (own_tables rows key.peer) (view_of rows key.peer past) part call reply key.ordinal
         p replied))

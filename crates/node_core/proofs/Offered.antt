@@ -1,5 +1,6 @@
 -- The objects that a table offers: none of devices, which aren't built yet.
-use Rattle.std.proofs.Common.{◌≡◌, ◌==◌, ℕ, Bool, true, false, List, [], ◌∷◌, ◌++◌, map, Option, Some}
+use Rattle.std.proofs.Common.{◌≡◌, ◌==◌, ℕ, Bool, true, false, List, [], ◌∷◌, ◌++◌, map, Option}
+use Rattle.std.proofs.Common.{Some}
 use Rattle.std.proofs.Common.{None, length, refl, ap, ⊎_elim, arith}
 use Rattle.std.proofs.lemmas.Bool.{cases_lt}
 use Rattle.std.proofs.lemmas.List.{length-map, get_or-map, get_or_past}
@@ -7,11 +8,13 @@ use Rattle.std.specs.Prelude.{if◌then◌else◌, find, flat_map, option_map, c
 use Rattle.std.specs.List.{range_with_len}
 use Rattle.mms_data.specs.ObjectName.{ObjectName}
 use Rattle.bilateral.specs.Rows.{CentreRows, no_table, variants_of}
-use Rattle.tase_views.specs.OwnTables.{OwnPoint, OwnDevice, OwnTable, own_table, own_tables, no_own_table}
+use Rattle.tase_views.specs.OwnTables.{OwnPoint, OwnDevice, OwnTable, own_table, own_tables}
+use Rattle.tase_views.specs.OwnTables.{no_own_table}
 use Rattle.tase_views.specs.OwnTables.{table_in}
 use Rattle.tase_views.specs.Objects.{Object, constant, report_variable, indication_point}
 use Rattle.tase_views.specs.Objects.{next_transfer_set, transfer_set, transfer_set_status}
-use Rattle.tase_views.specs.Objects.{NamedObject, named_by, special_objects, next_objects, objects_of_slot}
+use Rattle.tase_views.specs.Objects.{NamedObject, named_by, special_objects, next_objects}
+use Rattle.tase_views.specs.Objects.{objects_of_slot}
 use Rattle.tase_views.specs.Objects.{objects_of_device}
 use Rattle.tase_views.specs.Objects.{point_object, is_named, objects, object_named}
 use Rattle.node_core.specs.Found.{TableInForce, offered}
@@ -96,14 +99,18 @@ pub offered_named : (t : TableInForce) (name : ObjectName)
 offered_named t name = named_plain (offered t) refl name
 
 -- so of each of a peer's tables
-pub own_offered : (rows : CentreRows) (peer n : ℕ) (name : ObjectName)
-    → IsOffered (object_named (table_in (own_tables rows peer) n) name)
-own_offered rows peer n name =
-    named_plain (table_in (own_tables rows peer) n)
-    (⊎_elim
+pub own_bare : (rows : CentreRows) (peer n : ℕ)
+    → (table_in (own_tables rows peer) n).devices ≡ []
+own_bare rows peer n =
+    ⊎_elim
     (λ there. ap (λ (table : OwnTable). table.devices) (get_or-map (own_table rows)
     (variants_of rows peer) n no_table no_own_table there))
     (λ past. let many = length-map (variants_of rows peer) (own_table rows) in
     ap (λ (table : OwnTable). table.devices) (get_or_past
     (map (own_table rows) (variants_of rows peer)) n no_own_table (omega arith)))
-    (cases_lt n (length (variants_of rows peer)))) name
+    (cases_lt n (length (variants_of rows peer)))
+
+pub own_offered : (rows : CentreRows) (peer n : ℕ) (name : ObjectName)
+    → IsOffered (object_named (table_in (own_tables rows peer) n) name)
+own_offered rows peer n name =
+    named_plain (table_in (own_tables rows peer) n) (own_bare rows peer n) name

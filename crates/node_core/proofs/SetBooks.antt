@@ -48,7 +48,7 @@ IsBook-still tables view seen book same shown b = record {
 }
 
 -- what is shown behind an act, where the same table is in force
-set_shown : (tables : OwnTables) (view : View) (ordinal : ℕ) (act : Act) (name : List ℕ)
+pub set_shown : (tables : OwnTables) (view : View) (ordinal : ℕ) (act : Act) (name : List ℕ)
     → force (own ordinal act ∷ view) ≡ force view
     → sets_in tables (own ordinal act ∷ view) name
     ≡ set_behind (held tables view) (is_wished (held tables view) (slot_moves tables view))

@@ -1,5 +1,6 @@
 -- The names of transfer sets are identifiers.
-use Rattle.std.proofs.Common.{◌≡◌, ℕ, zero, suc, ◌<◌, Bool, true, ◌&&◌, refl, subst, sym, ⊎_elim, arith}
+use Rattle.std.proofs.Common.{◌≡◌, ℕ, zero, suc, ◌<◌, Bool, true, ◌&&◌, refl, subst, sym, ⊎_elim}
+use Rattle.std.proofs.Common.{arith}
 use Rattle.std.specs.Fmt.{digits}
 use Rattle.std.proofs.lemmas.Bool.{cases_eq, and_parts}
 use Rattle.bilateral.specs.declared.rows.TheConstants.{SLOT_LIMIT}

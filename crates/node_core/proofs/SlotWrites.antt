@@ -1,5 +1,5 @@
 -- What comes of writes by what a node keeps is what the peer's view gives.
-use Rattle.std.proofs.Common.{◌≡◌, ℕ, ◌+◌, Bool, List, [], ◌∷◌, ◌++◌}
+use Rattle.std.proofs.Common.{◌≡◌, ℕ, Bool, List, [], ◌∷◌, ◌++◌}
 use Rattle.std.proofs.Common.{Option, Some, None, Result, refl, ap, ◌∙◌, arith, suc}
 use Rattle.std.proofs.Common.{append_assoc}
 use Rattle.std.specs.List.{All}
@@ -15,7 +15,7 @@ use Rattle.tase_views.specs.Objects.{Object, constant, report_variable, indicati
 use Rattle.tase_views.specs.Objects.{next_transfer_set, control_point, selection, device_tag}
 use Rattle.tase_views.specs.Objects.{timeout, transfer_set, transfer_set_status, object_named}
 use Rattle.tase_views.specs.Moves.{writes}
-use Rattle.tase_views.specs.View.{View, own, held}
+use Rattle.tase_views.specs.View.{View, own, held, moment_in}
 use Rattle.tase_views.specs.Slots.{owns, wish_written, sets_in, slot_moves}
 use Rattle.tase_views.specs.Answers.{reason_of, object_written, write_outcomes}
 use Rattle.node_core.specs.declared.writes.Asked.{Asked}
@@ -106,13 +106,14 @@ all_slots_alike table book ordinal now offered (name ∷ names) (value ∷ value
 pub all_answers_alike : (tables : OwnTables) (ordinal now : ℕ) (book : Book)
     (names : List ObjectName) (values : List Datum) (view : View) (slots : List OwnedSlot)
     → ((name : ObjectName) → IsOffered (object_named (held tables view) name))
-    → IsBank tables view slots → IsBook tables view book
+    → IsBank tables view slots → IsBook tables view book → now ≡ moment_in view
     → all_answers (held tables view) book ordinal now
     (all_asked (held tables view) names values) slots
     ≡ write_outcomes tables view ordinal names values
-all_answers_alike tables ordinal now book [] values view slots offered k b = refl
-all_answers_alike tables ordinal now book (name ∷ names) [] view slots offered k b = refl
-all_answers_alike tables ordinal now book (name ∷ names) (value ∷ values) view slots offered k b =
+all_answers_alike tables ordinal now book [] values view slots offered k b moment = refl
+all_answers_alike tables ordinal now book (name ∷ names) [] view slots offered k b moment = refl
+all_answers_alike tables ordinal now book (name ∷ names) (value ∷ values) view slots offered k b
+    moment =
     let table = held tables view in
     let behind : View = own ordinal (writes name value) ∷ view in
     let here = answer_alike tables ordinal view slots book k b (object_named table name) value
@@ -127,8 +128,8 @@ all_answers_alike tables ordinal now book (name ∷ names) (value ∷ values) vi
     (object_named table name) value ∷ rest)
     (all_answers_alike tables ordinal now book names values behind
     (slots_written table book ordinal now name value slots) offered
-    (IsBank-writes tables view slots k book b.members ordinal now name value)
-    (IsBook-still tables view (own ordinal (writes name value)) book refl (λ other. refl) b))
+    (IsBank-writes tables view slots k book b.members ordinal now name value moment)
+    (IsBook-still tables view (own ordinal (writes name value)) book refl (λ other. refl) b) moment)
 
 -- ---- one more in a loop
 

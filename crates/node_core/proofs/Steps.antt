@@ -1,57 +1,66 @@
 -- What a node keeps beside its history stays right as the history grows.
-use Rattle.std.proofs.Common.{◌≡◌, ◌≢◌, ◌==◌, ℕ, zero, suc, ◌+◌, ◌^◌, ◌<◌, ◌≤◌, ◌⊎◌, inl, inr, Bool}
+use Rattle.std.proofs.Common.{◌≡◌, ◌≢◌, ◌==◌, ℕ, zero, suc, ◌+◌, ◌-◌, ◌^◌, ◌<◌, ◌≤◌, ◌⊎◌, inl, inr}
+use Rattle.std.proofs.Common.{Bool}
 use Rattle.std.proofs.Common.{true, false}
-use Rattle.std.proofs.Common.{List, [], ◌∷◌, ◌++◌, map, set, length, get_or, ltb, Option, Some}
+use Rattle.std.proofs.Common.{not, ◌&&◌, List, [], ◌∷◌, ◌++◌, map, set, length, get_or, ltb}
+use Rattle.std.proofs.Common.{Option, Some}
 use Rattle.std.proofs.Common.{None}
 use Rattle.std.proofs.Common.{refl, sym, ap, ◌∙◌, subst, ⊎_elim, arith, length-set, slice_get}
 use Rattle.std.proofs.Common.{get_or-set_same, get_or-set_other}
-use Rattle.std.specs.Prelude.{if◌then◌else◌, slice_index_or}
-use Rattle.std.specs.List.{cons_option}
+use Rattle.std.specs.Prelude.{◌||◌, if◌then◌else◌, slice_index_or}
 use Rattle.std.specs.Option.{option_map}
 use Rattle.std.proofs.lemmas.Bool.{cases_eq, cases_lt, eq-eqb, ne_eqb, and_parts, ltb-true}
+use Rattle.std.proofs.lemmas.Bool.{false≢true}
 use Rattle.std.proofs.lemmas.List.{length-map, get_or-map, get_or_past}
 use Rattle.std.proofs.lemmas.List.Elements.{All-cons}
+use Rattle.std.proofs.lemmas.List.Folds.{list_any-append}
 use Rattle.std.proofs.lemmas.Option.{slice_get-get_or, slice_get-map}
 use Rattle.std.proofs.lemmas.Option.{slice_get_within, get_or_from_slice_get, same_Some, none-some}
 use Rattle.tase_points.specs.Points.{kind_of}
 use Rattle.tase_points.specs.Same.{same_kind}
 use Rattle.tase_points.specs.Sample.{Sample}
 use Rattle.point_db.specs.Stored.{Stored as PointsStored, Keeps as KeepsPoints}
-use Rattle.bilateral.specs.declared.rows.PointRow.{PointRow}
 use Rattle.bilateral.specs.declared.rows.Table.{Table}
 use Rattle.bilateral.specs.declared.rows.TheConstants.{SLOT_LIMIT}
 use Rattle.bilateral.specs.Rows.{CentreRows, IsCentre, no_table, table_of, further_of, point_of}
 use Rattle.bilateral.specs.Rows.{variants_of}
 use Rattle.sbo_device.specs.declared.key.Key.{Key}
+use Rattle.transfer_sets.specs.Banks.{freed}
+use Rattle.tase_views.specs.declared.call.CallKind.{CallKind}
 use Rattle.tase_views.specs.declared.event.EventKind.{EventKind}
 use Rattle.tase_views.specs.declared.event.EventKind.TheVariants.{Open, Request, Take, Close}
 use Rattle.tase_views.specs.declared.event.EventKind.TheVariants.{Update, Tick, Ask, Stop}
 use Rattle.tase_views.specs.declared.event.EventKind.TheVariants.{Table as Choice}
-use Rattle.tase_views.specs.Moves.{Act, takes, Move, acts, moves_of, EventSort, sort_of, opening}
+use Rattle.tase_views.specs.Moves.{Act, opens, takes, closes, reads, writes, defines, deletes}
+use Rattle.tase_views.specs.Moves.{calls, acts_of_call, moves_by}
+use Rattle.tase_views.specs.Moves.{Move, acts, moves_of, EventSort, sort_of, opening}
 use Rattle.tase_views.specs.Moves.{requesting, taking, closing, taking_orders, feeding}
 use Rattle.tase_views.specs.History.{Past, association_in, association_after, association_by}
-use Rattle.tase_views.specs.History.{key_at, opens_in, counts_open, next_key}
+use Rattle.tase_views.specs.History.{key_at, opens_in, counts_open, next_key, last_tick}
 use Rattle.tase_views.specs.OwnTables.{OwnTables, own_table, own_tables, no_own_table, table_in}
-use Rattle.tase_views.specs.OwnTables.{is_point_of}
 use Rattle.tase_views.specs.Outcomes.{is_known}
-use Rattle.tase_views.specs.View.{own, other_acted, other_closed, updated, ticked}
-use Rattle.tase_views.specs.View.{asked as requested, chose}
-use Rattle.tase_views.specs.View.{stopped}
-use Rattle.tase_views.specs.View.{View, view_by, moves_in, view_of}
+use Rattle.tase_views.specs.View.{own, other_acted, other_closed, chose, stopped}
+use Rattle.tase_views.specs.View.{View, view_by, moves_in, view_of, moment_in}
+use Rattle.tase_views.proofs.Seated.{one_seat}
 use Rattle.node_core.specs.declared.peer.Peer.{Peer}
 use Rattle.node_core.specs.LastValues.{kinds_of, updates_in}
+use Rattle.node_core.specs.Associations.{OpenAssociation, new_association, is_open_in}
+use Rattle.node_core.specs.Associations.{open_without, behind_take}
 use Rattle.node_core.specs.PeerParts.{IsPart, new_part, part_after, part_behind, IsLawfulAct}
-use Rattle.node_core.specs.PeerParts.{EachAct}
+use Rattle.node_core.specs.PeerParts.{EachAct, settled, no_sets}
 use Rattle.node_core.specs.Stored.{IsCommon, AreParts, IsPeerThere, MayOpen, IsRequest}
-use Rattle.node_core.proofs.CallActs.{IsIdle, idle_act, idle_lawful}
+use Rattle.node_core.proofs.AssociationSteps.{others_stay}
+use Rattle.node_core.proofs.CallActs.{IsOfCall, of_call, calls_keep}
 use Rattle.node_core.proofs.Known.{table_is_lawful, further_are_lawful}
-use Rattle.node_core.proofs.PartSteps.{IsPart-new, IsPart-after}
-use Rattle.node_core.proofs.Seeing.{IsKept, by_others, by_seat, opens_in_view}
+use Rattle.node_core.proofs.Moments.{moment_is}
+use Rattle.node_core.proofs.Offered.{own_bare}
+use Rattle.node_core.proofs.PartSteps.{AreOffered, IsLawfulMove, IsPart-new, IsPart-after}
+use Rattle.node_core.proofs.Seeing.{IsKept, by_others, opens_in_view}
 
 -- ---- lists of which one item changes
 
 -- an item of such a list is the new one, or one of the old list
-set_cases : {X : Type 0} (xs : List X) (p q : ℕ) (y x : X) → slice_get (set xs p y) q ≡ Some x
+pub set_cases : {X : Type 0} (xs : List X) (p q : ℕ) (y x : X) → slice_get (set xs p y) q ≡ Some x
     → ((q ≡ p) × (x ≡ y)) ⊎ ((q ≢ p) × (slice_get xs q ≡ Some x))
 set_cases {X} xs p q y x at =
     let many : length (set xs p y) ≡ length xs = length-set xs p y in
@@ -73,6 +82,13 @@ pub set_same : {X : Type 0} (xs : List X) (p : ℕ) (x : X) → slice_get xs p �
 set_same [] p x at = absurd (none-some x at)
 set_same (y ∷ xs) zero x at = ap (λ z. z ∷ xs) (same_Some y x at)
 set_same (y ∷ xs) (suc p) x at = ap (λ ys. y ∷ ys) (set_same xs p x at)
+
+-- a part that is there
+pub part_there : (peers : List Peer) (peer : ℕ) → peer < length peers
+    → (part : Peer) × (slice_get peers peer ≡ Some part)
+part_there [] peer there = absurd (omega (arith, there))
+part_there (part ∷ peers) peer there =
+    (get_or (part ∷ peers) peer part, slice_get-get_or (part ∷ peers) peer part there)
 
 -- ---- the parts of all peers
 
@@ -138,22 +154,129 @@ AreParts-new rows peers are = record {
       subst (λ (x : Peer). IsPart (own_tables rows peer) [] x)
       (same_Some (new_part (table_of rows peer).sets) part (sym here ∙ at))
       (IsPart-new (own_tables rows peer) (omega (arith, own_count rows peer)));
+  seated = λ who key part seat at. absurd (none-some key seat);
 }
 
+-- ---- acts of an association
+
+-- each of these is lawful behind those before it
+abbrev pub AreLawful : OwnTables → ℕ → ℕ → List Act → Peer → Type 0
+AreLawful tables now ordinal [] part = Unit {0}
+AreLawful tables now ordinal (act ∷ these) part =
+    IsLawfulMove tables (part_behind tables now ordinal these part) (own ordinal act)
+    × AreLawful tables now ordinal these part
+
+of_open : (tables : OwnTables) (part : Peer) (ordinal : ℕ) (act : Act) → IsOfCall act
+    → IsLawfulAct act → is_open_in ordinal part.associations ≡ true
+    → IsLawfulMove tables part (own ordinal act)
+of_open tables part ordinal opens of lawful there = absurd of
+of_open tables part ordinal takes of lawful there = absurd of
+of_open tables part ordinal closes of lawful there = absurd of
+of_open tables part ordinal (reads name) of lawful there = (lawful, there)
+of_open tables part ordinal (writes name value) of lawful there = (lawful, there)
+of_open tables part ordinal (defines set members) of lawful there = (lawful, there)
+of_open tables part ordinal (deletes set) of lawful there = (lawful, there)
+of_open tables part ordinal (calls call) of lawful there = (lawful, there)
+
+-- acts of a call of an open association are
+call_lawful : (tables : OwnTables) (now ordinal : ℕ) (these : List Act) (part : Peer)
+    → EachAct IsOfCall these → EachAct IsLawfulAct these
+    → is_open_in ordinal part.associations ≡ true → AreLawful tables now ordinal these part
+call_lawful tables now ordinal [] part of lawful there = tt
+call_lawful tables now ordinal (act ∷ these) part of lawful there = (
+  of_open tables (part_behind tables now ordinal these part) ordinal act of.0 lawful.0
+      (ap (is_open_in ordinal) (calls_keep tables now ordinal these part of.1) ∙ there),
+  call_lawful tables now ordinal these part of.1 lawful.1 there,
+)
+
 -- a part stays where its peer is shown nothing of its own
-part_kept : (tables : OwnTables) (few : (n : ℕ) → (table_in tables n).slots ≤ SLOT_LIMIT)
-    (part : Peer)
-    → IsKept (λ (view : View). IsPart tables view part) IsIdle
-part_kept tables few part = record {
+abbrev IsNone : Act → Type 0
+IsNone act = ⊥
+
+part_kept : (tables : OwnTables) → AreOffered tables → (part : Peer)
+    → IsKept (λ (view : View). IsPart tables view part) IsNone
+part_kept tables o part = record {
   acted = λ key ordinal device act view p.
-      IsPart-after tables few view part 0 (other_acted key ordinal device act) tt p;
+      IsPart-after tables o view part (moment_in view) refl (other_acted key ordinal device act)
+      tt p;
   closed = λ key ordinal view p.
-      IsPart-after tables few view part 0 (other_closed key ordinal) tt p;
-  own = λ ordinal act view idle p.
-      subst (λ (x : Peer). IsPart tables (own ordinal act ∷ view) x)
-      (idle_act tables 0 ordinal act part idle)
-      (IsPart-after tables few view part 0 (own ordinal act) (idle_lawful act idle) p);
+      IsPart-after tables o view part (moment_in view) refl (other_closed key ordinal) tt p;
+  own = λ ordinal act view none p. absurd none;
 }
+
+-- the tables that a peer is offered
+pub own_offers : (rows : CentreRows) → IsCentre rows → (peer : ℕ)
+    → AreOffered (own_tables rows peer)
+own_offers rows lawful peer = record {
+  few = own_few rows lawful peer;
+  bare = own_bare rows peer;
+}
+
+-- ---- the associations of seats
+
+-- all seats' associations are among those of their peers' parts
+abbrev AreSeated : Past → List Peer → Type 0
+AreSeated past peers = (who : ℕ) (key : Key) (part : Peer) → association_in past who ≡ Some key
+    → slice_get peers key.peer ≡ Some part → is_open_in key.ordinal part.associations ≡ true
+
+-- an event that leaves its seat's association
+seated_still : (past : Past) (who : ℕ) (event : EventKind)
+    → ((before : Option Key) → association_after event past before ≡ before)
+    → (asked : ℕ) → association_in (record { who = who; event = event } ∷ past) asked
+    ≡ association_in past asked
+seated_still past who event same asked =
+    elim (who == asked) as
+    (λ b. (if b then association_after event past (association_in past asked)
+    else association_in past asked) ≡ association_in past asked)
+    [ true ↦ same (association_in past asked) | false ↦ refl ]
+
+-- where each part keeps its associations
+AreSeated-kept : (past : Past) (who : ℕ) (event : EventKind) (peers new : List Peer)
+    → ((before : Option Key) → association_after event past before ≡ before)
+    → length new ≡ length peers
+    → ((peer : ℕ) (part after : Peer) → slice_get peers peer ≡ Some part
+    → slice_get new peer ≡ Some after → (ordinal : ℕ)
+    → is_open_in ordinal part.associations ≡ true
+    → is_open_in ordinal after.associations ≡ true)
+    → AreSeated past peers → AreSeated (record { who = who; event = event } ∷ past) new
+AreSeated-kept past who event peers new same many keeps s asked key after seat at =
+    let within : key.peer < length peers = omega (
+      arith,
+      many,
+      slice_get_within new key.peer after at,
+    ) in
+    let found = part_there peers key.peer within in
+    keeps key.peer found.0 after found.1 at key.ordinal
+    (s asked key found.0 (sym (seated_still past who event same asked) ∙ seat) found.1)
+
+-- where one part has changed
+AreSeated-set : (past : Past) (who : ℕ) (event : EventKind) (peers : List Peer) (peer : ℕ)
+    (part after : Peer) → slice_get peers peer ≡ Some part
+    → ((asked : ℕ) (key : Key)
+    → association_in (record { who = who; event = event } ∷ past) asked ≡ Some key
+    → ((association_in past asked ≡ Some key)
+    × (is_open_in key.ordinal part.associations ≡ true
+    → key.peer ≡ peer → is_open_in key.ordinal after.associations ≡ true))
+    ⊎ ((key.peer ≡ peer) × (is_open_in key.ordinal after.associations ≡ true)))
+    → AreSeated past peers
+    → AreSeated (record { who = who; event = event } ∷ past) (set peers peer after)
+AreSeated-set past who event peers peer part after at each s asked key new seat here =
+    by (each asked key seat) (set_cases peers peer key.peer after new here)
+  where
+    by : ((association_in past asked ≡ Some key)
+        × (is_open_in key.ordinal part.associations ≡ true
+        → key.peer ≡ peer → is_open_in key.ordinal after.associations ≡ true))
+        ⊎ ((key.peer ≡ peer) × (is_open_in key.ordinal after.associations ≡ true))
+        → ((key.peer ≡ peer) × (new ≡ after))
+        ⊎ ((key.peer ≢ peer) × (slice_get peers key.peer ≡ Some new))
+        → is_open_in key.ordinal new.associations ≡ true
+    by (inl before) (inl mine) =
+        ap (λ (x : Peer). is_open_in key.ordinal x.associations) mine.1
+        ∙ before.1 (s asked key part before.0 (ap (slice_get peers) mine.0 ∙ at)) mine.0
+    by (inl before) (inr other) = s asked key new before.0 other.1
+    by (inr opened) (inl mine) =
+        ap (λ (x : Peer). is_open_in key.ordinal x.associations) mine.1 ∙ opened.1
+    by (inr opened) (inr other) = absurd (other.0 opened.0)
 
 module _ (rows : CentreRows) (lawful_rows : IsCentre rows) (past : Past) (who : ℕ)
     (peers : List Peer) where
@@ -161,29 +284,44 @@ module _ (rows : CentreRows) (lawful_rows : IsCentre rows) (past : Past) (who : 
   abbrev behind : ℕ → List Move → View
   behind peer moves = view_by rows (own_tables rows) peer (moves ++ moves_in past)
 
+  -- acts leave the moment
+  acted_moment : (key : Key) (these : List Act)
+      → moment_in (behind key.peer (map (acts key) these)) ≡ last_tick past
+  acted_moment key [] = moment_is rows key.peer past
+  acted_moment key (act ∷ these) =
+      rw (eq-eqb key.peer key.peer refl) (acted_moment key these)
+
   -- acts of an association: its peer's part behind them, and all others as they were
-  acted_part : (now : ℕ) (key : Key) (these : List Act) (part : Peer) → EachAct IsLawfulAct these
+  acted_part : (key : Key) (these : List Act) (part : Peer)
+      → AreLawful (own_tables rows key.peer) (last_tick past) key.ordinal these part
       → IsPart (own_tables rows key.peer) (view_of rows key.peer past) part
       → IsPart (own_tables rows key.peer) (behind key.peer (map (acts key) these))
-      (part_behind (own_tables rows key.peer) now key.ordinal these part)
-  acted_part now key [] part lawful p = p
-  acted_part now key (act ∷ these) part lawful p =
+      (part_behind (own_tables rows key.peer) (last_tick past) key.ordinal these part)
+  acted_part key [] part lawful p = p
+  acted_part key (act ∷ these) part lawful p =
       rw (eq-eqb key.peer key.peer refl)
-      (IsPart-after (own_tables rows key.peer) (own_few rows lawful_rows key.peer)
+      (IsPart-after (own_tables rows key.peer) (own_offers rows lawful_rows key.peer)
       (behind key.peer (map (acts key) these))
-      (part_behind (own_tables rows key.peer) now key.ordinal these part) now
-      (own key.ordinal act) lawful.0 (acted_part now key these part lawful.1 p))
+      (part_behind (own_tables rows key.peer) (last_tick past) key.ordinal these part)
+      (last_tick past) (sym (acted_moment key these)) (own key.ordinal act) lawful.0
+      (acted_part key these part lawful.1 p))
 
-  pub AreParts-acted : (now : ℕ) (event : EventKind) (key : Key) (these : List Act) (part : Peer)
+  AreParts-acted : (event : EventKind) (key : Key) (these : List Act) (part : Peer)
       → moves_of (sort_of event) (key_at event past who) ≡ map (acts key) these
-      → EachAct IsLawfulAct these → slice_get peers key.peer ≡ Some part
+      → AreLawful (own_tables rows key.peer) (last_tick past) key.ordinal these part
+      → slice_get peers key.peer ≡ Some part
+      → AreSeated (record { who = who; event = event } ∷ past)
+      (set peers key.peer
+      (part_behind (own_tables rows key.peer) (last_tick past) key.ordinal these part))
       → AreParts rows past peers
       → AreParts rows (record { who = who; event = event } ∷ past)
-      (set peers key.peer (part_behind (own_tables rows key.peer) now key.ordinal these part))
-  AreParts-acted now event key these part moves lawful at s =
-      let after = part_behind (own_tables rows key.peer) now key.ordinal these part in
+      (set peers key.peer
+      (part_behind (own_tables rows key.peer) (last_tick past) key.ordinal these part))
+  AreParts-acted event key these part moves lawful at seated s =
+      let after = part_behind (own_tables rows key.peer) (last_tick past) key.ordinal these part in
       record {
         many = length-set peers key.peer after ∙ s.many;
+        seated = seated;
         each = λ peer new here.
             subst (λ (ms : List Move). IsPart (own_tables rows peer) (behind peer ms) new)
             (sym moves)
@@ -193,106 +331,254 @@ module _ (rows : CentreRows) (lawful_rows : IsCentre rows) (past : Past) (who : 
             (sym mine.0)
             (subst (λ (x : Peer). IsPart (own_tables rows key.peer)
             (behind key.peer (map (acts key) these)) x) (sym mine.1)
-            (acted_part now key these part lawful (s.each key.peer part at))))
+            (acted_part key these part lawful (s.each key.peer part at))))
             (λ (other : (peer ≢ key.peer) × (slice_get peers peer ≡ Some new)).
-            by_others (λ (view : View). IsPart (own_tables rows peer) view new) IsIdle
-            (part_kept (own_tables rows peer) (own_few rows lawful_rows peer) new) rows peer key these
-            (moves_in past) (ne_eqb key.peer peer (λ e. other.0 (sym e)))
+            by_others (λ (view : View). IsPart (own_tables rows peer) view new) IsNone
+            (part_kept (own_tables rows peer) (own_offers rows lawful_rows peer) new) rows peer
+            key these (moves_in past) (ne_eqb key.peer peer (λ e. other.0 (sym e)))
             (s.each peer new other.1))
             (set_cases peers key.peer peer after new here));
       }
 
-  -- an event that leaves each part
-  AreParts-left : (event : EventKind)
-      → ((peer : ℕ) (part : Peer) → IsPart (own_tables rows peer) (view_of rows peer past) part
+  -- a request
+  pub AreParts-called : (key : Key) (call : CallKind) (part : Peer)
+      → association_in past who ≡ Some key → EachAct IsLawfulAct (acts_of_call call)
+      → slice_get peers key.peer ≡ Some part → AreParts rows past peers
+      → AreParts rows (record { who = who; event = Request call } ∷ past)
+      (set peers key.peer (part_behind (own_tables rows key.peer) (last_tick past) key.ordinal
+      (acts_of_call call) part))
+  AreParts-called key call part seat lawful at s =
+      let tables = own_tables rows key.peer in
+      let keeps = calls_keep tables (last_tick past) key.ordinal (acts_of_call call) part
+      (of_call call) in
+      AreParts-acted (Request call) key (acts_of_call call) part
+      (ap (λ (found : Option Key). moves_by found (acts_of_call call)) seat)
+      (call_lawful tables (last_tick past) key.ordinal (acts_of_call call) part (of_call call)
+      lawful (s.seated who key part seat at))
+      at
+      (AreSeated-set past who (Request call) peers key.peer part _ at
+      (λ asked other seats. inl (
+        sym (seated_still past who (Request call) (λ before. refl) asked) ∙ seats,
+        λ there same. ap (is_open_in other.ordinal) keeps ∙ there,
+      )) s.seated) s
+
+  taken_open : (ordinal other : ℕ) (those : List OpenAssociation)
+      → is_open_in other (map (behind_take ordinal) those) ≡ is_open_in other those
+  taken_open ordinal other [] = refl
+  taken_open ordinal other (a ∷ those) = rw (here a, taken_open ordinal other those) refl
+    where
+      here : (o : OpenAssociation) → (behind_take ordinal o).ordinal ≡ o.ordinal
+      here o = by (o.ordinal == ordinal)
+        where
+          by : (b : Bool)
+              → (if b then record o { made = []; drafted = [] } else o).ordinal ≡ o.ordinal
+          by true = refl
+          by false = refl
+
+  pub AreParts-take : (key : Key) (part : Peer) → association_in past who ≡ Some key
+      → slice_get peers key.peer ≡ Some part → AreParts rows past peers
+      → AreParts rows (record { who = who; event = Take } ∷ past)
+      (set peers key.peer
+      (part_after (own_tables rows key.peer) (last_tick past) (own key.ordinal takes) part))
+  AreParts-take key part seat at s =
+      AreParts-acted Take key (takes ∷ []) part
+      (ap (λ (found : Option Key). moves_by found (takes ∷ [])) seat)
+      ((tt, s.seated who key part seat at), tt) at
+      (AreSeated-set past who Take peers key.peer part _ at
+      (λ asked other seats. inl (
+        sym (seated_still past who Take (λ before. refl) asked) ∙ seats,
+        λ there same. taken_open key.ordinal other.ordinal part.associations ∙ there,
+      )) s.seated) s
+
+  -- an open
+  or_left : (a b : Bool) → a ≡ true → (a || b) ≡ true
+  or_left true b e = refl
+  or_left false b e = absurd (false≢true e)
+
+  or_right : (a b : Bool) → b ≡ true → (a || b) ≡ true
+  or_right true b e = refl
+  or_right false b e = e
+
+  pub AreParts-open : (peer : ℕ) (part : Peer) → slice_get peers peer ≡ Some part
+      → part.opened_in_all ≡ opens_in past peer → AreParts rows past peers
+      → AreParts rows (record { who = who; event = Open peer } ∷ past)
+      (set peers peer
+      (part_after (own_tables rows peer) (last_tick past) (own (opens_in past peer) opens) part))
+  AreParts-open peer part at all s =
+      let key = next_key past peer in
+      let those = part.associations in
+      AreParts-acted (Open peer) key (opens ∷ []) part refl (sym all, tt) at
+      (AreSeated-set past who (Open peer) peers peer part _ at
+      (λ asked other seats. elim (who == asked) as
+      (λ b. (if b then Some key else association_in past asked) ≡ Some other
+      → ((association_in past asked ≡ Some other)
+      × (is_open_in other.ordinal those ≡ true → other.peer ≡ peer
+      → is_open_in other.ordinal (those ++ new_association key.ordinal ∷ []) ≡ true))
+      ⊎ ((other.peer ≡ peer)
+      × (is_open_in other.ordinal (those ++ new_association key.ordinal ∷ []) ≡ true))) [
+        | true ↦ λ e. inr (
+          ap (λ (k : Key). k.peer) (sym (same_Some key other e)),
+          list_any-append (λ (o : OpenAssociation). o.ordinal == other.ordinal) those
+              (new_association key.ordinal ∷ [])
+              ∙ or_right (is_open_in other.ordinal those) _
+              (or_left (key.ordinal == other.ordinal) false
+              (eq-eqb key.ordinal other.ordinal
+              (ap (λ (k : Key). k.ordinal) (same_Some key other e)))),
+        )
+        | false ↦ λ e. inl (
+          e,
+          λ there same.
+              list_any-append (λ (o : OpenAssociation). o.ordinal == other.ordinal) those
+              (new_association key.ordinal ∷ [])
+              ∙ or_left (is_open_in other.ordinal those) _ there,
+        )
+      ] seats) s.seated) s
+
+  -- a close
+  settled_open : (tables : OwnTables) (after : Peer) (ordinal : ℕ)
+      → is_open_in ordinal (settled tables after).associations
+      ≡ is_open_in ordinal after.associations
+  settled_open tables after ordinal = by ((after.open_now == 0)
+      && not (after.chosen_last == after.variant))
+    where
+      by : (b : Bool) → is_open_in ordinal (if b then record after {
+        variant = after.chosen_last;
+        book = no_sets (table_in tables after.chosen_last).sets;
+      } else after).associations ≡ is_open_in ordinal after.associations
+      by true = refl
+      by false = refl
+
+  pub AreParts-close : (key : Key) (part : Peer) → association_in past who ≡ Some key
+      → slice_get peers key.peer ≡ Some part → AreParts rows past peers
+      → AreParts rows (record { who = who; event = Close } ∷ past)
+      (set peers key.peer
+      (part_after (own_tables rows key.peer) (last_tick past) (own key.ordinal closes) part))
+  AreParts-close key part seat at s =
+      let those = part.associations in
+      AreParts-acted Close key (closes ∷ []) part
+      (ap (λ (found : Option Key). moves_by found (closes ∷ [])) seat)
+      ((tt, s.seated who key part seat at), tt) at
+      (AreSeated-set past who Close peers key.peer part _ at
+      (λ asked other seats. elim (who == asked) as
+      (λ b. (who == asked) ≡ b
+      → (if b then None else association_in past asked) ≡ Some other
+      → ((association_in past asked ≡ Some other)
+      × (is_open_in other.ordinal those ≡ true → other.peer ≡ key.peer
+      → is_open_in other.ordinal (part_after (own_tables rows key.peer) (last_tick past)
+      (own key.ordinal closes) part).associations ≡ true))
+      ⊎ ((other.peer ≡ key.peer)
+      × (is_open_in other.ordinal (part_after (own_tables rows key.peer) (last_tick past)
+      (own key.ordinal closes) part).associations ≡ true))) [
+        | true ↦ λ same e. absurd (none-some other e)
+        | false ↦ λ apart e. inl (
+          e,
+          λ there peer_same.
+              settled_open (own_tables rows key.peer) (record part {
+                open_now = part.open_now - 1;
+                associations = open_without key.ordinal those;
+                slots = map (freed key.ordinal) part.slots;
+              }) other.ordinal
+              ∙ others_stay key.ordinal other.ordinal those
+              (λ ordinal_same. let one : other ≡ key = key_same other key peer_same ordinal_same in
+              let seats_same = one_seat past asked who key
+              (e ∙ ap (λ (k : Key). Some k) one) seat in
+              false≢true (sym apart ∙ eq-eqb who asked (sym seats_same))) there,
+        )
+      ] refl seats) s.seated) s
+    where
+      key_same : (one other : Key) → one.peer ≡ other.peer → one.ordinal ≡ other.ordinal
+          → one ≡ other
+      key_same one other p q =
+          subst (λ (n : ℕ). one ≡ record { peer = other.peer; ordinal = n }) q
+          (ap (λ (n : ℕ). let k : Key = record { peer = n; ordinal = one.ordinal } in k) p)
+
+  -- an event that leaves each seat's association, behind which each part is another
+  pub AreParts-each : (event : EventKind) (new : List Peer)
+      → ((before : Option Key) → association_after event past before ≡ before)
+      → length new ≡ length peers
+      → ((peer : ℕ) (part after : Peer) → slice_get peers peer ≡ Some part
+      → slice_get new peer ≡ Some after
+      → IsPart (own_tables rows peer) (view_of rows peer past) part
       → IsPart (own_tables rows peer)
-      (view_of rows peer (record { who = who; event = event } ∷ past)) part)
+      (view_of rows peer (record { who = who; event = event } ∷ past)) after
+      × ((ordinal : ℕ) → is_open_in ordinal part.associations ≡ true
+      → is_open_in ordinal after.associations ≡ true))
       → AreParts rows past peers
-      → AreParts rows (record { who = who; event = event } ∷ past) peers
-  AreParts-left event left s = record {
-    many = s.many;
-    each = λ peer part at. left peer part (s.each peer part at);
+      → AreParts rows (record { who = who; event = event } ∷ past) new
+  AreParts-each event new same many each s = record {
+    many = many ∙ s.many;
+    each = λ peer after here. (
+        let within : peer < length peers =
+        omega (arith, many, slice_get_within new peer after here) in
+        let found = part_there peers peer within in
+        (each peer found.0 after found.1 here (s.each peer found.0 found.1)).0);
+    seated = AreSeated-kept past who event peers new same many
+        (λ peer part after at here. (each peer part after at here (s.each peer part at)).1)
+        s.seated;
   }
-
-  pub AreParts-take : AreParts rows past peers
-      → AreParts rows (record { who = who; event = Take } ∷ past) peers
-  AreParts-take s =
-      AreParts-left Take
-      (λ peer part p.
-      by_seat (λ (view : View). IsPart (own_tables rows peer) view part) IsIdle
-      (part_kept (own_tables rows peer) (own_few rows lawful_rows peer) part) rows peer
-      (association_in past who) (takes ∷ []) (moves_in past) (tt, tt) p) s
-
-  pub AreParts-update : (point : ℕ) (value : Sample) → AreParts rows past peers
-      → AreParts rows (record { who = who; event = Update point value } ∷ past) peers
-  AreParts-update point value s =
-      AreParts-left (Update point value)
-      (λ peer part p.
-      elim (is_point_of rows peer point) as
-      (λ b. IsPart (own_tables rows peer)
-      (cons_option (if b then Some (updated (point_of rows point).name value) else None)
-      (view_of rows peer past)) part) [
-        | true ↦ IsPart-after (own_tables rows peer) (own_few rows lawful_rows peer) (view_of rows peer past)
-            part 0 (updated (point_of rows point).name value) tt p
-        | false ↦ p
-      ]) s
 
   pub AreParts-stop : AreParts rows past peers
       → AreParts rows (record { who = who; event = Stop } ∷ past) peers
   AreParts-stop s =
-      AreParts-left Stop
-      (λ peer part p. IsPart-after (own_tables rows peer) (own_few rows lawful_rows peer)
-      (view_of rows peer past) part 0 stopped tt p) s
-
-  pub AreParts-tick : (now : ℕ) → AreParts rows past peers
-      → AreParts rows (record { who = who; event = Tick now } ∷ past) peers
-  AreParts-tick now s =
-      AreParts-left (Tick now)
-      (λ peer part p. IsPart-after (own_tables rows peer) (own_few rows lawful_rows peer)
-      (view_of rows peer past) part 0 (ticked now) tt p) s
-
-  pub AreParts-ask : (asker slot : ℕ) → AreParts rows past peers
-      → AreParts rows (record { who = who; event = Ask asker slot } ∷ past) peers
-  AreParts-ask asker slot s =
-      AreParts-left (Ask asker slot)
-      (λ peer part p.
-      elim (asker == peer) as
-      (λ b. IsPart (own_tables rows peer)
-      (cons_option (if b then Some (requested slot) else None) (view_of rows peer past)) part) [
-        | true ↦ IsPart-after (own_tables rows peer) (own_few rows lawful_rows peer) (view_of rows peer past)
-            part 0 (requested slot) tt p
-        | false ↦ p
-      ]) s
+      AreParts-each Stop peers (λ before. refl) refl
+      (λ peer part after at here p. subst (λ (x : Peer).
+      IsPart (own_tables rows peer) (stopped ∷ view_of rows peer past) x
+      × ((ordinal : ℕ) → is_open_in ordinal part.associations ≡ true
+      → is_open_in ordinal x.associations ≡ true)) (same_Some part after (sym at ∙ here)) (
+        IsPart-after (own_tables rows peer) (own_offers rows lawful_rows peer)
+            (view_of rows peer past) part _ refl stopped tt p,
+        λ ordinal there. there,
+      )) s
 
   -- a choice of another table
-  pub AreParts-chosen : (now chooser variant : ℕ) (part : Peer)
+  pub AreParts-chosen : (chooser variant : ℕ) (part : Peer)
       → variant < length (variants_of rows chooser) → slice_get peers chooser ≡ Some part
       → AreParts rows past peers
       → AreParts rows (record { who = who; event = Choice chooser variant } ∷ past)
-      (set peers chooser (part_after (own_tables rows chooser) now (chose variant) part))
-  AreParts-chosen now chooser variant part there at s =
-      let after = part_after (own_tables rows chooser) now (chose variant) part in
-      record {
-        many = length-set peers chooser after ∙ s.many;
-        each = λ peer new here.
-            ⊎_elim
-            (λ (mine : (peer ≡ chooser) × (new ≡ after)).
-            subst (λ (q : ℕ). IsPart (own_tables rows q)
+      (set peers chooser
+      (part_after (own_tables rows chooser) (last_tick past) (chose variant) part))
+  AreParts-chosen chooser variant part there at s =
+      let after = part_after (own_tables rows chooser) (last_tick past) (chose variant) part in
+      AreParts-each (Choice chooser variant) (set peers chooser after) (λ before. refl)
+      (length-set peers chooser after)
+      (λ peer old new before here p.
+      ⊎_elim
+      (λ (mine : (peer ≡ chooser) × (new ≡ after)).
+      let old_is : old ≡ part = same_Some old part (sym before ∙ ap (slice_get peers) mine.0 ∙ at)
+      in (
+        subst (λ (q : ℕ). IsPart (own_tables rows q)
             (view_of rows q (record { who = who; event = Choice chooser variant } ∷ past)) new)
             (sym mine.0)
-            (subst (λ (x : Peer). IsPart (own_tables rows chooser)
-            (view_of rows chooser (record { who = who; event = Choice chooser variant } ∷ past)) x)
-            (sym mine.1)
+            (subst (λ (x : Peer). IsPart (own_tables rows chooser) (view_of rows chooser
+            (record { who = who; event = Choice chooser variant } ∷ past)) x) (sym mine.1)
             (rw (eq-eqb chooser chooser refl)
-            (IsPart-after (own_tables rows chooser) (own_few rows lawful_rows chooser)
-            (view_of rows chooser past) part now (chose variant)
-            (omega (arith, there, own_count rows chooser)) (s.each chooser part at)))))
-            (λ (other : (peer ≢ chooser) × (slice_get peers peer ≡ Some new)).
-            rw (ne_eqb chooser peer (λ e. other.0 (sym e))) (s.each peer new other.1))
-            (set_cases peers chooser peer after new here);
-      }
+            (IsPart-after (own_tables rows chooser) (own_offers rows lawful_rows chooser)
+            (view_of rows chooser past) part (last_tick past) (sym (moment_is rows chooser past))
+            (chose variant) (omega (arith, there, own_count rows chooser))
+            (s.each chooser part at)))),
+        λ ordinal open_one. ap (λ (x : Peer). is_open_in ordinal x.associations) mine.1
+            ∙ settled_open (own_tables rows chooser) (record part { chosen_last = variant })
+            ordinal
+            ∙ ap (λ (x : Peer). is_open_in ordinal x.associations) (sym old_is) ∙ open_one,
+      ))
+      (λ (other : (peer ≢ chooser) × (slice_get peers peer ≡ Some new)).
+      let same : old ≡ new = same_Some old new (sym before ∙ other.1) in (
+        subst (λ (x : Peer). IsPart (own_tables rows peer) (view_of rows peer
+            (record { who = who; event = Choice chooser variant } ∷ past)) x) same
+            (rw (ne_eqb chooser peer (λ e. other.0 (sym e))) p),
+        λ ordinal open_one. ap (λ (x : Peer). is_open_in ordinal x.associations) (sym same)
+            ∙ open_one,
+      ))
+      (set_cases peers chooser peer after new here)) s
 
 -- ---- what is no peer's own
+
+-- a point of which an update is taken is the centre's
+pub known-point : (rows : CentreRows) (point : ℕ) (value : Sample)
+    → is_known rows point value ≡ true → point < length rows.points
+known-point rows point value known =
+    ltb-true point (length rows.points) (and_parts (ltb point (length rows.points))
+    (same_kind (kind_of value.body) (point_of rows point).kind) known).0
 
 known_after : (sort : EventSort) (past : Past) (before : Option Key) (key : Key) (n : ℕ)
     → ((peer : ℕ) → sort ≡ opening peer → peer < n) → (before ≡ Some key → key.peer < n)
@@ -413,17 +699,6 @@ module _ (rows : CentreRows) (past : Past) (points : PointsStored) (found : ℕ 
       IsCommon-after rows past points points found found who Stop (λ opener e. absurd cc)
       s.kept (unseated Stop (λ before. refl)) s
 
-  -- a point of which an update is taken is kept
-  pub points-there : (point : ℕ) (value : Sample) → is_known rows point value ≡ true
-      → point < length points.values
-  points-there point value known =
-      let parts = and_parts (ltb point (length rows.points))
-      (same_kind (kind_of value.body) (point_of rows point).kind) known in
-      let there : point < length rows.points = ltb-true point (length rows.points) parts.0 in
-      let many : length (kinds_of rows) ≡ length rows.points =
-      length-map rows.points (λ (row : PointRow). row.kind) in
-      omega (arith, s.kept.points, many, there)
-
 pub IsCommon-new : (rows : CentreRows) (points : PointsStored) (found : ℕ → Option Key)
     → IsCentre rows → KeepsPoints (kinds_of rows) [] points → ((who : ℕ) → found who ≡ None)
     → IsCommon rows [] points found
@@ -435,13 +710,6 @@ IsCommon-new rows points found lawful kept none = record {
 }
 
 -- ---- what the calls of a node's parts require
-
--- a part that is there
-pub part_there : (peers : List Peer) (peer : ℕ) → peer < length peers
-    → (part : Peer) × (slice_get peers peer ≡ Some part)
-part_there [] peer there = absurd (omega (arith, there))
-part_there (part ∷ peers) peer there =
-    (get_or (part ∷ peers) peer part, slice_get-get_or (part ∷ peers) peer part there)
 
 module _ (rows : CentreRows) (past : Past) (peers : List Peer) (s : AreParts rows past peers) where
   pub IsPeerThere-of : IsCentre rows → (peer : ℕ) → peer < length rows.tables

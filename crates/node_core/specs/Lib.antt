@@ -3,9 +3,12 @@ pub mod LastValues
 pub mod SetsKept
 pub mod SlotsKept
 pub mod SlotWrites
+pub mod SlotFeeds
+pub mod Associations
 pub mod Found
 pub mod Shown
 pub mod CallSorts
 pub mod PeerParts
+pub mod PartFeeds
 pub mod Stored
 pub mod Room

@@ -1,14 +1,16 @@
 -- What a node keeps of one peer, and what a move that the peer sees makes of it.
 use Rattle.std.specs.Prelude.{◌≡◌, ℕ, ◌+◌, ◌-◌, ◌<◌, ◌≤◌, ◌==◌, nat_le, nat_lt, not, ◌&&◌, ◌||◌}
+use Rattle.std.specs.Prelude.{◌++◌}
 use Rattle.std.specs.Prelude.{if◌then◌else◌, List, [], ◌∷◌, length, filter_map, Option, Some, None}
-use Rattle.std.specs.Prelude.{Bool, is_some, map}
-use Rattle.std.specs.List.{list_all}
+use Rattle.std.specs.Prelude.{Bool, true, is_some, map}
+use Rattle.std.specs.List.{All, list_all}
 use Rattle.mms_data.specs.declared.object_name.Scope.TheVariants.{Domain}
 use Rattle.mms_data.specs.ObjectName.{ObjectName, IsIdentifier, same_scope}
 use Rattle.table_words.specs.Words.{is_identifier}
 use Rattle.data_sets.specs.declared.book.TheConstants.{MOST_MEMBERS}
 use Rattle.data_sets.specs.Books.{Book, members_in, defined}
 use Rattle.bilateral.specs.declared.rows.TheConstants.{SLOT_LIMIT}
+use Rattle.transfer_sets.specs.SlotMoves.{owner_in}
 use Rattle.transfer_sets.specs.Banks.{OwnedSlot, free_slots, freed}
 use Rattle.tase_views.specs.declared.reply.TheConstants.{ACCESS_ERRORS, ACCESS_DENIED}
 use Rattle.tase_views.specs.declared.reply.TheConstants.{DEFINITION_ERRORS, UNDEFINED, EXISTS}
@@ -20,15 +22,20 @@ use Rattle.tase_views.specs.declared.event.EventKind.TheVariants.{Request}
 use Rattle.tase_views.specs.declared.reply.ReplyKind.{ReplyKind}
 use Rattle.tase_views.specs.OwnTables.{OwnTable, OwnTables, table_in}
 use Rattle.tase_views.specs.Objects.{object_named, is_member}
-use Rattle.tase_views.specs.Moves.{Act, opens, closes, reads, writes, defines, deletes}
+use Rattle.tase_views.specs.Moves.{Act, opens, takes, closes, reads, writes, defines, deletes}
 use Rattle.tase_views.specs.Moves.{acts_of_call}
 use Rattle.tase_views.specs.Force.{TableMove, open_count, last_chosen}
 use Rattle.tase_views.specs.View.{Seen, own, chose, View, table_seen, force}
 use Rattle.tase_views.specs.Sets.{SetError, error_of}
+use Rattle.tase_views.specs.Slots.{slot_moves}
 use Rattle.tase_views.specs.Answers.{define_replied}
+use Rattle.tase_views.specs.Reports.{reports_pending}
 use Rattle.node_core.specs.declared.peer.Peer.{Peer}
 use Rattle.node_core.specs.SetsKept.{IsBook, left_behind}
 use Rattle.node_core.specs.SlotsKept.{IsBank, is_kept, slots_read, slots_written}
+use Rattle.node_core.specs.SlotFeeds.{no_plan}
+use Rattle.node_core.specs.Associations.{OpenAssociation, new_association, is_open_in}
+use Rattle.node_core.specs.Associations.{open_without, behind_take}
 
 -- what a view shows of the peer's table in force
 abbrev pub table_moves : View → List TableMove
@@ -40,8 +47,21 @@ opens_seen [] = 0
 opens_seen (own ordinal opens ∷ view) = opens_seen view + 1
 opens_seen (_ ∷ view) = opens_seen view
 
+-- Of the associations of a peer, of which so many are open and so many were opened, no more are
+-- kept than are open, and none that wasn't opened; each has the reports that the view makes for it;
+-- whoever owns a transfer set is among them; and nothing was made for one that isn't opened yet.
+pub record AreAssociations (tables : OwnTables) (view : View) (those : List OpenAssociation)
+    (now_open in_all : ℕ) : Type 0 where
+  pub fewer : length those ≤ now_open
+  pub opened : All (λ a. a.ordinal < in_all) those
+  pub made : All (λ a. a.made ≡ reports_pending tables view a.ordinal) those
+  pub owners : (s ordinal : ℕ) → owner_in (slot_moves tables view s) ≡ Some ordinal
+      → is_open_in ordinal those ≡ true
+  pub unopened : (ordinal : ℕ) → in_all ≤ ordinal → reports_pending tables view ordinal ≡ []
+
 -- A part has of its peer: the table in force, and that which was chosen last; how many associations
--- it has opened, and how many are open; its data sets, and its transfer sets. Both tables are there.
+-- it has opened, and how many are open; these, with their reports; its data sets, and its transfer
+-- sets. Both tables are there.
 pub record IsPart (tables : OwnTables) (view : View) (part : Peer) : Type 0 where
   pub in_force : part.variant ≡ force view
   pub last : part.chosen_last ≡ last_chosen (table_moves view)
@@ -50,6 +70,8 @@ pub record IsPart (tables : OwnTables) (view : View) (part : Peer) : Type 0 wher
   pub fewer : part.open_now ≤ part.opened_in_all
   pub force_there : part.variant < length tables.tables
   pub last_there : part.chosen_last < length tables.tables
+  pub open_ones : AreAssociations tables view part.associations part.open_now
+      part.opened_in_all
   pub sets : IsBook tables view part.book
   pub slots : IsBank tables view part.slots
 
@@ -64,8 +86,10 @@ new_part limit = record {
   chosen_last = 0;
   opened_in_all = 0;
   open_now = 0;
+  associations = [];
   book = no_sets limit;
   slots = free_slots SLOT_LIMIT;
+  plan = no_plan;
 }
 
 -- Where no association is open, the table that was chosen last comes into force. Another one than
@@ -101,11 +125,18 @@ kept_in table slots = is_kept table.domain table.slots slots
 
 -- a part behind one more move that its peer sees, at a moment
 abbrev pub part_after : OwnTables → ℕ → Seen → Peer → Peer
-part_after tables now (own ordinal opens) part =
-    record part { opened_in_all = part.opened_in_all + 1; open_now = part.open_now + 1 }
-part_after tables now (own ordinal closes) part =
-    settled tables
-    (record part { open_now = part.open_now - 1; slots = map (freed ordinal) part.slots })
+part_after tables now (own ordinal opens) part = record part {
+  opened_in_all = part.opened_in_all + 1;
+  open_now = part.open_now + 1;
+  associations = part.associations ++ new_association ordinal ∷ [];
+}
+part_after tables now (own ordinal closes) part = settled tables (record part {
+  open_now = part.open_now - 1;
+  associations = open_without ordinal part.associations;
+  slots = map (freed ordinal) part.slots;
+})
+part_after tables now (own ordinal takes) part =
+    record part { associations = map (behind_take ordinal) part.associations }
 part_after tables now (own ordinal (reads name)) part =
     record part { slots = slots_read (table_in tables part.variant) ordinal name part.slots }
 part_after tables now (own ordinal (writes name value)) part =

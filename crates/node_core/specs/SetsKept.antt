@@ -30,7 +30,8 @@ abbrev pub is_in_book : List ℕ → Book → ObjectName → Bool
 is_in_book domain book name =
     same_scope name.scope (Domain domain) && is_some (members_in book.sets name.item)
 
--- a book behind a deletion by a name: one of the domain takes its data set away, unless that is kept
+-- a book behind a deletion by a name: one of the domain takes its data set away, unless that is
+-- kept
 abbrev pub left_behind : (List ℕ → Bool) → List ℕ → Book → ObjectName → Book
 left_behind kept domain book name =
     if same_scope name.scope (Domain domain) && not (kept name.item)

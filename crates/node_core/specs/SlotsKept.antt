@@ -1,6 +1,8 @@
 -- What a node keeps of the transfer sets of a peer.
-use Rattle.std.specs.Prelude.{◌≡◌, ℕ, ◌<◌, ◌++◌, ◌&&◌, if◌then◌else◌, Bool, List, [], ◌∷◌, length, find}
-use Rattle.std.specs.Prelude.{Option, Some, None, is_none, slice_set, bytes_eq, Result, Ok, Err}
+use Rattle.std.specs.Prelude.{◌≡◌, ℕ, ◌<◌, ◌++◌, ◌&&◌, if◌then◌else◌, Bool, true, false, List, []}
+use Rattle.std.specs.Prelude.{◌∷◌, length, find}
+use Rattle.std.specs.Prelude.{Option, Some, None, is_none, is_some, slice_set, bytes_eq, Result, Ok}
+use Rattle.std.specs.Prelude.{Err}
 use Rattle.std.specs.List.{All, range_with_len, list_any}
 use Rattle.std.specs.Option.{option_map_or}
 use Rattle.bilateral.specs.declared.rows.TheConstants.{SLOT_LIMIT}
@@ -10,23 +12,35 @@ use Rattle.mms_data.specs.declared.outcome.Outcome.TheVariants.{Good, Fail}
 use Rattle.mms_data.specs.ObjectName.{ObjectName}
 use Rattle.data_sets.specs.Books.{Book, members_in}
 use Rattle.transfer_sets.specs.declared.wish.Wish.{Wish}
-use Rattle.transfer_sets.specs.SlotMoves.{owner_in, last_wish}
+use Rattle.transfer_sets.specs.SlotState.{IsSlotLike}
+use Rattle.transfer_sets.specs.SlotMoves.{owner_in}
 use Rattle.transfer_sets.specs.WishData.{shown_wish}
 use Rattle.transfer_sets.specs.Banks.{OwnedSlot, slot_at, handed_slot, is_owned_by, with_wish}
 use Rattle.tase_views.specs.OwnTables.{OwnTable, OwnTables}
 use Rattle.tase_views.specs.declared.reply.TheConstants.{OBJECT_ACCESS_DENIED}
 use Rattle.tase_views.specs.Objects.{Object, next_transfer_set, transfer_set, transfer_set_status}
 use Rattle.tase_views.specs.Objects.{object_named}
-use Rattle.tase_views.specs.View.{View}
-use Rattle.tase_views.specs.Slots.{slot_of, is_next_slot, wish_asked, taken, slot_moves}
+use Rattle.tase_views.specs.View.{View, held}
+use Rattle.tase_views.specs.Slots.{slot_of, is_next_slot, wish_asked, taken, slot_moves, sets_in}
+use Rattle.tase_views.specs.Slots.{wished_members}
+use Rattle.tase_views.specs.Reports.{slot_state}
 use Rattle.tase_views.specs.Answers.{temporarily_unavailable, slot_name, object_read}
 
--- a bank has of each transfer set the owner and the wish that the view of a peer with these tables
--- shows; there is one for each that a table may offer
+-- A bank has of each transfer set the owner that the view of a peer with these tables shows, and it
+-- stands where its moves have brought it; there is one for each that a table may offer. What nobody
+-- owns isn't enabled, what somebody owns is offered by the table in force, and the data set of an
+-- enabled one is there.
 pub record IsBank (tables : OwnTables) (view : View) (slots : List OwnedSlot) : Type 0 where
   pub many : length slots ≡ SLOT_LIMIT
   pub owner : (s : ℕ) → (slot_at slots s).owner ≡ owner_in (slot_moves tables view s)
-  pub wish : (s : ℕ) → (slot_at slots s).state.wish ≡ (last_wish (slot_moves tables view s)).0
+  pub state : (s : ℕ) → IsSlotLike (slot_at slots s).state (slot_state tables view s)
+  pub idle : (s : ℕ) → (slot_at slots s).owner ≡ None
+      → (slot_at slots s).state.wish.status ≡ false
+  pub within : (s ordinal : ℕ) → (slot_at slots s).owner ≡ Some ordinal
+      → s < (held tables view).slots
+  pub set_there : (s : ℕ) → (slot_at slots s).state.wish.status ≡ true
+      → is_some (wished_members (held tables view) (sets_in tables view)
+      (slot_at slots s).state.wish) ≡ true
 
 -- what its owner, and nobody else, reads of a transfer set
 abbrev pub shown_to : ℕ → OwnedSlot → Datum → Outcome

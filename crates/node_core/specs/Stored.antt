@@ -1,6 +1,6 @@
 -- What a node keeps beside its history, so that no step looks through it.
 use Rattle.std.specs.Prelude.{◌≡◌, ℕ, ◌+◌, ◌^◌, ◌<◌, ◌≤◌, List, length, Option, Some, slice_get}
-use Rattle.std.specs.Prelude.{slice_set, nat_eq}
+use Rattle.std.specs.Prelude.{slice_set, nat_eq, true}
 use Rattle.std.specs.HashMap.{get}
 use Rattle.point_db.specs.Stored.{Stored as PointsStored, Keeps as KeepsPoints}
 use Rattle.bilateral.specs.declared.rows.TheConstants.{SLOT_LIMIT}
@@ -19,7 +19,9 @@ use Rattle.node_core.specs.declared.hub.Hub.{Hub}
 use Rattle.node_core.specs.declared.parts.Parts.{Parts}
 use Rattle.node_core.specs.declared.peer.Peer.{Peer}
 use Rattle.node_core.specs.LastValues.{kinds_of, updates_in}
-use Rattle.node_core.specs.Shown.{IsCalm}
+use Rattle.node_core.specs.Shown.{IsCalm, IsShowable, shown_of}
+use Rattle.node_core.specs.SlotFeeds.{HasPlanRoom}
+use Rattle.node_core.specs.Associations.{is_open_in}
 use Rattle.node_core.specs.PeerParts.{IsPart, part_behind}
 
 -- the centre is lawful; the points, and each seat's association, are those of this past
@@ -34,11 +36,13 @@ pub record IsCommon (rows : CentreRows) (past : Past) (points : PointsStored)
 abbrev pub found_by : Hub → ℕ → Option Key
 found_by hub who = get nat_eq hub.seats who
 
--- each peer has a part, which is that of its view of this past
+-- each peer has a part, which is that of its view of this past, with the associations of the seats
 pub record AreParts (rows : CentreRows) (past : Past) (peers : List Peer) : Type 0 where
   pub many : length peers ≡ length rows.tables
   pub each : (peer : ℕ) (part : Peer) → slice_get peers peer ≡ Some part
       → IsPart (own_tables rows peer) (view_of rows peer past) part
+  pub seated : (who : ℕ) (key : Key) (part : Peer) → association_in past who ≡ Some key
+      → slice_get peers key.peer ≡ Some part → is_open_in key.ordinal part.associations ≡ true
 
 -- what a node with this past keeps
 pub record IsNode (rows : CentreRows) (past : Past) (hub : Hub) (parts : Parts) : Type 0 where
@@ -57,6 +61,25 @@ pub record IsPeerThere (rows : CentreRows) (peers : List Peer) (peer : ℕ) : Ty
   pub few : (part : Peer) → slice_get peers peer ≡ Some part
       → (table_in (own_tables rows peer) part.variant).slots ≤ length part.slots
   pub slots : (part : Peer) → slice_get peers peer ≡ Some part → length part.slots ≡ SLOT_LIMIT
+
+-- a peer is there, and what is kept of it can be shown
+pub record IsPeerShown (rows : CentreRows) (points : PointsStored) (peers : List Peer)
+    (peer : ℕ) : Type 0 where
+  pub lawful : IsCentre rows
+  pub there : IsPeerThere rows peers peer
+  pub shown : (part : Peer) → slice_get peers peer ≡ Some part
+      → IsShowable (shown_of rows peer part points)
+
+-- it has as many transfer sets as a table may offer
+pub record IsPeerBanked (peers : List Peer) (peer : ℕ) : Type 0 where
+  pub there : peer < length peers
+  pub many : (part : Peer) → slice_get peers peer ≡ Some part
+      → length part.slots ≡ SLOT_LIMIT
+
+-- and room for what is planned
+abbrev pub HasPeerRoom : List Peer → ℕ → Type 0
+HasPeerRoom peers peer = (part : Peer) → slice_get peers peer ≡ Some part
+    → HasPlanRoom part.plan part.slots
 
 -- a peer may open one more association, as far as numbers of 64 bits go
 abbrev pub MayOpen : List Peer → ℕ → Type 0

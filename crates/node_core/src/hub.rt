@@ -3,7 +3,8 @@ ghost use Rattle.std.specs.Prelude.{◌≡◌, ◌+◌, ◌^◌, ◌<◌, ◌==�
 ghost use Rattle.std.specs.Prelude.{length, Some, None, is_some, true, IfOk, OnOk, OnErr};
 ghost use Rattle.std.specs.HashMap.{hash_map_len};
 ghost use Rattle.tase_points.specs.declared.kind.Kind.{Kind as PointKind};
-ghost use Rattle.point_db.specs.Updates.{Updates};
+ghost use Rattle.tase_points.specs.Values.{is_change};
+ghost use Rattle.point_db.specs.Updates.{Updates, last_value};
 ghost use Rattle.point_db.specs.Stored.{Keeps};
 ghost use Rattle.node_core.specs.LastValues.{kinds_of};
 ghost use Rattle.node_core.specs.Stored.{found_by};
@@ -99,15 +100,19 @@ impl Hub {
         self.seats.remove(&who);
     }
 
-    /// A point has a new value.
-    pub fn update(&mut self, point: u32, value: PointValue)
+    /// A point has a new value. Says whether it is a change: another body or other flags.
+    pub fn update(&mut self, point: u32, value: PointValue) -> bool
         requires known { point < length self.old.points.values }
         ensures kept { (kinds : List PointKind) (past : Updates) → Keeps kinds past self.old.points
             → Keeps kinds (record { point = point; value = value } ∷ past) self.new.points }
+        ensures changed { (kinds : List PointKind) (past : Updates)
+            → Keeps kinds past self.old.points
+            → result ≡ is_change (last_value kinds past point) value }
+        ensures points { length self.new.points.values ≡ length self.old.points.values }
         ensures seats { self.new.seats ≡ self.old.seats }
         ensures clock { self.new.last_tick ≡ self.old.last_tick }
     {
-        self.points.update(point, value);
+        self.points.update(point, value)
     }
 
     /// The clock stands at a moment.

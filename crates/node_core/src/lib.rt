@@ -1,6 +1,8 @@
 //! One step of a TASE.2 node: from an event to its answer and one more entry in the history.
 #![tactic(auto)]
 
+mod associations;
+mod cause;
 mod draft;
 mod hub;
 mod in_force;
@@ -10,8 +12,10 @@ mod naming;
 mod node;
 mod parts;
 mod peer;
+mod plan;
 mod refusals;
 mod replies;
+mod reports;
 mod sets;
 mod sorts;
 mod writes;

@@ -19,12 +19,13 @@ ghost use Rattle.node_core.specs.Shown.{IsCalm};
 ghost use Rattle.node_core.specs.CallSorts.{IsRequestOf};
 ghost use Rattle.node_core.specs.Stored.{IsCalmRequest, IsReplied};
 
+use crate::cause::ReportCause;
 use crate::hub::Hub;
 use crate::in_force::InForce;
 use crate::log::Log;
-use crate::parts::Parts;
+use crate::parts::{Parts, peer_view};
 use crate::refusals::{clock_refusal, first_refusal, name_refusal, seat_refusal};
-use crate::replies::{ReadReply, peer_view};
+use crate::replies::ReadReply;
 use crate::sorts::{CallSort, sort_of};
 use crate::writes::{read_writes, written};
 use bilateral::Centre;
@@ -33,9 +34,7 @@ use std::alloc::{AllocError, Global};
 use std::marker::Model;
 use std::sync::Arc;
 use tase_points::PointValue;
-use tase_views::{
-    Answer, Call, CallKind, Entry, Event, EventKind, Reply, ReplyKind, Reports, StepFault,
-};
+use tase_views::{Answer, Call, CallKind, Entry, Event, EventKind, Reply, ReplyKind, StepFault};
 
 /// A TASE.2 node without input and output: its centre's tables and the history of its accepted
 /// events.
@@ -182,16 +181,13 @@ impl Node {
         match event.kind() {
             EventKind::Open { peer } => {
                 let peer = *peer;
-                self.open(who, peer, event)
+                self.open(alloc, who, peer, event)
             }
             EventKind::Request { call } => {
                 let call = sort_of(call);
                 self.request(alloc, who, call, event)
             }
-            EventKind::Take => {
-                self.take(who, event)?;
-                Ok(Answer::Reports(Reports::new(alloc)))
-            }
+            EventKind::Take => self.take(alloc, who, event),
             EventKind::Close => {
                 self.close(alloc, who, event);
                 Ok(Answer::Closed)
@@ -208,12 +204,12 @@ impl Node {
             }
             EventKind::Tick { now } => {
                 let now = *now;
-                self.tick(who, now, event)
+                self.tick(alloc, who, now, event)
             }
             EventKind::Ask { peer, slot } => {
                 let peer = *peer;
                 let slot = *slot;
-                self.ask(who, peer, slot, event)
+                self.ask(alloc, who, peer, slot, event)
             }
             EventKind::Stop => {
                 self.stop(who, event);
@@ -222,7 +218,13 @@ impl Node {
         }
     }
 
-    fn open(&mut self, who: u64, peer: u32, event: Event) -> Result<Answer, AllocError>
+    fn open(
+        &mut self,
+        alloc: Global,
+        who: u64,
+        peer: u32,
+        event: Event,
+    ) -> Result<Answer, AllocError>
         requires open { event ≡ Open peer }
         requires free { refusal_of self.old.setup (reverse self.old.history) who event ≡ None }
         ensures answer { IfOk result
@@ -233,9 +235,16 @@ impl Node {
         self.log.reserve(self.hub.open_count() + 1)?;
         let key = self.parts.next_key(peer);
         self.hub.seat(who, key)?;
-        self.parts.open(peer);
-        self.log.append(who, event);
-        Ok(Answer::Opened { key })
+        match self.parts.open(alloc, peer) {
+            Ok(()) => {
+                self.log.append(who, event);
+                Ok(Answer::Opened { key })
+            }
+            Err(error) => {
+                self.hub.unseat(who);
+                Err(error)
+            }
+        }
     }
 
     fn update(
@@ -253,7 +262,11 @@ impl Node {
         ensures err { OnErr result (self.new ≡ self.old) }
     {
         self.log.reserve(self.hub.open_count())?;
-        self.hub.update(point, value);
+        self.parts.prepare_all(&self.centre, point)?;
+        let changed = self.hub.update(point, value);
+        let count = self.hub.points().cov(point);
+        self.parts
+            .note_all(&self.centre, changed, self.hub.last_tick(), value, count);
         self.log.append(who, event);
         Ok(Answer::Noted)
     }
@@ -279,7 +292,14 @@ impl Node {
         Ok(Answer::Noted)
     }
 
-    fn tick(&mut self, who: u64, now: u64, event: Event) -> Result<Answer, AllocError>
+    /// Takes a tick of the clock: what is due is reported.
+    fn tick(
+        &mut self,
+        alloc: Global,
+        who: u64,
+        now: u64,
+        event: Event,
+    ) -> Result<Answer, AllocError>
         requires tick { event ≡ Tick now }
         requires free { refusal_of self.old.setup (reverse self.old.history) who event ≡ None }
         ensures answer { IfOk result
@@ -287,15 +307,28 @@ impl Node {
         ensures ok { OnOk result (self.new ≡ with_entry self.old who event) }
         ensures err { OnErr result (self.new ≡ self.old) }
     {
+        let cause = ReportCause::Tick {
+            from: self.hub.last_tick(),
+            to: now,
+        };
         self.log.reserve(self.hub.open_count())?;
+        self.parts
+            .draft_all(alloc, &self.centre, self.hub.points(), cause)?;
+        self.parts.report_all(&self.centre, cause);
         self.hub.tick(now);
         self.log.append(who, event);
         Ok(Answer::Noted)
     }
 
-    /// Adds a request of the operator to the history. The node offers no transfer sets, so it makes
-    /// no report.
-    fn ask(&mut self, who: u64, peer: u32, slot: u32, event: Event) -> Result<Answer, AllocError>
+    /// Takes a request of the operator for a report of a transfer set.
+    fn ask(
+        &mut self,
+        alloc: Global,
+        who: u64,
+        peer: u32,
+        slot: u32,
+        event: Event,
+    ) -> Result<Answer, AllocError>
         requires ask { event ≡ Ask peer slot }
         requires free { refusal_of self.old.setup (reverse self.old.history) who event ≡ None }
         ensures answer { IfOk result
@@ -303,7 +336,14 @@ impl Node {
         ensures ok { OnOk result (self.new ≡ with_entry self.old who event) }
         ensures err { OnErr result (self.new ≡ self.old) }
     {
+        let cause = ReportCause::Ask {
+            slot,
+            now: self.hub.last_tick(),
+        };
         self.log.reserve(self.hub.open_count())?;
+        self.parts
+            .draft(alloc, &self.centre, self.hub.points(), peer, cause)?;
+        self.parts.report(peer, cause);
         self.log.append(who, event);
         Ok(Answer::Noted)
     }
@@ -423,15 +463,20 @@ impl Node {
         Ok(())
     }
 
-    fn take(&mut self, who: u64, event: Event) -> Result<(), AllocError>
+    /// Takes a take of the reports that were made for the association.
+    fn take(&mut self, alloc: Global, who: u64, event: Event) -> Result<Answer, AllocError>
         requires take { event ≡ Take }
         requires free { refusal_of self.old.setup (reverse self.old.history) who event ≡ None }
+        ensures answer { IfOk result
+            (IsAnswer self.old.setup (reverse self.old.history) who event) }
         ensures ok { OnOk result (self.new ≡ with_entry self.old who event) }
         ensures err { OnErr result (self.new ≡ self.old) }
     {
+        let key = self.hub.association(who).unwrap();
         self.log.reserve(self.hub.open_count())?;
+        let reports = self.parts.take(alloc, key);
         self.log.append(who, event);
-        Ok(())
+        Ok(Answer::Reports(reports))
     }
 
     fn close(&mut self, alloc: Global, who: u64, event: Event)

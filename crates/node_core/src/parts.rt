@@ -1,28 +1,39 @@
 //! What a node keeps of its peers.
 ghost use Rattle.std.specs.Prelude.{◌≡◌, ◌<◌, ◌≤◌, ◌+◌, ◌++◌, ℕ, [], ◌∷◌, map, length, Some};
 ghost use Rattle.std.specs.Prelude.{slice_get, vec_len, vec_capacity, IfOk, OnOk, OnErr};
+ghost use Rattle.std.specs.Prelude.{true, false};
 ghost use Rattle.std.specs.List.{All};
 ghost use Rattle.bilateral.specs.declared.rows.TheConstants.{SLOT_LIMIT};
 ghost use Rattle.bilateral.specs.Rows.{CentreRows, IsCentre, variants_of};
 ghost use Rattle.tase_views.specs.declared.call.CallKind.{CallKind as AnyCall};
-ghost use Rattle.tase_views.specs.Moves.{acts_of_call, opens, closes, defines};
+ghost use Rattle.tase_views.specs.Moves.{acts_of_call, opens, takes, closes, defines};
 ghost use Rattle.tase_views.specs.OwnTables.{OwnTables, own_tables, table_in};
 ghost use Rattle.tase_views.specs.View.{own, chose};
+ghost use Rattle.node_core.specs.declared.peer.Peer.{Peer as AnyPeer};
+ghost use Rattle.node_core.specs.Associations.{made_last};
 ghost use Rattle.node_core.specs.PeerParts.{new_part, part_after, EachAct, IsLawfulAct};
 ghost use Rattle.node_core.specs.PeerParts.{IsReplyTo, IsReplyBy, acts_asked};
-ghost use Rattle.node_core.specs.Shown.{IsCalm};
+ghost use Rattle.node_core.specs.Shown.{IsCalm, IsShowable, shown_of};
 ghost use Rattle.node_core.specs.SlotsKept.{handed_all, AreSlots};
 ghost use Rattle.node_core.specs.SlotWrites.{IsAskedThere, all_answers, all_slots};
 ghost use Rattle.node_core.specs.Stored.{IsPeerThere, MayOpen, IsChanged, IsAsked, IsCalmRequest};
+ghost use Rattle.node_core.specs.Stored.{IsPeerShown, IsPeerBanked, HasPeerRoom};
+ghost use Rattle.node_core.specs.PartFeeds.{IsAlike, IsDrafted, IsReported, IsReady, IsNoted};
+ghost use Rattle.node_core.specs.PartFeeds.{OneBecomes, EachBecomes};
 
+use crate::cause::ReportCause;
+use crate::in_force::InForce;
 use crate::peer::Peer;
+use crate::replies::PeerView;
 use crate::sets::is_defined;
 use crate::writes::Asked;
 use bilateral::Centre;
 use mms_data::{Name, Names};
+use point_db::PointDb;
 use sbo_device::Key;
 use std::alloc::{AllocError, Global};
-use tase_views::{Call, CallKind, Event, EventKind, ReplyKind};
+use tase_points::PointValue;
+use tase_views::{Call, CallKind, Event, EventKind, ReplyKind, Reports};
 
 /// The part of each peer, by its number.
 #[derive(Drop)]
@@ -73,14 +84,18 @@ impl Parts {
         &self.peers[peer as usize]
     }
 
-    /// A peer opens an association.
-    pub fn open(&mut self, peer: u32)
+    /// A peer opens an association. After want of memory nothing has changed.
+    pub fn open(&mut self, alloc: Global, peer: u32) -> Result<(), AllocError>
         requires known { peer < vec_len self.old.peers }
         requires room { MayOpen self.old.peers.items peer }
-        ensures { (tables : OwnTables) (now ordinal : ℕ) → IsChanged self.old.peers.items peer
-            (part_after tables now (own ordinal opens)) self.new.peers.items }
+        ensures ok { OnOk result ((tables : OwnTables) (now : ℕ) → IsChanged
+            self.old.peers.items peer
+            (λ part. part_after tables now (own part.opened_in_all opens) part)
+            self.new.peers.items) }
+        ensures err { OnErr result (self.new.peers.items ≡ self.old.peers.items) }
     {
-        self.peers[peer as usize].open();
+        self.peers[peer as usize].open(alloc)?;
+        Ok(())
     }
 
     /// An association of a peer is closed.
@@ -225,4 +240,167 @@ impl Parts {
         let domain = &centre.variant(key.peer, self.peers[place].variant).domain;
         self.peers[place].write(domain, key.ordinal, now, asked, results);
     }
+
+    /// Hands the reports out that were made for an association since its last take. It takes no
+    /// memory.
+    pub fn take(&mut self, alloc: Global, key: Key) -> Reports
+        requires { key.peer < vec_len self.old.peers }
+        ensures made { (part : AnyPeer) → slice_get self.old.peers.items key.peer ≡ Some part
+            → result ≡ made_last key.ordinal part.associations [] }
+        ensures left { (tables : OwnTables) (now : ℕ) → IsChanged self.old.peers.items key.peer
+            (part_after tables now (own key.ordinal takes)) self.new.peers.items }
+    {
+        self.peers[key.peer as usize].take(alloc, key.ordinal)
+    }
+
+    /// Drafts for each association of a peer the reports that a cause makes.
+    pub fn draft(
+        &mut self,
+        alloc: Global,
+        centre: &Centre,
+        points: &PointDb,
+        peer: u32,
+        cause: ReportCause,
+    ) -> Result<(), AllocError>
+        requires { IsPeerShown centre.now points.now self.old.peers.items peer }
+        ensures alike { OneBecomes IsAlike peer self.old.peers.items self.new.peers.items }
+        ensures ok { OnOk result (OneBecomes
+            (λ part after. IsDrafted centre.now peer points.now cause after) peer
+            self.old.peers.items self.new.peers.items) }
+    {
+        self.peers[peer as usize].draft(alloc, centre, peer, points, cause)?;
+        Ok(())
+    }
+
+    /// Drafts for each association of each peer the reports that a cause makes.
+    pub fn draft_all(
+        &mut self,
+        alloc: Global,
+        centre: &Centre,
+        points: &PointDb,
+        cause: ReportCause,
+    ) -> Result<(), AllocError>
+        requires few { length self.old.peers.items ≡ length centre.now.tables }
+        requires shown { (peer : ℕ) → peer < length self.old.peers.items
+            → IsPeerShown centre.now points.now self.old.peers.items peer }
+        ensures alike { EachBecomes (λ peer. IsAlike) self.old.peers.items
+            self.new.peers.items }
+        ensures ok { OnOk result (EachBecomes
+            (λ peer part after. IsDrafted centre.now peer points.now cause after)
+            self.old.peers.items self.new.peers.items) }
+    {
+        for peer in 0..centre.peers() {
+            self.draft(alloc, centre, points, peer, cause)?;
+        }
+        Ok(())
+    }
+
+    /// Notes the reports of a peer that were drafted. It takes no memory.
+    pub fn report(&mut self, peer: u32, cause: ReportCause)
+        requires { IsPeerBanked self.old.peers.items peer }
+        ensures { OneBecomes (IsReported cause) peer self.old.peers.items self.new.peers.items }
+    {
+        self.peers[peer as usize].report(cause);
+    }
+
+    /// Notes the reports of all peers that were drafted. It takes no memory.
+    pub fn report_all(&mut self, centre: &Centre, cause: ReportCause)
+        requires few { length self.old.peers.items ≡ length centre.now.tables }
+        requires banked { (peer : ℕ) → peer < length self.old.peers.items
+            → IsPeerBanked self.old.peers.items peer }
+        ensures { EachBecomes (λ peer. IsReported cause) self.old.peers.items
+            self.new.peers.items }
+    {
+        for peer in 0..centre.peers() {
+            self.report(peer, cause);
+        }
+    }
+
+    /// Plans a change of a point in the transfer sets of a peer.
+    fn prepare(&mut self, centre: &Centre, peer: u32, point: u32) -> Result<(), AllocError>
+        requires there { IsPeerThere centre.now self.old.peers.items peer }
+        requires lawful { IsCentre centre.now }
+        requires known { point < length centre.now.points }
+        ensures alike { OneBecomes IsAlike peer self.old.peers.items self.new.peers.items }
+        ensures ok { OnOk result (OneBecomes (λ part after. IsReady centre.now peer point after)
+            peer self.old.peers.items self.new.peers.items) }
+    {
+        self.peers[peer as usize].prepare(centre, peer, point)?;
+        Ok(())
+    }
+
+    /// Plans a change of a point in the transfer sets of all peers.
+    pub fn prepare_all(&mut self, centre: &Centre, point: u32) -> Result<(), AllocError>
+        requires few { length self.old.peers.items ≡ length centre.now.tables }
+        requires there { (peer : ℕ) → peer < length self.old.peers.items
+            → IsPeerThere centre.now self.old.peers.items peer }
+        requires lawful { IsCentre centre.now }
+        requires known { point < length centre.now.points }
+        ensures alike { EachBecomes (λ peer. IsAlike) self.old.peers.items
+            self.new.peers.items }
+        ensures ok { OnOk result (EachBecomes
+            (λ peer part after. IsReady centre.now peer point after)
+            self.old.peers.items self.new.peers.items) }
+    {
+        for peer in 0..centre.peers() {
+            self.prepare(centre, peer, point)?;
+        }
+        Ok(())
+    }
+
+    /// Notes a change of a point in the transfer sets of a peer, as it was planned.
+    fn note(&mut self, peer: u32, now: u64, value: PointValue, cov: u16)
+        requires banked { IsPeerBanked self.old.peers.items peer }
+        requires room { HasPeerRoom self.old.peers.items peer }
+        ensures { OneBecomes (IsNoted now value cov) peer self.old.peers.items
+            self.new.peers.items }
+    {
+        self.peers[peer as usize].note(now, value, cov);
+    }
+
+    /// Notes a change of a point at this moment in the transfer sets of all peers, as it was
+    /// planned; nothing, where the point hasn't changed. It takes no memory.
+    pub fn note_all(
+        &mut self,
+        centre: &Centre,
+        changed: bool,
+        now: u64,
+        value: PointValue,
+        cov: u16,
+    )
+        requires few { length self.old.peers.items ≡ length centre.now.tables }
+        requires banked { (peer : ℕ) → peer < length self.old.peers.items
+            → IsPeerBanked self.old.peers.items peer }
+        requires room { (peer : ℕ) → peer < length self.old.peers.items
+            → HasPeerRoom self.old.peers.items peer }
+        ensures changed { changed ≡ true → EachBecomes (λ peer. IsNoted now value cov)
+            self.old.peers.items self.new.peers.items }
+        ensures same { changed ≡ false → self.new.peers.items ≡ self.old.peers.items }
+    {
+        if !changed {
+            return;
+        }
+        for peer in 0..centre.peers() {
+            self.note(peer, now, value, cov);
+        }
+    }
+}
+
+/// What a peer is answered from, by what is kept of it.
+pub fn peer_view<'a>(
+    centre: &'a Centre,
+    parts: &'a Parts,
+    points: &'a PointDb,
+    peer: u32,
+) -> PeerView<'a>
+    requires lawful { IsCentre centre.now }
+    requires there { IsPeerThere centre.now parts.now.peers.items peer }
+    requires shown { (part : AnyPeer) → slice_get parts.now.peers.items peer ≡ Some part
+        → IsShowable (shown_of centre.now peer part points.now) }
+    ensures { (part : AnyPeer) → slice_get parts.now.peers.items peer ≡ Some part
+        → result ≡ shown_of centre.now peer part points.now }
+{
+    let part = parts.part(peer);
+    let table = InForce::new(centre, peer, part.variant);
+    PeerView::new(table, &part.book, &part.slots, points)
 }

@@ -5,6 +5,7 @@ ghost use Rattle.std.specs.List.{All};
 ghost use Rattle.std.specs.Option.{option_map_or};
 ghost use Rattle.mms_data.specs.Datum.{boolean};
 ghost use Rattle.mms_data.specs.Lawful.{IsLawful};
+ghost use Rattle.mms_data.specs.ObjectName.{IsIdentifier};
 ghost use Rattle.mms_data.specs.declared.outcome.Outcome.TheVariants.{Good, Fail};
 ghost use Rattle.mms_data.specs.OutcomeOctets.{IsLawfulOutcome};
 ghost use Rattle.bilateral.specs.declared.rows.TheConstants.{SLOT_LIMIT};
@@ -22,18 +23,15 @@ ghost use Rattle.node_core.specs.Found.{offered, special_object};
 ghost use Rattle.node_core.specs.SlotsKept.{first_free, handed_by, slots_read, all_read, shown_to};
 ghost use Rattle.node_core.specs.SlotsKept.{object_shown, outcomes_shown, drafted, HasDrafted};
 ghost use Rattle.node_core.specs.SlotsKept.{HandsOut};
-ghost use Rattle.node_core.specs.declared.peer.Peer.{Peer as PeerPart};
-ghost use Rattle.node_core.specs.Shown.{InEachView, IsShowable, shown_of, IsCalm};
-ghost use Rattle.node_core.specs.Stored.{IsPeerThere};
+ghost use Rattle.node_core.specs.Shown.{InEachView, IsShowable, IsCalm};
 
 use crate::draft::Draft;
 use crate::in_force::InForce;
 use crate::listing::list_names;
 use crate::naming::{Found, Special, find_object, slot_item};
-use crate::parts::Parts;
 use crate::sets::{define_reply, delete_reply, find_set, members_reply};
 use ber_values::{BitString, Visible};
-use bilateral::{Centre, See, Table};
+use bilateral::{See, Table};
 use data_sets::SetBook;
 use mms_data::{DataKind, DataList, MmsData, Name, Names, Outcome, Scope};
 use point_data::to_data;
@@ -106,6 +104,29 @@ impl<'a> PeerView<'a> {
             slots,
             points,
         }
+    }
+
+    /// The peer's table in force.
+    pub fn table(&self) -> &InForce<'a>
+        ensures { result.now ≡ self.now.table }
+    {
+        &self.table
+    }
+
+    /// The peer's data sets.
+    pub fn book(&self) -> &SetBook
+        ensures value { result.now ≡ self.now.book }
+        ensures named { All (λ set. IsIdentifier set.name) self.now.book.sets }
+    {
+        self.book
+    }
+
+    /// The peer's transfer sets.
+    pub fn slots(&self) -> &SlotBank
+        ensures value { result.now ≡ self.now.slots }
+        ensures many { length self.now.slots ≡ SLOT_LIMIT }
+    {
+        self.slots
     }
 
     /// The reply to a call of an association of the peer, but for a read and a write of variables,
@@ -287,7 +308,7 @@ impl<'a> PeerView<'a> {
     }
 
     /// A row's point as it stands.
-    fn read_point(&self, alloc: Global, see: &See) -> Result<Outcome, AllocError>
+    pub fn read_point(&self, alloc: Global, see: &See) -> Result<Outcome, AllocError>
         requires { is_some (place_of_see self.now.table.table see.now.point) ≡ true }
         ensures value { IfOk result (λ outcome. InEachView self.now (λ tables view.
             outcome ≡ answers.outcome_of_point view (own_point self.now.table.rows see.now))) }
@@ -306,25 +327,6 @@ impl<'a> PeerView<'a> {
 pub struct ReadReply {
     pub reply: Reply,
     pub handed: Vec<u32>,
-}
-
-/// What a peer is answered from, by what is kept of it.
-pub fn peer_view<'a>(
-    centre: &'a Centre,
-    parts: &'a Parts,
-    points: &'a PointDb,
-    peer: u32,
-) -> PeerView<'a>
-    requires lawful { IsCentre centre.now }
-    requires there { IsPeerThere centre.now parts.now.peers.items peer }
-    requires shown { (part : PeerPart) → slice_get parts.now.peers.items peer ≡ Some part
-        → IsShowable (shown_of centre.now peer part points.now) }
-    ensures { (part : PeerPart) → slice_get parts.now.peers.items peer ≡ Some part
-        → result ≡ shown_of centre.now peer part points.now }
-{
-    let part = parts.part(peer);
-    let table = InForce::new(centre, peer, part.variant);
-    PeerView::new(table, &part.book, &part.slots, points)
 }
 
 /// What an object of the protocol itself gives a read, for a peer whose table has this identifier.
@@ -391,7 +393,7 @@ fn read_status(draft: &Draft<'_>, slot: u32) -> Outcome
 }
 
 /// The name of a transfer set of a domain as data: scope, domain, item.
-fn slot_name(alloc: Global, domain: &Visible, slot: u32) -> Result<MmsData, AllocError>
+pub fn slot_name(alloc: Global, domain: &Visible, slot: u32) -> Result<MmsData, AllocError>
     requires { slot < SLOT_LIMIT }
     ensures value { (own : OwnTable) → own.domain ≡ domain.now
         → IfOk result (λ name. name ≡ answers.slot_name own slot) }

@@ -140,9 +140,9 @@ pub fn members_reply(domain: &Visible, book: &SetBook, set: &Name) -> Result<Rep
 }
 
 /// The reply to a deletion (ISO 9506-2, `DeleteNamedVariableList`). A name is matched if it is that
-/// of a data set which is there behind the deletions by the names before it, and this one is deleted
-/// unless an enabled one of the first so many transfer sets wishes it. There is no memory for more
-/// names than a reply can count.
+/// of a data set which is there behind the deletions by the names before it, and this one is
+/// deleted unless an enabled one of the first so many transfer sets wishes it. There is no memory
+/// for more names than a reply can count.
 pub fn delete_reply(
     domain: &Visible,
     book: &SetBook,

@@ -18,6 +18,8 @@ use Rattle.node_core.specs.Found.{offered}
 use Rattle.node_core.proofs.Listed.{variables-named, domain-named, sets-named, listed_in_force}
 use Rattle.node_core.proofs.Listed.{listed_variables, listed_domain, listed_nothing, listed_sets}
 use Rattle.node_core.proofs.listing.list_names.Goals as goal
+use Rattle.node_core.proofs.listing.list_names.Goals.{}
+use Rattle.node_core.proofs.listing.list_names.Goals.{}
 use Rattle.node_core.proofs.listing.list_names.Goals.{else-is_class-2-via-then-is_class-2+else-is_vmd}
 use Rattle.node_core.proofs.listing.list_names.Goals.{else-is_class-2-via-else-is_class-2}
 

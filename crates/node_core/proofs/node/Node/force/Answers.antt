@@ -2,7 +2,6 @@ use Rattle.std.proofs.Common.{◌<◌, length, subst, arith, ◌∙◌}
 use Rattle.std.specs.Arc.{arc_value}
 use Rattle.bilateral.specs.Rows.{variants_of}
 use Rattle.node_core.specs.NodeState.{NodeState}
-use Rattle.node_core.specs.Room.{past_of}
 use Rattle.node_core.proofs.NodeSteps.{its_part, peer_there}
 use Rattle.node_core.proofs.node.Node.force.Goals as goal
 
@@ -16,18 +15,15 @@ pub returns-clause-force : goal.returns-clause-force
 returns-clause-force c =
     let known : c.args.peer < length (arc_value c.self.inside.centre).tables =
     rw (← c.self.view_is) at c.requires in
-    let part = its_part (arc_value c.self.inside.centre) (past_of c.self.inside.log)
-    c.self.inside.hub c.self.inside.parts c.self.invariant.0 c.args.peer known in
+    let part = its_part _ _ _ _ c.self.invariant.0 c.args.peer known in
     rw (← c.self.view_is) (c.force.ensures part.0 part.1 ∙ part.2.in_force)
 
 pub returns-clause-there : goal.returns-clause-there
 returns-clause-there c =
-    let rows = arc_value c.self.inside.centre in
-    let known : c.args.peer < length rows.tables = rw (← c.self.view_is) at c.requires in
-    let part = its_part rows (past_of c.self.inside.log) c.self.inside.hub c.self.inside.parts
-    c.self.invariant.0 c.args.peer known in
-    let there = (peer_there rows (past_of c.self.inside.log) c.self.inside.hub
-    c.self.inside.parts c.self.invariant.0 c.args.peer known).in_force part.0 part.1 in
+    let known : c.args.peer < length (arc_value c.self.inside.centre).tables =
+    rw (← c.self.view_is) at c.requires in
+    let part = its_part _ _ _ _ c.self.invariant.0 c.args.peer known in
+    let there = (peer_there _ _ _ _ c.self.invariant.0 c.args.peer known).in_force part.0 part.1 in
     subst (λ (node : NodeState). c.force.result
     < length (variants_of node.setup.centre c.args.peer)) c.self.view_is
     (rw (c.force.ensures part.0 part.1) there)

@@ -22,15 +22,12 @@ peer_view-shown-requires-clause-there c =
     let known = rw (← c.self.view_is) at c.requires.known in
     subst (λ (those : CentreRows). IsPeerThere those c.self.inside.parts.peers.items
     c.args.key.peer) (sym c.deref.ensures)
-    (peer_there (arc_value c.self.inside.centre) (past_of c.self.inside.log) c.self.inside.hub
-    c.self.inside.parts c.self.invariant.0 c.args.key.peer known)
+    (peer_there _ _ _ _ c.self.invariant.0 c.args.key.peer known)
 
 pub peer_view-shown-requires-clause-shown : goal.peer_view-shown-requires-clause-shown
 peer_view-shown-requires-clause-shown c =
     let known = rw (← c.self.view_is) at c.requires.known in
-    showable (arc_value c.self.inside.centre) (past_of c.self.inside.log) c.self.inside.hub
-    c.self.inside.parts c.self.invariant.0 c.args.key.peer known c.deref.result.now
-    c.points.result.now c.deref.ensures c.points.ensures
+    showable _ _ _ _ c.self.invariant.0 c.args.key.peer known _ _ c.deref.ensures c.points.ensures
 
 pub returns : goal.returns
 returns c =
@@ -38,9 +35,8 @@ returns c =
     let past = past_of c.self.inside.log in
     let peer = c.args.key.peer in
     let known = rw (← c.self.view_is) at c.requires.known in
-    let shown = shown_is rows past c.self.inside.hub c.self.inside.parts c.self.invariant.0 peer
-    known c.deref.result.now c.points.result.now c.deref.ensures c.points.ensures
-    c.peer_view-shown.result c.peer_view-shown.ensures in
+    let shown = shown_is rows past _ _ c.self.invariant.0 peer known _ _ c.deref.ensures
+    c.points.ensures c.peer_view-shown.result c.peer_view-shown.ensures in
     c.in_ok-reply.ensures (updates_in past) (own_tables rows peer) (view_of rows peer past) shown
     ∙ ap (λ (node : NodeState). reply_to (own_tables node.setup.centre peer)
     (view_of node.setup.centre peer (reverse node.history)) c.args.key.ordinal c.args.call.now)

@@ -1,46 +1,42 @@
-use Rattle.std.proofs.Common.{◌≤◌, ◌+◌, refl, arith}
-use Rattle.std.specs.Arc.{arc_value}
-use Rattle.tase_views.specs.declared.event.EventKind.TheVariants.{Take}
-use Rattle.tase_views.specs.Setup.{Setup}
-use Rattle.tase_views.specs.Weights.{weight, weight_of}
+use Rattle.std.proofs.Common.{refl, arith}
 use Rattle.node_core.specs.Room.{past_of}
-use Rattle.node_core.proofs.Causes.{free_in, light-fits}
-use Rattle.node_core.proofs.Outcomes.{reverse_push}
-use Rattle.node_core.proofs.Rooms.{MayAppend-reserved}
-use Rattle.node_core.proofs.NodeSteps.{IsNode-take}
+use Rattle.node_core.proofs.NodeAnswers.{IsSeated, seen_as, light_enough, seated_by}
+use Rattle.node_core.proofs.NodeAnswers.{unlogged, logged}
+use Rattle.node_core.proofs.Outcomes.{IsAnswer-take}
+use Rattle.node_core.proofs.NodeSteps.{IsNode-take, made_is}
 use Rattle.node_core.proofs.node.Node.take.Goals as goal
+use Rattle.node_core.proofs.node.Node.take.Goals.{After-unwrap-key}
+
+seat : (c : After-unwrap-key) → IsSeated c.self.inside c.args.who c.unwrap-key.result
+seat c =
+    seated_by c.self.inside c.self.invariant c.args.who c.association.ensures c.unwrap-key.ensures
 
 pub invariant_of-self : goal.invariant_of-self
 invariant_of-self c =
-    (rw c.reserve.ensures.entries c.self.invariant.0, c.reserve.ensures.room _ c.self.invariant.1)
+    unlogged c.self.inside c.self.invariant c.reserve.new.self c.reserve.ensures.entries
+    c.reserve.ensures.room refl c.self.invariant.0
 
 pub append-requires-clause-light : goal.append-requires-clause-light
-append-requires-clause-light c =
-    let room = c.in_ok-reserve.ensures.room _ c.self.invariant.1 in
-    omega (arith, room.bounded, room.light)
+append-requires-clause-light c = light_enough (c.in_ok-reserve.ensures.room _ c.self.invariant.1)
+
+pub take-reports-requires : goal.take-reports-requires
+take-reports-requires c =
+    let known = (seat (goal.at.take-reports-requires c).After-unwrap-key).1 in
+    omega (arith, known, c.self.invariant.0.peers.many, c.self.inside.parts.peers.ok)
 
 pub invariant_of-self-2 : goal.invariant_of-self-2
 invariant_of-self-2 c =
-    let log = c.self.inside.log in
-    let n = c.self.invariant.0 in
-    let rows = arc_value c.self.inside.centre in
-    let past = past_of log in
-    let setup : Setup = record { centre = rows; limit = log.limit } in
-    let event = Take in
-    let free = free_in (record { setup = setup; history = log.entries.items })
-    c.args.self.now c.args.who c.args.event event c.self.view_is c.requires.take c.requires.free in
-    let fits : weight_of past + weight event ≤ log.limit =
-    light-fits setup past event refl free.light in (
-      rw (
-        c.append.ensures.entries,
-        c.in_ok-reserve.ensures.entries,
-        reverse_push,
-        c.requires.take,
-      ) (IsNode-take rows past c.self.inside.hub c.self.inside.parts n c.args.who
-          c.self.inside.hub c.self.inside.parts refl refl),
-      c.append.ensures.room _ _ (c.in_ok-reserve.ensures.room _ c.self.invariant.1)
-          (rw c.requires.take refl)
-          (rw c.requires.take (MayAppend-reserved log c.reserve.new.self event _ refl
-          c.in_ok-reserve.ensures.limit c.in_ok-reserve.ensures.entries fits
-          (omega (arith, c.in_ok-reserve.ensures.ok, c.open_count.ensures.count)))),
-    )
+    logged c.self.inside c.self.invariant c.args.who c.reserve.new.self c.append.new.self
+    c.open_count.result c.self.view_is c.requires.take c.requires.free refl
+    c.in_ok-reserve.ensures c.append.ensures refl c.open_count.ensures.count
+    (IsNode-take _ _ _ _ c.self.invariant.0 c.args.who c.self.inside.hub c.take-reports.new.self
+    c.unwrap-key.result (seat (goal.at.invariant_of-self-2 c).After-unwrap-key).0 refl
+    c.take-reports.ensures.left)
+
+pub returns-clause-answer : goal.returns-clause-answer
+returns-clause-answer c =
+    let seated = (seat (goal.at.returns-clause-answer c).After-unwrap-key).0 in
+    rw (← c.self.view_is) (IsAnswer-take (seen_as c.self.inside).setup (past_of c.self.inside.log)
+    c.args.who c.args.event c.unwrap-key.result c.take-reports.result c.requires.take seated
+    (made_is _ _ _ _ c.self.invariant.0 c.args.who c.unwrap-key.result c.take-reports.result
+    seated c.take-reports.ensures.made))

@@ -1,49 +1,44 @@
-use Rattle.std.proofs.Common.{◌≡◌, ◌≤◌, ◌+◌, refl, arith}
-use Rattle.std.specs.Arc.{arc_value}
+use Rattle.std.proofs.Common.{◌≡◌, refl, sym, ◌∙◌}
 use Rattle.std.specs.HashMap.{hash_map_len}
-use Rattle.tase_views.specs.declared.event.EventKind.TheVariants.{Tick}
-use Rattle.tase_views.specs.Setup.{Setup}
-use Rattle.tase_views.specs.Weights.{weight, weight_of}
-use Rattle.node_core.specs.Room.{past_of}
-use Rattle.node_core.proofs.Causes.{free_in, light-fits}
-use Rattle.node_core.proofs.Outcomes.{reverse_push}
-use Rattle.node_core.proofs.Rooms.{MayAppend-reserved}
-use Rattle.node_core.proofs.NodeSteps.{IsNode-tick}
+use Rattle.node_core.proofs.NodeAnswers.{light_enough, unlogged, logged}
+use Rattle.node_core.proofs.NodeSteps.{IsNode-tick, IsNode-drafted}
+use Rattle.node_core.proofs.PeerViews.{all_shown, all_banked}
 use Rattle.node_core.proofs.node.Node.tick.Goals as goal
 
 pub invariant_of-self : goal.invariant_of-self
 invariant_of-self c =
-    (rw c.reserve.ensures.entries c.self.invariant.0, c.reserve.ensures.room _ c.self.invariant.1)
+    unlogged c.self.inside c.self.invariant c.reserve.new.self c.reserve.ensures.entries
+    c.reserve.ensures.room refl c.self.invariant.0
 
 pub append-requires-clause-light : goal.append-requires-clause-light
-append-requires-clause-light c =
-    let room = c.in_ok-reserve.ensures.room _ c.self.invariant.1 in
-    omega (arith, room.bounded, room.light)
+append-requires-clause-light c = light_enough (c.in_ok-reserve.ensures.room _ c.self.invariant.1)
+
+pub draft_all-requires-clause-few : goal.draft_all-requires-clause-few
+draft_all-requires-clause-few c = rw c.deref.ensures c.self.invariant.0.peers.many
+
+pub draft_all-requires-clause-shown : goal.draft_all-requires-clause-shown
+draft_all-requires-clause-shown c =
+    all_shown _ _ _ _ c.self.invariant.0 _ _ c.deref.ensures c.points.ensures
+
+pub invariant_of-self-in_err-draft_all : goal.invariant_of-self-in_err-draft_all
+invariant_of-self-in_err-draft_all c =
+    unlogged c.self.inside c.self.invariant c.reserve.new.self c.in_ok-reserve.ensures.entries
+    c.in_ok-reserve.ensures.room refl
+    (IsNode-drafted _ _ _ _ c.draft_all.new.self c.draft_all.ensures.alike c.self.invariant.0)
+
+pub report_all-requires-clause-banked : goal.report_all-requires-clause-banked
+report_all-requires-clause-banked c =
+    all_banked _ _ _ c.draft_all.new.self
+    (IsNode-drafted _ _ _ _ c.draft_all.new.self c.draft_all.ensures.alike c.self.invariant.0)
 
 pub invariant_of-self-2 : goal.invariant_of-self-2
 invariant_of-self-2 c =
-    let log = c.self.inside.log in
-    let n = c.self.invariant.0 in
-    let rows = arc_value c.self.inside.centre in
-    let past = past_of log in
-    let setup : Setup = record { centre = rows; limit = log.limit } in
-    let event = Tick c.args.now in
-    let free = free_in (record { setup = setup; history = log.entries.items })
-    c.args.self.now c.args.who c.args.event event c.self.view_is c.requires.tick c.requires.free in
-    let fits : weight_of past + weight event ≤ log.limit =
-    light-fits setup past event refl free.light in
     let same : hash_map_len c.tick.new.self.seats ≡ hash_map_len c.self.inside.hub.seats =
-    rw c.tick.ensures refl in (
-      rw (
-        c.append.ensures.entries,
-        c.in_ok-reserve.ensures.entries,
-        reverse_push,
-        c.requires.tick,
-      ) (IsNode-tick rows past c.self.inside.hub c.self.inside.parts n c.args.who
-          c.tick.new.self c.self.inside.parts c.args.now c.tick.ensures refl),
-      c.append.ensures.room _ _ (c.in_ok-reserve.ensures.room _ c.self.invariant.1)
-          (rw c.requires.tick same)
-          (rw c.requires.tick (MayAppend-reserved log c.reserve.new.self event _ refl
-          c.in_ok-reserve.ensures.limit c.in_ok-reserve.ensures.entries fits
-          (omega (arith, c.in_ok-reserve.ensures.ok, c.open_count.ensures.count, same)))),
-    )
+    rw c.tick.ensures refl in
+    logged c.self.inside c.self.invariant c.args.who c.reserve.new.self c.append.new.self
+    c.open_count.result c.self.view_is c.requires.tick c.requires.free refl
+    c.in_ok-reserve.ensures c.append.ensures same (c.open_count.ensures.count ∙ sym same)
+    (IsNode-tick _ _ _ _ c.self.invariant.0 c.args.who c.tick.new.self c.report_all.new.self _ _
+    c.last_tick.result c.args.now c.draft_all.new.self c.deref.ensures c.points.ensures
+    c.last_tick.ensures c.draft_all.ensures.alike c.in_ok-draft_all.ensures.ok
+    c.report_all.ensures c.tick.ensures)

@@ -1,70 +1,66 @@
-use Rattle.std.proofs.Common.{◌≡◌, ◌≤◌, ◌+◌, refl, arith}
+use Rattle.std.proofs.Common.{◌≡◌, ◌∷◌, refl, sym, ◌∙◌}
 use Rattle.std.specs.Arc.{arc_value}
 use Rattle.std.specs.HashMap.{hash_map_len}
-use Rattle.tase_views.specs.declared.event.EventKind.TheVariants.{Update}
-use Rattle.tase_views.specs.Setup.{Setup}
-use Rattle.tase_views.specs.Weights.{weight, weight_of}
-use Rattle.node_core.specs.LastValues.{kinds_of, updates_in}
 use Rattle.node_core.specs.Room.{past_of}
-use Rattle.node_core.proofs.Causes.{free_in, named-update, light-fits}
-use Rattle.node_core.proofs.Outcomes.{reverse_push}
-use Rattle.node_core.proofs.Rooms.{MayAppend-reserved}
-use Rattle.node_core.proofs.Steps.{points-there}
-use Rattle.node_core.proofs.NodeSteps.{IsNode-update}
+use Rattle.node_core.specs.LastValues.{kinds_of, updates_in}
+use Rattle.node_core.proofs.Causes.{named-update}
+use Rattle.node_core.proofs.NodeAnswers.{light_enough, free_at, unlogged, logged}
+use Rattle.node_core.proofs.Steps.{known-point}
+use Rattle.node_core.proofs.NodeSteps.{IsNode-update, IsNode-drafted}
+use Rattle.node_core.proofs.PeerViews.{all_banked, all_roomed, all_shown}
 use Rattle.node_core.proofs.node.Node.update.Goals as goal
-
-pub update-requires : goal.update-requires
-update-requires c =
-    let log = c.self.inside.log in
-    let n = c.self.invariant.0 in
-    let rows = arc_value c.self.inside.centre in
-    let past = past_of log in
-    let setup : Setup = record { centre = rows; limit = log.limit } in
-    let event = Update c.args.point c.args.value in
-    let free = free_in (record { setup = setup; history = log.entries.items })
-    c.args.self.now c.args.who c.args.event event c.self.view_is c.requires.update
-    c.requires.free in
-    record {
-      known = points-there rows past c.self.inside.hub.points _ c.args.who n.common c.args.point
-          c.args.value (named-update rows c.args.point c.args.value free.named);
-    }
 
 pub invariant_of-self : goal.invariant_of-self
 invariant_of-self c =
-    (rw c.reserve.ensures.entries c.self.invariant.0, c.reserve.ensures.room _ c.self.invariant.1)
+    unlogged c.self.inside c.self.invariant c.reserve.new.self c.reserve.ensures.entries
+    c.reserve.ensures.room refl c.self.invariant.0
 
 pub append-requires-clause-light : goal.append-requires-clause-light
-append-requires-clause-light c =
-    let room = c.in_ok-reserve.ensures.room _ c.self.invariant.1 in
-    omega (arith, room.bounded, room.light)
+append-requires-clause-light c = light_enough (c.in_ok-reserve.ensures.room _ c.self.invariant.1)
+
+pub prepare_all-requires-clause-there : goal.prepare_all-requires-clause-there
+prepare_all-requires-clause-there c = λ peer within.
+    (all_shown _ _ _ _ c.self.invariant.0 _ _ c.deref.ensures refl peer within).there
+
+pub invariant_of-self-in_err-prepare_all : goal.invariant_of-self-in_err-prepare_all
+invariant_of-self-in_err-prepare_all c =
+    unlogged c.self.inside c.self.invariant c.reserve.new.self c.in_ok-reserve.ensures.entries
+    c.in_ok-reserve.ensures.room refl
+    (IsNode-drafted _ _ _ _ c.prepare_all.new.self c.prepare_all.ensures.alike c.self.invariant.0)
+
+pub note_all-requires-clause-banked : goal.note_all-requires-clause-banked
+note_all-requires-clause-banked c =
+    all_banked _ _ _ c.prepare_all.new.self
+    (IsNode-drafted _ _ _ _ c.prepare_all.new.self c.prepare_all.ensures.alike c.self.invariant.0)
+
+pub note_all-requires-clause-room : goal.note_all-requires-clause-room
+note_all-requires-clause-room c =
+    all_roomed c.deref.result.now c.args.point c.self.inside.parts.peers.items
+    c.prepare_all.new.self.peers.items c.in_ok-prepare_all.ensures.ok
 
 pub invariant_of-self-2 : goal.invariant_of-self-2
 invariant_of-self-2 c =
-    let log = c.self.inside.log in
-    let n = c.self.invariant.0 in
     let rows = arc_value c.self.inside.centre in
-    let past = past_of log in
-    let setup : Setup = record { centre = rows; limit = log.limit } in
-    let event = Update c.args.point c.args.value in
-    let free = free_in (record { setup = setup; history = log.entries.items })
-    c.args.self.now c.args.who c.args.event event c.self.view_is c.requires.update
-    c.requires.free in
-    let fits : weight_of past + weight event ≤ log.limit =
-    light-fits setup past event refl free.light in
-    let same : hash_map_len c.update.new.self.seats ≡ hash_map_len c.self.inside.hub.seats =
-    rw c.update.ensures.seats refl in (
-      rw (
-        c.append.ensures.entries,
-        c.in_ok-reserve.ensures.entries,
-        reverse_push,
-        c.requires.update,
-      ) (IsNode-update rows past c.self.inside.hub c.self.inside.parts n c.args.who
-          c.update.new.self c.self.inside.parts c.args.point c.args.value
-          (c.update.ensures.kept (kinds_of rows) (updates_in past) n.common.kept)
-          c.update.ensures.seats c.update.ensures.clock refl),
-      c.append.ensures.room _ _ (c.in_ok-reserve.ensures.room _ c.self.invariant.1)
-          (rw c.requires.update same)
-          (rw c.requires.update (MayAppend-reserved log c.reserve.new.self event _ refl
-          c.in_ok-reserve.ensures.limit c.in_ok-reserve.ensures.entries fits
-          (omega (arith, c.in_ok-reserve.ensures.ok, c.open_count.ensures.count, same)))),
-    )
+    let past = past_of c.self.inside.log in
+    let free = free_at c.self.inside c.args.who c.self.view_is c.requires.update c.requires.free in
+    let same : hash_map_len c.update-changed.new.self.seats
+    ≡ hash_map_len c.self.inside.hub.seats =
+    rw c.update-changed.ensures.seats refl in
+    let before = c.self.invariant.0.common.kept in
+    let kept = c.update-changed.ensures.kept (kinds_of rows) (updates_in past) before in
+    logged c.self.inside c.self.invariant c.args.who c.reserve.new.self c.append.new.self
+    c.open_count.result c.self.view_is c.requires.update c.requires.free refl
+    c.in_ok-reserve.ensures c.append.ensures same (c.open_count.ensures.count ∙ sym same)
+    (IsNode-update rows past _ _ c.self.invariant.0 c.args.who c.update-changed.new.self
+    c.note_all.new.self c.deref.result.now c.last_tick.result c.args.point c.args.value
+    c.prepare_all.new.self c.update-changed.result c.cov-count.result c.deref.ensures
+    (c.last_tick.ensures ∙ c.update-changed.ensures.clock)
+    (known-point rows c.args.point c.args.value
+    (named-update rows c.args.point c.args.value free.named))
+    c.prepare_all.ensures.alike c.in_ok-prepare_all.ensures.ok kept
+    (c.update-changed.ensures.changed (kinds_of rows) (updates_in past) before)
+    (c.cov-count.ensures (kinds_of rows)
+    (record { point = c.args.point; value = c.args.value } ∷ updates_in past)
+    (rw c.points.ensures kept))
+    c.note_all.ensures.changed c.note_all.ensures.same c.update-changed.ensures.seats
+    c.update-changed.ensures.clock)

@@ -1,6 +1,5 @@
-use Rattle.std.proofs.Common.{◌≡◌, ◌<◌, ◌≤◌, ℕ, List, length, Some, sym, ap, subst, ◌∙◌}
-use Rattle.std.specs.Prelude.{slice_get, slice_set}
-use Rattle.std.proofs.lemmas.Option.{slice_get-get_or, same_Some}
+use Rattle.std.proofs.Common.{◌≡◌, ◌≤◌, ℕ, List, length, sym, ap, subst, ◌∙◌}
+use Rattle.std.specs.Prelude.{slice_set}
 use Rattle.mms_data.specs.ObjectName.{ObjectName}
 use Rattle.tase_views.specs.declared.call.CallKind.{CallKind}
 use Rattle.tase_views.specs.declared.call.CallKind.TheVariants.{Define, Delete}
@@ -13,6 +12,7 @@ use Rattle.node_core.specs.PeerParts.{kept_in, part_behind, IsLawfulAct, EachAct
 use Rattle.node_core.specs.Stored.{IsAsked}
 use Rattle.node_core.proofs.CallActs.{lawful_call, calm_idle, idle_call, deleting_call}
 use Rattle.node_core.proofs.Steps.{set_same, own_at}
+use Rattle.node_core.proofs.PartLists.{part_read, part_is}
 use Rattle.node_core.proofs.parts.Parts.call.Goals as goal
 
 pub returns-in_ok-define-in-Define-clause-ok : goal.returns-in_ok-define-in-Define-clause-ok
@@ -30,14 +30,9 @@ delete-requires c =
     let peer = c.args.key.peer in
     let items = c.args.self.now.peers.items in
     let old = c.index_mut.result.now in
-    let within : peer < length items = c.requires.there.part in
-    let here : slice_get items peer ≡ Some old =
-    slice_get-get_or items peer _ within
-    ∙ ap (λ (x : Peer). Some x) (sym c.index_mut.ensures.value) in
-    let read : slice_get items peer ≡ Some c.index.result.now =
-    slice_get-get_or items peer _ within ∙ ap (λ (x : Peer). Some x) (sym c.index.ensures) in
-    let variant : c.index.result.now ≡ old =
-    same_Some c.index.result.now old (sym read ∙ here) in
+    let there = c.requires.there.part in
+    let here = part_read items peer old there c.index_mut.ensures.value in
+    let variant = part_is items peer c.index.result.now old there c.index.ensures here in
     let offered = own_at rows peer c.index.result.now.variant c.variant-table.result.now
     c.variant-table.ensures in
     subst (λ (n : ℕ). n ≤ length old.slots)
@@ -52,16 +47,11 @@ returns-in-Delete-clause-ok c = λ now part at said.
     let tables = own_tables rows peer in
     let items = c.args.self.now.peers.items in
     let sets = c.as_slice.result.now in
-    let within : peer < length items = c.requires.there.part in
-    let old = c.index_mut.result.now in
-    let here : slice_get items peer ≡ Some old =
-    slice_get-get_or items peer _ within
-    ∙ ap (λ (x : Peer). Some x) (sym c.index_mut.ensures.value) in
-    let read : slice_get items peer ≡ Some c.index.result.now =
-    slice_get-get_or items peer _ within ∙ ap (λ (x : Peer). Some x) (sym c.index.ensures) in
+    let there = c.requires.there.part in
     let table = c.variant-table.result.now in
     let variant : c.index.result.now.variant ≡ part.variant =
-    ap (λ (x : Peer). x.variant) (same_Some c.index.result.now part (sym read ∙ at)) in
+    ap (λ (x : Peer). x.variant)
+    (part_is items peer c.index.result.now part there c.index.ensures at) in
     let offered : own_table rows table ≡ table_in tables part.variant =
     sym (own_at rows peer c.index.result.now.variant table c.variant-table.ensures)
     ∙ ap (table_in tables) variant in
@@ -70,7 +60,8 @@ returns-in-Delete-clause-ok c = λ now part at said.
     } =
     subst (λ (x : Peer). c.delete.new.self ≡ record x {
       book = left_by (is_kept table.domain table.slots x.slots) table.domain sets x.book;
-    }) (same_Some old part (sym here ∙ at)) c.delete.ensures in
+    }) (part_is items peer c.index_mut.result.now part there c.index_mut.ensures.value at)
+    c.delete.ensures in
     let call : Delete sets ≡ c.args.call.now =
     ap (λ (names : List ObjectName). Delete names) c.as_slice.ensures
     ∙ sym c.in-Delete.is ∙ c.kind.ensures.value in

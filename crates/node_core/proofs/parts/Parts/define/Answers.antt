@@ -1,8 +1,7 @@
-use Rattle.std.proofs.Common.{◌≡◌, ℕ, List, Option, Some, None, sym, ap, subst, ◌∙◌}
+use Rattle.std.proofs.Common.{◌≡◌, ℕ, List, Option, None, sym, ap, subst, ◌∙◌}
 use Rattle.std.proofs.Common.{arith}
-use Rattle.std.specs.Prelude.{slice_get, slice_set}
+use Rattle.std.specs.Prelude.{slice_set}
 use Rattle.std.proofs.lemmas.Bool.{false≢true}
-use Rattle.std.proofs.lemmas.Option.{slice_get-get_or, same_Some}
 use Rattle.data_sets.specs.Books.{defined}
 use Rattle.tase_views.specs.OwnTables.{own_tables, table_in}
 use Rattle.tase_views.specs.Sets.{SetError}
@@ -11,6 +10,7 @@ use Rattle.node_core.specs.PeerParts.{fault_in}
 use Rattle.node_core.proofs.Faults.{error_of_reply, no_error_of_reply}
 use Rattle.node_core.proofs.CallActs.{refused_call, defining_call}
 use Rattle.node_core.proofs.Steps.{set_same}
+use Rattle.node_core.proofs.PartLists.{part_is}
 use Rattle.node_core.proofs.parts.Parts.define.Goals as goal
 
 pub returns-then-not-is_defined-clause-ok : goal.returns-then-not-is_defined-clause-ok
@@ -41,18 +41,16 @@ returns-clause-ok c = λ rows now part at replied.
     let none : fault ≡ None =
     no_error_of_reply fault (sym replied ∙ c.is_defined.ensures.0 c.if-not-is_defined.false) in
     let old = c.index_mut.result.now in
-    let here : slice_get items c.args.key.peer ≡ Some old =
-    slice_get-get_or items c.args.key.peer _
-    (omega (arith, c.requires.known, c.args.self.now.peers.ok))
-    ∙ ap (λ (x : Peer). Some x) (sym c.index_mut.ensures.value) in
+    let is : old ≡ part =
+    part_is items c.args.key.peer old part
+    (omega (arith, c.requires.known, c.args.self.now.peers.ok)) c.index_mut.ensures.value at in
     let named : c.define.new.self ≡ record old { book = defined old.book set.item members } =
     c.in_ok-define.ensures.ok
     ∙ ap (λ (n : List ℕ). record old { book = defined old.book n members })
     c.item-name.ensures.value in
     let made : c.define.new.self ≡ record part { book = defined part.book set.item members } =
     subst (λ (x : Peer). c.define.new.self
-    ≡ record x { book = defined x.book set.item members }) (same_Some old part (sym here ∙ at))
-    named in
+    ≡ record x { book = defined x.book set.item members }) is named in
     ap (λ (x : Peer). slice_set items c.args.key.peer x)
     (made ∙ sym (defining_call tables now c.args.key.ordinal set members part none))
 

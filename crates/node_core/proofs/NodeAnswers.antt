@@ -1,0 +1,117 @@
+-- What the answers of a node's functions have in common.
+use Rattle.std.proofs.Common.{◌≡◌, ◌+◌, ◌^◌, ◌≤◌, ◌<◌, ℕ, false, [], ◌∷◌, ◌++◌, length, reverse}
+use Rattle.std.proofs.Common.{Option, Some, None, sym, ◌∙◌, arith}
+use Rattle.std.specs.Arc.{arc_value}
+use Rattle.std.specs.HashMap.{hash_map_len}
+use Rattle.sbo_device.specs.declared.key.Key.{Key}
+use Rattle.tase_views.specs.declared.event.EventKind.{EventKind}
+use Rattle.tase_views.specs.History.{association_in}
+use Rattle.tase_views.specs.Outcomes.{is_ending, refusal_of}
+use Rattle.node_core.specs.declared.hub.Hub.{Hub}
+use Rattle.node_core.specs.declared.log.Log.{Log}
+use Rattle.node_core.specs.declared.node.Node.TheInside.{Inside}
+use Rattle.node_core.specs.declared.parts.Parts.{Parts}
+use Rattle.node_core.specs.NodeState.{NodeState}
+use Rattle.node_core.specs.Room.{past_of, HasRoom, IsReserved, LeavesSeats, MayAppend}
+use Rattle.node_core.specs.Stored.{IsNode, found_by}
+use Rattle.node_core.proofs.Causes.{IsFree, free_in, light-fits}
+use Rattle.node_core.proofs.Outcomes.{reverse_push}
+use Rattle.node_core.proofs.Rooms.{MayAppend-reserved}
+use Rattle.node_core.proofs.NodeSteps.{seat_there}
+
+-- what a node is seen as
+abbrev pub seen_as : Inside → NodeState
+seen_as node = record {
+  setup = record { centre = arc_value node.centre; limit = node.log.limit };
+  history = node.log.entries.items;
+}
+
+-- what a node keeps, with another log, hub and parts
+abbrev pub Keeps : Inside → Log → Hub → Parts → Type 0
+Keeps node log hub parts = IsNode (arc_value node.centre) (past_of log) hub parts
+    × HasRoom log (hash_map_len hub.seats)
+
+-- what an entry's place and the closes behind it take is reserved
+abbrev pub Reserves : Log → Log → ℕ → Type 0
+Reserves old new seats = record {
+  limit : new.limit ≡ old.limit;
+  entries : new.entries.items ≡ old.entries.items;
+  room : (before : ℕ) → HasRoom old before → HasRoom new before;
+  ok : IsReserved new seats;
+}
+
+-- an entry is appended
+abbrev pub Appends : Log → Log → ℕ → EventKind → Type 0
+Appends old new who event = record {
+  limit : new.limit ≡ old.limit;
+  entries : new.entries.items ≡ old.entries.items ++ record { who = who; event = event } ∷ [];
+  room : (before behind : ℕ) → HasRoom old before → LeavesSeats event before behind
+      → MayAppend old event behind → HasRoom new behind;
+}
+
+-- a seat has this association, whose peer is there
+abbrev pub IsSeated : Inside → ℕ → Key → Type 0
+IsSeated node who key = (association_in (past_of node.log) who ≡ Some key)
+    × (key.peer < length (arc_value node.centre).tables)
+
+-- a log is light enough for one more entry
+pub light_enough : {log : Log} {seats : ℕ} → HasRoom log seats → log.weight ≤ 2 ^ 62
+light_enough room = omega (arith, room.bounded, room.light)
+
+module _ (node : Inside) where
+  -- that an event isn't refused
+  pub free_at : (who : ℕ) {now : NodeState} {event is : EventKind} → seen_as node ≡ now
+      → event ≡ is → refusal_of now.setup (reverse now.history) who event ≡ None
+      → IsFree (seen_as node).setup (past_of node.log) who is
+  free_at who {now} {event} {is} seen e free =
+      free_in (seen_as node) now who event is seen e free
+
+  module _ (kept : Keeps node node.log node.hub node.parts) where
+    -- a seat's association, as the hub finds it
+    pub seated_by : (who : ℕ) {found : Option Key} {key : Key} → found ≡ found_by node.hub who
+        → found ≡ Some key → IsSeated node who key
+    seated_by who {found} {key} is some =
+        let seated : association_in (past_of node.log) who ≡ Some key =
+        sym (kept.0.common.seated who) ∙ sym is ∙ some in
+        (seated, seat_there _ _ _ _ kept.0 who key seated)
+
+    -- where room is reserved, and nothing is appended
+    pub unlogged : {hub : Hub} {parts : Parts} (mid : Log)
+        → mid.entries.items ≡ node.log.entries.items
+        → ((before : ℕ) → HasRoom node.log before → HasRoom mid before)
+        → hash_map_len hub.seats ≡ hash_map_len node.hub.seats
+        → IsNode (arc_value node.centre) (past_of node.log) hub parts → Keeps node mid hub parts
+    unlogged mid entries room same n = (rw entries n, rw same (room _ kept.1))
+
+    -- an event for which there is room is appended
+    pub ended : {hub : Hub} {parts : Parts} {event is : EventKind} (who : ℕ) (new : Log)
+        → event ≡ is → Appends node.log new who event
+        → LeavesSeats is (hash_map_len node.hub.seats) (hash_map_len hub.seats)
+        → MayAppend node.log is (hash_map_len hub.seats)
+        → IsNode (arc_value node.centre) (record { who = who; event = is } ∷ past_of node.log) hub
+        parts
+        → Keeps node new hub parts
+    ended who new e more leaves may n = (
+      rw (more.entries, reverse_push, e) n,
+      more.room _ _ kept.1 (rw e leaves) (rw e may),
+    )
+
+    -- an event that isn't ending and isn't refused, for which room is reserved, is appended
+    pub logged : {hub : Hub} {parts : Parts} {now : NodeState} {event is : EventKind} (who : ℕ)
+        (mid new : Log) (count : ℕ) → seen_as node ≡ now → event ≡ is
+        → refusal_of now.setup (reverse now.history) who event ≡ None → is_ending is ≡ false
+        → Reserves node.log mid count → Appends mid new who event
+        → LeavesSeats is (hash_map_len node.hub.seats) (hash_map_len hub.seats)
+        → count ≡ hash_map_len hub.seats
+        → IsNode (arc_value node.centre) (record { who = who; event = is } ∷ past_of node.log) hub
+        parts
+        → Keeps node new hub parts
+    logged {hub} {parts} {now} {event} {is} who mid new count seen e free goes_on reserved more
+        leaves counted n =
+        let fits = light-fits (seen_as node).setup (past_of node.log) is goes_on
+        (free_at who seen e free).light in (
+          rw (more.entries, reserved.entries, reverse_push, e) n,
+          more.room _ _ (reserved.room _ kept.1) (rw e leaves)
+              (rw e (MayAppend-reserved node.log mid is _ goes_on reserved.limit reserved.entries
+              fits (omega (arith, reserved.ok, counted)))),
+        )

@@ -1,0 +1,90 @@
+//! Why reports are made.
+ghost use Rattle.std.specs.Prelude.{◌≡◌, ◌<◌, length};
+ghost use Rattle.bilateral.specs.declared.rows.TheConstants.{SLOT_LIMIT as SLOTS};
+ghost use Rattle.transfer_sets.specs.Banks.{slot_at};
+ghost use Rattle.transfer_sets.specs.Wishes as wishes;
+ghost use Rattle.tase_views.specs.Slots as slots;
+ghost use Rattle.node_core.specs.SlotFeeds.{conditions_by, AreReported};
+
+use bilateral::SLOT_LIMIT;
+use transfer_sets::{INTEGRITY, OPERATOR, SlotBank};
+
+/// What makes reports of transfer sets. Moments are in milliseconds since 1970.
+#[derive(Clone, Copy)]
+pub enum ReportCause {
+    /// The clock goes on from a moment to another.
+    Tick { from: u64, to: u64 },
+    /// The operator asks for a report of a transfer set, at a moment.
+    Ask { slot: u32, now: u64 },
+}
+
+/// The conditions, as their sum, that a cause brings about for a transfer set.
+pub fn conditions_of(cause: ReportCause, bank: &SlotBank, slot: u32) -> u8
+    requires { slot < length bank.now }
+    ensures { result ≡ conditions_by cause slot (slot_at bank.now slot).state }
+{
+    match cause {
+        ReportCause::Tick { from, to } => bank.due(slot, from, to),
+        ReportCause::Ask { slot: asked, .. } => {
+            if asked == slot {
+                asked_conditions(bank, slot)
+            } else {
+                0
+            }
+        }
+    }
+}
+
+/// The condition by which a request of the operator makes a report, if the wish has it.
+fn asked_conditions(bank: &SlotBank, slot: u32) -> u8
+    requires { slot < length bank.now }
+    ensures { result ≡ slots.asked_conditions (slot_at bank.now slot).state }
+{
+    let wish = bank.wish(slot);
+    if wish.status && has(wish.conditions, OPERATOR) {
+        OPERATOR
+    } else {
+        0
+    }
+}
+
+/// Whether conditions make a report of a transfer set: not where its wish has only changes told,
+/// and no member changed.
+pub fn makes_report(bank: &SlotBank, slot: u32, conditions: u8) -> bool
+    requires { slot < length bank.now }
+    ensures { result ≡ slots.makes_report (slot_at bank.now slot).state conditions }
+{
+    if conditions == 0 {
+        return false;
+    }
+    let only_told = bank.wish(slot).rbe && only_changes(conditions);
+    !only_told || bank.has_change(slot)
+}
+
+/// Whether some conditions, as their sum, have this one.
+fn has(conditions: u8, condition: u8) -> bool
+    requires { 0 < condition }
+    ensures { result ≡ wishes.has conditions condition }
+{
+    conditions / condition % 2 == 1
+}
+
+/// Whether conditions are none but interval and change.
+pub fn only_changes(conditions: u8) -> bool
+    ensures { result ≡ slots.only_changes conditions }
+{
+    !has(conditions, INTEGRITY) && !has(conditions, OPERATOR)
+}
+
+/// Notes that reports of a cause have told all changes of the transfer sets of which it makes one.
+pub fn report_all(bank: &mut SlotBank, cause: ReportCause)
+    requires { length bank.old ≡ SLOTS }
+    ensures { AreReported cause bank.old bank.new }
+{
+    for slot in 0..SLOT_LIMIT as u32 {
+        let conditions = conditions_of(cause, bank, slot);
+        if makes_report(bank, slot, conditions) {
+            bank.reported(slot);
+        }
+    }
+}
