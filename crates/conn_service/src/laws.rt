@@ -11,8 +11,8 @@ ghost use Rattle.tase_map.specs.Linked.{opened_in, link_octets};
 
 /// Two worlds. Two centres with two histories, two links that give the same at any two seats: where
 /// the associations that these have opened last are of peers with the same own tables and the same
-/// view, and have the same ordinal, the links' peers are sent the same octets; and where neither has
-/// opened one, and the same titles are peers'.
+/// view, and have the same ordinal, the links' peers are sent the same octets; and where neither
+/// has opened one, and the same titles are peers'.
 pub fn two_worlds_are_sent_alike()
     ensures association { (here there : CentreRows) (past other_past : Past) (who seat : ℕ)
         (items : List Item) (key other : Key)

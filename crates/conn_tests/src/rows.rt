@@ -1,6 +1,7 @@
-//! Streams of a peer whose connection is left: the node refuses an event since its history is full or
-//! memory is wanting, a report is longer than was agreed on, or the connection is given up. Octets
-//! worked out by hand from RFC 1006, ISO 8073, ISO 8327-1, ISO 8823-1, ISO 8650-1 and ISO 9506-2.
+//! Streams of a peer whose connection is left: the node refuses an event since its history is full
+//! or memory is wanting, a report is longer than was agreed on, or the connection is given up.
+//! Octets worked out by hand from RFC 1006, ISO 8073, ISO 8327-1, ISO 8823-1, ISO 8650-1 and ISO
+//! 9506-2.
 use tase_conn::ConnEnd;
 use tase_views::StepFault;
 

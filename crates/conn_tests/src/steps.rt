@@ -1,5 +1,5 @@
-//! The steps of a connection with a node that answers opens, takes and closes, unless it is to refuse
-//! them.
+//! The steps of a connection with a node that answers opens, takes and closes, unless it is to
+//! refuse them.
 ghost use Rattle.std.specs.Prelude.{◌≡◌, ◌≤◌, Ok, Err, None, true, IfOk, OnOk, length};
 ghost use Rattle.mms_services.specs.Lawful.{IsLawfulPdu};
 ghost use Rattle.tase_conn.specs.Talking.{conn_end_in, next_pending};

@@ -1,5 +1,5 @@
-//! Texts of calls, events and replies as they are written, and the first bad place of a text that is
-//! no call: no command prints these.
+//! Texts of calls, events and replies as they are written, and the first bad place of a text that
+//! is no call: no command prints these.
 use bilateral::read_centre;
 use event_text::{read_call, read_feed_line, spell_call, spell_event, spell_reply};
 use std::alloc::Global;

@@ -16,7 +16,7 @@ use Rattle.tase_views.specs.declared.fault.StepFault.TheVariants.{Memory, Stoppe
 use Rattle.tase_views.specs.declared.fault.StepFault.TheVariants.{NoAssociation, Already}
 use Rattle.tase_views.specs.declared.fault.StepFault.TheVariants.{UnknownName, ClockRange, Backward}
 use Rattle.tase_views.specs.Setup.{Setup}
-use Rattle.tase_views.specs.History.{Past, association_in}
+use Rattle.tase_views.specs.History.{association_in}
 use Rattle.tase_views.specs.Outcomes.{refusal_of}
 use Rattle.tase_replay.specs.Links.{SeatItem, Asking, an_event, an_item, asking_in, items_of}
 use Rattle.tase_replay.specs.Play.{Step, Scene, LineMeaning, bad, too_heavy, gives, Played}

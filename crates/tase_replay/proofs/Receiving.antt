@@ -35,7 +35,7 @@ use Rattle.tase_conn.specs.declared.stage.Progress.TheVariants as progresses
 use Rattle.tase_conn.specs.Talking.{Talking, pending_of, conn_end_in, IsResting, IsFree}
 use Rattle.tase_conn.specs.Places.{ConnStandsAt, Runs, Reach, GoesBy}
 use Rattle.tase_conn.specs.Taken.{TakesIn, SendsSome}
-use Rattle.conn_laws.specs.Serving.{IsWaiting, Serves, HasServed}
+use Rattle.conn_laws.specs.Serving.{IsWaiting, Serves}
 use Rattle.conn_laws.proofs.Kept.{taken_serves}
 use Rattle.conn_laws.proofs.Resumed.{sent_serves}
 use Rattle.conn_laws.proofs.Served.{has_served, all_done}

@@ -31,7 +31,7 @@ use Rattle.tase_replay.specs.Play.{bad_line, history_full, TakenLine, steps_in, 
 use Rattle.tase_replay.specs.Play.{step_of, with_taken, meaning_of, is_linked, cut_steps}
 use Rattle.tase_replay.specs.Play.{is_unfit, served_item, linked_by, means, line_meaning}
 use Rattle.tase_replay.specs.Play.{linked_up_to}
-use Rattle.tase_replay.specs.Play.{play_line, ends_there, scene_by, steps_by, first_scene}
+use Rattle.tase_replay.specs.Play.{play_line, ends_there, scene_by, first_scene}
 use Rattle.tase_replay.specs.AllSent.{given_asked, given_by_line, given_by_lines, AreSentTo, SentBy}
 use Rattle.tase_replay.specs.PrintedLines.{shown_to, shown_by}
 use Rattle.tase_replay.proofs.PrintedBack.{IsPrintedStep, steps_back}

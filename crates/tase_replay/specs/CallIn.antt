@@ -15,7 +15,7 @@ use Rattle.mms_text.specs.DatumIn.{datum_in}
 use Rattle.tase_views.specs.declared.call.CallKind.{CallKind}
 use Rattle.tase_views.specs.declared.call.CallKind.TheVariants.{Identify, Read, ReadSet, Write}
 use Rattle.tase_views.specs.declared.call.CallKind.TheVariants.{WriteSet, NameList, Define}
-use Rattle.tase_views.specs.declared.call.CallKind.TheVariants.{MembersOf, Delete, DeleteScope, Odd}
+use Rattle.tase_views.specs.declared.call.CallKind.TheVariants.{MembersOf, Delete, DeleteScope}
 
 -- a name before a place, and a datum behind it
 abbrev pub assigned_at : List ℕ → ℕ → Option (ObjectName × Datum)

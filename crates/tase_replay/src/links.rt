@@ -61,7 +61,8 @@ pub(crate) fn is_link_word(verb: &[u8]) -> bool
     verb == b"in".as_slice() || verb == b"idle".as_slice() || verb == b"end".as_slice()
 }
 
-/// What a link's line gives, where it is one of the forms. `text` is the line behind its first word.
+/// What a link's line gives, where it is one of the forms. `text` is the line behind its first
+/// word.
 pub(crate) fn read_given(
     alloc: Global,
     verb: &[u8],
@@ -229,8 +230,8 @@ impl Seats {
         }
     }
 
-    /// The place of the connection of a seat's link, a new one where none has begun; none where lines
-    /// of its own use the seat, or the connection has ended.
+    /// The place of the connection of a seat's link, a new one where none has begun; none where
+    /// lines of its own use the seat, or the connection has ended.
     pub(crate) fn place_of(
         &mut self,
         alloc: Global,
@@ -295,8 +296,8 @@ fn take_item(conn: &mut Conn, item: &LinkItem) -> Result<(), AllocError>
     }
 }
 
-/// Has a connection take an item in, and the node act on all of it. After want of memory for the item
-/// itself all is as it was.
+/// Has a connection take an item in, and the node act on all of it. After want of memory for the
+/// item itself all is as it was.
 pub(crate) fn receive(
     alloc: Global,
     node: &mut Node,

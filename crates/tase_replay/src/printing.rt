@@ -106,8 +106,8 @@ fn put_report(text: &mut Vec<u8>, who: u64, report: &Report) -> Result<(), Alloc
     Ok(())
 }
 
-/// Prints what a connection has to send, as one line, and how it ended, if it has. All of it is sent
-/// then.
+/// Prints what a connection has to send, as one line, and how it ended, if it has. All of it is
+/// sent then.
 pub(crate) fn print_sent<K: Sink>(
     who: u64,
     conn: &mut Conn,
@@ -183,8 +183,8 @@ fn put_out(text: &mut Vec<u8>, who: u64, conn: &mut Conn) -> Result<(), AllocErr
     Ok(())
 }
 
-/// Appends all octets that are to be sent, which count as sent then: behind all others come those of
-/// an abort.
+/// Appends all octets that are to be sent, which count as sent then: behind all others come those
+/// of an abort.
 fn put_all(text: &mut Vec<u8>, conn: &mut Conn) -> Result<(), AllocError>
     ensures digits { OnOk result (text.new.items
         ≡ text.old.items ++ hex_text (pending_of conn.old)) }

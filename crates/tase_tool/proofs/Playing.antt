@@ -1,6 +1,6 @@
 -- What a play says, line by line, and through a sink that gathers it.
 use Rattle.std.proofs.Common.{◌≡◌, ◌≢◌, ℕ, Bool, true, false, List, [], ◌++◌, take}
-use Rattle.std.proofs.Common.{drop, refl, sym, ◌∙◌, ap, subst}
+use Rattle.std.proofs.Common.{drop, refl, sym, subst}
 use Rattle.std.specs.Prelude.{Ok, Err, codes}
 use Rattle.std.proofs.Common.{take-append-drop}
 use Rattle.outside.specs.declared.sink.SinkFailed.{SinkFailed}

@@ -1,4 +1,4 @@
-use Rattle.std.proofs.Common.{◌<◌, reverse, Bool, true, false, Option, Some, None}
+use Rattle.std.proofs.Common.{◌<◌, reverse, Bool, true, false, Option, Some}
 use Rattle.std.proofs.Common.{refl, sym, subst, ◌∙◌}
 use Rattle.tase_views.specs.Setup.{Setup}
 use Rattle.tase_views.specs.declared.event.EventKind.{EventKind}

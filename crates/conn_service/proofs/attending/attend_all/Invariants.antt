@@ -1,4 +1,4 @@
-use Rattle.std.proofs.Common.{◌≡◌, ℕ, List, reverse, None}
+use Rattle.std.proofs.Common.{◌≡◌, reverse}
 use Rattle.conn_service.specs.Attending.{IsServed, remaining}
 use Rattle.conn_service.proofs.Attended.{GoesSo}
 use Rattle.conn_service.proofs.attending.attend_all.Given as goal

@@ -1,6 +1,4 @@
-use Rattle.std.proofs.Common.{reverse, Option, None, refl, sym, inr}
-use Rattle.tase_views.specs.declared.event.EventKind.{EventKind}
-use Rattle.tase_conn.specs.Wanting.{Wants}
+use Rattle.std.proofs.Common.{reverse, inr}
 use Rattle.conn_service.proofs.Going.{served_free, served_placed}
 use Rattle.conn_service.proofs.Memory.{given_cut, given_parting, given_placed, idle_free, runs_on}
 use Rattle.conn_service.proofs.Wanted.{wants_found}
