@@ -1,0 +1,97 @@
+//! One job in a thread of its own.
+ghost use Rattle.std.specs.Prelude.{◌≡◌};
+ghost use Rattle.job_threads.specs.Threading.{ComesOf, IsSpawned};
+
+use outside_links::Job;
+use std::alloc::Global;
+use std::snapshot::Snapshot;
+use std::sync::atomic::{AtomicBool, Ordering};
+use std::sync::{Arc, Wait};
+use std::thread;
+use std::thread::{Promise, PromisedHandle, Threads};
+
+/// What a thread makes of its job.
+#[derive(Drop)]
+pub enum Outcome<J, D> {
+    /// The job ran, and this came of it.
+    Ran(D),
+    /// The job was called back before it ran.
+    Unrun(J),
+}
+
+/// What comes of a thread comes of this job.
+#[derive(Drop)]
+pub struct OfJob<J> {
+    pub job: Snapshot<J>,
+}
+
+impl<J: Job> Promise<Outcome<J, J::Done>> for OfJob<J> {
+    ghost kept_by = { λ promise outcome. ComesOf J.may_give promise.job.value outcome };
+}
+
+/// A thread that was started for a job.
+pub type JobThread<J> = PromisedHandle<Outcome<J, <J as Job>::Done>, OfJob<J>>;
+
+/// Why no thread was started for a job. Nothing of the job ran, and it comes back.
+#[derive(Drop)]
+pub enum Unstarted<J> {
+    /// Memory ran out.
+    Memory(J),
+    /// No thread could be made.
+    Refused(J),
+}
+
+/// Runs the job, unless it was called back.
+fn run_unless<J: Job, R: Wait + Copy>(
+    rt: R,
+    job: J,
+    is_called_back: Arc<AtomicBool>,
+) -> Outcome<J, J::Done>
+    ensures { ComesOf J.may_give job result }
+{
+    if is_called_back.load(Ordering::SeqCst) {
+        return Outcome::Unrun(job);
+    }
+    Outcome::Ran(job.run(&rt))
+}
+
+/// Waits without end.
+pub fn wait_forever<R: Wait, T>(rt: &R) -> T
+    ensures { ⊥ }
+{
+    for _ in rt.forever() {}
+    unreachable!()
+}
+
+/// Starts a thread that runs the job. Where none can be made, the job is called back: the call that
+/// the thread would have made is made here, and finds it called back.
+pub fn spawn_job<J: Job + Send + Drop + 'static, R: Threads + Wait + Copy + Send + 'static>(
+    rt: &R,
+    alloc: Global,
+    job: J,
+) -> Result<JobThread<J>, Unstarted<J>>
+where
+    J::Done: Send + Drop + 'static,
+    ensures { IsSpawned (λ thread. thread.promise.job.value) job result }
+{
+    let Ok(is_called_back) = Arc::new(alloc, AtomicBool::new(false)) else {
+        return Err(Unstarted::Memory(job));
+    };
+    let Ok(theirs) = is_called_back.clone() else {
+        return Err(Unstarted::Memory(job));
+    };
+    let own = *rt;
+    let promise = OfJob {
+        job: Snapshot::of(&job),
+    };
+    match thread::spawn_with(rt, promise, move || run_unless(own, job, theirs)) {
+        Ok(thread) => Ok(thread),
+        Err(refused) => {
+            is_called_back.store(true, Ordering::SeqCst);
+            match (refused.value)() {
+                Outcome::Unrun(back) => Err(Unstarted::Refused(back)),
+                Outcome::Ran(_) => wait_forever(rt),
+            }
+        }
+    }
+}
