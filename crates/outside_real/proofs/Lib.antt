@@ -1,1 +1,3 @@
+pub mod LinkCalls
+pub mod LinkTrying
 pub mod Trying

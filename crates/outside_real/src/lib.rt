@@ -1,16 +1,30 @@
-//! The real outside: files, standard input and standard output. It tells nothing of what they
-//! carry; each object counts its faults.
+//! The real outside: files, standard input and standard output, connections of TCP and the clock of
+//! the system. It tells nothing of what they carry; each object counts its faults.
 #![tactic(auto)]
 
+mod clock;
+mod gate;
+mod link;
+mod listener;
 mod real_outside;
 mod sink;
+mod socket;
 mod source;
 mod stream;
+mod system_clock;
+mod tcp;
 
+pub use clock::{ClockAttempt, RealClock};
+pub use gate::AcceptAttempt;
+pub use link::RealLink;
+pub use listener::RealListener;
 pub use real_outside::RealOutside;
 pub use sink::WriteSink;
+pub use socket::{SILENCE_LIMIT, SocketAttempt};
 pub use source::ReadSource;
 pub use stream::{ReadAttempt, Stream, WriteAttempt};
+pub use system_clock::SystemClock;
+pub use tcp::{TcpGate, TcpSocket};
 
 /// How often a call that a signal interrupts is tried.
 const TRIES: u32 = 1000;

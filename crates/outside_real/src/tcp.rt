@@ -1,0 +1,169 @@
+//! Connections of TCP, over IPv4 and IPv6.
+ghost use Rattle.std.specs.Prelude.{⊤, ◌≡◌, IfOk};
+ghost use Rattle.std.specs.Io.{ReadsAtMost, WritesAtMost};
+
+use crate::gate::AcceptAttempt;
+use crate::listener::RealListener;
+use crate::socket::SocketAttempt;
+use libc::net::{SO_KEEPALIVE, SOL_SOCKET, setsockopt};
+use mio::event::Source;
+use mio::net::{TcpListener, TcpStream};
+use mio::{Events, Interest, Poll, Token};
+use std::alloc::Global;
+use std::io;
+use std::io::{Read, Write};
+use std::net::{Net, Shutdown, SocketAddr};
+use std::os::fd::AsRawFd;
+use std::time::{Clock, Duration, Instant};
+
+/// How long a call waits at most for the other node, in milliseconds.
+const WAIT: u64 = 200;
+
+// Waits until one source can be read.
+#[derive(Drop)]
+struct Waiter {
+    poll: Poll,
+    events: Events,
+}
+
+impl Waiter {
+    // Watches this source. An error: the system refuses it, or no memory is left.
+    fn new<R: Net, S: Source>(runtime: &R, alloc: Global, source: &mut S) -> io::Result<Waiter> {
+        let poll = Poll::new(runtime)?;
+        let events = Events::with_capacity(alloc, 1)?;
+        poll.registry()
+            .register(source, Token(0), Interest::READABLE)?;
+        Ok(Waiter { poll, events })
+    }
+
+    // Waits until the source may be read, or the time is up.
+    fn wait(&mut self) -> bool {
+        let limit = Duration::from_millis(WAIT);
+        self.poll.poll(&mut self.events, Some(limit)).is_ok()
+    }
+}
+
+/// A connection that was accepted. It waits 200 milliseconds at most.
+#[derive(Drop)]
+pub struct TcpSocket<R> {
+    stream: TcpStream,
+    waiter: Waiter,
+    runtime: R,
+    accepted: Instant,
+}
+
+impl<R: Net + Clock + Copy> TcpSocket<R> {
+    // A connection that was accepted now. What it is given goes out at once (`TCP_NODELAY`).
+    fn new(runtime: R, alloc: Global, mut stream: TcpStream) -> io::Result<TcpSocket<R>> {
+        stream.set_nodelay(true)?;
+        keep_alive(&stream)?;
+        let waiter = Waiter::new(&runtime, alloc, &mut stream)?;
+        let accepted = Instant::now(&runtime)?;
+        Ok(TcpSocket {
+            stream,
+            waiter,
+            runtime,
+            accepted,
+        })
+    }
+}
+
+impl<R: Clock> SocketAttempt for TcpSocket<R> {
+    ghost reads = { λ before outcome after. ReadsAtMost outcome after.1 };
+
+    ghost writes = { λ piece before outcome after. WritesAtMost outcome piece };
+
+    // The system says nothing of waits, times and ends.
+    ghost waits = { λ before could after. ⊤ };
+
+    ghost ages = { λ socket age. ⊤ };
+
+    ghost shuts = { λ before after. ⊤ };
+
+    fn attempt_read(&mut self, buf: &mut [u8]) -> io::Result<usize> {
+        self.stream.read(buf)
+    }
+
+    fn attempt_write(&mut self, piece: &[u8]) -> io::Result<usize> {
+        self.stream.write(piece)
+    }
+
+    fn wait(&mut self) -> bool {
+        self.waiter.wait()
+    }
+
+    fn age(&self) -> Option<u64> {
+        let age = self.accepted.elapsed(&self.runtime).ok()?;
+        u64::try_from(age.as_millis()).ok()
+    }
+
+    fn shut(&mut self) {
+        // A connection that the other node has ended can't be shut down.
+        let _result = self.stream.shutdown(Shutdown::Both);
+    }
+}
+
+// Has the system ask after a node that is silent (`SO_KEEPALIVE`). The kit's sockets have no method
+// for it, so this is the call of C; what it requires is proved.
+fn keep_alive(stream: &TcpStream) -> io::Result<()> {
+    let mut on = [0u8; 16];
+    on[..4].copy_from_slice(&1i32.to_ne_bytes());
+    let fd = stream.as_raw_fd();
+    if unsafe { setsockopt(fd, SOL_SOCKET, SO_KEEPALIVE, &on, 4) } < 0 {
+        return Err(io::Error::from(io::ErrorKind::Other));
+    }
+    Ok(())
+}
+
+/// Accepts connections at one address. It waits 200 milliseconds at most.
+#[derive(Drop)]
+pub struct TcpGate<R> {
+    listener: TcpListener,
+    waiter: Waiter,
+    runtime: R,
+    alloc: Global,
+}
+
+impl<R: Net + Clock + Copy> TcpGate<R> {
+    /// Listens at an address such as `127.0.0.1:102` or `[::1]:102`, with `SO_REUSEADDR`; at port 0
+    /// the system chooses the port. An error: the text is no such address, the port is in use or
+    /// isn't allowed, or no memory or descriptor is left.
+    pub fn listen(runtime: R, alloc: Global, address: &str) -> io::Result<RealListener<TcpGate<R>>>
+        ensures { IfOk result (λ listener. listener.1 ≡ 0) }
+    {
+        let Ok(address) = address.parse::<SocketAddr>() else {
+            return Err(io::Error::from(io::ErrorKind::InvalidInput));
+        };
+        let mut listener = TcpListener::bind(&runtime, address)?;
+        let waiter = Waiter::new(&runtime, alloc, &mut listener)?;
+        Ok(RealListener::new(TcpGate {
+            listener,
+            waiter,
+            runtime,
+            alloc,
+        }))
+    }
+
+    /// The address at which it listens.
+    pub fn address(&self) -> io::Result<SocketAddr> {
+        self.listener.local_addr()
+    }
+}
+
+impl<R: Net + Clock + Copy> AcceptAttempt for TcpGate<R> {
+    type Socket = TcpSocket<R>;
+
+    // The system says nothing of who connects.
+    ghost accepts = { λ before outcome after. ⊤ };
+
+    ghost waits = { λ before could after. ⊤ };
+
+    fn attempt_accept(&mut self) -> io::Result<TcpSocket<R>> {
+        let (stream, _node) = self.listener.accept()?;
+        TcpSocket::new(self.runtime, self.alloc, stream)
+    }
+
+    fn wait(&mut self) -> bool {
+        self.waiter.wait()
+    }
+}
