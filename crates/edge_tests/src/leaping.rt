@@ -1,0 +1,36 @@
+//! A runtime whose clocks show what a test sets.
+use std::cell::Cell;
+use std::io;
+use std::net::{Net, SocketAddr};
+use std::time::{Clock, Duration};
+
+/// The network of a runtime, with clocks that stand at so many seconds.
+#[derive(Clone, Copy)]
+pub(crate) struct Leaping<'a, R> {
+    pub(crate) host: R,
+    pub(crate) seconds: &'a Cell<u64>,
+}
+
+impl<'a, R> Clock for Leaping<'a, R> {
+    fn monotonic(&self) -> io::Result<Duration> {
+        Ok(Duration::from_secs(self.seconds.get()))
+    }
+
+    fn since_1970(&self) -> io::Result<Duration> {
+        Ok(Duration::from_secs(self.seconds.get()))
+    }
+}
+
+impl<'a, R: Net> Net for Leaping<'a, R> {
+    type Stream = R::Stream;
+
+    type Listener = R::Listener;
+
+    fn bind(&self, addr: SocketAddr) -> io::Result<R::Listener> {
+        self.host.bind(addr)
+    }
+
+    fn connect(&self, addr: SocketAddr) -> io::Result<R::Stream> {
+        self.host.connect(addr)
+    }
+}

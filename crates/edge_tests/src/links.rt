@@ -1,0 +1,134 @@
+//! Links over real connections.
+use crate::leaping::Leaping;
+use crate::meeting::{Met, carry_in, carry_out, fill, meet, octets};
+use outside::WriteEnd;
+use outside_links::{Link, Listener, Recv};
+use std::cell::Cell;
+use std::io::{Read, Write};
+use std::net::Shutdown;
+use std::test::Fail;
+use std::time::{Duration, Instant};
+
+#[test]
+fn octets_go_both_ways(rt: HostRuntime) -> Result<(), Fail> {
+    let alloc = rt.alloc();
+    let mut met = meet(rt, alloc)?;
+    for count in [1usize, 1000, 70_000] {
+        let piece = octets(alloc, count)?;
+        let piece = piece.as_slice();
+        let out = carry_out(&mut met.link, &mut met.node, alloc, piece)?;
+        assert!(rt; out.as_slice() == piece, "{count} octets out");
+        let back = carry_in(&mut met.link, &mut met.node, alloc, piece)?;
+        assert!(rt; back.as_slice() == piece, "{count} octets in");
+    }
+    assert_eq!(rt; met.link.faults(), 0);
+    assert_eq!(rt; met.listener.faults(), 0);
+    Ok(())
+}
+
+#[test]
+fn a_node_that_closes_is_the_end(rt: HostRuntime) -> Result<(), Fail> {
+    let Met {
+        listener,
+        mut link,
+        mut node,
+    } = meet(rt, rt.alloc())?;
+    let mut buf = [0u8; 16];
+    node.write_all(b"last")?;
+    node.shutdown(Shutdown::Write)?;
+    assert_eq!(rt; link.recv(&mut buf), Recv::Got(4));
+    assert_eq!(rt; link.recv(&mut buf), Recv::End);
+    // the other direction is open
+    assert_eq!(rt; link.send(b"bye"), WriteEnd::Took(3));
+    assert_eq!(rt; node.read(&mut buf)?, 3);
+    drop(node);
+    assert_eq!(rt; link.recv(&mut buf), Recv::End);
+    assert_eq!(rt; link.faults(), 0);
+    drop(listener);
+    Ok(())
+}
+
+#[test]
+fn a_reset_is_a_fault_and_then_the_end(rt: HostRuntime) -> Result<(), Fail> {
+    let Met {
+        listener,
+        mut link,
+        node,
+    } = meet(rt, rt.alloc())?;
+    let mut buf = [0u8; 16];
+    assert_eq!(rt; link.send(b"unread"), WriteEnd::Took(6));
+    drop(node);
+    assert_eq!(rt; link.recv(&mut buf), Recv::Failed);
+    assert_eq!(rt; link.faults(), 1);
+    assert_eq!(rt; link.recv(&mut buf), Recv::End);
+    assert_eq!(rt; link.faults(), 1);
+    assert_eq!(rt; link.send(b"gone"), WriteEnd::Failed);
+    assert_eq!(rt; link.faults(), 2);
+    drop(listener);
+    Ok(())
+}
+
+#[test]
+fn a_node_that_never_reads_takes_nothing_in_the_end(rt: HostRuntime) -> Result<(), Fail> {
+    let mut met = meet(rt, rt.alloc())?;
+    let mut buf = [0u8; 16];
+    assert!(rt; fill(&mut met.link), "it took all");
+    assert_eq!(rt; met.link.recv(&mut buf), Recv::Idle);
+    assert_eq!(rt; met.link.faults(), 0);
+    Ok(())
+}
+
+#[test]
+fn a_closed_link_ends_both_ways(rt: HostRuntime) -> Result<(), Fail> {
+    let Met {
+        mut listener,
+        mut link,
+        mut node,
+    } = meet(rt, rt.alloc())?;
+    let mut buf = [0u8; 16];
+    node.write_all(b"unread")?;
+    assert_eq!(rt; link.send(b"bye"), WriteEnd::Took(3));
+    link.close();
+    assert_eq!(rt; link.recv(&mut buf), Recv::End);
+    assert_eq!(rt; link.faults(), 0);
+    assert_eq!(rt; node.read(&mut buf)?, 3);
+    assert_eq!(rt; node.read(&mut buf)?, 0);
+    link.close();
+    assert_eq!(rt; link.faults(), 0);
+    listener.retire(link);
+    assert_eq!(rt; listener.faults(), 0);
+    Ok(())
+}
+
+#[test]
+fn a_node_that_says_nothing_is_the_end_after_30_seconds(rt: HostRuntime) -> Result<(), Fail> {
+    let seconds = Cell::new(1000u64);
+    let leaping = Leaping {
+        host: rt,
+        seconds: &seconds,
+    };
+    let mut met = meet(leaping, rt.alloc())?;
+    let mut other = meet(leaping, rt.alloc())?;
+    let mut buf = [0u8; 16];
+    let begun = Instant::now(&rt)?;
+    assert_eq!(rt; met.link.recv(&mut buf), Recv::Idle);
+    let waited = begun.elapsed(&rt)?;
+    assert!(rt;
+        waited >= Duration::from_millis(190),
+        "it waited {waited:?}"
+    );
+    assert!(rt; waited < Duration::from_secs(5), "it waited {waited:?}");
+    other.node.write_all(b"here")?;
+    assert_eq!(rt; other.link.recv(&mut buf), Recv::Got(4));
+    seconds.set(1029);
+    assert_eq!(rt; met.link.recv(&mut buf), Recv::Idle);
+    seconds.set(1030);
+    assert_eq!(rt; met.link.recv(&mut buf), Recv::End);
+    assert_eq!(rt; other.link.recv(&mut buf), Recv::Idle);
+    // what comes too late isn't asked for
+    met.node.write_all(b"late")?;
+    assert_eq!(rt; met.link.recv(&mut buf), Recv::End);
+    assert_eq!(rt; met.link.faults(), 0);
+    assert_eq!(rt; other.link.faults(), 0);
+    Ok(())
+}
