@@ -2,9 +2,10 @@
 use crate::leaping::Leaping;
 use crate::meeting::{Met, carry_in, carry_out, fill, meet, octets};
 use outside::WriteEnd;
-use outside_links::{Link, Listener, Recv};
+use outside_links::{Accept, Link, Listener, Recv};
+use outside_real::{TcpGate, TcpSocket};
 use std::cell::Cell;
-use std::io::{Read, Write};
+use std::io::{Error, ErrorKind, Read, Write};
 use std::net::Shutdown;
 use std::test::Fail;
 use std::time::{Duration, Instant};
@@ -130,5 +131,29 @@ fn a_node_that_says_nothing_is_the_end_after_30_seconds(rt: HostRuntime) -> Resu
     assert_eq!(rt; met.link.recv(&mut buf), Recv::End);
     assert_eq!(rt; met.link.faults(), 0);
     assert_eq!(rt; other.link.faults(), 0);
+    Ok(())
+}
+
+#[test]
+fn a_link_that_connects(rt: HostRuntime) -> Result<(), Fail> {
+    let mut listener = TcpGate::listen(rt, rt.alloc(), "127.0.0.1:0")?;
+    let address = format!(in rt.alloc(); "{}", listener.gate().address()?)?;
+    let mut caller = TcpSocket::connect(rt, rt.alloc(), address.as_str())?;
+    let mut buf = [0u8; 16];
+    assert_eq!(rt; caller.recv(&mut buf), Recv::Idle);
+    assert_eq!(rt; caller.send(b"hello"), WriteEnd::Took(5));
+    let Accept::Link(mut link) = listener.accept() else {
+        return Err(Fail::from(Error::from(ErrorKind::Other)));
+    };
+    assert_eq!(rt; link.recv(&mut buf), Recv::Got(5));
+    assert_eq!(rt; link.send(b"bye"), WriteEnd::Took(3));
+    assert_eq!(rt; caller.recv(&mut buf), Recv::Got(3));
+    listener.retire(link);
+    assert_eq!(rt; caller.recv(&mut buf), Recv::End);
+    assert_eq!(rt; caller.faults(), 0);
+    drop(listener);
+    // nobody is there
+    assert!(rt; TcpSocket::connect(rt, rt.alloc(), address.as_str()).is_err());
+    assert!(rt; TcpSocket::connect(rt, rt.alloc(), "127.0.0.1").is_err());
     Ok(())
 }

@@ -50,7 +50,7 @@ pub trait SocketAttempt {
     fn wait(&mut self) -> bool
         ensures { waits self.old result self.new };
 
-    /// How many milliseconds ago it was accepted. None: the time can't be read.
+    /// How many milliseconds ago it was accepted; 0 where it wasn't. None: the time can't be read.
     fn age(&self) -> Option<u64>
         ensures { ages self.now result };
 

@@ -1,8 +1,10 @@
 //! Connections of TCP, over IPv4 and IPv6.
 ghost use Rattle.std.specs.Prelude.{⊤, ◌≡◌, IfOk};
 ghost use Rattle.std.specs.Io.{ReadsAtMost, WritesAtMost};
+ghost use Rattle.outside_real.specs.RealLinks.{RealLinkState, new_real_link};
 
 use crate::gate::AcceptAttempt;
+use crate::link::RealLink;
 use crate::listener::RealListener;
 use crate::socket::SocketAttempt;
 use libc::net::{SO_KEEPALIVE, SOL_SOCKET, setsockopt};
@@ -19,7 +21,10 @@ use std::time::{Clock, Duration, Instant};
 /// How long a call waits at most for the other node, in milliseconds.
 const WAIT: u64 = 200;
 
-// Waits until one source can be read.
+/// How long a connection may take to come about, in milliseconds.
+const CONNECT_WAIT: u64 = 5000;
+
+// Waits until one source is ready.
 #[derive(Drop)]
 struct Waiter {
     poll: Poll,
@@ -28,43 +33,84 @@ struct Waiter {
 
 impl Waiter {
     // Watches this source. An error: the system refuses it, or no memory is left.
-    fn new<R: Net, S: Source>(runtime: &R, alloc: Global, source: &mut S) -> io::Result<Waiter> {
+    fn new<R: Net, S: Source>(
+        runtime: &R,
+        alloc: Global,
+        source: &mut S,
+        interest: Interest,
+    ) -> io::Result<Waiter> {
         let poll = Poll::new(runtime)?;
         let events = Events::with_capacity(alloc, 1)?;
-        poll.registry()
-            .register(source, Token(0), Interest::READABLE)?;
+        poll.registry().register(source, Token(0), interest)?;
         Ok(Waiter { poll, events })
     }
 
-    // Waits until the source may be read, or the time is up.
-    fn wait(&mut self) -> bool {
-        let limit = Duration::from_millis(WAIT);
+    // Waits until the source may be ready, or so many milliseconds are up.
+    fn wait(&mut self, limit: u64) -> bool {
+        let limit = Duration::from_millis(limit);
         self.poll.poll(&mut self.events, Some(limit)).is_ok()
     }
 }
 
-/// A connection that was accepted. It waits 200 milliseconds at most.
+/// A connection. It waits 200 milliseconds at most.
 #[derive(Drop)]
 pub struct TcpSocket<R> {
     stream: TcpStream,
     waiter: Waiter,
     runtime: R,
-    accepted: Instant,
+    /// When it was accepted; none where it wasn't accepted but made.
+    accepted: Option<Instant>,
 }
 
 impl<R: Net + Clock + Copy> TcpSocket<R> {
-    // A connection that was accepted now. What it is given goes out at once (`TCP_NODELAY`).
-    fn new(runtime: R, alloc: Global, mut stream: TcpStream) -> io::Result<TcpSocket<R>> {
+    /// A link to the node at an address such as `127.0.0.1:102` or `[::1]:102`, which may be silent
+    /// for as long as it likes. An error: the text is no such address, no node has taken the
+    /// connection within five seconds, or no memory or descriptor is left.
+    pub fn connect(runtime: R, alloc: Global, address: &str) -> io::Result<RealLink<TcpSocket<R>>>
+        ensures { IfOk result (λ link. link ≡ new_real_link link.socket) }
+    {
+        let mut stream = TcpStream::connect(&runtime, socket_address(address)?)?;
+        wait_for_node(&runtime, alloc, &mut stream)?;
+        let socket = TcpSocket::new(runtime, alloc, stream, None)?;
+        Ok(RealLink::new(socket))
+    }
+
+    // A connection that stands. What it is given goes out at once (`TCP_NODELAY`).
+    fn new(
+        runtime: R,
+        alloc: Global,
+        mut stream: TcpStream,
+        accepted: Option<Instant>,
+    ) -> io::Result<TcpSocket<R>> {
         stream.set_nodelay(true)?;
         keep_alive(&stream)?;
-        let waiter = Waiter::new(&runtime, alloc, &mut stream)?;
-        let accepted = Instant::now(&runtime)?;
+        let waiter = Waiter::new(&runtime, alloc, &mut stream, Interest::READABLE)?;
         Ok(TcpSocket {
             stream,
             waiter,
             runtime,
             accepted,
         })
+    }
+}
+
+// Waits until a connection that was begun stands. An error: it failed, or the time is up.
+fn wait_for_node<R: Net>(runtime: &R, alloc: Global, stream: &mut TcpStream) -> io::Result<()> {
+    let mut waiter = Waiter::new(runtime, alloc, stream, Interest::WRITABLE)?;
+    waiter.wait(CONNECT_WAIT);
+    waiter.poll.registry().deregister(stream)?;
+    if let Some(error) = stream.take_error()? {
+        return Err(error);
+    }
+    let _node = stream.peer_addr()?;
+    Ok(())
+}
+
+// The address that a text such as `127.0.0.1:102` or `[::1]:102` is.
+fn socket_address(text: &str) -> io::Result<SocketAddr> {
+    match text.parse::<SocketAddr>() {
+        Ok(address) => Ok(address),
+        Err(_fault) => Err(io::Error::from(io::ErrorKind::InvalidInput)),
     }
 }
 
@@ -89,11 +135,14 @@ impl<R: Clock> SocketAttempt for TcpSocket<R> {
     }
 
     fn wait(&mut self) -> bool {
-        self.waiter.wait()
+        self.waiter.wait(WAIT)
     }
 
     fn age(&self) -> Option<u64> {
-        let age = self.accepted.elapsed(&self.runtime).ok()?;
+        let Some(accepted) = self.accepted else {
+            return Some(0);
+        };
+        let age = accepted.elapsed(&self.runtime).ok()?;
         u64::try_from(age.as_millis()).ok()
     }
 
@@ -131,11 +180,8 @@ impl<R: Net + Clock + Copy> TcpGate<R> {
     pub fn listen(runtime: R, alloc: Global, address: &str) -> io::Result<RealListener<TcpGate<R>>>
         ensures { IfOk result (λ listener. listener.1 ≡ 0) }
     {
-        let Ok(address) = address.parse::<SocketAddr>() else {
-            return Err(io::Error::from(io::ErrorKind::InvalidInput));
-        };
-        let mut listener = TcpListener::bind(&runtime, address)?;
-        let waiter = Waiter::new(&runtime, alloc, &mut listener)?;
+        let mut listener = TcpListener::bind(&runtime, socket_address(address)?)?;
+        let waiter = Waiter::new(&runtime, alloc, &mut listener, Interest::READABLE)?;
         Ok(RealListener::new(TcpGate {
             listener,
             waiter,
@@ -160,10 +206,11 @@ impl<R: Net + Clock + Copy> AcceptAttempt for TcpGate<R> {
 
     fn attempt_accept(&mut self) -> io::Result<TcpSocket<R>> {
         let (stream, _node) = self.listener.accept()?;
-        TcpSocket::new(self.runtime, self.alloc, stream)
+        let accepted = Instant::now(&self.runtime)?;
+        TcpSocket::new(self.runtime, self.alloc, stream, Some(accepted))
     }
 
     fn wait(&mut self) -> bool {
-        self.waiter.wait()
+        self.waiter.wait(WAIT)
     }
 }
