@@ -67,7 +67,8 @@ fn device_of(kind: CommandKind, by: Option<Key>, tag: u8) -> Device
     tagged(chosen(free, by), tag)
 }
 
-/// Who has selected a command, its tag, what is answered to a selection at 50,000, and who holds it then.
+/// Who has selected a command, its tag, what is answered to a selection at 50,000, and who holds it
+/// then.
 const SELECTIONS: &[(Option<Key>, u8, Select, Option<Hold>)] = &[
     (None, 0, Select::Granted, AGAIN),
     (None, 1, Select::Inhibited, None),

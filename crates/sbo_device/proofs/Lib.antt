@@ -1,3 +1,6 @@
 mod Worked
 pub mod SameHolders
 pub mod OneHolder
+pub mod BankLists
+pub mod BankMoves
+pub mod HoldsEnd

@@ -273,7 +273,7 @@ point_stays point [] = refl
 point_stays point (move ∷ moves) = point_stays point moves
 
 -- the facts of the state after moves as tests of the point itself and its last tag
-may_take : (point : ControlPoint) (moves : List DeviceMove) (key : Key)
+pub may_take : (point : ControlPoint) (moves : List DeviceMove) (key : Key)
     → Agrees (state_in point moves).hold (Holds point moves)
     → Decides (is_granted (state_in point moves) key)
     (MayTake point (tag_of moves).tag (Holds point moves) key)

@@ -1,5 +1,5 @@
 -- The definition of a device computed on worked moves, apart from all code.
-use Rattle.std.proofs.Common.{◌≡◌, true, false, List, [], ◌∷◌, Some, None, pos, refl}
+use Rattle.std.proofs.Common.{◌≡◌, true, false, List, [], ◌∷◌, map, Some, None, pos, refl}
 use Rattle.std.specs.Prelude.{codes}
 use Rattle.sbo_device.specs.declared.key.Key.{Key}
 use Rattle.sbo_device.specs.declared.kind.CommandKind.TheVariants.{Command, Setpoint}
@@ -9,6 +9,7 @@ use Rattle.sbo_device.specs.Moves.{ControlPoint, DeviceMove, selected, operated,
 use Rattle.sbo_device.specs.Moves.{tagged, Tag}
 use Rattle.sbo_device.specs.States.{state_in, select_answer, operate_answer, ended_by}
 use Rattle.sbo_device.specs.States.{tag_of, hold_of, permits, hold_ended}
+use Rattle.sbo_device.specs.Banks.{DeviceRecord, record_in, moved, device_at, moved_at, order_by}
 
 abbrev breaker : ControlPoint
 breaker = record { kind = Command; direct = false; span = 30000 }
@@ -168,3 +169,34 @@ tag_at_work = refl
 
 no_tag_at_first : tag_of chosen ≡ record { tag = 0; reason = [] }
 no_tag_at_first = refl
+
+-- side by side: a move of one is none of the others, a close is one of all; an operate gives an
+-- order once
+abbrev both : List DeviceRecord
+both = record_in breaker chosen ∷ record_in setpoint (tagged closing ∷ []) ∷ []
+
+one_is_operated : moved_at 0 (operated first (pos 1)) both
+    ≡ record_in breaker (operated first (pos 1) ∷ chosen) ∷ record_in setpoint (tagged closing ∷ [])
+    ∷ []
+one_is_operated = refl
+
+all_are_closed : map (λ d. d.state.hold) (map (moved (closed first)) both) ≡ None ∷ None ∷ []
+all_are_closed = refl
+
+none_beyond : moved_at 2 (tagged all) both ≡ both
+none_beyond = refl
+
+order_given : order_by 0 first (pos 1) (device_at both 0).state
+    ≡ record { device = 0; value = pos 1 } ∷ []
+order_given = refl
+
+given_once : order_by 0 first (pos 1)
+    (device_at (moved_at 0 (operated first (pos 1)) both) 0).state
+    ≡ []
+given_once = refl
+
+none_of_another : order_by 0 second (pos 1) (device_at both 0).state ≡ []
+none_of_another = refl
+
+reason_stands : (device_at (moved_at 0 (ticked 70000) both) 1).reason ≡ codes "work"
+reason_stands = refl

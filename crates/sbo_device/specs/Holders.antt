@@ -1,6 +1,7 @@
 -- Who holds a device, and which operates are permitted, told of each association by itself from the
 -- moves of the device.
-use Rattle.std.specs.Prelude.{◌≡◌, ◌≢◌, ◌⊎◌, ℕ, ◌+◌, ◌<◌, ℤ, pos, ◌≤ℤ◌, true, false, List, [], ◌∷◌}
+use Rattle.std.specs.Prelude.{◌≡◌, ◌≢◌, ◌⊎◌, ℕ, ◌+◌, ◌<◌, ◌≤◌, ℤ, pos, ◌≤ℤ◌, true, false, List, []}
+use Rattle.std.specs.Prelude.{◌∷◌}
 use Rattle.sbo_device.specs.declared.key.Key.{Key}
 use Rattle.sbo_device.specs.declared.kind.CommandKind.{CommandKind}
 use Rattle.sbo_device.specs.declared.kind.CommandKind.TheVariants.{Command, Setpoint}
@@ -58,3 +59,17 @@ Holds point (tagged tag ∷ moves) key until = Holds point moves key until
 abbrev pub IsPermitted : ControlPoint → List DeviceMove → Key → ℤ → Type 0
 IsPermitted point moves key value =
     MayOperate point (tag_of moves).tag (Holds point moves) key value
+
+-- what ends the hold of an association until a moment: a permitted operate of its own, its close,
+-- and the clock that stands at that moment or a later one
+abbrev pub EndsHold : ControlPoint → List DeviceMove → Key → ℕ → DeviceMove → Type 0
+EndsHold point moves key until (selected by now) = ⊥
+EndsHold point moves key until (operated by value) = (by ≡ key) × IsPermitted point moves by value
+EndsHold point moves key until (closed by) = by ≡ key
+EndsHold point moves key until (ticked now) = until ≤ now
+EndsHold point moves key until (tagged tag) = ⊥
+
+-- an association that selects anew what it holds holds it until another moment
+abbrev pub IsExtended : ControlPoint → List DeviceMove → Key → DeviceMove → Type 0
+IsExtended point moves key move =
+    (now : ℕ) × (move ≡ selected key now) × Holds point (move ∷ moves) key (now + point.span)

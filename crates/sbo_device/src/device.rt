@@ -1,8 +1,10 @@
 //! One device of the plant.
 ghost use Rattle.std.specs.Prelude.{◌≡◌, ℕ, ◌<◌, ◌≤◌, List, [], false, is_some};
 ghost use Rattle.sbo_device.specs.States.{state_in, after, ended_by, select_answer, operate_answer};
-ghost use Rattle.sbo_device.specs.States.{is_held_by, is_held_by_other, takes, inhibits};
-ghost use Rattle.sbo_device.specs.Moves.{selected, operated, closed, ticked, tagged};
+ghost use Rattle.sbo_device.specs.States.{is_held_by, is_held_by_other, is_granted, takes};
+ghost use Rattle.sbo_device.specs.States.{inhibits};
+ghost use Rattle.sbo_device.specs.declared.key.Key.{Key};
+ghost use Rattle.sbo_device.specs.Moves.{DeviceState, selected, operated, closed, ticked, tagged};
 
 use crate::{CommandKind, Hold, Key, Operate, Select};
 use std::marker::Model;
@@ -74,6 +76,19 @@ impl Device {
         }
     }
 
+    /// The answer that a select would have.
+    pub fn select_answer(&self, key: Key) -> Select
+        ensures { result ≡ select_answer self.now key }
+    {
+        if is_held_by_other(self.hold, key) {
+            return Select::HeldByOther;
+        }
+        if self.tag == OPEN_AND_CLOSE_INHIBITED {
+            return Select::Inhibited;
+        }
+        Select::Granted
+    }
+
     /// An association selects the device at this moment. Granted, it holds the device until the
     /// span of the device from now on has gone by, also where it held it before; refused, all
     /// stays as it was.
@@ -83,15 +98,12 @@ impl Device {
         ensures answer { result ≡ select_answer self.old key }
         ensures state { self.new ≡ after (selected key now) self.old }
     {
-        if is_held_by_other(self.hold, key) {
-            return Select::HeldByOther;
+        let answer = self.select_answer(key);
+        if is_granted(answer) {
+            let until = now + self.span;
+            self.hold = Some(Hold { key, until });
         }
-        if self.tag == OPEN_AND_CLOSE_INHIBITED {
-            return Select::Inhibited;
-        }
-        let until = now + self.span;
-        self.hold = Some(Hold { key, until });
-        Select::Granted
+        answer
     }
 
     /// An association operates the device. Ordered, the device is free; refused, all stays as it
@@ -125,6 +137,16 @@ impl Device {
         true
     }
 
+    /// The hold that ends where the clock stands at this moment.
+    pub fn ends_at(&self, now: u64) -> Option<Hold>
+        ensures { result ≡ ended_by (ticked now) self.now }
+    {
+        match self.hold {
+            Some(hold) if hold.until <= now => Some(hold),
+            _ => None,
+        }
+    }
+
     /// The clock stands at this moment. A hold that ends at it or before is handed back, and the
     /// device is free then.
     pub fn expire(&mut self, now: u64) -> Option<Hold>
@@ -132,13 +154,11 @@ impl Device {
         ensures ended { result ≡ ended_by (ticked now) self.old }
         ensures state { self.new ≡ after (ticked now) self.old }
     {
-        match self.hold {
-            Some(hold) if hold.until <= now => {
-                self.hold = None;
-                Some(hold)
-            }
-            _ => None,
+        let ended = self.ends_at(now);
+        if ended.is_some() {
+            self.hold = None;
         }
+        ended
     }
 
     /// Tags the device, 0 to [`TAG_LIMIT`]. A hold stays.
@@ -163,6 +183,18 @@ impl Device {
         ensures { result ≡ self.now.hold }
     {
         self.hold
+    }
+}
+
+/// Whether a select was granted.
+fn is_granted(answer: Select) -> bool
+    ensures { (s : DeviceState) (key : Key) → s.point.direct ≡ false
+        → answer ≡ select_answer s key → result ≡ is_granted s key }
+{
+    match answer {
+        Select::Granted => true,
+        Select::Inhibited => false,
+        Select::HeldByOther => false,
     }
 }
 
