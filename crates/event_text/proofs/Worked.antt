@@ -5,6 +5,7 @@ use Rattle.std.specs.Fmt.{digits}
 use Rattle.tase_points.specs.declared.kind.Kind.TheVariants as kinds
 use Rattle.tase_points.specs.declared.body.Body.TheVariants as bodies
 use Rattle.bilateral.specs.Rows.{CentreRows, no_table}
+use Rattle.sbo_device.specs.declared.kind.CommandKind.TheVariants.{Command}
 use Rattle.mms_data.specs.declared.object_name.Scope.TheVariants.{Vmd, Domain, Association}
 use Rattle.mms_data.specs.declared.outcome.Outcome.TheVariants.{Good, Fail}
 use Rattle.mms_data.specs.ObjectName.{ObjectName}
@@ -12,7 +13,8 @@ use Rattle.mms_data.specs.Datum.{boolean, integer, text}
 use Rattle.tase_views.specs.declared.call.CallKind.TheVariants.{Identify, Read, Write, NameList}
 use Rattle.tase_views.specs.declared.call.CallKind.TheVariants.{Odd}
 use Rattle.tase_views.specs.declared.event.EventKind.TheVariants.{Open, Request, Take, Close}
-use Rattle.tase_views.specs.declared.event.EventKind.TheVariants.{Update, Table, Tick, Ask, Stop}
+use Rattle.tase_views.specs.declared.event.EventKind.TheVariants.{Update, Table, Tag, Tick, Ask}
+use Rattle.tase_views.specs.declared.event.EventKind.TheVariants.{TakeOrders, Stop}
 use Rattle.tase_views.specs.declared.reply.ReadSpec.TheVariants as specs
 use Rattle.tase_views.specs.declared.reply.ReplyKind.TheVariants.{Identified, Results, Written}
 use Rattle.tase_views.specs.declared.reply.ReplyKind.TheVariants.{NamesAre, Error, Reject}
@@ -102,6 +104,14 @@ update_real-written : event_text (Update 0 (record {
 unfolding digits
 update_real-written = refl
 
+tag-written : event_text (Tag 7 (record { tag = 2; reason = codes "test run" }))
+    ≡ codes "tag 7 2 vtest%20run"
+unfolding digits
+tag-written = refl
+
+orders-written : event_text TakeOrders ≡ codes "orders"
+orders-written = refl
+
 stop-written : event_text Stop ≡ codes "stop"
 stop-written = refl
 
@@ -160,7 +170,13 @@ rows =
     record {
       points = record { name = codes "BUS1"; kind = kinds.State }
           ∷ record { name = codes "LOAD1"; kind = kinds.Discrete } ∷ [];
-      devices = [];
+      devices = record {
+        name = codes "BRK1";
+        kind = Command;
+        direct = false;
+        checkback = pos 77;
+        span = 30000;
+      } ∷ [];
       tables = record no_table { key = codes "A"; slots = 1 } ∷ [];
       variants = [] ∷ [];
     }
@@ -227,3 +243,41 @@ no_such_table-line = refl
 no_such_peer-line : feed_event_in rows (codes "table B 0") ≡ None
 unfolding rows
 no_such_peer-line = refl
+
+tag-line : feed_event_in rows (codes "tag BRK1 2 vtest%20run")
+    ≡ Some (Tag 0 (record { tag = 2; reason = codes "test run" }))
+unfolding rows
+tag-line = refl
+
+bare_tag-line : feed_event_in rows (codes "tag BRK1 0 v")
+    ≡ Some (Tag 0 (record { tag = 0; reason = [] }))
+unfolding rows
+bare_tag-line = refl
+
+high_tag-line : feed_event_in rows (codes "tag BRK1 3 v") ≡ None
+unfolding rows
+high_tag-line = refl
+
+no_such_device-line : feed_event_in rows (codes "tag BRK2 1 v") ≡ None
+unfolding rows
+no_such_device-line = refl
+
+no_reason-line : feed_event_in rows (codes "tag BRK1 1") ≡ None
+unfolding rows
+no_reason-line = refl
+
+no_text-line : feed_event_in rows (codes "tag BRK1 1 test") ≡ None
+unfolding rows
+no_text-line = refl
+
+orders-line : centre_event_in rows (codes "orders") ≡ Some TakeOrders
+unfolding rows
+orders-line = refl
+
+long_orders-line : centre_event_in rows (codes "orders all") ≡ None
+unfolding rows
+long_orders-line = refl
+
+no_orders_of_a_feed-line : feed_event_in rows (codes "orders") ≡ None
+unfolding rows
+no_orders_of_a_feed-line = refl

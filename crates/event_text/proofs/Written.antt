@@ -13,8 +13,7 @@ use Rattle.std.proofs.lemmas.List.Elements.{All-head, All-tail}
 use Rattle.std.proofs.lemmas.Fmt.{decimal_is_IsNumeral}
 use Rattle.plain_text.specs.Escaped.{is_plain, escaped_octet, escaped_text}
 use Rattle.plain_text.specs.Words.{words}
-use Rattle.mms_data.specs.Datum.{Datum, boolean, integer, unsigned, bits, real, octets, text}
-use Rattle.mms_data.specs.Datum.{structure, array}
+use Rattle.mms_data.specs.Datum.{Datum, boolean}
 use Rattle.mms_data.specs.declared.object_name.Scope.{Scope}
 use Rattle.mms_data.specs.declared.object_name.Scope.TheVariants.{Vmd, Domain, Association}
 use Rattle.mms_data.specs.ObjectName.{ObjectName, IsName, IsScope, IsIdentifier}

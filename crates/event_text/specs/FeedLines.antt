@@ -6,7 +6,7 @@ use Rattle.std.specs.Int.{w32}
 use Rattle.std.specs.Int.RustNames.{FitsSigned}
 use Rattle.std.specs.List.{list_all}
 use Rattle.plain_text.specs.Octets.{hex_text}
-use Rattle.plain_text.specs.Escaped.{is_octet}
+use Rattle.plain_text.specs.Escaped.{is_octet, unescaped}
 use Rattle.plain_text.specs.Numbers.{if_passes, number_up_to, integer_word_within, hex_octet}
 use Rattle.plain_text.specs.Numbers.{hex_octets}
 use Rattle.plain_text.specs.Words.{words_in}
@@ -18,9 +18,15 @@ use Rattle.tase_points.specs.Sample.{Sample}
 use Rattle.tase_points.specs.Points.{kind_of}
 use Rattle.tase_points.specs.Same.{same_kind}
 use Rattle.tase_points.specs.Values.{IsSample}
-use Rattle.bilateral.specs.Rows.{CentreRows, place_of_point, place_of_peer, point_of, variants_of}
+use Rattle.mms_text.specs.WordValue.{is_visible}
+use Rattle.bilateral.specs.Rows.{CentreRows, place_of_point, place_of_device, place_of_peer}
+use Rattle.bilateral.specs.Rows.{point_of, variants_of}
+use Rattle.sbo_device.specs.declared.device.TheConstants.{TAG_LIMIT}
+use Rattle.sbo_device.specs.Moves.{Tag}
 use Rattle.tase_views.specs.declared.event.EventKind.{EventKind}
-use Rattle.tase_views.specs.declared.event.EventKind.TheVariants.{Update, Table, Tick, Ask, Stop}
+use Rattle.tase_views.specs.declared.event.EventKind.TheVariants.{Update, Table, Tick, Ask}
+use Rattle.tase_views.specs.declared.event.EventKind.TheVariants.{TakeOrders, Stop}
+use Rattle.tase_views.specs.declared.event.EventKind.TheVariants as events
 use Rattle.tase_views.specs.EventTexts.{body_text}
 use Rattle.tase_views.specs.Outcomes.{has_slot}
 use Rattle.event_text.specs.declared.feed.TheConstants.{TABLE_NUMBER_LIMIT, SLOT_NUMBER_LIMIT}
@@ -72,6 +78,25 @@ choice_in rows (key ∷ number ∷ []) =
     (number_up_to TABLE_NUMBER_LIMIT number)) (place_of_peer rows key)
 choice_in rows words = None
 
+-- the reason of a tag: visible octets as escaped text behind `v`
+abbrev pub reason_in : List ℕ → Option (List ℕ)
+reason_in [] = None
+reason_in (letter ∷ held) =
+    if letter == 118 then option_and_then (if_passes is_visible) (unescaped held) else None
+
+-- a tag and its reason
+abbrev pub tag_words_in : List ℕ → List ℕ → Option Tag
+tag_words_in number reason =
+    option_and_then (λ n. option_map (λ r. record { tag = n; reason = r }) (reason_in reason))
+    (number_up_to TAG_LIMIT number)
+
+-- `NAME TAG vREASON` behind `tag`
+abbrev pub tagging_in : CentreRows → List (List ℕ) → Option EventKind
+tagging_in rows (name ∷ number ∷ reason ∷ []) =
+    option_and_then (λ device. option_map (events.Tag device) (tag_words_in number reason))
+    (place_of_device rows name)
+tagging_in rows words = None
+
 -- the request for a transfer set of a peer, from 1 on, where a table of the peer has it
 abbrev pub ask_of : CentreRows → ℕ → ℕ → Option EventKind
 ask_of rows peer number =
@@ -90,17 +115,19 @@ abbrev pub stop_in : List (List ℕ) → Option EventKind
 stop_in [] = Some Stop
 stop_in (word ∷ words) = None
 
--- `update NAME BODY FLAGS SECONDS MILLIS`, `table KEY NUMBER`, `ask KEY NUMBER` or `stop`
+-- `update NAME BODY FLAGS SECONDS MILLIS`, `table KEY NUMBER`, `tag NAME TAG vREASON`,
+-- `ask KEY NUMBER` or `stop`
 abbrev pub feed_words_in : CentreRows → List (List ℕ) → Option EventKind
 feed_words_in rows [] = None
 feed_words_in rows (verb ∷ words) =
     if bytes_eq verb (codes "update") then update_in rows words
     else (if bytes_eq verb (codes "table") then choice_in rows words
+    else (if bytes_eq verb (codes "tag") then tagging_in rows words
     else (if bytes_eq verb (codes "ask") then ask_in rows words
-    else (if bytes_eq verb (codes "stop") then stop_in words else None)))
+    else (if bytes_eq verb (codes "stop") then stop_in words else None))))
 
 -- the event of seat 0 that a line asks for, where it is one of the forms and names a point of the
--- centre with a value of this point's kind, or a peer and a table or a transfer set of it
+-- centre with a value of this point's kind, a device, or a peer and a table or a transfer set of it
 abbrev pub feed_event_in : CentreRows → List ℕ → Option EventKind
 feed_event_in rows line = option_and_then (feed_words_in rows) (words_in line)
 
@@ -109,11 +136,18 @@ abbrev pub tick_in : List (List ℕ) → Option EventKind
 tick_in (now ∷ []) = option_map Tick (number_up_to LAST_MOMENT now)
 tick_in words = None
 
--- `tick NOW`, or a line of a feed
+-- nothing behind `orders`
+abbrev pub orders_in : List (List ℕ) → Option EventKind
+orders_in [] = Some TakeOrders
+orders_in (word ∷ words) = None
+
+-- `tick NOW`, `orders`, or a line of a feed
 abbrev pub centre_words_in : CentreRows → List (List ℕ) → Option EventKind
 centre_words_in rows [] = None
 centre_words_in rows (verb ∷ words) =
-    if bytes_eq verb (codes "tick") then tick_in words else feed_words_in rows (verb ∷ words)
+    if bytes_eq verb (codes "tick") then tick_in words
+    else (if bytes_eq verb (codes "orders") then orders_in words
+    else feed_words_in rows (verb ∷ words))
 
 -- the event of seat 0 that a line of a scenario asks for
 abbrev pub centre_event_in : CentreRows → List ℕ → Option EventKind

@@ -1,17 +1,23 @@
 //! The lines of a feed, and of the clock, read.
-ghost use Rattle.std.specs.Prelude.{◌≡◌, ◌<◌, ◌≤◌, length, IfOk};
+ghost use Rattle.std.specs.Prelude.{◌≡◌, ◌<◌, ◌≤◌, length, option_and_then, IfOk};
+ghost use Rattle.plain_text.specs.Escaped.{unescaped};
+ghost use Rattle.plain_text.specs.Numbers.{if_passes};
 ghost use Rattle.plain_text.specs.Words.{words};
+ghost use Rattle.mms_text.specs.WordValue.{is_visible as visible};
 ghost use Rattle.event_text.specs.declared.feed.TheConstants.{SLOT_NUMBER_LIMIT};
 ghost use Rattle.event_text.specs.FeedLines.{feed_event_in, update_in, update_of};
-ghost use Rattle.event_text.specs.FeedLines.{choice_in, choice_of, ask_in, ask_of, tick_in};
+ghost use Rattle.event_text.specs.FeedLines.{choice_in, choice_of, tagging_in, tag_words_in};
+ghost use Rattle.event_text.specs.FeedLines.{reason_in, ask_in, ask_of, tick_in, orders_in};
 ghost use Rattle.event_text.specs.FeedLines.{centre_event_in};
 
 use crate::values::read_value;
+use ber_values::{Visible, is_visible};
 use bilateral::Centre;
-use plain_text::{is_spaced, next_word, read_number, two_words};
+use plain_text::{is_spaced, next_word, read_escaped, read_number, three_words, two_words};
+use sbo_device::TAG_LIMIT;
 use std::alloc::{AllocError, Global};
 use tase_points::PointValue;
-use tase_views::{Event, EventKind, has_slot};
+use tase_views::{DeviceTag, Event, EventKind, has_slot};
 
 /// The largest number of a table that a line names; a peer has fewer.
 pub const TABLE_NUMBER_LIMIT: u64 = 4294967295;
@@ -30,8 +36,8 @@ pub const LAST_MOMENT: u64 = 2147483647999;
 const _: () = prove!(LAST_MOMENT == 2_147_483_647_999);
 
 /// The event of seat 0 that a line of a scenario asks for: `tick NOW`, the clock in milliseconds
-/// since 1970, or a line of a feed. None for every other line. It takes no memory; `alloc` is for
-/// lines to come.
+/// since 1970; `orders`, the plant takes its orders; or a line of a feed. None for every other
+/// line.
 pub fn read_centre_line(
     alloc: Global,
     centre: &Centre,
@@ -47,6 +53,8 @@ pub fn read_centre_line(
     };
     if verb == b"tick".as_slice() {
         Ok(read_tick(rest))
+    } else if verb == b"orders".as_slice() {
+        Ok(read_orders(rest))
     } else {
         read_feed_line(alloc, centre, line)
     }
@@ -64,14 +72,24 @@ fn read_tick(text: &[u8]) -> Option<Event>
     Some(Event::new(EventKind::Tick { now }))
 }
 
+/// Nothing behind `orders`: the plant takes its orders.
+fn read_orders(text: &[u8]) -> Option<Event>
+    ensures { result ≡ orders_in (words text.now) }
+{
+    if next_word(text).is_some() {
+        return None;
+    }
+    Some(Event::new(EventKind::TakeOrders))
+}
+
 /// The event of seat 0 that a line of a feed or of a scenario asks for:
 /// `update NAME BODY FLAGS SECONDS MILLIS`, where the centre has a point of this name and the value
 /// is of the point's kind; `table KEY NUMBER`, where it has a peer with this key that has this
-/// table, 0 being the peer's first; `ask KEY NUMBER`, where one of the peer's tables offers this
-/// transfer set, 1 being the first; or `stop`. None for every other line. It takes no memory;
-/// `alloc` is for lines to come.
+/// table, 0 being the peer's first; `tag NAME TAG vREASON`, where it has a device of this name;
+/// `ask KEY NUMBER`, where one of the peer's tables offers this transfer set, 1 being the first; or
+/// `stop`. None for every other line.
 pub fn read_feed_line(
-    _alloc: Global,
+    alloc: Global,
     centre: &Centre,
     line: &[u8],
 ) -> Result<Option<Event>, AllocError>
@@ -87,6 +105,8 @@ pub fn read_feed_line(
         Ok(read_update(centre, rest))
     } else if verb == b"table".as_slice() {
         Ok(read_choice(centre, rest))
+    } else if verb == b"tag".as_slice() {
+        read_tagging(alloc, centre, rest)
     } else if verb == b"ask".as_slice() {
         Ok(read_ask(centre, rest))
     } else if verb == b"stop".as_slice() && next_word(rest).is_none() {
@@ -145,6 +165,59 @@ fn choice_at(centre: &Centre, peer: u32, variant: u32) -> Option<Event>
     } else {
         None
     }
+}
+
+/// `NAME TAG vREASON` behind `tag`: the operator tags a device.
+fn read_tagging(alloc: Global, centre: &Centre, text: &[u8]) -> Result<Option<Event>, AllocError>
+    ensures { IfOk result (λ event. event ≡ tagging_in centre.now (words text.now)) }
+{
+    let Some((name, number, reason)) = three_words(text) else {
+        return Ok(None);
+    };
+    let Some(device) = centre.find_device(name) else {
+        return Ok(None);
+    };
+    let Some(tag) = read_tag(alloc, number, reason)? else {
+        return Ok(None);
+    };
+    Ok(Some(Event::new(EventKind::Tag { device, tag })))
+}
+
+/// The tag that a number and a reason are.
+fn read_tag(alloc: Global, number: &[u8], reason: &[u8]) -> Result<Option<DeviceTag>, AllocError>
+    ensures { IfOk result (λ tag. tag ≡ tag_words_in number.now reason.now) }
+{
+    let Some(tag) = read_number(number, u64::from(TAG_LIMIT)) else {
+        return Ok(None);
+    };
+    let Some(reason) = read_reason(alloc, reason)? else {
+        return Ok(None);
+    };
+    Ok(Some(DeviceTag::new(tag as u8, reason)))
+}
+
+/// The reason of a tag: `v` and escaped text.
+fn read_reason(alloc: Global, word: &[u8]) -> Result<Option<Visible>, AllocError>
+    ensures { IfOk result (λ reason. reason ≡ reason_in word.now) }
+{
+    match word {
+        [b'v', held @ ..] => read_visible(alloc, held),
+        _ => Ok(None),
+    }
+}
+
+/// The text of visible octets that a word stands for.
+fn read_visible(alloc: Global, word: &[u8]) -> Result<Option<Visible>, AllocError>
+    ensures { IfOk result (λ octets. octets
+        ≡ option_and_then (if_passes visible) (unescaped word.now)) }
+{
+    let Some(octets) = read_escaped(alloc, word)? else {
+        return Ok(None);
+    };
+    if !is_visible(&octets) {
+        return Ok(None);
+    }
+    Ok(Some(Visible::new(octets)))
 }
 
 /// `KEY NUMBER` behind `ask`: the operator asks for a report of a transfer set of a peer.

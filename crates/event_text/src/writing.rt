@@ -28,8 +28,9 @@ pub fn spell_call(out: &mut Vec<u8>, call: &Call) -> Result<(), AllocError>
 }
 
 /// Appends the text of an event: `open PEER`, `call CALL`, `take`, `close`,
-/// `update POINT BODY FLAGS SECONDS MILLIS` or `stop`, with peers and points by their numbers.
-/// After want of memory `out` is as before.
+/// `update POINT BODY FLAGS SECONDS MILLIS`, `table PEER VARIANT`, `tag DEVICE TAG vREASON`,
+/// `tick NOW`, `ask PEER SLOT`, `orders` or `stop`, with peers, points, tables, devices and
+/// transfer sets by their numbers. After want of memory `out` is as before.
 pub fn spell_event(out: &mut Vec<u8>, event: &Event) -> Result<(), AllocError>
     ensures ok { OnOk result (out.new.items ≡ out.old.items ++ event_text event.now) }
     ensures err { OnErr result (out.new.items ≡ out.old.items) }

@@ -15,8 +15,8 @@ use Rattle.bilateral.specs.declared.rows.Table.{Table}
 use Rattle.bilateral.specs.declared.rows.Control.{Control}
 use Rattle.bilateral.specs.Rows.{CentreRows, IsCentre, IsControlling, variants_of, table_of}
 use Rattle.bilateral.specs.Rows.{further_of, no_table, device_of, no_device}
-use Rattle.tase_views.specs.OwnTables.{OwnDevice, OwnTable, OwnTables, own_device, whole_table}
-use Rattle.tase_views.specs.OwnTables.{whole_tables, table_in, no_own_table, device_named}
+use Rattle.tase_views.specs.OwnTables.{OwnDevice, OwnTable, OwnTables, own_device, own_table}
+use Rattle.tase_views.specs.OwnTables.{own_tables, table_in, no_own_table, device_named}
 use Rattle.tase_views.specs.OwnTables.{is_selectable}
 use Rattle.tase_views.specs.Objects.{control_point, object_named}
 use Rattle.tase_views.proofs.OwnDevices.{Each, named_is}
@@ -66,19 +66,19 @@ item_all P tables k all beyond =
 
 tables_rows : (rows : CentreRows) (tables : List Table)
     → All (IsControlling (length rows.devices)) tables
-    → All (λ (table : OwnTable). Each (IsRow rows) table.devices) (map (whole_table rows) tables)
+    → All (λ (table : OwnTable). Each (IsRow rows) table.devices) (map (own_table rows) tables)
 tables_rows rows tables all k other within =
-    let there = subst (λ n. k < n) (length-map tables (whole_table rows)) within in
+    let there = subst (λ n. k < n) (length-map tables (own_table rows)) within in
     subst (λ (table : OwnTable). Each (IsRow rows) table.devices)
-    (sym (get_or-map (whole_table rows) tables k no_table other there))
+    (sym (get_or-map (own_table rows) tables k no_table other there))
     (rows_of rows (slice_index_or tables k no_table).controls (all k no_table there).known)
 
 -- the devices of each table are rows
 pub table_rows : (rows : CentreRows) (peer n : ℕ) → IsCentre rows
-    → Each (IsRow rows) (table_in (whole_tables rows peer) n).devices
+    → Each (IsRow rows) (table_in (own_tables rows peer) n).devices
 table_rows rows peer n lawful =
     item_all (λ (table : OwnTable). Each (IsRow rows) table.devices)
-    (whole_tables rows peer).tables n
+    (own_tables rows peer).tables n
     (tables_rows rows (variants_of rows peer) (controlling rows peer lawful)) tt
 
 each_joined : (P : OwnDevice → Type 0) (one other : List OwnDevice) → Each P one → Each P other
@@ -160,48 +160,61 @@ each_any all (d ∷ devices) more = (
   each_any all devices (λ test e. more test (either (test d) _ e)),
 )
 
+pub each_as : (P Q : OwnDevice → Type 0) (devices : List OwnDevice)
+    → ((d : OwnDevice) → P d → Q d) → Each P devices → Each Q devices
+each_as P Q [] so all = tt
+each_as P Q (d ∷ devices) so all = (so d all.0, each_as P Q devices so all.1)
+
+-- each device of each table is one that the tables name
+pub table_named : (tables : OwnTables) (n : ℕ)
+    → Each (λ d. is_some (device_named tables d.row.name) ≡ true) (table_in tables n).devices
+table_named tables n =
+    let devices = (table_in tables n).devices in
+    each_as
+    (λ d. list_any (λ (e : OwnDevice). bytes_eq e.row.name d.row.name) devices ≡ true)
+    (λ d. is_some (device_named tables d.row.name) ≡ true) devices
+    (λ d there. found_any (λ (e : OwnDevice). bytes_eq e.row.name d.row.name)
+    (flat_map (λ (t : OwnTable). t.devices) tables.tables)
+    (any_table (λ (e : OwnDevice). bytes_eq e.row.name d.row.name) tables.tables n there))
+    (each_any devices devices (λ test e. e))
+
 pub point_named : (rows : CentreRows) (peer n : ℕ) (name : ObjectName) (d : OwnDevice)
-    → object_named (table_in (whole_tables rows peer) n) name ≡ Some (control_point d)
-    → is_some (device_named (whole_tables rows peer) d.row.name) ≡ true
+    → object_named (table_in (own_tables rows peer) n) name ≡ Some (control_point d)
+    → is_some (device_named (own_tables rows peer) d.row.name) ≡ true
 point_named rows peer n name d is =
-    let tables = whole_tables rows peer in
-    let table = table_in tables n in
-    let test : OwnDevice → Bool = λ e. bytes_eq e.row.name d.row.name in
-    found_any test (flat_map (λ (t : OwnTable). t.devices) tables.tables)
-    (any_table test tables.tables n
-    (named_is
-    (λ d. list_any (λ (e : OwnDevice). bytes_eq e.row.name d.row.name) table.devices ≡ true)
-    table name (control_point d) (each_any table.devices table.devices (λ test e. e)) is))
+    let tables = own_tables rows peer in
+    named_is (λ d. is_some (device_named tables d.row.name) ≡ true) (table_in tables n) name
+    (control_point d) (table_named tables n) is
 
 -- the device of a control point is a row
 pub point_row : (rows : CentreRows) (peer n : ℕ) (name : ObjectName) (d : OwnDevice)
     → IsCentre rows
-    → object_named (table_in (whole_tables rows peer) n) name ≡ Some (control_point d)
+    → object_named (table_in (own_tables rows peer) n) name ≡ Some (control_point d)
     → IsRow rows d
 point_row rows peer n name d lawful is =
-    named_is (IsRow rows) (table_in (whole_tables rows peer) n) name (control_point d)
+    named_is (IsRow rows) (table_in (own_tables rows peer) n) name (control_point d)
     (table_rows rows peer n lawful) is
 
 -- and whether it is direct is what the tables have of its name
 pub point_selectable : (rows : CentreRows) (peer n : ℕ) (name : ObjectName) (d : OwnDevice)
     → IsCentre rows
-    → object_named (table_in (whole_tables rows peer) n) name ≡ Some (control_point d)
-    → is_selectable (whole_tables rows peer) d.row.name ≡ not d.row.direct
+    → object_named (table_in (own_tables rows peer) n) name ≡ Some (control_point d)
+    → is_selectable (own_tables rows peer) d.row.name ≡ not d.row.direct
 point_selectable rows peer n name d lawful is =
     by (device_named tables d.row.name) refl (point_named rows peer n name d is)
   where
     tables : OwnTables
-    tables = whole_tables rows peer
+    tables = own_tables rows peer
 
-    by : (found : Option OwnDevice) → device_named (whole_tables rows peer) d.row.name ≡ found
-        → is_some (device_named (whole_tables rows peer) d.row.name) ≡ true
-        → is_selectable (whole_tables rows peer) d.row.name ≡ not d.row.direct
+    by : (found : Option OwnDevice) → device_named (own_tables rows peer) d.row.name ≡ found
+        → is_some (device_named (own_tables rows peer) d.row.name) ≡ true
+        → is_selectable (own_tables rows peer) d.row.name ≡ not d.row.direct
     by None e there = absurd (false≢true (sym (ap (λ (o : Option OwnDevice). is_some o) e) ∙ there))
     by (Some found) e there =
-        let all = each_flat (IsRow rows) (whole_tables rows peer).tables
+        let all = each_flat (IsRow rows) (own_tables rows peer).tables
         (tables_rows rows (variants_of rows peer) (controlling rows peer lawful)) in
         let its = found_is (IsRow rows) (λ (x : OwnDevice). bytes_eq x.row.name d.row.name)
-        (flat_map (λ (t : OwnTable). t.devices) (whole_tables rows peer).tables) found all e in
+        (flat_map (λ (t : OwnTable). t.devices) (own_tables rows peer).tables) found all e in
         let row = same_row rows found d lawful its.0 (point_row rows peer n name d lawful is)
         ((bytes_eq-Decides found.row.name d.row.name).0 its.1) in
         ap (λ (o : Option OwnDevice). option_map_or (λ x. not x.row.direct) o false) e

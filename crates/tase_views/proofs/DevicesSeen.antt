@@ -18,7 +18,7 @@ use Rattle.tase_views.specs.Moves.{Act, opens, takes, closes, reads, writes, def
 use Rattle.tase_views.specs.Moves.{calls}
 use Rattle.tase_views.specs.Moves.{Move, acts, updates, tags, ticks, asks, chooses, takes_orders}
 use Rattle.tase_views.specs.Moves.{stops}
-use Rattle.tase_views.specs.OwnTables.{OwnDevice, OwnTable, OwnTables, whole_tables, device_named}
+use Rattle.tase_views.specs.OwnTables.{OwnDevice, OwnTable, OwnTables, own_tables, device_named}
 use Rattle.tase_views.specs.OwnTables.{is_selectable, is_point_of}
 use Rattle.tase_views.specs.Devices.{Deed, deed_of, DeviceStep, step_of_deed, moment_of}
 use Rattle.tase_views.specs.Devices.{done_by, step_for, device_moves}
@@ -37,7 +37,7 @@ move_for name now step = option_and_then (step_for name now) step
 
 -- what a move of the node, and a seen move, are to the device
 abbrev pub move_in : CentreRows → List ℕ → ℕ → List Move → Move → Option DeviceMove
-move_in rows name now before move = move_for name now (step_in rows (whole_tables rows) before move)
+move_in rows name now before move = move_for name now (step_in rows (own_tables rows) before move)
 
 abbrev told_in : OwnTables → List ℕ → View → Seen → Option DeviceMove
 told_in tables name view seen =
@@ -66,7 +66,7 @@ kept known number move = if is_kept known move then Some (renumbered number move
 abbrev pub has_part : CentreRows → ℕ → List Move → ℕ → Bool
 has_part rows peer before other =
     (other == peer)
-    || shares (whole_tables rows peer) (held_in rows (whole_tables rows) before other)
+    || shares (own_tables rows peer) (held_in rows (own_tables rows) before other)
 
 -- a deed, with the device's own number of the peer
 renumbered_deed : (known : ℕ → Bool) (number : ℕ → ℕ) (key : Key) (now : ℕ) (act : DeviceAct)
@@ -179,10 +179,10 @@ own_deed_in rows peer ordinal known name now deed =
 -- what an act of an association by this table is, as its own peer sees it
 own_act : (rows : CentreRows) (peer ordinal : ℕ) (name : List ℕ) (before : List Move) (view : View)
     (act : Act)
-    → held (whole_tables rows peer) view ≡ held_in rows (whole_tables rows) before peer
-    → told_in (whole_tables rows peer) name view (own ordinal act)
+    → held (own_tables rows peer) view ≡ held_in rows (own_tables rows) before peer
+    → told_in (own_tables rows peer) name view (own ordinal act)
     ≡ option_and_then (kept (has_part rows peer before) (peer_number rows peer))
-    (move_in rows name (moment_of (steps_seen (whole_tables rows peer) view)) before
+    (move_in rows name (moment_of (steps_seen (own_tables rows peer) view)) before
     (acts (record { peer = peer; ordinal = ordinal }) act))
 own_act rows peer ordinal name before view closes same =
     by (peer == peer) refl (eq-eqb peer peer refl)
@@ -196,26 +196,26 @@ own_act rows peer ordinal name before view opens same = refl
 own_act rows peer ordinal name before view takes same = refl
 own_act rows peer ordinal name before view (reads item) same =
     ap (λ (table : OwnTable).
-    move_for name (moment_of (steps_seen (whole_tables rows peer) view))
+    move_for name (moment_of (steps_seen (own_tables rows peer) view))
     (option_map (step_of_deed (own_key ordinal))
     (deed_of table (reads item)))) same
     ∙ own_deed_in rows peer ordinal (has_part rows peer before) name
-    (moment_of (steps_seen (whole_tables rows peer) view))
-    (deed_of (held_in rows (whole_tables rows) before peer) (reads item))
+    (moment_of (steps_seen (own_tables rows peer) view))
+    (deed_of (held_in rows (own_tables rows) before peer) (reads item))
 own_act rows peer ordinal name before view (writes item value) same =
     ap (λ (table : OwnTable).
-    move_for name (moment_of (steps_seen (whole_tables rows peer) view))
+    move_for name (moment_of (steps_seen (own_tables rows peer) view))
     (option_map (step_of_deed (own_key ordinal))
     (deed_of table (writes item value)))) same
     ∙ own_deed_in rows peer ordinal (has_part rows peer before) name
-    (moment_of (steps_seen (whole_tables rows peer) view))
-    (deed_of (held_in rows (whole_tables rows) before peer) (writes item value))
+    (moment_of (steps_seen (own_tables rows peer) view))
+    (deed_of (held_in rows (own_tables rows) before peer) (writes item value))
 own_act rows peer ordinal name before view (defines set members) same = refl
 own_act rows peer ordinal name before view (deletes set) same = refl
 own_act rows peer ordinal name before view (calls call) same = refl
 
 other_close : (rows : CentreRows) (peer : ℕ) (name : List ℕ) (view : View) (key : Key) (b : Bool)
-    → option_and_then (told_in (whole_tables rows peer) name view)
+    → option_and_then (told_in (own_tables rows peer) name view)
     (if b then Some (other_closed (table_of rows key.peer).key key.ordinal) else None)
     ≡ (if b then Some (device.closed (other_key (table_of rows key.peer).key key.ordinal))
     else None)
@@ -224,30 +224,30 @@ other_close rows peer name view key false = refl
 
 -- and as another one sees it, by the key of its peer
 other_act : (rows : CentreRows) (peer : ℕ) (name : List ℕ) (before : List Move) (view : View)
-    (key : Key) (act : Act) → is_selectable (whole_tables rows peer) name ≡ true
+    (key : Key) (act : Act) → is_selectable (own_tables rows peer) name ≡ true
     → (key.peer == peer) ≡ false
-    → option_and_then (told_in (whole_tables rows peer) name view)
-    (other_seen (whole_tables rows peer) (table_of rows key.peer).key
-    (held_in rows (whole_tables rows) before key.peer) key.ordinal act)
+    → option_and_then (told_in (own_tables rows peer) name view)
+    (other_seen (own_tables rows peer) (table_of rows key.peer).key
+    (held_in rows (own_tables rows) before key.peer) key.ordinal act)
     ≡ option_and_then (kept (has_part rows peer before) (peer_number rows peer))
-    (move_in rows name (moment_of (steps_seen (whole_tables rows peer) view)) before (acts key act))
+    (move_in rows name (moment_of (steps_seen (own_tables rows peer) view)) before (acts key act))
 other_act rows peer name before view key closes there apart =
     other_close rows peer name view key
-    (shares (whole_tables rows peer) (held_in rows (whole_tables rows) before key.peer))
+    (shares (own_tables rows peer) (held_in rows (own_tables rows) before key.peer))
     ∙ rw apart refl
 other_act rows peer name before view key opens there apart = refl
 other_act rows peer name before view key takes there apart = refl
 other_act rows peer name before view key (reads item) there apart =
     other_deed (has_part rows peer before) (peer_number rows peer)
-    (whole_tables rows peer) view name
+    (own_tables rows peer) view name
     (table_of rows key.peer).key key
-    (deed_of (held_in rows (whole_tables rows) before key.peer) (reads item)) there
+    (deed_of (held_in rows (own_tables rows) before key.peer) (reads item)) there
     (other_number rows peer key apart)
 other_act rows peer name before view key (writes item value) there apart =
     other_deed (has_part rows peer before) (peer_number rows peer)
-    (whole_tables rows peer) view name
+    (own_tables rows peer) view name
     (table_of rows key.peer).key key
-    (deed_of (held_in rows (whole_tables rows) before key.peer) (writes item value)) there
+    (deed_of (held_in rows (own_tables rows) before key.peer) (writes item value)) there
     (other_number rows peer key apart)
 other_act rows peer name before view key (defines set members) there apart = refl
 other_act rows peer name before view key (deletes set) there apart = refl
@@ -294,21 +294,21 @@ kept_tag known number tag false = refl
 
 -- move by move: what is seen of one is what it is to the device
 move_seen : (rows : CentreRows) (peer : ℕ) (name : List ℕ) (before : List Move) (view : View)
-    (move : Move) → is_selectable (whole_tables rows peer) name ≡ true
-    → held (whole_tables rows peer) view ≡ held_in rows (whole_tables rows) before peer
-    → option_and_then (told_in (whole_tables rows peer) name view)
-    (seen_by rows (whole_tables rows) peer before move)
+    (move : Move) → is_selectable (own_tables rows peer) name ≡ true
+    → held (own_tables rows peer) view ≡ held_in rows (own_tables rows) before peer
+    → option_and_then (told_in (own_tables rows peer) name view)
+    (seen_by rows (own_tables rows) peer before move)
     ≡ option_and_then (kept (has_part rows peer before) (peer_number rows peer))
-    (move_in rows name (moment_of (steps_seen (whole_tables rows peer) view)) before move)
+    (move_in rows name (moment_of (steps_seen (own_tables rows peer) view)) before move)
 move_seen rows peer name before view (acts key act) there held_same = by (key.peer == peer) refl
   where
     by : (t : Bool) → (key.peer == peer) ≡ t
-        → option_and_then (told_in (whole_tables rows peer) name view)
+        → option_and_then (told_in (own_tables rows peer) name view)
         (if key.peer == peer then Some (own key.ordinal act)
-        else other_seen (whole_tables rows peer) (table_of rows key.peer).key
-        (held_in rows (whole_tables rows) before key.peer) key.ordinal act)
+        else other_seen (own_tables rows peer) (table_of rows key.peer).key
+        (held_in rows (own_tables rows) before key.peer) key.ordinal act)
         ≡ option_and_then (kept (has_part rows peer before) (peer_number rows peer))
-        (move_in rows name (moment_of (steps_seen (whole_tables rows peer) view)) before
+        (move_in rows name (moment_of (steps_seen (own_tables rows peer) view)) before
         (acts key act))
     by true e =
         let same : key ≡ record { peer = peer; ordinal = key.ordinal } =
@@ -317,55 +317,55 @@ move_seen rows peer name before view (acts key act) there held_same = by (key.pe
         rw e (own_act rows peer key.ordinal name before view act held_same
         ∙ ap (λ (k : Key). option_and_then (kept (has_part rows peer before)
         (peer_number rows peer))
-        (move_in rows name (moment_of (steps_seen (whole_tables rows peer) view)) before
+        (move_in rows name (moment_of (steps_seen (own_tables rows peer) view)) before
         (acts k act))) (sym same))
     by false e = rw e (other_act rows peer name before view key act there e)
 move_seen rows peer name before view (updates point value) there held_same =
-    unseen_if (whole_tables rows peer) name view (is_point_of rows peer point)
+    unseen_if (own_tables rows peer) name view (is_point_of rows peer point)
     (updated (point_of rows point).name value) refl
 move_seen rows peer name before view (tags device tag) there held_same =
-    seen_tag (whole_tables rows peer) view name (device_of rows device).name tag
-    (has_named (whole_tables rows peer) name there)
+    seen_tag (own_tables rows peer) view name (device_of rows device).name tag
+    (has_named (own_tables rows peer) name there)
     ∙ kept_tag (has_part rows peer before) (peer_number rows peer) tag
     (bytes_eq (device_of rows device).name name)
 move_seen rows peer name before view (ticks now) there held_same = refl
 move_seen rows peer name before view (asks asker slot) there held_same =
-    unseen_if (whole_tables rows peer) name view (asker == peer) (asked slot) refl
+    unseen_if (own_tables rows peer) name view (asker == peer) (asked slot) refl
 move_seen rows peer name before view (chooses chooser variant) there held_same =
-    unseen_if (whole_tables rows peer) name view (chooser == peer) (chose variant) refl
+    unseen_if (own_tables rows peer) name view (chooser == peer) (chose variant) refl
 move_seen rows peer name before view takes_orders there held_same = refl
 move_seen rows peer name before view stops there held_same = refl
 
 -- the move of the node to the device, behind others
 abbrev pub move_behind : CentreRows → List ℕ → List Move → Move → Option DeviceMove
 move_behind rows name before move =
-    move_in rows name (moment_of (steps_in rows (whole_tables rows) before)) before move
+    move_in rows name (moment_of (steps_in rows (own_tables rows) before)) before move
 
 pub device_moves-in : (rows : CentreRows) (name : List ℕ) (before : List Move) (move : Move)
-    → device_moves name (steps_in rows (whole_tables rows) (move ∷ before))
+    → device_moves name (steps_in rows (own_tables rows) (move ∷ before))
     ≡ cons_option (move_behind rows name before move)
-    (device_moves name (steps_in rows (whole_tables rows) before))
+    (device_moves name (steps_in rows (own_tables rows) before))
 device_moves-in rows name before move =
-    device_moves-cons name (step_in rows (whole_tables rows) before move)
-    (steps_in rows (whole_tables rows) before)
+    device_moves-cons name (step_in rows (own_tables rows) before move)
+    (steps_in rows (own_tables rows) before)
 
 -- one move more in a view
 pub moves_seen-in : (rows : CentreRows) (peer : ℕ) (name : List ℕ) (before : List Move)
-    (move : Move) → is_selectable (whole_tables rows peer) name ≡ true
-    → moves_seen (whole_tables rows peer)
-    (view_by rows (whole_tables rows) peer (move ∷ before)) name
+    (move : Move) → is_selectable (own_tables rows peer) name ≡ true
+    → moves_seen (own_tables rows peer)
+    (view_by rows (own_tables rows) peer (move ∷ before)) name
     ≡ cons_option (option_and_then (kept (has_part rows peer before) (peer_number rows peer))
     (move_behind rows name before move))
-    (moves_seen (whole_tables rows peer) (view_by rows (whole_tables rows) peer before) name)
+    (moves_seen (own_tables rows peer) (view_by rows (own_tables rows) peer before) name)
 moves_seen-in rows peer name before move there =
-    let tables = whole_tables rows peer in
-    let view = view_by rows (whole_tables rows) peer before in
-    moves_seen-cons tables name (seen_by rows (whole_tables rows) peer before move) view
+    let tables = own_tables rows peer in
+    let view = view_by rows (own_tables rows) peer before in
+    moves_seen-cons tables name (seen_by rows (own_tables rows) peer before move) view
     ∙ ap (λ (o : Option DeviceMove). cons_option o (moves_seen tables view name))
     (move_seen rows peer name before view move there
-    (held-seen rows (whole_tables rows) peer before)
+    (held-seen rows (own_tables rows) peer before)
     ∙ ap (λ (now : ℕ). option_and_then (kept (has_part rows peer before) (peer_number rows peer))
-    (move_in rows name now before move)) (moment-alike rows (whole_tables rows) peer before))
+    (move_in rows name now before move)) (moment-alike rows (own_tables rows) peer before))
 
 -- tags
 
@@ -466,8 +466,8 @@ other_close_tag tables view name key_text ordinal false = refl
 
 own_tag : (rows : CentreRows) (peer ordinal : ℕ) (name : List ℕ) (before : List Move)
     (view : View) (now : ℕ) (act : Act)
-    → held (whole_tables rows peer) view ≡ held_in rows (whole_tables rows) before peer
-    → option_and_then tag_move (told_in (whole_tables rows peer) name view (own ordinal act))
+    → held (own_tables rows peer) view ≡ held_in rows (own_tables rows) before peer
+    → option_and_then tag_move (told_in (own_tables rows peer) name view (own ordinal act))
     ≡ option_and_then tag_move
     (move_in rows name now before (acts (record { peer = peer; ordinal = ordinal }) act))
 own_tag rows peer ordinal name before view now closes same = refl
@@ -475,60 +475,60 @@ own_tag rows peer ordinal name before view now opens same = refl
 own_tag rows peer ordinal name before view now takes same = refl
 own_tag rows peer ordinal name before view now (reads item) same =
     ap (λ (table : OwnTable). option_and_then tag_move
-    (move_for name (moment_of (steps_seen (whole_tables rows peer) view))
+    (move_for name (moment_of (steps_seen (own_tables rows peer) view))
     (option_map (step_of_deed (own_key ordinal))
     (deed_of table (reads item))))) same
     ∙ deed_tag name (own_key ordinal)
     (record { peer = peer; ordinal = ordinal })
-    (moment_of (steps_seen (whole_tables rows peer) view)) now
-    (deed_of (held_in rows (whole_tables rows) before peer) (reads item))
+    (moment_of (steps_seen (own_tables rows peer) view)) now
+    (deed_of (held_in rows (own_tables rows) before peer) (reads item))
 own_tag rows peer ordinal name before view now (writes item value) same =
     ap (λ (table : OwnTable). option_and_then tag_move
-    (move_for name (moment_of (steps_seen (whole_tables rows peer) view))
+    (move_for name (moment_of (steps_seen (own_tables rows peer) view))
     (option_map (step_of_deed (own_key ordinal))
     (deed_of table (writes item value))))) same
     ∙ deed_tag name (own_key ordinal)
     (record { peer = peer; ordinal = ordinal })
-    (moment_of (steps_seen (whole_tables rows peer) view)) now
-    (deed_of (held_in rows (whole_tables rows) before peer) (writes item value))
+    (moment_of (steps_seen (own_tables rows peer) view)) now
+    (deed_of (held_in rows (own_tables rows) before peer) (writes item value))
 own_tag rows peer ordinal name before view now (defines set members) same = refl
 own_tag rows peer ordinal name before view now (deletes set) same = refl
 own_tag rows peer ordinal name before view now (calls call) same = refl
 
 other_tag : (rows : CentreRows) (peer : ℕ) (name : List ℕ) (before : List Move) (view : View)
-    (now : ℕ) (key : Key) (act : Act) → is_some (device_named (whole_tables rows peer) name) ≡ true
-    → option_and_then tag_move (option_and_then (told_in (whole_tables rows peer) name view)
-    (other_seen (whole_tables rows peer) (table_of rows key.peer).key
-    (held_in rows (whole_tables rows) before key.peer) key.ordinal act))
+    (now : ℕ) (key : Key) (act : Act) → is_some (device_named (own_tables rows peer) name) ≡ true
+    → option_and_then tag_move (option_and_then (told_in (own_tables rows peer) name view)
+    (other_seen (own_tables rows peer) (table_of rows key.peer).key
+    (held_in rows (own_tables rows) before key.peer) key.ordinal act))
     ≡ option_and_then tag_move (move_in rows name now before (acts key act))
 other_tag rows peer name before view now key closes there =
-    other_close_tag (whole_tables rows peer) view name (table_of rows key.peer).key key.ordinal
-    (shares (whole_tables rows peer) (held_in rows (whole_tables rows) before key.peer))
+    other_close_tag (own_tables rows peer) view name (table_of rows key.peer).key key.ordinal
+    (shares (own_tables rows peer) (held_in rows (own_tables rows) before key.peer))
 other_tag rows peer name before view now key opens there = refl
 other_tag rows peer name before view now key takes there = refl
 other_tag rows peer name before view now key (reads item) there =
-    other_deed_tag (whole_tables rows peer) view name (table_of rows key.peer).key key now
-    (deed_of (held_in rows (whole_tables rows) before key.peer) (reads item)) there
+    other_deed_tag (own_tables rows peer) view name (table_of rows key.peer).key key now
+    (deed_of (held_in rows (own_tables rows) before key.peer) (reads item)) there
 other_tag rows peer name before view now key (writes item value) there =
-    other_deed_tag (whole_tables rows peer) view name (table_of rows key.peer).key key now
-    (deed_of (held_in rows (whole_tables rows) before key.peer) (writes item value)) there
+    other_deed_tag (own_tables rows peer) view name (table_of rows key.peer).key key now
+    (deed_of (held_in rows (own_tables rows) before key.peer) (writes item value)) there
 other_tag rows peer name before view now key (defines set members) there = refl
 other_tag rows peer name before view now key (deletes set) there = refl
 other_tag rows peer name before view now key (calls call) there = refl
 
 move_tag : (rows : CentreRows) (peer : ℕ) (name : List ℕ) (before : List Move) (view : View)
-    (now : ℕ) (move : Move) → is_some (device_named (whole_tables rows peer) name) ≡ true
-    → held (whole_tables rows peer) view ≡ held_in rows (whole_tables rows) before peer
-    → option_and_then tag_move (option_and_then (told_in (whole_tables rows peer) name view)
-    (seen_by rows (whole_tables rows) peer before move))
+    (now : ℕ) (move : Move) → is_some (device_named (own_tables rows peer) name) ≡ true
+    → held (own_tables rows peer) view ≡ held_in rows (own_tables rows) before peer
+    → option_and_then tag_move (option_and_then (told_in (own_tables rows peer) name view)
+    (seen_by rows (own_tables rows) peer before move))
     ≡ option_and_then tag_move (move_in rows name now before move)
 move_tag rows peer name before view now (acts key act) there held_same = by (key.peer == peer) refl
   where
     by : (t : Bool) → (key.peer == peer) ≡ t
-        → option_and_then tag_move (option_and_then (told_in (whole_tables rows peer) name view)
+        → option_and_then tag_move (option_and_then (told_in (own_tables rows peer) name view)
         (if t then Some (own key.ordinal act)
-        else other_seen (whole_tables rows peer) (table_of rows key.peer).key
-        (held_in rows (whole_tables rows) before key.peer) key.ordinal act))
+        else other_seen (own_tables rows peer) (table_of rows key.peer).key
+        (held_in rows (own_tables rows) before key.peer) key.ordinal act))
         ≡ option_and_then tag_move (move_in rows name now before (acts key act))
     by true e =
         let same : key ≡ record { peer = peer; ordinal = key.ordinal } =
@@ -540,41 +540,41 @@ move_tag rows peer name before view now (acts key act) there held_same = by (key
     by false e = other_tag rows peer name before view now key act there
 move_tag rows peer name before view now (updates point value) there held_same =
     ap (option_and_then tag_move)
-    (unseen_if (whole_tables rows peer) name view (is_point_of rows peer point)
+    (unseen_if (own_tables rows peer) name view (is_point_of rows peer point)
     (updated (point_of rows point).name value) refl)
 move_tag rows peer name before view now (tags device tag) there held_same =
     ap (option_and_then tag_move)
-    (seen_tag (whole_tables rows peer) view name (device_of rows device).name tag there)
+    (seen_tag (own_tables rows peer) view name (device_of rows device).name tag there)
 move_tag rows peer name before view now (ticks moment) there held_same = refl
 move_tag rows peer name before view now (asks asker slot) there held_same =
     ap (option_and_then tag_move)
-    (unseen_if (whole_tables rows peer) name view (asker == peer) (asked slot) refl)
+    (unseen_if (own_tables rows peer) name view (asker == peer) (asked slot) refl)
 move_tag rows peer name before view now (chooses chooser variant) there held_same =
     ap (option_and_then tag_move)
-    (unseen_if (whole_tables rows peer) name view (chooser == peer) (chose variant) refl)
+    (unseen_if (own_tables rows peer) name view (chooser == peer) (chose variant) refl)
 move_tag rows peer name before view now takes_orders there held_same = refl
 move_tag rows peer name before view now stops there held_same = refl
 
 -- a peer sees the tag of a device of its tables as all moves have it
 pub tag-seen : (rows : CentreRows) (moves : List Move) (peer : ℕ) (name : List ℕ)
-    → is_some (device_named (whole_tables rows peer) name) ≡ true
-    → tag_of (moves_seen (whole_tables rows peer)
-    (view_by rows (whole_tables rows) peer moves) name)
-    ≡ tag_of (device_moves name (steps_in rows (whole_tables rows) moves))
+    → is_some (device_named (own_tables rows peer) name) ≡ true
+    → tag_of (moves_seen (own_tables rows peer)
+    (view_by rows (own_tables rows) peer moves) name)
+    ≡ tag_of (device_moves name (steps_in rows (own_tables rows) moves))
 tag-seen rows [] peer name there = refl
 tag-seen rows (move ∷ before) peer name there =
-    let tables = whole_tables rows peer in
-    let view = view_by rows (whole_tables rows) peer before in
-    let seen = seen_by rows (whole_tables rows) peer before move in
-    let now = moment_of (steps_in rows (whole_tables rows) before) in
+    let tables = own_tables rows peer in
+    let view = view_by rows (own_tables rows) peer before in
+    let seen = seen_by rows (own_tables rows) peer before move in
+    let now = moment_of (steps_in rows (own_tables rows) before) in
     let told = option_and_then (told_in tables name view) seen in
     let rest = moves_seen tables view name in
-    let all = device_moves name (steps_in rows (whole_tables rows) before) in
+    let all = device_moves name (steps_in rows (own_tables rows) before) in
     ap tag_of (moves_seen-cons tables name seen view)
     ∙ tag_of-cons told rest
     ∙ ap (λ (o : Option Tag). option_map_or (λ (t : Tag). t) o (tag_of rest))
     (move_tag rows peer name before view now move there
-    (held-seen rows (whole_tables rows) peer before))
+    (held-seen rows (own_tables rows) peer before))
     ∙ ap (λ (t : Tag). option_map_or (λ (u : Tag). u)
     (option_and_then tag_move (move_behind rows name before move)) t)
     (tag-seen rows before peer name there)

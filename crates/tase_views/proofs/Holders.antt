@@ -23,7 +23,7 @@ use Rattle.tase_views.specs.Moves.{Act, opens, takes, closes, reads, writes, def
 use Rattle.tase_views.specs.Moves.{calls}
 use Rattle.tase_views.specs.Moves.{Move, acts, updates, tags, ticks, asks, chooses, takes_orders}
 use Rattle.tase_views.specs.Moves.{stops}
-use Rattle.tase_views.specs.OwnTables.{OwnDevice, OwnTable, OwnTables, whole_tables, table_in}
+use Rattle.tase_views.specs.OwnTables.{OwnDevice, OwnTable, OwnTables, own_tables, table_in}
 use Rattle.tase_views.specs.OwnTables.{no_own_table, is_selectable}
 use Rattle.tase_views.specs.Devices.{Deed, deed_of, step_of_deed, moment_of, done_by, device_moves}
 use Rattle.tase_views.specs.View.{held_in, view_by, steps_in, moves_seen, peer_number}
@@ -56,13 +56,13 @@ each_shares tables table (d ∷ devices) all = (
     first false b e = absurd (false≢true e)
 
 deed_part : (rows : CentreRows) (peer : ℕ) (name : List ℕ) (before : List Move) (key : Key)
-    (act : Act) (deed : Deed) → is_selectable (whole_tables rows peer) name ≡ true
-    → deed_of (held_in rows (whole_tables rows) before key.peer) act ≡ Some deed
+    (act : Act) (deed : Deed) → is_selectable (own_tables rows peer) name ≡ true
+    → deed_of (held_in rows (own_tables rows) before key.peer) act ≡ Some deed
     → bytes_eq deed.device.row.name name ≡ true
     → has_part rows peer before key.peer ≡ true
 deed_part rows peer name before key act deed there is same =
-    let tables = whole_tables rows peer in
-    let table = held_in rows (whole_tables rows) before key.peer in
+    let tables = own_tables rows peer in
+    let table = held_in rows (own_tables rows) before key.peer in
     either (key.peer == peer) (shares tables table)
     (deed_is (λ d. is_selectable tables d.row.name ≡ true → shares tables table ≡ true) table act
     deed (each_shares tables table table.devices (λ all. all)) is
@@ -81,8 +81,8 @@ good_behind : (rows : CentreRows) (peer : ℕ) (before : List Move) (move : Move
 good_behind rows peer before move None orderly stays good = tt
 good_behind rows peer before move (Some hold) orderly stays good = (
   stays hold.key good.0,
-  ap (λ (table : OwnTable). (hold.key.peer == peer) || shares (whole_tables rows peer) table)
-      (held_stays rows (whole_tables rows) before move hold.key orderly (stays hold.key good.0))
+  ap (λ (table : OwnTable). (hold.key.peer == peer) || shares (own_tables rows peer) table)
+      (held_stays rows (own_tables rows) before move hold.key orderly (stays hold.key good.0))
       ∙ good.1,
 )
 
@@ -99,8 +99,8 @@ good_close rows peer before by (Some hold) orderly good = one (same_key hold.key
         let stays = open_behind_close by hold.key before e good.0 in (
           stays,
           ap (λ (table : OwnTable).
-              (hold.key.peer == peer) || shares (whole_tables rows peer) table)
-              (held_stays rows (whole_tables rows) before (acts by closes) hold.key orderly stays)
+              (hold.key.peer == peer) || shares (own_tables rows peer) table)
+              (held_stays rows (own_tables rows) before (acts by closes) hold.key orderly stays)
               ∙ good.1,
         )
 
@@ -154,7 +154,7 @@ good_tag rows peer before tag s true good = good
 good_tag rows peer before tag s false good = good
 
 good_step : (rows : CentreRows) (peer : ℕ) (name : List ℕ) (before : List Move) (move : Move)
-    (s : DeviceState) → is_selectable (whole_tables rows peer) name ≡ true
+    (s : DeviceState) → is_selectable (own_tables rows peer) name ≡ true
     → AreOrderly (move ∷ before) → IsGood rows peer before s.hold
     → IsGood rows peer (move ∷ before) (state_behind (move_behind rows name before move) s).hold
 good_step rows peer name before (acts key closes) s there orderly good =
@@ -165,11 +165,11 @@ good_step rows peer name before (acts key opens) s there orderly good =
 good_step rows peer name before (acts key takes) s there orderly good = good
 good_step rows peer name before (acts key (reads item)) s there orderly good =
     good_deed rows peer name before key _ s
-    (deed_of (held_in rows (whole_tables rows) before key.peer) (reads item)) orderly.0
+    (deed_of (held_in rows (own_tables rows) before key.peer) (reads item)) orderly.0
     (λ deed. deed_part rows peer name before key (reads item) deed there) good
 good_step rows peer name before (acts key (writes item value)) s there orderly good =
     good_deed rows peer name before key _ s
-    (deed_of (held_in rows (whole_tables rows) before key.peer) (writes item value)) orderly.0
+    (deed_of (held_in rows (own_tables rows) before key.peer) (writes item value)) orderly.0
     (λ deed. deed_part rows peer name before key (writes item value) deed there) good
 good_step rows peer name before (acts key (defines set members)) s there orderly good = good
 good_step rows peer name before (acts key (deletes set)) s there orderly good = good
@@ -205,12 +205,12 @@ behind_orderly takes_orders before orderly = orderly
 behind_orderly stops before orderly = orderly
 
 pub all_good : (rows : CentreRows) (peer : ℕ) (name : List ℕ) (point : ControlPoint)
-    (moves : List Move) → is_selectable (whole_tables rows peer) name ≡ true → AreOrderly moves
+    (moves : List Move) → is_selectable (own_tables rows peer) name ≡ true → AreOrderly moves
     → IsGood rows peer moves
-    (hold_of point (device_moves name (steps_in rows (whole_tables rows) moves)))
+    (hold_of point (device_moves name (steps_in rows (own_tables rows) moves)))
 all_good rows peer name point [] there orderly = tt
 all_good rows peer name point (move ∷ before) there orderly =
-    let all = device_moves name (steps_in rows (whole_tables rows) before) in
+    let all = device_moves name (steps_in rows (own_tables rows) before) in
     subst (λ (moves : List DeviceMove). IsGood rows peer (move ∷ before) (hold_of point moves))
     (sym (device_moves-in rows name before move))
     (subst (λ (s : DeviceState). IsGood rows peer (move ∷ before) s.hold)
@@ -263,12 +263,12 @@ dropped rows peer before (Some (device.closed key)) s good =
     by false e = rw (unknown_holds_nothing rows peer before key s.hold good e) refl
 
 kept_state : (rows : CentreRows) (peer : ℕ) (name : List ℕ) (point : ControlPoint)
-    (moves : List Move) → is_selectable (whole_tables rows peer) name ≡ true → AreOrderly moves
+    (moves : List Move) → is_selectable (own_tables rows peer) name ≡ true → AreOrderly moves
     → state_in point (kept_moves rows peer name moves)
-    ≡ state_in point (device_moves name (steps_in rows (whole_tables rows) moves))
+    ≡ state_in point (device_moves name (steps_in rows (own_tables rows) moves))
 kept_state rows peer name point [] there orderly = refl
 kept_state rows peer name point (move ∷ before) there orderly =
-    let all = device_moves name (steps_in rows (whole_tables rows) before) in
+    let all = device_moves name (steps_in rows (own_tables rows) before) in
     let part = option_and_then (keeps (has_part rows peer before))
     (move_behind rows name before move) in
     let earlier = behind_orderly move before orderly in
@@ -284,22 +284,22 @@ pub part_may : (rows : CentreRows) (peer : ℕ) (before : List Move) (other : �
     → has_part rows peer before other ≡ true → may_share rows peer other ≡ true
 part_may rows peer before other part = by (other == peer) part
   where
-    any : (tables : OwnTables) (n : ℕ) → shares (whole_tables rows peer) (table_in tables n) ≡ true
-        → list_any (shares (whole_tables rows peer)) tables.tables ≡ true
+    any : (tables : OwnTables) (n : ℕ) → shares (own_tables rows peer) (table_in tables n) ≡ true
+        → list_any (shares (own_tables rows peer)) tables.tables ≡ true
     any tables n shared =
         ⊎_elim
-        (λ within. list_any_at (shares (whole_tables rows peer)) tables.tables n no_own_table within
+        (λ within. list_any_at (shares (own_tables rows peer)) tables.tables n no_own_table within
         shared)
-        (λ past. absurd (false≢true (sym (ap (shares (whole_tables rows peer))
+        (λ past. absurd (false≢true (sym (ap (shares (own_tables rows peer))
         (get_or_past tables.tables n no_own_table past)) ∙ shared)))
         (cases_lt n (length tables.tables))
 
     by : (t : Bool)
-        → (t || shares (whole_tables rows peer) (held_in rows (whole_tables rows) before other))
+        → (t || shares (own_tables rows peer) (held_in rows (own_tables rows) before other))
         ≡ true
-        → (t || list_any (shares (whole_tables rows peer)) (whole_tables rows other).tables) ≡ true
+        → (t || list_any (shares (own_tables rows peer)) (own_tables rows other).tables) ≡ true
     by true e = refl
-    by false e = any (whole_tables rows other) _ e
+    by false e = any (own_tables rows other) _ e
 
 shown-cons : (known : ℕ → Bool) (number : ℕ → ℕ) (move : Option DeviceMove)
     (moves : List DeviceMove)
@@ -335,16 +335,16 @@ kept_twice known now_known number more (Some (device.closed key)) = by (now_know
 
 -- the moves of a device in a view are these, as shown
 moves-shown : (rows : CentreRows) (peer : ℕ) (name : List ℕ) (moves : List Move)
-    → is_selectable (whole_tables rows peer) name ≡ true
-    → moves_seen (whole_tables rows peer) (view_by rows (whole_tables rows) peer moves) name
+    → is_selectable (own_tables rows peer) name ≡ true
+    → moves_seen (own_tables rows peer) (view_by rows (own_tables rows) peer moves) name
     ≡ shown (may_share rows peer) (peer_number rows peer) (kept_moves rows peer name moves)
 moves-shown rows peer name [] there = refl
 moves-shown rows peer name (move ∷ before) there =
     let o = move_behind rows name before move in
     let part = option_and_then (keeps (has_part rows peer before)) o in
     moves_seen-in rows peer name before move there
-    ∙ ap (λ (m : Option DeviceMove). cons_option m (moves_seen (whole_tables rows peer)
-    (view_by rows (whole_tables rows) peer before) name))
+    ∙ ap (λ (m : Option DeviceMove). cons_option m (moves_seen (own_tables rows peer)
+    (view_by rows (own_tables rows) peer before) name))
     (kept_twice (may_share rows peer) (has_part rows peer before) (peer_number rows peer)
     (part_may rows peer before) o)
     ∙ ap (λ (l : List DeviceMove).
@@ -405,21 +405,21 @@ tag_known known tag true = tt
 tag_known known tag false = tt
 
 move_known : (rows : CentreRows) (peer : ℕ) (name : List ℕ) (before : List Move) (move : Move)
-    → is_selectable (whole_tables rows peer) name ≡ true
+    → is_selectable (own_tables rows peer) name ≡ true
     → IsByKnown (may_share rows peer) (move_behind rows name before move)
 move_known rows peer name before (acts key closes) there = tt
 move_known rows peer name before (acts key opens) there = tt
 move_known rows peer name before (acts key takes) there = tt
 move_known rows peer name before (acts key (reads item)) there =
     deed_known (may_share rows peer) name
-    (moment_of (steps_in rows (whole_tables rows) before)) key
-    (deed_of (held_in rows (whole_tables rows) before key.peer) (reads item))
+    (moment_of (steps_in rows (own_tables rows) before)) key
+    (deed_of (held_in rows (own_tables rows) before key.peer) (reads item))
     (λ deed is same. part_may rows peer before key.peer
     (deed_part rows peer name before key (reads item) deed there is same))
 move_known rows peer name before (acts key (writes item value)) there =
     deed_known (may_share rows peer) name
-    (moment_of (steps_in rows (whole_tables rows) before)) key
-    (deed_of (held_in rows (whole_tables rows) before key.peer) (writes item value))
+    (moment_of (steps_in rows (own_tables rows) before)) key
+    (deed_of (held_in rows (own_tables rows) before key.peer) (writes item value))
     (λ deed is same. part_may rows peer before key.peer
     (deed_part rows peer name before key (writes item value) deed there is same))
 move_known rows peer name before (acts key (defines set members)) there = tt
@@ -435,7 +435,7 @@ move_known rows peer name before takes_orders there = tt
 move_known rows peer name before stops there = tt
 
 all_known : (rows : CentreRows) (peer : ℕ) (name : List ℕ) (moves : List Move)
-    → is_selectable (whole_tables rows peer) name ≡ true
+    → is_selectable (own_tables rows peer) name ≡ true
     → AreByKnown (may_share rows peer) (kept_moves rows peer name moves)
 all_known rows peer name [] there = tt
 all_known rows peer name (move ∷ before) there =
@@ -450,15 +450,15 @@ all_known rows peer name (move ∷ before) there =
 -- a peer sees the holder of a device of its tables that isn't direct as all moves have it
 pub hold-seen : (rows : CentreRows) (moves : List Move) (peer : ℕ) (name : List ℕ)
     (point : ControlPoint) → AreOrderly moves → IsCentre rows
-    → is_selectable (whole_tables rows peer) name ≡ true
-    → hold_of point (moves_seen (whole_tables rows peer)
-    (view_by rows (whole_tables rows) peer moves) name)
+    → is_selectable (own_tables rows peer) name ≡ true
+    → hold_of point (moves_seen (own_tables rows peer)
+    (view_by rows (own_tables rows) peer moves) name)
     ≡ option_map (renumbered_hold (peer_number rows peer))
-    (hold_of point (device_moves name (steps_in rows (whole_tables rows) moves)))
+    (hold_of point (device_moves name (steps_in rows (own_tables rows) moves)))
 hold-seen rows moves peer name point orderly lawful there =
     ap (hold_of point) (moves-shown rows peer name moves there)
     ∙ hold_shown (may_share rows peer) (peer_number rows peer)
-    (numbers_differ rows peer name lawful (has_named (whole_tables rows peer) name there)) point
+    (numbers_differ rows peer name lawful (has_named (own_tables rows peer) name there)) point
     (kept_moves rows peer name moves) (all_known rows peer name moves there)
     ∙ ap (λ (s : DeviceState). option_map (renumbered_hold (peer_number rows peer)) s.hold)
     (kept_state rows peer name point moves there orderly)

@@ -13,7 +13,7 @@ use Rattle.table_words.proofs.VisibleWords.{IsVisible-from_identifier}
 use Rattle.bilateral.specs.declared.rows.Table.{Table}
 use Rattle.bilateral.specs.Rows.{CentreRows, IsCentre, table_of, variants_of, no_table}
 use Rattle.sbo_device.specs.SameMoves.{TellsApart}
-use Rattle.tase_views.specs.OwnTables.{OwnDevice, OwnTable, OwnTables, whole_table, whole_tables}
+use Rattle.tase_views.specs.OwnTables.{OwnDevice, OwnTable, OwnTables, own_table, own_tables}
 use Rattle.tase_views.specs.OwnTables.{device_named, is_selectable}
 use Rattle.tase_views.specs.View.{key_number, peer_number}
 
@@ -109,32 +109,32 @@ shares tables table =
 abbrev pub may_share : CentreRows → ℕ → ℕ → Bool
 may_share rows peer other =
     (other == peer)
-    || list_any (shares (whole_tables rows peer)) (whole_tables rows other).tables
+    || list_any (shares (own_tables rows peer)) (own_tables rows other).tables
 
 named_within : (rows : CentreRows) (peer : ℕ) (name : List ℕ) → IsCentre rows
-    → is_some (device_named (whole_tables rows peer) name) ≡ true → peer < length rows.tables
+    → is_some (device_named (own_tables rows peer) name) ≡ true → peer < length rows.tables
 named_within rows peer name lawful named =
     ⊎_elim (λ there. there)
     (λ past. absurd (false≢true (sym (ap (λ (tables : List Table).
     is_some (find (λ (d : OwnDevice). bytes_eq d.row.name name)
-    (flat_map (λ (table : OwnTable). table.devices) (map (whole_table rows) tables))))
+    (flat_map (λ (table : OwnTable). table.devices) (map (own_table rows) tables))))
     (nobody rows peer lawful past)) ∙ named)))
     (cases_lt peer (length rows.tables))
 
 sharing_within : (rows : CentreRows) (peer other : ℕ) → IsCentre rows
-    → list_any (shares (whole_tables rows peer)) (whole_tables rows other).tables ≡ true
+    → list_any (shares (own_tables rows peer)) (own_tables rows other).tables ≡ true
     → other < length rows.tables
 sharing_within rows peer other lawful some =
     ⊎_elim (λ there. there)
     (λ past. absurd (false≢true (sym (ap (λ (tables : List Table).
-    list_any (shares (whole_tables rows peer)) (map (whole_table rows) tables))
+    list_any (shares (own_tables rows peer)) (map (own_table rows) tables))
     (nobody rows other lawful past)) ∙ some)))
     (cases_lt other (length rows.tables))
 
 -- peers that have a device in common are told apart by their numbers
 pub common_numbers : (rows : CentreRows) (peer one other : ℕ) (name : List ℕ) → IsCentre rows
-    → is_some (device_named (whole_tables rows one) name) ≡ true
-    → is_some (device_named (whole_tables rows other) name) ≡ true
+    → is_some (device_named (own_tables rows one) name) ≡ true
+    → is_some (device_named (own_tables rows other) name) ≡ true
     → peer_number rows peer one ≡ peer_number rows peer other → one ≡ other
 common_numbers rows peer one other name lawful first second =
     one_number rows peer one other lawful (named_within rows one name lawful first)
@@ -142,14 +142,14 @@ common_numbers rows peer one other name lawful first second =
 
 -- who may have part in a device is one peer by its number
 pub numbers_differ : (rows : CentreRows) (peer : ℕ) (name : List ℕ) → IsCentre rows
-    → is_some (device_named (whole_tables rows peer) name) ≡ true
+    → is_some (device_named (own_tables rows peer) name) ≡ true
     → TellsApart (may_share rows peer) (peer_number rows peer)
 numbers_differ rows peer name lawful named a b one other e =
     one_number rows peer a b lawful (within a (a == peer) refl one)
     (within b (b == peer) refl other) e
   where
     within : (p : ℕ) (t : Bool) → (p == peer) ≡ t
-        → (t || list_any (shares (whole_tables rows peer)) (whole_tables rows p).tables) ≡ true
+        → (t || list_any (shares (own_tables rows peer)) (own_tables rows p).tables) ≡ true
         → p < length rows.tables
     within p true same may =
         let is : p ≡ peer = eqb-true p peer same in

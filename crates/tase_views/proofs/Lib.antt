@@ -12,7 +12,9 @@ pub mod OpenKeys
 pub mod Seated
 pub mod Holders
 pub mod DeviceRows
+pub mod DeviceBanks
 pub mod OrdersAnswered
+pub mod OrdersGiven
 pub mod TextLengths
 pub mod NodeSample
 mod Worked
@@ -21,3 +23,4 @@ mod WorkedDevices
 mod WorkedSets
 mod WorkedPlant
 mod WorkedForce
+mod WorkedEvents

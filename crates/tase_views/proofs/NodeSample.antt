@@ -18,7 +18,7 @@ use Rattle.tase_views.specs.declared.call.CallKind.{CallKind}
 use Rattle.tase_views.specs.declared.call.CallKind.TheVariants.{Read, Write}
 use Rattle.tase_views.specs.declared.reply.ReplyKind.{ReplyKind}
 use Rattle.tase_views.specs.Moves.{Act, reads, writes, defines, Move, acts, updates, tags}
-use Rattle.tase_views.specs.OwnTables.{OwnTables, whole_tables}
+use Rattle.tase_views.specs.OwnTables.{OwnTables, own_tables}
 use Rattle.tase_views.specs.View.{View, view_by}
 use Rattle.tase_views.specs.Answers.{reply_to}
 use Rattle.tase_views.specs.Reports.{reports_pending}
@@ -102,10 +102,10 @@ in_b item = record { scope = Domain (codes "DOMB"); item = item }
 
 -- the tables of both, with their devices and transfer sets, and what both see of moves
 abbrev pub tables_of : ℕ → OwnTables
-tables_of peer = whole_tables rows peer
+tables_of peer = own_tables rows peer
 
 abbrev pub seen_of : ℕ → List Move → View
-seen_of peer moves = view_by rows (whole_tables rows) peer moves
+seen_of peer moves = view_by rows (own_tables rows) peer moves
 
 -- what each is answered behind these moves
 abbrev pub told_a : List Move → CallKind → ReplyKind

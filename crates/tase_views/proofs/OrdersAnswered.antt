@@ -23,7 +23,7 @@ use Rattle.sbo_device.specs.States.{operate_answer}
 use Rattle.sbo_device.specs.SameMoves.{renumbered_key, renumbered_hold, TellsApart}
 use Rattle.tase_views.specs.Moves.{Move}
 use Rattle.tase_views.specs.History.{Past}
-use Rattle.tase_views.specs.OwnTables.{OwnDevice, OwnTables, whole_tables, control_of}
+use Rattle.tase_views.specs.OwnTables.{OwnDevice, OwnTables, own_tables, control_of}
 use Rattle.tase_views.specs.OwnTables.{is_selectable}
 use Rattle.tase_views.specs.OwnTables.{device_named}
 use Rattle.tase_views.specs.Objects.{control_point, object_named}
@@ -115,13 +115,13 @@ held_alike rows moves key (Some hold) apart good =
 -- whether an operate is permitted is the same over the view and over all moves
 permitted_alike : (rows : CentreRows) (past : Past) (key : Key) (name : ObjectName) (d : OwnDevice)
     (value : ℤ) → IsCentre rows
-    → object_named (held (whole_tables rows key.peer)
-    (view_by rows (whole_tables rows) key.peer (moves_in past))) name ≡ Some (control_point d)
-    → is_permitted (device_state (whole_tables rows key.peer)
-    (view_by rows (whole_tables rows) key.peer (moves_in past)) d)
+    → object_named (held (own_tables rows key.peer)
+    (view_by rows (own_tables rows) key.peer (moves_in past))) name ≡ Some (control_point d)
+    → is_permitted (device_state (own_tables rows key.peer)
+    (view_by rows (own_tables rows) key.peer (moves_in past)) d)
     (own_key key.ordinal) value
     ≡ is_permitted (state_in (control_of d)
-    (device_moves d.row.name (steps_in rows (whole_tables rows) (moves_in past)))) key value
+    (device_moves d.row.name (steps_in rows (own_tables rows) (moves_in past)))) key value
 permitted_alike rows past key name d value lawful is =
     permits-parts (control_of d) seen mine value
     ∙ ap (λ (tag : Tag).
@@ -131,29 +131,29 @@ permitted_alike rows past key name d value lawful is =
     ∙ sym (permits-parts (control_of d) all key value)
   where
     tables : OwnTables
-    tables = whole_tables rows key.peer
+    tables = own_tables rows key.peer
 
     view : View
-    view = view_by rows (whole_tables rows) key.peer (moves_in past)
+    view = view_by rows (own_tables rows) key.peer (moves_in past)
 
     seen : List DeviceMove
-    seen = moves_seen (whole_tables rows key.peer)
-        (view_by rows (whole_tables rows) key.peer (moves_in past)) d.row.name
+    seen = moves_seen (own_tables rows key.peer)
+        (view_by rows (own_tables rows) key.peer (moves_in past)) d.row.name
 
     all : List DeviceMove
-    all = device_moves d.row.name (steps_in rows (whole_tables rows) (moves_in past))
+    all = device_moves d.row.name (steps_in rows (own_tables rows) (moves_in past))
 
     mine : Key
     mine = own_key key.ordinal
 
-    named : is_some (device_named (whole_tables rows key.peer) d.row.name) ≡ true
+    named : is_some (device_named (own_tables rows key.peer) d.row.name) ≡ true
     named = point_named rows key.peer (force view) name d is
 
     held_same : d.row.direct ≡ false
         → is_held_by mine (hold_of (control_of d) seen)
         ≡ is_held_by key (hold_of (control_of d) all)
     held_same direct =
-        let there : is_selectable (whole_tables rows key.peer) d.row.name ≡ true =
+        let there : is_selectable (own_tables rows key.peer) d.row.name ≡ true =
         point_selectable rows key.peer (force view) name d lawful is ∙ ap not direct in
         ap (is_held_by mine)
         (hold-seen rows (moves_in past) key.peer d.row.name (control_of d) (orderly past) lawful
@@ -176,18 +176,18 @@ permitted_alike rows past key name d value lawful is =
 
 pub answered : (rows : CentreRows) (past : Past) (key : Key) (name : ObjectName)
     (d : OwnDevice) (value : Datum) (number : ℤ) → IsCentre rows
-    → object_named (held (whole_tables rows key.peer)
-    (view_by rows (whole_tables rows) key.peer (moves_in past))) name ≡ Some (control_point d)
+    → object_named (held (own_tables rows key.peer)
+    (view_by rows (own_tables rows) key.peer (moves_in past))) name ≡ Some (control_point d)
     → number_in value ≡ Some number
-    → (object_written (whole_tables rows key.peer)
-    (view_by rows (whole_tables rows) key.peer (moves_in past)) key.ordinal
+    → (object_written (own_tables rows key.peer)
+    (view_by rows (own_tables rows) key.peer (moves_in past)) key.ordinal
     (Some (control_point d)) value ≡ None)
     ↔ (permits (control_of d)
-    (device_moves d.row.name (steps_in rows (whole_tables rows) (moves_in past))) key number
+    (device_moves d.row.name (steps_in rows (own_tables rows) (moves_in past))) key number
     ≡ true)
 answered rows past key name d value number lawful is number_is =
-    let tables = whole_tables rows key.peer in
-    let view = view_by rows (whole_tables rows) key.peer (moves_in past) in
+    let tables = own_tables rows key.peer in
+    let view = view_by rows (own_tables rows) key.peer (moves_in past) in
     let s = device_state tables view d in
     let mine = own_key key.ordinal in
     let both = done-permitted s mine number in
@@ -282,20 +282,20 @@ holds direct false b c not_direct e =
 
 pub held_alone : (rows : CentreRows) (past : Past) (key : Key) (name : ObjectName)
     (d : OwnDevice) (number : ℤ) → IsCentre rows
-    → object_named (held (whole_tables rows key.peer)
-    (view_by rows (whole_tables rows) key.peer (moves_in past))) name ≡ Some (control_point d)
+    → object_named (held (own_tables rows key.peer)
+    (view_by rows (own_tables rows) key.peer (moves_in past))) name ≡ Some (control_point d)
     → d.row.direct ≡ false
     → permits (control_of d)
-    (device_moves d.row.name (steps_in rows (whole_tables rows) (moves_in past))) key number
+    (device_moves d.row.name (steps_in rows (own_tables rows) (moves_in past))) key number
     ≡ true
     → (until : ℕ) × (hold_of (control_of d)
-    (device_moves d.row.name (steps_in rows (whole_tables rows) (moves_in past)))
+    (device_moves d.row.name (steps_in rows (own_tables rows) (moves_in past)))
     ≡ Some (record { key = key; until = until }))
-    × (moment_of (steps_in rows (whole_tables rows) (moves_in past)) < until)
+    × (moment_of (steps_in rows (own_tables rows) (moves_in past)) < until)
 held_alone rows past key name d number lawful is direct permitted =
-    let steps = steps_in rows (whole_tables rows) (moves_in past) in
+    let steps = steps_in rows (own_tables rows) (moves_in past) in
     let moves = device_moves d.row.name steps in
-    let view = view_by rows (whole_tables rows) key.peer (moves_in past) in
+    let view = view_by rows (own_tables rows) key.peer (moves_in past) in
     let row = point_row rows key.peer (force view) name d lawful is in
     let its = lawful.devices row.0 no_device row.1 in
     let some : 0 < d.row.span =

@@ -15,7 +15,8 @@ use Rattle.tase_views.specs.declared.call.CallKind.TheVariants.{WriteSet, NameLi
 use Rattle.tase_views.specs.declared.call.CallKind.TheVariants.{MembersOf, Delete, DeleteScope, Odd}
 use Rattle.tase_views.specs.declared.event.EventKind.{EventKind}
 use Rattle.tase_views.specs.declared.event.EventKind.TheVariants.{Open, Request, Take, Close}
-use Rattle.tase_views.specs.declared.event.EventKind.TheVariants.{Update, Table, Tick, Ask, Stop}
+use Rattle.tase_views.specs.declared.event.EventKind.TheVariants.{Update, Table, Tag, Tick, Ask}
+use Rattle.tase_views.specs.declared.event.EventKind.TheVariants.{TakeOrders, Stop}
 use Rattle.tase_views.specs.declared.event.Entry.{Entry}
 use Rattle.tase_views.specs.Moves.{Act, opens, takes, closes, reads, writes, defines, deletes}
 use Rattle.tase_views.specs.Moves.{calls}
@@ -234,8 +235,10 @@ fed Take = tt
 fed Close = tt
 fed (Update point value) = tt
 fed (Table peer variant) = tt
+fed (Tag device tag) = tt
 fed (Tick now) = tt
 fed (Ask asker slot) = tt
+fed TakeOrders = tt
 fed Stop = tt
 
 orderly_sort : (sort : EventSort) (past : Past) (before : List Move) (seat : Option Key)

@@ -9,7 +9,7 @@ use Rattle.sbo_device.specs.Moves.{selecting}
 use Rattle.tase_views.specs.declared.call.CallKind.TheVariants.{Write, NameList, MembersOf}
 use Rattle.tase_views.specs.declared.reply.ReplyKind.TheVariants.{Results, Written, NamesAre, Error}
 use Rattle.tase_views.specs.Moves.{opens, closes, reads, writes, Move, ticks, takes_orders}
-use Rattle.tase_views.specs.OwnTables.{whole_tables}
+use Rattle.tase_views.specs.OwnTables.{own_tables}
 use Rattle.tase_views.specs.View.{own, other_acted, other_closed}
 use Rattle.tase_views.specs.declared.reply.ReportKind.TheVariants.{Variables}
 use Rattle.tase_views.specs.Orders.{orders_left}
@@ -72,12 +72,12 @@ ordering =
     ∷ by_b (writes (in_b (codes "CAP1")) (integer (pos 2)))
     ∷ by_a (writes (in_a (codes "BRK1")) (integer (pos 1))) ∷ operated
 
-all_orders : orders_left rows (whole_tables rows) ordering
+all_orders : orders_left rows (own_tables rows) ordering
     ≡ record { device = 0; value = pos 1 } ∷ record { device = 1; value = pos 1 } ∷ []
 unfolding digits
 all_orders = refl
 
-orders_are_taken_once : orders_left rows (whole_tables rows) (takes_orders ∷ ordering) ≡ []
+orders_are_taken_once : orders_left rows (own_tables rows) (takes_orders ∷ ordering) ≡ []
 unfolding digits
 orders_are_taken_once = refl
 

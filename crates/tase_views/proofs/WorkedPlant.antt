@@ -13,7 +13,7 @@ use Rattle.tase_views.specs.declared.call.CallKind.{CallKind}
 use Rattle.tase_views.specs.declared.reply.ReplyKind.{ReplyKind}
 use Rattle.tase_views.specs.declared.reply.ReplyKind.TheVariants.{Results, Written}
 use Rattle.tase_views.specs.Moves.{opens, closes, reads, writes, Move, ticks}
-use Rattle.tase_views.specs.OwnTables.{whole_tables}
+use Rattle.tase_views.specs.OwnTables.{own_tables}
 use Rattle.tase_views.specs.View.{View, view_by, own, other_acted}
 use Rattle.tase_views.specs.Answers.{reply_to}
 use Rattle.tase_views.specs.Reports.{reports_pending}
@@ -82,16 +82,16 @@ rows =
     }
 
 abbrev seen_of : ℕ → List Move → View
-seen_of peer moves = view_by rows (whole_tables rows) peer moves
+seen_of peer moves = view_by rows (own_tables rows) peer moves
 
 abbrev told_a : List Move → CallKind → ReplyKind
-told_a moves call = reply_to (whole_tables rows 0) (seen_of 0 moves) 0 call
+told_a moves call = reply_to (own_tables rows 0) (seen_of 0 moves) 0 call
 
 abbrev told_b : List Move → CallKind → ReplyKind
-told_b moves call = reply_to (whole_tables rows 1) (seen_of 1 moves) 0 call
+told_b moves call = reply_to (own_tables rows 1) (seen_of 1 moves) 0 call
 
 abbrev taken_a : List Move → List ReportKind
-taken_a moves = reports_pending (whole_tables rows 0) (seen_of 0 moves) 0
+taken_a moves = reports_pending (own_tables rows 0) (seen_of 0 moves) 0
 
 abbrev both_open : List Move
 both_open = by_b opens ∷ by_a opens ∷ ticks 40000 ∷ []

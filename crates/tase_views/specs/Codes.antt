@@ -1,4 +1,4 @@
--- Outcomes, names and points' values as data that a proof can tell apart.
+-- Outcomes, names, points' values and tags as data that a proof can tell apart.
 use Rattle.std.specs.Prelude.{◌≡◌, ℕ, ℤ, ◌⊎◌, List, refl}
 use Rattle.std.specs.Coded.{Coded, code_by, coded×, coded⊎, coded_ℕ, coded_ℤ, coded_list}
 use base.Stored.{coded_unit}
@@ -13,6 +13,7 @@ use Rattle.mms_data.specs.declared.object_name.Scope.TheVariants.{Vmd, Domain, A
 use Rattle.mms_data.specs.ObjectName.{ObjectName}
 use Rattle.mms_data.specs.declared.outcome.Outcome.{Outcome}
 use Rattle.mms_data.specs.declared.outcome.Outcome.TheVariants.{Good, Fail}
+use Rattle.sbo_device.specs.Moves.{Tag}
 
 abbrev pub outcome_parts : Outcome → Datum ⊎ ℕ
 outcome_parts (Good d) = inl d
@@ -86,3 +87,8 @@ sample_code =
     code_by (Body × (ℕ × (ℕ × ℕ))) (coded× body_code (coded× coded_ℕ (coded× coded_ℕ coded_ℕ)))
     (λ s. (s.body, (s.flags, (s.seconds, s.millis))))
     (λ p. record { body = p.0; flags = p.1.0; seconds = p.1.1.0; millis = p.1.1.1 }) (λ _. refl)
+
+abbrev pub tag_code : Coded Tag
+tag_code =
+    code_by (ℕ × List ℕ) (coded× coded_ℕ (coded_list coded_ℕ)) (λ t. (t.tag, t.reason))
+    (λ p. record { tag = p.0; reason = p.1 }) (λ _. refl)

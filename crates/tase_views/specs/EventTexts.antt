@@ -9,6 +9,7 @@ use Rattle.tase_points.specs.declared.body.Body.TheVariants.{State, Discrete, Re
 use Rattle.tase_points.specs.Sample.{Sample}
 use Rattle.mms_data.specs.Datum.{Datum}
 use Rattle.mms_data.specs.ObjectName.{ObjectName}
+use Rattle.sbo_device.specs.Moves.{Tag}
 use Rattle.mms_text.specs.Texts.{data_text, scope_text, name_text}
 use Rattle.tase_views.specs.declared.call.CallKind.{CallKind}
 use Rattle.tase_views.specs.declared.call.CallKind.TheVariants.{Identify, Read, ReadSet, Write}
@@ -16,7 +17,9 @@ use Rattle.tase_views.specs.declared.call.CallKind.TheVariants.{WriteSet, NameLi
 use Rattle.tase_views.specs.declared.call.CallKind.TheVariants.{MembersOf, Delete, DeleteScope, Odd}
 use Rattle.tase_views.specs.declared.event.EventKind.{EventKind}
 use Rattle.tase_views.specs.declared.event.EventKind.TheVariants.{Open, Request, Take, Close}
-use Rattle.tase_views.specs.declared.event.EventKind.TheVariants.{Update, Table, Tick, Ask, Stop}
+use Rattle.tase_views.specs.declared.event.EventKind.TheVariants.{Update, Table, Tick, Ask}
+use Rattle.tase_views.specs.declared.event.EventKind.TheVariants.{TakeOrders, Stop}
+use Rattle.tase_views.specs.declared.event.EventKind.TheVariants as events
 
 -- a name after a space
 abbrev pub next_name : ObjectName → List ℕ
@@ -77,9 +80,13 @@ value_text value =
     body_text value.body ++ 32 ∷ hex_text (value.flags ∷ []) ++ 32 ∷ decimal value.seconds
     ++ 32 ∷ decimal value.millis
 
+-- `TAG vREASON`
+abbrev pub tag_text : Tag → List ℕ
+tag_text tag = decimal tag.tag ++ codes " v" ++ escaped_text tag.reason
+
 -- `open PEER`, `call CALL`, `take`, `close`, `update POINT VALUE`, `table PEER VARIANT`,
--- `tick NOW`, `ask PEER SLOT` or `stop`; peers, points, tables and transfer sets by their numbers
--- from 0
+-- `tag DEVICE TAG vREASON`, `tick NOW`, `ask PEER SLOT`, `orders` or `stop`; peers, points, tables,
+-- devices and transfer sets by their numbers from 0
 abbrev pub event_text : EventKind → List ℕ
 event_text (Open peer) = codes "open " ++ decimal peer
 event_text (Request call) = codes "call " ++ call_text call
@@ -87,6 +94,8 @@ event_text Take = codes "take"
 event_text Close = codes "close"
 event_text (Update point value) = codes "update " ++ decimal point ++ 32 ∷ value_text value
 event_text (Table peer variant) = codes "table " ++ decimal peer ++ 32 ∷ decimal variant
+event_text (events.Tag device tag) = codes "tag " ++ decimal device ++ 32 ∷ tag_text tag
 event_text (Tick now) = codes "tick " ++ decimal now
 event_text (Ask peer slot) = codes "ask " ++ decimal peer ++ 32 ∷ decimal slot
+event_text TakeOrders = codes "orders"
 event_text Stop = codes "stop"

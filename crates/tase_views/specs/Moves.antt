@@ -12,7 +12,9 @@ use Rattle.tase_views.specs.declared.call.CallKind.TheVariants.{WriteSet, NameLi
 use Rattle.tase_views.specs.declared.call.CallKind.TheVariants.{MembersOf, Delete, DeleteScope, Odd}
 use Rattle.tase_views.specs.declared.event.EventKind.{EventKind}
 use Rattle.tase_views.specs.declared.event.EventKind.TheVariants.{Open, Request, Take, Close}
-use Rattle.tase_views.specs.declared.event.EventKind.TheVariants.{Update, Table, Tick, Ask, Stop}
+use Rattle.tase_views.specs.declared.event.EventKind.TheVariants.{Update, Table, Tick, Ask}
+use Rattle.tase_views.specs.declared.event.EventKind.TheVariants.{TakeOrders, Stop}
+use Rattle.tase_views.specs.declared.event.EventKind.TheVariants as events
 
 -- what an association does: it is opened, takes reports, is closed, reads or writes a variable,
 -- defines or deletes a data set, or makes another call
@@ -58,8 +60,10 @@ sort_of Take = taking
 sort_of Close = closing
 sort_of (Update point value) = feeding (updates point value)
 sort_of (Table peer variant) = feeding (chooses peer variant)
+sort_of (events.Tag device tag) = feeding (tags device tag)
 sort_of (Tick now) = feeding (ticks now)
 sort_of (Ask peer slot) = feeding (asks peer slot)
+sort_of TakeOrders = taking_orders
 sort_of Stop = feeding stops
 
 -- the writes of names, each with the value at its place

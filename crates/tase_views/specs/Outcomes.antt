@@ -14,7 +14,7 @@ use Rattle.sbo_device.specs.declared.key.Key.{Key}
 use Rattle.tase_views.specs.declared.event.EventKind.{EventKind}
 use Rattle.tase_views.specs.declared.reply.Answer.{Answer}
 use Rattle.tase_views.specs.declared.reply.Answer.TheVariants.{Opened, Reply, Reports, Closed}
-use Rattle.tase_views.specs.declared.reply.Answer.TheVariants.{Noted}
+use Rattle.tase_views.specs.declared.reply.Answer.TheVariants.{Orders, Noted}
 use Rattle.tase_views.specs.declared.fault.StepFault.{StepFault}
 use Rattle.tase_views.specs.declared.fault.StepFault.TheVariants.{Memory, Stopped, HistoryFull}
 use Rattle.tase_views.specs.declared.fault.StepFault.TheVariants.{NoAssociation, Already}
@@ -24,11 +24,12 @@ use Rattle.tase_views.specs.History.{Past, association_in, key_at, is_stop, stop
 use Rattle.tase_views.specs.History.{last_tick}
 use Rattle.tase_views.specs.Weights.{weight, weight_of}
 use Rattle.tase_views.specs.Moves.{EventSort, sort_of, opening, requesting, taking, closing}
-use Rattle.tase_views.specs.Moves.{feeding, updates, ticks, asks, chooses}
+use Rattle.tase_views.specs.Moves.{taking_orders, feeding, updates, tags, ticks, asks, chooses}
 use Rattle.tase_views.specs.OwnTables.{OwnTables, own_tables}
-use Rattle.tase_views.specs.View.{View, view_of}
+use Rattle.tase_views.specs.View.{View, moves_in, view_of}
 use Rattle.tase_views.specs.Answers.{reply_to}
 use Rattle.tase_views.specs.Reports.{reports_pending}
+use Rattle.tase_views.specs.Orders.{orders_left}
 
 -- a point of the centre, and a value of its kind
 abbrev pub is_known : CentreRows → ℕ → Sample → Bool
@@ -74,11 +75,12 @@ abbrev pub seat_refusal : Option Key → EventKind → Option StepFault
 seat_refusal found event = seat_refusal_by found (sort_of event)
 
 -- what an event names is there: of an open the peer, of an update the point, and its value is of
--- the point's kind, of a choice the peer and its table, of a request of the operator the peer and a
--- transfer set of one of its tables
+-- the point's kind, of a tagging the device, of a choice the peer and its table, of a request of
+-- the operator the peer and a transfer set of one of its tables
 abbrev pub is_named_there : CentreRows → EventSort → Bool
 is_named_there rows (opening peer) = nat_lt peer (length rows.tables)
 is_named_there rows (feeding (updates point value)) = is_known rows point value
+is_named_there rows (feeding (tags device tag)) = nat_lt device (length rows.devices)
 is_named_there rows (feeding (chooses peer variant)) = has_table rows peer variant
 is_named_there rows (feeding (asks peer slot)) = has_slot rows peer slot
 is_named_there rows _ = true
@@ -129,11 +131,17 @@ answer_to tables view key taking = Reports (reports_pending tables view key.ordi
 answer_to tables view key closing = Closed
 answer_to tables view key _ = Noted
 
--- the answer to an event of this association, if it is of one
+-- The answer to an event of this sort of this association, if it is of one. Whoever takes orders,
+-- the plant is given those that are left.
+abbrev pub answer_at : CentreRows → Past → EventSort → Option Key → Answer
+answer_at rows past taking_orders found =
+    Orders (orders_left rows (own_tables rows) (moves_in past))
+answer_at rows past sort None = Noted
+answer_at rows past sort (Some key) =
+    answer_to (own_tables rows key.peer) (view_of rows key.peer past) key sort
+
 abbrev pub answer_by : CentreRows → Past → EventKind → Option Key → Answer
-answer_by rows past event None = Noted
-answer_by rows past event (Some key) =
-    answer_to (own_tables rows key.peer) (view_of rows key.peer past) key (sort_of event)
+answer_by rows past event found = answer_at rows past (sort_of event) found
 
 -- the answer to an event of a seat that isn't refused
 abbrev pub answer_of : Setup → Past → ℕ → EventKind → Answer

@@ -55,8 +55,8 @@ abbrev pub own_device : CentreRows → Control → OwnDevice
 own_device rows control = record { row = device_of rows control.device; tag = control.tag }
 
 -- what a table names
-abbrev pub whole_table : CentreRows → Table → OwnTable
-whole_table rows table =
+abbrev pub own_table : CentreRows → Table → OwnTable
+own_table rows table =
     record {
       domain = table.domain;
       id = table.id;
@@ -66,23 +66,12 @@ whole_table rows table =
       sets = table.sets;
     }
 
--- a table as the node offers it: devices aren't built yet
-abbrev pub own_table : CentreRows → Table → OwnTable
-own_table rows table = record (whole_table rows table) { devices = [] }
-
 -- the tables of each peer, by its number
 abbrev pub Owns : Type 0
 Owns = ℕ → OwnTables
 
-abbrev pub tables_by : (Table → OwnTable) → CentreRows → Owns
-tables_by own rows peer = record { tables = map own (variants_of rows peer) }
-
-abbrev pub whole_tables : CentreRows → Owns
-whole_tables rows = tables_by (whole_table rows) rows
-
--- the tables of a peer, as the node offers them
 abbrev pub own_tables : CentreRows → Owns
-own_tables rows = tables_by (own_table rows) rows
+own_tables rows peer = record { tables = map (own_table rows) (variants_of rows peer) }
 
 -- a table without anything, where none stands
 abbrev pub no_own_table : OwnTable

@@ -1,6 +1,7 @@
 ghost use Rattle.std.specs.Prelude.{◌≡◌};
 
 use crate::call::Call;
+use crate::tag::DeviceTag;
 use std::alloc::AllocError;
 use std::marker::Model;
 use tase_points::PointValue;
@@ -21,10 +22,14 @@ pub enum EventKind {
     /// The operator chooses a table of a peer, by their numbers: it comes into force at once where
     /// the peer has no open association, else when the last of them is closed.
     Table { peer: u32, variant: u32 },
+    /// The operator tags a device, by its number.
+    Tag { device: u32, tag: DeviceTag },
     /// The clock stands at this moment, in milliseconds since 1970.
     Tick { now: u64 },
     /// The operator asks for a report of a transfer set of a peer, by their numbers from 0.
     Ask { peer: u32, slot: u32 },
+    /// The plant takes the orders that were given since it last took them.
+    TakeOrders,
     /// The node stops: afterwards it takes closes alone.
     Stop,
 }
@@ -80,11 +85,16 @@ impl Clone for Event {
                 peer: *peer,
                 variant: *variant,
             },
+            EventKind::Tag { device, tag } => EventKind::Tag {
+                device: *device,
+                tag: tag.clone()?,
+            },
             EventKind::Tick { now } => EventKind::Tick { now: *now },
             EventKind::Ask { peer, slot } => EventKind::Ask {
                 peer: *peer,
                 slot: *slot,
             },
+            EventKind::TakeOrders => EventKind::TakeOrders,
             EventKind::Stop => EventKind::Stop,
         };
         Ok(Event { kind })

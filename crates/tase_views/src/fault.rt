@@ -16,8 +16,8 @@ pub enum StepFault {
     NoAssociation,
     /// An open of a seat that has an open association already.
     Already,
-    /// A peer, a point, or a table or transfer set of a peer that the centre doesn't have, or a
-    /// value of another kind than its point's.
+    /// A peer, a point, a device, or a table or transfer set of a peer that the centre doesn't
+    /// have, or a value of another kind than its point's.
     UnknownName,
     /// A tick to a moment at or above [`MOMENT_LIMIT`](sbo_device::MOMENT_LIMIT).
     ClockRange,

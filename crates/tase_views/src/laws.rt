@@ -1,5 +1,5 @@
 //! Laws of what a peer sees, and of the replies that it is given: isolation of peers.
-ghost use Rattle.std.specs.Prelude.{◌≡◌, ◌≢◌, ◌↔◌, ℕ, ◌<◌, ℤ, true, false, List, [], ◌∷◌};
+ghost use Rattle.std.specs.Prelude.{◌≡◌, ◌≢◌, ◌↔◌, ℕ, ◌<◌, ℤ, true, false, List, [], ◌∷◌, ◌++◌};
 ghost use Rattle.std.specs.Prelude.{All, Some, None, is_some, option_map};
 ghost use Rattle.mms_data.specs.Datum.{Datum};
 ghost use Rattle.mms_data.specs.ObjectName.{ObjectName};
@@ -13,12 +13,13 @@ ghost use Rattle.sbo_device.specs.SameMoves.{renumbered_hold};
 ghost use Rattle.tase_views.specs.declared.call.CallKind.{CallKind as AnyCall};
 ghost use Rattle.tase_views.specs.declared.event.EventKind.{EventKind as AnyEvent};
 ghost use Rattle.tase_views.specs.declared.event.EventKind.TheVariants.{Update, Table};
+ghost use Rattle.tase_views.specs.declared.event.EventKind.TheVariants as events;
 ghost use Rattle.tase_views.specs.Setup.{Setup};
 ghost use Rattle.tase_views.specs.Moves.{Act, closes, Move, acts, updates, tags, asks, chooses};
 ghost use Rattle.tase_views.specs.Moves.{takes_orders, EventSort, sort_of, feeding};
 ghost use Rattle.tase_views.specs.History.{Past, association_in, key_at, entries_by};
 ghost use Rattle.tase_views.specs.Seats.{reseated, IsInjective};
-ghost use Rattle.tase_views.specs.OwnTables.{OwnDevice, OwnTables, Owns, whole_tables};
+ghost use Rattle.tase_views.specs.OwnTables.{OwnDevice, OwnTables, Owns, own_tables};
 ghost use Rattle.tase_views.specs.OwnTables.{device_named, is_selectable, control_of};
 ghost use Rattle.tase_views.specs.Objects.{control_point, object_named};
 ghost use Rattle.tase_views.specs.Devices.{Deed, deed_of, number_in, moment_of, device_moves};
@@ -26,6 +27,7 @@ ghost use Rattle.tase_views.specs.View.{View, moves_in, held_in, seen_by, view_b
 ghost use Rattle.tase_views.specs.View.{steps_in, moves_seen, peer_number};
 ghost use Rattle.tase_views.specs.Answers.{object_written, reply_to};
 ghost use Rattle.tase_views.specs.Reports.{reports_pending, AreDueAt, due_conditions};
+ghost use Rattle.tase_views.specs.Orders.{orders_of, orders_taken, orders_left};
 ghost use Rattle.tase_views.specs.Outcomes.{first_refusal, own_refusal, refusal_of, answer_to};
 ghost use Rattle.tase_views.specs.Outcomes.{stop_refusal, clock_refusal, weight_refusal};
 
@@ -107,18 +109,21 @@ pub fn what_a_peer_is_not_shown()
         → seen_by rows owns peer before takes_orders ≡ None }
 {}
 
-/// A peer whose tables name no device is shown nothing of what associations of other peers do. The
-/// node offers no device yet, so an open, a request, a take and a close of another peer leave a
-/// peer's view as it was, and so do an update of a point that none of the peer's tables names and a
-/// choice of another peer's table.
+/// A peer is shown nothing of what associations of another do whose tables name no device that its
+/// own tables name: an open, a request, a take and a close of the other leave its view as it was.
+/// The view of every peer is as it was behind an update of a point and a tag of a device that none
+/// of its tables names, a choice of another peer's table, and a take of the plant's orders.
 pub fn others_are_unseen()
     ensures act { (rows : CentreRows) (owns : Owns) (peer : ℕ) (before : List Move) (key : Key)
         (act : Act) → key.peer ≢ peer
-        → ((name : List ℕ) → device_named (owns peer) name ≡ None)
+        → ((name : List ℕ) → is_some (device_named (owns key.peer) name) ≡ true
+        → device_named (owns peer) name ≡ None)
         → seen_by rows owns peer before (acts key act) ≡ None }
     ensures event { (rows : CentreRows) (past : Past) (peer who : ℕ) (event : AnyEvent) (key : Key)
         → ((move : Move) → sort_of event ≢ feeding move)
         → key_at event past who ≡ Some key → key.peer ≢ peer
+        → ((name : List ℕ) → is_some (device_named (own_tables rows key.peer) name) ≡ true
+        → device_named (own_tables rows peer) name ≡ None)
         → view_of rows peer (record { who = who; event = event } ∷ past)
         ≡ view_of rows peer past }
     ensures update { (rows : CentreRows) (past : Past) (peer who point : ℕ) (value : Sample)
@@ -128,6 +133,13 @@ pub fn others_are_unseen()
     ensures choice { (rows : CentreRows) (past : Past) (peer who other variant : ℕ)
         → other ≢ peer
         → view_of rows peer (record { who = who; event = Table other variant } ∷ past)
+        ≡ view_of rows peer past }
+    ensures tag { (rows : CentreRows) (past : Past) (peer who device : ℕ) (tag : Tag)
+        → device_named (own_tables rows peer) (device_of rows device).name ≡ None
+        → view_of rows peer (record { who = who; event = events.Tag device tag } ∷ past)
+        ≡ view_of rows peer past }
+    ensures orders { (rows : CentreRows) (past : Past) (peer who : ℕ)
+        → view_of rows peer (record { who = who; event = events.TakeOrders } ∷ past)
         ≡ view_of rows peer past }
 {}
 
@@ -170,20 +182,19 @@ pub fn due_conditions_are_those()
 pub fn devices_are_seen_as_they_are()
     ensures hold { (rows : CentreRows) (past : Past) (peer : ℕ) (name : List ℕ)
         (point : ControlPoint) → IsCentre rows
-        → is_selectable (whole_tables rows peer) name ≡ true
-        → hold_of point (moves_seen (whole_tables rows peer)
-        (view_by rows (whole_tables rows) peer (moves_in past)) name)
+        → is_selectable (own_tables rows peer) name ≡ true
+        → hold_of point (moves_seen (own_tables rows peer) (view_of rows peer past) name)
         ≡ option_map (renumbered_hold (peer_number rows peer))
-        (hold_of point (device_moves name (steps_in rows (whole_tables rows) (moves_in past)))) }
+        (hold_of point (device_moves name (steps_in rows (own_tables rows) (moves_in past)))) }
     ensures numbers { (rows : CentreRows) (peer one other : ℕ) (name : List ℕ) → IsCentre rows
-        → is_some (device_named (whole_tables rows one) name) ≡ true
-        → is_some (device_named (whole_tables rows other) name) ≡ true
+        → is_some (device_named (own_tables rows one) name) ≡ true
+        → is_some (device_named (own_tables rows other) name) ≡ true
         → peer_number rows peer one ≡ peer_number rows peer other → one ≡ other }
     ensures tag { (rows : CentreRows) (moves : List Move) (peer : ℕ) (name : List ℕ)
-        → is_some (device_named (whole_tables rows peer) name) ≡ true
-        → tag_of (moves_seen (whole_tables rows peer)
-        (view_by rows (whole_tables rows) peer moves) name)
-        ≡ tag_of (device_moves name (steps_in rows (whole_tables rows) moves)) }
+        → is_some (device_named (own_tables rows peer) name) ≡ true
+        → tag_of (moves_seen (own_tables rows peer)
+        (view_by rows (own_tables rows) peer moves) name)
+        ≡ tag_of (device_moves name (steps_in rows (own_tables rows) moves)) }
 {}
 
 /// A peer is answered that its write of a number to a device is done exactly where it is permitted
@@ -192,25 +203,38 @@ pub fn devices_are_seen_as_they_are()
 pub fn orders_are_answered()
     ensures answered { (rows : CentreRows) (past : Past) (key : Key) (name : ObjectName)
         (d : OwnDevice) (value : Datum) (number : ℤ) → IsCentre rows
-        → object_named (held (whole_tables rows key.peer)
-        (view_by rows (whole_tables rows) key.peer (moves_in past))) name ≡ Some (control_point d)
+        → object_named (held (own_tables rows key.peer) (view_of rows key.peer past)) name
+        ≡ Some (control_point d)
         → number_in value ≡ Some number
-        → (object_written (whole_tables rows key.peer)
-        (view_by rows (whole_tables rows) key.peer (moves_in past)) key.ordinal
+        → (object_written (own_tables rows key.peer) (view_of rows key.peer past) key.ordinal
         (Some (control_point d)) value ≡ None)
         ↔ (permits (control_of d)
-        (device_moves d.row.name (steps_in rows (whole_tables rows) (moves_in past))) key number
+        (device_moves d.row.name (steps_in rows (own_tables rows) (moves_in past))) key number
         ≡ true) }
     ensures held { (rows : CentreRows) (past : Past) (key : Key) (name : ObjectName)
         (d : OwnDevice) (number : ℤ) → IsCentre rows
-        → object_named (held (whole_tables rows key.peer)
-        (view_by rows (whole_tables rows) key.peer (moves_in past))) name ≡ Some (control_point d)
+        → object_named (held (own_tables rows key.peer) (view_of rows key.peer past)) name
+        ≡ Some (control_point d)
         → d.row.direct ≡ false
         → permits (control_of d)
-        (device_moves d.row.name (steps_in rows (whole_tables rows) (moves_in past))) key number
+        (device_moves d.row.name (steps_in rows (own_tables rows) (moves_in past))) key number
         ≡ true
         → (until : ℕ) × (hold_of (control_of d)
-        (device_moves d.row.name (steps_in rows (whole_tables rows) (moves_in past)))
+        (device_moves d.row.name (steps_in rows (own_tables rows) (moves_in past)))
         ≡ Some (record { key = key; until = until }))
-        × (moment_of (steps_in rows (whole_tables rows) (moves_in past)) < until) }
+        × (moment_of (steps_in rows (own_tables rows) (moves_in past)) < until) }
+{}
+
+/// All orders of a history are those that the plant has taken and, behind them, those that are
+/// left. When it takes those, they are taken behind the others, and none is left: so none is lost,
+/// and none is given twice.
+pub fn orders_are_given_once()
+    ensures all { (rows : CentreRows) (owns : Owns) (moves : List Move)
+        → orders_taken rows owns moves ++ orders_left rows owns moves
+        ≡ orders_of rows owns moves }
+    ensures taken { (rows : CentreRows) (owns : Owns) (moves : List Move)
+        → orders_taken rows owns (takes_orders ∷ moves)
+        ≡ orders_taken rows owns moves ++ orders_left rows owns moves }
+    ensures left { (rows : CentreRows) (owns : Owns) (moves : List Move)
+        → orders_left rows owns (takes_orders ∷ moves) ≡ [] }
 {}

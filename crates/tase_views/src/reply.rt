@@ -4,7 +4,7 @@ ghost use Rattle.tase_views.specs.Replies.{IsReply, IsReport};
 use ber_values::Visible;
 use item_list::ItemList;
 use mms_data::{Name, Names, Outcome};
-use sbo_device::Key;
+use sbo_device::{Key, Order};
 use std::marker::Model;
 
 /// The reason of an access that a name doesn't exist (ISO 9506-2, `DataAccessError`:
@@ -199,6 +199,9 @@ impl Report {
 /// Reports in the order in which they were made.
 pub type Reports = ItemList<Report>;
 
+/// Orders in the order in which they were given.
+pub type Orders = ItemList<Order>;
+
 /// The node's answer to an event.
 #[derive(Drop)]
 pub enum Answer {
@@ -210,6 +213,8 @@ pub enum Answer {
     Reports(Reports),
     /// To a close: the association is closed.
     Closed,
-    /// To an update or a stop: it was taken.
+    /// To a take of orders: those that were given since the last one.
+    Orders(Orders),
+    /// To every other event: it was taken.
     Noted,
 }

@@ -3,7 +3,7 @@ ghost use Rattle.std.specs.Prelude.{◌≡◌, ◌≤◌, length, flat_map};
 ghost use Rattle.plain_text.specs.Lengths.{capped_len};
 ghost use Rattle.plain_text.specs.declared.lengths.TheConstants.{MOST_LEN};
 ghost use Rattle.tase_points.specs.declared.body.Body.{Body as AnyBody};
-ghost use Rattle.tase_views.specs.declared.event.EventKind.TheVariants.{Update, Table, Ask};
+ghost use Rattle.tase_views.specs.declared.event.EventKind.TheVariants.{Update, Table, Tag, Ask};
 ghost use Rattle.tase_views.specs.declared.call.CallKind.{CallKind as AnyCall};
 ghost use Rattle.tase_views.specs.EventTexts.{call_text, read_verb, next_name};
 ghost use Rattle.tase_views.specs.EventTexts.{read_set_verb, next_value};
@@ -12,6 +12,7 @@ ghost use Rattle.tase_views.specs.Weights.{weight};
 
 use crate::call::{Call, CallKind};
 use crate::event::{Event, EventKind};
+use crate::tag::DeviceTag;
 use ber_values::Visible;
 use mms_data::{MmsData, Name, Scope};
 use mms_text::{data_text_len, name_text_len, scope_text_len};
@@ -30,8 +31,10 @@ pub fn weight(event: &Event) -> u64
         EventKind::Close => 5,
         EventKind::Update { point, value } => update_len(*point, value),
         EventKind::Table { peer, variant } => table_len(*peer, *variant),
+        EventKind::Tag { device, tag } => tag_len(*device, tag),
         EventKind::Tick { now } => 5 + decimal_len(*now),
         EventKind::Ask { peer, slot } => ask_len(*peer, *slot),
+        EventKind::TakeOrders => 6,
         EventKind::Stop => 4,
     }
 }
@@ -41,6 +44,14 @@ fn table_len(peer: u32, variant: u32) -> u64
     ensures { result ≡ weight (Table peer variant) }
 {
     7 + decimal_len(u64::from(peer)) + decimal_len(u64::from(variant))
+}
+
+/// How many octets the text of a tagging has.
+fn tag_len(device: u32, tag: &DeviceTag) -> u64
+    ensures { result ≡ weight (Tag device tag.now) }
+{
+    let reason = tag.reason().as_slice();
+    7 + decimal_len(u64::from(device)) + decimal_len(u64::from(tag.tag())) + escaped_len(reason)
 }
 
 /// How many octets the text of a request of the operator has.

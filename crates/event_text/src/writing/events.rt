@@ -2,12 +2,13 @@
 ghost use Rattle.std.specs.Prelude.{◌≡◌, ◌∷◌, ◌++◌, OnOk, OnErr, codes, decimal};
 ghost use Rattle.plain_text.specs.Extends.{Extends};
 ghost use Rattle.tase_views.specs.EventTexts.{call_text, event_text, body_text, value_text};
+ghost use Rattle.tase_views.specs.EventTexts.{tag_text};
 
 use crate::writing::calls::put_call;
-use plain_text::{push_decimal, push_hex, push_signed_decimal};
+use plain_text::{push_decimal, push_escaped, push_hex, push_signed_decimal};
 use std::alloc::AllocError;
 use tase_points::{Body, PointValue};
-use tase_views::{Call, Event, EventKind};
+use tase_views::{Call, DeviceTag, Event, EventKind};
 
 /// Appends the text of an event.
 pub(crate) fn put_event(out: &mut Vec<u8>, event: &Event) -> Result<(), AllocError>
@@ -21,8 +22,10 @@ pub(crate) fn put_event(out: &mut Vec<u8>, event: &Event) -> Result<(), AllocErr
         EventKind::Close => out.extend_from_slice(b"close"),
         EventKind::Update { point, value } => put_update(out, *point, value),
         EventKind::Table { peer, variant } => put_choice(out, *peer, *variant),
+        EventKind::Tag { device, tag } => put_tagging(out, *device, tag),
         EventKind::Tick { now } => put_tick(out, *now),
         EventKind::Ask { peer, slot } => put_ask(out, *peer, *slot),
+        EventKind::TakeOrders => out.extend_from_slice(b"orders"),
         EventKind::Stop => out.extend_from_slice(b"stop"),
     }
 }
@@ -72,6 +75,30 @@ fn put_choice(out: &mut Vec<u8>, peer: u32, variant: u32) -> Result<(), AllocErr
     push_decimal(out, u64::from(peer))?;
     out.push(b' ')?;
     push_decimal(out, u64::from(variant))
+}
+
+/// Appends `tag`, a device's number, its tag and the reason.
+#[tactic(auto, using(crate::proofs::Extended::extended))]
+fn put_tagging(out: &mut Vec<u8>, device: u32, tag: &DeviceTag) -> Result<(), AllocError>
+    ensures ok { OnOk result (out.new.items
+        ≡ out.old.items ++ codes "tag " ++ decimal device ++ 32 ∷ tag_text tag.now) }
+    ensures err { OnErr result (Extends out.old.items out.new.items) }
+{
+    out.extend_from_slice(b"tag ")?;
+    push_decimal(out, u64::from(device))?;
+    out.push(b' ')?;
+    put_tag(out, tag)
+}
+
+/// Appends a tag and, behind `v`, the reason.
+#[tactic(auto, using(crate::proofs::Extended::extended))]
+fn put_tag(out: &mut Vec<u8>, tag: &DeviceTag) -> Result<(), AllocError>
+    ensures ok { OnOk result (out.new.items ≡ out.old.items ++ tag_text tag.now) }
+    ensures err { OnErr result (Extends out.old.items out.new.items) }
+{
+    push_decimal(out, u64::from(tag.tag()))?;
+    out.extend_from_slice(b" v")?;
+    push_escaped(out, tag.reason().as_slice())
 }
 
 /// Appends `tick` and a moment.
