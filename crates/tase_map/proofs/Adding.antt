@@ -353,6 +353,12 @@ noted_apart rows key (events.Tick now) found before i =
 noted_apart rows key (events.Ask asker slot) found before i =
     apart_event rows (own_tables rows) key (events.Ask asker slot) None before
     (λ e. absurd (none-some key e))
+noted_apart rows key (events.Tag device tag) found before i =
+    apart_event rows (own_tables rows) key (events.Tag device tag) None before
+    (λ e. absurd (none-some key e))
+noted_apart rows key events.TakeOrders found before i =
+    apart_event rows (own_tables rows) key events.TakeOrders None before
+    (λ e. absurd (none-some key e))
 noted_apart rows key events.Stop found before i = refl
 noted_apart rows key (events.Open peer) found before i = absurd i
 noted_apart rows key (events.Request call) found before i = absurd i

@@ -6,14 +6,15 @@ use Rattle.std.specs.List.{list_any, cons_option}
 use Rattle.std.proofs.lemmas.Bool.{false≢true, eq-eqb, ne_eqb, cases_eq}
 use Rattle.std.proofs.lemmas.List.{append-nil}
 use Rattle.sbo_device.specs.declared.key.Key.{Key}
-use Rattle.bilateral.specs.Rows.{CentreRows, table_of, point_of}
+use Rattle.std.specs.Prelude.{is_some}
+use Rattle.bilateral.specs.Rows.{CentreRows, table_of, point_of, device_of}
 use Rattle.tase_views.specs.declared.event.EventKind.{EventKind}
 use Rattle.tase_views.specs.declared.event.EventKind.TheVariants as events
-use Rattle.tase_views.specs.Moves.{Act, Move, acts, updates, asks, chooses}
+use Rattle.tase_views.specs.Moves.{Act, Move, acts, updates, tags, asks, chooses}
 use Rattle.tase_views.specs.Moves.{acts_of_call, moves_by, moves_of, sort_of}
 use Rattle.tase_views.specs.Moves as act
 use Rattle.tase_views.specs.OwnTables.{OwnDevice, OwnTable, OwnTables, Owns}
-use Rattle.tase_views.specs.OwnTables.{is_point_of, is_selectable}
+use Rattle.tase_views.specs.OwnTables.{is_point_of, device_named, is_selectable}
 use Rattle.tase_views.specs.Devices.{Deed, deed_of}
 use Rattle.tase_views.specs.View.{Seen, own, other_acted, other_closed, updated, tagged, asked}
 use Rattle.tase_views.specs.View.{ticked, stopped, chose, shows_act, deed_seen, other_seen, held_in}
@@ -129,6 +130,11 @@ apart_event rows owns key (events.Tick now) found before apart = refl
 apart_event rows owns key (events.Ask asker slot) found before apart =
     apart_cons key.ordinal (seen_by rows owns key.peer before (asks asker slot)) []
     (apart_if (asker == key.peer) key.ordinal (asked slot) refl) refl
+apart_event rows owns key (events.Tag device tag) found before apart =
+    apart_cons key.ordinal (seen_by rows owns key.peer before (tags device tag)) []
+    (apart_if (is_some (device_named (owns key.peer) (device_of rows device).name)) key.ordinal
+    (tagged (device_of rows device).name tag) refl) refl
+apart_event rows owns key events.TakeOrders found before apart = refl
 apart_event rows owns key events.Stop found before apart = refl
 
 pub neither : (a b : Bool) → (a || b) ≡ false → (a ≡ false) × (b ≡ false)

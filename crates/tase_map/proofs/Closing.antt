@@ -9,7 +9,7 @@ use Rattle.sbo_device.specs.declared.key.Key.{Key}
 use Rattle.bilateral.specs.Rows.{CentreRows}
 use Rattle.tase_views.specs.declared.event.EventKind.{EventKind}
 use Rattle.tase_views.specs.declared.event.EventKind.TheVariants.{Open, Request, Take, Close}
-use Rattle.tase_views.specs.declared.event.EventKind.TheVariants.{Update, Table, Tick, Ask, Stop}
+use Rattle.tase_views.specs.declared.event.EventKind.TheVariants.{Update, Table, Tick, Ask, Tag, TakeOrders, Stop}
 use Rattle.tase_views.specs.declared.event.Entry.{Entry}
 use Rattle.tase_views.specs.History.{Past, counts_open, opens_in, next_key, association_after}
 use Rattle.tase_views.specs.History.{association_in, key_at, is_key, entries_of}
@@ -64,6 +64,10 @@ after_given (Tick now) past before key g e =
     let h : IsGiven key past = g e in omega (arith, h)
 after_given (Ask asker slot) past before key g e =
     let h : IsGiven key past = g e in omega (arith, h)
+after_given (Tag device tag) past before key g e =
+    let h : IsGiven key past = g e in omega (arith, h)
+after_given TakeOrders past before key g e =
+    let h : IsGiven key past = g e in omega (arith, h)
 after_given Stop past before key g e = let h : IsGiven key past = g e in omega (arith, h)
 
 given_chosen : (b : Bool) (entry : Entry) (past : Past) (before : Option Key) (key : Key)
@@ -92,6 +96,8 @@ held_before (Update point value) past before key g e = e
 held_before (Table chooser variant) past before key g e = e
 held_before (Tick now) past before key g e = e
 held_before (Ask asker slot) past before key g e = e
+held_before (Tag device tag) past before key g e = e
+held_before TakeOrders past before key g e = e
 held_before Stop past before key g e = e
 
 if_true : (b : Bool) (x y : Option Key) → b ≡ true → (if b then x else y) ≡ x
@@ -177,6 +183,8 @@ not_key_at (Update point value) past who key s e = s.nowhere who e
 not_key_at (Table chooser variant) past who key s e = s.nowhere who e
 not_key_at (Tick now) past who key s e = s.nowhere who e
 not_key_at (Ask asker slot) past who key s e = s.nowhere who e
+not_key_at (Tag device tag) past who key s e = s.nowhere who e
+not_key_at TakeOrders past who key s e = s.nowhere who e
 not_key_at Stop past who key s e = s.nowhere who e
 
 both : (a b : Bool) → (a && b) ≡ true → (a ≡ true) × (b ≡ true)
@@ -214,6 +222,8 @@ close_spent who (Update point value) past key c e = absurd (false≢true c)
 close_spent who (Table chooser variant) past key c e = absurd (false≢true c)
 close_spent who (Tick now) past key c e = absurd (false≢true c)
 close_spent who (Ask asker slot) past key c e = absurd (false≢true c)
+close_spent who (Tag device tag) past key c e = absurd (false≢true c)
+close_spent who TakeOrders past key c e = absurd (false≢true c)
 close_spent who Stop past key c e = absurd (false≢true c)
 
 either : (a b : Bool) → (a || b) ≡ true → (a ≡ true) ⊎ (b ≡ true)

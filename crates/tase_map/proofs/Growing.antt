@@ -24,8 +24,8 @@ use Rattle.tase_views.specs.declared.event.Entry.{Entry}
 use Rattle.tase_views.specs.History.{Past, key_at, is_key, entries_of, opens_in}
 use Rattle.tase_views.specs.OwnTables.{OwnTables, own_tables}
 use Rattle.tase_views.specs.Outcomes.{is_close}
-use Rattle.tase_views.specs.Moves.{Act, Move, updates, ticks, asks, chooses, acts_of_call}
-use Rattle.tase_views.specs.Moves.{moves_by, moves_of}
+use Rattle.tase_views.specs.Moves.{Act, Move, updates, tags, ticks, asks, chooses}
+use Rattle.tase_views.specs.Moves.{takes_orders, acts_of_call, moves_by, moves_of}
 use Rattle.tase_views.specs.Moves.{sort_of}
 use Rattle.tase_views.specs.View.{Seen, own}
 use Rattle.tase_views.specs.View.{other_acted, other_closed, updated, tagged, asked, ticked}
@@ -426,6 +426,14 @@ same_unclosed rows key (events.Ask asker slot) found before e goes =
     apart_unclosed key.ordinal
     (seen_in rows (own_tables rows) key.peer before (asks asker slot ∷ []))
     (noted_apart rows key (events.Ask asker slot) found before tt)
+same_unclosed rows key (events.Tag device tag) found before e goes =
+    apart_unclosed key.ordinal
+    (seen_in rows (own_tables rows) key.peer before (tags device tag ∷ []))
+    (noted_apart rows key (events.Tag device tag) found before tt)
+same_unclosed rows key events.TakeOrders found before e goes =
+    apart_unclosed key.ordinal
+    (seen_in rows (own_tables rows) key.peer before (takes_orders ∷ []))
+    (noted_apart rows key events.TakeOrders found before tt)
 same_unclosed rows key events.Stop found before e goes = refl
 
 event_unclosed : (rows : CentreRows) (key : Key) (event : EventKind) (found : Option Key)
@@ -544,6 +552,8 @@ module _ (rows : CentreRows) (table : OwnTables) (key : Key) (opening : List ℕ
   entry_closes added who (events.Table chooser variant) past e c u end = absurd (false≢true c)
   entry_closes added who (events.Tick now) past e c u end = absurd (false≢true c)
   entry_closes added who (events.Ask asker slot) past e c u end = absurd (false≢true c)
+  entry_closes added who (events.Tag device tag) past e c u end = absurd (false≢true c)
+  entry_closes added who events.TakeOrders past e c u end = absurd (false≢true c)
   entry_closes added who events.Stop past e c u end = absurd (false≢true c)
 
   -- by whether the entry is of the association

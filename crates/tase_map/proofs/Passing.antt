@@ -227,6 +227,10 @@ quiet_event rows key who (events.Tick now) past q e =
     made_noted rows key who (events.Tick now) past tt
 quiet_event rows key who (events.Ask asker slot) past q e =
     made_noted rows key who (events.Ask asker slot) past tt
+quiet_event rows key who (events.Tag device tag) past q e =
+    made_noted rows key who (events.Tag device tag) past tt
+quiet_event rows key who events.TakeOrders past q e =
+    made_noted rows key who events.TakeOrders past tt
 quiet_event rows key who events.Stop past q e = made_noted rows key who events.Stop past tt
 
 -- ---- before the open
@@ -258,6 +262,10 @@ yet_none who (events.Table chooser variant) past key y e =
 yet_none who (events.Tick now) past key y e =
     let g = issued past who key e in omega (arith, g, y)
 yet_none who (events.Ask asker slot) past key y e =
+    let g = issued past who key e in omega (arith, g, y)
+yet_none who (events.Tag device tag) past key y e =
+    let g = issued past who key e in omega (arith, g, y)
+yet_none who events.TakeOrders past key y e =
     let g = issued past who key e in omega (arith, g, y)
 yet_none who events.Stop past key y e = let g = issued past who key e in omega (arith, g, y)
 

@@ -9,7 +9,7 @@ use Rattle.sbo_device.specs.declared.key.Key.{Key}
 use Rattle.bilateral.specs.Rows.{CentreRows}
 use Rattle.tase_views.specs.declared.event.EventKind.{EventKind}
 use Rattle.tase_views.specs.declared.event.EventKind.TheVariants.{Open, Request, Take, Close}
-use Rattle.tase_views.specs.declared.event.EventKind.TheVariants.{Update, Table, Tick, Ask, Stop}
+use Rattle.tase_views.specs.declared.event.EventKind.TheVariants.{Update, Table, Tick, Ask, Tag, TakeOrders, Stop}
 use Rattle.tase_views.specs.declared.event.Entry.{Entry}
 use Rattle.tase_views.specs.History.{Past, association_after, association_in}
 use Rattle.tase_views.specs.Outcomes.{seat_refusal, name_refusal}
@@ -28,6 +28,8 @@ last_open (Update point value ∷ es) = last_open es
 last_open ((Table chooser variant) ∷ es) = last_open es
 last_open ((Tick now) ∷ es) = last_open es
 last_open ((Ask asker slot) ∷ es) = last_open es
+last_open ((Tag device tag) ∷ es) = last_open es
+last_open (TakeOrders ∷ es) = last_open es
 last_open (Stop ∷ es) = last_open es
 
 after_open : (event : EventKind) (past : Past) (before : Option Key) (es : List EventKind)
@@ -42,6 +44,8 @@ after_open (Update point value) past before es e = e
 after_open (Table chooser variant) past before es e = e
 after_open (Tick now) past before es e = e
 after_open (Ask asker slot) past before es e = e
+after_open (Tag device tag) past before es e = e
+after_open TakeOrders past before es e = e
 after_open Stop past before es e = e
 
 entry_open : (b : Bool) (entry : Entry) (past : Past) (before : Option Key) (es : List EventKind)
@@ -96,6 +100,8 @@ one_served (Update point value) rest s = absurd s
 one_served (Table chooser variant) rest s = absurd s
 one_served (Tick now) rest s = absurd s
 one_served (Ask asker slot) rest s = absurd s
+one_served (Tag device tag) rest s = absurd s
+one_served TakeOrders rest s = absurd s
 one_served Stop rest s = absurd s
 
 served : (es : List EventKind) (event : EventKind) (rest : List EventKind)
@@ -111,6 +117,8 @@ served (Update point value ∷ es) event rest s = absurd s
 served ((Table chooser variant) ∷ es) event rest s = absurd s
 served ((Tick now) ∷ es) event rest s = absurd s
 served ((Ask asker slot) ∷ es) event rest s = absurd s
+served ((Tag device tag) ∷ es) event rest s = absurd s
+served (TakeOrders ∷ es) event rest s = absurd s
 served (Stop ∷ es) event rest s = absurd s
 
 passed_open : (es more : List EventKind) → AreCalled es
@@ -125,6 +133,8 @@ passed_open (Update point value ∷ es) more a = absurd a.0
 passed_open ((Table chooser variant) ∷ es) more a = absurd a.0
 passed_open ((Tick now) ∷ es) more a = absurd a.0
 passed_open ((Ask asker slot) ∷ es) more a = absurd a.0
+passed_open ((Tag device tag) ∷ es) more a = absurd a.0
+passed_open (TakeOrders ∷ es) more a = absurd a.0
 passed_open (Stop ∷ es) more a = absurd a.0
 
 all_joined : (es more : List EventKind) → AreCalled es → AreCalled more → AreCalled (es ++ more)
@@ -160,6 +170,8 @@ held rows found (Update point value) f s = absurd s
 held rows found (Table chooser variant) f s = absurd s
 held rows found (Tick now) f s = absurd s
 held rows found (Ask asker slot) f s = absurd s
+held rows found (Tag device tag) f s = absurd s
+held rows found TakeOrders f s = absurd s
 held rows found Stop f s = absurd s
 
 opened : (rows : CentreRows) (found : Option Key) (event : EventKind) (rest : List EventKind)
@@ -173,6 +185,8 @@ opened rows found (Update point value) rest f t = absurd t
 opened rows found (Table chooser variant) rest f t = absurd t
 opened rows found (Tick now) rest f t = absurd t
 opened rows found (Ask asker slot) rest f t = absurd t
+opened rows found (Tag device tag) rest f t = absurd t
+opened rows found TakeOrders rest f t = absurd t
 opened rows found Stop rest f t = absurd t
 
 by_events : (rows : CentreRows) (found : Option Key) (es : List EventKind) (event : EventKind)
@@ -190,6 +204,8 @@ by_events rows found (Update point value ∷ es) event rest f t = absurd t
 by_events rows found ((Table chooser variant) ∷ es) event rest f t = absurd t
 by_events rows found ((Tick now) ∷ es) event rest f t = absurd t
 by_events rows found ((Ask asker slot) ∷ es) event rest f t = absurd t
+by_events rows found ((Tag device tag) ∷ es) event rest f t = absurd t
+by_events rows found (TakeOrders ∷ es) event rest f t = absurd t
 by_events rows found (Stop ∷ es) event rest f t = absurd t
 
 -- an event that comes in turn behind those of its seat

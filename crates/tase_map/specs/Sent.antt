@@ -7,7 +7,7 @@ use Rattle.sbo_device.specs.declared.key.Key.{Key}
 use Rattle.tase_views.specs.declared.event.EventKind.{EventKind}
 use Rattle.tase_views.specs.declared.event.EventKind.TheVariants as events
 use Rattle.tase_views.specs.declared.event.Entry.{Entry}
-use Rattle.tase_views.specs.Moves.{EventSort, feeding, sort_of}
+use Rattle.tase_views.specs.Moves.{EventSort, taking_orders, feeding, sort_of}
 use Rattle.tase_views.specs.History.{Past}
 use Rattle.tase_views.specs.OwnTables.{own_tables}
 use Rattle.tase_views.specs.View.{view_of}
@@ -54,9 +54,11 @@ abbrev pub AsksNoService : EventKind → Type 0
 AsksNoService (events.Request call) = ⊥
 AsksNoService event = Unit {0}
 
--- an event that is of no association's doing: a move of the centre's own
+-- an event that is of no association's doing: a move of the centre's own, or the plant takes its
+-- orders
 abbrev pub IsFeeding : EventSort → Type 0
 IsFeeding (feeding move) = Unit {0}
+IsFeeding taking_orders = Unit {0}
 IsFeeding _ = ⊥
 
 abbrev pub IsNoted : EventKind → Type 0

@@ -40,8 +40,8 @@ pub fn octets_tell_one_thing()
         → reading_of octets ≡ record { told = told; broken = broken } }
 {}
 
-/// The PDUs that messages tell have lawful parts, as `read_pdu` gives them: so requests may be mapped
-/// to calls, and PDUs to replies, at either end.
+/// The PDUs that messages tell have lawful parts, as `read_pdu` gives them: so requests may be
+/// mapped to calls, and PDUs to replies, at either end.
 pub fn told_pdus_are_lawful()
     ensures { (role : Role) (told : List Arrival) (messages : List Message)
         → Tell role told messages → All IsLawfulTold told }
@@ -71,9 +71,9 @@ pub fn events_come_in_turn()
 {}
 
 /// Each entry of an association adds its octets behind those before it: an open its beginning; a
-/// request, where it is the one that stands at that place in the text, the reply to it over the view
-/// before it; a take the reports that were made since the last one, up to the first that is longer
-/// than was agreed on; a close those by what stands at its place. No other entry adds any.
+/// request, where it is the one that stands at that place in the text, the reply to it over the
+/// view before it; a take the reports that were made since the last one, up to the first that is
+/// longer than was agreed on; a close those by what stands at its place. No other entry adds any.
 pub fn each_entry_adds_its_octets()
     ensures other { (rows : CentreRows) (past : Past) (key : Key) (who : ℕ) (event : AnyEvent)
         (text : List ℕ) (ended : Bool) → key_at event past who ≢ Some key
@@ -110,9 +110,9 @@ pub fn each_entry_adds_its_octets()
         (turns_left rows past key text ended) }
 {}
 
-/// The text of an association has its requests taken in order: before its open all of it is left, and
-/// nothing was sent; a request, where it is the one that stands first, leaves the rest; no other entry
-/// takes any.
+/// The text of an association has its requests taken in order: before its open all of it is left,
+/// and nothing was sent; a request, where it is the one that stands first, leaves the rest; no
+/// other entry takes any.
 pub fn requests_are_taken_in_order()
     ensures yet { (rows : CentreRows) (past : Past) (key : Key) (text : List ℕ) (ended : Bool)
         → opens_in past key.peer ≤ key.ordinal
@@ -134,9 +134,9 @@ pub fn requests_are_taken_in_order()
         ≡ turns_left rows past key text ended }
 {}
 
-/// Every request of an association stands in its text: before its open, where the text begins with an
-/// offer; behind a request that stood first; and behind every other entry, and with more text, where
-/// they did.
+/// Every request of an association stands in its text: before its open, where the text begins with
+/// an offer; behind a request that stood first; and behind every other entry, and with more text,
+/// where they did.
 pub fn requests_stand_in_texts()
     ensures yet { (rows : CentreRows) (past : Past) (key : Key) (text : List ℕ)
         (title : Option (List ℕ)) (turns : List Turn) → opens_in past key.peer ≤ key.ordinal
@@ -157,10 +157,11 @@ pub fn requests_stand_in_texts()
         → AreInText rows past key text → AreInText rows past key (text ++ more) }
 {}
 
-/// Where every request of an association stands in its text, as far as that has come, more text leaves
-/// more behind what it has left. Until the association is closed its peer is sent the same octets with
-/// the longer text; once it is, also where what stands at the place of its close is fixed, and, where a
-/// conclude stands there that is the last of the text, those that answer what follows it more.
+/// Where every request of an association stands in its text, as far as that has come, more text
+/// leaves more behind what it has left. Until the association is closed its peer is sent the same
+/// octets with the longer text; once it is, also where what stands at the place of its close is
+/// fixed, and, where a conclude stands there that is the last of the text, those that answer what
+/// follows it more.
 pub fn texts_grow()
     ensures left { (rows : CentreRows) (past : Past) (key : Key) (text more : List ℕ)
         (ended : Bool) → AreInText rows past key text → (later : List Turn)
