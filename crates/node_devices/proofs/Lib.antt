@@ -1,0 +1,9 @@
+pub mod Numbers
+pub mod CallActs
+pub mod Moments
+pub mod BankActs
+pub mod BankSteps
+pub mod SeenAlike
+pub mod DevicesShown
+pub mod OwnActs
+pub mod NewBanks

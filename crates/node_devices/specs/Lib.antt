@@ -1,0 +1,2 @@
+pub mod DeviceBanks
+pub mod DevicesSeen
