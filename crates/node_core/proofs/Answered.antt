@@ -22,21 +22,25 @@ use Rattle.bilateral.specs.declared.rows.PointRow.{PointRow}
 use Rattle.bilateral.specs.declared.rows.See.{See}
 use Rattle.bilateral.specs.declared.rows.TheConstants.{SLOT_LIMIT}
 use Rattle.bilateral.specs.Rows.{CentreRows, place_of_see, point_of, no_point}
+use Rattle.sbo_device.specs.Moves.{Tag}
+use Rattle.sbo_device.specs.States.{select_answer, tag_of}
 use Rattle.transfer_sets.specs.declared.wish.Wish.{Wish}
 use Rattle.transfer_sets.specs.SlotMoves.{last_wish}
 use Rattle.transfer_sets.specs.WishData.{shown_wish}
 use Rattle.transfer_sets.specs.Banks.{OwnedSlot, slot_at, is_owned_by}
 use Rattle.tase_views.specs.declared.reply.TheConstants.{OBJECT_ACCESS_DENIED}
-use Rattle.tase_views.specs.OwnTables.{OwnTable, OwnTables, own_point}
+use Rattle.tase_views.specs.OwnTables.{OwnDevice, OwnTable, OwnTables, own_point}
 use Rattle.tase_views.specs.Objects.{Object, constant, report_variable, indication_point}
 use Rattle.tase_views.specs.Objects.{next_transfer_set, control_point, selection, device_tag}
 use Rattle.tase_views.specs.Objects.{timeout, transfer_set, transfer_set_status, object_named}
 use Rattle.tase_views.specs.Moves.{reads}
-use Rattle.tase_views.specs.View.{View, own, held}
+use Rattle.tase_views.specs.View.{View, own, own_key, held, moves_seen}
 use Rattle.tase_views.specs.Values.{values_in}
 use Rattle.tase_views.specs.Slots.{is_next_slot, slot_moves}
 use Rattle.tase_views.specs.Answers.{outcome_of_point, object_read, read_outcomes, slot_name}
-use Rattle.tase_views.specs.Answers.{temporarily_unavailable}
+use Rattle.tase_views.specs.Answers.{temporarily_unavailable, device_state, select_outcome}
+use Rattle.tase_views.specs.Answers.{shown_tag}
+use Rattle.node_devices.proofs.OwnActs.{selects_alike, tags_alike}
 use Rattle.node_core.specs.LastValues.{kinds_of}
 use Rattle.node_core.specs.declared.naming.Special.{Special}
 use Rattle.node_core.specs.declared.naming.Special.TheVariants as specials
@@ -46,7 +50,6 @@ use Rattle.node_core.specs.SlotsKept.{outcomes_shown, first_free, handed_by, Dra
 use Rattle.node_core.specs.SlotsKept.{HasDrafted, handed_all}
 use Rattle.node_core.specs.Shown.{Shown, IsShown, InEachView}
 use Rattle.node_core.proofs.SlotBanks.{owned_alike, free_alike, IsBank-reads}
-use Rattle.node_core.proofs.Offered.{IsOffered, offered_named}
 
 -- the kind of a point of the centre
 pub kind_there : (rows : CentreRows) (p : ℕ) → p < length rows.points
@@ -75,55 +78,73 @@ outcome_of_point-row updates tables view shown see value count s there named val
 
 -- ---- reads
 
--- an object gives what it gives by the transfer sets that are kept, and in every view with the same
--- values
+-- what two views of a peer tell alike: the values of points, how selects by an association are
+-- answered, and the tags of devices
+pub record TellAlike (tables : OwnTables) (ordinal : ℕ) (v w : View) : Type 0 where
+  pub values : (name : List ℕ) → values_in v name ≡ values_in w name
+  pub selects : (d : OwnDevice) → select_answer (device_state tables v d) (own_key ordinal)
+      ≡ select_answer (device_state tables w d) (own_key ordinal)
+  pub tags : (name : List ℕ) → tag_of (moves_seen tables v name)
+      ≡ tag_of (moves_seen tables w name)
+
+-- an object gives what it gives by the transfer sets that are kept, and in every view that tells
+-- all else alike
 object_alike : (tables : OwnTables) (v w : View) (ordinal : ℕ) (slots : List OwnedSlot)
-    (object : Option Object) → IsBank tables v slots
-    → ((name : List ℕ) → values_in v name ≡ values_in w name) → IsOffered object
+    (object : Option Object) → IsBank tables v slots → TellAlike tables ordinal v w
     → object_read tables v ordinal object
     ≡ object_shown tables (held tables v) w ordinal slots object
-object_alike tables v w ordinal slots None k same o = refl
-object_alike tables v w ordinal slots (Some (constant value)) k same o = refl
-object_alike tables v w ordinal slots (Some (report_variable variable)) k same o = refl
-object_alike tables v w ordinal slots (Some (indication_point point)) k same o =
-    rw (same point.name) refl
-object_alike tables v w ordinal slots (Some next_transfer_set) k same o =
+object_alike tables v w ordinal slots None k same = refl
+object_alike tables v w ordinal slots (Some (constant value)) k same = refl
+object_alike tables v w ordinal slots (Some (report_variable variable)) k same = refl
+object_alike tables v w ordinal slots (Some (indication_point point)) k same =
+    rw (same.values point.name) refl
+object_alike tables v w ordinal slots (Some next_transfer_set) k same =
     ap (λ (free : Option ℕ). option_map_or (λ s. Good (slot_name (held tables v) s)) free
     (Fail temporarily_unavailable)) (sym (free_alike tables v slots k))
-object_alike tables v w ordinal slots (Some (transfer_set s)) k same o =
+object_alike tables v w ordinal slots (Some (transfer_set s)) k same =
     ap (λ (mine : Bool). if mine
     then Good (shown_wish (last_wish (slot_moves tables v s)).0) else Fail OBJECT_ACCESS_DENIED)
     (sym (owned_alike tables v slots k ordinal s))
     ∙ ap (λ (wish : Wish). if is_owned_by ordinal (slot_at slots s)
     then Good (shown_wish wish) else Fail OBJECT_ACCESS_DENIED) (sym (k.state s).wish)
-object_alike tables v w ordinal slots (Some (transfer_set_status s)) k same o =
+object_alike tables v w ordinal slots (Some (transfer_set_status s)) k same =
     ap (λ (mine : Bool). if mine
     then Good (boolean (last_wish (slot_moves tables v s)).0.status)
     else Fail OBJECT_ACCESS_DENIED) (sym (owned_alike tables v slots k ordinal s))
     ∙ ap (λ (wish : Wish). if is_owned_by ordinal (slot_at slots s)
     then Good (boolean wish.status) else Fail OBJECT_ACCESS_DENIED) (sym (k.state s).wish)
-object_alike tables v w ordinal slots (Some (control_point device)) k same o = absurd o
-object_alike tables v w ordinal slots (Some (selection device)) k same o = absurd o
-object_alike tables v w ordinal slots (Some (device_tag device)) k same o = absurd o
-object_alike tables v w ordinal slots (Some (timeout device)) k same o = absurd o
+object_alike tables v w ordinal slots (Some (control_point d)) k same = refl
+object_alike tables v w ordinal slots (Some (selection d)) k same =
+    ap (select_outcome d.row.checkback) (same.selects d)
+object_alike tables v w ordinal slots (Some (device_tag d)) k same =
+    ap (λ (tag : Tag). Good (shown_tag tag)) (same.tags d.row.name)
+object_alike tables v w ordinal slots (Some (timeout d)) k same = refl
 
 module _ (tables : OwnTables) (ordinal : ℕ) where
+  -- a read leaves what they tell alike
+  alike_behind : (v w : View) (name : ObjectName) → TellAlike tables ordinal v w
+      → TellAlike tables ordinal (own ordinal (reads name) ∷ v) w
+  alike_behind v w name same = record {
+    values = same.values;
+    selects = λ d. selects_alike tables v ordinal name d ∙ same.selects d;
+    tags = λ item. tags_alike tables v ordinal name item ∙ same.tags item;
+  }
+
   reads_alike : (v w : View) (names : List ObjectName) (slots : List OwnedSlot)
-      → ((name : ObjectName) → IsOffered (object_named (held tables v) name))
       → (held tables v).slots ≤ SLOT_LIMIT → IsBank tables v slots
-      → ((name : List ℕ) → values_in v name ≡ values_in w name)
+      → TellAlike tables ordinal v w
       → read_outcomes tables v ordinal names
       ≡ outcomes_shown tables (held tables v) w ordinal names slots
-  reads_alike v w [] slots offered few k same = refl
-  reads_alike v w (name ∷ names) slots offered few k same =
+  reads_alike v w [] slots few k same = refl
+  reads_alike v w (name ∷ names) slots few k same =
       let table = held tables v in
       let behind : View = own ordinal (reads name) ∷ v in
       ap (λ (outcome : Outcome). outcome ∷ read_outcomes tables behind ordinal names)
-      (object_alike tables v w ordinal slots (object_named table name) k same (offered name))
+      (object_alike tables v w ordinal slots (object_named table name) k same)
       ∙ ap (λ (rest : List Outcome). object_shown tables table w ordinal slots
       (object_named table name) ∷ rest)
-      (reads_alike behind w names (slots_read table ordinal name slots) offered few
-      (IsBank-reads tables v slots k ordinal name few) same)
+      (reads_alike behind w names (slots_read table ordinal name slots) few
+      (IsBank-reads tables v slots k ordinal name few) (alike_behind v w name same))
 
   -- what reads give by what is kept is what they give by the view
   pub read_outcomes-shown : (t : TableInForce) (view : View) (names : List ObjectName)
@@ -134,9 +155,8 @@ module _ (tables : OwnTables) (ordinal : ℕ) where
   read_outcomes-shown t view names slots in_force few k =
       ap (λ (table : OwnTable). outcomes_shown tables table view ordinal names slots) in_force
       ∙ sym (reads_alike view view names slots
-      (λ name. subst (λ (table : OwnTable). IsOffered (object_named table name)) in_force
-      (offered_named t name))
-      (subst (λ (table : OwnTable). table.slots ≤ SLOT_LIMIT) in_force few) k (λ name. refl))
+      (subst (λ (table : OwnTable). table.slots ≤ SLOT_LIMIT) in_force few) k
+      (record { values = λ name. refl; selects = λ d. refl; tags = λ name. refl }))
 
 -- one read more, ahead of those that are left
 pub shown-step : (tables : OwnTables) (table : OwnTable) (view : View) (ordinal : ℕ)

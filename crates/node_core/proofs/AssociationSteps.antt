@@ -3,9 +3,9 @@ use Rattle.std.proofs.Common.{◌≡◌, ℕ, suc, ◌+◌, ◌-◌, ◌<◌, �
 use Rattle.std.proofs.Common.{List, [], ◌∷◌, ◌++◌, map, length, Option, Some, None, refl, sym}
 use Rattle.std.proofs.Common.{ap, subst, ◌∙◌, inl, inr, ⊎_elim, arith, length-append, get_or}
 use Rattle.std.specs.Prelude.{◌||◌, ◌⊎◌, if◌then◌else◌, nat_eq, filter_map, flat_map, Result, Ok}
-use Rattle.std.specs.Prelude.{Err}
+use Rattle.std.specs.Prelude.{Err, find}
 use Rattle.std.specs.List.{All, range_with_len}
-use Rattle.std.specs.Option.{option_eq}
+use Rattle.std.specs.Option.{option_eq, option_map_or}
 use Rattle.std.proofs.lemmas.Bool.{false≢true, eq-eqb, eqb-true, ne_eqb, cases_eq}
 use Rattle.std.proofs.lemmas.List.{append-nil, length-map, get_or-map}
 use Rattle.std.proofs.lemmas.List.Elements.{All-map, All-append, All-filter, All-cons, All-nil}
@@ -15,7 +15,7 @@ use Rattle.transfer_sets.specs.declared.wish.Wish.{Wish}
 use Rattle.transfer_sets.specs.SlotMoves.{SlotMove, PointChange, owner_in, handed_out, changes}
 use Rattle.transfer_sets.specs.SlotMoves.{reports}
 use Rattle.tase_views.specs.declared.reply.ReportKind.{ReportKind}
-use Rattle.tase_views.specs.OwnTables.{OwnDevice, OwnTables}
+use Rattle.tase_views.specs.OwnTables.{OwnTables}
 use Rattle.tase_views.specs.Moves.{opens, takes, closes, reads, writes, defines, deletes, calls}
 use Rattle.tase_views.specs.View.{Seen, View, own, other_acted, other_closed, updated, tagged}
 use Rattle.tase_views.specs.View.{asked}
@@ -27,7 +27,7 @@ use Rattle.node_core.specs.declared.cause.ReportCause.{ReportCause}
 use Rattle.node_core.specs.declared.cause.ReportCause.TheVariants.{Tick, Ask}
 use Rattle.node_core.specs.Associations.{OpenAssociation, new_association, is_open_in}
 use Rattle.node_core.specs.Associations.{open_without, with_drafted, undrafted, behind_take}
-use Rattle.node_core.specs.Associations.{made_last}
+use Rattle.node_core.specs.Associations.{made_for}
 use Rattle.node_core.specs.SlotFeeds.{move_of}
 use Rattle.node_core.specs.PeerParts.{AreAssociations}
 
@@ -256,33 +256,31 @@ module _ (tables : OwnTables) (view : View) where
       later_none false none = none
 
 -- what a take is given is what was made
-given : (ordinal : ℕ) (those : List OpenAssociation) (made so_far : List ReportKind)
+given : (ordinal : ℕ) (those : List OpenAssociation) (made : List ReportKind)
     → ((i : ℕ) (d : OpenAssociation) → i < length those
     → (get_or those i d).ordinal ≡ ordinal → (get_or those i d).made ≡ made)
-    → (so_far ≡ made) ⊎ (is_open_in ordinal those ≡ true)
-    → made_last ordinal those so_far ≡ made
-given ordinal [] made so_far each (inl is) = is
-given ordinal [] made so_far each (inr there) = absurd (false≢true there)
-given ordinal (a ∷ those) made so_far each found =
-    given ordinal those made (if a.ordinal == ordinal then a.made else so_far)
-    (λ i d within. each (suc i) d (omega (arith, within)))
-    (by (a.ordinal == ordinal) refl found)
+    → is_open_in ordinal those ≡ true → made_for ordinal those ≡ made
+given ordinal [] made each there = absurd (false≢true there)
+given ordinal (a ∷ those) made each there =
+    by (a.ordinal == ordinal) refl there
+    (given ordinal those made (λ i d within. each (suc i) d (omega (arith, within))))
   where
-    by : (b : Bool) → (a.ordinal == ordinal) ≡ b
-        → (so_far ≡ made) ⊎ ((b || is_open_in ordinal those) ≡ true)
-        → ((if b then a.made else so_far) ≡ made) ⊎ (is_open_in ordinal those ≡ true)
-    by true e found = inl (each 0 a (omega arith) (eqb-true a.ordinal ordinal e))
-    by false e (inl is) = inl is
-    by false e (inr there) = inr there
+    by : (b : Bool) → (a.ordinal == ordinal) ≡ b → (b || is_open_in ordinal those) ≡ true
+        → (is_open_in ordinal those ≡ true → made_for ordinal those ≡ made)
+        → option_map_or (λ (o : OpenAssociation). o.made)
+        (if b then Some a else find (λ (o : OpenAssociation). o.ordinal == ordinal) those) []
+        ≡ made
+    by true e open_one rest = each 0 a (omega arith) (eqb-true a.ordinal ordinal e)
+    by false e open_one rest = rest open_one
 
-pub made_last-is : (tables : OwnTables) (view : View) (ordinal : ℕ)
+pub made_for-is : (tables : OwnTables) (view : View) (ordinal : ℕ)
     (those : List OpenAssociation) (n k : ℕ) → is_open_in ordinal those ≡ true
     → AreAssociations tables view those n k
-    → made_last ordinal those [] ≡ reports_pending tables view ordinal
-made_last-is tables view ordinal those n k there a =
-    given ordinal those (reports_pending tables view ordinal) []
+    → made_for ordinal those ≡ reports_pending tables view ordinal
+made_for-is tables view ordinal those n k there a =
+    given ordinal those (reports_pending tables view ordinal)
     (λ i d within same. a.made i d within
-    ∙ ap (reports_pending tables view) same) (inr there)
+    ∙ ap (reports_pending tables view) same) there
 
 -- ---- owners behind other moves
 
@@ -344,24 +342,28 @@ pub drafted_open : (owner : ℕ) (these : List OpenAssociation)
 drafted_open owner [] = refl
 drafted_open owner (o ∷ these) = rw (drafted_open owner these) refl
 
-module _ (tables : OwnTables) (view : View)
-    (bare : (held tables view).devices ≡ []) where
+-- no selection of an association ends, whatever the moment
+abbrev pub EndsNothing : OwnTables → View → ℕ → Type 0
+EndsNothing tables view ordinal =
+    (now : ℕ) → filter_map (timeout_report tables view ordinal now) (held tables view).devices ≡ []
+
+module _ (tables : OwnTables) (view : View) where
   unowned : (ordinal now : ℕ) (conditions : ℕ → ℕ) (s : ℕ)
       → owns ordinal (slot_moves tables view s) ≡ false
       → own_reports tables view ordinal now conditions s ≡ []
   unowned ordinal now conditions s none = rw none refl
 
-  -- of an association that owns no transfer set nothing is reported
+  -- of an association that owns no transfer set and holds no device nothing is reported
   no_reports : (ordinal : ℕ) → ((s : ℕ) → owns ordinal (slot_moves tables view s) ≡ false)
-      → (cause : ReportCause) → reports_by tables view ordinal (move_of cause) ≡ []
-  no_reports ordinal none (Tick from to) =
+      → EndsNothing tables view ordinal → (cause : ReportCause)
+      → reports_by tables view ordinal (move_of cause) ≡ []
+  no_reports ordinal none ends (Tick from to) =
       let reported = own_reports tables view ordinal to (λ s. due_conditions tables view s to) in
       let offered = flat_map reported (range_with_len 0 (held tables view).slots) in
-      ap (λ (devices : List OwnDevice).
-      filter_map (timeout_report tables view ordinal to) devices ++ offered) bare
+      ap (λ (ended : List ReportKind). ended ++ offered) (ends to)
       ∙ none_made reported (range_with_len 0 (held tables view).slots)
       (λ s. unowned ordinal to (λ s. due_conditions tables view s to) s (none s))
-  no_reports ordinal none (Ask slot now) =
+  no_reports ordinal none ends (Ask slot now) =
       unowned ordinal (moment_in view)
       (λ s. asked_conditions (slot_state tables view s)) slot (none slot)
 
@@ -378,11 +380,12 @@ module _ (tables : OwnTables) (view : View)
   same_owner (Ask slot now) s = owner_reported _ (slot_moves tables view s)
 
   pub AreAssociations-reported : (cause : ReportCause) (those : List OpenAssociation) (n k : ℕ)
+      → ((ordinal : ℕ) → k ≤ ordinal → EndsNothing tables view ordinal)
       → All (λ (o : OpenAssociation).
       o.drafted ≡ reports_by tables view o.ordinal (move_of cause)) those
       → AreAssociations tables view those n k
       → AreAssociations tables (move_of cause ∷ view) (map with_drafted those) n k
-  AreAssociations-reported cause those n k drafted a = record {
+  AreAssociations-reported cause those n k late drafted a = record {
     fewer = omega (arith, length-map those with_drafted, a.fewer);
     opened = All-map (λ (o : OpenAssociation). o.ordinal < k) with_drafted those
         (λ i d within. a.opened i d within);
@@ -397,7 +400,7 @@ module _ (tables : OwnTables) (view : View)
         (a.unopened later above)
         ∙ no_reports later (λ s. not_owner later (slot_moves tables view s)
         (λ owner is same. let below = open_below owner k those a.opened (a.owners s owner is) in
-        absurd (omega (arith, below, above, same)))) cause;
+        absurd (omega (arith, below, above, same)))) (late later above) cause;
   }
     where
       joined : (o : OpenAssociation) → o.made ≡ reports_pending tables view o.ordinal

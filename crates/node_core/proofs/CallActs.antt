@@ -27,13 +27,13 @@ each-append : (Q : Act → Type 0) (xs ys : List Act) → EachAct Q xs → EachA
 each-append Q [] ys before behind = behind
 each-append Q (x ∷ xs) ys before behind = (before.0, each-append Q xs ys before.1 behind)
 
-each-reverse : (Q : Act → Type 0) (xs : List Act) → EachAct Q xs → EachAct Q (reverse xs)
+pub each-reverse : (Q : Act → Type 0) (xs : List Act) → EachAct Q xs → EachAct Q (reverse xs)
 each-reverse Q [] each = tt
 each-reverse Q (x ∷ xs) each =
     subst (λ (these : List Act). EachAct Q these) (sym (reverse-append (x ∷ []) xs))
     (each-append Q (reverse xs) (x ∷ []) (each-reverse Q xs each.1) (each.0, tt))
 
-each-map : (Q : Act → Type 0) (f : ObjectName → Act) → ((name : ObjectName) → Q (f name))
+pub each-map : (Q : Act → Type 0) (f : ObjectName → Act) → ((name : ObjectName) → Q (f name))
     → (names : List ObjectName) → EachAct Q (map f names)
 each-map Q f all [] = tt
 each-map Q f all (name ∷ names) = (all name, each-map Q f all names)

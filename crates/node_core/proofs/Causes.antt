@@ -1,29 +1,34 @@
 -- What follows where an event isn't refused, and that a refusal is never for want of memory.
 use Rattle.std.proofs.Common.{◌≡◌, ℕ, ◌+◌, ◌<◌, ◌≤◌, Bool, true, false, [], ◌∷◌}
-use Rattle.std.proofs.Common.{length, reverse, ltb, Option, Some, None, is_some, refl, sym}
-use Rattle.std.proofs.Common.{subst}
+use Rattle.std.proofs.Common.{length, reverse, ltb, leb, Option, Some, None, is_some, refl, sym}
+use Rattle.std.proofs.Common.{subst, ap, ◌∙◌}
 use Rattle.std.specs.Prelude.{if◌then◌else◌, option_map}
-use Rattle.std.proofs.lemmas.Bool.{ltb-true, ltb-false, and_parts}
+use Rattle.std.proofs.lemmas.Bool.{ltb-true, ltb-false, leb-false, and_parts}
 use Rattle.std.proofs.lemmas.Option.{none-some}
 use Rattle.tase_points.specs.Sample.{Sample}
 use Rattle.bilateral.specs.Rows.{CentreRows, variants_of}
 use Rattle.sbo_device.specs.declared.key.Key.{Key}
+use Rattle.sbo_device.specs.declared.device.TheConstants.{MOMENT_LIMIT}
+use Rattle.sbo_device.specs.Moves.{Tag as DeviceTag}
 use Rattle.tase_views.specs.declared.event.EventKind.{EventKind}
 use Rattle.tase_views.specs.declared.event.EventKind.TheVariants.{Open, Request, Take, Close}
-use Rattle.tase_views.specs.declared.event.EventKind.TheVariants.{Update, Table, Tick, Ask, Stop}
+use Rattle.tase_views.specs.declared.event.EventKind.TheVariants.{Update, Table, Tick, Ask}
+use Rattle.tase_views.specs.declared.event.EventKind.TheVariants as events
+use Rattle.tase_views.specs.declared.event.EventKind.TheVariants.{TakeOrders, Stop}
 use Rattle.tase_views.specs.declared.fault.StepFault.{StepFault}
 use Rattle.tase_views.specs.declared.fault.StepFault.TheVariants.{Stopped, HistoryFull}
 use Rattle.tase_views.specs.declared.fault.StepFault.TheVariants.{NoAssociation, Already}
-use Rattle.tase_views.specs.declared.fault.StepFault.TheVariants.{UnknownName}
+use Rattle.tase_views.specs.declared.fault.StepFault.TheVariants.{UnknownName, ClockRange, Backward}
 use Rattle.tase_views.specs.Setup.{Setup}
 use Rattle.tase_views.specs.History.{Past, association_in, stop_in}
 use Rattle.tase_views.specs.Weights.{weight, weight_of}
 use Rattle.tase_views.specs.Outcomes.{is_close, is_ending, is_known, has_table, has_slot}
 use Rattle.tase_views.specs.Outcomes.{stop_refusal, seat_refusal, name_refusal}
-use Rattle.tase_views.specs.Outcomes.{clock_refusal, weight_refusal}
+use Rattle.tase_views.specs.Moves.{sort_of}
+use Rattle.tase_views.specs.Outcomes.{clock_refusal, clock_refusal_by, weight_refusal}
 use Rattle.tase_views.specs.Outcomes.{first_refusal, refusal_of}
 use Rattle.node_core.specs.NodeState.{NodeState}
-use Rattle.node_core.specs.Stored.{IsRequest}
+use Rattle.node_core.specs.Stored.{IsRequest, IsTaggingOf}
 use Rattle.node_core.specs.Room.{LeavesSeats}
 
 -- none of the five refusals has its cause
@@ -113,6 +118,30 @@ pub named-update : (rows : CentreRows) (point : ℕ) (value : Sample)
     → name_refusal rows (Update point value) ≡ None → is_known rows point value ≡ true
 named-update rows point value e = passes (is_known rows point value) UnknownName e
 
+pub named-tag : (rows : CentreRows) (device : ℕ) (tag : DeviceTag)
+    → name_refusal rows (events.Tag device tag) ≡ None → device < length rows.devices
+named-tag rows device tag e =
+    ltb-true device (length rows.devices)
+    (passes (ltb device (length rows.devices)) UnknownName e)
+
+-- a tagging of a device is of it
+pub tagging_is : (device other : ℕ) (tag : DeviceTag) (event : EventKind)
+    → event ≡ events.Tag other tag → IsTaggingOf device event → event ≡ events.Tag device tag
+tagging_is device other tag event e tagging =
+    e ∙ ap (λ (n : ℕ). events.Tag n tag) (subst (IsTaggingOf device) e tagging)
+
+-- a tick is to a moment below the limit
+pub timed-tick : (last now : ℕ) → clock_refusal_by last (sort_of (Tick now)) ≡ None
+    → now < MOMENT_LIMIT
+timed-tick last now e = by (leb MOMENT_LIMIT now) refl e
+  where
+    by : (b : Bool) → leb MOMENT_LIMIT now ≡ b
+        → (if b then Some ClockRange
+        else (if leb now last then Some (Backward last) else None)) ≡ None
+        → now < MOMENT_LIMIT
+    by true same none = absurd (none-some ClockRange (sym none))
+    by false same none = leb-false MOMENT_LIMIT now same
+
 pub named-table : (rows : CentreRows) (peer variant : ℕ)
     → name_refusal rows (Table peer variant) ≡ None
     → (peer < length rows.tables) × (variant < length (variants_of rows peer))
@@ -149,6 +178,8 @@ request-goes_on (Update point value) request = absurd request
 request-goes_on (Table peer variant) request = absurd request
 request-goes_on (Tick now) request = absurd request
 request-goes_on (Ask asker slot) request = absurd request
+request-goes_on (events.Tag device tag) request = absurd request
+request-goes_on TakeOrders request = absurd request
 request-goes_on Stop request = absurd request
 
 pub request-leaves : (event : EventKind) (before behind : ℕ) → IsRequest event → behind ≡ before
@@ -161,4 +192,6 @@ request-leaves (Update point value) before behind request same = absurd request
 request-leaves (Table peer variant) before behind request same = absurd request
 request-leaves (Tick now) before behind request same = absurd request
 request-leaves (Ask asker slot) before behind request same = absurd request
+request-leaves (events.Tag device tag) before behind request same = absurd request
+request-leaves TakeOrders before behind request same = absurd request
 request-leaves Stop before behind request same = absurd request

@@ -12,7 +12,9 @@ pub mod Lawful
 pub mod SetBooks
 pub mod SlotBanks
 pub mod Drafts
-pub mod Offered
+pub mod Operands
+pub mod DeviceActs
+pub mod DevicesKept
 pub mod SlotWrites
 pub mod AssociationSteps
 pub mod PartSteps
@@ -38,3 +40,7 @@ pub mod PartLists
 pub mod ReportsMade
 pub mod ReportsAlike
 pub mod ReportsShown
+pub mod DeviceNames
+pub mod SelectionsEnded
+pub mod LateSelections
+pub mod TagForms

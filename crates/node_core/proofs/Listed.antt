@@ -1,10 +1,11 @@
--- The names that stand in a list: those of the protocol's own objects, of the transfer sets and the
--- rows of a table and of the data sets of a book, each of them an identifier.
+-- The names that stand in a list: those of the protocol's own objects, of the devices, the transfer
+-- sets and the rows of a table and of the data sets of a book, each of them an identifier.
 use Rattle.std.proofs.Common.{◌≡◌, ◌==◌, ℕ, zero, suc, ◌+◌, ◌<◌, ◌≤◌, min, Bool, true, false, not}
 use Rattle.std.proofs.Common.{◌&&◌, List, [], ◌∷◌, ◌++◌, map, take, length, get_or, Bor}
 use Rattle.std.proofs.Common.{Option, Some, None, refl, sym, ap, ◌∙◌, arith, ⊎_elim, take_all}
 use Rattle.std.proofs.Common.{append-nil, append_assoc, subst}
 use Rattle.std.specs.Prelude.{if◌then◌else◌, filter, IsPermutation, ℤ, Result, IfOk}
+use Rattle.std.specs.Prelude.{codes}
 use Rattle.std.specs.Ordering.{int_eq}
 use Rattle.std.specs.Fmt.{digits}
 use Rattle.std.specs.List.{All, filter_map, flat_map, cons_option, list_all, range_with_len}
@@ -21,7 +22,7 @@ use Rattle.data_sets.specs.Books.{Book}
 use Rattle.bilateral.specs.declared.rows.See.{See}
 use Rattle.table_words.specs.Words.{is_name, is_identifier}
 use Rattle.bilateral.specs.declared.rows.TheConstants.{SLOT_LIMIT}
-use Rattle.bilateral.specs.Rows.{CentreRows, IsCentre, IsTable, no_point}
+use Rattle.bilateral.specs.Rows.{CentreRows, IsCentre, IsTable, IsControlling, no_point}
 use Rattle.table_words.proofs.VisibleWords.{IsVisible-from_name, IsVisible-from_identifier}
 use Rattle.tase_views.specs.declared.call.TheConstants.{NAMED_VARIABLES, NAMED_VARIABLE_LISTS}
 use Rattle.tase_views.specs.declared.call.TheConstants.{DOMAINS}
@@ -35,11 +36,13 @@ use Rattle.tase_views.specs.View.{View, held}
 use Rattle.tase_views.specs.Answers.{set_names}
 use Rattle.tase_views.specs.NameLists.{is_after, variables_in, is_foreign, is_vmd, in_order}
 use Rattle.tase_views.specs.NameLists.{first_of, names_listed}
-use Rattle.node_core.specs.Found.{TableInForce, offered, transfer_objects}
+use Rattle.node_core.specs.Found.{TableInForce, offered, device_objects, slot_objects}
+use Rattle.node_core.specs.Found.{domain_objects}
 use Rattle.node_core.specs.SetsKept.{IsBook}
 use Rattle.node_core.proofs.SetNames.{book_names, names_ordered}
 use Rattle.node_core.proofs.OwnObjects.{specials_in, objects_parted}
-use Rattle.node_core.proofs.SlotNames.{next_object, slot_object, status_object, some_transfers}
+use Rattle.node_core.proofs.SlotNames.{next_object, slot_object, status_object, some_slots}
+use Rattle.node_core.proofs.DeviceNames.{IsIdentifier-devices}
 
 abbrev pub names_of : List (Bor (List ℕ)) → List (List ℕ)
 names_of names = map (λ name. name.now) names
@@ -91,18 +94,18 @@ variables-append table scope some more =
     (filter (λ o. is_scope_of table scope o.vmd) some)
     (filter (λ o. is_scope_of table scope o.vmd) more)
 
--- the names of the protocol's own objects in a scope that stand in the list, and those of transfer
--- sets
+-- the names of the protocol's own objects in a scope that stand in the list, and those of others in
+-- the domain but points
 abbrev pub specials_listed : OwnTable → Scope → Option (List ℕ) → List (List ℕ)
 specials_listed table scope after = filter (is_after after) (specials_in table scope)
 
-abbrev pub transfers_listed : OwnTable → Scope → Option (List ℕ) → List (List ℕ)
-transfers_listed table scope after =
-    filter (is_after after) (variables_in table (transfer_objects table.slots) scope)
+abbrev pub domain_listed : OwnTable → Scope → Option (List ℕ) → List (List ℕ)
+domain_listed table scope after =
+    filter (is_after after) (variables_in table (domain_objects table) scope)
 
 abbrev pub front_listed : OwnTable → Scope → Option (List ℕ) → List (List ℕ)
 front_listed table scope after =
-    specials_listed table scope after ++ transfers_listed table scope after
+    specials_listed table scope after ++ domain_listed table scope after
 
 -- the variables of a scope that stand in the list: those two, and row by row
 pub variables-listed : (t : TableInForce) (scope : Scope) (after : Option (List ℕ))
@@ -113,16 +116,17 @@ variables-listed t scope after =
     let table = offered t in
     let rows = points_of t.rows t.table.sees in
     let specials = special_objects table in
-    let transfers = transfer_objects table.slots in
+    let own = domain_objects table in
     let test = is_after after in
-    ap (λ (all : List NamedObject). filter test (variables_in table all scope)) (objects_parted t)
-    ∙ ap (filter test) (variables-append table scope (specials ++ transfers) rows)
-    ∙ filter-append test (variables_in table (specials ++ transfers) scope)
+    ap (λ (all : List NamedObject). filter test (variables_in table all scope))
+    (objects_parted table)
+    ∙ ap (filter test) (variables-append table scope (specials ++ own) rows)
+    ∙ filter-append test (variables_in table (specials ++ own) scope)
     (variables_in table rows scope)
     ∙ ap (λ (names : List (List ℕ)). filter test names ++ filter test
-    (variables_in table rows scope)) (variables-append table scope specials transfers)
+    (variables_in table rows scope)) (variables-append table scope specials own)
     ∙ ap (λ (names : List (List ℕ)). names ++ filter test (variables_in table rows scope))
-    (filter-append test (specials_in table scope) (variables_in table transfers scope))
+    (filter-append test (specials_in table scope) (variables_in table own scope))
     ∙ ap (λ (names : List (List ℕ)). front_listed table scope after ++ names)
     (listed_rows t.rows table scope after t.table.sees)
 
@@ -229,9 +233,9 @@ specials_named : (table : OwnTable) → All NamedWell (special_objects table)
 specials_named table = named_by_test (special_objects table) refl
 
 -- so are those of transfer sets
-most_transfers_named : All NamedWell (transfer_objects SLOT_LIMIT)
+most_slots_named : All NamedWell (slot_objects SLOT_LIMIT)
 unfolding digits
-most_transfers_named = named_by_test (transfer_objects SLOT_LIMIT) refl
+most_slots_named = named_by_test (slot_objects SLOT_LIMIT) refl
 
 fewer_named : (first few many : ℕ) → few ≤ many
     → All NamedWell (flat_map objects_of_slot (range_with_len first many))
@@ -248,14 +252,20 @@ fewer_named first (suc few) (suc many) fits named =
     (All-cons NamedWell status more (All-head NamedWell status all rest)
     (fewer_named (first + 1) few many (omega (arith, fits)) (All-tail NamedWell status all rest)))
 
-transfers_named : (slots : ℕ) → 1 ≤ slots → slots ≤ SLOT_LIMIT
-    → All NamedWell (transfer_objects slots)
-transfers_named slots least most =
-    let all = flat_map objects_of_slot (range_with_len 0 SLOT_LIMIT) in
-    rw (some_transfers slots least)
-    (All-cons NamedWell next_object (flat_map objects_of_slot (range_with_len 0 slots))
-    (All-head NamedWell next_object all most_transfers_named)
-    (fewer_named 0 slots SLOT_LIMIT most (All-tail NamedWell next_object all most_transfers_named)))
+-- and all those in the domain but points
+domain_named : (t : TableInForce) → IsCentre t.rows → IsTable (length t.rows.points) t.table
+    → IsControlling (length t.rows.devices) t.table
+    → All NamedWell (domain_objects (offered t))
+domain_named t lawful own controls =
+    let table = offered t in
+    let devices = device_objects table.devices in
+    let slots = slot_objects table.slots in
+    rw (some_slots table own.slots_least)
+    (All-cons NamedWell next_object (devices ++ slots)
+    (IsIdentifier-word (codes "Next_DSTransfer_Set") refl)
+    (All-append NamedWell devices slots
+    (IsIdentifier-devices t.rows t.table.controls lawful controls.known)
+    (fewer_named 0 table.slots SLOT_LIMIT own.slots most_slots_named)))
 
 -- the objects of a scope that stand in the list, where all are named well
 listed-named : (table : OwnTable) (scope : Scope) (after : Option (List ℕ))
@@ -270,19 +280,20 @@ listed-named table scope after objects named =
 -- each of the variables that stand in the list has an identifier
 pub variables-named : (t : TableInForce) (scope : Scope) (after : Option (List ℕ))
     → IsCentre t.rows → IsTable (length t.rows.points) t.table
+    → IsControlling (length t.rows.devices) t.table
     → All IsIdentifier (filter (is_after after)
     (variables_in (offered t) (objects (offered t)) scope))
-variables-named t scope after lawful own =
+variables-named t scope after lawful own controls =
     let table = offered t in
     subst (λ (names : List (List ℕ)). All IsIdentifier names)
     (sym (variables-listed t scope after))
     (All-append IsIdentifier (front_listed table scope after)
     (filter_map (row_listed t.rows table scope after) t.table.sees)
     (All-append IsIdentifier (specials_listed table scope after)
-    (transfers_listed table scope after)
+    (domain_listed table scope after)
     (listed-named table scope after (special_objects table) (specials_named table))
-    (listed-named table scope after (transfer_objects table.slots)
-    (transfers_named table.slots own.slots_least own.slots)))
+    (listed-named table scope after (domain_objects table)
+    (domain_named t lawful own controls)))
     (rows_named t.rows table scope after t.table.sees lawful own.known))
 
 -- so has each data set of a book, where its scope is the domain

@@ -1,15 +1,17 @@
 -- The moment in a peer's view is that of the last tick.
-use Rattle.std.proofs.Common.{◌≡◌, ◌==◌, ℕ, true, false, [], ◌∷◌, Some, None, refl}
+use Rattle.std.proofs.Common.{◌≡◌, ◌==◌, ℕ, true, false, [], ◌∷◌, Some, None, is_some, refl}
 use Rattle.std.specs.Prelude.{if◌then◌else◌}
 use Rattle.std.specs.List.{cons_option}
-use Rattle.bilateral.specs.Rows.{CentreRows, point_of}
+use Rattle.bilateral.specs.Rows.{CentreRows, point_of, device_of}
 use Rattle.tase_views.specs.declared.event.EventKind.{EventKind}
 use Rattle.tase_views.specs.declared.event.EventKind.TheVariants.{Open, Request, Take, Close}
-use Rattle.tase_views.specs.declared.event.EventKind.TheVariants.{Update, Table, Tick, Ask, Stop}
+use Rattle.tase_views.specs.declared.event.EventKind.TheVariants.{Update, Table, Tag, Tick, Ask}
+use Rattle.tase_views.specs.declared.event.EventKind.TheVariants.{TakeOrders, Stop}
 use Rattle.tase_views.specs.History.{Past, association_in, next_key, last_tick}
-use Rattle.tase_views.specs.OwnTables.{is_point_of}
+use Rattle.tase_views.specs.OwnTables.{own_tables, is_point_of, device_named}
 use Rattle.tase_views.specs.Moves.{Act, opens, takes, closes, acts_of_call}
-use Rattle.tase_views.specs.View.{View, asked, chose, updated, moment_in, moves_in, view_of}
+use Rattle.tase_views.specs.View.{View, asked, chose, updated, tagged, moment_in, moves_in}
+use Rattle.tase_views.specs.View.{view_of}
 use Rattle.node_core.proofs.CallActs.{each_of_call}
 use Rattle.node_core.proofs.Seeing.{IsKept, by_seat}
 
@@ -57,6 +59,11 @@ moment_behind rows peer past who (Ask asker slot) same =
     elim (asker == peer) as
     (λ b. moment_in (cons_option (if b then Some (asked slot) else None)
     (view_of rows peer past)) ≡ last_tick past) [ true ↦ same | false ↦ same ]
+moment_behind rows peer past who (Tag device tag) same =
+    elim (is_some (device_named (own_tables rows peer) (device_of rows device).name)) as
+    (λ b. moment_in (cons_option (if b then Some (tagged (device_of rows device).name tag)
+    else None) (view_of rows peer past)) ≡ last_tick past) [ true ↦ same | false ↦ same ]
+moment_behind rows peer past who TakeOrders same = same
 moment_behind rows peer past who Stop same = same
 
 pub moment_is : (rows : CentreRows) (peer : ℕ) (past : Past)

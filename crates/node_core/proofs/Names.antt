@@ -120,7 +120,7 @@ find-position_None : {X : Type 0} (test : X → Bool) (xs : List X) → position
 find-position_None test xs e = find_at test xs
     ∙ slice_get_past xs (position_or_len test xs) (all_pass_by test xs e)
 
-all_fail-position_None : {X : Type 0} (test : X → Bool) (xs : List X) → position test xs ≡ None
+pub all_fail-position_None : {X : Type 0} (test : X → Bool) (xs : List X) → position test xs ≡ None
     → All (λ x. test x ≡ false) xs
 all_fail-position_None test xs e =
     let past = all_pass_by test xs e in

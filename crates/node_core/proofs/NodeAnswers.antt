@@ -1,5 +1,5 @@
 -- What the answers of a node's functions have in common.
-use Rattle.std.proofs.Common.{◌≡◌, ◌+◌, ◌^◌, ◌≤◌, ◌<◌, ℕ, false, [], ◌∷◌, ◌++◌, length, reverse}
+use Rattle.std.proofs.Common.{◌≡◌, ◌^◌, ◌≤◌, ◌<◌, ℕ, false, [], ◌∷◌, ◌++◌, length, reverse}
 use Rattle.std.proofs.Common.{Option, Some, None, sym, ◌∙◌, arith}
 use Rattle.std.specs.Arc.{arc_value}
 use Rattle.std.specs.HashMap.{hash_map_len}

@@ -1,6 +1,6 @@
 -- What a node keeps is that of the history with one more entry.
 use Rattle.std.proofs.Common.{◌≡◌, ◌≢◌, ◌==◌, ℕ, ◌+◌, ◌^◌, ◌%◌, ◌<◌, Bool, true, false, List, []}
-use Rattle.std.proofs.Common.{◌∷◌, Option, Some, None, length, refl, sym, ap, subst, ◌∙◌, ⊎_elim}
+use Rattle.std.proofs.Common.{◌∷◌, ◌++◌, map, Option, Some, None, length, refl, sym, ap, subst, ◌∙◌, ⊎_elim}
 use Rattle.std.proofs.Common.{arith}
 use Rattle.std.proofs.lemmas.Bool.{false≢true, eq-eqb, ne_eqb, eqb-true, cases_eq}
 use Rattle.std.proofs.lemmas.Option.{slice_get_within, same_Some}
@@ -11,12 +11,17 @@ use Rattle.tase_points.specs.declared.layout.TheConstants.{COV_MODULUS}
 use Rattle.tase_points.specs.Sample.{Sample}
 use Rattle.tase_points.specs.Values.{is_change}
 use Rattle.point_db.specs.Updates.{last_value, change_count}
-use Rattle.point_db.specs.Stored.{Stored as PointsStored, Keeps as KeepsPoints}
+use Rattle.point_db.specs.Stored.{Keeps as KeepsPoints}
 use Rattle.bilateral.specs.Rows.{CentreRows, variants_of}
 use Rattle.sbo_device.specs.declared.key.Key.{Key}
+use Rattle.sbo_device.specs.declared.device.TheConstants.{MOMENT_LIMIT}
+use Rattle.sbo_device.specs.Moves.{Tag, closed, ticked, tagged}
+use Rattle.sbo_device.specs.Banks.{BankState, moved, with_move}
 use Rattle.tase_views.specs.declared.event.EventKind.{EventKind}
 use Rattle.tase_views.specs.declared.event.EventKind.TheVariants.{Open, Request, Take, Close}
-use Rattle.tase_views.specs.declared.event.EventKind.TheVariants.{Update, Table, Tick, Ask, Stop}
+use Rattle.tase_views.specs.declared.event.EventKind.TheVariants.{Update, Table, Tick, Ask}
+use Rattle.tase_views.specs.declared.event.EventKind.TheVariants as events
+use Rattle.tase_views.specs.declared.event.EventKind.TheVariants.{TakeOrders, Stop}
 use Rattle.tase_views.specs.declared.call.CallKind.{CallKind}
 use Rattle.tase_views.specs.declared.call.CallKind.TheVariants.{Identify, Read, ReadSet, Write}
 use Rattle.tase_views.specs.declared.call.CallKind.TheVariants.{WriteSet, NameList, Define}
@@ -24,17 +29,24 @@ use Rattle.tase_views.specs.declared.call.CallKind.TheVariants.{MembersOf, Delet
 use Rattle.tase_views.specs.declared.reply.ReplyKind.{ReplyKind}
 use Rattle.tase_views.specs.declared.reply.ReportKind.{ReportKind}
 use Rattle.tase_views.specs.History.{Past, association_in, next_key, last_tick}
-use Rattle.tase_views.specs.Moves.{opens, takes, closes, acts_of_call}
-use Rattle.tase_views.specs.OwnTables.{OwnTables, own_tables, table_in}
-use Rattle.tase_views.specs.View.{View, own, chose, view_of}
+use Rattle.tase_views.specs.Moves.{Act, opens, takes, closes, acts_of_call, Move, acts, updates}
+use Rattle.tase_views.specs.Moves.{asks, chooses, stops, moves_by}
+use Rattle.tase_views.specs.OwnTables.{OwnTable, OwnTables, own_tables, table_in}
+use Rattle.tase_views.specs.View.{View, own, chose, moves_in, view_of}
 use Rattle.tase_views.specs.Answers.{reply_to, define_replied}
 use Rattle.tase_views.specs.Reports.{reports_pending}
+use Rattle.tase_views.proofs.InForce.{held-seen}
+use Rattle.node_devices.specs.DeviceBanks.{IsDeviceBank, IsIdle, HaveActed}
+use Rattle.node_devices.proofs.BankActs.{acts_followed}
+use Rattle.node_devices.proofs.BankSteps.{idle_followed, closed_followed, ticked_followed}
+use Rattle.node_devices.proofs.BankSteps.{tagged_followed, taken_followed}
 use Rattle.node_core.specs.declared.cause.ReportCause.{ReportCause}
 use Rattle.node_core.specs.declared.hub.Hub.{Hub}
 use Rattle.node_core.specs.declared.parts.Parts.{Parts}
 use Rattle.node_core.specs.declared.peer.Peer.{Peer}
+use Rattle.node_core.specs.declared.plant.Plant.{Plant}
 use Rattle.node_core.specs.LastValues.{kinds_of, updates_in}
-use Rattle.node_core.specs.Associations.{is_open_in, made_last}
+use Rattle.node_core.specs.Associations.{is_open_in, made_for}
 use Rattle.node_core.specs.Shown.{IsShown, shown_of}
 use Rattle.node_core.specs.SlotFeeds.{move_of, moment_before}
 use Rattle.node_core.specs.PartFeeds.{IsAlike, IsDrafted, IsReported, IsReady, IsNoted}
@@ -42,6 +54,7 @@ use Rattle.node_core.specs.PartFeeds.{OneBecomes, EachBecomes}
 use Rattle.node_core.specs.PeerParts.{IsPart, part_after, part_behind, IsLawfulAct, EachAct}
 use Rattle.node_core.specs.SlotsKept.{handed_all, all_read}
 use Rattle.node_core.specs.SlotWrites.{all_asked, all_slots}
+use Rattle.node_core.specs.DeviceWrites.{devices_read, all_left, all_devices, all_orders}
 use Rattle.node_core.specs.PeerParts.{IsReplyTo, IsReplyBy, acts_asked}
 use Rattle.node_core.specs.Stored.{AreParts, IsNode, found_by, IsPeerThere, MayOpen, IsChanged}
 use Rattle.node_core.specs.Stored.{IsAsked}
@@ -50,17 +63,19 @@ use Rattle.node_core.specs.declared.writes.Asked.{Asked}
 use Rattle.transfer_sets.specs.Banks.{OwnedSlot}
 use Rattle.node_core.proofs.CallActs.{lawful_call, reading_call, writing_call}
 use Rattle.node_core.proofs.SlotWrites.{all_slots_alike}
-use Rattle.node_core.proofs.Offered.{own_offered}
 use Rattle.node_core.proofs.SetBooks.{fault_alike}
-use Rattle.node_core.proofs.AssociationSteps.{drafted_open, open_alike, made_last-is}
+use Rattle.node_core.proofs.AssociationSteps.{drafted_open, open_alike, made_for-is}
 use Rattle.node_core.proofs.Moments.{moment_is}
 use Rattle.node_core.proofs.PartLists.{IsAlike-refl}
+use Rattle.node_core.proofs.LateSelections.{late_ends_nothing}
 use Rattle.node_core.proofs.PartSteps.{IsPart-reported, IsPart-alike}
 use Rattle.node_core.proofs.PointChanges.{IsPart-noted}
 use Rattle.node_core.proofs.Views.{IsShown-of}
-use Rattle.node_core.proofs.Steps.{IsCommon-open, IsCommon-close, IsCommon-request, IsCommon-take}
-use Rattle.node_core.proofs.Steps.{IsCommon-update, IsCommon-chosen, IsCommon-tick, IsCommon-ask}
-use Rattle.node_core.proofs.Steps.{IsCommon-stop, AreParts-called, AreParts-take, AreParts-open}
+use Rattle.node_core.proofs.DeviceActs.{reading_acts, writing_acts, calm_acts}
+use Rattle.node_core.proofs.DevicesKept.{bank_ranged}
+use Rattle.node_core.proofs.Steps.{IsCommon-open, IsCommon-close, IsCommon-still}
+use Rattle.node_core.proofs.Steps.{AreParts-called, AreParts-take, AreParts-open, AreParts-tagged}
+use Rattle.node_core.proofs.Steps.{AreParts-orders}
 use Rattle.node_core.proofs.Steps.{AreParts-close, AreParts-each, AreParts-stop, AreParts-chosen}
 use Rattle.node_core.proofs.Steps.{own_offers}
 use Rattle.node_core.proofs.Steps.{part_there, IsPeerThere-of, opens-at, MayOpen-of}
@@ -68,18 +83,20 @@ use Rattle.node_core.proofs.Steps.{opens_in-le-length}
 
 -- only what is kept counts
 pub IsNode-alike : (rows : CentreRows) (past : Past) (hub new : Hub) (parts after : Parts)
-    → new.points ≡ hub.points → new.last_tick ≡ hub.last_tick
+    → new.plant ≡ hub.plant → new.last_tick ≡ hub.last_tick
     → ((who : ℕ) → found_by new who ≡ found_by hub who)
     → after.peers.items ≡ parts.peers.items → IsNode rows past hub parts
     → IsNode rows past new after
-IsNode-alike rows past hub new parts after points clock seats peers n = record {
+IsNode-alike rows past hub new parts after plant clock seats peers n = record {
   common = record {
     lawful = n.common.lawful;
-    kept = rw points n.common.kept;
+    kept = rw plant n.common.kept;
+    devices = rw plant n.common.devices;
     seated = λ who. seats who ∙ n.common.seated who;
     known = λ who key e. n.common.known who key (sym (seats who) ∙ e);
   };
   clock = clock ∙ n.clock;
+  timed = rw clock n.timed;
   peers = rw peers n.peers;
 }
 
@@ -137,6 +154,7 @@ pub IsNode-drafted : (rows : CentreRows) (past : Past) (hub : Hub) (parts after 
 IsNode-drafted rows past hub parts after alike n = record {
   common = n.common;
   clock = n.clock;
+  timed = n.timed;
   peers = AreParts-alike rows past parts.peers.items after.peers.items alike n.peers;
 }
 
@@ -181,33 +199,54 @@ module _ (rows : CentreRows) (past : Past) (hub : Hub) (parts : Parts)
   pub made_is : (who : ℕ) (key : Key) (reports : List ReportKind)
       → association_in past who ≡ Some key
       → ((part : Peer) → slice_get parts.peers.items key.peer ≡ Some part
-      → reports ≡ made_last key.ordinal part.associations [])
+      → reports ≡ made_for key.ordinal part.associations)
       → reports
       ≡ reports_pending (own_tables rows key.peer) (view_of rows key.peer past) key.ordinal
   made_is who key reports seated made =
       let part = its_part key.peer (seat_there who key seated) in
       made part.0 part.1
-      ∙ made_last-is (own_tables rows key.peer) (view_of rows key.peer past) key.ordinal
+      ∙ made_for-is (own_tables rows key.peer) (view_of rows key.peer past) key.ordinal
       part.0.associations part.0.open_now part.0.opened_in_all
       (n.peers.seated who key part.0 seated part.1) part.2.open_ones
 
+  -- a move that is nothing to devices
+  stays : (move : Move) → IsIdle move → IsDeviceBank rows (move ∷ moves_in past) hub.plant.devices
+  stays move idle =
+      idle_followed rows (moves_in past) move hub.plant.devices hub.plant.devices idle refl refl
+      n.common.devices
+
   module _ (who : ℕ) (new : Hub) (after : Parts) where
+    idled : (move : Move) → IsIdle move → new.plant.devices ≡ hub.plant.devices
+        → IsDeviceBank rows (move ∷ moves_in past) new.plant.devices
+    idled move idle same = rw same (stays move idle)
+
+    -- the one act of an event of a seat
+    at_seat : {bank : BankState} (key : Key) → association_in past who ≡ Some key → (act : Act)
+        → IsDeviceBank rows (acts key act ∷ moves_in past) bank
+        → IsDeviceBank rows (moves_by (association_in past who) (act ∷ []) ++ moves_in past) bank
+    at_seat {bank} key seated act b =
+        subst (λ (found : Option Key).
+        IsDeviceBank rows (moves_by found (act ∷ []) ++ moves_in past) bank) (sym seated) b
+
     pub IsNode-open : (peer : ℕ) (key : Key) → peer < length rows.tables
-        → key ≡ next_key past peer → new.points ≡ hub.points → new.last_tick ≡ hub.last_tick
+        → key ≡ next_key past peer → new.plant ≡ hub.plant → new.last_tick ≡ hub.last_tick
         → ((asked : ℕ) → found_by new asked
         ≡ (if who == asked then Some key else found_by hub asked))
         → ((tables : OwnTables) (now : ℕ) → IsChanged parts.peers.items peer
         (λ part. part_after tables now (own part.opened_in_all opens) part) after.peers.items)
         → IsNode rows (record { who = who; event = Open peer } ∷ past) new after
-    IsNode-open peer key there key_is points clock seats changed =
+    IsNode-open peer key there key_is plant clock seats changed =
         let part = its_part peer there in
         let all = opens-at rows past parts.peers.items n.peers peer part.0 part.1 in
         record {
-          common = rw points (IsCommon-open rows past hub.points (found_by hub) who n.common peer
-              (found_by new) there
+          common = IsCommon-open rows past hub.plant (found_by hub) who n.common new.plant peer
+              (found_by new) there (ap (λ (p : Plant). p.points) plant)
+              (idled (acts (next_key past peer) opens) tt
+              (ap (λ (p : Plant). p.devices) plant))
               (λ asked. seats asked ∙ ap (λ (k : Key). if who == asked then Some k
-              else found_by hub asked) key_is));
+              else found_by hub asked) key_is);
           clock = clock ∙ n.clock;
+          timed = rw clock n.timed;
           peers = rw (changed (own_tables rows peer) (last_tick past) part.0 part.1
               ∙ ap (λ (k : ℕ). slice_set parts.peers.items peer (part_after (own_tables rows peer)
               (last_tick past) (own k opens) part.0)) all)
@@ -216,18 +255,27 @@ module _ (rows : CentreRows) (past : Past) (hub : Hub) (parts : Parts)
         }
 
     pub IsNode-close : (key : Key) → association_in past who ≡ Some key
-        → new.points ≡ hub.points → new.last_tick ≡ hub.last_tick
+        → new.plant.points ≡ hub.plant.points
+        → new.plant.devices ≡ record hub.plant.devices {
+          devices = map (moved (closed key)) hub.plant.devices.devices;
+        }
+        → new.last_tick ≡ hub.last_tick
         → ((asked : ℕ) → found_by new asked
         ≡ (if who == asked then None else found_by hub asked))
         → ((now : ℕ) → IsChanged parts.peers.items key.peer
         (part_after (own_tables rows key.peer) now (own key.ordinal closes)) after.peers.items)
         → IsNode rows (record { who = who; event = Close } ∷ past) new after
-    IsNode-close key seated points clock seats changed =
+    IsNode-close key seated points devices clock seats changed =
         let part = its_part key.peer (seat_there who key seated) in
         record {
-          common = rw points (IsCommon-close rows past hub.points (found_by hub) who n.common
-              (found_by new) seats);
+          common = IsCommon-close rows past hub.plant (found_by hub) who n.common new.plant
+              (found_by new) points
+              (at_seat key seated closes (closed_followed rows (moves_in past) key hub.plant.devices
+              new.plant.devices (ap (λ (b : BankState). b.devices) devices)
+              (ap (λ (b : BankState). b.orders) devices) n.common.devices))
+              seats;
           clock = clock ∙ n.clock;
+          timed = rw clock n.timed;
           peers = rw (changed (last_tick past) part.0 part.1)
               (AreParts-close rows n.common.lawful past who parts.peers.items key part.0 seated
               part.1 n.peers);
@@ -240,58 +288,74 @@ module _ (rows : CentreRows) (past : Past) (hub : Hub) (parts : Parts)
     IsNode-take key seated same changed =
         let part = its_part key.peer (seat_there who key seated) in
         record {
-          common = rw same (IsCommon-take rows past hub.points (found_by hub) who n.common);
+          common = rw same (IsCommon-still rows past hub.plant (found_by hub) who n.common hub.plant
+              Take (λ before. refl) n.common.kept
+              (at_seat key seated takes (idle_followed rows (moves_in past) (acts key takes)
+              hub.plant.devices hub.plant.devices tt refl refl n.common.devices)));
           clock = rw same n.clock;
+          timed = rw same n.timed;
           peers = rw (changed (own_tables rows key.peer) (last_tick past) part.0 part.1)
               (AreParts-take rows n.common.lawful past who parts.peers.items key part.0 seated
               part.1 n.peers);
         }
 
     -- the part of a peer behind a cause of reports, which were drafted
-    reported : (centre : CentreRows) (points : PointsStored) → centre ≡ rows
-        → points ≡ hub.points → (cause : ReportCause) (peer : ℕ) (part behind : Peer)
+    reported : (centre : CentreRows) (plant : Plant) → centre ≡ rows
+        → plant ≡ hub.plant → (cause : ReportCause) (peer : ℕ) (part behind : Peer)
         → peer < length rows.tables → moment_before cause ≡ hub.last_tick
         → IsPart (own_tables rows peer) (view_of rows peer past) part
-        → IsDrafted centre peer points cause part → IsReported cause part behind
+        → IsDrafted centre peer plant cause part → IsReported cause part behind
         → IsPart (own_tables rows peer) (move_of cause ∷ view_of rows peer past) behind
-    reported centre points same kept cause peer part behind there clock p drafted r =
+    reported centre plant same kept cause peer part behind there clock p drafted r =
         let before = moment_is rows peer past ∙ sym n.clock ∙ sym clock in
         let shown : IsShown (updates_in past) (own_tables rows peer) (view_of rows peer past)
-        (shown_of centre peer part points) =
+        (shown_of centre peer part plant) =
         subst (λ (c : CentreRows). IsShown (updates_in past) (own_tables rows peer)
-        (view_of rows peer past) (shown_of c peer part points)) (sym same)
-        (subst (λ (s : PointsStored). IsShown (updates_in past) (own_tables rows peer)
+        (view_of rows peer past) (shown_of c peer part plant)) (sym same)
+        (subst (λ (s : Plant). IsShown (updates_in past) (own_tables rows peer)
         (view_of rows peer past) (shown_of rows peer part s)) (sym kept)
-        (IsShown-of rows past peer part hub.points n.common.lawful there p n.common.kept)) in
+        (IsShown-of rows past peer part hub.plant (found_by hub) there p n.common)) in
         IsPart-reported (own_tables rows peer) (own_offers rows n.common.lawful peer)
         (view_of rows peer past) part _ refl cause behind before
+        (late_ends_nothing rows n.common.lawful past peer part p)
         (λ i d within. drafted i d within (updates_in past) (own_tables rows peer)
         (view_of rows peer past) shown before)
         r p
 
-    pub IsNode-tick : (centre : CentreRows) (points : PointsStored) (from now : ℕ) (mid : Parts)
-        → centre ≡ rows → points ≡ hub.points → from ≡ hub.last_tick
+    pub IsNode-tick : (centre : CentreRows) (plant : Plant) (from now : ℕ) (mid : Parts)
+        → now < MOMENT_LIMIT → centre ≡ rows → plant ≡ hub.plant → from ≡ hub.last_tick
         → EachBecomes (λ peer. IsAlike) parts.peers.items mid.peers.items
         → EachBecomes (λ peer part behind.
-        IsDrafted centre peer points (ReportCause.Tick from now) behind)
+        IsDrafted centre peer plant (ReportCause.Tick from now) behind)
         parts.peers.items mid.peers.items
         → EachBecomes (λ peer. IsReported (ReportCause.Tick from now)) mid.peers.items
         after.peers.items
-        → new ≡ record hub { last_tick = now }
+        → new ≡ record hub {
+          last_tick = now;
+          plant = record hub.plant {
+            devices = record hub.plant.devices {
+              devices = map (moved (ticked now)) hub.plant.devices.devices;
+            };
+          };
+        }
         → IsNode rows (record { who = who; event = Tick now } ∷ past) new after
-    IsNode-tick centre points from now mid is kept clock alike drafted noted same =
+    IsNode-tick centre plant from now mid below is kept clock alike drafted noted same =
         let cause = ReportCause.Tick from now in
         let m = AreParts-alike rows past parts.peers.items mid.peers.items alike n.peers in
         record {
-          common = rw same (IsCommon-tick rows past hub.points (found_by hub) who n.common now);
+          common = rw same (IsCommon-still rows past hub.plant (found_by hub) who n.common _
+              (Tick now) (λ before. refl) n.common.kept
+              (ticked_followed rows (moves_in past) now hub.plant.devices _ refl refl
+              n.common.devices));
           clock = rw same refl;
+          timed = rw same below;
           peers = AreParts-each rows n.common.lawful past who mid.peers.items (Tick now)
               after.peers.items (λ before. refl) noted.many
               (λ peer part behind at here p.
               let within = slice_get_within mid.peers.items peer part at in
               let old = part_there parts.peers.items peer (omega (arith, within, alike.many)) in
               let r = noted.each peer part behind at here in (
-                reported centre points is kept cause peer part behind
+                reported centre plant is kept cause peer part behind
                     (omega (arith, within, m.many)) clock p
                     (drafted.each peer old.0 part old.1 at) r,
                 λ ordinal there. ap (λ (x : Peer). is_open_in ordinal x.associations) r.same
@@ -299,25 +363,26 @@ module _ (rows : CentreRows) (past : Past) (hub : Hub) (parts : Parts)
               )) m;
         }
 
-    pub IsNode-ask : (centre : CentreRows) (points : PointsStored) (from asker slot : ℕ)
-        (mid : Parts) → centre ≡ rows → points ≡ hub.points → from ≡ hub.last_tick
+    pub IsNode-ask : (centre : CentreRows) (plant : Plant) (from asker slot : ℕ)
+        (mid : Parts) → centre ≡ rows → plant ≡ hub.plant → from ≡ hub.last_tick
         → asker < length rows.tables
         → OneBecomes IsAlike asker parts.peers.items mid.peers.items
         → OneBecomes (λ part behind.
-        IsDrafted centre asker points (ReportCause.Ask slot from) behind) asker
+        IsDrafted centre asker plant (ReportCause.Ask slot from) behind) asker
         parts.peers.items mid.peers.items
         → OneBecomes (IsReported (ReportCause.Ask slot from)) asker mid.peers.items
         after.peers.items
         → new ≡ hub
         → IsNode rows (record { who = who; event = Ask asker slot } ∷ past) new after
-    IsNode-ask centre points from asker slot mid is kept clock there alike drafted noted same =
+    IsNode-ask centre plant from asker slot mid is kept clock there alike drafted noted same =
         let cause = ReportCause.Ask slot from in
         let m = AreParts-alike rows past parts.peers.items mid.peers.items
         (one_each asker parts.peers.items mid.peers.items alike) n.peers in
         record {
-          common = rw same (IsCommon-ask rows past hub.points (found_by hub) who n.common asker
-              slot);
+          common = rw same (IsCommon-still rows past hub.plant (found_by hub) who n.common hub.plant
+              (Ask asker slot) (λ before. refl) n.common.kept (stays (asks asker slot) tt));
           clock = rw same n.clock;
+          timed = rw same n.timed;
           peers = AreParts-each rows n.common.lawful past who mid.peers.items (Ask asker slot)
               after.peers.items (λ before. refl) noted.many
               (λ peer part behind at here p.
@@ -331,7 +396,7 @@ module _ (rows : CentreRows) (past : Past) (hub : Hub) (parts : Parts)
                     (view_of rows q (record { who = who; event = Ask asker slot } ∷ past)) behind)
                     (sym mine)
                     (rw (eq-eqb asker asker refl)
-                    (reported centre points is kept cause asker part behind there clock
+                    (reported centre plant is kept cause asker part behind there clock
                     (subst (λ (q : ℕ). IsPart (own_tables rows q) (view_of rows q past) part) mine
                     p) (drafted.here old.0 part old.1 at_asker) r)),
                 λ ordinal open_one.
@@ -353,8 +418,10 @@ module _ (rows : CentreRows) (past : Past) (hub : Hub) (parts : Parts)
     pub IsNode-stop : new ≡ hub → after ≡ parts
         → IsNode rows (record { who = who; event = Stop } ∷ past) new after
     IsNode-stop same alike = record {
-      common = rw same (IsCommon-stop rows past hub.points (found_by hub) who n.common);
+      common = rw same (IsCommon-still rows past hub.plant (found_by hub) who n.common hub.plant
+          Stop (λ before. refl) n.common.kept (stays stops tt));
       clock = rw same n.clock;
+      timed = rw same n.timed;
       peers = rw alike (AreParts-stop rows n.common.lawful past who parts.peers.items n.peers);
     }
 
@@ -365,7 +432,8 @@ module _ (rows : CentreRows) (past : Past) (hub : Hub) (parts : Parts)
         → EachBecomes (λ peer part behind. IsReady centre peer point behind) parts.peers.items
         mid.peers.items
         → KeepsPoints (kinds_of rows) (record { point = point; value = value } ∷ updates_in past)
-        new.points
+        new.plant.points
+        → new.plant.devices ≡ hub.plant.devices
         → changed ≡ is_change (last_value (kinds_of rows) (updates_in past) point) value
         → cov ≡ change_count (kinds_of rows)
         (record { point = point; value = value } ∷ updates_in past) point % COV_MODULUS
@@ -374,13 +442,15 @@ module _ (rows : CentreRows) (past : Past) (hub : Hub) (parts : Parts)
         → (changed ≡ false → after.peers.items ≡ mid.peers.items)
         → new.seats ≡ hub.seats → new.last_tick ≡ hub.last_tick
         → IsNode rows (record { who = who; event = Update point value } ∷ past) new after
-    IsNode-update centre from point value mid changed cov same at_now known alike ready kept is
-        cov_is noting leaving seats clock =
+    IsNode-update centre from point value mid changed cov same at_now known alike ready kept
+        devices is cov_is noting leaving seats clock =
         let m = AreParts-alike rows past parts.peers.items mid.peers.items alike n.peers in
         record {
-          common = rw seats (IsCommon-update rows past hub.points (found_by hub) who n.common point
-              value new.points kept);
+          common = rw seats (IsCommon-still rows past hub.plant (found_by hub) who n.common
+              new.plant (Update point value) (λ before. refl) kept
+              (idled (updates point value) tt devices));
           clock = clock ∙ n.clock;
+          timed = rw clock n.timed;
           peers = by m changed refl;
         }
       where
@@ -436,37 +506,95 @@ module _ (rows : CentreRows) (past : Past) (hub : Hub) (parts : Parts)
     IsNode-chosen peer variant there known same changed =
         let part = its_part peer there in
         record {
-          common = rw same (IsCommon-chosen rows past hub.points (found_by hub) who n.common peer
-              variant);
+          common = rw same (IsCommon-still rows past hub.plant (found_by hub) who n.common hub.plant
+              (Table peer variant) (λ before. refl) n.common.kept (stays (chooses peer variant) tt));
           clock = rw same n.clock;
+          timed = rw same n.timed;
           peers = rw (changed (last_tick past) part.0 part.1)
               (AreParts-chosen rows n.common.lawful past who parts.peers.items peer variant part.0
               known part.1 n.peers);
         }
 
-    -- a call, behind whose acts its peer's part stands
+    -- a tag of a device
+    pub IsNode-tagged : (device : ℕ) (tag : Tag) → device < length rows.devices
+        → new.plant.points ≡ hub.plant.points
+        → new.plant.devices ≡ with_move device (tagged tag) hub.plant.devices
+        → new.seats ≡ hub.seats → new.last_tick ≡ hub.last_tick → after ≡ parts
+        → IsNode rows (record { who = who; event = events.Tag device tag } ∷ past) new after
+    IsNode-tagged device tag known points devices seats clock alike = record {
+      common = rw seats (IsCommon-still rows past hub.plant (found_by hub) who n.common new.plant
+          (events.Tag device tag) (λ before. refl) (rw points n.common.kept)
+          (tagged_followed rows (moves_in past) device tag hub.plant.devices new.plant.devices
+          n.common.lawful known (ap (λ (b : BankState). b.devices) devices)
+          (ap (λ (b : BankState). b.orders) devices) n.common.devices));
+      clock = clock ∙ n.clock;
+      timed = rw clock n.timed;
+      peers = rw alike (AreParts-tagged rows n.common.lawful past who parts.peers.items device tag
+          n.peers);
+    }
+
+    -- a taking of orders
+    pub IsNode-orders : new.plant.points ≡ hub.plant.points
+        → new.plant.devices ≡ record hub.plant.devices { orders = []; spare = 0 }
+        → new.seats ≡ hub.seats → new.last_tick ≡ hub.last_tick → after ≡ parts
+        → IsNode rows (record { who = who; event = TakeOrders } ∷ past) new after
+    IsNode-orders points devices seats clock alike = record {
+      common = rw seats (IsCommon-still rows past hub.plant (found_by hub) who n.common new.plant
+          TakeOrders (λ before. refl) (rw points n.common.kept)
+          (taken_followed rows (moves_in past) hub.plant.devices new.plant.devices
+          (ap (λ (b : BankState). b.devices) devices) (ap (λ (b : BankState). b.orders) devices)
+          n.common.devices));
+      clock = clock ∙ n.clock;
+      timed = rw clock n.timed;
+      peers = rw alike (AreParts-orders rows n.common.lawful past who parts.peers.items n.peers);
+    }
+
+    -- a call, behind whose acts its peer's part and the devices stand
     IsNode-called : (key : Key) (call : CallKind) → association_in past who ≡ Some key
-        → new ≡ hub → EachAct IsLawfulAct (acts_of_call call)
+        → new.plant.points ≡ hub.plant.points → new.seats ≡ hub.seats
+        → new.last_tick ≡ hub.last_tick
+        → ((part : Peer) → slice_get parts.peers.items key.peer ≡ Some part
+        → HaveActed rows (table_in (own_tables rows key.peer) part.variant) (last_tick past) key
+        (acts_of_call call) hub.plant.devices new.plant.devices)
+        → EachAct IsLawfulAct (acts_of_call call)
         → ((part : Peer) → slice_get parts.peers.items key.peer ≡ Some part
         → IsPart (own_tables rows key.peer) (view_of rows key.peer past) part
         → after.peers.items ≡ slice_set parts.peers.items key.peer
         (part_behind (own_tables rows key.peer) (last_tick past) key.ordinal (acts_of_call call)
         part))
         → IsNode rows (record { who = who; event = Request call } ∷ past) new after
-    IsNode-called key call seated same lawful changed =
+    IsNode-called key call seated points seats clock acted lawful changed =
         let part = its_part key.peer (seat_there who key seated) in
+        let table_is = ap (table_in (own_tables rows key.peer)) part.2.in_force
+        ∙ held-seen rows (own_tables rows) key.peer (moves_in past) in
+        let devices = acts_followed rows past key call hub.plant.devices new.plant.devices
+        n.common.lawful
+        (subst (λ (table : OwnTable). HaveActed rows table (last_tick past) key
+        (acts_of_call call) hub.plant.devices new.plant.devices) table_is (acted part.0 part.1))
+        n.common.devices in
         record {
-          common = rw same (IsCommon-request rows past hub.points (found_by hub) who n.common
-              (Request call) tt);
-          clock = rw same n.clock;
+          common = rw seats (IsCommon-still rows past hub.plant (found_by hub) who n.common
+              new.plant (Request call) (λ before. refl) (rw points n.common.kept)
+              (subst (λ (found : Option Key). IsDeviceBank rows
+              (moves_by found (acts_of_call call) ++ moves_in past) new.plant.devices) (sym seated)
+              devices));
+          clock = clock ∙ n.clock;
+          timed = rw clock n.timed;
           peers = rw (changed part.0 part.1 part.2)
               (AreParts-called rows n.common.lawful past who parts.peers.items key call part.0
               seated lawful part.1 n.peers);
         }
 
     -- a read hands transfer sets out
-    pub IsNode-read : (key : Key) (names : List ObjectName) (echo : Bool) (handed : List ℕ)
-        → association_in past who ≡ Some key → new ≡ hub
+    pub IsNode-read : (now : ℕ) (key : Key) (names : List ObjectName) (echo : Bool)
+        (handed : List ℕ) → now ≡ last_tick past → association_in past who ≡ Some key
+        → new.plant.points ≡ hub.plant.points → new.seats ≡ hub.seats
+        → new.last_tick ≡ hub.last_tick
+        → ((part : Peer) → slice_get parts.peers.items key.peer ≡ Some part
+        → new.plant.devices.devices
+        ≡ devices_read rows (table_in (own_tables rows key.peer) part.variant) now key names
+        hub.plant.devices.devices)
+        → new.plant.devices.orders ≡ hub.plant.devices.orders
         → ((part : Peer) → slice_get parts.peers.items key.peer ≡ Some part
         → handed_all key.ordinal handed part.slots
         ≡ all_read (table_in (own_tables rows key.peer) part.variant) key.ordinal names part.slots)
@@ -474,8 +602,15 @@ module _ (rows : CentreRows) (past : Past) (hub : Hub) (parts : Parts)
         (λ part. record part { slots = handed_all key.ordinal handed part.slots })
         after.peers.items
         → IsNode rows (record { who = who; event = Request (Read names echo) } ∷ past) new after
-    IsNode-read key names echo handed seated same hands changed =
-        IsNode-called key (Read names echo) seated same
+    IsNode-read now key names echo handed at_now seated points seats clock devices orders hands
+        changed =
+        IsNode-called key (Read names echo) seated points seats clock
+        (λ part at.
+        let table = table_in (own_tables rows key.peer) part.variant in
+        subst (λ (k : ℕ). HaveActed rows table k key (acts_of_call (Read names echo))
+        hub.plant.devices new.plant.devices) at_now
+        (reading_acts rows table now key names echo hub.plant.devices new.plant.devices
+        (devices part at) orders))
         (lawful_call (Read names echo) (λ set members e. absurd cc))
         (λ part at p. changed part at
         ∙ ap (λ (x : Peer). slice_set parts.peers.items key.peer x)
@@ -486,17 +621,33 @@ module _ (rows : CentreRows) (past : Past) (hub : Hub) (parts : Parts)
     -- a write takes wishes
     pub IsNode-write : (now : ℕ) (key : Key) (names : List ObjectName) (values : List Datum)
         (asked : List Asked) → now ≡ last_tick past → association_in past who ≡ Some key
-        → new ≡ hub → ((part : Peer) → slice_get parts.peers.items key.peer ≡ Some part
-        → asked ≡ all_asked (table_in (own_tables rows key.peer) part.variant) names values)
+        → new.plant.points ≡ hub.plant.points → new.seats ≡ hub.seats
+        → new.last_tick ≡ hub.last_tick
+        → ((part : Peer) → slice_get parts.peers.items key.peer ≡ Some part
+        → asked ≡ all_asked rows (table_in (own_tables rows key.peer) part.variant) names values)
+        → new.plant.devices.devices ≡ all_devices key asked hub.plant.devices.devices
+        → new.plant.devices.orders ≡ hub.plant.devices.orders
+        ++ all_orders key asked hub.plant.devices.devices
         → IsChanged parts.peers.items key.peer
         (λ part. record part {
           slots = all_slots (table_in (own_tables rows key.peer) part.variant) part.book
-              key.ordinal now asked part.slots;
+              key.ordinal now (all_left key asked hub.plant.devices.devices) part.slots;
         })
         after.peers.items
         → IsNode rows (record { who = who; event = Request (Write names values) } ∷ past) new after
-    IsNode-write now key names values asked clock seated same asks changed =
-        IsNode-called key (Write names values) seated same
+    IsNode-write now key names values asked at_now seated points seats clock asking devices orders
+        changed =
+        IsNode-called key (Write names values) seated points seats clock
+        (λ part at.
+        let table = table_in (own_tables rows key.peer) part.variant in
+        subst (λ (k : ℕ). HaveActed rows table k key (acts_of_call (Write names values))
+        hub.plant.devices new.plant.devices) at_now
+        (writing_acts rows table now key names values hub.plant.devices new.plant.devices
+        (bank_ranged rows (moves_in past) hub.plant.devices n.common.lawful n.common.devices)
+        (devices ∙ ap (λ (these : List Asked). all_devices key these hub.plant.devices.devices)
+        (asking part at))
+        (orders ∙ ap (λ (these : List Asked). hub.plant.devices.orders
+        ++ all_orders key these hub.plant.devices.devices) (asking part at))))
         (lawful_call (Write names values) (λ set members e. absurd cc))
         (λ part at p.
         let tables = own_tables rows key.peer in
@@ -504,14 +655,15 @@ module _ (rows : CentreRows) (past : Past) (hub : Hub) (parts : Parts)
         changed part at
         ∙ ap (λ (x : Peer). slice_set parts.peers.items key.peer x)
         (ap (λ (these : List Asked). record part {
-          slots = all_slots table part.book key.ordinal now these part.slots;
-        }) (asks part at)
+          slots = all_slots table part.book key.ordinal now
+              (all_left key these hub.plant.devices.devices) part.slots;
+        }) (asking part at)
         ∙ ap (λ (slots : List OwnedSlot). record part { slots = slots })
-        (all_slots_alike table part.book key.ordinal now
-        (λ name. own_offered rows key.peer part.variant name) names values part.slots)
+        (all_slots_alike rows table part.book key now names values hub.plant.devices.devices
+        part.slots)
         ∙ sym (writing_call tables now key.ordinal names values part)
         ∙ ap (λ (k : ℕ). part_behind tables k key.ordinal (acts_of_call (Write names values)) part)
-        clock))
+        at_now))
 
     -- a request that neither reads nor writes, whose reply is that which the view gives
     pub IsNode-request : (key : Key) (event : EventKind) (reply : ReplyKind)
@@ -533,9 +685,19 @@ module _ (rows : CentreRows) (past : Past) (hub : Hub) (parts : Parts)
         absurd request
     IsNode-request key (Ask asker slot) reply seated request replied same lawful asked =
         absurd request
+    IsNode-request key (events.Tag device tag) reply seated request replied same lawful asked =
+        absurd request
+    IsNode-request key TakeOrders reply seated request replied same lawful asked =
+        absurd request
     IsNode-request key Stop reply seated request replied same lawful asked = absurd request
     IsNode-request key (Request call) reply seated request replied same lawful asked =
-        IsNode-called key call seated same lawful
+        IsNode-called key call seated (ap (λ (h : Hub). h.plant.points) same)
+        (ap (λ (h : Hub). h.seats) same) (ap (λ (h : Hub). h.last_tick) same)
+        (λ part at. subst (λ (h : Hub). HaveActed rows
+        (table_in (own_tables rows key.peer) part.variant) (last_tick past) key
+        (acts_of_call call) hub.plant.devices h.plant.devices) (sym same)
+        (calm_acts rows (table_in (own_tables rows key.peer) part.variant) (last_tick past) key
+        call request hub.plant.devices)) lawful
         (λ part at p. asked part at
         (by_book (own_tables rows key.peer) (view_of rows key.peer past) part call reply key.ordinal
         p replied))

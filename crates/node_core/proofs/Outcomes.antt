@@ -4,16 +4,18 @@ use Rattle.std.proofs.Common.{is_some, refl}
 use Rattle.std.proofs.lemmas.Bool.{true≢false}
 use Rattle.std.proofs.lemmas.List.{reverse-append}
 use Rattle.sbo_device.specs.declared.key.Key.{Key}
+use Rattle.sbo_device.specs.declared.order.Order.{Order}
 use Rattle.tase_views.specs.declared.call.CallKind.{CallKind}
 use Rattle.tase_views.specs.declared.event.EventKind.{EventKind}
-use Rattle.tase_views.specs.declared.event.EventKind.TheVariants.{Open, Request, Take}
+use Rattle.tase_views.specs.declared.event.EventKind.TheVariants.{Open, Request, Take, TakeOrders}
 use Rattle.tase_views.specs.declared.reply.ReplyKind.{ReplyKind}
 use Rattle.tase_views.specs.declared.reply.ReportKind.{ReportKind}
-use Rattle.tase_views.specs.declared.reply.Answer.TheVariants.{Opened, Reply, Reports}
+use Rattle.tase_views.specs.declared.reply.Answer.TheVariants.{Opened, Reply, Reports, Orders}
 use Rattle.tase_views.specs.Setup.{Setup}
 use Rattle.tase_views.specs.History.{Past, association_in, next_key}
 use Rattle.tase_views.specs.OwnTables.{own_tables}
-use Rattle.tase_views.specs.View.{view_of}
+use Rattle.tase_views.specs.View.{moves_in, view_of}
+use Rattle.tase_views.specs.Orders.{orders_left}
 use Rattle.tase_views.specs.Answers.{reply_to}
 use Rattle.tase_views.specs.Reports.{reports_pending}
 use Rattle.tase_views.specs.Outcomes.{IsAnswer}
@@ -39,6 +41,12 @@ pub IsAnswer-take : (setup : Setup) (past : Past) (who : ℕ) (event : EventKind
     → IsAnswer setup past who event (Reports reports)
 IsAnswer-take setup past who event key reports is there reports_is =
     rw (is, there, reports_is) refl
+
+pub IsAnswer-orders : (setup : Setup) (past : Past) (who : ℕ) (event : EventKind)
+    (orders : List Order) → event ≡ TakeOrders
+    → orders ≡ orders_left setup.centre (own_tables setup.centre) (moves_in past)
+    → IsAnswer setup past who event (Orders orders)
+IsAnswer-orders setup past who event orders is orders_is = rw (is, orders_is) refl
 
 pub IsAnswer-request : (setup : Setup) (past : Past) (who : ℕ) (event : EventKind)
     (call : CallKind) (key : Key) (reply : ReplyKind) → event ≡ Request call

@@ -1,8 +1,8 @@
--- What a name stands for: an object of the protocol itself, a transfer set, or a point of the
--- table.
+-- What a name stands for: an object of the protocol itself, one in the table's domain, or a point
+-- of the table.
 use Rattle.std.proofs.Common.{◌≡◌, ℕ, Bool, true, false, not, ◌&&◌, List, [], ◌++◌, map, Option}
-use Rattle.std.proofs.Common.{Some, None, bytes_eq, refl, sym, ap, ◌∙◌, append-nil, append_assoc}
-use Rattle.std.specs.List.{find, filter, flat_map, range_with_len}
+use Rattle.std.proofs.Common.{Some, None, bytes_eq, refl, sym, ap, ◌∙◌, append_assoc}
+use Rattle.std.specs.List.{find, filter}
 use Rattle.std.specs.Option.{option_map, option_or}
 use Rattle.std.proofs.lemmas.Bool.{false≢true, true≢false}
 use Rattle.std.proofs.lemmas.List.Folds.{find-append}
@@ -12,11 +12,12 @@ use Rattle.mms_data.specs.ObjectName.{ObjectName}
 use Rattle.tase_views.specs.OwnTables.{OwnPoint, OwnTable, is_scope_of}
 use Rattle.tase_views.specs.Objects.{Object, NamedObject, indication_point, special_objects}
 use Rattle.tase_views.specs.Objects.{named_by, report_variables, point_object, is_named}
-use Rattle.tase_views.specs.Objects.{object_named, objects, next_objects, objects_of_slot}
-use Rattle.node_core.specs.Found.{TableInForce, offered, point_named, transfer_objects}
+use Rattle.tase_views.specs.Objects.{object_named, objects, next_objects}
+use Rattle.node_core.specs.Found.{TableInForce, offered, point_named, domain_objects}
+use Rattle.node_core.specs.Found.{device_objects, slot_objects}
 use Rattle.node_core.proofs.Names.{find-map}
 
-or_mapped : {X Y : Type 0} (f : X → Y) (a b : Option X)
+pub or_mapped : {X Y : Type 0} (f : X → Y) (a b : Option X)
     → option_map f (option_or a b) ≡ option_or (option_map f a) (option_map f b)
 or_mapped f None b = refl
 or_mapped f (Some x) b = refl
@@ -32,45 +33,45 @@ abbrev pub special_named : OwnTable → ObjectName → Option Object
 special_named table name =
     option_map (λ o. o.object) (find (is_named table name) (special_objects table))
 
--- the next transfer set, a transfer set or the status of one, that a name stands for
-abbrev pub transfer_named : OwnTable → ObjectName → Option Object
-transfer_named table name =
-    option_map (λ o. o.object) (find (is_named table name) (transfer_objects table.slots))
+-- the object in the table's domain, but for those and points, that a name stands for
+abbrev pub named_in_domain : OwnTable → ObjectName → Option Object
+named_in_domain table name =
+    option_map (λ o. o.object) (find (is_named table name) (domain_objects table))
 
--- a table as it is offered has objects of the protocol itself, transfer sets and points
-pub objects_parted : (t : TableInForce) → objects (offered t)
-    ≡ special_objects (offered t) ++ transfer_objects t.table.slots
-    ++ map point_object (offered t).points
-objects_parted t =
-    let special : List NamedObject = special_objects (offered t) in
-    let next : List NamedObject = next_objects t.table.slots in
-    let slots : List NamedObject = flat_map objects_of_slot (range_with_len 0 t.table.slots) in
-    ap (λ (front : List NamedObject). front ++ map point_object (offered t).points)
-    (ap (λ (front : List NamedObject). front ++ slots) (append-nil (special ++ next))
-    ∙ append_assoc special next slots)
+-- a table has objects of the protocol itself, those in its domain, and points
+pub objects_parted : (table : OwnTable) → objects table
+    ≡ special_objects table ++ domain_objects table ++ map point_object table.points
+objects_parted table =
+    let special : List NamedObject = special_objects table in
+    let next : List NamedObject = next_objects table.slots in
+    let devices : List NamedObject = device_objects table.devices in
+    let slots : List NamedObject = slot_objects table.slots in
+    ap (λ (front : List NamedObject). front ++ map point_object table.points)
+    (ap (λ (front : List NamedObject). front ++ slots) (append_assoc special next devices)
+    ∙ append_assoc special (next ++ devices) slots)
 
 object_named-parts : (t : TableInForce) (name : ObjectName)
     → object_named (offered t) name
-    ≡ option_or (option_or (special_named (offered t) name) (transfer_named (offered t) name))
+    ≡ option_or (option_or (special_named (offered t) name) (named_in_domain (offered t) name))
     (option_map indication_point (point_named (offered t) name))
 object_named-parts t name =
     let table : OwnTable = offered t in
     let test : NamedObject → Bool = is_named table name in
     let object : NamedObject → Object = λ o. o.object in
     let special : List NamedObject = special_objects table in
-    let transfers : List NamedObject = transfer_objects table.slots in
+    let own : List NamedObject = domain_objects table in
     let points : List NamedObject = map point_object table.points in
-    ap (λ (all : List NamedObject). option_map object (find test all)) (objects_parted t)
-    ∙ ap (option_map object) (find-append test (special ++ transfers) points)
-    ∙ or_mapped object (find test (special ++ transfers)) (find test points)
+    ap (λ (all : List NamedObject). option_map object (find test all)) (objects_parted table)
+    ∙ ap (option_map object) (find-append test (special ++ own) points)
+    ∙ or_mapped object (find test (special ++ own)) (find test points)
     ∙ ap (λ (found : Option NamedObject). option_or (option_map object found)
-    (option_map object (find test points))) (find-append test special transfers)
+    (option_map object (find test points))) (find-append test special own)
     ∙ ap (λ (found : Option Object). option_or found (option_map object (find test points)))
-    (or_mapped object (find test special) (find test transfers))
+    (or_mapped object (find test special) (find test own))
     ∙ ap (λ (found : Option NamedObject). option_or
-    (option_or (special_named table name) (transfer_named table name)) (option_map object found))
+    (option_or (special_named table name) (named_in_domain table name)) (option_map object found))
     (find-map point_object test (λ p. test (point_object p)) table.points (λ k d h. refl))
-    ∙ ap (option_or (option_or (special_named table name) (transfer_named table name)))
+    ∙ ap (option_or (option_or (special_named table name) (named_in_domain table name)))
     (object_of_point (point_named table name))
 
 module _ (t : TableInForce) (name : ObjectName) where
@@ -78,29 +79,29 @@ module _ (t : TableInForce) (name : ObjectName) where
   pub object_named-special : (object : Object) → Some object ≡ special_named (offered t) name
       → Some object ≡ object_named (offered t) name
   object_named-special object is =
-      ap (λ (o : Option Object). option_or (option_or o (transfer_named (offered t) name))
+      ap (λ (o : Option Object). option_or (option_or o (named_in_domain (offered t) name))
       (option_map indication_point (point_named (offered t) name))) is
       ∙ sym (object_named-parts t name)
 
-  -- else one of the transfer sets
-  pub object_named-transfer : (object : Object) → None ≡ special_named (offered t) name
-      → Some object ≡ transfer_named (offered t) name
+  -- else one in the table's domain
+  pub object_named-domain : (object : Object) → None ≡ special_named (offered t) name
+      → Some object ≡ named_in_domain (offered t) name
       → Some object ≡ object_named (offered t) name
-  object_named-transfer object none is =
+  object_named-domain object none is =
       ap (λ (o : Option Object). option_or o
       (option_map indication_point (point_named (offered t) name)))
-      (is ∙ ap (λ (o : Option Object). option_or o (transfer_named (offered t) name)) none)
+      (is ∙ ap (λ (o : Option Object). option_or o (named_in_domain (offered t) name)) none)
       ∙ sym (object_named-parts t name)
 
   -- else a point of the table
   pub object_named-point : (point : Option OwnPoint) → None ≡ special_named (offered t) name
-      → None ≡ transfer_named (offered t) name → point ≡ point_named (offered t) name
+      → None ≡ named_in_domain (offered t) name → point ≡ point_named (offered t) name
       → option_map indication_point point ≡ object_named (offered t) name
   object_named-point point none apart is =
       ap (option_map indication_point) is
       ∙ ap (λ (o : Option Object). option_or o
       (option_map indication_point (point_named (offered t) name)))
-      (apart ∙ ap (λ (o : Option Object). option_or o (transfer_named (offered t) name)) none)
+      (apart ∙ ap (λ (o : Option Object). option_or o (named_in_domain (offered t) name)) none)
       ∙ sym (object_named-parts t name)
 
 -- ---- the protocol's own objects in the whole device and in the domain

@@ -7,13 +7,13 @@ use Rattle.std.proofs.lemmas.Bool.{cases_eq, cases_lt}
 use Rattle.std.proofs.lemmas.List.{length-map}
 use Rattle.std.proofs.lemmas.Option.{slice_get_read, slice_get_within, get_or_from_slice_get}
 use Rattle.std.proofs.lemmas.Option.{slice_get-get_or, slice_get_past, same_Some}
-use Rattle.point_db.specs.Stored.{Stored as PointsStored}
 use Rattle.bilateral.specs.Rows.{CentreRows}
 use Rattle.tase_views.specs.declared.reply.ReportKind.{ReportKind}
 use Rattle.tase_views.specs.View.{moment_in}
 use Rattle.tase_views.specs.Reports.{reports_by}
 use Rattle.node_core.specs.declared.cause.ReportCause.{ReportCause}
 use Rattle.node_core.specs.declared.peer.Peer.{Peer}
+use Rattle.node_core.specs.declared.plant.Plant.{Plant}
 use Rattle.node_core.specs.Associations.{OpenAssociation, association_at, undrafted, drafted_by}
 use Rattle.node_core.specs.Shown.{Shown, InEachView, shown_of}
 use Rattle.node_core.specs.SlotFeeds.{move_of, moment_before}
@@ -127,9 +127,9 @@ module _ (old now : List Peer) (peer : ℕ) (many : length now ≡ length old)
     slots = λ part at. there.slots part (sym same ∙ at);
   }
 
-  pub IsPeerShown-same : (rows : CentreRows) (points : PointsStored)
-      → IsPeerShown rows points old peer → IsPeerShown rows points now peer
-  IsPeerShown-same rows points shown = record {
+  pub IsPeerShown-same : (rows : CentreRows) (plant : Plant)
+      → IsPeerShown rows plant old peer → IsPeerShown rows plant now peer
+  IsPeerShown-same rows plant shown = record {
     lawful = shown.lawful;
     there = IsPeerThere-same rows shown.there;
     shown = λ part at. shown.shown part (sym same ∙ at);
@@ -157,55 +157,55 @@ IsMade shown cause ordinal made =
     → made ≡ reports_by tables view ordinal (move_of cause))
 
 -- a part that is as it was but for its drafts, which are made of so many first associations
-pub record FirstDrafted (rows : CentreRows) (peer : ℕ) (points : PointsStored)
+pub record FirstDrafted (rows : CentreRows) (peer : ℕ) (plant : Plant)
     (cause : ReportCause) (count : ℕ) (old now : Peer) : Type 0 where
   pub same : now ≡ record old { associations = now.associations }
   pub associations : map undrafted now.associations ≡ map undrafted old.associations
   pub done : (k : ℕ) (d : OpenAssociation) → k < count
-      → IsMade (shown_of rows peer now points) cause (get_or now.associations k d).ordinal
+      → IsMade (shown_of rows peer now plant) cause (get_or now.associations k d).ordinal
       (get_or now.associations k d).drafted
 
-module _ (rows : CentreRows) (peer : ℕ) (points : PointsStored) (cause : ReportCause) where
+module _ (rows : CentreRows) (peer : ℕ) (plant : Plant) (cause : ReportCause) where
   pub FirstDrafted-step : (count : ℕ) (old now : Peer) (those : List OpenAssociation)
-      (made : List ReportKind) → FirstDrafted rows peer points cause count old now
+      (made : List ReportKind) → FirstDrafted rows peer plant cause count old now
       → count < length now.associations
-      → IsMade (shown_of rows peer now points) cause
+      → IsMade (shown_of rows peer now plant) cause
       (association_at now.associations count).ordinal made
       → map undrafted those ≡ map undrafted now.associations
       → those ≡ set now.associations count
       (drafted_by made (association_at now.associations count))
-      → FirstDrafted rows peer points cause (count + 1) old (record now { associations = those })
+      → FirstDrafted rows peer plant cause (count + 1) old (record now { associations = those })
   FirstDrafted-step count old now those made f there is alike set_is = record {
     same = ap (λ (x : Peer). record x { associations = those }) f.same;
     associations = alike ∙ f.associations;
     done = λ k d below.
         let a = drafted_by made (association_at now.associations count) in
         subst (λ (x : OpenAssociation).
-        IsMade (shown_of rows peer now points) cause x.ordinal x.drafted)
+        IsMade (shown_of rows peer now plant) cause x.ordinal x.drafted)
         (ap (λ (l : List OpenAssociation). get_or l k d) (sym set_is))
         (⊎_elim
         (λ (same : k ≡ count).
         subst (λ (x : OpenAssociation).
-        IsMade (shown_of rows peer now points) cause x.ordinal x.drafted)
+        IsMade (shown_of rows peer now plant) cause x.ordinal x.drafted)
         (sym (ap (λ (n : ℕ). get_or (set now.associations count a) n d) same
         ∙ get_or-set_same now.associations count a d there)) is)
         (λ apart.
         subst (λ (x : OpenAssociation).
-        IsMade (shown_of rows peer now points) cause x.ordinal x.drafted)
+        IsMade (shown_of rows peer now plant) cause x.ordinal x.drafted)
         (sym (get_or-set_other now.associations count k a d apart))
         (f.done k d (omega (arith, below, apart))))
         (cases_eq k count));
   }
 
   pub FirstDrafted-all : (count : ℕ) (old now : Peer)
-      → FirstDrafted rows peer points cause count old now → length now.associations ≤ count
-      → IsDrafted rows peer points cause now
+      → FirstDrafted rows peer plant cause count old now → length now.associations ≤ count
+      → IsDrafted rows peer plant cause now
   FirstDrafted-all count old now f all =
       λ k d there. f.done k d (omega (arith, there, all))
 
   -- how many associations there are
   pub FirstDrafted-many : (count : ℕ) (old now : Peer)
-      → FirstDrafted rows peer points cause count old now
+      → FirstDrafted rows peer plant cause count old now
       → length now.associations ≡ length old.associations
   FirstDrafted-many count old now f =
       sym (length-map now.associations undrafted)

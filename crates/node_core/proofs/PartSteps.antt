@@ -40,7 +40,7 @@ use Rattle.node_core.proofs.SlotBanks.{IsBank-new, IsBank-still, IsBank-unowned,
 use Rattle.node_core.proofs.SlotBanks.{IsBank-reads, IsBank-writes, IsBank-defines}
 use Rattle.node_core.proofs.SlotBanks.{IsBank-deletes-set, freed-at, owned_alike}
 use Rattle.node_core.proofs.SlotFeeds.{IsBank-reported, IsBank-roomier}
-use Rattle.node_core.proofs.AssociationSteps.{IsQuiet, AreAssociations-still}
+use Rattle.node_core.proofs.AssociationSteps.{IsQuiet, EndsNothing, AreAssociations-still}
 use Rattle.node_core.proofs.AssociationSteps.{AreAssociations-opens, AreAssociations-closes}
 use Rattle.node_core.proofs.AssociationSteps.{AreAssociations-takes, AreAssociations-reported}
 use Rattle.node_core.proofs.AssociationSteps.{AreAssociations-alike, owner_read, owner_written}
@@ -256,10 +256,9 @@ freed_owner tables view slots b ordinal s =
     by true e = rw (← e) refl
     by false e = rw (← e) (b.owner s)
 
--- tables as a node offers them: with no more transfer sets than there is room for, and no device
+-- tables as a node offers them: with no more transfer sets than there is room for
 pub record AreOffered (tables : OwnTables) : Type 0 where
   pub few : (n : ℕ) → (table_in tables n).slots ≤ SLOT_LIMIT
-  pub bare : (n : ℕ) → (table_in tables n).devices ≡ []
 
 -- an association that is opened has the next ordinal, and one that acts is open; a definition is
 -- lawful, and a table that is chosen is there; causes of reports and updates change more
@@ -435,11 +434,12 @@ module _ (tables : OwnTables) (o : AreOffered tables) (view : View) (part : Peer
   -- a part behind a cause of reports, which were drafted
   pub IsPart-reported : (cause : ReportCause) (new : Peer)
       → moment_in view ≡ moment_before cause
+      → ((ordinal : ℕ) → part.opened_in_all ≤ ordinal → EndsNothing tables view ordinal)
       → All (λ (a : OpenAssociation).
       a.drafted ≡ reports_by tables view a.ordinal (move_of cause)) part.associations
       → IsReported cause part new → IsPart tables view part
       → IsPart tables (move_of cause ∷ view) new
-  IsPart-reported cause new before drafted r p =
+  IsPart-reported cause new before late drafted r p =
       subst (λ (x : Peer). IsPart tables (move_of cause ∷ view) x) (sym r.same)
       (by cause before drafted r.slots p)
     where
@@ -452,14 +452,14 @@ module _ (tables : OwnTables) (o : AreOffered tables) (view : View) (part : Peer
       by (Tick from to) before drafted slots p =
           IsPart-booked tables view part (ticked to) (map with_drafted part.associations)
           new.slots refl refl (λ name. refl)
-          (AreAssociations-reported tables view (o.bare (force view)) (Tick from to)
-          part.associations part.open_now part.opened_in_all drafted p.open_ones)
+          (AreAssociations-reported tables view (Tick from to) part.associations part.open_now
+          part.opened_in_all late drafted p.open_ones)
           (IsBank-reported tables view (Tick from to) part.slots new.slots before slots p.slots) p
       by (Ask slot moment) before drafted slots p =
           IsPart-booked tables view part (asked slot) (map with_drafted part.associations)
           new.slots refl refl (λ name. refl)
-          (AreAssociations-reported tables view (o.bare (force view)) (Ask slot moment)
-          part.associations part.open_now part.opened_in_all drafted p.open_ones)
+          (AreAssociations-reported tables view (Ask slot moment) part.associations part.open_now
+          part.opened_in_all late drafted p.open_ones)
           (IsBank-reported tables view (Ask slot moment) part.slots new.slots before slots
           p.slots) p
 

@@ -6,7 +6,7 @@ use Rattle.std.proofs.Common.{inl, inr, min, length-drop}
 use Rattle.std.specs.Prelude.{if◌then◌else◌, ◌⊎◌}
 use Rattle.std.specs.Option.{IfSome, option_map, option_copied}
 use Rattle.std.specs.List.{All, find, list_any}
-use Rattle.std.proofs.lemmas.Bool.{cases_eq, false≢true}
+use Rattle.std.proofs.lemmas.Bool.{cases_eq, false≢true, eq-eqb, ne_eqb}
 use Rattle.std.proofs.lemmas.Bool.Decides.{nat_tests}
 use Rattle.std.proofs.lemmas.Option.{none-some}
 use Rattle.std.proofs.lemmas.List.{append_assoc, append-nil, take_min, drop_min, at_drop_more}
@@ -169,6 +169,15 @@ where-some table is p i (member ∷ members) from to here =
         absurd (false≢true (sym e ∙ ap (λ (k : ℕ). is k (object_named table member)) same
         ∙ here (object_named table member)))
     by false e (inr other) rest = rest (omega arith)
+
+-- a report where something is told
+pub told_some : {R : Type 0} (made : List R) (n : ℕ) (report : R) → 0 < n
+    → made ++ report ∷ [] ≡ made ++ (if n == 0 then [] else report ∷ [])
+told_some made n report some = rw (ne_eqb n 0 (λ none. omega (arith, some, none))) refl
+
+pub told_none : {R : Type 0} (made : List R) (n : ℕ) (report : R) → n ≡ 0
+    → made ≡ made ++ (if n == 0 then [] else report ∷ [])
+told_none made n report none = rw (eq-eqb n 0 none) (sym (append-nil made))
 
 -- lists that are joined and then read
 pub mapped-joined : {A B C : Type 0} (f : B → C) (g : A → B) (bs : List B) (more : List A)

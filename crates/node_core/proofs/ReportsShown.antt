@@ -349,6 +349,11 @@ made_by tables view ordinal cause slot =
     own_reports tables view ordinal (moment_at cause)
     (λ s. conditions_by cause s (slot_state tables view s)) slot
 
+-- those of selections that end at a tick
+abbrev pub ended_at : OwnTables → View → ℕ → ℕ → List ReportKind
+ended_at tables view ordinal to =
+    filter_map (timeout_report tables view ordinal to) (held tables view).devices
+
 -- one transfer set more
 pub ranged-step : {R : Type 0} (F : ℕ → List R) (slot n k : ℕ) (made all : List R) → n ≡ suc k
     → all ≡ made ++ F slot
@@ -368,14 +373,15 @@ module _ (updates : Updates) (tables : OwnTables) (view : View) (shown : Shown)
     (s : IsShown updates tables view shown) (ordinal : ℕ) where
   -- those of a tick
   pub tick-made : (from to : ℕ) → moment_in view ≡ from
-      → flat_map (made_by tables view ordinal (Tick from to))
+      → ended_at tables view ordinal to ++ flat_map (made_by tables view ordinal (Tick from to))
       (range_with_len 0 shown.table.table.slots)
       ≡ reports_by tables view ordinal (ticked to)
   tick-made from to moment =
-      ap (λ (m : ℕ). flat_map (own_reports tables view ordinal to
+      let ended = ended_at tables view ordinal to in
+      ap (λ (m : ℕ). ended ++ flat_map (own_reports tables view ordinal to
       (λ s. conditions_due (slot_state tables view s) m to))
       (range_with_len 0 shown.table.table.slots)) (sym moment)
-      ∙ ap (λ (table : OwnTable). filter_map (timeout_report tables view ordinal to) table.devices
+      ∙ ap (λ (table : OwnTable). ended
       ++ flat_map (own_reports tables view ordinal to (λ s. due_conditions tables view s to))
       (range_with_len 0 table.slots)) s.table
 

@@ -5,7 +5,8 @@ use Rattle.std.proofs.lemmas.Bool.{true≢false}
 use Rattle.std.specs.Prelude.{if◌then◌else◌, vec_len, vec_capacity}
 use Rattle.tase_views.specs.declared.event.EventKind.{EventKind}
 use Rattle.tase_views.specs.declared.event.EventKind.TheVariants.{Open, Request, Take, Close}
-use Rattle.tase_views.specs.declared.event.EventKind.TheVariants.{Update, Table, Tick, Ask, Stop}
+use Rattle.tase_views.specs.declared.event.EventKind.TheVariants.{Update, Table, Tag, Tick, Ask}
+use Rattle.tase_views.specs.declared.event.EventKind.TheVariants.{TakeOrders, Stop}
 use Rattle.tase_views.specs.History.{is_stop}
 use Rattle.tase_views.specs.Outcomes.{is_ending}
 use Rattle.tase_views.specs.Weights.{weight, weight_of}
@@ -91,6 +92,12 @@ HasRoom-appended old new who (Tick now) before behind a r seats may =
 HasRoom-appended old new who (Ask asker slot) before behind a r seats may =
     HasRoom-within old new who (Ask asker slot) before behind a r may
     (omega (arith, seats, r.opened))
+HasRoom-appended old new who (Tag device tag) before behind a r seats may =
+    HasRoom-within old new who (Tag device tag) before behind a r may
+    (omega (arith, seats, r.opened))
+HasRoom-appended old new who TakeOrders before behind a r seats may =
+    HasRoom-within old new who TakeOrders before behind a r may
+    (omega (arith, seats, r.opened))
 HasRoom-appended old new who Close before behind a r seats may =
     let left : stops_left new.stop ≡ stops_left old.stop = ap stops_left a.stop in
     HasRoom-of old new who Close before behind a r
@@ -124,5 +131,9 @@ MayAppend-reserved old new (Table peer variant) seats other limit items fits res
 MayAppend-reserved old new (Tick now) seats other limit items fits reserved =
     (rw (limit, items) fits, reserved)
 MayAppend-reserved old new (Ask asker slot) seats other limit items fits reserved =
+    (rw (limit, items) fits, reserved)
+MayAppend-reserved old new (Tag device tag) seats other limit items fits reserved =
+    (rw (limit, items) fits, reserved)
+MayAppend-reserved old new TakeOrders seats other limit items fits reserved =
     (rw (limit, items) fits, reserved)
 MayAppend-reserved old new Stop seats other limit items fits reserved = absurd (true≢false other)

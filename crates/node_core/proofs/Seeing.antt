@@ -1,23 +1,25 @@
 -- What the moves of an event leave of a property of a peer's view.
 use Rattle.std.proofs.Common.{◌≡◌, ◌==◌, ℕ, ◌+◌, Bool, true, false, List, [], ◌∷◌, ◌++◌, map}
-use Rattle.std.proofs.Common.{Option, Some, None, refl, ◌∙◌, arith}
+use Rattle.std.proofs.Common.{Option, Some, None, is_some, refl, ◌∙◌, arith}
 use Rattle.std.specs.Prelude.{if◌then◌else◌, option_and_then}
 use Rattle.std.specs.List.{cons_option, list_any}
-use Rattle.bilateral.specs.Rows.{CentreRows, table_of, point_of}
+use Rattle.bilateral.specs.Rows.{CentreRows, table_of, point_of, device_of}
 use Rattle.sbo_device.specs.declared.key.Key.{Key}
 use Rattle.sbo_device.specs.Moves.{DeviceAct}
 use Rattle.tase_views.specs.declared.event.EventKind.{EventKind}
 use Rattle.tase_views.specs.declared.event.EventKind.TheVariants.{Open, Request, Take, Close}
-use Rattle.tase_views.specs.declared.event.EventKind.TheVariants.{Update, Table, Tick, Ask, Stop}
+use Rattle.tase_views.specs.declared.event.EventKind.TheVariants.{Update, Table, Tag, Tick, Ask}
+use Rattle.tase_views.specs.declared.event.EventKind.TheVariants.{TakeOrders, Stop}
 use Rattle.tase_views.specs.History.{Past, association_in, opens_in}
 use Rattle.tase_views.specs.OwnTables.{OwnDevice, OwnTable, OwnTables, own_tables, is_point_of}
-use Rattle.tase_views.specs.OwnTables.{is_selectable}
+use Rattle.tase_views.specs.OwnTables.{is_selectable, device_named}
 use Rattle.tase_views.specs.Devices.{Deed, deed_of}
 use Rattle.tase_views.specs.Moves.{Act, opens, takes, closes, reads, writes, defines, deletes}
 use Rattle.tase_views.specs.Moves.{calls}
 use Rattle.tase_views.specs.Moves.{Move, acts, moves_by, acts_of_call}
 use Rattle.tase_views.specs.View.{own, other_acted, other_closed, View, shows_act, deed_seen, asked}
 use Rattle.tase_views.specs.View.{other_seen, held_in, view_by, moves_in, view_of, updated, chose}
+use Rattle.tase_views.specs.View.{tagged}
 use Rattle.node_core.specs.PeerParts.{opens_seen, EachAct}
 use Rattle.node_core.proofs.CallActs.{IsOpenless, openless_call}
 
@@ -181,6 +183,14 @@ opens_behind rows peer past who (Ask asker slot) same =
     else None) (view_of rows peer past)) ≡ opens_in past peer)
     [ true ↦ same | false ↦ same ])
     ∙ omega arith
+opens_behind rows peer past who (Tag device tag) same =
+    (elim (is_some (device_named (own_tables rows peer) (device_of rows device).name)) as
+    (λ b. opens_seen (cons_option (if b
+    then Some (tagged (device_of rows device).name tag)
+    else None) (view_of rows peer past)) ≡ opens_in past peer)
+    [ true ↦ same | false ↦ same ])
+    ∙ omega arith
+opens_behind rows peer past who TakeOrders same = same ∙ omega arith
 opens_behind rows peer past who Stop same = same ∙ omega arith
 
 -- a peer sees each of its opens

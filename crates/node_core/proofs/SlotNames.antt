@@ -1,21 +1,27 @@
--- The names of transfer sets: their texts, what an item stands for among them, and in which scope.
+-- The names in a table's domain: the texts of those of transfer sets, what an item stands for, and
+-- in which scope.
 use Rattle.std.proofs.Common.{◌≡◌, ◌==◌, ℕ, suc, ◌+◌, ◌-◌, ◌<◌, ◌≤◌, Bool, true, false, ◌&&◌}
-use Rattle.std.proofs.Common.{List, [], ◌∷◌, ◌++◌, map, length, get_or, Bor, Option, Some, None}
+use Rattle.std.proofs.Common.{cond, List, [], ◌∷◌, ◌++◌, map, length, get_or, Bor, Option, Some}
+use Rattle.std.proofs.Common.{None}
 use Rattle.std.proofs.Common.{bytes_eq, refl, sym, ap, ◌∙◌, arith, append_assoc}
 use Rattle.std.specs.Prelude.{codes, if◌then◌else◌}
 use Rattle.std.specs.List.{All, find, filter, flat_map, range_with_len}
+use Rattle.std.specs.Option.{option_or}
 use Rattle.std.proofs.lemmas.Bool.{ne_eqb}
-use Rattle.std.proofs.lemmas.List.{get_or-map, length-map}
+use Rattle.std.proofs.lemmas.List.{get_or-map, length-map, map-append}
 use Rattle.std.proofs.lemmas.List.Elements.{All-append, All-cons, All-nil, All-head, All-tail}
 use Rattle.std.proofs.lemmas.List.Elements.{filter-append}
+use Rattle.std.proofs.lemmas.List.Folds.{find-append}
 use Rattle.std.proofs.lemmas.List.FromFn.{get_or-map-range_with_len, length-map-range_with_len}
 use Rattle.mms_data.specs.declared.object_name.Scope.{Scope}
-use Rattle.tase_views.specs.OwnTables.{OwnTable, is_scope_of}
+use Rattle.tase_views.specs.OwnTables.{OwnDevice, OwnTable, is_scope_of}
 use Rattle.tase_views.specs.NameLists.{variables_in}
 use Rattle.tase_views.specs.Objects.{NamedObject, named_by, transfer_set, transfer_set_status}
 use Rattle.tase_views.specs.Objects.{next_objects, next_transfer_set, objects_of_slot, slot_item}
-use Rattle.node_core.specs.Found.{transfer_objects}
+use Rattle.tase_views.specs.Objects.{control_point, selection, objects_of_device}
+use Rattle.node_core.specs.Found.{device_objects, slot_objects, domain_objects}
 use Rattle.node_core.proofs.Names.{find_alike, find-none}
+use Rattle.node_core.proofs.DeviceNames.{tag_object, timeout_object, with_selection}
 
 -- what stands at a place of a table of texts that are a function's values
 pub text_at : (f : ℕ → List ℕ) (n : ℕ) (texts : List (Bor (List ℕ))) (place : ℕ)
@@ -101,10 +107,33 @@ next-in_domain slots = by (slots == 0)
     by true = All-nil InDomain
     by false = All-cons InDomain next_object [] refl (All-nil InDomain)
 
-transfers-in_domain : (slots : ℕ) → All InDomain (transfer_objects slots)
-transfers-in_domain slots =
-    All-append InDomain (next_objects slots) (flat_map objects_of_slot (range_with_len 0 slots))
-    (next-in_domain slots) (slots-in_domain (range_with_len 0 slots))
+device-in_domain : (d : OwnDevice) → All InDomain (objects_of_device d)
+device-in_domain d =
+    let more = with_selection d d.row.direct in
+    All-cons InDomain (named_by false d.row.name (control_point d)) (tag_object d ∷ more) refl
+    (All-cons InDomain (tag_object d) more refl (by d.row.direct))
+  where
+    by : (direct : Bool) → All InDomain (with_selection d direct)
+    by true = All-nil InDomain
+    by false =
+        All-cons InDomain (named_by false (d.row.name ++ codes "_SBO") (selection d))
+        (timeout_object d ∷ []) refl
+        (All-cons InDomain (timeout_object d) [] refl (All-nil InDomain))
+
+devices-in_domain : (devices : List OwnDevice) → All InDomain (device_objects devices)
+devices-in_domain [] = All-nil InDomain
+devices-in_domain (d ∷ devices) =
+    All-append InDomain (objects_of_device d) (device_objects devices) (device-in_domain d)
+    (devices-in_domain devices)
+
+domain-in_domain : (table : OwnTable) → All InDomain (domain_objects table)
+domain-in_domain table =
+    let next = next_objects table.slots in
+    let devices = device_objects table.devices in
+    All-append InDomain (next ++ devices) (slot_objects table.slots)
+    (All-append InDomain next devices (next-in_domain table.slots)
+    (devices-in_domain table.devices))
+    (slots-in_domain (range_with_len 0 table.slots))
 
 filter-all : {X : Type 0} (test : X → Bool) (xs : List X) → All (λ x. test x ≡ true) xs
     → filter test xs ≡ xs
@@ -121,44 +150,65 @@ filter-none test (x ∷ xs) fails =
     (filter-none test xs (All-tail (λ x. test x ≡ false) x xs fails))
 
 -- those of a table that has transfer sets
-pub some_transfers : (slots : ℕ) → 1 ≤ slots
-    → transfer_objects slots ≡ next_object ∷ flat_map objects_of_slot (range_with_len 0 slots)
-some_transfers slots least = rw (ne_eqb slots 0 (omega (arith, least))) refl
+pub some_slots : (table : OwnTable) → 1 ≤ table.slots
+    → domain_objects table
+    ≡ next_object ∷ device_objects table.devices ++ slot_objects table.slots
+some_slots table least = rw (ne_eqb table.slots 0 (omega (arith, least))) refl
 
-module _ (table : OwnTable) (scope : Scope) (slots : ℕ) where
+module _ (table : OwnTable) (scope : Scope) where
   -- by name, in another scope none
-  pub transfers_found-away : (item : List ℕ) → is_scope_of table scope false ≡ false
-      → find (λ o. is_scope_of table scope o.vmd && bytes_eq o.item item) (transfer_objects slots)
+  pub domain_found-away : (item : List ℕ) → is_scope_of table scope false ≡ false
+      → find (λ o. is_scope_of table scope o.vmd && bytes_eq o.item item) (domain_objects table)
       ≡ None
-  transfers_found-away item away =
+  domain_found-away item away =
       find-none (λ (o : NamedObject). is_scope_of table scope o.vmd && bytes_eq o.item item)
-      (transfer_objects slots) (λ k d within. rw (transfers-in_domain slots k d within, away) refl)
+      (domain_objects table) (λ k d within. rw (domain-in_domain table k d within, away) refl)
 
-  pub transfers_found-slot : (item : List ℕ) → 1 ≤ slots → is_scope_of table scope false ≡ true
-      → bytes_eq (codes "Next_DSTransfer_Set") item ≡ false
-      → find (λ o. is_scope_of table scope o.vmd && bytes_eq o.item item) (transfer_objects slots)
-      ≡ find (λ o. bytes_eq o.item item) (flat_map objects_of_slot (range_with_len 0 slots))
-  transfers_found-slot item least here other =
+  -- in the domain the next transfer set, or else a device's object, or else a transfer set's
+  domain_found-here : (item : List ℕ) → 1 ≤ table.slots → is_scope_of table scope false ≡ true
+      → find (λ o. is_scope_of table scope o.vmd && bytes_eq o.item item) (domain_objects table)
+      ≡ cond (bytes_eq (codes "Next_DSTransfer_Set") item) (Some next_object)
+      (option_or (find (λ o. bytes_eq o.item item) (device_objects table.devices))
+      (find (λ o. bytes_eq o.item item) (slot_objects table.slots)))
+  domain_found-here item least here =
       find_alike (λ (o : NamedObject). is_scope_of table scope o.vmd && bytes_eq o.item item)
-      (λ o. bytes_eq o.item item) (transfer_objects slots)
-      (λ k d within. rw (transfers-in_domain slots k d within, here) refl)
-      ∙ ap (find (λ o. bytes_eq o.item item)) (some_transfers slots least)
-      ∙ rw other refl
+      (λ o. bytes_eq o.item item) (domain_objects table)
+      (λ k d within. rw (domain-in_domain table k d within, here) refl)
+      ∙ ap (find (λ o. bytes_eq o.item item)) (some_slots table least)
+      ∙ ap (cond (bytes_eq (codes "Next_DSTransfer_Set") item) (Some next_object))
+      (find-append (λ (o : NamedObject). bytes_eq o.item item) (device_objects table.devices)
+      (slot_objects table.slots))
+
+  pub domain_found-next : (item : List ℕ) → 1 ≤ table.slots → is_scope_of table scope false ≡ true
+      → bytes_eq (codes "Next_DSTransfer_Set") item ≡ true
+      → find (λ o. is_scope_of table scope o.vmd && bytes_eq o.item item) (domain_objects table)
+      ≡ Some next_object
+  domain_found-next item least here next = domain_found-here item least here ∙ rw next refl
+
+  pub domain_found-other : (item : List ℕ) → 1 ≤ table.slots → is_scope_of table scope false ≡ true
+      → bytes_eq (codes "Next_DSTransfer_Set") item ≡ false
+      → find (λ o. is_scope_of table scope o.vmd && bytes_eq o.item item) (domain_objects table)
+      ≡ option_or (find (λ o. bytes_eq o.item item) (device_objects table.devices))
+      (find (λ o. bytes_eq o.item item) (slot_objects table.slots))
+  domain_found-other item least here other = domain_found-here item least here ∙ rw other refl
 
   -- the names in a scope
-  pub transfers_named-away : is_scope_of table scope false ≡ false
-      → variables_in table (transfer_objects slots) scope ≡ []
-  transfers_named-away away =
+  pub names_in_domain-away : is_scope_of table scope false ≡ false
+      → variables_in table (domain_objects table) scope ≡ []
+  names_in_domain-away away =
       ap (map (λ (o : NamedObject). o.item))
-      (filter-none (λ (o : NamedObject). is_scope_of table scope o.vmd) (transfer_objects slots)
-      (λ k d within. rw (transfers-in_domain slots k d within, away) refl))
+      (filter-none (λ (o : NamedObject). is_scope_of table scope o.vmd) (domain_objects table)
+      (λ k d within. rw (domain-in_domain table k d within, away) refl))
 
-  pub transfers_named : 1 ≤ slots → is_scope_of table scope false ≡ true
-      → variables_in table (transfer_objects slots) scope
-      ≡ codes "Next_DSTransfer_Set"
-      ∷ map (λ o. o.item) (flat_map objects_of_slot (range_with_len 0 slots))
-  transfers_named least here =
+  pub names_in_domain : 1 ≤ table.slots → is_scope_of table scope false ≡ true
+      → variables_in table (domain_objects table) scope
+      ≡ codes "Next_DSTransfer_Set" ∷ map (λ o. o.item) (device_objects table.devices)
+      ++ map (λ o. o.item) (slot_objects table.slots)
+  names_in_domain least here =
       ap (map (λ (o : NamedObject). o.item))
-      (filter-all (λ (o : NamedObject). is_scope_of table scope o.vmd) (transfer_objects slots)
-      (λ k d within. rw (transfers-in_domain slots k d within, here) refl)
-      ∙ some_transfers slots least)
+      (filter-all (λ (o : NamedObject). is_scope_of table scope o.vmd) (domain_objects table)
+      (λ k d within. rw (domain-in_domain table k d within, here) refl)
+      ∙ some_slots table least)
+      ∙ ap (λ (names : List (List ℕ)). codes "Next_DSTransfer_Set" ∷ names)
+      (map-append (λ (o : NamedObject). o.item) (device_objects table.devices)
+      (slot_objects table.slots))

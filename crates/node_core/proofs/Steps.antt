@@ -7,7 +7,8 @@ use Rattle.std.proofs.Common.{Option, Some}
 use Rattle.std.proofs.Common.{None}
 use Rattle.std.proofs.Common.{refl, sym, ap, ◌∙◌, subst, ⊎_elim, arith, length-set, slice_get}
 use Rattle.std.proofs.Common.{get_or-set_same, get_or-set_other}
-use Rattle.std.specs.Prelude.{◌||◌, if◌then◌else◌, slice_index_or}
+use Rattle.std.specs.Prelude.{◌||◌, if◌then◌else◌, slice_index_or, is_some}
+use Rattle.std.specs.List.{cons_option}
 use Rattle.std.specs.Option.{option_map}
 use Rattle.std.proofs.lemmas.Bool.{cases_eq, cases_lt, eq-eqb, ne_eqb, and_parts, ltb-true}
 use Rattle.std.proofs.lemmas.Bool.{false≢true}
@@ -19,17 +20,20 @@ use Rattle.std.proofs.lemmas.Option.{slice_get_within, get_or_from_slice_get, sa
 use Rattle.tase_points.specs.Points.{kind_of}
 use Rattle.tase_points.specs.Same.{same_kind}
 use Rattle.tase_points.specs.Sample.{Sample}
-use Rattle.point_db.specs.Stored.{Stored as PointsStored, Keeps as KeepsPoints}
+use Rattle.point_db.specs.Stored.{Keeps as KeepsPoints}
 use Rattle.bilateral.specs.declared.rows.Table.{Table}
 use Rattle.bilateral.specs.declared.rows.TheConstants.{SLOT_LIMIT}
 use Rattle.bilateral.specs.Rows.{CentreRows, IsCentre, no_table, table_of, further_of, point_of}
-use Rattle.bilateral.specs.Rows.{variants_of}
+use Rattle.bilateral.specs.Rows.{device_of, variants_of}
 use Rattle.sbo_device.specs.declared.key.Key.{Key}
+use Rattle.sbo_device.specs.Moves.{Tag}
 use Rattle.transfer_sets.specs.Banks.{freed}
 use Rattle.tase_views.specs.declared.call.CallKind.{CallKind}
 use Rattle.tase_views.specs.declared.event.EventKind.{EventKind}
 use Rattle.tase_views.specs.declared.event.EventKind.TheVariants.{Open, Request, Take, Close}
-use Rattle.tase_views.specs.declared.event.EventKind.TheVariants.{Update, Tick, Ask, Stop}
+use Rattle.tase_views.specs.declared.event.EventKind.TheVariants.{Update, Tick, Ask}
+use Rattle.tase_views.specs.declared.event.EventKind.TheVariants as events
+use Rattle.tase_views.specs.declared.event.EventKind.TheVariants.{TakeOrders, Stop}
 use Rattle.tase_views.specs.declared.event.EventKind.TheVariants.{Table as Choice}
 use Rattle.tase_views.specs.Moves.{Act, opens, takes, closes, reads, writes, defines, deletes}
 use Rattle.tase_views.specs.Moves.{calls, acts_of_call, moves_by}
@@ -38,22 +42,24 @@ use Rattle.tase_views.specs.Moves.{requesting, taking, closing, taking_orders, f
 use Rattle.tase_views.specs.History.{Past, association_in, association_after, association_by}
 use Rattle.tase_views.specs.History.{key_at, opens_in, counts_open, next_key, last_tick}
 use Rattle.tase_views.specs.OwnTables.{OwnTables, own_table, own_tables, no_own_table, table_in}
+use Rattle.tase_views.specs.OwnTables.{device_named}
 use Rattle.tase_views.specs.Outcomes.{is_known}
-use Rattle.tase_views.specs.View.{own, other_acted, other_closed, chose, stopped}
+use Rattle.tase_views.specs.View.{own, other_acted, other_closed, tagged, chose, stopped}
 use Rattle.tase_views.specs.View.{View, view_by, moves_in, view_of, moment_in}
 use Rattle.tase_views.proofs.Seated.{one_seat}
+use Rattle.node_devices.specs.DeviceBanks.{IsDeviceBank}
 use Rattle.node_core.specs.declared.peer.Peer.{Peer}
+use Rattle.node_core.specs.declared.plant.Plant.{Plant}
 use Rattle.node_core.specs.LastValues.{kinds_of, updates_in}
 use Rattle.node_core.specs.Associations.{OpenAssociation, new_association, is_open_in}
 use Rattle.node_core.specs.Associations.{open_without, behind_take}
 use Rattle.node_core.specs.PeerParts.{IsPart, new_part, part_after, part_behind, IsLawfulAct}
 use Rattle.node_core.specs.PeerParts.{EachAct, settled, no_sets}
-use Rattle.node_core.specs.Stored.{IsCommon, AreParts, IsPeerThere, MayOpen, IsRequest}
+use Rattle.node_core.specs.Stored.{IsCommon, AreParts, IsPeerThere, MayOpen}
 use Rattle.node_core.proofs.AssociationSteps.{others_stay}
 use Rattle.node_core.proofs.CallActs.{IsOfCall, of_call, calls_keep}
 use Rattle.node_core.proofs.Known.{table_is_lawful, further_are_lawful}
 use Rattle.node_core.proofs.Moments.{moment_is}
-use Rattle.node_core.proofs.Offered.{own_bare}
 use Rattle.node_core.proofs.PartSteps.{AreOffered, IsLawfulMove, IsPart-new, IsPart-after}
 use Rattle.node_core.proofs.Seeing.{IsKept, by_others, opens_in_view}
 
@@ -209,7 +215,6 @@ pub own_offers : (rows : CentreRows) → IsCentre rows → (peer : ℕ)
     → AreOffered (own_tables rows peer)
 own_offers rows lawful peer = record {
   few = own_few rows lawful peer;
-  bare = own_bare rows peer;
 }
 
 -- ---- the associations of seats
@@ -530,6 +535,36 @@ module _ (rows : CentreRows) (lawful_rows : IsCentre rows) (past : Past) (who : 
         λ ordinal there. there,
       )) s
 
+  -- a tag of a device, which a peer sees or not, and a taking of orders, which none sees
+  pub AreParts-tagged : (device : ℕ) (tag : Tag) → AreParts rows past peers
+      → AreParts rows (record { who = who; event = events.Tag device tag } ∷ past) peers
+  AreParts-tagged device tag s =
+      AreParts-each (events.Tag device tag) peers (λ before. refl) refl
+      (λ peer part after at here p. subst (λ (x : Peer). IsPart (own_tables rows peer)
+      (view_of rows peer (record { who = who; event = events.Tag device tag } ∷ past)) x
+      × ((ordinal : ℕ) → is_open_in ordinal part.associations ≡ true
+      → is_open_in ordinal x.associations ≡ true)) (same_Some part after (sym at ∙ here)) (
+        elim (is_some (device_named (own_tables rows peer) (device_of rows device).name)) as
+            (λ b. IsPart (own_tables rows peer)
+            (cons_option (if b then Some (tagged (device_of rows device).name tag) else None)
+            (view_of rows peer past)) part) [
+              | true ↦ IsPart-after (own_tables rows peer) (own_offers rows lawful_rows peer)
+                  (view_of rows peer past) part _ refl (tagged (device_of rows device).name tag) tt p
+              | false ↦ p
+            ],
+        λ ordinal there. there,
+      )) s
+
+  pub AreParts-orders : AreParts rows past peers
+      → AreParts rows (record { who = who; event = TakeOrders } ∷ past) peers
+  AreParts-orders s =
+      AreParts-each TakeOrders peers (λ before. refl) refl
+      (λ peer part after at here p. subst (λ (x : Peer).
+      IsPart (own_tables rows peer) (view_of rows peer past) x
+      × ((ordinal : ℕ) → is_open_in ordinal part.associations ≡ true
+      → is_open_in ordinal x.associations ≡ true)) (same_Some part after (sym at ∙ here))
+      (p, λ ordinal there. there)) s
+
   -- a choice of another table
   pub AreParts-chosen : (chooser variant : ℕ) (part : Peer)
       → variant < length (variants_of rows chooser) → slice_get peers chooser ≡ Some part
@@ -594,17 +629,20 @@ known_after taking_orders past before key n opened known e = known e
 known_after (feeding move) past before key n opened known e = known e
 
 -- behind an event, whose peer is there if it is an open
-IsCommon-after : (rows : CentreRows) (past : Past) (points kept : PointsStored)
+IsCommon-after : (rows : CentreRows) (past : Past) (plant next : Plant)
     (found after : ℕ → Option Key) (who : ℕ) (event : EventKind)
     → ((peer : ℕ) → sort_of event ≡ opening peer → peer < length rows.tables)
-    → KeepsPoints (kinds_of rows) (updates_in (record { who = who; event = event } ∷ past)) kept
+    → KeepsPoints (kinds_of rows) (updates_in (record { who = who; event = event } ∷ past))
+    next.points
+    → IsDeviceBank rows (moves_in (record { who = who; event = event } ∷ past)) next.devices
     → ((asked : ℕ) → after asked
     ≡ (if who == asked then association_after event past (found asked) else found asked))
-    → IsCommon rows past points found
-    → IsCommon rows (record { who = who; event = event } ∷ past) kept after
-IsCommon-after rows past points kept found after who event opened given seats s = record {
+    → IsCommon rows past plant found
+    → IsCommon rows (record { who = who; event = event } ∷ past) next after
+IsCommon-after rows past plant next found after who event opened given stand seats s = record {
   lawful = s.lawful;
   kept = given;
+  devices = stand;
   seated = λ asked. seats asked ∙ rw (s.seated asked) refl;
   known = λ asked key e. by key (who == asked) (found asked) (s.known asked key)
       (sym (seats asked) ∙ e);
@@ -618,93 +656,55 @@ IsCommon-after rows past points kept found after who event opened given seats s 
         known_after (sort_of event) past before key (length rows.tables) opened known e
     by key false before known e = known e
 
-module _ (rows : CentreRows) (past : Past) (points : PointsStored) (found : ℕ → Option Key)
-    (who : ℕ) (s : IsCommon rows past points found) where
+module _ (rows : CentreRows) (past : Past) (plant : Plant) (found : ℕ → Option Key)
+    (who : ℕ) (s : IsCommon rows past plant found) (next : Plant) where
+  -- an open, a close, and an event that leaves its seat's association
   pub IsCommon-open : (peer : ℕ) (after : ℕ → Option Key) → peer < length rows.tables
+      → next.points ≡ plant.points
+      → IsDeviceBank rows (moves_in (record { who = who; event = Open peer } ∷ past)) next.devices
       → ((asked : ℕ) → after asked
       ≡ (if who == asked then Some (next_key past peer) else found asked))
-      → IsCommon rows (record { who = who; event = Open peer } ∷ past) points after
-  IsCommon-open peer after there seats =
-      IsCommon-after rows past points points found after who (Open peer)
-      (λ opener e. by opener e) s.kept seats s
+      → IsCommon rows (record { who = who; event = Open peer } ∷ past) next after
+  IsCommon-open peer after there points stand seats =
+      IsCommon-after rows past plant next found after who (Open peer) (λ opener e. by opener e)
+      (rw points s.kept) stand seats s
     where
       by : (opener : ℕ) → opening peer ≡ opening opener → opener < length rows.tables
       by opener e =
           let same : peer ≡ opener = cc in
           omega arith
 
-  pub IsCommon-close : (after : ℕ → Option Key)
+  pub IsCommon-close : (after : ℕ → Option Key) → next.points ≡ plant.points
+      → IsDeviceBank rows (moves_in (record { who = who; event = Close } ∷ past)) next.devices
       → ((asked : ℕ) → after asked ≡ (if who == asked then None else found asked))
-      → IsCommon rows (record { who = who; event = Close } ∷ past) points after
-  IsCommon-close after seats =
-      IsCommon-after rows past points points found after who Close (λ opener e. absurd cc) s.kept
-      seats s
+      → IsCommon rows (record { who = who; event = Close } ∷ past) next after
+  IsCommon-close after points stand seats =
+      IsCommon-after rows past plant next found after who Close (λ opener e. absurd cc)
+      (rw points s.kept) stand seats s
 
-  -- an event that leaves its seat's association
-  unseated : (event : EventKind)
-      → ((before : Option Key) → association_after event past before ≡ before) → (asked : ℕ)
-      → found asked
-      ≡ (if who == asked then association_after event past (found asked) else found asked)
-  unseated event same asked =
-      rw (same (found asked)) (elim (who == asked) as
+  pub IsCommon-still : (event : EventKind)
+      → ((before : Option Key) → association_after event past before ≡ before)
+      → KeepsPoints (kinds_of rows) (updates_in (record { who = who; event = event } ∷ past))
+      next.points
+      → IsDeviceBank rows (moves_in (record { who = who; event = event } ∷ past)) next.devices
+      → IsCommon rows (record { who = who; event = event } ∷ past) next found
+  IsCommon-still event same given stand =
+      IsCommon-after rows past plant next found found who event
+      (λ opener e. absurd (none-some (next_key past opener)
+      (sym (sym (ap (λ (sort : EventSort). association_by sort past None) e) ∙ same None))))
+      given stand
+      (λ asked. rw (same (found asked)) (elim (who == asked) as
       (λ b. found asked ≡ (if b then found asked else found asked))
-      [ true ↦ refl | false ↦ refl ])
+      [ true ↦ refl | false ↦ refl ])) s
 
-  pub IsCommon-request : (event : EventKind) → IsRequest event
-      → IsCommon rows (record { who = who; event = event } ∷ past) points found
-  IsCommon-request (Open peer) request = absurd request
-  IsCommon-request (Request call) request =
-      IsCommon-after rows past points points found found who (Request call) (λ opener e. absurd cc)
-      s.kept (unseated (Request call) (λ before. refl)) s
-  IsCommon-request Take request = absurd request
-  IsCommon-request Close request = absurd request
-  IsCommon-request (Update point value) request = absurd request
-  IsCommon-request (Choice peer variant) request = absurd request
-  IsCommon-request (Tick now) request = absurd request
-  IsCommon-request (Ask asker slot) request = absurd request
-  IsCommon-request Stop request = absurd request
-
-  pub IsCommon-take : IsCommon rows (record { who = who; event = Take } ∷ past) points found
-  IsCommon-take =
-      IsCommon-after rows past points points found found who Take (λ opener e. absurd cc)
-      s.kept (unseated Take (λ before. refl)) s
-
-  pub IsCommon-chosen : (peer variant : ℕ)
-      → IsCommon rows (record { who = who; event = Choice peer variant } ∷ past) points found
-  IsCommon-chosen peer variant =
-      IsCommon-after rows past points points found found who (Choice peer variant)
-      (λ opener e. absurd cc) s.kept (unseated (Choice peer variant) (λ before. refl)) s
-
-  pub IsCommon-update : (point : ℕ) (value : Sample) (kept : PointsStored)
-      → KeepsPoints (kinds_of rows) (record { point = point; value = value } ∷ updates_in past) kept
-      → IsCommon rows (record { who = who; event = Update point value } ∷ past) kept found
-  IsCommon-update point value kept given =
-      IsCommon-after rows past points kept found found who (Update point value)
-      (λ opener e. absurd cc) given (unseated (Update point value) (λ before. refl)) s
-
-  pub IsCommon-tick : (now : ℕ)
-      → IsCommon rows (record { who = who; event = Tick now } ∷ past) points found
-  IsCommon-tick now =
-      IsCommon-after rows past points points found found who (Tick now)
-      (λ opener e. absurd cc) s.kept (unseated (Tick now) (λ before. refl)) s
-
-  pub IsCommon-ask : (peer slot : ℕ)
-      → IsCommon rows (record { who = who; event = Ask peer slot } ∷ past) points found
-  IsCommon-ask peer slot =
-      IsCommon-after rows past points points found found who (Ask peer slot)
-      (λ opener e. absurd cc) s.kept (unseated (Ask peer slot) (λ before. refl)) s
-
-  pub IsCommon-stop : IsCommon rows (record { who = who; event = Stop } ∷ past) points found
-  IsCommon-stop =
-      IsCommon-after rows past points points found found who Stop (λ opener e. absurd cc)
-      s.kept (unseated Stop (λ before. refl)) s
-
-pub IsCommon-new : (rows : CentreRows) (points : PointsStored) (found : ℕ → Option Key)
-    → IsCentre rows → KeepsPoints (kinds_of rows) [] points → ((who : ℕ) → found who ≡ None)
-    → IsCommon rows [] points found
-IsCommon-new rows points found lawful kept none = record {
+pub IsCommon-new : (rows : CentreRows) (plant : Plant) (found : ℕ → Option Key)
+    → IsCentre rows → KeepsPoints (kinds_of rows) [] plant.points
+    → IsDeviceBank rows [] plant.devices → ((who : ℕ) → found who ≡ None)
+    → IsCommon rows [] plant found
+IsCommon-new rows plant found lawful kept stand none = record {
   lawful = lawful;
   kept = kept;
+  devices = stand;
   seated = none;
   known = λ who key e. absurd (none-some key (sym (none who) ∙ e));
 }
@@ -752,6 +752,8 @@ counts_open-le-one (Update point value) peer = omega arith
 counts_open-le-one (Choice chooser variant) peer = omega arith
 counts_open-le-one (Tick now) peer = omega arith
 counts_open-le-one (Ask asker slot) peer = omega arith
+counts_open-le-one (events.Tag device tag) peer = omega arith
+counts_open-le-one TakeOrders peer = omega arith
 counts_open-le-one Stop peer = omega arith
 
 -- no peer has opened more associations than the history has entries

@@ -1,27 +1,33 @@
 -- What a peer's view of a history has of a point that its tables name: what the whole history has.
-use Rattle.std.proofs.Common.{◌≡◌, ◌==◌, ℕ, Bool, true, false, List, [], ◌∷◌, Some}
-use Rattle.std.proofs.Common.{None, bytes_eq, ◌<◌, length, refl, sym, ap, subst, ◌∙◌, arith}
+use Rattle.std.proofs.Common.{◌≡◌, ◌==◌, ℕ, Bool, true, false, List, [], ◌∷◌, Option, Some}
+use Rattle.std.proofs.Common.{None, is_some, bytes_eq, ◌<◌, length, refl, sym, ap, subst, ◌∙◌, arith}
 use Rattle.std.specs.Prelude.{if◌then◌else◌}
 use Rattle.std.specs.List.{cons_option}
 use Rattle.std.proofs.lemmas.Bool.{false≢true, false_from_ne_true, eqb-true}
 use Rattle.std.proofs.lemmas.List.{length-map}
 use Rattle.tase_points.specs.Sample.{Sample}
 use Rattle.bilateral.specs.declared.rows.PointRow.{PointRow}
-use Rattle.bilateral.specs.Rows.{CentreRows, IsCentre, point_of, variants_of}
+use Rattle.bilateral.specs.Rows.{CentreRows, IsCentre, point_of, device_of, variants_of}
 use Rattle.tase_views.specs.declared.event.EventKind.{EventKind}
 use Rattle.tase_views.specs.declared.event.EventKind.TheVariants.{Open, Request, Take, Close}
-use Rattle.tase_views.specs.declared.event.EventKind.TheVariants.{Update, Table, Tick, Ask, Stop}
+use Rattle.tase_views.specs.declared.event.EventKind.TheVariants.{Update, Table, Tag, Tick, Ask}
+use Rattle.tase_views.specs.declared.event.EventKind.TheVariants.{TakeOrders, Stop}
 use Rattle.tase_views.specs.History.{Past, association_in, next_key}
 use Rattle.tase_views.specs.OwnTables.{OwnTable, own_table, own_tables, table_in, is_point_of}
+use Rattle.tase_views.specs.OwnTables.{device_named}
 use Rattle.tase_views.specs.Moves.{Act, opens, takes, closes, acts_of_call}
-use Rattle.tase_views.specs.View.{updated, chose, View, moves_in, view_of, held, asked}
+use Rattle.tase_views.specs.View.{updated, tagged, chose, View, moves_in, view_of, held, asked}
 use Rattle.tase_views.specs.Values.{values_in}
 use Rattle.point_db.specs.Updates.{values_given}
-use Rattle.point_db.specs.Stored.{Stored as PointsStored, Keeps as KeepsPoints}
-use Rattle.node_core.specs.LastValues.{kinds_of, updates_in}
+use Rattle.sbo_device.specs.declared.key.Key.{Key}
+use Rattle.node_devices.specs.DeviceBanks.{row_control}
+use Rattle.node_devices.proofs.DevicesShown.{devices_seen}
+use Rattle.node_core.specs.LastValues.{updates_in}
 use Rattle.node_core.specs.Found.{IsThere, table_at, offered}
 use Rattle.node_core.specs.declared.peer.Peer.{Peer}
+use Rattle.node_core.specs.declared.plant.Plant.{Plant}
 use Rattle.node_core.specs.PeerParts.{IsPart}
+use Rattle.node_core.specs.Stored.{IsCommon}
 use Rattle.node_core.specs.Shown.{IsShown, IsShowable, shown_of}
 use Rattle.node_core.proofs.Known.{point_is_there, bytes_eq-names, offered-at, named_by_variant}
 use Rattle.node_core.proofs.Known.{variant_is_lawful}
@@ -100,6 +106,13 @@ module _ (rows : CentreRows) (peer p : ℕ) (lawful : IsCentre rows)
       (λ b. values_in (cons_option (if b then Some (asked slot) else None)
       (view_of rows peer past)) (point_of rows p).name ≡ values_given (updates_in past) p)
       [ true ↦ shown | false ↦ shown ]
+  values_behind past who (Tag device tag) shown =
+      elim (is_some (device_named (own_tables rows peer) (device_of rows device).name)) as
+      (λ b. values_in (cons_option (if b then Some (tagged (device_of rows device).name tag)
+      else None) (view_of rows peer past)) (point_of rows p).name
+      ≡ values_given (updates_in past) p)
+      [ true ↦ shown | false ↦ shown ]
+  values_behind past who TakeOrders shown = shown
   values_behind past who (Update q new) shown =
       values_in-update (view_of rows peer past) (point_of rows p).name (point_of rows q).name new
       (values_given (updates_in past) p) (is_point_of rows peer q) (q == p)
@@ -115,10 +128,10 @@ module _ (rows : CentreRows) (peer p : ℕ) (lawful : IsCentre rows)
   values_in-view_of (entry ∷ past) =
       values_behind past entry.who entry.event (values_in-view_of past)
 
-module _ (rows : CentreRows) (past : Past) (peer : ℕ) (part : Peer) (points : PointsStored)
-    (lawful : IsCentre rows) (known : peer < length rows.tables)
+module _ (rows : CentreRows) (past : Past) (peer : ℕ) (part : Peer) (plant : Plant)
+    (found : ℕ → Option Key) (known : peer < length rows.tables)
     (p : IsPart (own_tables rows peer) (view_of rows peer past) part)
-    (kept : KeepsPoints (kinds_of rows) (updates_in past) points) where
+    (s : IsCommon rows past plant found) where
   there : part.variant < length (variants_of rows peer)
   there = omega (arith, p.force_there, length-map (variants_of rows peer) (own_table rows))
 
@@ -129,25 +142,27 @@ module _ (rows : CentreRows) (past : Past) (peer : ℕ) (part : Peer) (points : 
 
   -- its table is there
   pub IsThere-of : IsThere rows peer part.variant
-  IsThere-of = record { lawful = lawful; known = known; there = there }
+  IsThere-of = record { lawful = s.lawful; known = known; there = there }
 
   -- what a node shows a peer by what it keeps is what the peer's view has
   pub IsShown-of : IsShown (updates_in past) (own_tables rows peer) (view_of rows peer past)
-      (shown_of rows peer part points)
+      (shown_of rows peer part plant)
   IsShown-of = record {
     table = in_force;
     book = p.sets;
     slots = p.slots;
-    kept = kept;
-    values = λ point seen. values_in-view_of rows peer point lawful
+    kept = s.kept;
+    values = λ point seen. values_in-view_of rows peer point s.lawful
         (named_by_variant rows peer part.variant point there seen) past;
+    devices = devices_seen rows past peer part.variant plant.devices s.lawful there s.devices;
   }
 
-  pub IsShowable-of : IsShowable (shown_of rows peer part points)
+  pub IsShowable-of : IsShowable (shown_of rows peer part plant)
   IsShowable-of =
       let limit = ap (λ (t : OwnTable). t.sets) in_force in
       record {
-        points = kept.points ∙ length-map rows.points (λ (row : PointRow). row.kind);
+        points = s.kept.points ∙ length-map rows.points (λ (row : PointRow). row.kind);
+        devices = s.devices.devices.many ∙ length-map rows.devices row_control;
         named = p.sets.named;
         few = omega (
           arith,

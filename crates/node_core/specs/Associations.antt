@@ -1,7 +1,8 @@
 -- The open associations of a peer, with the reports that they haven't taken.
-use Rattle.std.specs.Prelude.{ℕ, ◌==◌, not, if◌then◌else◌, Bool, List, [], ◌∷◌, ◌++◌, filter}
-use Rattle.std.specs.Prelude.{slice_index_or}
+use Rattle.std.specs.Prelude.{ℕ, ◌==◌, not, if◌then◌else◌, Bool, List, [], ◌++◌, filter}
+use Rattle.std.specs.Prelude.{slice_index_or, find}
 use Rattle.std.specs.List.{list_any}
+use Rattle.std.specs.Option.{option_map_or}
 use Rattle.tase_views.specs.declared.reply.ReportKind.{ReportKind}
 
 -- an association, by its ordinal; the reports that were made for it since its last take, the oldest
@@ -36,12 +37,13 @@ undrafted a = record a { drafted = [] }
 abbrev pub with_drafted : OpenAssociation → OpenAssociation
 with_drafted a = record a { made = a.made ++ a.drafted; drafted = [] }
 
--- behind a take of the association with this ordinal, and what it is given
+-- the reports that were made for the association with this ordinal, where it is open
+abbrev pub made_for : ℕ → List OpenAssociation → List ReportKind
+made_for ordinal those =
+    option_map_or (λ (a : OpenAssociation). a.made)
+    (find (λ (a : OpenAssociation). a.ordinal == ordinal) those) []
+
+-- behind a take of the association with this ordinal
 abbrev pub behind_take : ℕ → OpenAssociation → OpenAssociation
 behind_take ordinal a =
     if a.ordinal == ordinal then record a { made = []; drafted = [] } else a
-
-abbrev pub made_last : ℕ → List OpenAssociation → List ReportKind → List ReportKind
-made_last ordinal [] made = made
-made_last ordinal (a ∷ those) made =
-    made_last ordinal those (if a.ordinal == ordinal then a.made else made)

@@ -1,18 +1,20 @@
 -- What names stand for by the table of a peer that is in force.
-use Rattle.std.specs.Prelude.{◌≡◌, ℕ, ◌<◌, ◌&&◌, true, List, ◌++◌, length, flat_map, find, Option}
-use Rattle.std.specs.Prelude.{bytes_eq, is_some}
+use Rattle.std.specs.Prelude.{◌≡◌, ℕ, ◌<◌, ◌&&◌, true, false, List, ◌++◌, length, flat_map, find}
+use Rattle.std.specs.Prelude.{Option, Contains, bytes_eq, is_some}
 use Rattle.std.specs.List.{range_with_len}
 use Rattle.mms_data.specs.Datum.{text}
 use Rattle.mms_data.specs.ObjectName.{ObjectName}
 use Rattle.bilateral.specs.declared.rows.See.{See}
 use Rattle.bilateral.specs.declared.rows.Table.{Table}
-use Rattle.bilateral.specs.Rows.{CentreRows, IsCentre, variants_of, variant_of, point_of}
+use Rattle.bilateral.specs.Rows.{CentreRows, IsCentre, variants_of, variant_of, point_of, device_of}
 use Rattle.bilateral.specs.Rows.{place_of_see}
-use Rattle.tase_views.specs.OwnTables.{OwnPoint, OwnTable, own_point, own_table, is_scope_of}
+use Rattle.tase_views.specs.OwnTables.{OwnPoint, OwnDevice, OwnTable, own_point, own_device}
+use Rattle.tase_views.specs.OwnTables.{own_table, is_scope_of}
 use Rattle.tase_views.specs.Objects.{Object, constant, report_variable, indication_point, set_name}
 use Rattle.tase_views.specs.Objects.{next_transfer_set, transfer_set, transfer_set_status}
 use Rattle.tase_views.specs.Objects.{time_stamp, conditions_detected, event_code, version, features}
-use Rattle.tase_views.specs.Objects.{NamedObject, next_objects, objects_of_slot}
+use Rattle.tase_views.specs.Objects.{control_point, selection, device_tag, timeout, NamedObject}
+use Rattle.tase_views.specs.Objects.{next_objects, objects_of_device, objects_of_slot}
 use Rattle.node_core.specs.declared.naming.Special.{Special}
 use Rattle.node_core.specs.declared.naming.Special.TheVariants as specials
 use Rattle.node_core.specs.declared.naming.Found.{Found}
@@ -46,9 +48,18 @@ abbrev pub point_named : OwnTable → ObjectName → Option OwnPoint
 point_named table name =
     find (λ p. is_scope_of table name.scope p.vmd && bytes_eq p.name name.item) table.points
 
--- the next transfer set, and each of so many transfer sets with its status
-abbrev pub transfer_objects : ℕ → List NamedObject
-transfer_objects slots = next_objects slots ++ flat_map objects_of_slot (range_with_len 0 slots)
+-- the objects of devices of a table, in its order; of so many transfer sets, each with its status
+abbrev pub device_objects : List OwnDevice → List NamedObject
+device_objects devices = flat_map objects_of_device devices
+
+abbrev pub slot_objects : ℕ → List NamedObject
+slot_objects slots = flat_map objects_of_slot (range_with_len 0 slots)
+
+-- those that a table has in its domain, but for the protocol's own and points: of the next transfer
+-- set, of its devices, of its transfer sets
+abbrev pub domain_objects : OwnTable → List NamedObject
+domain_objects table =
+    next_objects table.slots ++ device_objects table.devices ++ slot_objects table.slots
 
 -- the object that an object of the protocol itself is for a peer with this table
 abbrev pub special_object : OwnTable → Special → Object
@@ -66,12 +77,23 @@ object_found t (found.Special special) = special_object (offered t) special
 object_found t found.NextSlot = next_transfer_set
 object_found t (found.Slot slot) = transfer_set slot
 object_found t (found.SlotStatus slot) = transfer_set_status slot
+object_found t (found.ControlPoint control) = control_point (own_device t.rows control.now)
+object_found t (found.Selection control) = selection (own_device t.rows control.now)
+object_found t (found.DeviceTag control) = device_tag (own_device t.rows control.now)
+object_found t (found.Timeout control) = timeout (own_device t.rows control.now)
 object_found t (found.Point see) = indication_point (own_point t.rows see.now)
 
--- a row and a transfer set that were found are the table's
-abbrev pub IsOfTable : Table → Found → Type 0
-IsOfTable table (found.Special special) = Unit {0}
-IsOfTable table found.NextSlot = Unit {0}
-IsOfTable table (found.Slot slot) = slot < table.slots
-IsOfTable table (found.SlotStatus slot) = slot < table.slots
-IsOfTable table (found.Point see) = is_some (place_of_see table see.now.point) ≡ true
+-- a row and a transfer set that were found are the table's; a device that has a selection isn't
+-- direct
+abbrev pub IsOfTable : TableInForce → Found → Type 0
+IsOfTable t (found.Special special) = Unit {0}
+IsOfTable t found.NextSlot = Unit {0}
+IsOfTable t (found.Slot slot) = slot < t.table.slots
+IsOfTable t (found.SlotStatus slot) = slot < t.table.slots
+IsOfTable t (found.ControlPoint control) = Contains t.table.controls control.now
+IsOfTable t (found.Selection control) =
+    Contains t.table.controls control.now
+    × ((device_of t.rows control.now.device).direct ≡ false)
+IsOfTable t (found.DeviceTag control) = Contains t.table.controls control.now
+IsOfTable t (found.Timeout control) = Contains t.table.controls control.now
+IsOfTable t (found.Point see) = is_some (place_of_see t.table see.now.point) ≡ true

@@ -3,6 +3,7 @@ pub mod LastValues
 pub mod SetsKept
 pub mod SlotsKept
 pub mod SlotWrites
+pub mod DeviceWrites
 pub mod SlotFeeds
 pub mod Associations
 pub mod Found

@@ -3,7 +3,6 @@
 use Rattle.std.specs.Prelude.{◌≡◌, ◌≢◌, ℕ, List, length, map, Some, slice_get}
 use Rattle.std.specs.List.{All}
 use Rattle.tase_points.specs.Sample.{Sample}
-use Rattle.point_db.specs.Stored.{Stored as PointsStored}
 use Rattle.bilateral.specs.Rows.{CentreRows, point_of}
 use Rattle.data_sets.specs.Books.{Book}
 use Rattle.transfer_sets.specs.Banks.{HasMoreRoom}
@@ -12,6 +11,7 @@ use Rattle.tase_views.specs.View.{moment_in}
 use Rattle.tase_views.specs.Reports.{reports_by}
 use Rattle.node_core.specs.declared.cause.ReportCause.{ReportCause}
 use Rattle.node_core.specs.declared.peer.Peer.{Peer}
+use Rattle.node_core.specs.declared.plant.Plant.{Plant}
 use Rattle.node_core.specs.Associations.{OpenAssociation, undrafted, with_drafted}
 use Rattle.node_core.specs.Found.{offered, table_at}
 use Rattle.node_core.specs.Shown.{InEachView, shown_of}
@@ -31,9 +31,9 @@ pub record IsAlike (old new : Peer) : Type 0 where
   pub slots : HasMoreRoom old.slots new.slots
 
 -- for each association the reports are drafted that a cause makes, by what the peer is shown
-abbrev pub IsDrafted : CentreRows → ℕ → PointsStored → ReportCause → Peer → Type 0
-IsDrafted rows peer points cause part =
-    All (λ (a : OpenAssociation). InEachView (shown_of rows peer part points)
+abbrev pub IsDrafted : CentreRows → ℕ → Plant → ReportCause → Peer → Type 0
+IsDrafted rows peer plant cause part =
+    All (λ (a : OpenAssociation). InEachView (shown_of rows peer part plant)
     (λ tables view. moment_in view ≡ moment_before cause
     → a.drafted ≡ reports_by tables view a.ordinal (move_of cause))) part.associations
 

@@ -6,6 +6,7 @@ use Rattle.point_db.specs.Updates.{Updates, values_given}
 use Rattle.point_db.specs.Stored.{Stored as PointsStored, Keeps as KeepsPoints}
 use Rattle.data_sets.specs.Books.{Book}
 use Rattle.transfer_sets.specs.Banks.{OwnedSlot}
+use Rattle.sbo_device.specs.Banks.{DeviceRecord}
 use Rattle.bilateral.specs.declared.rows.TheConstants.{SLOT_LIMIT}
 use Rattle.bilateral.specs.Rows.{CentreRows, point_of, place_of_see}
 use Rattle.tase_views.specs.declared.call.CallKind.{CallKind}
@@ -14,37 +15,50 @@ use Rattle.tase_views.specs.OwnTables.{OwnTables}
 use Rattle.tase_views.specs.View.{View, held}
 use Rattle.tase_views.specs.Values.{values_in}
 use Rattle.node_core.specs.LastValues.{kinds_of}
+use Rattle.node_devices.specs.DevicesSeen.{AreDevicesSeen}
 use Rattle.node_core.specs.declared.peer.Peer.{Peer}
+use Rattle.node_core.specs.declared.plant.Plant.{Plant}
 use Rattle.node_core.specs.Found.{TableInForce, offered, table_at}
 use Rattle.node_core.specs.SetsKept.{IsBook}
 use Rattle.node_core.specs.SlotsKept.{IsBank}
 
--- a peer's table in force, its data sets, its transfer sets, and the points
+-- a peer by its number, its table in force, its data sets, its transfer sets, and the points and
+-- devices of the centre
 pub record Shown : Type 0 where
+  pub peer : ℕ
   pub table : TableInForce
   pub book : Book
   pub slots : List OwnedSlot
   pub points : PointsStored
+  pub devices : List DeviceRecord
 
--- what is shown by what a node keeps of a peer
-abbrev pub shown_of : CentreRows → ℕ → Peer → PointsStored → Shown
-shown_of rows peer part points =
+abbrev pub shown_by : ℕ → TableInForce → Book → List OwnedSlot → Plant → Shown
+shown_by peer table book slots plant =
     record {
-      table = table_at rows peer part.variant;
-      book = part.book;
-      slots = part.slots;
-      points = points;
+      peer = peer;
+      table = table;
+      book = book;
+      slots = slots;
+      points = plant.points;
+      devices = plant.devices.devices;
     }
 
--- whatever came before, each point of the centre has a value, data sets have identifiers, a number
--- of 32 bits counts them, and there is a transfer set for each that a table may offer
+-- what is shown by what a node keeps of a peer
+abbrev pub shown_of : CentreRows → ℕ → Peer → Plant → Shown
+shown_of rows peer part plant =
+    shown_by peer (table_at rows peer part.variant) part.book part.slots plant
+
+-- whatever came before, each point of the centre has a value, each device stands, data sets have
+-- identifiers, a number of 32 bits counts them, and there is a transfer set for each that a table
+-- may offer
 pub record IsShowable (shown : Shown) : Type 0 where
   pub points : length shown.points.values ≡ length shown.table.rows.points
+  pub devices : length shown.devices ≡ length shown.table.rows.devices
   pub named : All (λ set. IsIdentifier set.name) shown.book.sets
   pub few : length shown.book.sets < 2 ^ 32
   pub slots : length shown.slots ≡ SLOT_LIMIT
 
--- it is what the view of a peer with these tables has, behind these updates of points
+-- it is what the view of the peer, which has these tables, has behind these updates of points
 pub record IsShown (updates : Updates) (tables : OwnTables) (view : View) (shown : Shown) : Type 0
   where
     pub table : offered shown.table ≡ held tables view
@@ -53,6 +67,8 @@ pub record IsShown (updates : Updates) (tables : OwnTables) (view : View) (shown
     pub kept : KeepsPoints (kinds_of shown.table.rows) updates shown.points
     pub values : (p : ℕ) → is_some (place_of_see shown.table.table p) ≡ true
         → values_in view (point_of shown.table.rows p).name ≡ values_given updates p
+    pub devices : AreDevicesSeen shown.table.rows tables view shown.peer shown.table.table
+        shown.devices
 
 -- whatever view has what is shown
 abbrev pub InEachView : Shown → (OwnTables → View → Type 0) → Type 0

@@ -2,33 +2,39 @@
 use Rattle.std.specs.Prelude.{◌≡◌, ℕ, ◌+◌, ◌^◌, ◌<◌, ◌≤◌, List, length, Option, Some, slice_get}
 use Rattle.std.specs.Prelude.{slice_set, nat_eq, true}
 use Rattle.std.specs.HashMap.{get}
-use Rattle.point_db.specs.Stored.{Stored as PointsStored, Keeps as KeepsPoints}
+use Rattle.point_db.specs.Stored.{Keeps as KeepsPoints}
 use Rattle.bilateral.specs.declared.rows.TheConstants.{SLOT_LIMIT}
 use Rattle.bilateral.specs.Rows.{CentreRows, IsCentre, variants_of}
 use Rattle.data_sets.specs.Books.{Book}
 use Rattle.sbo_device.specs.declared.key.Key.{Key}
+use Rattle.sbo_device.specs.declared.device.TheConstants.{MOMENT_LIMIT}
 use Rattle.tase_views.specs.declared.event.EventKind.{EventKind}
 use Rattle.tase_views.specs.declared.event.EventKind.TheVariants.{Request}
+use Rattle.tase_views.specs.declared.event.EventKind.TheVariants as events
 use Rattle.tase_views.specs.declared.reply.ReplyKind.{ReplyKind}
 use Rattle.tase_views.specs.History.{Past, association_in, last_tick}
 use Rattle.tase_views.specs.OwnTables.{OwnTable, own_tables, table_in}
 use Rattle.tase_views.specs.Moves.{Act}
-use Rattle.tase_views.specs.View.{view_of}
+use Rattle.tase_views.specs.View.{moves_in, view_of}
 use Rattle.tase_views.specs.Answers.{reply_to}
+use Rattle.node_devices.specs.DeviceBanks.{IsDeviceBank}
 use Rattle.node_core.specs.declared.hub.Hub.{Hub}
 use Rattle.node_core.specs.declared.parts.Parts.{Parts}
 use Rattle.node_core.specs.declared.peer.Peer.{Peer}
+use Rattle.node_core.specs.declared.plant.Plant.{Plant}
 use Rattle.node_core.specs.LastValues.{kinds_of, updates_in}
 use Rattle.node_core.specs.Shown.{IsCalm, IsShowable, shown_of}
 use Rattle.node_core.specs.SlotFeeds.{HasPlanRoom}
 use Rattle.node_core.specs.Associations.{is_open_in}
 use Rattle.node_core.specs.PeerParts.{IsPart, part_behind}
 
--- the centre is lawful; the points, and each seat's association, are those of this past
-pub record IsCommon (rows : CentreRows) (past : Past) (points : PointsStored)
+-- the centre is lawful; the points and the devices, and each seat's association, are those of this
+-- past
+pub record IsCommon (rows : CentreRows) (past : Past) (plant : Plant)
     (found : ℕ → Option Key) : Type 0 where
   pub lawful : IsCentre rows
-  pub kept : KeepsPoints (kinds_of rows) (updates_in past) points
+  pub kept : KeepsPoints (kinds_of rows) (updates_in past) plant.points
+  pub devices : IsDeviceBank rows (moves_in past) plant.devices
   pub seated : (who : ℕ) → found who ≡ association_in past who
   pub known : (who : ℕ) (key : Key) → found who ≡ Some key → key.peer < length rows.tables
 
@@ -46,8 +52,9 @@ pub record AreParts (rows : CentreRows) (past : Past) (peers : List Peer) : Type
 
 -- what a node with this past keeps
 pub record IsNode (rows : CentreRows) (past : Past) (hub : Hub) (parts : Parts) : Type 0 where
-  pub common : IsCommon rows past hub.points (found_by hub)
+  pub common : IsCommon rows past hub.plant (found_by hub)
   pub clock : hub.last_tick ≡ last_tick past
+  pub timed : hub.last_tick < MOMENT_LIMIT
   pub peers : AreParts rows past parts.peers.items
 
 -- a peer has a table and a part, whose tables are there, with room for their transfer sets
@@ -63,12 +70,12 @@ pub record IsPeerThere (rows : CentreRows) (peers : List Peer) (peer : ℕ) : Ty
   pub slots : (part : Peer) → slice_get peers peer ≡ Some part → length part.slots ≡ SLOT_LIMIT
 
 -- a peer is there, and what is kept of it can be shown
-pub record IsPeerShown (rows : CentreRows) (points : PointsStored) (peers : List Peer)
+pub record IsPeerShown (rows : CentreRows) (plant : Plant) (peers : List Peer)
     (peer : ℕ) : Type 0 where
   pub lawful : IsCentre rows
   pub there : IsPeerThere rows peers peer
   pub shown : (part : Peer) → slice_get peers peer ≡ Some part
-      → IsShowable (shown_of rows peer part points)
+      → IsShowable (shown_of rows peer part plant)
 
 -- it has as many transfer sets as a table may offer
 pub record IsPeerBanked (peers : List Peer) (peer : ℕ) : Type 0 where
@@ -105,6 +112,11 @@ IsAsked rows now key these Said old new =
 abbrev pub IsRequest : EventKind → Type 0
 IsRequest (Request call) = Unit {0}
 IsRequest event = ⊥
+
+-- a tagging of this device
+abbrev pub IsTaggingOf : ℕ → EventKind → Type 0
+IsTaggingOf device (events.Tag tagged tag) = tagged ≡ device
+IsTaggingOf device event = ⊥
 
 -- a request that neither reads nor writes variables
 abbrev pub IsCalmRequest : EventKind → Type 0

@@ -1,9 +1,9 @@
 //! The open associations of a peer, and the reports that they haven't taken.
-ghost use Rattle.std.specs.Prelude.{◌≡◌, ◌<◌, ◌++◌, [], ◌∷◌, map, length, slice_set, IfOk, OnOk};
+ghost use Rattle.std.specs.Prelude.{◌≡◌, ◌<◌, ◌++◌, [], ◌∷◌, map, length, slice_set, OnOk};
 ghost use Rattle.std.specs.Prelude.{OnErr, ◌==◌, if◌then◌else◌};
 ghost use Rattle.node_core.specs.Associations.{new_association, association_at, open_without};
 ghost use Rattle.node_core.specs.Associations.{undrafted, drafted_by, with_drafted, behind_take};
-ghost use Rattle.node_core.specs.Associations.{made_last};
+ghost use Rattle.node_core.specs.Associations.{made_for};
 
 use std::alloc::{AllocError, Global};
 use std::marker::Model;
@@ -180,11 +180,11 @@ impl Associations {
     /// Hands the reports out that were made for an association since its last take. It takes no
     /// memory.
     pub fn take(&mut self, alloc: Global, ordinal: u64) -> Reports
-        ensures made { result ≡ made_last ordinal self.old [] }
+        ensures made { result ≡ made_for ordinal self.old }
         ensures left { self.new ≡ map (behind_take ordinal) self.old }
     {
         let mut taken = Reports::new(alloc);
-        for place in 0..self.list.len() {
+        for place in (0..self.list.len()).rev() {
             self.list[place].take_if(alloc, ordinal, &mut taken);
         }
         taken

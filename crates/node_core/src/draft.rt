@@ -50,6 +50,13 @@ impl<'a> Draft<'a> {
         }
     }
 
+    /// The association that makes the request, by its ordinal.
+    pub fn ordinal(&self) -> u64
+        ensures { result ≡ self.now.ordinal }
+    {
+        self.ordinal
+    }
+
     /// The transfer sets that were handed out, in order.
     pub fn into_handed(self) -> Vec<u32>
         ensures { result.items ≡ self.entry.handed }

@@ -1,10 +1,11 @@
 //! The table of a peer that is in force.
-ghost use Rattle.std.specs.Prelude.{◌≡◌, ◌<◌, true, length, is_some, IfSome};
+ghost use Rattle.std.specs.Prelude.{◌≡◌, ◌<◌, true, length, is_some, IfSome, Contains};
 ghost use Rattle.std.specs.Option.{option_copied};
-ghost use Rattle.bilateral.specs.Rows.{IsCentre, IsTable, point_of, place_of_see};
+ghost use Rattle.bilateral.specs.Rows.{IsCentre, IsTable, IsControlling, IsDevice, point_of};
+ghost use Rattle.bilateral.specs.Rows.{device_of, place_of_see, place_of_device};
 ghost use Rattle.node_core.specs.Found.{table_at, IsThere, row_named};
 
-use bilateral::{Centre, PointRow, See, Table};
+use bilateral::{Centre, Control, DeviceRow, PointRow, See, Table};
 use std::marker::Model;
 
 /// The table of a peer that is in force.
@@ -43,6 +44,7 @@ impl<'a> InForce<'a> {
         ensures table { result.now ≡ self.now.table }
         ensures centre { IsCentre self.now.rows }
         ensures lawful { IsTable (length self.now.rows.points) self.now.table }
+        ensures controls { IsControlling (length self.now.rows.devices) self.now.table }
     {
         self.centre.variant(self.peer, self.variant)
     }
@@ -53,6 +55,22 @@ impl<'a> InForce<'a> {
         ensures { result.now ≡ point_of self.now.rows point }
     {
         self.centre.point(point)
+    }
+
+    /// The device of a row of the table.
+    pub fn device(&self, control: &Control) -> &'a DeviceRow
+        requires { Contains self.now.table.controls control.now }
+        ensures row { result.now ≡ device_of self.now.rows control.now.device }
+        ensures lawful { IsDevice result.now }
+    {
+        self.centre.device(control.device)
+    }
+
+    /// Whether a device of the centre has this name.
+    pub fn is_device(&self, name: &[u8]) -> bool
+        ensures { result ≡ is_some (place_of_device self.now.rows name.now) }
+    {
+        self.centre.find_device(name).is_some()
     }
 
     /// The table's row for the point with this name.

@@ -3,6 +3,7 @@
 
 mod associations;
 mod cause;
+mod device_acts;
 mod draft;
 mod hub;
 mod in_force;
@@ -13,11 +14,13 @@ mod node;
 mod parts;
 mod peer;
 mod plan;
+mod plant;
 mod refusals;
 mod replies;
 mod reports;
 mod sets;
 mod sorts;
+mod timeouts;
 mod writes;
 
 pub use node::Node;

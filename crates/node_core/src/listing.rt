@@ -1,25 +1,27 @@
 //! Lists of names.
 ghost use Rattle.std.specs.Prelude.{◌≡◌, ◌<◌, ◌&&◌, true, false, length, map, filter, Some, None};
 ghost use Rattle.std.specs.Prelude.{if◌then◌else◌, IfOk, not, option_map, [], ◌∷◌, ◌++◌, OnOk};
-ghost use Rattle.std.specs.Prelude.{◌≤◌, flat_map};
-ghost use Rattle.std.specs.List.{All, range_with_len};
+ghost use Rattle.std.specs.Prelude.{◌≤◌, Bool};
+ghost use Rattle.std.specs.List.{All};
 ghost use Rattle.std.specs.Ordering.{int_eq};
+ghost use Rattle.ber_values.specs.Visible.{IsVisible};
 ghost use Rattle.mms_data.specs.ObjectName.{IsIdentifier};
 ghost use Rattle.bilateral.specs.declared.rows.TheConstants.{SLOT_LIMIT};
+ghost use Rattle.bilateral.specs.Rows.{IsDevice};
 ghost use Rattle.tase_views.specs.OwnTables.{OwnTable, OwnTables, own_point, is_scope_of};
 ghost use Rattle.tase_views.specs.Objects.{objects, special_objects, report_variables};
-ghost use Rattle.tase_views.specs.Objects.{objects_of_slot};
+ghost use Rattle.tase_views.specs.Objects.{objects_of_device};
 ghost use Rattle.tase_views.specs.View.{View, held};
 ghost use Rattle.tase_views.specs.Answers.{set_names};
 ghost use Rattle.tase_views.specs.NameLists as lists;
 ghost use Rattle.tase_views.specs.Replies.{IsReply};
-ghost use Rattle.node_core.specs.Found.{offered, transfer_objects};
+ghost use Rattle.node_core.specs.Found.{offered, device_objects, slot_objects, domain_objects};
 ghost use Rattle.node_core.specs.SetsKept.{IsBook};
 
 use crate::in_force::InForce;
 use crate::naming::{is_found_in, slot_item, slot_status_item};
 use ber_values::Visible;
-use bilateral::See;
+use bilateral::{DeviceRow, See};
 use data_sets::SetBook;
 use mms_data::Scope;
 use std::alloc::{AllocError, Global};
@@ -53,7 +55,8 @@ pub fn list_names(
         });
     }
     if is_class(class, NAMED_VARIABLES) {
-        let mut names = variables(alloc, table, scope, after)?;
+        let of_devices = device_names(alloc, table)?;
+        let mut names = variables(alloc, table, &of_devices, scope, after)?;
         return first_of(alloc, names.as_mut_slice());
     }
     if is_class(class, DOMAINS) && is_vmd(scope) {
@@ -211,24 +214,85 @@ fn push_report_variables<'a>(
     Ok(())
 }
 
-/// Appends the names of a table's transfer sets in a scope that stand in a list.
-fn push_transfers<'a>(
+/// The names of the objects of a table's devices, in its order.
+fn device_names(alloc: Global, table: &InForce<'_>) -> Result<ObjectNames, AllocError>
+    ensures { IfOk result (λ names. names
+        ≡ map (λ o. o.item) (device_objects (offered table.now).devices)) }
+{
+    let mut names = ObjectNames::new(alloc);
+    for control in table.table().controls.as_slice() {
+        let row = table.device(control);
+        push_device_names(alloc, &mut names, row)?;
+    }
+    Ok(names)
+}
+
+/// Appends the names of the objects of a device.
+fn push_device_names(
+    alloc: Global,
+    names: &mut ObjectNames,
+    row: &DeviceRow,
+) -> Result<(), AllocError>
+    requires { IsDevice row.now }
+    ensures { OnOk result ((tag : Bool) → names.new ≡ names.old ++ map (λ o. o.item)
+        (objects_of_device (record { row = row.now; tag = tag }))) }
+{
+    names.push(name_with(alloc, &row.name, b"")?)?;
+    names.push(name_with(alloc, &row.name, b"_TAG")?)?;
+    if row.direct {
+        return Ok(());
+    }
+    names.push(name_with(alloc, &row.name, b"_SBO")?)?;
+    names.push(name_with(alloc, &row.name, b"_TIMEOUT")?)?;
+    Ok(())
+}
+
+/// A device's name with an end.
+pub fn name_with(alloc: Global, name: &Visible, end: &[u8]) -> Result<Visible, AllocError>
+    requires { IsVisible (name.now ++ end.now) }
+    ensures { IfOk result (λ joined. joined ≡ name.now ++ end.now) }
+{
+    let mut octets = Vec::from_slice(alloc, name.as_slice())?;
+    octets.extend_from_slice(end)?;
+    Ok(Visible::new(octets))
+}
+
+/// Appends the names in a table's domain that stand in a list, where the scope is its domain: that
+/// of the next transfer set, these of its devices, those of its transfer sets.
+fn push_domain<'a>(
     names: &mut Vec<&'a [u8]>,
     table: &InForce<'_>,
+    of_devices: &'a ObjectNames,
     scope: &Scope,
     after: &Option<Visible>,
 ) -> Result<(), AllocError>
+    requires { of_devices.now ≡ map (λ o. o.item) (device_objects (offered table.now).devices) }
     ensures { OnOk result (map (λ name. name.now) names.new.items
         ≡ map (λ name. name.now) names.old.items ++ filter (lists.is_after after.now)
-        (lists.variables_in (offered table.now) (transfer_objects table.now.table.slots)
-        scope.now)) }
+        (lists.variables_in (offered table.now) (domain_objects (offered table.now)) scope.now)) }
 {
     let own = table.table();
     if !is_found_in(&own.domain, scope, false) {
         return Ok(());
     }
     push_after(names, after, b"Next_DSTransfer_Set")?;
+    push_names(names, of_devices, after)?;
     push_slots(names, own.slots, after)?;
+    Ok(())
+}
+
+/// Appends those of some names that stand in a list.
+fn push_names<'a>(
+    names: &mut Vec<&'a [u8]>,
+    more: &'a ObjectNames,
+    after: &Option<Visible>,
+) -> Result<(), AllocError>
+    ensures { OnOk result (map (λ name. name.now) names.new.items
+        ≡ map (λ name. name.now) names.old.items ++ filter (lists.is_after after.now) more.now) }
+{
+    for name in more.as_slice() {
+        push_after(names, after, name.as_slice())?;
+    }
     Ok(())
 }
 
@@ -241,7 +305,7 @@ fn push_slots<'a>(
     requires { slots ≤ SLOT_LIMIT }
     ensures { OnOk result (map (λ name. name.now) names.new.items
         ≡ map (λ name. name.now) names.old.items ++ filter (lists.is_after after.now)
-        (map (λ o. o.item) (flat_map objects_of_slot (range_with_len 0 slots)))) }
+        (map (λ o. o.item) (slot_objects slots))) }
 {
     for slot in 0..slots {
         push_after(names, after, slot_item(slot))?;
@@ -268,20 +332,22 @@ fn push_after<'a>(
 }
 
 /// The names of the variables that there are for a peer in a scope that stand in a list: those of
-/// the protocol itself, of the peer's transfer sets and of its points.
-fn variables<'a>(
+/// the protocol itself, of the peer's devices, of its transfer sets and of its points.
+fn variables<'a: 'n, 'n>(
     alloc: Global,
     table: &InForce<'a>,
+    of_devices: &'n ObjectNames,
     scope: &Scope,
     after: &Option<Visible>,
-) -> Result<Vec<&'a [u8]>, AllocError>
+) -> Result<Vec<&'n [u8]>, AllocError>
+    requires { of_devices.now ≡ map (λ o. o.item) (device_objects (offered table.now).devices) }
     ensures { IfOk result (λ names. map (λ name. name.now) names.items
         ≡ filter (lists.is_after after.now)
         (lists.variables_in (offered table.now) (objects (offered table.now)) scope.now)) }
 {
     let own = table.table();
     let mut names = specials(alloc, &own.domain, scope, after)?;
-    push_transfers(&mut names, table, scope, after)?;
+    push_domain(&mut names, table, of_devices, scope, after)?;
     for see in own.sees.as_slice() {
         if let Some(name) = listed_name(table, scope, after, see) {
             names.push(name)?;

@@ -1,19 +1,22 @@
 //! What names stand for.
-ghost use Rattle.std.specs.Prelude.{◌≡◌, ◌<◌, ◌≤◌, ◌&&◌, not, Some, true, is_some, IfSome};
-ghost use Rattle.std.specs.Prelude.{option_map, find, flat_map, bytes_eq, codes, ◌++◌};
-ghost use Rattle.std.specs.List.{range_with_len};
-ghost use Rattle.bilateral.specs.declared.rows.Table.{Table};
+ghost use Rattle.std.specs.Prelude.{◌≡◌, ◌<◌, ◌≤◌, ◌&&◌, ◌||◌, not, Some, None, true, false};
+ghost use Rattle.std.specs.Prelude.{is_some, IfSome, option_map, find, bytes_eq, codes, ◌++◌};
+ghost use Rattle.std.specs.Prelude.{Contains, length, nat_eq};
+ghost use Rattle.std.specs.List.{ends_with};
+ghost use Rattle.bilateral.specs.declared.rows.Control.{Control as ControlRow};
 ghost use Rattle.bilateral.specs.declared.rows.TheConstants.{SLOT_LIMIT};
 ghost use Rattle.bilateral.specs.Rows.{place_of_see};
-ghost use Rattle.tase_views.specs.OwnTables.{OwnTable, own_point, is_scope_of};
+ghost use Rattle.tase_views.specs.OwnTables.{OwnTable, own_point, own_device, is_scope_of};
 ghost use Rattle.tase_views.specs.Objects.{object_named, special_objects, is_named};
+ghost use Rattle.tase_views.specs.Objects.{objects_of_device};
 ghost use Rattle.tase_views.specs.Objects as objects;
 ghost use Rattle.node_core.specs.Found.{offered, special_object, object_found, point_named};
-ghost use Rattle.node_core.specs.Found.{TableInForce, IsOfTable, transfer_objects};
+ghost use Rattle.node_core.specs.Found.{TableInForce, IsOfTable, device_objects, slot_objects};
+ghost use Rattle.node_core.specs.Found.{domain_objects};
 
 use crate::in_force::InForce;
 use ber_values::Visible;
-use bilateral::See;
+use bilateral::{Control, See};
 use mms_data::{Name, Scope};
 
 /// What a name stands for.
@@ -27,6 +30,14 @@ pub enum Found<'a> {
     Slot(u32),
     /// The status of a transfer set.
     SlotStatus(u32),
+    /// The control point of a device of the table.
+    ControlPoint(&'a Control),
+    /// The selection of one that isn't direct.
+    Selection(&'a Control),
+    /// The tag of a device.
+    DeviceTag(&'a Control),
+    /// The time-out of a selection.
+    Timeout(&'a Control),
     /// The point of a row of the table.
     Point(&'a See),
 }
@@ -175,9 +186,9 @@ pub fn slot_status_item(slot: u32) -> &'static [u8]
 fn find_slot<'a>(item: &[u8], slots: u32) -> Option<Found<'a>>
     requires { slots ≤ SLOT_LIMIT }
     ensures named { (t : TableInForce) → option_map (object_found t) result
-        ≡ option_map (λ o. o.object) (find (λ o. bytes_eq o.item item.now)
-        (flat_map objects.objects_of_slot (range_with_len 0 slots))) }
-    ensures there { (table : Table) → table.slots ≡ slots → IfSome result (IsOfTable table) }
+        ≡ option_map (λ o. o.object)
+        (find (λ o. bytes_eq o.item item.now) (slot_objects slots)) }
+    ensures there { (t : TableInForce) → t.table.slots ≡ slots → IfSome result (IsOfTable t) }
 {
     for slot in 0..slots {
         if slot_item(slot) == item {
@@ -190,12 +201,78 @@ fn find_slot<'a>(item: &[u8], slots: u32) -> Option<Found<'a>>
     None
 }
 
-/// What a name stands for among the transfer sets of a table.
-fn find_transfer<'a>(table: &InForce<'_>, name: &Name) -> Option<Found<'a>>
+/// What a name stands for among the objects of a device, of which a table has this row.
+fn object_of_device<'a>(table: &InForce<'a>, control: &'a Control, item: &[u8]) -> Option<Found<'a>>
+    requires { Contains table.now.table.controls control.now }
+    ensures named { option_map (object_found table.now) result ≡ option_map (λ o. o.object)
+        (find (λ o. bytes_eq o.item item.now)
+        (objects_of_device (own_device table.now.rows control.now))) }
+    ensures there { IfSome result (IsOfTable table.now) }
+{
+    let row = table.device(control);
+    let rest = item.strip_prefix(row.name.as_slice())?;
+    if rest.is_empty() {
+        Some(Found::ControlPoint(control))
+    } else if b"_TAG".as_slice() == rest {
+        Some(Found::DeviceTag(control))
+    } else if row.direct {
+        None
+    } else if b"_SBO".as_slice() == rest {
+        Some(Found::Selection(control))
+    } else if b"_TIMEOUT".as_slice() == rest {
+        Some(Found::Timeout(control))
+    } else {
+        None
+    }
+}
+
+/// Whether a name ends as that of a device's tag, selection or time-out.
+fn has_device_end(item: &[u8]) -> bool
+    ensures { result ≡ (ends_with nat_eq item.now (codes "_TAG")
+        || ends_with nat_eq item.now (codes "_SBO")
+        || ends_with nat_eq item.now (codes "_TIMEOUT")) }
+{
+    item.ends_with(b"_TAG") || item.ends_with(b"_SBO") || item.ends_with(b"_TIMEOUT")
+}
+
+/// Whether a name may be that of an object of a device: that of a device of the centre, or one
+/// that ends as the names of its other objects do.
+fn may_be_device(table: &InForce<'_>, item: &[u8]) -> bool
+    ensures { (control : ControlRow) → control.device < length table.now.rows.devices
+        → result ≡ false → find (λ o. bytes_eq o.item item.now)
+        (objects_of_device (own_device table.now.rows control)) ≡ None }
+{
+    if table.is_device(item) {
+        return true;
+    }
+    has_device_end(item)
+}
+
+/// What a name stands for among the devices of a table.
+fn find_device<'a>(table: &InForce<'a>, item: &[u8]) -> Option<Found<'a>>
+    ensures named { option_map (object_found table.now) result ≡ option_map (λ o. o.object)
+        (find (λ o. bytes_eq o.item item.now)
+        (device_objects (offered table.now).devices)) }
+    ensures there { IfSome result (IsOfTable table.now) }
+{
+    let own = table.table();
+    if !may_be_device(table, item) {
+        return None;
+    }
+    for control in own.controls.as_slice() {
+        if let Some(found) = object_of_device(table, control, item) {
+            return Some(found);
+        }
+    }
+    None
+}
+
+/// What a name stands for in the domain of a table, but for the protocol's own objects and points.
+fn find_in_domain<'a>(table: &InForce<'a>, name: &Name) -> Option<Found<'a>>
     ensures named { option_map (object_found table.now) result
         ≡ option_map (λ o. o.object) (find (is_named (offered table.now) name.now)
-        (transfer_objects table.now.table.slots)) }
-    ensures there { IfSome result (IsOfTable table.now.table) }
+        (domain_objects (offered table.now))) }
+    ensures there { IfSome result (IsOfTable table.now) }
 {
     let own = table.table();
     if !is_found_in(&own.domain, name.scope(), false) {
@@ -205,18 +282,21 @@ fn find_transfer<'a>(table: &InForce<'_>, name: &Name) -> Option<Found<'a>>
     if b"Next_DSTransfer_Set".as_slice() == item {
         return Some(Found::NextSlot);
     }
-    find_slot(item, own.slots)
+    match find_device(table, item) {
+        Some(found) => Some(found),
+        None => find_slot(item, own.slots),
+    }
 }
 
 /// What a name stands for by a table; nothing else exists.
 pub fn find_object<'a>(table: &InForce<'a>, name: &Name) -> Option<Found<'a>>
     ensures named { option_map (object_found table.now) result
         ≡ object_named (offered table.now) name.now }
-    ensures there { IfSome result (IsOfTable table.now.table) }
+    ensures there { IfSome result (IsOfTable table.now) }
 {
     match find_special(&table.table().domain, name) {
         Some(special) => Some(Found::Special(special)),
-        None => match find_transfer(table, name) {
+        None => match find_in_domain(table, name) {
             Some(found) => Some(found),
             None => match find_point(table, name) {
                 Some(see) => Some(Found::Point(see)),
@@ -252,7 +332,16 @@ pub fn is_member(table: &InForce<'_>, name: &Name) -> bool
     match find_object(table, name) {
         Some(Found::Special(special)) => is_report_variable(special),
         Some(Found::Point(_)) => true,
-        Some(Found::NextSlot | Found::Slot(_) | Found::SlotStatus(_)) | None => false,
+        Some(
+            Found::NextSlot
+            | Found::Slot(_)
+            | Found::SlotStatus(_)
+            | Found::ControlPoint(_)
+            | Found::Selection(_)
+            | Found::DeviceTag(_)
+            | Found::Timeout(_),
+        )
+        | None => false,
     }
 }
 

@@ -1,14 +1,17 @@
 ghost use Rattle.std.specs.Prelude.{◌≡◌, ◌<◌, ◌≤◌, ◌^◌, [], length, reverse, slice_get, Some};
 ghost use Rattle.std.specs.Prelude.{None, false, IfOk, OnOk, OnErr};
 ghost use Rattle.std.specs.Arc.{arc_value};
-ghost use Rattle.bilateral.specs.Rows.{variants_of};
+ghost use Rattle.bilateral.specs.Rows.{device_of, variants_of};
+ghost use Rattle.sbo_device.specs.States.{hold_of};
 ghost use Rattle.tase_views.specs.declared.event.EventKind.TheVariants.{Open, Take, Close};
 ghost use Rattle.tase_views.specs.declared.event.EventKind.TheVariants.{Update, Table, Tick, Ask};
-ghost use Rattle.tase_views.specs.declared.event.EventKind.TheVariants.{Stop};
+ghost use Rattle.tase_views.specs.declared.event.EventKind.TheVariants.{TakeOrders, Stop};
 ghost use Rattle.tase_views.specs.Setup.{Setup};
 ghost use Rattle.tase_views.specs.History.{association_in};
 ghost use Rattle.tase_views.specs.OwnTables.{own_tables};
-ghost use Rattle.tase_views.specs.View.{view_of};
+ghost use Rattle.tase_views.specs.View.{moves_in, steps_in, view_of};
+ghost use Rattle.tase_views.specs.Orders.{orders_left};
+ghost use Rattle.node_devices.specs.DeviceBanks.{row_control, moves_of_each};
 ghost use Rattle.tase_views.specs.View as views;
 ghost use Rattle.tase_views.specs.Weights.{weight_of};
 ghost use Rattle.tase_views.specs.Answers as answers;
@@ -17,9 +20,10 @@ ghost use Rattle.node_core.specs.NodeState.{with_entry};
 ghost use Rattle.node_core.specs.declared.sorts.CallSort.TheVariants as sorts;
 ghost use Rattle.node_core.specs.Shown.{IsCalm};
 ghost use Rattle.node_core.specs.CallSorts.{IsRequestOf};
-ghost use Rattle.node_core.specs.Stored.{IsCalmRequest, IsReplied};
+ghost use Rattle.node_core.specs.Stored.{IsTaggingOf, IsCalmRequest, IsReplied};
 
 use crate::cause::ReportCause;
+use crate::device_acts::{select_all, write_devices};
 use crate::hub::Hub;
 use crate::in_force::InForce;
 use crate::log::Log;
@@ -29,12 +33,14 @@ use crate::replies::ReadReply;
 use crate::sorts::{CallSort, sort_of};
 use crate::writes::{read_writes, written};
 use bilateral::Centre;
-use sbo_device::Key;
+use sbo_device::{Hold, Key, Order};
 use std::alloc::{AllocError, Global};
 use std::marker::Model;
 use std::sync::Arc;
 use tase_points::PointValue;
-use tase_views::{Answer, Call, CallKind, Entry, Event, EventKind, Reply, ReplyKind, StepFault};
+use tase_views::{
+    Answer, Call, CallKind, Entry, Event, EventKind, Orders, Reply, ReplyKind, StepFault,
+};
 
 /// A TASE.2 node without input and output: its centre's tables and the history of its accepted
 /// events.
@@ -146,6 +152,26 @@ impl Node {
         )
     }
 
+    /// The selection of a device, by its number, that stands: the association that holds it, and
+    /// until when.
+    pub fn holder(&self, device: u32) -> Option<Hold>
+        requires { device < length self.now.setup.centre.devices }
+        ensures { let rows = self.now.setup.centre in
+            let steps = steps_in rows (own_tables rows) (moves_in (reverse self.now.history)) in
+            result ≡ hold_of (row_control (device_of rows device))
+            (moves_of_each rows steps device) }
+    {
+        self.hub.plant.devices.holder(device)
+    }
+
+    /// The orders that the plant hasn't taken, the oldest first.
+    pub fn orders_left(&self) -> &[Order]
+        ensures { let rows = self.now.setup.centre in result.now
+            ≡ orders_left rows (own_tables rows) (moves_in (reverse self.now.history)) }
+    {
+        self.hub.plant.devices.orders()
+    }
+
     /// The number of a peer's table in force.
     pub fn force(&self, peer: u32) -> u32
         requires { peer < length self.now.setup.centre.tables }
@@ -164,7 +190,7 @@ impl Node {
             ≡ answers.reply_to (own_tables rows key.peer)
             (view_of rows key.peer (reverse self.now.history)) key.ordinal call.now) }
     {
-        let shown = peer_view(&self.centre, &self.parts, self.hub.points(), key.peer);
+        let shown = peer_view(&self.centre, &self.parts, &self.hub.plant, key.peer);
         let reply = shown.reply_to(alloc, key.ordinal, call)?;
         Ok(reply)
     }
@@ -202,6 +228,10 @@ impl Node {
                 let variant = *variant;
                 self.choose(alloc, who, peer, variant, event)
             }
+            EventKind::Tag { device, .. } => {
+                let device = *device;
+                self.tag(who, device, event)
+            }
             EventKind::Tick { now } => {
                 let now = *now;
                 self.tick(alloc, who, now, event)
@@ -211,6 +241,7 @@ impl Node {
                 let slot = *slot;
                 self.ask(alloc, who, peer, slot, event)
             }
+            EventKind::TakeOrders => self.take_orders(alloc, who, event),
             EventKind::Stop => {
                 self.stop(who, event);
                 Ok(Answer::Noted)
@@ -263,8 +294,8 @@ impl Node {
     {
         self.log.reserve(self.hub.open_count())?;
         self.parts.prepare_all(&self.centre, point)?;
-        let changed = self.hub.update(point, value);
-        let count = self.hub.points().cov(point);
+        let changed = self.hub.plant.points.update(point, value);
+        let count = self.hub.plant.points.cov(point);
         self.parts
             .note_all(&self.centre, changed, self.hub.last_tick(), value, count);
         self.log.append(who, event);
@@ -292,7 +323,42 @@ impl Node {
         Ok(Answer::Noted)
     }
 
-    /// Takes a tick of the clock: what is due is reported.
+    /// Tags a device.
+    fn tag(&mut self, who: u64, device: u32, event: Event) -> Result<Answer, AllocError>
+        requires tag { IsTaggingOf device event }
+        requires free { refusal_of self.old.setup (reverse self.old.history) who event ≡ None }
+        ensures answer { IfOk result
+            (IsAnswer self.old.setup (reverse self.old.history) who event) }
+        ensures ok { OnOk result (self.new ≡ with_entry self.old who event) }
+        ensures err { OnErr result (self.new ≡ self.old) }
+    {
+        let EventKind::Tag { tag, .. } = event.kind() else {
+            unreachable!();
+        };
+        let reason = tag.reason().clone()?;
+        self.log.reserve(self.hub.open_count())?;
+        self.hub.plant.devices.tag(device, tag.tag(), reason);
+        self.log.append(who, event);
+        Ok(Answer::Noted)
+    }
+
+    /// Hands the orders out that are left.
+    fn take_orders(&mut self, alloc: Global, who: u64, event: Event) -> Result<Answer, AllocError>
+        requires orders { event ≡ TakeOrders }
+        requires free { refusal_of self.old.setup (reverse self.old.history) who event ≡ None }
+        ensures answer { IfOk result
+            (IsAnswer self.old.setup (reverse self.old.history) who event) }
+        ensures ok { OnOk result (self.new ≡ with_entry self.old who event) }
+        ensures err { OnErr result (self.new ≡ self.old) }
+    {
+        self.log.reserve(self.hub.open_count())?;
+        let orders = self.hub.plant.devices.take_orders(alloc);
+        self.log.append(who, event);
+        Ok(Answer::Orders(Orders::from_vec(orders)))
+    }
+
+    /// Takes a tick of the clock: what is due is reported, and the selections end whose moment it
+    /// reaches.
     fn tick(
         &mut self,
         alloc: Global,
@@ -313,8 +379,9 @@ impl Node {
         };
         self.log.reserve(self.hub.open_count())?;
         self.parts
-            .draft_all(alloc, &self.centre, self.hub.points(), cause)?;
+            .draft_all(alloc, &self.centre, &self.hub.plant, cause)?;
         self.parts.report_all(&self.centre, cause);
+        self.hub.plant.devices.expire(now);
         self.hub.tick(now);
         self.log.append(who, event);
         Ok(Answer::Noted)
@@ -342,7 +409,7 @@ impl Node {
         };
         self.log.reserve(self.hub.open_count())?;
         self.parts
-            .draft(alloc, &self.centre, self.hub.points(), peer, cause)?;
+            .draft(alloc, &self.centre, &self.hub.plant, peer, cause)?;
         self.parts.report(peer, cause);
         self.log.append(who, event);
         Ok(Answer::Noted)
@@ -370,7 +437,8 @@ impl Node {
         }
     }
 
-    /// Takes a read of variables, and hands out the transfer sets that it reads as the next.
+    /// Takes a read of variables, hands out the transfer sets that it reads as the next, and
+    /// selects the devices whose selections it reads.
     fn read(&mut self, alloc: Global, who: u64, event: Event) -> Result<Answer, AllocError>
         requires request { IsRequestOf sorts.Read event }
         requires free { refusal_of self.old.setup (reverse self.old.history) who event ≡ None }
@@ -386,15 +454,18 @@ impl Node {
         let CallKind::Read { names, echo } = call.kind() else {
             unreachable!();
         };
-        let shown = peer_view(&self.centre, &self.parts, self.hub.points(), key.peer);
+        let shown = peer_view(&self.centre, &self.parts, &self.hub.plant, key.peer);
         let ReadReply { reply, handed } = shown.read_reply(alloc, key.ordinal, names, *echo)?;
         self.log.reserve(self.hub.open_count())?;
+        let table = InForce::new(&self.centre, key.peer, self.parts.force(key.peer));
+        let now = self.hub.last_tick();
+        select_all(&mut self.hub.plant.devices, &table, key, now, names);
         self.parts.hand_out(alloc, key, handed.as_slice());
         self.log.append(who, event);
         Ok(Answer::Reply(reply))
     }
 
-    /// Takes a write of variables, and does what it asks of transfer sets.
+    /// Takes a write of variables, and does what it asks of devices and of transfer sets.
     fn write(&mut self, alloc: Global, who: u64, event: Event) -> Result<Answer, AllocError>
         requires request { IsRequestOf sorts.Write event }
         requires free { refusal_of self.old.setup (reverse self.old.history) who event ≡ None }
@@ -412,12 +483,15 @@ impl Node {
         };
         let table = InForce::new(&self.centre, key.peer, self.parts.force(key.peer));
         let asked = read_writes(alloc, &table, names.as_slice(), values.as_slice())?;
+        let mut left = Vec::new(alloc);
+        left.reserve(asked.len())?;
         let mut results = Vec::new(alloc);
         results.reserve(asked.len())?;
         self.log.reserve(self.hub.open_count())?;
+        self.hub.plant.devices.room(asked.len())?;
+        write_devices(&mut self.hub.plant.devices, key, asked, &mut left);
         let now = self.hub.last_tick();
-        self.parts
-            .write(&self.centre, key, now, asked, &mut results);
+        self.parts.write(&self.centre, key, now, left, &mut results);
         self.log.append(who, event);
         Ok(Answer::Reply(written(results)))
     }
@@ -486,6 +560,7 @@ impl Node {
     {
         let key = self.hub.association(who).unwrap();
         self.hub.unseat(who);
+        self.hub.plant.devices.close(key);
         self.parts.close(alloc, &self.centre, key);
         self.log.append(who, event);
     }

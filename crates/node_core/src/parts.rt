@@ -10,7 +10,7 @@ ghost use Rattle.tase_views.specs.Moves.{acts_of_call, opens, takes, closes, def
 ghost use Rattle.tase_views.specs.OwnTables.{OwnTables, own_tables, table_in};
 ghost use Rattle.tase_views.specs.View.{own, chose};
 ghost use Rattle.node_core.specs.declared.peer.Peer.{Peer as AnyPeer};
-ghost use Rattle.node_core.specs.Associations.{made_last};
+ghost use Rattle.node_core.specs.Associations.{made_for};
 ghost use Rattle.node_core.specs.PeerParts.{new_part, part_after, EachAct, IsLawfulAct};
 ghost use Rattle.node_core.specs.PeerParts.{IsReplyTo, IsReplyBy, acts_asked};
 ghost use Rattle.node_core.specs.Shown.{IsCalm, IsShowable, shown_of};
@@ -24,12 +24,12 @@ ghost use Rattle.node_core.specs.PartFeeds.{OneBecomes, EachBecomes};
 use crate::cause::ReportCause;
 use crate::in_force::InForce;
 use crate::peer::Peer;
+use crate::plant::Plant;
 use crate::replies::PeerView;
 use crate::sets::is_defined;
 use crate::writes::Asked;
 use bilateral::Centre;
 use mms_data::{Name, Names};
-use point_db::PointDb;
 use sbo_device::Key;
 use std::alloc::{AllocError, Global};
 use tase_points::PointValue;
@@ -225,7 +225,7 @@ impl Parts {
         results: &mut Vec<Option<u8>>,
     )
         requires there { IsPeerThere centre.now self.old.peers.items key.peer }
-        requires asked { All IsAskedThere asked.items }
+        requires asked { All (IsAskedThere 0) asked.items }
         requires room { vec_len results.old + length asked.items ≤ vec_capacity results.old }
         ensures answers { (part : Peer) → slice_get self.old.peers.items key.peer ≡ Some part
             → results.new.items ≡ results.old.items
@@ -246,7 +246,7 @@ impl Parts {
     pub fn take(&mut self, alloc: Global, key: Key) -> Reports
         requires { key.peer < vec_len self.old.peers }
         ensures made { (part : AnyPeer) → slice_get self.old.peers.items key.peer ≡ Some part
-            → result ≡ made_last key.ordinal part.associations [] }
+            → result ≡ made_for key.ordinal part.associations }
         ensures left { (tables : OwnTables) (now : ℕ) → IsChanged self.old.peers.items key.peer
             (part_after tables now (own key.ordinal takes)) self.new.peers.items }
     {
@@ -258,17 +258,17 @@ impl Parts {
         &mut self,
         alloc: Global,
         centre: &Centre,
-        points: &PointDb,
+        plant: &Plant,
         peer: u32,
         cause: ReportCause,
     ) -> Result<(), AllocError>
-        requires { IsPeerShown centre.now points.now self.old.peers.items peer }
+        requires { IsPeerShown centre.now plant.now self.old.peers.items peer }
         ensures alike { OneBecomes IsAlike peer self.old.peers.items self.new.peers.items }
         ensures ok { OnOk result (OneBecomes
-            (λ part after. IsDrafted centre.now peer points.now cause after) peer
+            (λ part after. IsDrafted centre.now peer plant.now cause after) peer
             self.old.peers.items self.new.peers.items) }
     {
-        self.peers[peer as usize].draft(alloc, centre, peer, points, cause)?;
+        self.peers[peer as usize].draft(alloc, centre, peer, plant, cause)?;
         Ok(())
     }
 
@@ -277,20 +277,20 @@ impl Parts {
         &mut self,
         alloc: Global,
         centre: &Centre,
-        points: &PointDb,
+        plant: &Plant,
         cause: ReportCause,
     ) -> Result<(), AllocError>
         requires few { length self.old.peers.items ≡ length centre.now.tables }
         requires shown { (peer : ℕ) → peer < length self.old.peers.items
-            → IsPeerShown centre.now points.now self.old.peers.items peer }
+            → IsPeerShown centre.now plant.now self.old.peers.items peer }
         ensures alike { EachBecomes (λ peer. IsAlike) self.old.peers.items
             self.new.peers.items }
         ensures ok { OnOk result (EachBecomes
-            (λ peer part after. IsDrafted centre.now peer points.now cause after)
+            (λ peer part after. IsDrafted centre.now peer plant.now cause after)
             self.old.peers.items self.new.peers.items) }
     {
         for peer in 0..centre.peers() {
-            self.draft(alloc, centre, points, peer, cause)?;
+            self.draft(alloc, centre, plant, peer, cause)?;
         }
         Ok(())
     }
@@ -390,17 +390,17 @@ impl Parts {
 pub fn peer_view<'a>(
     centre: &'a Centre,
     parts: &'a Parts,
-    points: &'a PointDb,
+    plant: &'a Plant,
     peer: u32,
 ) -> PeerView<'a>
     requires lawful { IsCentre centre.now }
     requires there { IsPeerThere centre.now parts.now.peers.items peer }
     requires shown { (part : AnyPeer) → slice_get parts.now.peers.items peer ≡ Some part
-        → IsShowable (shown_of centre.now peer part points.now) }
+        → IsShowable (shown_of centre.now peer part plant.now) }
     ensures { (part : AnyPeer) → slice_get parts.now.peers.items peer ≡ Some part
-        → result ≡ shown_of centre.now peer part points.now }
+        → result ≡ shown_of centre.now peer part plant.now }
 {
     let part = parts.part(peer);
     let table = InForce::new(centre, peer, part.variant);
-    PeerView::new(table, &part.book, &part.slots, points)
+    PeerView::new(peer, table, &part.book, &part.slots, plant)
 }

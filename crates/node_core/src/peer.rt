@@ -9,7 +9,7 @@ ghost use Rattle.tase_views.specs.OwnTables.{OwnTable};
 ghost use Rattle.tase_views.specs.View.{moment_in};
 ghost use Rattle.tase_views.specs.Reports.{reports_by};
 ghost use Rattle.node_core.specs.Associations.{new_association, association_at, open_without};
-ghost use Rattle.node_core.specs.Associations.{behind_take, made_last};
+ghost use Rattle.node_core.specs.Associations.{behind_take, made_for};
 ghost use Rattle.node_core.specs.Found.{IsThere};
 ghost use Rattle.node_core.specs.Shown.{IsShowable, shown_of, InEachView};
 ghost use Rattle.node_core.specs.SetsKept.{left_by};
@@ -23,6 +23,7 @@ use crate::associations::Associations;
 use crate::cause::{ReportCause, report_all};
 use crate::in_force::InForce;
 use crate::plan::ChangePlan;
+use crate::plant::Plant;
 use crate::replies::PeerView;
 use crate::sets::delete_sets;
 use crate::writes::{Asked, write_all};
@@ -30,7 +31,6 @@ use ber_values::Visible;
 use bilateral::{Centre, SLOT_LIMIT};
 use data_sets::SetBook;
 use mms_data::{Name, Names};
-use point_db::PointDb;
 use std::alloc::{AllocError, Global};
 use tase_points::PointValue;
 use tase_views::Reports;
@@ -173,7 +173,7 @@ impl Peer {
         results: &mut Vec<Option<u8>>,
     )
         requires many { length self.old.slots ≡ SLOTS }
-        requires there { All IsAskedThere asked.items }
+        requires there { All (IsAskedThere 0) asked.items }
         requires room { vec_len results.old + length asked.items ≤ vec_capacity results.old }
         ensures answers { (table : OwnTable) → table.domain ≡ domain.now → results.new.items
             ≡ results.old.items
@@ -197,7 +197,7 @@ impl Peer {
     /// Hands the reports out that were made for an association since its last take. It takes no
     /// memory.
     pub fn take(&mut self, alloc: Global, ordinal: u64) -> Reports
-        ensures made { result ≡ made_last ordinal self.old.associations [] }
+        ensures made { result ≡ made_for ordinal self.old.associations }
         ensures left { self.new ≡ record self.old {
           associations = map (behind_take ordinal) self.old.associations;
         } }
@@ -211,16 +211,16 @@ impl Peer {
         alloc: Global,
         centre: &Centre,
         number: u32,
-        points: &PointDb,
+        plant: &Plant,
         cause: ReportCause,
     ) -> Result<(), AllocError>
         requires there { IsThere centre.now number self.old.variant }
-        requires shown { IsShowable (shown_of centre.now number self.old points.now) }
+        requires shown { IsShowable (shown_of centre.now number self.old plant.now) }
         ensures alike { IsAlike self.old self.new }
-        ensures ok { OnOk result (IsDrafted centre.now number points.now cause self.new) }
+        ensures ok { OnOk result (IsDrafted centre.now number plant.now cause self.new) }
     {
         for place in 0..self.associations.len() {
-            let reports = self.reports(alloc, centre, number, points, place, cause)?;
+            let reports = self.reports(alloc, centre, number, plant, place, cause)?;
             self.associations.draft(place, reports)?;
         }
         Ok(())
@@ -232,20 +232,20 @@ impl Peer {
         alloc: Global,
         centre: &Centre,
         number: u32,
-        points: &PointDb,
+        plant: &Plant,
         place: usize,
         cause: ReportCause,
     ) -> Result<Reports, AllocError>
         requires there { IsThere centre.now number self.now.variant }
-        requires shown { IsShowable (shown_of centre.now number self.now points.now) }
+        requires shown { IsShowable (shown_of centre.now number self.now plant.now) }
         requires place { place < length self.now.associations }
-        ensures { IfOk result (λ made. InEachView (shown_of centre.now number self.now points.now)
+        ensures { IfOk result (λ made. InEachView (shown_of centre.now number self.now plant.now)
             (λ tables view. moment_in view ≡ moment_before cause → made
             ≡ reports_by tables view (association_at self.now.associations place).ordinal
             (move_of cause))) }
     {
         let table = InForce::new(centre, number, self.variant);
-        let shown = PeerView::new(table, &self.book, &self.slots, points);
+        let shown = PeerView::new(number, table, &self.book, &self.slots, plant);
         shown.reports(alloc, self.associations.ordinal(place), cause)
     }
 

@@ -31,8 +31,10 @@ pub fn seat_refusal(found: Option<Key>, event: &Event) -> Option<StepFault>
         EventKind::Request { .. } | EventKind::Take | EventKind::Close => no_association(found),
         EventKind::Update { .. }
         | EventKind::Table { .. }
+        | EventKind::Tag { .. }
         | EventKind::Tick { .. }
         | EventKind::Ask { .. }
+        | EventKind::TakeOrders
         | EventKind::Stop => None,
     }
 }
@@ -47,8 +49,8 @@ fn no_association(found: Option<Key>) -> Option<StepFault>
     }
 }
 
-/// Refuses a peer, a point, a table or a transfer set that the centre hasn't, and a value of
-/// another kind than its point's.
+/// Refuses a peer, a point, a device, a table or a transfer set that the centre hasn't, and a value
+/// of another kind than its point's.
 pub fn name_refusal(centre: &Centre, event: &Event) -> Option<StepFault>
     ensures { result ≡ causes.name_refusal centre.now event.now }
 {
@@ -56,6 +58,7 @@ pub fn name_refusal(centre: &Centre, event: &Event) -> Option<StepFault>
         EventKind::Open { peer } => *peer < centre.peers(),
         EventKind::Update { point, value } => is_known(centre, *point, value),
         EventKind::Table { peer, variant } => has_table(centre, *peer, *variant),
+        EventKind::Tag { device, .. } => *device < centre.devices(),
         EventKind::Ask { peer, slot } => has_slot(centre, *peer, *slot),
         _ => true,
     };

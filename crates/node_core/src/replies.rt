@@ -1,6 +1,6 @@
 //! Replies to calls.
 ghost use Rattle.std.specs.Prelude.{◌≡◌, ◌<◌, ◌≤◌, ℕ, length, slice_get, true, is_some, Some};
-ghost use Rattle.std.specs.Prelude.{IfOk, OnOk};
+ghost use Rattle.std.specs.Prelude.{IfOk, OnOk, false, Contains};
 ghost use Rattle.std.specs.List.{All};
 ghost use Rattle.std.specs.Option.{option_map_or};
 ghost use Rattle.mms_data.specs.Datum.{boolean};
@@ -9,12 +9,13 @@ ghost use Rattle.mms_data.specs.ObjectName.{IsIdentifier};
 ghost use Rattle.mms_data.specs.declared.outcome.Outcome.TheVariants.{Good, Fail};
 ghost use Rattle.mms_data.specs.OutcomeOctets.{IsLawfulOutcome};
 ghost use Rattle.bilateral.specs.declared.rows.TheConstants.{SLOT_LIMIT};
-ghost use Rattle.bilateral.specs.Rows.{IsCentre, place_of_see};
+ghost use Rattle.bilateral.specs.Rows.{IsCentre, device_of, place_of_see};
 ghost use Rattle.transfer_sets.specs.WishData.{shown_wish};
 ghost use Rattle.transfer_sets.specs.Banks.{slot_at};
 ghost use Rattle.tase_views.specs.declared.call.CallKind.{CallKind as AnyCall};
-ghost use Rattle.tase_views.specs.OwnTables.{OwnTable, OwnTables, own_point};
-ghost use Rattle.tase_views.specs.Objects.{object_named};
+ghost use Rattle.sbo_device.specs.declared.device.TheConstants.{TAG_LIMIT};
+ghost use Rattle.tase_views.specs.OwnTables.{OwnTable, OwnTables, own_point, own_device};
+ghost use Rattle.tase_views.specs.Objects.{object_named, selection, device_tag};
 ghost use Rattle.tase_views.specs.Objects as objects;
 ghost use Rattle.tase_views.specs.View.{View};
 ghost use Rattle.tase_views.specs.Answers as answers;
@@ -23,19 +24,20 @@ ghost use Rattle.node_core.specs.Found.{offered, special_object};
 ghost use Rattle.node_core.specs.SlotsKept.{first_free, handed_by, slots_read, all_read, shown_to};
 ghost use Rattle.node_core.specs.SlotsKept.{object_shown, outcomes_shown, drafted, HasDrafted};
 ghost use Rattle.node_core.specs.SlotsKept.{HandsOut};
-ghost use Rattle.node_core.specs.Shown.{InEachView, IsShowable, IsCalm};
+ghost use Rattle.node_core.specs.Shown.{InEachView, shown_by, IsShowable, IsCalm};
 
 use crate::draft::Draft;
 use crate::in_force::InForce;
 use crate::listing::list_names;
 use crate::naming::{Found, Special, find_object, slot_item};
+use crate::plant::Plant;
 use crate::sets::{define_reply, delete_reply, find_set, members_reply};
 use ber_values::{BitString, Visible};
-use bilateral::{See, Table};
+use bilateral::{Control, See, Table};
 use data_sets::SetBook;
 use mms_data::{DataKind, DataList, MmsData, Name, Names, Outcome, Scope};
 use point_data::to_data;
-use point_db::PointDb;
+use sbo_device::{DeviceBank, Key, Select};
 use std::alloc::{AllocError, Global};
 use std::marker::Model;
 use tase_views::{
@@ -49,61 +51,63 @@ use transfer_sets::SlotBank;
 const TEMPORARILY_UNAVAILABLE: u8 = 2;
 
 /// What a peer is answered from: its table in force, its data sets, its transfer sets, and the
-/// points.
+/// plant.
 #[derive(Drop)]
 pub struct PeerView<'a> {
+    peer: u32,
     table: InForce<'a>,
     book: &'a SetBook,
     slots: &'a SlotBank,
-    points: &'a PointDb,
+    plant: &'a Plant,
 }
 
 impl<'a> Model for PeerView<'a> {
-    ghost use Rattle.node_core.specs.Shown.{Shown, IsShowable};
+    ghost use Rattle.node_core.specs.Shown.{Shown, shown_by, IsShowable};
 
     ghost Value = { Shown };
 
-    ghost view = { λ p. record {
-      table = p.table;
-      book = p.book.now;
-      slots = p.slots.now;
-      points = p.points.now;
-    } };
+    ghost view = { λ p. shown_by p.peer p.table p.book.now p.slots.now p.plant.now };
 
-    ghost invariant = { λ p. IsShowable (record {
-      table = p.table;
-      book = p.book.now;
-      slots = p.slots.now;
-      points = p.points.now;
-    }) };
+    ghost invariant = { λ p. IsShowable
+        (shown_by p.peer p.table p.book.now p.slots.now p.plant.now) };
 }
 
 impl<'a> PeerView<'a> {
     pub fn new(
+        peer: u32,
         table: InForce<'a>,
         book: &'a SetBook,
         slots: &'a SlotBank,
-        points: &'a PointDb,
+        plant: &'a Plant,
     ) -> PeerView<'a>
-        requires { IsShowable (record {
-          table = table;
-          book = book.now;
-          slots = slots.now;
-          points = points.now;
-        }) }
-        ensures { result ≡ record {
-          table = table.entry;
-          book = book.now;
-          slots = slots.now;
-          points = points.now;
-        } }
+        requires { IsShowable (shown_by peer table book.now slots.now plant.now) }
+        ensures { result ≡ shown_by peer table.entry book.now slots.now plant.now }
     {
         PeerView {
+            peer,
             table,
             book,
             slots,
-            points,
+            plant,
         }
+    }
+
+    /// An association of the peer.
+    pub fn key(&self, ordinal: u64) -> Key
+        ensures { result ≡ record { peer = self.now.peer; ordinal = ordinal } }
+    {
+        Key {
+            peer: self.peer,
+            ordinal,
+        }
+    }
+
+    /// The devices of the centre.
+    pub fn devices(&self) -> &DeviceBank
+        ensures value { result.now.devices ≡ self.now.devices }
+        ensures many { length self.now.devices ≡ length self.now.table.rows.devices }
+    {
+        &self.plant.devices
     }
 
     /// The peer's table in force.
@@ -302,9 +306,45 @@ impl<'a> PeerView<'a> {
             Some(Found::NextSlot) => read_next(alloc, table, draft),
             Some(Found::Slot(slot)) => read_slot(alloc, draft, slot),
             Some(Found::SlotStatus(slot)) => Ok(read_status(draft, slot)),
+            Some(Found::Selection(control)) => Ok(self.read_selection(draft.ordinal(), control)),
+            Some(Found::DeviceTag(control)) => self.read_tag(alloc, control),
+            Some(Found::ControlPoint(_) | Found::Timeout(_)) => {
+                Ok(Outcome::Fail(OBJECT_ACCESS_UNSUPPORTED))
+            }
             Some(Found::Point(see)) => self.read_point(alloc, see),
             None => Ok(Outcome::Fail(OBJECT_NON_EXISTENT)),
         }
+    }
+
+    /// The answer to a select by an association of the peer; the select itself comes when the whole
+    /// reply is made.
+    fn read_selection(&self, ordinal: u64, control: &Control) -> Outcome
+        requires there { Contains self.now.table.table.controls control.now }
+        requires selectable { (device_of self.now.table.rows control.now.device).direct ≡ false }
+        ensures value { InEachView self.now (λ tables view. result
+            ≡ answers.object_read tables view ordinal
+            (Some (selection (own_device self.now.table.rows control.now)))) }
+        ensures lawful { IsLawfulOutcome result }
+    {
+        let _lawful = self.table.table();
+        let key = self.key(ordinal);
+        let answer = self.devices().select_answer(control.device, key);
+        selected(answer, self.table.device(control).checkback)
+    }
+
+    /// A device's tag as it stands.
+    fn read_tag(&self, alloc: Global, control: &Control) -> Result<Outcome, AllocError>
+        requires { Contains self.now.table.table.controls control.now }
+        ensures value { IfOk result (λ outcome. InEachView self.now (λ tables view.
+            (ordinal : ℕ) → outcome ≡ answers.object_read tables view ordinal
+            (Some (device_tag (own_device self.now.table.rows control.now))))) }
+        ensures lawful { IfOk result IsLawfulOutcome }
+    {
+        let _lawful = self.table.table();
+        let devices = self.devices();
+        let tag = devices.tag_of(control.device);
+        let shown = tag_data(alloc, tag, devices.reason_of(control.device))?;
+        Ok(Outcome::Good(shown))
     }
 
     /// A row's point as it stands.
@@ -315,11 +355,37 @@ impl<'a> PeerView<'a> {
         ensures lawful { IfOk result IsLawfulOutcome }
     {
         let _lawful = self.table.table();
-        let value = self.points.value(see.point);
-        let count = self.points.cov(see.point);
+        let value = self.plant.points.value(see.point);
+        let count = self.plant.points.cov(see.point);
         let shown = to_data(alloc, value, count, &see.layout)?;
         Ok(Outcome::Good(shown))
     }
+}
+
+/// The answer to a select, of a device with this checkback.
+fn selected(answer: Select, checkback: i16) -> Outcome
+    ensures value { result ≡ answers.select_outcome checkback answer }
+    ensures lawful { IsLawfulOutcome result }
+{
+    match answer {
+        Select::Granted => Outcome::Good(MmsData::new(DataKind::Integer(i64::from(checkback)))),
+        Select::HeldByOther => Outcome::Fail(TEMPORARILY_UNAVAILABLE),
+        Select::Inhibited => Outcome::Fail(OBJECT_ACCESS_DENIED),
+    }
+}
+
+/// A tag as data: two bits and the reason.
+fn tag_data(alloc: Global, tag: u8, reason: &Visible) -> Result<MmsData, AllocError>
+    requires { tag ≤ TAG_LIMIT }
+    ensures value { IfOk result (λ shown. shown
+        ≡ answers.shown_tag (record { tag = tag; reason = reason.now })) }
+    ensures lawful { IfOk result (λ shown. IsLawful shown) }
+{
+    let octets = Vec::from_slice(alloc, &[tag * 64])?;
+    let mut parts = DataList::new(alloc);
+    parts.push(MmsData::new(DataKind::Bits(BitString::new(2, octets))))?;
+    parts.push(MmsData::new(DataKind::Text(reason.clone()?)))?;
+    Ok(MmsData::new(DataKind::Structure(parts)))
 }
 
 /// The reply to a read, and the transfer sets that it hands out, in order.

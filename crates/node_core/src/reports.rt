@@ -1,6 +1,6 @@
 //! The reports that are made of a peer's transfer sets.
 ghost use Rattle.std.specs.Prelude.{◌≡◌, ◌<◌, ◌%◌, ◌/◌, ◌==◌, ◌||◌, ◌&&◌, ◌++◌, pos, length};
-ghost use Rattle.std.specs.Prelude.{map, [], ◌∷◌, Some, IfOk, OnOk, IfSome};
+ghost use Rattle.std.specs.Prelude.{if◌then◌else◌, map, [], ◌∷◌, Some, IfOk, OnOk, IfSome};
 ghost use Rattle.std.specs.List.{All, list_any};
 ghost use Rattle.std.specs.Option.{option_copied, unwrap_or};
 ghost use Rattle.mms_data.specs.Datum.{integer, bits};
@@ -27,6 +27,7 @@ use crate::cause::{ReportCause, conditions_of, makes_report, only_changes};
 use crate::in_force::InForce;
 use crate::naming::{Found, Special, find_object};
 use crate::replies::{PeerView, slot_name};
+use crate::timeouts::add_timeouts;
 use ber_values::{BitString, Visible};
 use bilateral::SLOT_LIMIT;
 use mms_data::{DataKind, MmsData, Name, Names, Outcome, Scope};
@@ -75,6 +76,7 @@ fn tick_reports(
         → made ≡ reports.reports_by tables view ordinal (move_of (ReportCause.Tick from to)))) }
 {
     let mut made = Reports::new(alloc);
+    add_timeouts(shown, alloc, ordinal, to, &mut made)?;
     for slot in 0..shown.table().table().slots {
         let cause = ReportCause::Tick { from, to };
         add_own(shown, alloc, ordinal, cause, slot, &mut made)?;
@@ -269,7 +271,8 @@ fn add_changed(
         let told = reports.told_of table view occasion.slot occasion.now occasion.conditions
         (reports.members_where table 0 (λ place object. reports.is_variable object
         || list_any (λ (n : Note). n.member == place) noted.now) members.now) in
-        0 < length told → made.new ≡ made.old ++ reports.report_of_all told ∷ [])) }
+        made.new ≡ made.old
+        ++ (if length told == 0 then [] else reports.report_of_all told ∷ []))) }
 {
     let names = names_told(shown.table(), alloc, members, noted)?;
     if names.len() == 0 {
@@ -417,13 +420,12 @@ fn noted_told(
             note.cov,
             &see.layout,
         )?)),
-        Some(Found::Special(_) | Found::NextSlot | Found::Slot(_) | Found::SlotStatus(_)) | None =>
-            Ok(Outcome::Fail(OBJECT_NON_EXISTENT)),
+        _ => Ok(Outcome::Fail(OBJECT_NON_EXISTENT)),
     }
 }
 
 /// A name in the domain of the table.
-fn own_name(table: &InForce<'_>, item: &Visible) -> Result<Name, AllocError>
+pub fn own_name(table: &InForce<'_>, item: &Visible) -> Result<Name, AllocError>
     requires { IsIdentifier item.now }
     ensures { IfOk result (λ name. name ≡ domain_name (offered table.now) item.now) }
 {
@@ -467,9 +469,7 @@ fn is_variable(table: &InForce<'_>, name: &Name) -> bool
 {
     match find_object(table, name) {
         Some(Found::Special(special)) => is_told_of_itself(special),
-        Some(Found::Point(_) | Found::NextSlot | Found::Slot(_) | Found::SlotStatus(_)) | None => {
-            false
-        }
+        _ => false,
     }
 }
 
@@ -533,9 +533,7 @@ fn member_told(
             special_told(alloc, &table.table().domain, occasion, special)
         }
         Some(Found::Point(see)) => shown.read_point(alloc, see),
-        Some(Found::NextSlot | Found::Slot(_) | Found::SlotStatus(_)) | None => {
-            Ok(Outcome::Fail(OBJECT_NON_EXISTENT))
-        }
+        _ => Ok(Outcome::Fail(OBJECT_NON_EXISTENT)),
     }
 }
 

@@ -1,6 +1,7 @@
-//! Writes of a peer: of its transfer sets and their status.
+//! Writes of a peer: what they ask, and what comes of those of transfer sets and their status.
 ghost use Rattle.std.specs.Prelude.{◌≡◌, ◌<◌, ◌≤◌, ◌+◌, ◌-◌, ◌&&◌, ◌++◌, is_some, length};
-ghost use Rattle.std.specs.Prelude.{vec_len, vec_capacity, IfOk, Ok};
+ghost use Rattle.std.specs.Prelude.{vec_len, vec_capacity, IfOk, IfSome, Ok, true, option_map};
+ghost use Rattle.std.specs.Prelude.{◌≢◌, ℕ, [], ◌∷◌, None};
 ghost use Rattle.std.specs.List.{All};
 ghost use Rattle.bilateral.specs.declared.rows.TheConstants.{SLOT_LIMIT};
 ghost use Rattle.data_sets.specs.Books.{members_in};
@@ -9,17 +10,21 @@ ghost use Rattle.transfer_sets.specs.Components as components;
 ghost use Rattle.transfer_sets.specs.Banks.{slot_at};
 ghost use Rattle.tase_views.specs.OwnTables.{OwnTable};
 ghost use Rattle.tase_views.specs.Objects.{object_named};
+ghost use Rattle.tase_views.specs.Devices.{number_in, tag_in};
 ghost use Rattle.tase_views.specs.Slots.{taken, wished_members};
 ghost use Rattle.node_core.specs.Found.{offered};
-ghost use Rattle.node_core.specs.SlotWrites.{asked_of, all_asked, IsAskedThere, owner_answer};
+ghost use Rattle.node_core.specs.SlotWrites.{operand, operate_asked, tagging_asked, asked_of};
+ghost use Rattle.node_core.specs.SlotWrites.{all_asked, IsAskedThere, owner_answer};
 ghost use Rattle.node_core.specs.SlotWrites.{owner_slots, status_wish, answer_asked, slots_asked};
 ghost use Rattle.node_core.specs.SlotWrites.{all_answers, all_slots};
 
 use crate::in_force::InForce;
 use crate::naming::{Found, find_object};
 use ber_values::Visible;
+use bilateral::Control;
 use data_sets::SetBook;
 use mms_data::{DataKind, MmsData, Name};
+use sbo_device::TAG_LIMIT;
 use std::alloc::{AllocError, Global};
 use tase_views::{OBJECT_ACCESS_DENIED, OBJECT_NON_EXISTENT, Reply, ReplyKind, WriteResults};
 use transfer_sets::{SlotBank, Wish, WishFault, may_enable, read_wish};
@@ -30,13 +35,14 @@ const TYPE_INCONSISTENT: u8 = 7;
 
 /// The reason of an access that a value is none that the object takes (`DataAccessError`:
 /// object-value-invalid).
-const VALUE_INVALID: u8 = 11;
+pub const VALUE_INVALID: u8 = 11;
 
 /// What a write of a variable asks.
 #[derive(Drop)]
 pub enum Asked {
-    /// Nothing that can be written: the reason.
-    Refused(u8),
+    /// Nothing that is still to be done: what came of it, none where it is written, else the
+    /// reason.
+    Answered(Option<u8>),
     /// A wish of a transfer set, by its number; or what is wrong with the value.
     Wished {
         slot: u32,
@@ -46,6 +52,17 @@ pub enum Asked {
     Switched {
         slot: u32,
         status: Option<bool>,
+    },
+    /// A device, by its number, is operated with this number.
+    Operated {
+        device: u32,
+        number: i64,
+    },
+    /// A device, by its number, is tagged for this reason.
+    Tagged {
+        device: u32,
+        tag: u8,
+        reason: Visible,
     },
 }
 
@@ -58,8 +75,9 @@ pub fn read_writes(
 ) -> Result<Vec<Asked>, AllocError>
     requires { length values.now ≡ length names.now }
     ensures value { IfOk result (λ asked. asked.items
-        ≡ all_asked (offered table.now) names.now values.now) }
-    ensures there { IfOk result (λ asked. All IsAskedThere asked.items) }
+        ≡ all_asked table.now.rows (offered table.now) names.now values.now) }
+    ensures there { IfOk result (λ asked. All
+        (IsAskedThere (length table.now.rows.devices)) asked.items) }
 {
     let mut asked = Vec::new(alloc);
     for place in 0..names.len() {
@@ -71,12 +89,12 @@ pub fn read_writes(
 /// What a write of a variable asks.
 fn read_write(table: &InForce<'_>, name: &Name, value: &MmsData) -> Result<Asked, AllocError>
     ensures value { IfOk result (λ asked. asked
-        ≡ asked_of (object_named (offered table.now) name.now) value.now) }
-    ensures there { IfOk result IsAskedThere }
+        ≡ asked_of table.now.rows (object_named (offered table.now) name.now) value.now) }
+    ensures there { IfOk result (IsAskedThere (length table.now.rows.devices)) }
 {
     let _lawful = table.table();
     match find_object(table, name) {
-        None => Ok(Asked::Refused(OBJECT_NON_EXISTENT)),
+        None => Ok(Asked::Answered(Some(OBJECT_NON_EXISTENT))),
         Some(Found::Slot(slot)) => {
             let wish = read_wish(value)?;
             Ok(Asked::Wished { slot, wish })
@@ -85,10 +103,102 @@ fn read_write(table: &InForce<'_>, name: &Name, value: &MmsData) -> Result<Asked
             slot,
             status: boolean_of(value),
         }),
-        Some(Found::Special(_)) => Ok(Asked::Refused(OBJECT_ACCESS_DENIED)),
-        Some(Found::NextSlot) => Ok(Asked::Refused(OBJECT_ACCESS_DENIED)),
-        Some(Found::Point(_)) => Ok(Asked::Refused(OBJECT_ACCESS_DENIED)),
+        Some(Found::ControlPoint(control)) => Ok(read_operate(control.device, value)),
+        Some(Found::DeviceTag(control)) => read_tagging(control, value),
+        Some(
+            Found::Special(_)
+            | Found::NextSlot
+            | Found::Point(_)
+            | Found::Selection(_)
+            | Found::Timeout(_),
+        ) => Ok(Asked::Answered(Some(OBJECT_ACCESS_DENIED))),
     }
+}
+
+/// What a write of a device's control point asks.
+fn read_operate(device: u32, value: &MmsData) -> Asked
+    ensures { result ≡ operate_asked device value.now }
+{
+    match operand_of(value) {
+        Some(number) => Asked::Operated { device, number },
+        None => Asked::Answered(Some(TYPE_INCONSISTENT)),
+    }
+}
+
+/// The number that a datum is, of integers and unsigned ones; the highest of 64 bits where it is
+/// above, since no device takes either.
+fn operand_of(value: &MmsData) -> Option<i64>
+    ensures { result ≡ option_map operand (number_in value.now) }
+{
+    match value.kind() {
+        DataKind::Integer(number) => Some(*number),
+        DataKind::Unsigned(number) => Some(i64::try_from(*number).unwrap_or(i64::MAX)),
+        _ => None,
+    }
+}
+
+/// What a write of a device's tag asks, by the table's row for the device.
+fn read_tagging(control: &Control, value: &MmsData) -> Result<Asked, AllocError>
+    ensures value { IfOk result (λ asked. asked
+        ≡ tagging_asked control.now.device control.now.tag value.now) }
+    ensures there { (count : ℕ) → control.now.device < count
+        → IfOk result (IsAskedThere count) }
+{
+    if !control.tag {
+        return Ok(Asked::Answered(Some(OBJECT_ACCESS_DENIED)));
+    }
+    read_tag(control.device, value)
+}
+
+/// What a write of a device's tag asks of a peer that may tag it.
+fn read_tag(device: u32, value: &MmsData) -> Result<Asked, AllocError>
+    ensures value { IfOk result (λ asked. asked ≡ tagging_asked device true value.now) }
+    ensures there { (count : ℕ) → device < count → IfOk result (IsAskedThere count) }
+{
+    let Some((tag, reason)) = tag_parts(value) else {
+        return Ok(Asked::Answered(Some(TYPE_INCONSISTENT)));
+    };
+    if tag > TAG_LIMIT {
+        return Ok(Asked::Answered(Some(VALUE_INVALID)));
+    }
+    let reason = reason.clone()?;
+    Ok(Asked::Tagged {
+        device,
+        tag,
+        reason,
+    })
+}
+
+/// The two bits and the reason that a datum is, if it has the form of a tag.
+fn tag_parts(value: &MmsData) -> Option<(u8, &Visible)>
+    ensures parts { option_map (λ parts. record { tag = parts.0; reason = parts.1.now }) result
+        ≡ tag_in value.now }
+    ensures few { IfSome result (λ parts. parts.0 ≤ 3) }
+{
+    let DataKind::Structure(parts) = value.kind() else {
+        return None;
+    };
+    let Some((first, second)) = two_of(parts.as_slice()) else {
+        return None;
+    };
+    let (DataKind::Bits(bits), DataKind::Text(reason)) = (first.kind(), second.kind()) else {
+        return None;
+    };
+    if bits.count() != 2 {
+        return None;
+    }
+    Some((bits.octets()[0] / 64, reason))
+}
+
+/// The members of a structure that has two.
+fn two_of(parts: &[MmsData]) -> Option<(&MmsData, &MmsData)>
+    ensures two { IfSome result (λ two. parts.now ≡ two.0.now ∷ two.1.now ∷ []) }
+    ensures other { result ≡ None → length parts.now ≢ 2 }
+{
+    if parts.len() != 2 {
+        return None;
+    }
+    Some((&parts[0], &parts[1]))
 }
 
 /// The boolean that a datum is.
@@ -101,8 +211,8 @@ fn boolean_of(value: &MmsData) -> Option<bool>
     }
 }
 
-/// Does what writes of an association ask, at this moment, and appends what comes of each: none
-/// where it is written, else the reason. It takes no memory.
+/// Does what writes of an association ask of transfer sets, at this moment, and appends what comes
+/// of each: none where it is written, else the reason. It takes no memory.
 pub fn write_all(
     domain: &Visible,
     book: &SetBook,
@@ -113,7 +223,7 @@ pub fn write_all(
     results: &mut Vec<Option<u8>>,
 )
     requires many { length slots.old ≡ SLOT_LIMIT }
-    requires there { All IsAskedThere asked.items }
+    requires there { All (IsAskedThere 0) asked.items }
     requires room { vec_len results.old + length asked.items ≤ vec_capacity results.old }
     ensures answers { (table : OwnTable) → table.domain ≡ domain.now → results.new.items
         ≡ results.old.items
@@ -138,7 +248,7 @@ fn write_one(
     asked: Asked,
 ) -> Option<u8>
     requires many { length slots.old ≡ SLOT_LIMIT }
-    requires there { IsAskedThere asked }
+    requires there { IsAskedThere 0 asked }
     ensures answer { (table : OwnTable) → table.domain ≡ domain.now
         → result ≡ answer_asked table book.now ordinal asked slots.old }
     ensures slots { (table : OwnTable) → table.domain ≡ domain.now
@@ -146,13 +256,14 @@ fn write_one(
     ensures many { length slots.new ≡ SLOT_LIMIT }
 {
     match asked {
-        Asked::Refused(reason) => Some(reason),
+        Asked::Answered(answer) => answer,
         Asked::Wished { slot, wish } => {
             write_wish(domain, book, slots, ordinal, now, slot, wish)
         }
         Asked::Switched { slot, status } => {
             write_status(domain, book, slots, ordinal, now, slot, status)
         }
+        Asked::Operated { .. } | Asked::Tagged { .. } => unreachable!(),
     }
 }
 

@@ -32,7 +32,7 @@ first_of-requires c =
     subst (λ (names : List (List ℕ)). All IsIdentifier names)
     (sym (ap (map (λ name. name.now)) c.as_mut_slice.ensures.value ∙ c.in_ok-names.ensures))
     (variables-named c.args.table.now c.args.scope.now c.args.after.now c.table.ensures.centre
-    c.table.ensures.lawful)
+    c.table.ensures.lawful c.table.ensures.controls)
 
 pub first_of-requires-then-is_vmd : goal.first_of-requires-then-is_vmd
 first_of-requires-then-is_vmd c =

@@ -6,16 +6,16 @@ use Rattle.bilateral.specs.declared.rows.See.{See}
 use Rattle.bilateral.specs.declared.rows.Table.{Table}
 use Rattle.node_core.specs.Found.{offered}
 use Rattle.node_core.proofs.Listed.{row_listed, front_listed, variables-listed, row_pushed}
-use Rattle.node_core.proofs.Listed.{row_passed, transfers_listed}
+use Rattle.node_core.proofs.Listed.{row_passed, domain_listed}
 use Rattle.node_core.proofs.listing.variables.Goals as goal
 use Rattle.node_core.proofs.listing.variables.Goals.{in-Some+in_ok-push, in_default}
 
 pub loop-see-init : goal.loop-see-init
 loop-see-init c =
     let table = offered c.args.table.now in
-    c.in_ok-push_transfers.ensures
+    c.in_ok-push_domain.ensures
     ∙ ap (λ (names : List (List ℕ)). names
-    ++ transfers_listed table c.args.scope.now c.args.after.now)
+    ++ domain_listed table c.args.scope.now c.args.after.now)
     (c.in_ok-names.ensures table (ap (λ (t : Table). t.domain) (sym c.table-own.ensures.table)))
     ∙ sym (append-nil (front_listed table c.args.scope.now c.args.after.now))
 

@@ -3,7 +3,7 @@ use Rattle.std.specs.Option.{option_map}
 use Rattle.bilateral.specs.declared.rows.Table.{Table}
 use Rattle.tase_views.specs.OwnTables.{own_point}
 use Rattle.node_core.specs.Found.{offered, special_object, object_found}
-use Rattle.node_core.proofs.OwnObjects.{object_named-special, object_named-transfer}
+use Rattle.node_core.proofs.OwnObjects.{object_named-special, object_named-domain}
 use Rattle.node_core.proofs.OwnObjects.{object_named-point}
 use Rattle.node_core.proofs.naming.find_object.Goals as goal
 
@@ -15,14 +15,14 @@ returns-in-Some-clause-named c =
     (ap (option_map (special_object (offered t))) (sym c.in-Some.is)
     ∙ c.find_special.ensures (offered t) domain)
 
-pub returns-in-Some-find_transfer-clause-named : goal.returns-in-Some-find_transfer-clause-named
-returns-in-Some-find_transfer-clause-named c =
+pub returns-in-Some-find_in_domain-clause-named : goal.returns-in-Some-find_in_domain-clause-named
+returns-in-Some-find_in_domain-clause-named c =
     let t = c.args.table.now in
     let domain = ap (λ (x : Table). x.domain) (sym c.table.ensures.table) in
-    object_named-transfer t c.args.name.now (object_found t c.in-Some-find_transfer.found)
+    object_named-domain t c.args.name.now (object_found t c.in-Some-find_in_domain.found)
     (ap (option_map (special_object (offered t))) (sym c.in-None.is)
     ∙ c.find_special.ensures (offered t) domain)
-    c.in-Some-find_transfer.ensures.named
+    c.in-Some-find_in_domain.ensures.named
 
 pub returns-in-Some-find_point-clause-named : goal.returns-in-Some-find_point-clause-named
 returns-in-Some-find_point-clause-named c =
@@ -31,7 +31,7 @@ returns-in-Some-find_point-clause-named c =
     object_named-point t c.args.name.now (Some (own_point t.rows c.in-Some-find_point.see.now))
     (ap (option_map (special_object (offered t))) (sym c.in-None.is)
     ∙ c.find_special.ensures (offered t) domain)
-    c.in-None-find_transfer.ensures.named c.in-Some-find_point.ensures.named
+    c.in-None-find_in_domain.ensures.named c.in-Some-find_point.ensures.named
 
 pub returns-in-None-find_point-clause-named : goal.returns-in-None-find_point-clause-named
 returns-in-None-find_point-clause-named c =
@@ -40,4 +40,4 @@ returns-in-None-find_point-clause-named c =
     object_named-point t c.args.name.now None
     (ap (option_map (special_object (offered t))) (sym c.in-None.is)
     ∙ c.find_special.ensures (offered t) domain)
-    c.in-None-find_transfer.ensures.named c.in-None-find_point.ensures.named
+    c.in-None-find_in_domain.ensures.named c.in-None-find_point.ensures.named

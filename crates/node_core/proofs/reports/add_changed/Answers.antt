@@ -1,4 +1,5 @@
-use Rattle.std.proofs.Common.{◌≡◌, ◌==◌, ◌||◌, ◌++◌, ◌∷◌, [], List, map, sym, ap, ◌∙◌}
+use Rattle.std.proofs.Common.{◌≡◌, ◌==◌, ◌||◌, ◌++◌, ◌∷◌, [], List, length, map, sym, ap, ◌∙◌}
+use Rattle.std.proofs.Common.{arith}
 use Rattle.std.specs.List.{list_any}
 use Rattle.mms_data.specs.ObjectName.{ObjectName}
 use Rattle.mms_data.specs.declared.outcome.Outcome.{Outcome}
@@ -8,7 +9,7 @@ use Rattle.tase_views.specs.declared.reply.ReportKind.TheVariants.{Variables}
 use Rattle.tase_views.specs.View.{View}
 use Rattle.tase_views.specs.Reports.{Told, told_of, members_where, is_variable}
 use Rattle.node_core.specs.Found.{TableInForce, offered}
-use Rattle.node_core.proofs.ReportsMade.{on_ok, told_names}
+use Rattle.node_core.proofs.ReportsMade.{on_ok, told_names, told_many, told_some}
 use Rattle.node_core.proofs.reports.add_changed.Goals as goal
 
 pub returns : goal.returns
@@ -24,10 +25,18 @@ returns c =
     ∙ ap (λ (t : TableInForce). members_where (offered t) 0 (λ place object. is_variable object
     || list_any (λ (n : Noted). n.member == place) c.args.noted.now) c.args.members.now)
     c.table.ensures in
-    on_ok c.push.result (λ pushed updates tables view s some.
+    on_ok c.push.result (λ pushed updates tables view s.
     pushed ∙ ap (λ (r : ReportKind). c.args.made.now ++ r ∷ []) (c.new.ensures
     ∙ ap (λ (results : List Outcome). Variables names results)
     (c.in_ok-results.ensures.value updates tables view s ∙ ap (outcomes view) named)
     ∙ ap (λ (these : List ObjectName). Variables these (outcomes view wanted))
-    (named ∙ sym (told_names own view o.slot o.now o.conditions wanted))))
+    (named ∙ sym (told_names own view o.slot o.now o.conditions wanted)))
+    ∙ told_some c.args.made.now _ _ (omega (
+      arith,
+      told_many own view o.slot o.now o.conditions
+          wanted,
+      ap length named,
+      c.len.ensures,
+      c.if-len-eq0.false,
+    )))
     c.push.ensures.ok

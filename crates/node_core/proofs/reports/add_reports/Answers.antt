@@ -1,7 +1,7 @@
 use Rattle.std.proofs.Common.{◌%◌, ◌≡◌, ◌++◌, ℕ, List, sym, subst, ap, ◌∙◌}
 use Rattle.transfer_sets.specs.Banks.{slot_at}
 use Rattle.tase_views.specs.declared.reply.ReportKind.{ReportKind}
-use Rattle.node_core.proofs.ReportsMade.{on_ok}
+use Rattle.node_core.proofs.ReportsMade.{on_ok, told_some}
 use Rattle.node_core.proofs.ReportsAlike.{five}
 use Rattle.node_core.proofs.ReportsShown.{IsMade, never_gone, whole-made, changes-known}
 use Rattle.node_core.proofs.ReportsShown.{changes-made, changed-some, changed-made}
@@ -79,8 +79,8 @@ returns-else-wish c =
     } in
     on_ok c.add_changed.result (λ each updates tables view s.
     each updates tables view s
-    (changed-some updates tables view shown s _ _ _ _ _ m members notes c.in-Some.ensures.value
-    c.noted_in-else-wish.ensures tells)
+    ∙ sym (told_some c.args.made.now _ _ (changed-some updates tables view shown s _ _ _ _ _ m
+    members notes c.in-Some.ensures.value c.noted_in-else-wish.ensures tells))
     ∙ ap (λ (rs : List ReportKind). c.args.made.now ++ rs)
     (changed-made updates tables view shown s _ _ _ _ _ m members notes c.in-Some.ensures.value
     c.noted_in-else-wish.ensures tells c.if-wish.false))

@@ -5,7 +5,8 @@ use Rattle.bilateral.specs.declared.rows.Table.{Table}
 use Rattle.tase_views.specs.declared.reply.ReportKind.{ReportKind}
 use Rattle.node_core.specs.declared.cause.ReportCause.TheVariants.{Tick}
 use Rattle.node_core.specs.Found.{TableInForce}
-use Rattle.node_core.proofs.ReportsShown.{ranged-step, ranged-none, made_by, tick-made}
+use Rattle.node_core.proofs.ReportsShown.{ranged-step, ranged-none, made_by, ended_at}
+use Rattle.node_core.proofs.ReportsShown.{tick-made}
 use Rattle.node_core.proofs.reports.tick_reports.Goals as goal
 
 pub loop-slot-init : goal.loop-slot-init
@@ -14,8 +15,11 @@ loop-slot-init c = λ updates tables view s.
     let n = c.table-2.result.now.slots in
     let all : n - 0 ≡ n = omega arith in
     ap (λ (made : List ReportKind). made ++ flat_map F (range_with_len 0 (n - 0)))
-    c.new-made.ensures
-    ∙ ap (λ (k : ℕ). flat_map F (range_with_len 0 k)) all
+    (c.in_ok-add_timeouts.ensures updates tables view s
+    ∙ ap (λ (made : List ReportKind). made ++ ended_at tables view c.args.ordinal c.args.to)
+    c.new-made.ensures)
+    ∙ ap (λ (k : ℕ). ended_at tables view c.args.ordinal c.args.to
+    ++ flat_map F (range_with_len 0 k)) all
 
 pub loop-slot-preserved : goal.loop-slot-preserved
 loop-slot-preserved c = λ updates tables view s.
@@ -38,5 +42,6 @@ returns c = λ updates tables view s moment.
     ∙ ap (λ (t : TableInForce). t.table) c.table.ensures) in
     ranged-none F c.loop-slot.slot (n - c.loop-slot.slot) c.loop-slot.made none
     ∙ c.loop-slot.invariant updates tables view s
-    ∙ ap (λ (k : ℕ). flat_map F (range_with_len 0 k)) slots
+    ∙ ap (λ (k : ℕ). ended_at tables view c.args.ordinal c.args.to
+    ++ flat_map F (range_with_len 0 k)) slots
     ∙ tick-made updates tables view c.args.shown.now s c.args.ordinal c.args.from c.args.to moment

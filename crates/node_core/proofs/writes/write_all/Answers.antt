@@ -30,7 +30,7 @@ loop-one-preserved c =
           ∙ ap (λ (asked : List Asked). all_slots table book ordinal now asked slots) (sym front)
           ∙ c.loop-one.invariant.slots table domain;
       many = c.write_one-answer.ensures.many;
-      there = there-rest one rest (subst (All IsAskedThere) front c.loop-one.invariant.there);
+      there = there-rest 0 one rest (subst (All (IsAskedThere 0)) front c.loop-one.invariant.there);
       room = omega (
         arith,
         c.push_reserved.ensures.len,

@@ -17,6 +17,6 @@ invariant-loop-one l = record {
       → all_slots table l.book l.ordinal l.now (into_iter_items l.one-iterator) l.slots
       ≡ all_slots table l.book l.ordinal l.now l.fn.asked.items l.initial.slots;
   many : length l.slots ≡ SLOT_LIMIT;
-  there : All IsAskedThere (into_iter_items l.one-iterator);
+  there : All (IsAskedThere 0) (into_iter_items l.one-iterator);
   room : vec_len l.results + length (into_iter_items l.one-iterator) ≤ vec_capacity l.results;
 }

@@ -31,7 +31,7 @@ append-requires-clause-light c = light_enough (c.in_ok-reserve.ensures.room _ c.
 
 pub draft-requires : goal.draft-requires
 draft-requires c =
-    peer_shown _ _ _ _ c.self.invariant.0 _ _ c.deref.ensures c.points.ensures c.args.peer
+    peer_shown _ _ _ _ c.self.invariant.0 _ _ c.deref.ensures refl c.args.peer
     (there (goal.at.draft-requires c).After-open_count)
 
 pub invariant_of-self-in_err-draft : goal.invariant_of-self-in_err-draft
@@ -52,6 +52,6 @@ invariant_of-self-2 c =
     c.open_count.result c.self.view_is c.requires.ask c.requires.free refl
     c.in_ok-reserve.ensures c.append.ensures refl c.open_count.ensures.count
     (IsNode-ask _ _ _ _ c.self.invariant.0 c.args.who c.self.inside.hub c.report.new.self _ _
-    c.last_tick.result c.args.peer c.args.slot c.draft.new.self c.deref.ensures c.points.ensures
+    c.last_tick.result c.args.peer c.args.slot c.draft.new.self c.deref.ensures refl
     c.last_tick.ensures (there (goal.at.invariant_of-self-2 c).After-open_count)
     c.draft.ensures.alike c.in_ok-draft.ensures.ok c.report.ensures refl)

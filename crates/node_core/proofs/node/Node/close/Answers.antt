@@ -1,9 +1,12 @@
-use Rattle.std.proofs.Common.{ℕ, is_some, sym, ap, subst, ◌∙◌}
+use Rattle.std.proofs.Common.{ℕ, is_some, map, sym, ap, subst, ◌∙◌}
 use Rattle.bilateral.specs.Rows.{CentreRows}
 use Rattle.tase_views.specs.History.{association_in}
 use Rattle.tase_views.specs.Moves.{closes}
 use Rattle.tase_views.specs.OwnTables.{own_tables}
 use Rattle.tase_views.specs.View.{own}
+use Rattle.sbo_device.specs.Moves.{closed}
+use Rattle.sbo_device.specs.Banks.{moved}
+use Rattle.node_core.specs.declared.plant.Plant.{Plant}
 use Rattle.node_core.specs.PeerParts.{part_after}
 use Rattle.node_core.specs.Room.{past_of}
 use Rattle.node_core.specs.Stored.{IsPeerThere, IsChanged}
@@ -18,8 +21,8 @@ unwrap-key-requires c =
     (seated-take (association_in (past_of c.self.inside.log) c.args.who)
     (free_at c.self.inside c.args.who c.self.view_is c.requires.close c.requires.free).seated)
 
-pub close-requires : goal.close-requires
-close-requires c =
+pub close-requires-2 : goal.close-requires-2
+close-requires-2 c =
     let peer = c.unwrap-key.result.peer in
     let seat = seated_by c.self.inside c.self.invariant c.args.who c.association.ensures
     c.unwrap-key.ensures in
@@ -39,10 +42,14 @@ invariant_of-self c =
     let changed = subst (λ (those : CentreRows). (now : ℕ)
     → IsChanged c.self.inside.parts.peers.items key.peer
     (part_after (own_tables those key.peer) now (own key.ordinal closes))
-    c.close.new.self.peers.items)
-    c.deref.ensures c.close.ensures in
+    c.close-2.new.self.peers.items)
+    c.deref.ensures c.close-2.ensures in
     ended c.self.inside c.self.invariant c.args.who c.append.new.self c.requires.close
     c.append.ensures
     (c.unseat.ensures.count (ap is_some (sym c.association.ensures ∙ c.unwrap-key.ensures))) tt
-    (IsNode-close _ _ _ _ c.self.invariant.0 c.args.who c.unseat.new.self c.close.new.self key
-    seat.0 c.unseat.ensures.points c.unseat.ensures.clock c.unseat.ensures.seats changed)
+    (IsNode-close _ _ _ _ c.self.invariant.0 c.args.who _ c.close-2.new.self key seat.0
+    (ap (λ (p : Plant). p.points) c.unseat.ensures.plant)
+    (c.close.ensures ∙ ap (λ (p : Plant). record p.devices {
+      devices = map (moved (closed key)) p.devices.devices;
+    }) c.unseat.ensures.plant)
+    c.unseat.ensures.clock c.unseat.ensures.seats changed)

@@ -1,8 +1,9 @@
-use Rattle.std.proofs.Common.{◌≡◌, [], map, subst}
+use Rattle.std.proofs.Common.{◌≡◌, [], map, subst, arith}
 use Rattle.std.specs.Arc.{arc_value}
 use Rattle.point_db.specs.Stored.{Keeps as KeepsPoints}
 use Rattle.bilateral.specs.declared.rows.Table.{Table}
 use Rattle.bilateral.specs.Rows.{CentreRows, IsCentre}
+use Rattle.node_devices.specs.DeviceBanks.{IsDeviceBank}
 use Rattle.node_core.specs.LastValues.{kinds_of}
 use Rattle.node_core.specs.PeerParts.{new_part}
 use Rattle.node_core.specs.Stored.{IsNode, found_by}
@@ -15,13 +16,16 @@ invariant_of-result c =
     let hub = c.in_ok-hub.hub in
     let parts = c.in_ok-parts.parts in
     let start : IsNode rows [] hub parts = record {
-      common = IsCommon-new rows hub.points (found_by hub)
+      common = IsCommon-new rows hub.plant (found_by hub)
           (subst (λ (those : CentreRows). IsCentre those) c.deref-2.ensures
           c.in_ok-parts.ensures.lawful)
-          (subst (λ (those : CentreRows). KeepsPoints (kinds_of those) [] hub.points)
-          c.deref.ensures c.in_ok-hub.ensures.kept)
+          (subst (λ (those : CentreRows). KeepsPoints (kinds_of those) [] hub.plant.points)
+          c.deref.ensures c.in_ok-hub.ensures.points)
+          (subst (λ (those : CentreRows). IsDeviceBank those [] hub.plant.devices)
+          c.deref.ensures c.in_ok-hub.ensures.devices)
           c.in_ok-hub.ensures.free;
       clock = c.in_ok-hub.ensures.clock;
+      timed = rw c.in_ok-hub.ensures.clock (omega arith);
       peers = AreParts-new rows parts.peers.items
           (subst (λ (those : CentreRows). parts.peers.items
           ≡ map (λ (table : Table). new_part table.sets) those.tables) c.deref-2.ensures

@@ -43,7 +43,7 @@ pub invariant_of-self-in_err-seat : goal.invariant_of-self-in_err-seat
 invariant_of-self-in_err-seat c =
     unlogged c.self.inside c.self.invariant c.reserve.new.self c.in_ok-reserve.ensures.entries
     c.in_ok-reserve.ensures.room c.in_err-seat.ensures.same_count
-    (IsNode-alike _ _ _ c.seat.new.self _ c.self.inside.parts c.in_err-seat.ensures.points
+    (IsNode-alike _ _ _ c.seat.new.self _ c.self.inside.parts c.in_err-seat.ensures.plant
     c.in_err-seat.ensures.clock c.in_err-seat.ensures.err refl c.self.invariant.0)
 
 pub open-requires-clause-known : goal.open-requires-clause-known
@@ -69,7 +69,7 @@ invariant_of-self-in-Ok c =
     c.in_ok-reserve.ensures c.append.ensures one_more
     (ap (λ (k : ℕ). k + 1) c.open_count.ensures.count ∙ sym one_more)
     (IsNode-open _ _ _ _ c.self.invariant.0 c.args.who c.seat.new.self c.open.new.self
-    c.args.peer c.next_key-key.result known key_is c.in_ok-seat.ensures.points
+    c.args.peer c.next_key-key.result known key_is c.in_ok-seat.ensures.plant
     c.in_ok-seat.ensures.clock c.in_ok-seat.ensures.ok c.in-Ok.ensures.ok)
 
 pub returns-in-Ok-clause-answer : goal.returns-in-Ok-clause-answer
@@ -81,9 +81,9 @@ returns-in-Ok-clause-answer c =
     (opens_next _ _ _ _ c.self.invariant.0 c.args.peer c.next_key-key.result known
     c.next_key-key.ensures))
 
-pub invariant_of-self-in-Err-11 : goal.invariant_of-self-in-Err-11
-invariant_of-self-in-Err-11 c =
-    let none = unseated (goal.at.invariant_of-self-in-Err-11 c).After-open_count in
+pub invariant_of-self-in-Err-12 : goal.invariant_of-self-in-Err-12
+invariant_of-self-in-Err-12 c =
+    let none = unseated (goal.at.invariant_of-self-in-Err-12 c).After-open_count in
     let more = c.in_ok-seat.ensures.count none in
     let less = c.unseat.ensures.count
     (rw (c.in_ok-seat.ensures.ok c.args.who, eq-eqb c.args.who c.args.who refl) refl) in
@@ -92,7 +92,7 @@ invariant_of-self-in-Err-11 c =
     unlogged c.self.inside c.self.invariant c.reserve.new.self c.in_ok-reserve.ensures.entries
     c.in_ok-reserve.ensures.room same
     (IsNode-alike _ _ _ c.unseat.new.self _ c.open.new.self
-    (c.unseat.ensures.points ∙ c.in_ok-seat.ensures.points)
+    (c.unseat.ensures.plant ∙ c.in_ok-seat.ensures.plant)
     (c.unseat.ensures.clock ∙ c.in_ok-seat.ensures.clock)
     (unseated_again c.args.who c.next_key-key.result (found_by c.self.inside.hub)
     (found_by c.seat.new.self) (found_by c.unseat.new.self) none c.in_ok-seat.ensures.ok

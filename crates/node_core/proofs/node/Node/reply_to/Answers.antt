@@ -1,4 +1,4 @@
-use Rattle.std.proofs.Common.{reverse, sym, ap, subst, ◌∙◌}
+use Rattle.std.proofs.Common.{reverse, refl, sym, ap, subst, ◌∙◌}
 use Rattle.std.specs.Arc.{arc_value}
 use Rattle.bilateral.specs.Rows.{CentreRows, IsCentre}
 use Rattle.tase_views.specs.OwnTables.{own_tables}
@@ -27,7 +27,7 @@ peer_view-shown-requires-clause-there c =
 pub peer_view-shown-requires-clause-shown : goal.peer_view-shown-requires-clause-shown
 peer_view-shown-requires-clause-shown c =
     let known = rw (← c.self.view_is) at c.requires.known in
-    showable _ _ _ _ c.self.invariant.0 c.args.key.peer known _ _ c.deref.ensures c.points.ensures
+    showable _ _ _ _ c.self.invariant.0 c.args.key.peer known _ _ c.deref.ensures refl
 
 pub returns : goal.returns
 returns c =
@@ -36,7 +36,7 @@ returns c =
     let peer = c.args.key.peer in
     let known = rw (← c.self.view_is) at c.requires.known in
     let shown = shown_is rows past _ _ c.self.invariant.0 peer known _ _ c.deref.ensures
-    c.points.ensures c.peer_view-shown.result c.peer_view-shown.ensures in
+    refl c.peer_view-shown.result c.peer_view-shown.ensures in
     c.in_ok-reply.ensures (updates_in past) (own_tables rows peer) (view_of rows peer past) shown
     ∙ ap (λ (node : NodeState). reply_to (own_tables node.setup.centre peer)
     (view_of node.setup.centre peer (reverse node.history)) c.args.key.ordinal c.args.call.now)

@@ -1,6 +1,5 @@
-use Rattle.std.proofs.Common.{◌≡◌, ◌∷◌, refl, sym, ◌∙◌}
+use Rattle.std.proofs.Common.{◌∷◌, refl}
 use Rattle.std.specs.Arc.{arc_value}
-use Rattle.std.specs.HashMap.{hash_map_len}
 use Rattle.node_core.specs.Room.{past_of}
 use Rattle.node_core.specs.LastValues.{kinds_of, updates_in}
 use Rattle.node_core.proofs.Causes.{named-update}
@@ -43,24 +42,20 @@ invariant_of-self-2 c =
     let rows = arc_value c.self.inside.centre in
     let past = past_of c.self.inside.log in
     let free = free_at c.self.inside c.args.who c.self.view_is c.requires.update c.requires.free in
-    let same : hash_map_len c.update-changed.new.self.seats
-    ≡ hash_map_len c.self.inside.hub.seats =
-    rw c.update-changed.ensures.seats refl in
     let before = c.self.invariant.0.common.kept in
     let kept = c.update-changed.ensures.kept (kinds_of rows) (updates_in past) before in
     logged c.self.inside c.self.invariant c.args.who c.reserve.new.self c.append.new.self
     c.open_count.result c.self.view_is c.requires.update c.requires.free refl
-    c.in_ok-reserve.ensures c.append.ensures same (c.open_count.ensures.count ∙ sym same)
-    (IsNode-update rows past _ _ c.self.invariant.0 c.args.who c.update-changed.new.self
+    c.in_ok-reserve.ensures c.append.ensures refl c.open_count.ensures.count
+    (IsNode-update rows past _ _ c.self.invariant.0 c.args.who _
     c.note_all.new.self c.deref.result.now c.last_tick.result c.args.point c.args.value
     c.prepare_all.new.self c.update-changed.result c.cov-count.result c.deref.ensures
-    (c.last_tick.ensures ∙ c.update-changed.ensures.clock)
+    c.last_tick.ensures
     (known-point rows c.args.point c.args.value
     (named-update rows c.args.point c.args.value free.named))
-    c.prepare_all.ensures.alike c.in_ok-prepare_all.ensures.ok kept
+    c.prepare_all.ensures.alike c.in_ok-prepare_all.ensures.ok kept refl
     (c.update-changed.ensures.changed (kinds_of rows) (updates_in past) before)
     (c.cov-count.ensures (kinds_of rows)
     (record { point = c.args.point; value = c.args.value } ∷ updates_in past)
-    (rw c.points.ensures kept))
-    c.note_all.ensures.changed c.note_all.ensures.same c.update-changed.ensures.seats
-    c.update-changed.ensures.clock)
+    kept)
+    c.note_all.ensures.changed c.note_all.ensures.same refl refl)

@@ -1,5 +1,5 @@
 use Rattle.std.proofs.Common.{◌≡◌, ◌<◌, ◌++◌, ℕ, List, [], length, Some, Option, refl, sym, ap}
-use Rattle.std.proofs.Common.{subst, ◌∙◌}
+use Rattle.std.proofs.Common.{subst, ◌∙◌, arith}
 use Rattle.std.specs.Arc.{arc_value}
 use Rattle.bilateral.specs.Rows.{CentreRows}
 use Rattle.tase_views.specs.declared.call.CallKind.{CallKind}
@@ -16,12 +16,19 @@ use Rattle.std.specs.Prelude.{slice_get}
 use Rattle.mms_data.specs.Datum.{Datum}
 use Rattle.mms_data.specs.ObjectName.{ObjectName}
 use Rattle.tase_views.specs.declared.reply.ReplyKind.TheVariants.{Written}
-use Rattle.node_core.specs.Found.{IsThere, table_at, offered}
-use Rattle.node_core.specs.SlotWrites.{all_asked, all_answers, all_slots}
+use Rattle.node_core.specs.Found.{TableInForce, IsThere, table_at, offered}
+use Rattle.sbo_device.specs.declared.order.Order.{Order}
+use Rattle.sbo_device.specs.Banks.{DeviceRecord}
+use Rattle.node_core.specs.declared.writes.Asked.{Asked}
+use Rattle.std.specs.List.{All}
+use Rattle.node_core.specs.SlotWrites.{IsAskedThere, all_asked, all_answers, all_slots}
+use Rattle.node_core.specs.DeviceWrites.{all_left, all_devices, all_orders}
+use Rattle.node_core.proofs.DevicesKept.{bank_many}
+use Rattle.node_core.proofs.DeviceActs.{left_many}
 use Rattle.node_core.proofs.NodeSteps.{IsNode-write, peer_there, its_part}
 use Rattle.node_core.proofs.PeerViews.{there_is, offered_is, written_is}
 use Rattle.node_core.proofs.node.Node.write.Goals as goal
-use Rattle.node_core.proofs.node.Node.write.Goals.{After-unwrap-key, After-write}
+use Rattle.node_core.proofs.node.Node.write.Goals.{After-unwrap-key, After-write_devices, After-write}
 
 seat : (c : After-unwrap-key) → IsSeated c.self.inside c.args.who c.unwrap-key.result
 seat c =
@@ -32,25 +39,42 @@ called c =
     sym (ap (λ (k : CallKind). Request k) (sym c.in-Write.is ∙ c.kind-2.ensures.value)
     ∙ sym c.in-Request.is ∙ c.kind.ensures)
 
+-- what is left of it for transfer sets
+left_is : (c : After-write_devices) → c.write_devices.new.left.items
+    ≡ all_left c.unwrap-key.result c.in_ok-asked.asked.items
+    c.self.inside.hub.plant.devices.devices
+left_is c =
+    c.write_devices.ensures.left
+    ∙ ap (λ (front : List Asked). front ++ all_left c.unwrap-key.result c.in_ok-asked.asked.items
+    c.room.new.self.devices) (c.in_ok-reserve.ensures.items ∙ c.new-left.ensures.items)
+    ∙ ap (all_left c.unwrap-key.result c.in_ok-asked.asked.items) c.room.ensures.devices
+
 -- what is asked, by the peer's table in force
 asks : (c : After-write)
     → (c.unwrap-key.result.peer < length (arc_value c.self.inside.centre).tables) → (part : Peer)
     → slice_get c.self.inside.parts.peers.items c.unwrap-key.result.peer ≡ Some part
     → c.in_ok-asked.asked.items
-    ≡ all_asked (table_in (own_tables (arc_value c.self.inside.centre) c.unwrap-key.result.peer)
+    ≡ all_asked (arc_value c.self.inside.centre)
+    (table_in (own_tables (arc_value c.self.inside.centre) c.unwrap-key.result.peer)
     part.variant) c.in-Write.names c.in-Write.values
 asks c known part at =
     let peer = c.unwrap-key.result.peer in
     let table = table_in (own_tables (arc_value c.self.inside.centre) peer) part.variant in
+    let rows = arc_value c.self.inside.centre in
     c.in_ok-asked.ensures.value
-    ∙ ap (λ (table : OwnTable). all_asked table c.as_slice.result.now c.as_slice-2.result.now)
-    (ap offered (c.new-table.ensures
+    ∙ ap (λ (t : TableInForce). all_asked t.rows (offered t) c.as_slice.result.now
+    c.as_slice-2.result.now) (c.new-table.ensures
     ∙ ap (λ (variant : ℕ). table_at c.deref.result.now peer variant) (c.force.ensures part at))
-    ∙ offered_is _ _ _ _ c.self.invariant.0 peer known c.deref.result.now c.self.inside.hub.points
+    ∙ ap (λ (those : CentreRows). all_asked those (offered (table_at c.deref.result.now peer
+    part.variant)) c.as_slice.result.now c.as_slice-2.result.now) c.deref.ensures
+    ∙ ap (λ (table : OwnTable). all_asked rows table c.as_slice.result.now
+    c.as_slice-2.result.now)
+    (offered_is _ _ _ _ c.self.invariant.0 peer known c.deref.result.now c.self.inside.hub.plant
     c.deref.ensures refl part at)
-    ∙ ap (λ (names : List ObjectName). all_asked table names c.as_slice-2.result.now)
+    ∙ ap (λ (names : List ObjectName). all_asked rows table names c.as_slice-2.result.now)
     c.as_slice.ensures
-    ∙ ap (λ (values : List Datum). all_asked table c.in-Write.names values) c.as_slice-2.ensures
+    ∙ ap (λ (values : List Datum). all_asked rows table c.in-Write.names values)
+    c.as_slice-2.ensures
 
 pub new-table-requires : goal.new-table-requires
 new-table-requires c =
@@ -61,12 +85,12 @@ new-table-requires c =
     let part = its_part _ _ _ _ n peer known in
     subst (λ (those : CentreRows). IsThere those peer c.force.result) (sym c.deref.ensures)
     (subst (λ (variant : ℕ). IsThere rows peer variant) (sym (c.force.ensures part.0 part.1))
-    (there_is _ _ _ _ n peer known rows c.self.inside.hub.points refl refl part.0 part.1))
+    (there_is _ _ _ _ n peer known rows c.self.inside.hub.plant refl refl part.0 part.1))
 
 pub invariant_of-self : goal.invariant_of-self
 invariant_of-self c =
-    unlogged c.self.inside c.self.invariant c.reserve-2.new.self c.reserve-2.ensures.entries
-    c.reserve-2.ensures.room refl c.self.invariant.0
+    unlogged c.self.inside c.self.invariant c.reserve-3.new.self c.reserve-3.ensures.entries
+    c.reserve-3.ensures.room refl c.self.invariant.0
 
 pub write-requires-clause-there : goal.write-requires-clause-there
 write-requires-clause-there c =
@@ -77,7 +101,7 @@ write-requires-clause-there c =
     (seat (goal.at.write-requires-clause-there c).After-unwrap-key).1)
 
 pub append-requires-clause-light : goal.append-requires-clause-light
-append-requires-clause-light c = light_enough (c.in_ok-reserve-2.ensures.room _ c.self.invariant.1)
+append-requires-clause-light c = light_enough (c.in_ok-reserve-3.ensures.room _ c.self.invariant.1)
 
 pub invariant_of-self-2 : goal.invariant_of-self-2
 invariant_of-self-2 c =
@@ -86,18 +110,31 @@ invariant_of-self-2 c =
     let seated = seat (goal.at.invariant_of-self-2 c).After-unwrap-key in
     let now = c.last_tick-now.result in
     let asked = c.in_ok-asked.asked.items in
+    let devices = c.self.inside.hub.plant.devices.devices in
     let changed = subst (λ (those : CentreRows). IsChanged c.self.inside.parts.peers.items key.peer
     (λ (part : Peer). record part {
       slots = all_slots (table_in (own_tables those key.peer) part.variant) part.book key.ordinal
-          now asked part.slots;
-    }) c.write.new.self.peers.items) c.deref-2.ensures c.write.ensures.parts in
-    logged c.self.inside c.self.invariant c.args.who c.reserve-2.new.self c.append.new.self
+          now (all_left key asked devices) part.slots;
+    }) c.write.new.self.peers.items) c.deref-2.ensures
+    (subst (λ (these : List Asked). IsChanged c.self.inside.parts.peers.items key.peer
+    (λ (part : Peer). record part {
+      slots = all_slots (table_in (own_tables c.deref-2.result.now key.peer) part.variant)
+          part.book key.ordinal now these part.slots;
+    }) c.write.new.self.peers.items) (left_is (goal.at.invariant_of-self-2 c).After-write_devices)
+    c.write.ensures.parts) in
+    logged c.self.inside c.self.invariant c.args.who c.reserve-3.new.self c.append.new.self
     c.open_count.result c.self.view_is (called (goal.at.invariant_of-self-2 c).After-write)
-    c.requires.free refl c.in_ok-reserve-2.ensures c.append.ensures refl
+    c.requires.free refl c.in_ok-reserve-3.ensures c.append.ensures refl
     c.open_count.ensures.count
-    (IsNode-write _ _ _ _ n c.args.who c.self.inside.hub c.write.new.self now key
-    c.in-Write.names c.in-Write.values asked (c.last_tick-now.ensures ∙ n.clock) seated.0 refl
-    (asks (goal.at.invariant_of-self-2 c).After-write seated.1) changed)
+    (IsNode-write _ _ _ _ n c.args.who _ c.write.new.self now key
+    c.in-Write.names c.in-Write.values asked (c.last_tick-now.ensures ∙ n.clock) seated.0 refl refl
+    refl (asks (goal.at.invariant_of-self-2 c).After-write seated.1)
+    (c.write_devices.ensures.devices ∙ ap (all_devices key asked) c.room.ensures.devices)
+    (c.write_devices.ensures.orders
+    ∙ ap (λ (orders : List Order). orders ++ all_orders key asked c.room.new.self.devices)
+    c.room.ensures.orders
+    ∙ ap (λ (these : List DeviceRecord). c.self.inside.hub.plant.devices.orders
+    ++ all_orders key asked these) c.room.ensures.devices) changed)
 
 pub returns-clause-answer : goal.returns-clause-answer
 returns-clause-answer c =
@@ -107,13 +144,19 @@ returns-clause-answer c =
     let seated = seat (goal.at.returns-clause-answer c).After-unwrap-key in
     let now = c.last_tick-now.result in
     let asked = c.in_ok-asked.asked.items in
+    let devices = c.self.inside.hub.plant.devices.devices in
     let part = its_part _ _ _ _ n key.peer seated.1 in
     let answers = subst (λ (those : CentreRows). c.write.new.results.items
-    ≡ c.reserve.new.self.items ++ all_answers
-    (table_in (own_tables those key.peer) part.0.variant) part.0.book key.ordinal now asked
-    part.0.slots) c.deref-2.ensures (c.write.ensures.answers part.0 part.1) in
-    let none : c.reserve.new.self.items ≡ [] =
-    c.in_ok-reserve.ensures.items ∙ c.new-results.ensures.items in
+    ≡ c.reserve-2.new.self.items ++ all_answers
+    (table_in (own_tables those key.peer) part.0.variant) part.0.book key.ordinal now
+    (all_left key asked devices) part.0.slots) c.deref-2.ensures
+    (subst (λ (these : List Asked). c.write.new.results.items
+    ≡ c.reserve-2.new.self.items ++ all_answers
+    (table_in (own_tables c.deref-2.result.now key.peer) part.0.variant) part.0.book key.ordinal
+    now these part.0.slots) (left_is (goal.at.returns-clause-answer c).After-write_devices)
+    (c.write.ensures.answers part.0 part.1)) in
+    let none : c.reserve-2.new.self.items ≡ [] =
+    c.in_ok-reserve-2.ensures.items ∙ c.new-results.ensures.items in
     rw (← c.self.view_is) (IsAnswer-request (seen_as c.self.inside).setup
     (past_of c.self.inside.log) c.args.who c.args.event
     (Write c.in-Write.names c.in-Write.values) key c.written.result
@@ -122,8 +165,39 @@ returns-clause-answer c =
     ∙ ap (λ (results : List (Option ℕ)). Written results)
     (answers
     ∙ ap (λ (front : List (Option ℕ)). front ++ all_answers
-    (table_in (own_tables rows key.peer) part.0.variant) part.0.book key.ordinal now asked
-    part.0.slots) none
-    ∙ written_is _ _ _ _ n key.peer seated.1 rows c.self.inside.hub.points refl refl part.0 part.1
+    (table_in (own_tables rows key.peer) part.0.variant) part.0.book key.ordinal now
+    (all_left key asked devices) part.0.slots) none
+    ∙ written_is _ _ _ _ n key.peer seated.1 rows c.self.inside.hub.plant refl refl part.0 part.1
     key.ordinal now c.in-Write.names c.in-Write.values asked (c.last_tick-now.ensures ∙ n.clock)
     (asks (goal.at.returns-clause-answer c).After-write seated.1 part.0 part.1))))
+
+pub invariant_of-self-in_err-room : goal.invariant_of-self-in_err-room
+invariant_of-self-in_err-room c =
+    unlogged c.self.inside c.self.invariant c.reserve-3.new.self c.in_ok-reserve-3.ensures.entries
+    c.in_ok-reserve-3.ensures.room refl
+    (rw c.in_err-room.ensures.err c.self.invariant.0)
+
+pub write_devices-requires-clause-there : goal.write_devices-requires-clause-there
+write_devices-requires-clause-there c =
+    let many : length c.new-table.result.rows.devices ≡ length c.room.new.self.devices =
+    ap (λ (t : TableInForce). length t.rows.devices) c.new-table.ensures
+    ∙ ap (λ (those : CentreRows). length those.devices) c.deref.ensures
+    ∙ sym (bank_many _ _ _ c.self.invariant.0.common.devices)
+    ∙ ap (λ (devices : List DeviceRecord). length devices) (sym c.room.ensures.devices) in
+    subst (λ (n : ℕ). All (IsAskedThere n) c.in_ok-asked.asked.items) many
+    c.in_ok-asked.ensures.there
+
+pub write-requires-clause-room : goal.write-requires-clause-room
+write-requires-clause-room c =
+    let left = left_is (goal.at.write-requires-clause-room c).After-write_devices in
+    let many = ap (λ (these : List Asked). length these) left
+    ∙ left_many c.unwrap-key.result c.in_ok-asked.asked.items
+    c.self.inside.hub.plant.devices.devices in
+    omega (
+      arith,
+      many,
+      c.in_ok-reserve-2.ensures.ok,
+      c.in_ok-reserve-2.ensures.len,
+      c.len-2.ensures,
+      c.in_ok-asked.asked.ok,
+    )

@@ -21,6 +21,6 @@ returns-clause-alike c =
 pub returns-clause-ok : goal.returns-clause-ok
 returns-clause-ok c =
     OneBecomes-set
-    (λ part after. IsDrafted c.args.centre.now c.args.peer c.args.points.now c.args.cause after)
+    (λ part after. IsDrafted c.args.centre.now c.args.peer c.args.plant.now c.args.cause after)
     c.args.self.now.peers.items c.args.peer c.index_mut.result.now c.draft.new.self
     c.requires.there.part c.index_mut.ensures.value c.in_ok-draft.ensures.ok

@@ -7,7 +7,7 @@ use Rattle.node_core.proofs.peer.Peer.reports.Goals as goal
 pub returns : goal.returns
 returns c =
     let part = c.args.self.now in
-    let shown : Shown = shown_of c.args.centre.now c.args.number part c.args.points.now in
+    let shown : Shown = shown_of c.args.centre.now c.args.number part c.args.plant.now in
     subst (λ (ordinal : ℕ). IfOk c.reports.result (IsMade shown c.args.cause ordinal))
     c.ordinal.ensures
     (subst (λ (s : Shown). IfOk c.reports.result (IsMade s c.args.cause c.ordinal.result))

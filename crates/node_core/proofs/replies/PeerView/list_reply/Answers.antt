@@ -3,18 +3,14 @@ use Rattle.std.specs.Int.{w64}
 use Rattle.std.proofs.lemmas.Int.{to_z-of_z}
 use Rattle.tase_views.specs.declared.call.CallKind.TheVariants.{NameList}
 use Rattle.tase_views.specs.Answers.{reply_to}
-use Rattle.node_core.specs.Shown.{Shown, InEachView}
+use Rattle.node_core.specs.Shown.{Shown, shown_by, InEachView}
 use Rattle.node_core.proofs.Answered.{ok_in_each}
 use Rattle.node_core.proofs.replies.PeerView.list_reply.Goals as goal
 
 pub returns-clause-value : goal.returns-clause-value
 returns-clause-value c =
-    let given : Shown = record {
-      table = c.self.inside.table;
-      book = c.self.inside.book.now;
-      slots = c.self.inside.slots.now;
-      points = c.self.inside.points.now;
-    } in
+    let given : Shown = shown_by c.self.inside.peer c.self.inside.table c.self.inside.book.now
+    c.self.inside.slots.now c.self.inside.plant.now in
     let plain = to_z-of_z w64 c.args.class c.ranges.class in
     ok_in_each given c.args.self.now
     (λ tables view ordinal. reply_to tables view ordinal

@@ -3,9 +3,9 @@ use Rattle.std.proofs.Common.{ap, ◌∙◌, arith}
 use Rattle.bilateral.specs.declared.rows.Table.{Table}
 use Rattle.mms_data.specs.declared.outcome.Outcome.{Outcome}
 use Rattle.bilateral.specs.Rows.{place_of_see}
-use Rattle.tase_views.specs.OwnTables.{OwnTables, own_point}
+use Rattle.tase_views.specs.OwnTables.{OwnTables, own_point, own_device}
 use Rattle.tase_views.specs.Objects.{Object, object_named, indication_point, next_transfer_set}
-use Rattle.tase_views.specs.Objects.{transfer_set}
+use Rattle.tase_views.specs.Objects.{transfer_set, device_tag}
 use Rattle.tase_views.specs.View.{View}
 use Rattle.node_core.specs.Found.{offered, special_object}
 use Rattle.node_core.specs.SlotsKept.{object_shown, drafted}
@@ -138,3 +138,30 @@ returns-in-None-clause-value c = λ updates tables view s.
     let named = subst (λ (s : Shown). None ≡ object_named (offered s.table) name) c.self.view_is
     c.in-None.ensures.named in
     ap (object_shown tables (offered c.args.self.now.table) view d.ordinal (drafted d)) named
+
+pub returns-in-Some-DeviceTag-clause-value : goal.returns-in-Some-DeviceTag-clause-value
+returns-in-Some-DeviceTag-clause-value c =
+    let name = c.args.name.now in
+    let control = c.in-Some-DeviceTag.control.now in
+    let d = c.args.draft.now in
+    let inside : Some (device_tag (own_device c.self.inside.table.rows control))
+    ≡ object_named (offered c.self.inside.table) name =
+    rw c.in-Some-DeviceTag.field-0-is at c.in-Some-DeviceTag.ensures.named in
+    let named = subst (λ (s : Shown). Some (device_tag (own_device s.table.rows control))
+    ≡ object_named (offered s.table) name) c.self.view_is inside in
+    ok_of c.read_tag.result
+    (λ outcome each updates tables view s. each updates tables view s d.ordinal
+    ∙ ap (object_shown tables (offered c.args.self.now.table) view d.ordinal (drafted d)) named)
+    c.read_tag.ensures.value
+
+pub returns-in-Some-DeviceTag-clause-draft : goal.returns-in-Some-DeviceTag-clause-draft
+returns-in-Some-DeviceTag-clause-draft c =
+    let name = c.args.name.now in
+    let control = c.in-Some-DeviceTag.control.now in
+    let inside : Some (device_tag (own_device c.self.inside.table.rows control))
+    ≡ object_named (offered c.self.inside.table) name =
+    rw c.in-Some-DeviceTag.field-0-is at c.in-Some-DeviceTag.ensures.named in
+    let named = subst (λ (s : Shown). Some (device_tag (own_device s.table.rows control))
+    ≡ object_named (offered s.table) name) c.self.view_is inside in
+    drafted-kept c.read_tag.result (offered c.args.self.now.table) name
+    (Some (device_tag (own_device c.args.self.now.table.rows control))) c.args.draft.now named refl

@@ -4,7 +4,7 @@ use Rattle.bilateral.specs.Rows.{place_of_see}
 use Rattle.tase_views.specs.OwnTables.{own_point}
 use Rattle.tase_views.specs.Answers.{outcome_of_point}
 use Rattle.node_core.specs.LastValues.{kinds_of}
-use Rattle.node_core.specs.Shown.{Shown, InEachView}
+use Rattle.node_core.specs.Shown.{Shown, shown_by, InEachView}
 use Rattle.node_core.proofs.Known.{named_is_there}
 use Rattle.node_core.proofs.Answered.{outcome_of_point-row}
 use Rattle.node_core.proofs.Lawful.{shown_lawful}
@@ -36,12 +36,8 @@ returns-clause-value c =
     (sym c.self.view_is) c.requires in
     let there = named_is_there (length t.rows.points) t.table see.point
     c.table-lawful.ensures.lawful.known seen in
-    let given : Shown = record {
-      table = c.self.inside.table;
-      book = c.self.inside.book.now;
-      slots = c.self.inside.slots.now;
-      points = c.self.inside.points.now;
-    } in
+    let given : Shown = shown_by c.self.inside.peer c.self.inside.table c.self.inside.book.now
+    c.self.inside.slots.now c.self.inside.plant.now in
     subst (λ (shown : Shown). InEachView shown (λ tables view. Good c.in_ok-shown.shown
     ≡ outcome_of_point view (own_point shown.table.rows see))) c.self.view_is
     (λ updates tables view s. rw c.in_ok-shown.ensures

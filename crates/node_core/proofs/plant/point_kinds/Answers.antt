@@ -2,7 +2,7 @@ use Rattle.std.proofs.Common.{refl, arith}
 use Rattle.std.proofs.lemmas.List.{map_more}
 use Rattle.std.proofs.lemmas.Option.{get_or_from_slice_get}
 use Rattle.bilateral.specs.Rows.{no_point}
-use Rattle.node_core.proofs.hub.point_kinds.Goals as goal
+use Rattle.node_core.proofs.plant.point_kinds.Goals as goal
 
 pub loop-point-preserved : goal.loop-point-preserved
 loop-point-preserved c =
