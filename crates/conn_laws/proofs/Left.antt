@@ -7,7 +7,6 @@ use Rattle.std.proofs.lemmas.Bool.{false≢true}
 use Rattle.std.proofs.lemmas.List.{append-nil, append_cancel_left, reverse-append}
 use Rattle.mms_services.specs.declared.initiate.Initiate.{Initiate}
 use Rattle.stack_wire.specs.declared.setup.AssociationSetup.{AssociationSetup}
-use Rattle.stack_assoc.specs.declared.input.StackIn.TheVariants as inputs
 use Rattle.stack_assoc.specs.declared.end_state.EndState.{EndState}
 use Rattle.stack_assoc.specs.Arrivals.{Arrival, called, first_in, connect_in}
 use Rattle.stack_assoc.specs.Handing.{answers_to}
@@ -29,7 +28,6 @@ use Rattle.tase_map.specs.Sent.{events_by, turns_left, with_event}
 use Rattle.tase_map.proofs.Adding.{close_adds}
 use Rattle.tase_conn.specs.declared.stage.PendingEvent.{PendingEvent}
 use Rattle.tase_conn.specs.declared.stage.PendingEvent.TheVariants as askeds
-use Rattle.tase_conn.specs.declared.stage.Coming.TheVariants as comings
 use Rattle.tase_conn.specs.declared.stage.ConnEnd.{ConnEnd}
 use Rattle.tase_conn.specs.declared.stage.Progress.{Progress}
 use Rattle.tase_conn.specs.declared.stage.Progress.TheVariants as progresses
@@ -477,6 +475,8 @@ close_of (progresses.Leaving left true) (events.Update point value) end old p w 
 close_of (progresses.Leaving left true) (events.Table chooser variant) end old p w = absurd w
 close_of (progresses.Leaving left true) (events.Tick now) end old p w = absurd w
 close_of (progresses.Leaving left true) (events.Ask asker slot) end old p w = absurd w
+close_of (progresses.Leaving left true) (events.Tag device tag) end old p w = absurd w
+close_of (progresses.Leaving left true) events.TakeOrders end old p w = absurd w
 close_of (progresses.Leaving left true) events.Stop end old p w = absurd w
 close_of (progresses.Ended left) event end old p w = absurd w
 close_of (progresses.Cut left) event end old p w = absurd w

@@ -9,7 +9,8 @@ use Rattle.sbo_device.specs.declared.key.Key.{Key}
 use Rattle.bilateral.specs.Rows.{CentreRows}
 use Rattle.tase_views.specs.declared.event.EventKind.{EventKind}
 use Rattle.tase_views.specs.declared.event.EventKind.TheVariants.{Open, Request, Take, Close}
-use Rattle.tase_views.specs.declared.event.EventKind.TheVariants.{Update, Table, Tick, Ask, Stop}
+use Rattle.tase_views.specs.declared.event.EventKind.TheVariants.{Update, Table, Tick, Ask}
+use Rattle.tase_views.specs.declared.event.EventKind.TheVariants.{Tag, TakeOrders, Stop}
 use Rattle.tase_views.specs.declared.event.Entry.{Entry}
 use Rattle.tase_views.specs.Moves.{sort_of}
 use Rattle.tase_views.specs.History.{Past, opens_in, association_after}
@@ -105,6 +106,8 @@ after_opened (Update point value) past before found key g e = g e
 after_opened (Table chooser variant) past before found key g e = g e
 after_opened (Tick now) past before found key g e = g e
 after_opened (Ask asker slot) past before found key g e = g e
+after_opened (Tag device tag) past before found key g e = g e
+after_opened TakeOrders past before found key g e = g e
 after_opened Stop past before found key g e = g e
 
 seat_by : (b : Bool) (event : EventKind) (past : Past) (before found : Option Key) (key : Key)
@@ -143,6 +146,10 @@ other_key (Table chooser variant) past other who key apart e f =
 other_key (Tick now) past other who key apart e f =
     apart (one_seat past other who key f e)
 other_key (Ask asker slot) past other who key apart e f =
+    apart (one_seat past other who key f e)
+other_key (Tag device tag) past other who key apart e f =
+    apart (one_seat past other who key f e)
+other_key TakeOrders past other who key apart e f =
     apart (one_seat past other who key f e)
 other_key Stop past other who key apart e f = apart (one_seat past other who key f e)
 

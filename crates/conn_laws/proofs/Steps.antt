@@ -42,7 +42,6 @@ use Rattle.tase_map.proofs.Uncut.{without-append}
 use Rattle.tase_conn.specs.declared.stage.Cause.{Cause}
 use Rattle.tase_conn.specs.declared.stage.Cause.TheVariants as causes
 use Rattle.tase_conn.specs.declared.stage.Stage.TheVariants as stages
-use Rattle.tase_conn.specs.declared.stage.PendingEvent.TheVariants as askeds
 use Rattle.tase_conn.specs.Places.{IsGranted, turn_for, position_at, with_coming, coming_by}
 use Rattle.tase_conn.specs.Answering.{closed_said, progress_closed, aborted}
 use Rattle.conn_laws.specs.Serving.{SaysOpen, SaysClosed, owed}

@@ -94,6 +94,7 @@ long_of items (answers.Opened key) end long = absurd cc
 long_of items (answers.Reply reply) end long = absurd cc
 long_of items answers.Closed end long = absurd cc
 long_of items answers.Noted end long = absurd cc
+long_of items (answers.Orders orders) end long = absurd cc
 
 long_aborts : (items : List Item) (answer : Answer) (end : ConnEnd)
     → end_answered items answer ≡ Some end → aborts end ≡ true

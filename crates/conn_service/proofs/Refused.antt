@@ -162,6 +162,8 @@ early_by rows past who items said (events.Update point value) peer granted v s w
 early_by rows past who items said (events.Table chooser variant) peer granted v s w = absurd w
 early_by rows past who items said (events.Tick now) peer granted v s w = absurd w
 early_by rows past who items said (events.Ask asker slot) peer granted v s w = absurd w
+early_by rows past who items said (events.Tag device tag) peer granted v s w = absurd w
+early_by rows past who items said events.TakeOrders peer granted v s w = absurd w
 early_by rows past who items said events.Stop peer granted v s w = absurd w
 
 -- an offer that stands unanswered isn't aborted

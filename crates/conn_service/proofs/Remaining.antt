@@ -144,6 +144,8 @@ asked_less setup past who (events.Update point value) askeds.Nothing w r = absur
 asked_less setup past who (events.Table chooser variant) askeds.Nothing w r = absurd w
 asked_less setup past who (events.Tick now) askeds.Nothing w r = absurd w
 asked_less setup past who (events.Ask asker slot) askeds.Nothing w r = absurd w
+asked_less setup past who (events.Tag device tag) askeds.Nothing w r = absurd w
+asked_less setup past who events.TakeOrders askeds.Nothing w r = absurd w
 asked_less setup past who events.Stop askeds.Nothing w r = absurd w
 asked_less setup past who (events.Open opened) (askeds.Opening peer granted) w r =
     open_less setup past who opened r
@@ -157,6 +159,10 @@ asked_less setup past who (events.Tick now) (askeds.Opening peer granted) w r =
     absurd w
 asked_less setup past who (events.Ask asker slot) (askeds.Opening peer granted) w r =
     absurd w
+asked_less setup past who (events.Tag device tag) (askeds.Opening peer granted) w r =
+    absurd w
+asked_less setup past who events.TakeOrders (askeds.Opening peer granted) w r =
+    absurd w
 asked_less setup past who events.Stop (askeds.Opening peer granted) w r = absurd w
 asked_less setup past who (events.Open opened) (askeds.Requesting invoke) w r = absurd w
 asked_less setup past who (events.Request call) (askeds.Requesting invoke) w r =
@@ -167,6 +173,8 @@ asked_less setup past who (events.Update point value) (askeds.Requesting invoke)
 asked_less setup past who (events.Table chooser variant) (askeds.Requesting invoke) w r = absurd w
 asked_less setup past who (events.Tick now) (askeds.Requesting invoke) w r = absurd w
 asked_less setup past who (events.Ask asker slot) (askeds.Requesting invoke) w r = absurd w
+asked_less setup past who (events.Tag device tag) (askeds.Requesting invoke) w r = absurd w
+asked_less setup past who events.TakeOrders (askeds.Requesting invoke) w r = absurd w
 asked_less setup past who events.Stop (askeds.Requesting invoke) w r = absurd w
 asked_less setup past who (events.Open opened) askeds.Taking w r = absurd w
 asked_less setup past who (events.Request call) askeds.Taking w r = absurd w
@@ -176,6 +184,8 @@ asked_less setup past who (events.Update point value) askeds.Taking w r = absurd
 asked_less setup past who (events.Table chooser variant) askeds.Taking w r = absurd w
 asked_less setup past who (events.Tick now) askeds.Taking w r = absurd w
 asked_less setup past who (events.Ask asker slot) askeds.Taking w r = absurd w
+asked_less setup past who (events.Tag device tag) askeds.Taking w r = absurd w
+asked_less setup past who events.TakeOrders askeds.Taking w r = absurd w
 asked_less setup past who events.Stop askeds.Taking w r = absurd w
 asked_less setup past who (events.Open opened) (askeds.Closing cause) w r = absurd w
 asked_less setup past who (events.Request call) (askeds.Closing cause) w r = absurd w
@@ -185,6 +195,8 @@ asked_less setup past who (events.Update point value) (askeds.Closing cause) w r
 asked_less setup past who (events.Table chooser variant) (askeds.Closing cause) w r = absurd w
 asked_less setup past who (events.Tick now) (askeds.Closing cause) w r = absurd w
 asked_less setup past who (events.Ask asker slot) (askeds.Closing cause) w r = absurd w
+asked_less setup past who (events.Tag device tag) (askeds.Closing cause) w r = absurd w
+asked_less setup past who events.TakeOrders (askeds.Closing cause) w r = absurd w
 asked_less setup past who events.Stop (askeds.Closing cause) w r = absurd w
 
 -- an event that waits and isn't refused leaves less

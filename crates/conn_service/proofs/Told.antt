@@ -81,6 +81,8 @@ timeless past events.Close isnt = refl
 timeless past (events.Update point value) isnt = refl
 timeless past (events.Table chooser variant) isnt = refl
 timeless past (events.Ask asker slot) isnt = refl
+timeless past (events.Tag device tag) isnt = refl
+timeless past events.TakeOrders isnt = refl
 timeless past events.Stop isnt = refl
 timeless past (events.Tick now) isnt = absurd (isnt now refl)
 
@@ -118,6 +120,8 @@ no_served_tick (events.Update point value ∷ es) now rest s = absurd s
 no_served_tick (events.Table chooser variant ∷ es) now rest s = absurd s
 no_served_tick (events.Tick moment ∷ es) now rest s = absurd s
 no_served_tick (events.Ask asker slot ∷ es) now rest s = absurd s
+no_served_tick (events.Tag device tag ∷ es) now rest s = absurd s
+no_served_tick (events.TakeOrders ∷ es) now rest s = absurd s
 no_served_tick (events.Stop ∷ es) now rest s = absurd s
 
 no_tick_in_turn : (rows : CentreRows) (es : List EventKind) (now : ℕ) (rest : List EventKind)
@@ -131,6 +135,8 @@ no_tick_in_turn rows (events.Update point value ∷ es) now rest t = absurd t
 no_tick_in_turn rows (events.Table chooser variant ∷ es) now rest t = absurd t
 no_tick_in_turn rows (events.Tick moment ∷ es) now rest t = absurd t
 no_tick_in_turn rows (events.Ask asker slot ∷ es) now rest t = absurd t
+no_tick_in_turn rows (events.Tag device tag ∷ es) now rest t = absurd t
+no_tick_in_turn rows (events.TakeOrders ∷ es) now rest t = absurd t
 no_tick_in_turn rows (events.Stop ∷ es) now rest t = absurd t
 
 -- an event that comes in turn
@@ -225,6 +231,8 @@ answer_told setup past who (events.Update point value) askeds.Nothing found w f 
 answer_told setup past who (events.Table chooser variant) askeds.Nothing found w f s = absurd w
 answer_told setup past who (events.Tick now) askeds.Nothing found w f s = absurd w
 answer_told setup past who (events.Ask asker slot) askeds.Nothing found w f s = absurd w
+answer_told setup past who (events.Tag device tag) askeds.Nothing found w f s = absurd w
+answer_told setup past who events.TakeOrders askeds.Nothing found w f s = absurd w
 answer_told setup past who events.Stop askeds.Nothing found w f s = absurd w
 answer_told setup past who (events.Open opened) (askeds.Opening peer granted) found w f s = tt
 answer_told setup past who (events.Request call) (askeds.Opening peer granted) found w f s =
@@ -238,6 +246,10 @@ answer_told setup past who (events.Table chooser variant)
 answer_told setup past who (events.Tick now)
     (askeds.Opening peer granted) found w f s = absurd w
 answer_told setup past who (events.Ask asker slot)
+    (askeds.Opening peer granted) found w f s = absurd w
+answer_told setup past who (events.Tag device tag)
+    (askeds.Opening peer granted) found w f s = absurd w
+answer_told setup past who events.TakeOrders
     (askeds.Opening peer granted) found w f s = absurd w
 answer_told setup past who events.Stop (askeds.Opening peer granted) found w f s = absurd w
 answer_told setup past who (events.Open opened) (askeds.Requesting invoke) found w f s = absurd w
@@ -255,6 +267,10 @@ answer_told setup past who (events.Tick now) (askeds.Requesting invoke) found w 
     absurd w
 answer_told setup past who (events.Ask asker slot) (askeds.Requesting invoke) found w f s =
     absurd w
+answer_told setup past who (events.Tag device tag) (askeds.Requesting invoke) found w f s =
+    absurd w
+answer_told setup past who events.TakeOrders (askeds.Requesting invoke) found w f s =
+    absurd w
 answer_told setup past who events.Stop (askeds.Requesting invoke) found w f s = absurd w
 answer_told setup past who (events.Open opened) askeds.Taking found w f s = absurd w
 answer_told setup past who (events.Request call) askeds.Taking found w f s = absurd w
@@ -267,6 +283,8 @@ answer_told setup past who (events.Update point value) askeds.Taking found w f s
 answer_told setup past who (events.Table chooser variant) askeds.Taking found w f s = absurd w
 answer_told setup past who (events.Tick now) askeds.Taking found w f s = absurd w
 answer_told setup past who (events.Ask asker slot) askeds.Taking found w f s = absurd w
+answer_told setup past who (events.Tag device tag) askeds.Taking found w f s = absurd w
+answer_told setup past who events.TakeOrders askeds.Taking found w f s = absurd w
 answer_told setup past who events.Stop askeds.Taking found w f s = absurd w
 answer_told setup past who (events.Open opened) (askeds.Closing cause) found w f s = absurd w
 answer_told setup past who (events.Request call) (askeds.Closing cause) found w f s = absurd w
@@ -282,6 +300,10 @@ answer_told setup past who (events.Tick now) (askeds.Closing cause) found w f s 
     absurd w
 answer_told setup past who (events.Ask asker slot) (askeds.Closing cause) found w f s =
     absurd w
+answer_told setup past who (events.Tag device tag) (askeds.Closing cause) found w f s =
+    absurd w
+answer_told setup past who events.TakeOrders (askeds.Closing cause) found w f s =
+    absurd w
 answer_told setup past who events.Stop (askeds.Closing cause) found w f s = absurd w
 
 pub nothing_waits : (event : EventKind)
@@ -294,6 +316,8 @@ nothing_waits (events.Update point value) w = absurd w
 nothing_waits (events.Table chooser variant) w = absurd w
 nothing_waits (events.Tick now) w = absurd w
 nothing_waits (events.Ask asker slot) w = absurd w
+nothing_waits (events.Tag device tag) w = absurd w
+nothing_waits events.TakeOrders w = absurd w
 nothing_waits events.Stop w = absurd w
 
 waits_told : (setup : Setup) (past : Past) (who : ℕ) (event : EventKind) (p : Progress)
@@ -337,6 +361,8 @@ closing_close cause (events.Update point value) w = absurd w
 closing_close cause (events.Table chooser variant) w = absurd w
 closing_close cause (events.Tick now) w = absurd w
 closing_close cause (events.Ask asker slot) w = absurd w
+closing_close cause (events.Tag device tag) w = absurd w
+closing_close cause events.TakeOrders w = absurd w
 closing_close cause events.Stop w = absurd w
 
 -- that of an event other than a close may be told

@@ -44,6 +44,7 @@ opening_fits peer granted opened (Ok (answers.Reply reply)) f = absurd f
 opening_fits peer granted opened (Ok (answers.Reports reports)) f = absurd f
 opening_fits peer granted opened (Ok answers.Closed) f = absurd f
 opening_fits peer granted opened (Ok answers.Noted) f = absurd f
+opening_fits peer granted opened (Ok (answers.Orders orders)) f = absurd f
 opening_fits peer granted opened (Err fault) f = f
 
 requesting_fits : (invoke : ℕ) (call : CallKind) (told : Result Answer StepFault)
@@ -53,6 +54,7 @@ requesting_fits invoke call (Ok (answers.Reply reply)) f = tt
 requesting_fits invoke call (Ok (answers.Reports reports)) f = absurd f
 requesting_fits invoke call (Ok answers.Closed) f = absurd f
 requesting_fits invoke call (Ok answers.Noted) f = absurd f
+requesting_fits invoke call (Ok (answers.Orders orders)) f = absurd f
 requesting_fits invoke call (Err fault) f = f
 
 taking_fits : (told : Result Answer StepFault) → IsAnswerOf events.Take told
@@ -62,6 +64,7 @@ taking_fits (Ok (answers.Reply reply)) f = absurd f
 taking_fits (Ok (answers.Reports reports)) f = tt
 taking_fits (Ok answers.Closed) f = absurd f
 taking_fits (Ok answers.Noted) f = absurd f
+taking_fits (Ok (answers.Orders orders)) f = absurd f
 taking_fits (Err fault) f = f
 
 closing_fits : (cause : Cause) (told : Result Answer StepFault) → IsAnswerOf events.Close told
@@ -71,6 +74,7 @@ closing_fits cause (Ok (answers.Reply reply)) f = absurd f
 closing_fits cause (Ok (answers.Reports reports)) f = absurd f
 closing_fits cause (Ok answers.Closed) f = tt
 closing_fits cause (Ok answers.Noted) f = absurd f
+closing_fits cause (Ok (answers.Orders orders)) f = absurd f
 closing_fits cause (Err fault) f = absurd f
 
 leaving_fits : (end : ConnEnd) (told : Result Answer StepFault) → IsAnswerOf events.Close told
@@ -80,6 +84,7 @@ leaving_fits end (Ok (answers.Reply reply)) f = absurd f
 leaving_fits end (Ok (answers.Reports reports)) f = absurd f
 leaving_fits end (Ok answers.Closed) f = tt
 leaving_fits end (Ok answers.Noted) f = absurd f
+leaving_fits end (Ok (answers.Orders orders)) f = absurd f
 leaving_fits end (Err fault) f = absurd f
 
 -- an answer of the kind that an event asks for may be told where that event waits
@@ -93,6 +98,8 @@ answer_fits (progresses.Running askeds.Nothing) (events.Update point value) told
 answer_fits (progresses.Running askeds.Nothing) (events.Table chooser variant) told w f = absurd w
 answer_fits (progresses.Running askeds.Nothing) (events.Tick now) told w f = absurd w
 answer_fits (progresses.Running askeds.Nothing) (events.Ask asker slot) told w f = absurd w
+answer_fits (progresses.Running askeds.Nothing) (events.Tag device tag) told w f = absurd w
+answer_fits (progresses.Running askeds.Nothing) events.TakeOrders told w f = absurd w
 answer_fits (progresses.Running askeds.Nothing) events.Stop told w f = absurd w
 answer_fits (progresses.Running (askeds.Opening peer granted)) (events.Open opened) told w f =
     opening_fits peer granted opened told f
@@ -107,6 +114,10 @@ answer_fits (progresses.Running (askeds.Opening peer granted))
 answer_fits (progresses.Running (askeds.Opening peer granted)) (events.Tick now) told w f = absurd w
 answer_fits (progresses.Running (askeds.Opening peer granted))
     (events.Ask asker slot) told w f = absurd w
+answer_fits (progresses.Running (askeds.Opening peer granted))
+    (events.Tag device tag) told w f = absurd w
+answer_fits (progresses.Running (askeds.Opening peer granted))
+    events.TakeOrders told w f = absurd w
 answer_fits (progresses.Running (askeds.Opening peer granted)) events.Stop told w f = absurd w
 answer_fits (progresses.Running (askeds.Requesting invoke)) (events.Open opened) told w f = absurd w
 answer_fits (progresses.Running (askeds.Requesting invoke)) (events.Request call) told w f =
@@ -120,6 +131,10 @@ answer_fits (progresses.Running (askeds.Requesting invoke))
 answer_fits (progresses.Running (askeds.Requesting invoke)) (events.Tick now) told w f = absurd w
 answer_fits (progresses.Running (askeds.Requesting invoke))
     (events.Ask asker slot) told w f = absurd w
+answer_fits (progresses.Running (askeds.Requesting invoke))
+    (events.Tag device tag) told w f = absurd w
+answer_fits (progresses.Running (askeds.Requesting invoke))
+    events.TakeOrders told w f = absurd w
 answer_fits (progresses.Running (askeds.Requesting invoke)) events.Stop told w f = absurd w
 answer_fits (progresses.Running askeds.Taking) (events.Open opened) told w f = absurd w
 answer_fits (progresses.Running askeds.Taking) (events.Request call) told w f = absurd w
@@ -130,6 +145,8 @@ answer_fits (progresses.Running askeds.Taking) (events.Update point value) told 
 answer_fits (progresses.Running askeds.Taking) (events.Table chooser variant) told w f = absurd w
 answer_fits (progresses.Running askeds.Taking) (events.Tick now) told w f = absurd w
 answer_fits (progresses.Running askeds.Taking) (events.Ask asker slot) told w f = absurd w
+answer_fits (progresses.Running askeds.Taking) (events.Tag device tag) told w f = absurd w
+answer_fits (progresses.Running askeds.Taking) events.TakeOrders told w f = absurd w
 answer_fits (progresses.Running askeds.Taking) events.Stop told w f = absurd w
 answer_fits (progresses.Running (askeds.Closing cause)) (events.Open opened) told w f = absurd w
 answer_fits (progresses.Running (askeds.Closing cause)) (events.Request call) told w f = absurd w
@@ -143,6 +160,10 @@ answer_fits (progresses.Running (askeds.Closing cause)) (events.Table chooser va
 answer_fits (progresses.Running (askeds.Closing cause)) (events.Tick now) told w f =
     absurd w
 answer_fits (progresses.Running (askeds.Closing cause)) (events.Ask asker slot) told w f =
+    absurd w
+answer_fits (progresses.Running (askeds.Closing cause)) (events.Tag device tag) told w f =
+    absurd w
+answer_fits (progresses.Running (askeds.Closing cause)) events.TakeOrders told w f =
     absurd w
 answer_fits (progresses.Running (askeds.Closing cause)) events.Stop told w f = absurd w
 answer_fits progresses.Refused (events.Open opened) told w f = absurd w
@@ -174,22 +195,32 @@ answer_fits (progresses.Cut end) (events.Update point value) told w f = absurd w
 answer_fits progresses.Refused (events.Table chooser variant) told w f = absurd w
 answer_fits progresses.Refused (events.Tick now) told w f = absurd w
 answer_fits progresses.Refused (events.Ask asker slot) told w f = absurd w
+answer_fits progresses.Refused (events.Tag device tag) told w f = absurd w
+answer_fits progresses.Refused events.TakeOrders told w f = absurd w
 answer_fits progresses.Refused events.Stop told w f = absurd w
 answer_fits (progresses.Leaving end false) (events.Table chooser variant) told w f = absurd w
 answer_fits (progresses.Leaving end false) (events.Tick now) told w f = absurd w
 answer_fits (progresses.Leaving end false) (events.Ask asker slot) told w f = absurd w
+answer_fits (progresses.Leaving end false) (events.Tag device tag) told w f = absurd w
+answer_fits (progresses.Leaving end false) events.TakeOrders told w f = absurd w
 answer_fits (progresses.Leaving end false) events.Stop told w f = absurd w
 answer_fits (progresses.Leaving end true) (events.Table chooser variant) told w f = absurd w
 answer_fits (progresses.Leaving end true) (events.Tick now) told w f = absurd w
 answer_fits (progresses.Leaving end true) (events.Ask asker slot) told w f = absurd w
+answer_fits (progresses.Leaving end true) (events.Tag device tag) told w f = absurd w
+answer_fits (progresses.Leaving end true) events.TakeOrders told w f = absurd w
 answer_fits (progresses.Leaving end true) events.Stop told w f = absurd w
 answer_fits (progresses.Ended end) (events.Table chooser variant) told w f = absurd w
 answer_fits (progresses.Ended end) (events.Tick now) told w f = absurd w
 answer_fits (progresses.Ended end) (events.Ask asker slot) told w f = absurd w
+answer_fits (progresses.Ended end) (events.Tag device tag) told w f = absurd w
+answer_fits (progresses.Ended end) events.TakeOrders told w f = absurd w
 answer_fits (progresses.Ended end) events.Stop told w f = absurd w
 answer_fits (progresses.Cut end) (events.Table chooser variant) told w f = absurd w
 answer_fits (progresses.Cut end) (events.Tick now) told w f = absurd w
 answer_fits (progresses.Cut end) (events.Ask asker slot) told w f = absurd w
+answer_fits (progresses.Cut end) (events.Tag device tag) told w f = absurd w
+answer_fits (progresses.Cut end) events.TakeOrders told w f = absurd w
 answer_fits (progresses.Cut end) events.Stop told w f = absurd w
 
 closed_free : (cause : Cause) → IsFree (progress_closed cause)
@@ -219,6 +250,7 @@ told_free (progresses.Running askeds.Taking) stage (Ok (answers.Opened key)) f =
 told_free (progresses.Running askeds.Taking) stage (Ok (answers.Reply reply)) f = absurd f
 told_free (progresses.Running askeds.Taking) stage (Ok answers.Closed) f = absurd f
 told_free (progresses.Running askeds.Taking) stage (Ok answers.Noted) f = absurd f
+told_free (progresses.Running askeds.Taking) stage (Ok (answers.Orders orders)) f = absurd f
 told_free (progresses.Running (askeds.Closing cause)) stage (Ok answer) f = closed_free cause
 told_free (progresses.Running asked) stage (Err fault) f = left_free stage _
 told_free progresses.Refused stage told f = absurd f

@@ -36,8 +36,8 @@ struct DataSet {
     members: Members,
 }
 
-/// The data sets of one peer, in the order in which they were defined. They outlive the associations
-/// in which they were.
+/// The data sets of one peer, in the order in which they were defined. They outlive the
+/// associations in which they were.
 #[derive(Debug, Drop)]
 pub struct SetBook {
     limit: u32,

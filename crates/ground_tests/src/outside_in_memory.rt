@@ -69,8 +69,8 @@ fn one_of_each(alloc: Global) -> Result<MemoryOutside, AllocError> {
     Ok(outside)
 }
 
-// Whether a source is handed out while it is out, under the name of a sink, and once it is back; how
-// many faults there were, and how many names were read.
+// Whether a source is handed out while it is out, under the name of a sink, and once it is back;
+// how many faults there were, and how many names were read.
 fn handed_out(alloc: Global) -> Result<([bool; 3], u64, Option<usize>), Fail> {
     let mut outside = one_of_each(alloc)?;
     let source = outside.open_in("in").ok_or("in")?;

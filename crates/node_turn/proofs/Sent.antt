@@ -10,6 +10,7 @@ use Rattle.mms_data.proofs.object_name.Name.TheSendSync as name
 use Rattle.mms_data.proofs.data.DataList.TheLaws.TheKnot as knot
 use Rattle.tase_points.proofs.value.PointValue.TheSendSync as value
 use Rattle.bilateral.proofs.centre.Centre.TheSendSync as centre
+use Rattle.tase_views.proofs.tag.DeviceTag.TheSendSync as tag
 use Rattle.tase_views.specs.contracts.call.Call as call
 use Rattle.tase_views.specs.contracts.event.Event as event
 use Rattle.tase_views.specs.contracts.event.Entry as entry
@@ -38,7 +39,7 @@ call_send = search (
 ) depth 20
 
 pub event_send : IsSend event.the_row
-event_send = search (call_send, value.the_send, sendable, crosses) depth 20
+event_send = search (call_send, value.the_send, tag.the_send, sendable, crosses) depth 20
 
 entry_send : IsSend entry.the_row
 entry_send = search (event_send, sendable, crosses) depth 20

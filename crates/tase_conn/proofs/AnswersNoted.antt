@@ -500,6 +500,8 @@ noted_asked (askeds.Requesting invoke) answers.Closed rows items told turns cent
     behind stage out farewell new s right n = absurd right
 noted_asked (askeds.Requesting invoke) answers.Noted rows items told turns centre course held
     behind stage out farewell new s right n = absurd right
+noted_asked (askeds.Requesting invoke) (answers.Orders orders) rows items told turns centre course
+    held behind stage out farewell new s right n = absurd right
 noted_asked askeds.Taking (answers.Reports reports) rows items told turns centre course held behind
     stage out farewell new s right n =
     taking_noted (first_too_long (detail_at stage) reports)
@@ -513,6 +515,8 @@ noted_asked askeds.Taking answers.Closed rows items told turns centre course hel
     farewell new s right n = absurd right
 noted_asked askeds.Taking answers.Noted rows items told turns centre course held behind stage out
     farewell new s right n = absurd right
+noted_asked askeds.Taking (answers.Orders orders) rows items told turns centre course held behind
+    stage out farewell new s right n = absurd right
 noted_asked (askeds.Closing cause) answer rows items told turns centre course held behind stage
     out farewell new s right n =
     closing_noted cause rows items told turns centre course held behind stage out farewell new s n
@@ -606,6 +610,7 @@ asked_said (askeds.Opening peer granted) (answers.Reports reports) old new none 
     absurd right
 asked_said (askeds.Opening peer granted) answers.Closed old new none right n = absurd right
 asked_said (askeds.Opening peer granted) answers.Noted old new none right n = absurd right
+asked_said (askeds.Opening peer granted) (answers.Orders orders) old new none right n = absurd right
 asked_said (askeds.Requesting invoke) (answers.Reply reply) old new none right n =
     ap (λ (v : Talking). pending_of v) n
     ∙ behind_none old.out
@@ -616,6 +621,7 @@ asked_said (askeds.Requesting invoke) (answers.Reports reports) old new none rig
     absurd right
 asked_said (askeds.Requesting invoke) answers.Closed old new none right n = absurd right
 asked_said (askeds.Requesting invoke) answers.Noted old new none right n = absurd right
+asked_said (askeds.Requesting invoke) (answers.Orders orders) old new none right n = absurd right
 asked_said askeds.Taking (answers.Reports reports) old new none right n =
     ap (λ (v : Talking). pending_of v) n
     ∙ behind_none old.out (reports_said old.course.setup (detail_at old.stage) reports)
@@ -624,12 +630,14 @@ asked_said askeds.Taking (answers.Opened key) old new none right n = absurd righ
 asked_said askeds.Taking (answers.Reply reply) old new none right n = absurd right
 asked_said askeds.Taking answers.Closed old new none right n = absurd right
 asked_said askeds.Taking answers.Noted old new none right n = absurd right
+asked_said askeds.Taking (answers.Orders orders) old new none right n = absurd right
 asked_said (askeds.Closing cause) answers.Closed old new none right n =
     closed_said_so cause (record old { stage = stage_closed old.stage }) new none n
 asked_said (askeds.Closing cause) (answers.Opened key) old new none right n = absurd right
 asked_said (askeds.Closing cause) (answers.Reply reply) old new none right n = absurd right
 asked_said (askeds.Closing cause) (answers.Reports reports) old new none right n = absurd right
 asked_said (askeds.Closing cause) answers.Noted old new none right n = absurd right
+asked_said (askeds.Closing cause) (answers.Orders orders) old new none right n = absurd right
 asked_said askeds.Nothing answer old new none right n = absurd right
 
 -- what the peer is answered stands behind all that is still to be sent
@@ -666,12 +674,14 @@ asked_progress (askeds.Requesting invoke) (answers.Opened key) old new right n =
 asked_progress (askeds.Requesting invoke) (answers.Reports reports) old new right n = absurd right
 asked_progress (askeds.Requesting invoke) answers.Closed old new right n = absurd right
 asked_progress (askeds.Requesting invoke) answers.Noted old new right n = absurd right
+asked_progress (askeds.Requesting invoke) (answers.Orders orders) old new right n = absurd right
 asked_progress askeds.Taking (answers.Reports reports) old new right n =
     ap (λ (v : Talking). v.progress) n
 asked_progress askeds.Taking (answers.Opened key) old new right n = absurd right
 asked_progress askeds.Taking (answers.Reply reply) old new right n = absurd right
 asked_progress askeds.Taking answers.Closed old new right n = absurd right
 asked_progress askeds.Taking answers.Noted old new right n = absurd right
+asked_progress askeds.Taking (answers.Orders orders) old new right n = absurd right
 asked_progress (askeds.Closing cause) answer old new right n =
     closed_progress cause (record old { stage = stage_closed old.stage }) new n
 asked_progress askeds.Nothing answer old new right n = absurd right
@@ -713,6 +723,7 @@ asked_course askeds.Taking (answers.Opened key) old new right n p left = absurd 
 asked_course askeds.Taking (answers.Reply reply) old new right n p left = absurd right
 asked_course askeds.Taking answers.Closed old new right n p left = absurd right
 asked_course askeds.Taking answers.Noted old new right n p left = absurd right
+asked_course askeds.Taking (answers.Orders orders) old new right n p left = absurd right
 asked_course (askeds.Closing cause) answer old new right n p left =
     absurd (going_on new.progress (progress_closed cause) p (closed_goes cause) left)
 asked_course askeds.Nothing answer old new right n p left = absurd right

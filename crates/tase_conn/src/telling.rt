@@ -81,8 +81,8 @@ impl Conn {
     /// Takes the node's answer to the event that was wanted last, or why the node refused it: that
     /// it was stopped, its history is full, or its memory ran out, which ends the connection once
     /// its association is closed. It appends what the peer is answered. After want of memory an
-    /// open has opened the association and a close has closed it, and nothing else of the answer was
-    /// noted: the connection is to be given up.
+    /// open has opened the association and a close has closed it, and nothing else of the answer
+    /// was noted: the connection is to be given up.
     pub fn tell(&mut self, told: Result<Answer, StepFault>) -> Result<(), AllocError>
         requires right { IsAnswerFor self.old.progress told }
         requires placed { IsPlaced self.old }

@@ -149,8 +149,8 @@ impl SlotBank {
         self.slots[slot as usize].hand_out(alloc, ordinal);
     }
 
-    /// Takes a wish at this moment, in milliseconds since 1970: one whose status is true enables the
-    /// transfer set, which begins anew.
+    /// Takes a wish at this moment, in milliseconds since 1970: one whose status is true enables
+    /// the transfer set, which begins anew.
     pub fn write(&mut self, slot: u32, wish: Wish, now: u64)
         requires { slot < length self.old }
         ensures { self.new ≡ slice_set self.old slot (with_wish wish now (slot_at self.old slot)) }
@@ -167,8 +167,8 @@ impl SlotBank {
         self.slots[slot as usize].set_status(status, now);
     }
 
-    /// The conditions, as their sum, on which a report of a transfer set is due where the clock goes
-    /// on from a moment to another, in milliseconds since 1970.
+    /// The conditions, as their sum, on which a report of a transfer set is due where the clock
+    /// goes on from a moment to another, in milliseconds since 1970.
     pub fn due(&self, slot: u32, from: u64, to: u64) -> u8
         requires { slot < length self.now }
         ensures { AreDue (slot_at self.now slot).state from to result }
