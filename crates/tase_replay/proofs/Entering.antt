@@ -100,7 +100,8 @@ pub IsPlayed-taken : (setup : Setup) (line : List ℕ) (number : ℕ) (scene : S
     → is_linked entry.who scene ≡ false
     → refusal_of setup scene.past entry.who entry.event ≡ None
     → answer ≡ answer_of setup scene.past entry.who entry.event
-    → now ≡ history ++ entry ∷ [] → IsShown (printed_of entry.who answer) before after end
+    → now ≡ history ++ entry ∷ []
+    → IsShown (printed_of setup.centre entry.who answer) before after end
     → IsPlayed (play_line line number (entry_meaning setup scene entry) ends_there) history
     now before after end
 IsPlayed-taken setup line number scene entry answer history now before after end own allowed is
@@ -110,7 +111,8 @@ IsPlayed-taken setup line number scene entry answer history now before after end
     end) (sym (accepted_so setup scene entry None own allowed))
     (IsPlayed-shown line number (step ∷ []) (with_taken entry scene) history now before after end
     grown (subst (λ (t : List ℕ). IsShown t before after end) (sym (append-nil step.printed))
-    (subst (λ (a : Answer). IsShown (printed_of entry.who a) before after end) is shown)))
+    (subst (λ (a : Answer). IsShown (printed_of setup.centre entry.who a) before after end)
+    is shown)))
 
 -- or that was refused
 pub IsPlayed-refused : (setup : Setup) (line : List ℕ) (number : ℕ) (scene : Scene)

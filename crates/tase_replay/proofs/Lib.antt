@@ -21,6 +21,8 @@ pub mod Printable
 pub mod TextLines
 pub mod PrintedBack
 pub mod PlayPrints
+pub mod OrdersTaken
+pub mod OrdersBack
 pub mod QuietLast
 mod Worked
 mod WorkedReadings

@@ -1,5 +1,5 @@
 -- What a line of a link gives, by what the node took of its connection.
-use Rattle.std.proofs.Common.{◌≡◌, ◌==◌, ◌+◌, ℕ, Bool, true, false, List, [], ◌∷◌, ◌++◌, reverse}
+use Rattle.std.proofs.Common.{◌≡◌, ◌==◌, ℕ, Bool, true, false, List, [], ◌∷◌, ◌++◌, reverse}
 use Rattle.std.proofs.Common.{length, drop, map, Option, Some, None, is_some, refl, sym, ap, subst, ◌∙◌}
 use Rattle.std.proofs.Common.{append_assoc, take, arith}
 use Rattle.std.specs.Prelude.{if◌then◌else◌}
@@ -95,7 +95,7 @@ entries_own who (event ∷ events) =
     (entries_own who events) (refl, tt))
 
 -- the history behind events that a node took
-past_served : (setup : Setup) (who : ℕ) (items : List Item) (past : Past)
+pub past_served : (setup : Setup) (who : ℕ) (items : List Item) (past : Past)
     (events : List EventKind) → (served setup who items past events).past
     ≡ reverse (entries_by who (served setup who items past events).taken) ++ past
 past_served setup who items past [] = refl
@@ -131,20 +131,25 @@ closed_by past who None = refl
 closed_by past who (Some key) = refl
 
 -- and behind the close of an association, if one is open
-pub cut_past : (setup : Setup) (who : ℕ) (items : List Item) (past : Past)
-    (taken : List EventKind) (between : Past) (left : Option ConnEnd)
-    → TakesTo left setup who items past taken between → with_closed who between
+pub past_closed : (who : ℕ) (past : Past) (taken : List EventKind) (between : Past)
+    → between ≡ reverse (entries_by who taken) ++ past → with_closed who between
     ≡ reverse (entries_by who (taken ++ close_of (association_in between who))) ++ past
-cut_past setup who items past taken between left t =
+past_closed who past taken between e =
     let close = close_of (association_in between who) in
     closed_by between who (association_in between who)
-    ∙ ap (λ (p : Past). reverse (entries_by who close) ++ p)
-    (taken_past setup who items past taken between left t)
+    ∙ ap (λ (p : Past). reverse (entries_by who close) ++ p) e
     ∙ sym (append_assoc (reverse (entries_by who close)) (reverse (entries_by who taken)) past)
     ∙ ap (λ (es : Past). es ++ past)
     (sym (ap (λ (es : List Entry). reverse es)
     (map-append (λ event. entry_by event who) taken close)
     ∙ reverse-append (entries_by who taken) (entries_by who close)))
+
+pub cut_past : (setup : Setup) (who : ℕ) (items : List Item) (past : Past)
+    (taken : List EventKind) (between : Past) (left : Option ConnEnd)
+    → TakesTo left setup who items past taken between → with_closed who between
+    ≡ reverse (entries_by who (taken ++ close_of (association_in between who))) ++ past
+cut_past setup who items past taken between left t =
+    past_closed who past taken between (taken_past setup who items past taken between left t)
 
 -- the history has these entries behind those that it had
 pub grown_so : (who : ℕ) (history now : List Entry) (past after : Past) (events : List EventKind)

@@ -202,7 +202,13 @@ answered-step : (setup : Setup) (past : Past) (entry : Entry) → IsSeated entry
     → IsPrintedStep (step_of setup past entry)
 answered-step setup past entry fits = record {
   seat = fits;
-  prints = inl (record { answer = _; printed = refl; octets = refl; end = refl });
+  prints = inl (record {
+    rows = setup.centre;
+    answer = _;
+    printed = refl;
+    octets = refl;
+    end = refl;
+  });
 }
 
 quiet-step : (entry : Entry) → IsSeated entry → IsPrintedStep (entry_step entry)

@@ -9,6 +9,8 @@ use Rattle.std.proofs.lemmas.Bool.{and_parts, and_from}
 use Rattle.std.proofs.lemmas.Bool.Decides.{nat_tests}
 use Rattle.plain_text.specs.Octets.{hex_digit, hex_pair, hex_text}
 use Rattle.plain_text.specs.Escaped.{is_plain, escaped_octet, escaped_text}
+use Rattle.bilateral.specs.Rows.{CentreRows, device_of}
+use Rattle.sbo_device.specs.declared.order.Order.{Order}
 use Rattle.mms_data.specs.declared.object_name.Scope.{Scope}
 use Rattle.mms_data.specs.declared.object_name.Scope.TheVariants.{Vmd, Domain, Association}
 use Rattle.mms_data.specs.declared.outcome.Outcome.{Outcome}
@@ -34,6 +36,7 @@ use Rattle.tase_views.specs.EventTexts.{read_verb, next_name}
 use Rattle.event_text.specs.ReplyTexts.{result_text, written_text, item_text, more_text, reply_text}
 use Rattle.report_text.specs.ReportTexts.{next_outcome, told_text, report_text}
 use Rattle.tase_replay.specs.Links.{end_text}
+use Rattle.tase_replay.specs.Play.{order_words}
 
 -- a text without an octet below 32
 pub record IsPrintable (shown : List ℕ) : Type 0 where
@@ -213,6 +216,13 @@ report-printable (Set set results) = printable-append
     (printable-all next_outcome (λ outcome. printable-cons refl (outcome-printable outcome)) _)
 report-printable (Variables names results) =
     printable-append (of_words (codes "vars") refl) (told-printable names results)
+
+-- ---- orders
+
+pub order-printable : (rows : CentreRows) (order : Order) → IsPrintable (order_words rows order)
+order-printable rows order =
+    printable-append (escaped-printable (device_of rows order.device).name)
+    (printable-cons refl (signed-printable order.value))
 
 -- ---- ends
 

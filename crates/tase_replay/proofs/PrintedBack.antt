@@ -26,16 +26,19 @@ use Rattle.plain_text.specs.Octets.{hex_digit, hex_text}
 use Rattle.plain_text.specs.Escaped.{is_octet}
 use Rattle.ber_values.specs.Octets.{IsOctets}
 use Rattle.ber_values.proofs.BitsLemmas.{list_all-octets}
+use Rattle.bilateral.specs.Rows.{CentreRows}
+use Rattle.sbo_device.specs.declared.order.Order.{Order}
 use Rattle.tase_conn.specs.declared.stage.ConnEnd.{ConnEnd}
 use Rattle.tase_views.specs.declared.reply.ReplyKind.{ReplyKind}
 use Rattle.tase_views.specs.declared.reply.ReportKind.{ReportKind}
 use Rattle.tase_views.specs.declared.reply.Answer.{Answer}
 use Rattle.tase_views.specs.declared.reply.Answer.TheVariants.{Opened, Reply, Reports, Closed}
-use Rattle.tase_views.specs.declared.reply.Answer.TheVariants.{Noted}
+use Rattle.tase_views.specs.declared.reply.Answer.TheVariants.{Orders, Noted}
 use Rattle.event_text.specs.ReplyTexts.{reply_text}
 use Rattle.report_text.specs.ReportTexts.{report_text}
 use Rattle.tase_replay.specs.Links.{line_of_out, line_of_end, end_text}
-use Rattle.tase_replay.specs.Play.{Step, printed_of, line_of_reply, line_of_report, printed_in}
+use Rattle.tase_replay.specs.Play.{Step, printed_of, line_of_reply, line_of_report, order_words}
+use Rattle.tase_replay.specs.Play.{line_of_order, printed_in}
 use Rattle.tase_replay.specs.PrintedLines.{ShownToPeer, sent_octet, end_words, behind_front}
 use Rattle.tase_replay.specs.PrintedLines.{digits_shown, octets_shown}
 use Rattle.tase_replay.specs.PrintedLines.{words_shown, line_shows, shown_to, end_shown, all_shown}
@@ -43,15 +46,16 @@ use Rattle.tase_replay.specs.PrintedLines.{step_shows, shown_by, octets_to}
 use Rattle.tase_replay.specs.Standing.{HasOctets}
 use Rattle.tase_replay.proofs.Printable.{IsPrintable, of_words, printable-append, printable-cons}
 use Rattle.tase_replay.proofs.Printable.{decimal-printable, hex-printable, reply-printable}
-use Rattle.tase_replay.proofs.Printable.{report-printable, end-printable}
+use Rattle.tase_replay.proofs.Printable.{report-printable, order-printable, end-printable}
 use Rattle.tase_replay.proofs.TextLines.{lines-more}
 
 -- ---- which steps these are
 
 -- the step of an entry: what the node answers is printed
 pub record PrintsAnswer (step : Step) : Type 0 where
+  pub rows : CentreRows
   pub answer : Answer
-  pub printed : step.printed ≡ printed_of step.who answer
+  pub printed : step.printed ≡ printed_of rows step.who answer
   pub octets : step.octets ≡ []
   pub end : step.end ≡ None
 
@@ -164,7 +168,7 @@ line-shown who line rest are =
     ∙ ap (flat_map (line_shows who)) (lines-more line rest are)
 
 -- words, a number, a space and something more
-line-printable : (words : List ℕ) (who : ℕ) (more : List ℕ) → IsPrintable words
+pub line-printable : (words : List ℕ) (who : ℕ) (more : List ℕ) → IsPrintable words
     → IsPrintable more → IsPrintable (words ++ decimal who ++ 32 ∷ more)
 line-printable words who more are others =
     printable-append (printable-append are (decimal-printable who)) (printable-cons refl others)
@@ -191,13 +195,24 @@ reports-nothing who from (report ∷ reports) rest =
     ap (shown_to who) (append_assoc (line_of_report from report) more rest)
     ∙ report-nothing who from report (more ++ rest) ∙ reports-nothing who from reports rest
 
-answer-nothing : (who from : ℕ) (answer : Answer) (rest : List ℕ)
-    → shown_to who (printed_of from answer ++ rest) ≡ shown_to who rest
-answer-nothing who from (Opened key) rest = refl
-answer-nothing who from (Reply reply) rest = reply-nothing who from reply rest
-answer-nothing who from (Reports reports) rest = reports-nothing who from reports rest
-answer-nothing who from Closed rest = refl
-answer-nothing who from Noted rest = refl
+orders-nothing : (who : ℕ) (rows : CentreRows) (orders : List Order) (rest : List ℕ)
+    → shown_to who (flat_map (line_of_order rows) orders ++ rest) ≡ shown_to who rest
+orders-nothing who rows [] rest = refl
+orders-nothing who rows (order ∷ orders) rest =
+    let more : List ℕ = flat_map (line_of_order rows) orders in
+    ap (shown_to who) (append_assoc (line_of_order rows order) more rest)
+    ∙ line-shown who (codes "order " ++ order_words rows order) (more ++ rest)
+    (printable-append (of_words (codes "order ") refl) (order-printable rows order))
+    ∙ orders-nothing who rows orders rest
+
+answer-nothing : (who from : ℕ) (rows : CentreRows) (answer : Answer) (rest : List ℕ)
+    → shown_to who (printed_of rows from answer ++ rest) ≡ shown_to who rest
+answer-nothing who from rows (Opened key) rest = refl
+answer-nothing who from rows (Reply reply) rest = reply-nothing who from reply rest
+answer-nothing who from rows (Reports reports) rest = reports-nothing who from reports rest
+answer-nothing who from rows Closed rest = refl
+answer-nothing who from rows (Orders orders) rest = orders-nothing who rows orders rest
+answer-nothing who from rows Noted rest = refl
 
 out-line : (who from octet : ℕ) (octets rest : List ℕ)
     → shown_to who (line_of_out from (octet ∷ octets) ++ rest)
@@ -279,7 +294,7 @@ step-shown : (who : ℕ) (step : Step) (rest : List ℕ) → who < 2 ^ 64 → st
     → shown_to who (step.printed ++ rest) ≡ step_shows who step ++ shown_to who rest
 step-shown who step rest fits fits' (inl answered) are =
     ap (λ printed. shown_to who (printed ++ rest)) answered.printed
-    ∙ answer-nothing who step.who answered.answer rest
+    ∙ answer-nothing who step.who answered.rows answered.answer rest
     ∙ ap (λ shown. shown ++ shown_to who rest)
     (sym (ap (λ octets. cond (eqb step.who who) (all_shown octets step.end) []) answered.octets
     ∙ ap (λ end. cond (eqb step.who who) (all_shown [] end) []) answered.end

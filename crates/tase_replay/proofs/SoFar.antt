@@ -31,15 +31,18 @@ use Rattle.tase_replay.specs.Play.{bad_line, history_full, TakenLine, steps_in, 
 use Rattle.tase_replay.specs.Play.{step_of, with_taken, meaning_of, is_linked, cut_steps}
 use Rattle.tase_replay.specs.Play.{is_unfit, served_item, linked_by, means, line_meaning}
 use Rattle.tase_replay.specs.Play.{linked_up_to}
-use Rattle.tase_replay.specs.Play.{play_line, ends_there, scene_by, first_scene}
+use Rattle.tase_replay.specs.Play.{play_line, ends_there, scene_by, first_scene, play}
 use Rattle.tase_replay.specs.AllSent.{given_asked, given_by_line, given_by_lines, AreSentTo, SentBy}
 use Rattle.tase_replay.specs.PrintedLines.{shown_to, shown_by}
+use Rattle.tase_replay.specs.OrdersPrinted.{AreOrdersPrinted}
 use Rattle.tase_replay.proofs.PrintedBack.{IsPrintedStep, steps_back}
 use Rattle.tase_replay.specs.AllSent.{AreSentSoFar, AreSentOver, is_played_out}
 use Rattle.tase_replay.specs.Standing.{AreSentIn, StepsSend, IsTakenSent, EndsSent}
 use Rattle.tase_replay.specs.Ends.{IsPlayed, TakesAll, TakesPart}
 use Rattle.tase_replay.proofs.Reached.{Reached, Reached-taken, continued}
 use Rattle.tase_replay.proofs.Taking.{entries_in-append, printed_in-append}
+use Rattle.tase_replay.proofs.PlayPrints.{taken_prints}
+use Rattle.tase_replay.proofs.OrdersBack.{orders_printed, no_orders}
 
 -- ---- what a line that is taken gives to links
 
@@ -267,20 +270,29 @@ sent_over setup history lines scene s prints e =
     (sym s.given) (λ who fits. shown_in setup scene.past steps who (items_of who scene.given)
     (steps_back who fits steps prints s.sent.octets) (s.sent.sent who)))
 
--- the lines of a play print what can be read back
-abbrev pub ArePrinted : Played → Type 0
-ArePrinted all = (taken others : List TakenLine) → all.taken ≡ taken ++ others
-    → AllByRecursion IsPrintedStep (steps_in taken)
+-- the lines of a play print what can be read back, and all orders that the plant takes
+pub record PrintsLines (setup : Setup) (history : List Entry) (all : Played) : Type 0 where
+  pub steps : (taken others : List TakenLine) → all.taken ≡ taken ++ others
+      → AllByRecursion IsPrintedStep (steps_in taken)
+  pub orders : (taken others : List TakenLine) → all.taken ≡ taken ++ others
+      → AreOrdersPrinted setup history taken
+
+pub prints_lines : (setup : Setup) (scenario : List (List ℕ)) (history : List Entry)
+    → PrintsLines setup history (play setup scenario (first_scene (reverse history)) 1)
+prints_lines setup scenario history = record {
+  steps = taken_prints setup scenario (first_scene (reverse history)) 1;
+  orders = orders_printed setup scenario history;
+}
 
 module _ (setup : Setup) (all rest : Played) (history now : List Entry) (before after : SinkTold)
     (scene : Scene) (r : Reached all rest history now before after)
-    (s : SentSoFar setup r.lines scene) (prints : ArePrinted all)
+    (s : SentSoFar setup r.lines scene) (prints : PrintsLines setup history all)
     (e : scene.past ≡ reverse now) where
   lines_so : all.taken ≡ r.lines ++ rest.taken
   lines_so = ap (λ (played : Played). played.taken) r.whole
 
   sent_so : AreSentOver setup history r.lines
-  sent_so = sent_over setup history r.lines scene s (prints r.lines rest.taken lines_so)
+  sent_so = sent_over setup history r.lines scene s (prints.steps r.lines rest.taken lines_so)
       (e ∙ ap (λ (entries : List Entry). reverse entries) r.takes.entries)
 
   -- no line is left that may be taken
@@ -292,6 +304,7 @@ module _ (setup : Setup) (all rest : Played) (history now : List Entry) (before 
     lines = lines_so;
     all = λ is. none;
     sent = sent_so;
+    orders = prints.orders r.lines rest.taken lines_so;
     printed = inl none;
   }
 
@@ -304,6 +317,7 @@ module _ (setup : Setup) (all rest : Played) (history now : List Entry) (before 
     lines = lines_so;
     all = λ is. absurd cc;
     sent = sent_so;
+    orders = prints.orders r.lines rest.taken lines_so;
     printed = inr (
       false,
       subst (λ (k : SinkTold).
@@ -327,7 +341,7 @@ part_front before after steps count failed part =
 module _ (setup : Setup) (line : List ℕ) (number : ℕ) (scene : Scene) (rest : Scene → Played)
     (all : Played) (history now later : List Entry) (before after next : SinkTold)
     (r : Reached all (play_line line number (line_meaning setup scene line) rest) history now before
-    after) (s : SentSoFar setup r.lines scene) (prints : ArePrinted all)
+    after) (s : SentSoFar setup r.lines scene) (prints : PrintsLines setup history all)
     (e : scene.past ≡ reverse now) where
   -- the next is taken, and some of it is printed
   AreSentSoFar-part : (failed : Bool)
@@ -355,7 +369,7 @@ module _ (setup : Setup) (line : List ℕ) (number : ℕ) (scene : Scene) (rest 
         all = λ is. absurd cc;
         sent = sent_over setup history lines t.after
             (SentSoFar-with setup line scene r.lines s t)
-            (prints lines (rest t.after).taken lines_are)
+            (prints.steps lines (rest t.after).taken lines_are)
             (t.grown ∙ ap (λ (p : Past). reverse (entries_in t.steps) ++ p)
             (e ∙ ap (λ (es : List Entry). reverse es) r.takes.entries)
             ∙ sym (reverse-append (history ++ entries_in (steps_in r.lines)) (entries_in t.steps))
@@ -364,6 +378,7 @@ module _ (setup : Setup) (line : List ℕ) (number : ℕ) (scene : Scene) (rest 
             ∙ ap (λ (es : List Entry). history ++ es)
             (sym (entries_in-append (steps_in r.lines) t.steps)
             ∙ ap (λ (these : List Step). entries_in these) (sym steps_are))));
+        orders = prints.orders lines (rest t.after).taken lines_are;
         printed = inr (
           failed,
           subst (λ (these : List Step).
@@ -417,5 +432,6 @@ AreSentSoFar-none setup history all sink = record {
   lines = refl;
   all = λ whole. absurd cc;
   sent = λ who fits. refl;
+  orders = no_orders setup history;
   printed = inr (false, AppendsPart-none sink []);
 }

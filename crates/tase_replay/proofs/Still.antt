@@ -75,6 +75,12 @@ settles_here rows (events.Tick now) past who found s =
 settles_here rows (events.Ask asker slot) past who found s =
     settles_kept rows (record { who = who; event = (events.Ask asker slot) }) past who found
     (at_seat (events.Ask asker slot) past who) s
+settles_here rows (events.Tag device tag) past who found s =
+    settles_kept rows (record { who = who; event = (events.Tag device tag) }) past who found
+    (at_seat (events.Tag device tag) past who) s
+settles_here rows events.TakeOrders past who found s =
+    settles_kept rows (record { who = who; event = events.TakeOrders }) past who found
+    (at_seat events.TakeOrders past who) s
 settles_here rows events.Stop past who found s =
     settles_kept rows (record { who = who; event = events.Stop }) past who found
     (at_seat events.Stop past who) s

@@ -1,6 +1,7 @@
 -- The definitions computed on worked scenarios, apart from all code: what each shows, by
 -- computation alone.
 use Rattle.std.proofs.Common.{◌≡◌, ℕ, ◌^◌, List, [], ◌∷◌, ◌++◌, Option, Some, pos, refl, ap, arith}
+use Rattle.std.specs.Prelude.{negsuc}
 use Rattle.std.proofs.Common.{rules, lit<}
 use Rattle.std.specs.Prelude.{codes, Result, Ok, Err}
 use Rattle.std.specs.List.{flat_map}
@@ -17,7 +18,7 @@ use Rattle.mms_text.proofs.TextReading.{datum_in-text}
 use Rattle.tase_views.specs.declared.call.CallKind.TheVariants.{Write, WriteSet}
 use Rattle.tase_views.specs.declared.event.EventKind.TheVariants.{Request}
 use Rattle.tase_views.specs.declared.event.Entry.{Entry}
-use Rattle.tase_views.specs.declared.reply.Answer.TheVariants.{Reports}
+use Rattle.tase_views.specs.declared.reply.Answer.TheVariants.{Reports, Orders}
 use Rattle.tase_views.specs.declared.reply.ReportKind.TheVariants.{Set, Variables}
 use Rattle.tase_replay.specs.Links.{Asking, an_event, asking_in}
 use Rattle.tase_replay.specs.Play.{Played, done, bad_line, history_full, shown_of, scenario_of}
@@ -203,13 +204,24 @@ written-shown =
     write_line-asking
 
 -- the reports that a seat takes, a line each
-reports-printed : printed_of 7 (Reports (Set (name_a (codes "S1"))
+reports-printed : printed_of setup.centre 7 (Reports (Set (name_a (codes "S1"))
     (Good (bits (record { count = 8; octets = 128 ∷ [] })) ∷ Good (integer (pos 5)) ∷ [])
     ∷ Variables (name_a (codes "BRK1_TIMEOUT") ∷ []) (Good (integer (pos 77)) ∷ []) ∷ []))
     ≡ text_of (codes "report 7 set DOMA/S1 b8.80 i5" ∷ codes "report 7 vars DOMA/BRK1_TIMEOUT=i77"
     ∷ [])
 unfolding digits
 reports-printed = refl
+
+-- the orders that the plant takes, a line each
+abbrev devices : CentreRows
+devices = rows_of (centre_in (text_of (codes "device CAP1 command direct"
+    ∷ codes "device TAP1 setpoint -5 5 sbo 3 60000" ∷ [])))
+
+orders-printed : printed_of devices 0 (Orders (record { device = 1; value = negsuc 4 }
+    ∷ record { device = 0; value = pos 1 } ∷ []))
+    ≡ text_of (codes "order TAP1 -5" ∷ codes "order CAP1 1" ∷ [])
+unfolding digits
+orders-printed = refl
 
 -- data sets, and the names of the protocol itself
 abbrev sets : List (List ℕ)

@@ -18,6 +18,7 @@ use Rattle.tase_replay.specs.declared.playing.ReplayEnd.TheVariants as replay_en
 use Rattle.tase_replay.specs.Links.{SeatItem, Asking, an_event, an_item, asking_in, items_of}
 use Rattle.tase_replay.specs.Play.{TakenLine, Played, entries_in, steps_in, printed_in}
 use Rattle.tase_replay.specs.PrintedLines.{shown_to, all_shown}
+use Rattle.tase_replay.specs.OrdersPrinted.{AreOrdersPrinted}
 
 -- ---- what lines give to links
 
@@ -71,7 +72,7 @@ is_played_out replay_ends.SinkFault = false
 is_played_out replay_ends.Memory = false
 
 -- the lines of a play that a replay has taken, all of them where it has come to its end: for each
--- seat its peer was sent what it is owed for these
+-- seat its peer was sent what it is owed for these, and the plant was shown the orders that it took
 pub record AreSentSoFar (setup : Setup) (history : List Entry) (played : Played) (whole : Bool)
     (before after : SinkTold) : Type 0 where
   pub taken : List TakenLine
@@ -79,6 +80,7 @@ pub record AreSentSoFar (setup : Setup) (history : List Entry) (played : Played)
   pub lines : played.taken ≡ taken ++ others
   pub all : whole ≡ true → others ≡ []
   pub sent : AreSentOver setup history taken
+  pub orders : AreOrdersPrinted setup history taken
   -- where it hasn't taken all, a front part of what these print went to the sink
   pub printed : (others ≡ []) ⊎ ((failed : Bool)
       × AppendsPart before after (printed_in (steps_in taken)) failed)

@@ -6,4 +6,5 @@ pub mod Standing
 pub mod Ends
 pub mod AllSent
 pub mod PrintedLines
+pub mod OrdersPrinted
 pub mod Players

@@ -2,16 +2,19 @@
 -- how it ends.
 use Rattle.std.specs.Prelude.{ℕ, ◌+◌, ◌==◌, ◌&&◌, ◌||◌, not, if◌then◌else◌, Bool, List, [], ◌∷◌}
 use Rattle.std.specs.Prelude.{◌++◌, length, map, flat_map, Option, Some, None, codes, decimal}
+use Rattle.std.specs.Fmt.{signed_decimal}
 use Rattle.std.proofs.Common.{drop}
 use Rattle.std.specs.List.{list_any}
 use Rattle.std.specs.Str.Lines.{lines}
+use Rattle.plain_text.specs.Escaped.{escaped_text}
 use Rattle.plain_text.specs.Lines.{is_skipped}
+use Rattle.sbo_device.specs.declared.order.Order.{Order}
 use Rattle.tase_views.specs.declared.event.Entry.{Entry}
 use Rattle.tase_views.specs.declared.reply.ReplyKind.{ReplyKind}
 use Rattle.tase_views.specs.declared.reply.Answer.{Answer}
 use Rattle.tase_views.specs.declared.reply.ReportKind.{ReportKind}
 use Rattle.tase_views.specs.declared.reply.Answer.TheVariants.{Opened, Reply, Reports, Closed}
-use Rattle.tase_views.specs.declared.reply.Answer.TheVariants.{Noted}
+use Rattle.tase_views.specs.declared.reply.Answer.TheVariants.{Orders, Noted}
 use Rattle.tase_views.specs.declared.fault.StepFault.{StepFault}
 use Rattle.tase_views.specs.declared.fault.StepFault.TheVariants.{Memory, Stopped, HistoryFull}
 use Rattle.tase_views.specs.declared.fault.StepFault.TheVariants.{NoAssociation, Already}
@@ -19,7 +22,7 @@ use Rattle.tase_views.specs.declared.fault.StepFault.TheVariants.{UnknownName, C
 use Rattle.tase_views.specs.Setup.{Setup}
 use Rattle.tase_views.specs.History.{Past, association_in}
 use Rattle.tase_views.specs.declared.event.EventKind.{EventKind}
-use Rattle.bilateral.specs.Rows.{CentreRows}
+use Rattle.bilateral.specs.Rows.{CentreRows, device_of}
 use Rattle.tase_map.specs.Inputs.{Item}
 use Rattle.tase_conn.specs.declared.stage.ConnEnd.{ConnEnd}
 use Rattle.tase_conn.specs.declared.stage.ConnEnd.TheVariants as conn_ends
@@ -43,13 +46,23 @@ line_of_reply who reply = codes "reply " ++ decimal who ++ 32 ∷ reply_text rep
 abbrev pub line_of_report : ℕ → ReportKind → List ℕ
 line_of_report who report = codes "report " ++ decimal who ++ 32 ∷ report_text report ++ 10 ∷ []
 
--- what is printed of an answer to a seat: the reply to a request, and the reports that are taken
-abbrev pub printed_of : ℕ → Answer → List ℕ
-printed_of who (Opened key) = []
-printed_of who (Reply reply) = line_of_reply who reply
-printed_of who (Reports reports) = flat_map (line_of_report who) reports
-printed_of who Closed = []
-printed_of who Noted = []
+-- an order to the plant: `NAME VALUE`, and as a line
+abbrev pub order_words : CentreRows → Order → List ℕ
+order_words rows order =
+    escaped_text (device_of rows order.device).name ++ 32 ∷ signed_decimal order.value
+
+abbrev pub line_of_order : CentreRows → Order → List ℕ
+line_of_order rows order = codes "order " ++ order_words rows order ++ 10 ∷ []
+
+-- what is printed of an answer to a seat: the reply to a request, and the reports or the orders
+-- that are taken
+abbrev pub printed_of : CentreRows → ℕ → Answer → List ℕ
+printed_of rows who (Opened key) = []
+printed_of rows who (Reply reply) = line_of_reply who reply
+printed_of rows who (Reports reports) = flat_map (line_of_report who) reports
+printed_of rows who Closed = []
+printed_of rows who (Orders orders) = flat_map (line_of_order rows) orders
+printed_of rows who Noted = []
 
 -- a step of a seat: the entry that was taken, if one was, the octets that the peer of its link is
 -- sent, how its connection ended, if it did, and what is printed at it
@@ -67,7 +80,8 @@ step_of setup past entry =
       entries = entry ∷ [];
       octets = [];
       end = None;
-      printed = printed_of entry.who (answer_of setup past entry.who entry.event);
+      printed = printed_of setup.centre entry.who
+          (answer_of setup past entry.who entry.event);
     }
 
 -- ---- where a scenario stands

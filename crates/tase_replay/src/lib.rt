@@ -12,6 +12,8 @@
 //! - `update NAME BODY FLAGS SECONDS MILLIS`: the centre's own systems give a point a value. BODY
 //!   is `s` and a state, `d` and a discrete value or `r` and the eight hexadecimal digits of a real
 //!   one; FLAGS are two such digits;
+//! - `tag NAME TAG vREASON`: the centre's operator tags a device, with a reason as escaped text;
+//! - `orders`: the plant takes its orders, and `order NAME VALUE` is printed for each;
 //! - `stop`: the node stops; afterwards only `close` lines and lines of links are taken;
 //! - `in W HEX`: the link of seat W gives 1 to 16,384 octets, as pairs of hexadecimal digits in
 //!   either case;

@@ -12,7 +12,8 @@ ghost use Rattle.tase_conn.specs.Talking.{conn_end_in};
 
 use crate::entries::{LineRequest, read_asked};
 use crate::links::{LineItem, Seats, receive};
-use crate::printing::{print_reply, print_reports, print_sent};
+use crate::printing::{print_orders, print_reply, print_reports, print_sent};
+use bilateral::Centre;
 use node_core::Node;
 use outside::Sink;
 use plain_text::{is_skipped, next_line};
@@ -38,10 +39,10 @@ pub enum ReplayEnd {
 }
 
 /// Plays a scenario on a node: takes each line's event after those before it, and prints the reply
-/// to each request and the reports that are taken; what a line gives to a link its connection takes
-/// in, and what is to be sent is printed, and how the connection ended. At the first bad line it
-/// stops, and at the first event with which the history would be too heavy; what was printed and
-/// taken before stands.
+/// to each request, the reports that are taken, and the orders that the plant takes; what a line
+/// gives to a link its connection takes in, and what is to be sent is printed, and how the
+/// connection ended. At the first bad line it stops, and at the first event with which the history
+/// would be too heavy; what was printed and taken before stands.
 pub fn replay<K: Sink>(alloc: Global, node: &mut Node, scenario: &[u8], sink: &mut K) -> ReplayEnd
     ensures played { IsPlayed (play node.old.setup (lines scenario.now)
         (first_scene (reverse node.old.history)) 1)
@@ -144,7 +145,7 @@ impl<'a, K: Sink> Player<'a, K> {
     {
         let Entry { who, event } = entry;
         match self.node.step(self.alloc, who, event) {
-            Ok(answer) => print_answer(who, &answer, self.sink, self.text),
+            Ok(answer) => { print_answer(self.node.centre(), who, &answer, self.sink, self.text) }
             Err(fault) => refused(fault, number),
         }
     }
@@ -238,12 +239,20 @@ fn refused(fault: StepFault, number: u64) -> ReplayEnd
 }
 
 /// Prints what is printed of an answer to a seat.
-fn print_answer<K: Sink>(who: u64, answer: &Answer, sink: &mut K, text: &mut Vec<u8>) -> ReplayEnd
-    ensures { IsShown (printed_of who answer.now) (K.told sink.old) (K.told sink.new) result }
+fn print_answer<K: Sink>(
+    centre: &Centre,
+    who: u64,
+    answer: &Answer,
+    sink: &mut K,
+    text: &mut Vec<u8>,
+) -> ReplayEnd
+    ensures { IsShown (printed_of centre.now who answer.now)
+        (K.told sink.old) (K.told sink.new) result }
 {
     match answer {
         Answer::Reply(reply) => print_reply(who, reply, sink, text),
         Answer::Reports(reports) => print_reports(who, reports.as_slice(), sink, text),
+        Answer::Orders(orders) => print_orders(centre, orders.as_slice(), sink, text),
         Answer::Opened { .. } | Answer::Closed | Answer::Noted => ReplayEnd::Done,
     }
 }

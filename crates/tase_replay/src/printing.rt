@@ -6,14 +6,17 @@ ghost use Rattle.tase_conn.specs.Places.{KeepsPlace};
 ghost use Rattle.tase_conn.specs.Taken.{SendsSome};
 ghost use Rattle.tase_replay.specs.declared.playing.ReplayEnd.TheVariants.{Done};
 ghost use Rattle.tase_replay.specs.Links.{line_of_out, line_of_end, end_text, fault_text};
-ghost use Rattle.tase_replay.specs.Play.{line_of_reply, line_of_report};
+ghost use Rattle.bilateral.specs.Rows.{device_of};
+ghost use Rattle.tase_replay.specs.Play.{line_of_reply, line_of_report, line_of_order};
 ghost use Rattle.tase_replay.specs.Ends.{IsShown, end_of_write};
 
 use crate::playing::ReplayEnd;
+use bilateral::Centre;
 use event_text::spell_reply;
 use outside::{Sink, SinkFailed, write_all};
-use plain_text::{push_decimal, push_hex};
+use plain_text::{push_decimal, push_escaped, push_hex, push_signed_decimal};
 use report_text::spell_report;
+use sbo_device::Order;
 use stack_messages::StackFault;
 use std::alloc::AllocError;
 use stream_listing::{layer_name, why_name};
@@ -104,6 +107,57 @@ fn put_report(text: &mut Vec<u8>, who: u64, report: &Report) -> Result<(), Alloc
     spell_report(text, report)?;
     text.push(b'\n')?;
     Ok(())
+}
+
+/// Prints the orders that the plant takes, a line each. `text` is where the lines are put together;
+/// what it held is gone.
+pub(crate) fn print_orders<K: Sink>(
+    centre: &Centre,
+    orders: &[Order],
+    sink: &mut K,
+    text: &mut Vec<u8>,
+) -> ReplayEnd
+    ensures { IsShown (flat_map (line_of_order centre.now) orders.now)
+        (K.told sink.old) (K.told sink.new) result }
+{
+    if spell_orders(text, centre, orders).is_err() {
+        return ReplayEnd::Memory;
+    }
+    print_text(sink, text.as_slice())
+}
+
+/// Puts the lines of orders into `text`, in place of what that held.
+fn spell_orders(text: &mut Vec<u8>, centre: &Centre, orders: &[Order]) -> Result<(), AllocError>
+    ensures { OnOk result (text.new.items ≡ flat_map (line_of_order centre.now) orders.now) }
+{
+    text.clear();
+    for order in orders {
+        put_order(text, centre, *order)?;
+    }
+    Ok(())
+}
+
+/// Appends the line of an order.
+fn put_order(text: &mut Vec<u8>, centre: &Centre, order: Order) -> Result<(), AllocError>
+    ensures { OnOk result (text.new.items ≡ text.old.items ++ line_of_order centre.now order) }
+{
+    text.extend_from_slice(b"order ")?;
+    push_escaped(text, device_name(centre, order.device))?;
+    text.push(b' ')?;
+    push_signed_decimal(text, order.value)?;
+    text.push(b'\n')?;
+    Ok(())
+}
+
+/// The name of the device with this number; where there is none, no octet.
+fn device_name(centre: &Centre, device: u32) -> &[u8]
+    ensures { result.now ≡ (device_of centre.now device).name }
+{
+    if device < centre.devices() {
+        centre.device(device).name.as_slice()
+    } else {
+        &[]
+    }
 }
 
 /// Prints what a connection has to send, as one line, and how it ended, if it has. All of it is

@@ -23,6 +23,7 @@ use Rattle.tase_replay.specs.declared.playing.ReplayEnd.TheVariants as plays
 use Rattle.tase_replay.specs.Play.{Played, steps_in, printed_in}
 use Rattle.tase_replay.specs.AllSent.{AreSentSoFar, is_played_out}
 use Rattle.tase_replay.specs.Ends.{IsPlayed}
+use Rattle.tase_replay.proofs.OrdersBack.{no_orders}
 use Rattle.tase_tool.specs.Playing.{EndsPlay}
 use Rattle.tase_tool.specs.Sent.{is_told, played_on, SendsSoFar, SendsWithin, OnTold}
 
@@ -87,6 +88,7 @@ SendsSoFar-played node text now k m l end status went is s = record {
   lines = s.lines;
   all = λ told_so. s.all (told_play end m l status is told_so);
   sent = s.sent;
+  orders = s.orders;
   printed = went_out end (played_on node text) node.history now k m l status (s.others ≡ [])
       (printed_in (steps_in s.taken)) went is s.all s.printed;
 }
@@ -102,6 +104,7 @@ SendsSoFar-further node text status next went goes told_so further s = record {
   lines = s.lines;
   all = λ is. s.all (told_so is);
   sent = s.sent;
+  orders = s.orders;
   printed = elim s.printed [
     | inl none ↦ inl none
     | inr part ↦ inr (further (printed_in (steps_in s.taken)) part)
@@ -118,6 +121,7 @@ SendsSoFar-none node text status went untold_so none = record {
   lines = refl;
   all = λ told_so. let e : true ≡ false = sym told_so ∙ untold_so in absurd cc;
   sent = λ who fits. refl;
+  orders = no_orders node.setup node.history;
   printed = inr none;
 }
 

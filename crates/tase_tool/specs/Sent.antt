@@ -1,4 +1,5 @@
--- That what a replay prints for each seat is all that the peer of its link is owed.
+-- That what a replay prints for each seat is all that the peer of its link is owed, and what it
+-- prints of orders all that the plant has taken.
 use Rattle.std.specs.Prelude.{◌≡◌, ◌⊎◌, ℕ, ◌≤◌, Bool, true, false, List, [], ◌++◌, length, reverse}
 use Rattle.std.specs.Prelude.{Option, Some, None, Result, Ok, Err}
 use Rattle.std.specs.Str.Lines.{lines}
@@ -12,6 +13,7 @@ use Rattle.bilateral.specs.Rows.{CentreRows}
 use Rattle.node_core.specs.NodeState.{NodeState}
 use Rattle.tase_replay.specs.Play.{TakenLine, Played, play, first_scene, steps_in, printed_in}
 use Rattle.tase_replay.specs.AllSent.{AreSentOver}
+use Rattle.tase_replay.specs.OrdersPrinted.{AreOrdersPrinted}
 use Rattle.tase_tool.specs.Words.{Task, replays, lists_stream, decodes_pdu}
 use Rattle.tase_tool.specs.Saying.{setup_of, tables_read, second_text}
 
@@ -32,7 +34,8 @@ is_told statuses.Full = true
 is_told status = false
 
 -- the lines that a replay of a text over a node has taken: what they print for each seat is all
--- that its peer is owed for them; all are taken where the status tells the end of the play
+-- that its peer is owed for them, and what they print of orders all that the plant takes at them;
+-- all are taken where the status tells the end of the play
 pub record SendsSoFar (node : NodeState) (text : List ℕ) (status : Status) (went : List ℕ → Type 0)
     : Type 0 where
   pub taken : List TakenLine
@@ -40,6 +43,7 @@ pub record SendsSoFar (node : NodeState) (text : List ℕ) (status : Status) (we
   pub lines : (played_on node text).taken ≡ taken ++ others
   pub all : is_told status ≡ true → others ≡ []
   pub sent : AreSentOver node.setup node.history taken
+  pub orders : AreOrdersPrinted node.setup node.history taken
   -- where others are left, what went out is what these print, or a front part of it
   pub printed : (others ≡ []) ⊎ went (printed_in (steps_in taken))
 

@@ -1,7 +1,10 @@
-use Rattle.std.proofs.Common.{sym, subst, ap, Ok, Err, refl, inl}
+use Rattle.std.proofs.Common.{sym, subst, ap, ◌∙◌, Ok, Err, refl, inl}
+use Rattle.bilateral.specs.Rows.{CentreRows}
 use Rattle.tase_views.specs.History.{Past}
 use Rattle.tase_views.specs.Outcomes.{IsRightOutcome}
 use Rattle.node_core.specs.NodeState.{NodeState}
+use Rattle.tase_replay.specs.Ends.{IsShown}
+use Rattle.tase_replay.specs.Play.{printed_of}
 use Rattle.tase_replay.proofs.Entering.{IsPlayed-taken, IsPlayed-refused, never_done}
 use Rattle.tase_replay.proofs.Own.{own_scene}
 use Rattle.tase_replay.proofs.Players.{plays_last}
@@ -21,7 +24,11 @@ returns-in-Ok-clause-plays g c = λ scene h.
       played = λ line. IsPlayed-taken node.setup line c.args.number scene c.args.entry
           c.in-Ok.answer node.history c.step.new.self.history (g.K.Sink.told old.sink.now)
           (g.K.Sink.told c.print_answer.new.sink) c.print_answer.result own right.0 right.1 grown
-          c.print_answer.ensures;
+          (subst (λ (rows : CentreRows). IsShown (printed_of rows c.args.entry.who c.in-Ok.answer)
+          (g.K.Sink.told old.sink.now) (g.K.Sink.told c.print_answer.new.sink)
+          c.print_answer.result)
+          (c.centre.ensures ∙ ap (λ (n : NodeState). n.setup.centre) c.in-Ok.ensures.ok)
+          c.print_answer.ensures);
       stands = λ done. own_scene node.setup scene c.args.entry node.history
           c.step.new.self.history h.0 old.seats.now h.1 h.2 right.0 grown;
       sent = inl (own_taken node.setup scene c.args.entry own right.0);

@@ -1,13 +1,12 @@
-use Rattle.std.proofs.Common.{◌+◌, [], true, reverse, arith, ◌∙◌, refl, subst}
+use Rattle.std.proofs.Common.{◌+◌, [], true, reverse, arith, ◌∙◌, refl, sym, subst}
 use Rattle.std.specs.Str.Lines.{lines}
 use Rattle.tase_views.specs.Setup.{Setup}
 use Rattle.tase_replay.specs.AllSent.{AreSentSoFar, is_played_out}
 use Rattle.tase_replay.specs.Play.{Scene, play, line_meaning, first_scene, scene_by}
 use Rattle.tase_replay.specs.Players.{play_of}
 use Rattle.tase_replay.proofs.Reached.{Reached-none, Reached-last}
-use Rattle.tase_replay.proofs.PlayPrints.{taken_prints}
-use Rattle.tase_replay.proofs.SoFar.{SentSoFar-none, SentSoFar-more, AreSentSoFar-whole}
-use Rattle.tase_replay.proofs.SoFar.{AreSentSoFar-last}
+use Rattle.tase_replay.proofs.SoFar.{PrintsLines, SentSoFar-none, SentSoFar-more}
+use Rattle.tase_replay.proofs.SoFar.{AreSentSoFar-whole, AreSentSoFar-last, prints_lines}
 use Rattle.tase_replay.proofs.playing.Player.play_lines.Goals as goal
 
 pub loop-line-init : goal.loop-line-init
@@ -55,8 +54,8 @@ returns-in_default-play_line g c =
           (AreSentSoFar-last node.setup c.in-Some.line.now c.loop-line.number scene rest all
           first.history node.history new.node.now.history (g.K.Sink.told old.sink.now)
           (g.K.Sink.told at.sink.now) (g.K.Sink.told new.sink.now) so_far.reached so_far.sent
-          (taken_prints first.setup (lines c.args.scenario.now)
-          (first_scene (reverse first.history)) 1)
+          (subst (λ (setup : Setup). PrintsLines setup first.history all) (sym same.setup)
+          (prints_lines first.setup (lines c.args.scenario.now) first.history))
           c.loop-line.invariant.2.past_is c.play_line.result c.in_default-play_line.not-Done played
           line.sent);
       same = record {
@@ -107,6 +106,9 @@ returns-clause-sent g c =
     (g.K.Sink.told old.sink.now) (g.K.Sink.told at.sink.now)) c.loop-line.invariant.3.setup
     (AreSentSoFar-whole node.setup all (play node.setup [] scene c.loop-line.number) first.history
     node.history (g.K.Sink.told old.sink.now) (g.K.Sink.told at.sink.now) scene
-    so_far.reached so_far.sent (taken_prints first.setup (lines c.args.scenario.now)
-    (first_scene (reverse first.history)) 1) c.loop-line.invariant.2.past_is true
+    so_far.reached so_far.sent
+    (subst (λ (setup : Setup). PrintsLines setup first.history all)
+    (sym c.loop-line.invariant.3.setup)
+    (prints_lines first.setup (lines c.args.scenario.now) first.history))
+    c.loop-line.invariant.2.past_is true
     (g.K.Sink.told at.sink.now) refl)
