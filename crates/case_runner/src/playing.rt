@@ -1,7 +1,8 @@
 //! How a case is played: over an outside in memory.
 
 use crate::cases::{Case, FailedRead, Input, Wanted};
-use outside::{ByteSink, MemoryOutside, TextSource};
+use outside::{ByteSink, TextSource};
+use outside_names::MemoryOutside;
 use std::alloc::{AllocError, Global};
 use tase_tool::run;
 

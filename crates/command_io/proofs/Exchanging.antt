@@ -5,8 +5,9 @@ use Rattle.std.proofs.Common.{refl, sym, ◌∙◌, ap, subst, inl, inr}
 use Rattle.std.specs.Prelude.{bytes_eq}
 use Rattle.std.proofs.lemmas.Slice.Eq.{bytes_eq-Decides}
 use Rattle.outside.specs.Faults.{counted}
-use Rattle.outside.specs.Outside.{NameEntry, untold, missing, lent, there, HandsOutObject, Changes}
-use Rattle.outside.specs.Outside.{lent_from, put_back_at, Acts}
+use Rattle.outside_names.specs.Outside.{NameEntry, untold, missing, lent, there, HandsOutObject}
+use Rattle.outside_names.specs.Outside.{Changes}
+use Rattle.outside_names.specs.Outside.{lent_from, put_back_at, Acts}
 use Rattle.command_io.specs.OutsideUse.{is_among, StandsAgain, Keeps, FailedAt, FaultyAt, CleanAt}
 use Rattle.command_io.specs.OutsideUse.{AtMost, times}
 use Rattle.command_io.proofs.Leaving.{StandsAgain-refl, Acts-none, Rises-positive}

@@ -10,7 +10,8 @@ use Rattle.std.proofs.lemmas.List.{append-nil}
 use Rattle.std.proofs.Math.Seq.{take-append-add}
 use Rattle.outside.specs.Faults.{next_count}
 use Rattle.outside.specs.Sink.{SinkTold}
-use Rattle.outside.specs.Outside.{NameEntry, untold, missing, lent, there, OutsideTold, Asks, Acts}
+use Rattle.outside_names.specs.Outside.{NameEntry, untold, missing, lent, there, OutsideTold, Asks}
+use Rattle.outside_names.specs.Outside.{Acts}
 use Rattle.command_io.specs.OutsideUse.{is_among, SomeOf, EachOf, StandsAgain, FailedAt, FaultyAt}
 use Rattle.command_io.specs.OutsideUse.{CleanAt, Keeps, times, AtMost, IsTextRead, IsWritten}
 use Rattle.command_io.specs.OutsideUse.{source_faults, sink_faults, AsksFront, raised, Grows, Rises}
@@ -378,6 +379,7 @@ module _ (f g : Bool) (first second outputs : List (List ℕ)) (b m a : OutsideT
     };
     read = AsksFront-then b.read_names m.read_names a.read_names first second asked then.read;
     written = subst (λ w. AsksFront w a.written_names outputs) written then.written;
+    network = then.network ∙ used.network;
   }
     where
       StandsAgain-more : (name : List ℕ)

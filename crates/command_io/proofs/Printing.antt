@@ -6,8 +6,8 @@ use Rattle.std.proofs.Common.{refl, sym, ◌∙◌, ap, subst, inl, inr, arith, 
 use Rattle.std.specs.Prelude.{IsTrue, nat_lt, codes, decimal}
 use Rattle.outside.specs.Faults.{counted, next_count}
 use Rattle.outside.specs.Sink.{SinkTold}
-use Rattle.outside.specs.Outside.{OutsideTold, Asks}
-use Rattle.outside.specs.Outside.{OpensOut, ClosesOut}
+use Rattle.outside_names.specs.Outside.{OutsideTold, Asks}
+use Rattle.outside_names.specs.Outside.{OpensOut, ClosesOut}
 use Rattle.command_io.specs.declared.status.Status.{Status}
 use Rattle.command_io.specs.declared.status.Status.TheVariants.{Done, Usage, Input, Outside, Full}
 use Rattle.command_io.specs.declared.status.Status.TheVariants.{Memory}
@@ -221,6 +221,7 @@ module _ (b m a : OutsideTold) (is_command : Bool) (said_now : Said) (alone : sa
                 (sym (closes.read_names ∙ opens.read_names)) (Asks-none b.read_names),
           );
           written = (1, asked);
+          network = closes.network ∙ opens.network;
         }
 
     -- it isn't there
@@ -244,6 +245,7 @@ module _ (b m a : OutsideTold) (is_command : Bool) (said_now : Said) (alone : sa
                 (Asks-none b.read_names),
           );
           written = (1, opens.written_names);
+          network = opens.network;
         })
       where
         nothing : ((n : List ℕ) → m.sinks n ≡ b.sinks n)

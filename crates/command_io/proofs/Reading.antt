@@ -10,8 +10,10 @@ use Rattle.outside.specs.Faults.{counted, next_count}
 use Rattle.outside.specs.Octets.{TakesOctets}
 use Rattle.outside.specs.Source.{SourceTold}
 use Rattle.outside.specs.Text.{TextResult, IsTextOf, ReadsText, is_failed_text}
-use Rattle.outside.specs.Outside.{NameEntry, untold as untold_name, missing as missing_name, lent}
-use Rattle.outside.specs.Outside.{there, OutsideTold, Asks, Acts, OpensIn, ClosesIn, HandsOutObject}
+use Rattle.outside_names.specs.Outside.{NameEntry, untold as untold_name, missing as missing_name}
+use Rattle.outside_names.specs.Outside.{lent}
+use Rattle.outside_names.specs.Outside.{there, OutsideTold, Asks, Acts, OpensIn, ClosesIn}
+use Rattle.outside_names.specs.Outside.{HandsOutObject}
 use Rattle.command_io.specs.declared.input.TheConstants.{TEXT_LIMIT}
 use Rattle.command_io.specs.declared.input.InputEnd.TheVariants.{Outside}
 use Rattle.command_io.specs.OutsideUse.{SomeOf, Keeps, Rises, source_faults}
@@ -195,6 +197,7 @@ module _ (b m a : OutsideTold) (name : List ℕ) where
             subst (λ names. Asks b.written_names names [])
                 (sym (closes.written_names ∙ opens.written_names)) (Asks-none b.written_names),
           );
+          network = closes.network ∙ opens.network;
         };
         asked = subst (λ names. Asks b.read_names names (name ∷ [])) (sym closes.read_names)
             opens.read_names;
@@ -225,6 +228,7 @@ module _ (b m a : OutsideTold) (name : List ℕ) where
           subst (λ names. Asks b.written_names names []) (sym opens.written_names)
               (Asks-none b.written_names),
         );
+        network = opens.network;
       };
       asked = opens.read_names;
       sinks = opens.sinks;

@@ -7,7 +7,7 @@ use Rattle.std.proofs.Math.Nat.{min-zero, suc-min-suc, zero-min}
 use Rattle.std.proofs.lemmas.List.{append-nil}
 use Rattle.outside.specs.Octets.{Adds}
 use Rattle.outside.specs.Sink.{SinkTold}
-use Rattle.outside.specs.Outside.{NameEntry, OutsideTold, Asks}
+use Rattle.outside_names.specs.Outside.{NameEntry, OutsideTold, Asks}
 use Rattle.command_io.specs.declared.status.Status.{Status}
 use Rattle.command_io.specs.declared.status.Status.TheVariants.{Done, Usage, Input, Outside, Full}
 use Rattle.command_io.specs.declared.status.Status.TheVariants.{Memory}
@@ -154,6 +154,7 @@ Uses-idle inputs outputs b = record {
   sinks = Keeps-same sink_faults IsWritten false outputs b.sinks b.sinks refl;
   read = (0, Asks-none b.read_names);
   written = (0, Asks-none b.written_names);
+  network = refl;
 }
 
 module _ (duty : Duty) (b a : OutsideTold) where
@@ -240,6 +241,7 @@ Uses-wider inputs more outputs failed b a uses = record {
         (sym (take-append-min uses.read.0 inputs more)) uses.read.1,
   );
   written = uses.written;
+  network = uses.network;
 }
   where
     wider : (P : List ℕ → Type 0) (Q : Type 0) → (SomeOf inputs P ⊎ Q)

@@ -5,7 +5,7 @@ use Rattle.std.specs.declared.alloc.Global.{Global}
 use Rattle.outside.specs.declared.text.TextEnd.TheVariants as text_ends
 use Rattle.outside.specs.Source.{SourceTold}
 use Rattle.outside.specs.Text.{TextResult, ReadsText}
-use Rattle.outside.specs.Outside.{OutsideTold, Asks, Acts}
+use Rattle.outside_names.specs.Outside.{OutsideTold, Asks, Acts}
 use Rattle.command_io.specs.declared.input.Refusal.TheVariants.{Long, BadLine}
 use Rattle.command_io.specs.declared.input.InputEnd.{InputEnd}
 use Rattle.command_io.specs.declared.input.InputEnd.TheVariants.{Refused, Outside, Memory}

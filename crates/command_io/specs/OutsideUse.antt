@@ -6,7 +6,8 @@ use Rattle.outside.specs.Faults.{next_count}
 use Rattle.outside.specs.Source.{SourceTold}
 use Rattle.outside.specs.Sink.{SinkTold, Appends}
 use Rattle.outside.specs.Text.{TextResult, ReadsText}
-use Rattle.outside.specs.Outside.{NameEntry, untold, missing, lent, there, OutsideTold, Asks, Acts}
+use Rattle.outside_names.specs.Outside.{NameEntry, untold, missing, lent, there, OutsideTold, Asks}
+use Rattle.outside_names.specs.Outside.{Acts}
 use Rattle.command_io.specs.declared.input.TheConstants.{TEXT_LIMIT}
 
 -- a count of faults after so many more
@@ -145,3 +146,5 @@ module _ (inputs outputs : List (List ℕ)) where
     pub sinks : Keeps sink_faults IsWritten failed outputs before.sinks after.sinks
     pub read : AsksFront before.read_names after.read_names inputs
     pub written : AsksFront before.written_names after.written_names outputs
+    -- and it listens nowhere, connects to nobody and asks no clock
+    pub network : after.network ≡ before.network

@@ -1,8 +1,8 @@
 -- What a command says, and what is told of its inputs.
 use Rattle.std.specs.Prelude.{ℕ, Bool, List, [], ◌∷◌, ◌++◌, Option, Some, None, codes, decimal}
 use Rattle.outside.specs.Source.{SourceTold}
-use Rattle.outside.specs.Outside.{NameEntry, OutsideTold, lent, there}
-use Rattle.outside.specs.Outside.{untold as untold_name, missing as missing_name}
+use Rattle.outside_names.specs.Outside.{NameEntry, OutsideTold, lent, there}
+use Rattle.outside_names.specs.Outside.{untold as untold_name, missing as missing_name}
 use Rattle.command_io.specs.declared.status.Status.{Status}
 use Rattle.command_io.specs.declared.input.Refusal.{Refusal}
 use Rattle.command_io.specs.declared.input.Refusal.TheVariants.{Long, BadLine}

@@ -2,7 +2,8 @@
 ghost use Rattle.std.specs.Prelude.{◌≡◌};
 ghost use Rattle.command_io.specs.Inputs.{input_of, ReadsInput};
 
-use outside::{Outside, TextEnd, read_text};
+use outside::{TextEnd, read_text};
+use outside_names::Outside;
 use std::alloc::{AllocError, Global};
 
 /// So many octets may a text have.

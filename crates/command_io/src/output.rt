@@ -8,7 +8,8 @@ ghost use Rattle.command_io.specs.Runs.{IsRun, TellsSaid, EndsUnread};
 use crate::input::{InputEnd, Refusal};
 use crate::status::Status;
 use itoa::Buffer;
-use outside::{Outside, Sink, SinkFailed, write_all};
+use outside::{Sink, SinkFailed, write_all};
+use outside_names::Outside;
 
 /// The name of standard output among the outside's sinks.
 pub const OUTPUT: &str = "-";

@@ -14,6 +14,8 @@ mod listeners;
 #[cfg(test)]
 mod meeting;
 #[cfg(test)]
+mod opened;
+#[cfg(test)]
 mod spawner;
 #[cfg(test)]
 mod threads;

@@ -1,7 +1,8 @@
 //! Real objects that go to another thread.
 use crate::meeting::{Met, meet};
-use outside::{Outside, ReadEnd, Source};
+use outside::{ReadEnd, Source};
 use outside_links::{Clock, Link, Recv};
+use outside_names::Outside;
 use outside_real::{RealClock, RealOutside, SystemClock};
 use std::io::Write;
 use std::test::Fail;
@@ -31,7 +32,7 @@ fn a_link_goes_to_another_thread(rt: HostRuntime) -> Result<(), Fail> {
 #[test]
 fn a_clock_and_a_source_go_to_another_thread(rt: HostRuntime) -> Result<(), Fail> {
     let mut clock = RealClock::new(SystemClock::new(rt));
-    let mut outside = RealOutside::new(&rt);
+    let mut outside = RealOutside::new(rt.alloc(), &rt);
     let Some(mut source) = outside.open_in("/dev/null") else {
         panic!(rt; "it can't be opened");
     };

@@ -1,7 +1,6 @@
-use outside::{
-    BufferedSink, ByteSink, MemoryOutside, Outside, Sink, Source, TextEnd, TextSource, read_text,
-    write_all,
-};
+use outside::{BufferedSink, ByteSink, Sink, Source, TextEnd, TextSource, read_text, write_all};
+use outside_links::{ScriptClock, ScriptLink, ScriptListener};
+use outside_names::{MemoryOutside, Outside};
 use std::alloc::{AllocError, Global};
 use std::test::Fail;
 
@@ -86,6 +85,66 @@ fn handed_out(alloc: Global) -> Result<([bool; 3], u64, Option<usize>), Fail> {
 fn hands_out_a_source_once(rt: HostRuntime) -> Result<(), Fail> {
     let want = ([false, false, true], 2, Some(4));
     assert_eq!(rt; handed_out(rt.alloc())?, want);
+    Ok(())
+}
+
+// An outside with a listener at one address, a link at another, and a clock.
+fn one_of_each_kind(alloc: Global) -> Result<MemoryOutside, AllocError> {
+    let mut outside = MemoryOutside::new(alloc)?;
+    let listener = ScriptListener::new(alloc, Vec::new(alloc), Vec::new(alloc))?;
+    outside.put_listener(alloc, "[::1]:102", listener)?;
+    let link = ScriptLink::new(
+        alloc,
+        Vec::new(alloc),
+        9,
+        9,
+        Vec::new(alloc),
+        Vec::new(alloc),
+    )?;
+    outside.put_link(alloc, "[::1]:103", link)?;
+    outside.put_clock(ScriptClock::new(alloc, Vec::new(alloc), Vec::new(alloc)));
+    Ok(outside)
+}
+
+// Whether a listener is handed out while it is out, at the address of a link, and once it is back;
+// and how many faults there were.
+fn listened(alloc: Global) -> Result<([bool; 3], u64), Fail> {
+    let mut outside = one_of_each_kind(alloc)?;
+    let listener = outside.listen("[::1]:102").ok_or("listener")?;
+    let twice = outside.listen("[::1]:102").is_some();
+    let a_link = outside.listen("[::1]:103").is_some();
+    outside.close_listener(listener);
+    let again = outside.listen("[::1]:102").is_some();
+    Ok(([twice, a_link, again], outside.faults()))
+}
+
+// The same of a link, and how many addresses it was asked to connect to.
+fn connected(alloc: Global) -> Result<([bool; 3], u64, Option<usize>), Fail> {
+    let mut outside = one_of_each_kind(alloc)?;
+    let link = outside.connect("[::1]:103").ok_or("link")?;
+    let twice = outside.connect("[::1]:103").is_some();
+    let a_listener = outside.connect("[::1]:102").is_some();
+    outside.close_link(link);
+    let again = outside.connect("[::1]:103").is_some();
+    let addresses = outside.connected().map(|names| names.len());
+    Ok(([twice, a_listener, again], outside.faults(), addresses))
+}
+
+// The same of the clock.
+fn told_the_time(alloc: Global) -> Result<([bool; 2], u64), Fail> {
+    let mut outside = one_of_each_kind(alloc)?;
+    let clock = outside.clock().ok_or("clock")?;
+    let twice = outside.clock().is_some();
+    outside.close_clock(clock);
+    let again = outside.clock().is_some();
+    Ok(([twice, again], outside.faults()))
+}
+
+#[test]
+fn hands_out_what_stands_at_an_address(rt: HostRuntime) -> Result<(), Fail> {
+    assert_eq!(rt; listened(rt.alloc())?, ([false, false, true], 2));
+    assert_eq!(rt; connected(rt.alloc())?, ([false, false, true], 2, Some(4)));
+    assert_eq!(rt; told_the_time(rt.alloc())?, ([false, true], 1));
     Ok(())
 }
 

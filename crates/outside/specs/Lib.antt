@@ -1,10 +1,7 @@
 pub mod Buffered
 pub mod Calls
 pub mod Faults
-pub mod Names
 pub mod Octets
-pub mod Outside
-pub mod Places
 pub mod Sink
 pub mod Source
 pub mod States

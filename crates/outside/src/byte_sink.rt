@@ -1,13 +1,13 @@
 //! A sink of octets in memory, some of whose calls fail.
 ghost use Rattle.std.specs.Prelude.{false, ◌≡◌, ℕ, ◌+◌, ◌-◌, ◌<◌, ◌≤◌, ◌↔◌, ◌⊎◌, List, [], Option};
-ghost use Rattle.std.specs.Prelude.{Some, length, min, Contains, IfOk, unwrap_or, option_map};
+ghost use Rattle.std.specs.Prelude.{Some, length, min, Contains, IfOk};
 ghost use Rattle.std.specs.Prelude.{string_bytes, vec_len, vec_capacity};
 ghost use Rattle.outside.specs.Faults.{next_count};
 ghost use Rattle.outside.specs.Sink.{SinkTold, Writes};
 ghost use Rattle.outside.specs.States.{ByteState, byte_told};
 
 use crate::faults::count_fault;
-use crate::places::Named;
+use crate::object_name::ObjectName;
 use crate::sink::{Sink, WriteEnd};
 use std::alloc::{AllocError, Global};
 use std::marker::Model;
@@ -23,7 +23,7 @@ pub struct ByteSink {
     fails: Vec<u64>,
     calls: u64,
     faults: u64,
-    name: Option<String>,
+    name: ObjectName,
 }
 
 impl Model for ByteSink {
@@ -37,7 +37,7 @@ impl Model for ByteSink {
       fails = s.fails.items;
       calls = s.calls;
       faults = s.faults;
-      name = unwrap_or (option_map string_bytes s.name) [];
+      name = s.name;
     } };
 
     // The room was taken when the sink was made.
@@ -67,7 +67,7 @@ impl ByteSink {
             fails,
             calls: 0,
             faults: 0,
-            name: None,
+            name: ObjectName::none(),
         })
     }
 
@@ -79,10 +79,17 @@ impl ByteSink {
     }
 
     /// Gives it the name under which it is to stand in its outside.
-    pub(crate) fn set_name(&mut self, name: String)
+    pub fn set_name(&mut self, name: String)
         ensures { self.new ≡ record self.old { name = string_bytes name } }
     {
-        self.name = Some(name);
+        self.name = ObjectName::new(name);
+    }
+
+    /// The name under which it stands in its outside; empty for none.
+    pub fn name(&self) -> &str
+        ensures { result.now ≡ self.now.name }
+    {
+        self.name.as_str()
     }
 }
 
@@ -118,16 +125,5 @@ impl Sink for ByteSink {
 
     fn faults(&self) -> u64 {
         self.faults
-    }
-}
-
-impl Named for ByteSink {
-    ghost name_of = { λ s. s.name };
-
-    fn name(&self) -> &str {
-        match &self.name {
-            Some(name) => name.as_str(),
-            None => "",
-        }
     }
 }

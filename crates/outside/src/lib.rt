@@ -1,26 +1,20 @@
-//! What lies outside the program: sources and sinks of octets, the outside that opens them by name,
-//! and doubles of them in memory. Each object counts its faults; no call fails in silence, and none
-//! claims a fault that wasn't.
+//! What lies outside the program: sources and sinks of octets, and doubles of them in memory. Each
+//! object counts its faults; no call fails in silence, and none claims a fault that wasn't.
 #![tactic(auto)]
 
-mod asked;
 mod buffered;
 mod byte_sink;
 mod faults;
-mod memory;
-mod outside;
-mod places;
+mod object_name;
 mod sink;
 mod source;
 mod text;
 mod text_source;
 
-pub use asked::{AskedName, MOST_NAMES, NAME_ROOM};
 pub use buffered::{BufferedSink, ROOM};
 pub use byte_sink::ByteSink;
 pub use faults::count_fault;
-pub use memory::MemoryOutside;
-pub use outside::Outside;
+pub use object_name::ObjectName;
 pub use sink::{Sink, SinkFailed, WriteEnd, write_all};
 pub use source::{ReadEnd, Source};
 pub use text::{PIECE, TextEnd, read_text};

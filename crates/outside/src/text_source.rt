@@ -1,13 +1,13 @@
 //! A text in memory as a source, some of whose calls fail.
 ghost use Rattle.std.specs.Prelude.{Bool, take, false, ◌≡◌, ℕ, ◌<◌, ◌≤◌, ◌↔◌, List, [], Option};
-ghost use Rattle.std.specs.Prelude.{Some, length, min, drop, Contains, unwrap_or, option_map};
+ghost use Rattle.std.specs.Prelude.{Some, length, min, drop, Contains};
 ghost use Rattle.std.specs.Prelude.{string_bytes};
 ghost use Rattle.outside.specs.Faults.{next_count};
 ghost use Rattle.outside.specs.Source.{SourceTold, ReadsSource};
 ghost use Rattle.outside.specs.States.{TextState, text_told};
 
 use crate::faults::count_fault;
-use crate::places::Named;
+use crate::object_name::ObjectName;
 use crate::source::{ReadEnd, Source};
 use std::marker::Model;
 
@@ -23,7 +23,7 @@ pub struct TextSource {
     fails: Vec<u64>,
     calls: u64,
     faults: u64,
-    name: Option<String>,
+    name: ObjectName,
 }
 
 impl Model for TextSource {
@@ -38,7 +38,7 @@ impl Model for TextSource {
       fails = s.fails.items;
       calls = s.calls;
       faults = s.faults;
-      name = unwrap_or (option_map string_bytes s.name) [];
+      name = s.name;
     } };
 
     ghost invariant = { λ s. s.at ≤ length s.octets.items };
@@ -68,15 +68,22 @@ impl TextSource {
             fails,
             calls: 0,
             faults: 0,
-            name: None,
+            name: ObjectName::none(),
         }
     }
 
     /// Gives it the name under which it is to stand in its outside.
-    pub(crate) fn set_name(&mut self, name: String)
+    pub fn set_name(&mut self, name: String)
         ensures { self.new ≡ record self.old { name = string_bytes name } }
     {
-        self.name = Some(name);
+        self.name = ObjectName::new(name);
+    }
+
+    /// The name under which it stands in its outside; empty for none.
+    pub fn name(&self) -> &str
+        ensures { result.now ≡ self.now.name }
+    {
+        self.name.as_str()
     }
 }
 
@@ -115,16 +122,5 @@ impl Source for TextSource {
 
     fn faults(&self) -> u64 {
         self.faults
-    }
-}
-
-impl Named for TextSource {
-    ghost name_of = { λ s. s.name };
-
-    fn name(&self) -> &str {
-        match &self.name {
-            Some(name) => name.as_str(),
-            None => "",
-        }
     }
 }

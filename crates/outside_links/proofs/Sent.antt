@@ -1,6 +1,7 @@
 -- A link and a listener in memory may go to another thread. It is shown from the inside out.
 use denote.Param.Send.{IsSend, sendable}
 use Rattle.std.proofs.Crossing.{crosses}
+use Rattle.outside.specs.contracts.object_name.ObjectName as object_name
 use Rattle.outside_links.proofs.answers.Answers.TheLaws.TheKnot as knot
 use Rattle.outside_links.specs.contracts.script.LinkItem as item
 use Rattle.outside_links.specs.contracts.script.Script as script
@@ -13,8 +14,11 @@ item_send = search (sendable, crosses) depth 20
 script_send : IsSend script.the_row
 script_send = search (item_send, sendable, crosses) depth 20
 
+name_send : IsSend object_name.the_row
+name_send = search (sendable, crosses) depth 20
+
 pub link_send : IsSend link.the_row
-link_send = search (script_send, knot.crosses, sendable, crosses) depth 60
+link_send = search (script_send, name_send, knot.crosses, sendable, crosses) depth 60
 
 pub listener_send : IsSend listener.the_row
-listener_send = search (link_send, sendable, crosses) depth 20
+listener_send = search (link_send, name_send, sendable, crosses) depth 20

@@ -27,6 +27,8 @@ pub record LinkTold : Type 0 where
   pub is_closed : Bool
   -- how many faults there were
   pub faults : ℕ
+  -- the address under which it stands in its outside; empty for none
+  pub name : List ℕ
 
 abbrev pub is_failed_recv : Recv → Bool
 is_failed_recv (Got count) = false
@@ -61,6 +63,7 @@ pub record ReceivesPiece (before after : LinkTold) (end : Recv) (buf : List ℕ)
   pub taken : after.taken ≡ before.taken
   pub refused : after.refused ≡ before.refused
   pub is_closed : after.is_closed ≡ before.is_closed
+  pub name : after.name ≡ before.name
 
 pub record SendsPiece (before after : LinkTold) (end : WriteEnd) (piece : List ℕ) : Type 0 where
   -- a front part of the piece was taken, which may be empty
@@ -75,6 +78,7 @@ pub record SendsPiece (before after : LinkTold) (end : WriteEnd) (piece : List �
   pub faults : after.faults ≡ counted (is_failed_write end) before.faults
   pub closing : after.closing ≡ before.closing
   pub is_closed : after.is_closed ≡ before.is_closed
+  pub name : after.name ≡ before.name
 
 -- what a link tells after a close
 abbrev pub closed_link : LinkTold → LinkTold

@@ -16,6 +16,8 @@ pub record ListenerTold : Type 0 where
   pub calls : Option ℕ
   -- how many faults there were; those of links aren't counted here
   pub faults : ℕ
+  -- the address under which it stands in its outside; empty for none
+  pub name : List ℕ
 
 -- what is told of the link that accept gave, where it gave one
 abbrev pub link_given : {L : Type 0} → (L → LinkTold) → Accept L → Option LinkTold
@@ -44,6 +46,7 @@ pub record AcceptsLink (before after : ListenerTold) (given : Option LinkTold)
   -- the count rises by one exactly where it fails
   pub faults : after.faults ≡ counted failed before.faults
   pub retired : after.retired ≡ before.retired
+  pub name : after.name ≡ before.name
 
 -- fewer links were retired than accept gave, where both are told
 abbrev pub MayRetire : ListenerTold → Type 0

@@ -39,6 +39,8 @@ pub record LinkState : Type 0 where
   -- how many answers recv had given at the first close
   pub closed : Option ℕ
   pub faults : ℕ
+  -- the address under which it stands in its outside; empty for none
+  pub name : List ℕ
 
 abbrev pub script_link_told : LinkState → LinkTold
 script_link_told link = record {
@@ -53,6 +55,7 @@ script_link_told link = record {
   closing = Some (record { answered = length link.answers; closed = link.closed });
   is_closed = is_some link.closed;
   faults = link.faults;
+  name = link.name;
 }
 
 -- a link after a close, of which the first counts
@@ -105,6 +108,8 @@ pub record ListenerState : Type 0 where
   pub accepted : ℕ
   pub retired : List LinkState
   pub faults : ℕ
+  -- the address under which it stands in its outside; empty for none
+  pub name : List ℕ
 
 abbrev pub script_listener_told : ListenerState → ListenerTold
 script_listener_told listener = record {
@@ -112,6 +117,7 @@ script_listener_told listener = record {
   retired = Some (map script_link_told listener.retired);
   calls = Some listener.calls;
   faults = listener.faults;
+  name = listener.name;
 }
 
 -- a listener after a link was retired

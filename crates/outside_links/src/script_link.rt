@@ -1,6 +1,6 @@
 //! A link in memory, some of whose calls fail.
 ghost use Rattle.std.specs.Prelude.{true, false, ◌≡◌, ℕ, ◌<◌, [], ◌∷◌, ◌++◌, length, None, is_some};
-ghost use Rattle.std.specs.Prelude.{option_map, IfOk};
+ghost use Rattle.std.specs.Prelude.{option_map, string_bytes, IfOk};
 ghost use Rattle.outside.specs.Faults.{counted};
 ghost use Rattle.outside_links.specs.Answered.{received_from};
 ghost use Rattle.outside_links.specs.LinkAnswers.{received_of};
@@ -12,7 +12,7 @@ ghost use Rattle.outside_links.specs.ScriptStates.{FillsRoom, closed_script_link
 use crate::answers::{Answer, Answers};
 use crate::link::{Link, Recv};
 use crate::script::{LinkItem, Script};
-use outside::{WriteEnd, count_fault};
+use outside::{ObjectName, WriteEnd, count_fault};
 use std::alloc::{AllocError, Global};
 use std::marker::Model;
 use std::snapshot::Snapshot;
@@ -36,6 +36,7 @@ pub struct ScriptLink {
     heard: Option<bool>,
     closed: Option<Snapshot<Answers>>,
     faults: u64,
+    name: ObjectName,
 }
 
 impl Model for ScriptLink {
@@ -60,6 +61,7 @@ impl Model for ScriptLink {
       heard = s.heard;
       closed = option_map (λ answers. length (answers_given answers.value)) s.closed;
       faults = s.faults;
+      name = s.name;
     } };
 
     // The room was taken when the link was made.
@@ -92,6 +94,7 @@ impl ScriptLink {
           heard = None;
           closed = None;
           faults = 0;
+          name = [];
         }) }
     {
         Ok(ScriptLink {
@@ -109,6 +112,7 @@ impl ScriptLink {
             heard: None,
             closed: None,
             faults: 0,
+            name: ObjectName::none(),
         })
     }
 
@@ -117,6 +121,20 @@ impl ScriptLink {
         ensures { result.now ≡ self.now.taken }
     {
         &self.taken
+    }
+
+    /// Gives it the address under which it is to stand in its outside.
+    pub fn set_name(&mut self, name: String)
+        ensures { self.new ≡ record self.old { name = string_bytes name } }
+    {
+        self.name = ObjectName::new(name);
+    }
+
+    /// The address under which it stands in its outside; empty for none.
+    pub fn name(&self) -> &str
+        ensures { result.now ≡ self.now.name }
+    {
+        self.name.as_str()
     }
 
     // What a recv comes to, before it is told.

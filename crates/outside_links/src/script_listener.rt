@@ -1,5 +1,5 @@
 //! A listener in memory, some of whose calls fail.
-ghost use Rattle.std.specs.Prelude.{◌≡◌, [], IfOk};
+ghost use Rattle.std.specs.Prelude.{◌≡◌, [], string_bytes, IfOk};
 ghost use Rattle.outside_links.specs.Listeners.{ListenerTold, AcceptsLink, MayRetire};
 ghost use Rattle.outside_links.specs.Listeners.{RetiredIsWithin, link_given, is_failed_accept};
 ghost use Rattle.outside_links.specs.Listeners.{with_retired};
@@ -9,7 +9,7 @@ ghost use Rattle.outside_links.specs.ScriptStates.{with_retired_link};
 
 use crate::listener::{Accept, Listener};
 use crate::script_link::ScriptLink;
-use outside::count_fault;
+use outside::{ObjectName, count_fault};
 use std::alloc::{AllocError, Global};
 use std::collections::VecDeque;
 use std::marker::Model;
@@ -24,6 +24,7 @@ pub struct ScriptListener {
     accepted: usize,
     retired: Vec<ScriptLink>,
     faults: u64,
+    name: ObjectName,
 }
 
 impl Model for ScriptListener {
@@ -39,6 +40,7 @@ impl Model for ScriptListener {
       accepted = s.accepted;
       retired = s.retired.items;
       faults = s.faults;
+      name = s.name;
     } };
 
     // The links are new, and the room for those that are retired was taken when it was made.
@@ -63,6 +65,7 @@ impl ScriptListener {
           accepted = 0;
           retired = [];
           faults = 0;
+          name = [];
         }) }
     {
         let room = items.len();
@@ -73,6 +76,7 @@ impl ScriptListener {
             accepted: 0,
             retired: Vec::with_capacity(alloc, room)?,
             faults: 0,
+            name: ObjectName::none(),
         })
     }
 
@@ -81,6 +85,20 @@ impl ScriptListener {
         ensures { result.now ≡ self.now.retired }
     {
         &self.retired
+    }
+
+    /// Gives it the address under which it is to stand in its outside.
+    pub fn set_name(&mut self, name: String)
+        ensures { self.new ≡ record self.old { name = string_bytes name } }
+    {
+        self.name = ObjectName::new(name);
+    }
+
+    /// The address under which it stands in its outside; empty for none.
+    pub fn name(&self) -> &str
+        ensures { result.now ≡ self.now.name }
+    {
+        self.name.as_str()
     }
 }
 

@@ -1,5 +1,5 @@
 -- What real links, listeners and clocks tell: their faults, and of a link whether it was closed.
-use Rattle.std.specs.Prelude.{Bool, ℕ, None}
+use Rattle.std.specs.Prelude.{Bool, ℕ, [], None}
 use Rattle.outside_links.specs.Links.{LinkTold}
 use Rattle.outside_links.specs.Listeners.{ListenerTold}
 use Rattle.outside_links.specs.Clocks.{ClockTold}
@@ -13,10 +13,12 @@ link_told is_closed faults = record {
   closing = None;
   is_closed = is_closed;
   faults = faults;
+  name = [];
 }
 
 abbrev pub listener_told : ℕ → ListenerTold
-listener_told faults = record { accepted = None; retired = None; calls = None; faults = faults }
+listener_told faults =
+    record { accepted = None; retired = None; calls = None; faults = faults; name = [] }
 
 abbrev pub clock_told : ℕ → ClockTold
 clock_told faults = record { readings = None; faults = faults }

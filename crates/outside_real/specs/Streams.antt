@@ -5,7 +5,7 @@ use Rattle.std.specs.Io.KnownBytes.{ReadConsumes, WriteAppends}
 use Rattle.std.specs.declared.io.Error.{Error}
 use Rattle.outside.specs.Source.{SourceTold}
 use Rattle.outside.specs.Sink.{SinkTold}
-use Rattle.outside.specs.Outside.{OutsideTold, untold}
+use Rattle.outside_names.specs.Outside.{OutsideTold, untold}
 use Rattle.outside_real.specs.declared.stream.Stream.{Stream}
 use Rattle.outside_real.specs.declared.stream.Stream.TheVariants.{Standard, File}
 
@@ -22,6 +22,13 @@ outside_told faults = record {
   sinks = λ name. untold;
   read_names = None;
   written_names = None;
+  network = record {
+    listeners = λ address. untold;
+    links = λ address. untold;
+    clock = untold;
+    listened = None;
+    connected = None;
+  };
   faults = faults;
 }
 

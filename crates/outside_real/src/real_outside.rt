@@ -1,23 +1,34 @@
-//! Files, standard input and standard output by name.
+//! Files, standard input and standard output by name, connections by address, and the clock.
 ghost use Rattle.std.specs.Prelude.{◌≡◌, ℕ, List, Option, option_map, IfSome, IsSome, IsTrue};
-ghost use Rattle.outside.specs.Outside.{OutsideTold, OpensIn, OpensOut};
+ghost use Rattle.outside_names.specs.Outside.{OutsideTold, OpensIn, OpensOut, Listens, Connects};
+ghost use Rattle.outside_real.specs.Links.{listener_told, link_told};
 ghost use Rattle.outside_real.specs.Streams.{source_told, sink_told, outside_told};
 ghost use Rattle.outside_real.specs.Streams.{is_standard_stream, is_standard_name};
 
+use crate::clock::RealClock;
+use crate::link::RealLink;
+use crate::listener::RealListener;
 use crate::sink::WriteSink;
 use crate::source::ReadSource;
 use crate::stream::Stream;
-use outside::{Outside, Sink, Source, count_fault};
+use crate::system_clock::SystemClock;
+use crate::tcp::{TcpGate, TcpSocket};
+use outside::{Sink, Source, count_fault};
+use outside_links::{Clock, Link, Listener};
+use outside_names::Outside;
+use std::alloc::Global;
 use std::io::Printer;
 use std::marker::Model;
+use std::net::Net;
 use std::rt::Files;
-use std::{fs, io};
+use std::{fs, io, time};
 
-/// Opens files by their paths. `-` is standard input or standard output. An output file is made, or
-/// emptied.
+/// Opens files by their paths, and listens and connects at addresses of TCP such as `127.0.0.1:102`
+/// or `[::1]:102`. `-` is standard input or standard output. An output file is made, or emptied.
 #[derive(Drop)]
 pub struct RealOutside<'a, R> {
     runtime: &'a R,
+    alloc: Global,
     faults: u64,
 }
 
@@ -29,17 +40,27 @@ impl<'a, R> Model for RealOutside<'a, R> {
 
 impl<'a, R> RealOutside<'a, R> {
     /// The outside of a runtime, with no faults so far.
-    pub fn new(runtime: &'a R) -> Self
+    pub fn new(alloc: Global, runtime: &'a R) -> Self
         ensures { result ≡ 0 }
     {
-        RealOutside { runtime, faults: 0 }
+        RealOutside {
+            runtime,
+            alloc,
+            faults: 0,
+        }
     }
 }
 
-impl<'a, R: Files + Input + Print> Outside for RealOutside<'a, R> {
+impl<'a, R: Files + Input + Print + Net + time::Clock + Copy> Outside for RealOutside<'a, R> {
     type In = ReadSource<Stream<R::Reader, R::File>>;
 
     type Out = WriteSink<Stream<Printer<'a, R>, R::File>>;
+
+    type Link = RealLink<TcpSocket<R>>;
+
+    type Listener = RealListener<TcpGate<R>>;
+
+    type Clock = RealClock<SystemClock<R>>;
 
     ghost told = { outside_told };
 
@@ -73,6 +94,40 @@ impl<'a, R: Files + Input + Print> Outside for RealOutside<'a, R> {
 
     fn close_out(&mut self, sink: WriteSink<Stream<Printer<'a, R>, R::File>>) {
         self.faults = count_fault(self.faults, sink.faults() > 0);
+    }
+
+    fn listen(&mut self, address: &str) -> Option<RealListener<TcpGate<R>>>
+        ensures listens { Listens (outside_told self.old) (outside_told self.new) address.now
+            (option_map (λ listener. listener_told listener.1) result) }
+    {
+        let listener = TcpGate::listen(*self.runtime, self.alloc, address).ok();
+        self.faults = count_fault(self.faults, listener.is_none());
+        listener
+    }
+
+    fn close_listener(&mut self, listener: RealListener<TcpGate<R>>) {
+        self.faults = count_fault(self.faults, listener.faults() > 0);
+    }
+
+    fn connect(&mut self, address: &str) -> Option<RealLink<TcpSocket<R>>>
+        ensures connects { Connects (outside_told self.old) (outside_told self.new) address.now
+            (option_map (λ link. link_told link.is_closed link.faults) result) }
+    {
+        let link = TcpSocket::connect(*self.runtime, self.alloc, address).ok();
+        self.faults = count_fault(self.faults, link.is_none());
+        link
+    }
+
+    fn close_link(&mut self, link: RealLink<TcpSocket<R>>) {
+        self.faults = count_fault(self.faults, link.faults() > 0);
+    }
+
+    fn clock(&mut self) -> Option<RealClock<SystemClock<R>>> {
+        Some(RealClock::new(SystemClock::new(*self.runtime)))
+    }
+
+    fn close_clock(&mut self, clock: RealClock<SystemClock<R>>) {
+        self.faults = count_fault(self.faults, clock.faults() > 0);
     }
 
     fn faults(&self) -> u64 {

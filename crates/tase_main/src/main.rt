@@ -12,6 +12,6 @@ use std::env;
 use std::process::ExitCode;
 
 fn main(rt: HostRuntime) -> ExitCode {
-    let mut outside = RealOutside::new(&rt);
+    let mut outside = RealOutside::new(rt.alloc(), &rt);
     start(rt.alloc(), env::args(&rt), &mut outside)
 }

@@ -5,7 +5,7 @@ ghost use Rattle.std.specs.Process.{exit_status};
 ghost use Rattle.tase_main.specs.Starting.{IsWordsFrom, IsStart, Starts};
 
 use command_io::Status;
-use outside::Outside;
+use outside_names::Outside;
 use std::alloc::{AllocError, Global};
 use std::env::Args;
 use std::io;

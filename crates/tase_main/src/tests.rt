@@ -1,4 +1,5 @@
-use outside::{Outside, Sink, SinkFailed, read_text, write_all};
+use outside::{Sink, SinkFailed, read_text, write_all};
+use outside_names::Outside;
 use outside_real::RealOutside;
 use std::test::Fail;
 use std::{env, fs, process};
@@ -8,7 +9,7 @@ fn writes_and_reads_a_file(rt: HostRuntime) -> Result<(), Fail> {
     let alloc = rt.alloc();
     let name = format!(in alloc; "outside_real_{}", process::id(rt.process()))?;
     let path = env::temp_dir(&rt)?.join(alloc, name.as_str())?;
-    let mut outside = RealOutside::new(&rt);
+    let mut outside = RealOutside::new(rt.alloc(), &rt);
     assert!(rt; outside.open_in(path.as_str()).is_none());
     assert_eq!(rt; outside.faults(), 1);
 
@@ -28,7 +29,7 @@ fn writes_and_reads_a_file(rt: HostRuntime) -> Result<(), Fail> {
 
 #[test]
 fn counts_a_full_device(rt: HostRuntime) -> Result<(), Fail> {
-    let mut outside = RealOutside::new(&rt);
+    let mut outside = RealOutside::new(rt.alloc(), &rt);
     let mut sink = outside.open_out("/dev/full").ok_or("out")?;
     assert_eq!(rt; write_all(&mut sink, b"text"), Err(SinkFailed));
     assert_eq!(rt; sink.faults(), 1);

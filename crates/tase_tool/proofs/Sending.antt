@@ -4,7 +4,7 @@ use Rattle.std.proofs.Common.{subst, arith, inl, inr}
 use Rattle.std.specs.Prelude.{Result, Ok, Err, IfOk, Vec}
 use Rattle.std.specs.declared.alloc.Global.{Global}
 use Rattle.outside.specs.Sink.{SinkTold, AppendsPart}
-use Rattle.outside.specs.Outside.{NameEntry, OutsideTold}
+use Rattle.outside_names.specs.Outside.{NameEntry, OutsideTold}
 use Rattle.outside.proofs.Writing.{Adds-none}
 use Rattle.command_io.specs.declared.status.Status.{Status}
 use Rattle.command_io.specs.declared.status.Status.TheVariants.{Done, Usage, Input, Outside, Full}

@@ -3,7 +3,7 @@ use Rattle.std.proofs.Common.{◌≡◌, ℕ, List, true, Ok, Err, ap, refl, sym
 use Rattle.std.specs.Prelude.{length, codes, Result, Vec, IfOk, MatchResult}
 use Rattle.std.specs.declared.alloc.AllocError.{AllocError}
 use Rattle.std.specs.declared.alloc.Global.{Global}
-use Rattle.outside.specs.Outside.{OutsideTold}
+use Rattle.outside_names.specs.Outside.{OutsideTold}
 use Rattle.command_io.specs.declared.status.Status.{Status}
 use Rattle.command_io.specs.declared.status.Status.TheVariants.{Done, Input, Memory}
 use Rattle.command_io.specs.Saying.{prints, duty_to_say}

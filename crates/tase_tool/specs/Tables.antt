@@ -1,7 +1,7 @@
 -- The tables of a command: what they are read to.
 use Rattle.std.specs.Prelude.{◌≡◌, ℕ, List, Result, Ok, Err, OnOk, IsErrAnd, codes}
 use Rattle.std.specs.declared.alloc.AllocError.{AllocError}
-use Rattle.outside.specs.Outside.{OutsideTold}
+use Rattle.outside_names.specs.Outside.{OutsideTold}
 use Rattle.command_io.specs.declared.status.Status.{Status}
 use Rattle.command_io.specs.declared.input.Refusal.TheVariants.{Long, BadLine}
 use Rattle.command_io.specs.declared.input.InputEnd.{InputEnd}

@@ -12,7 +12,7 @@ use ber_values::Why;
 use capture_text::read_capture;
 use command_io::{InputEnd, Refusal, Status, end_unread, print, read_input};
 use mms_services::{MmsPdu, read_pdu};
-use outside::Outside;
+use outside_names::Outside;
 use std::alloc::{AllocError, Global};
 use stream_listing::{name_of_pdu, why_name};
 

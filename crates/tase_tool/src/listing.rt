@@ -11,7 +11,8 @@ ghost use Rattle.tase_tool.specs.Saying.{list_duty};
 
 use capture_text::{Pieces, read_pieces};
 use command_io::{InputEnd, OUTPUT, Refusal, Status, end_unread, read_input, refuse};
-use outside::{BufferedSink, Outside, Sink, SinkFailed, write_all};
+use outside::{BufferedSink, Sink, SinkFailed, write_all};
+use outside_names::Outside;
 use std::alloc::{AllocError, Global};
 use stream_listing::Lister;
 use tpkt_cotp::PIECE_LIMIT;

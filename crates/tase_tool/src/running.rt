@@ -18,7 +18,8 @@ use command_io::{
     InputEnd, OUTPUT, Refusal, Status, end_unread, print, read_input, tell_full, tell_refusal,
 };
 use node_core::Node;
-use outside::{BufferedSink, Outside, Sink, SinkFailed};
+use outside::{BufferedSink, Sink, SinkFailed};
+use outside_names::Outside;
 use std::alloc::{AllocError, Global};
 use std::sync::Arc;
 use tase_replay::{ReplayEnd, replay};

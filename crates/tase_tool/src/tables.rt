@@ -6,7 +6,7 @@ ghost use Rattle.tase_tool.specs.Tables as own;
 
 use bilateral::{Centre, TableFault, read_centre};
 use command_io::{InputEnd, Refusal, read_input};
-use outside::Outside;
+use outside_names::Outside;
 use std::alloc::{AllocError, Global};
 
 // The centre of a text of tables.

@@ -1,9 +1,12 @@
 -- The places of an outside in memory: a name each, with the object that stands there.
 use Rattle.std.specs.Prelude.{◌≡◌, ℕ, List, [], ◌∷◌, Option, Some, None, bytes_eq, if◌then◌else◌}
 use Rattle.std.specs.Option.{IfSome}
-use Rattle.outside.specs.Names.{AskedState}
-use Rattle.outside.specs.Outside.{NameEntry, untold, missing, lent, there, OutsideTold}
 use Rattle.outside.specs.States.{TextState, ByteState, text_told, byte_told}
+use Rattle.outside_links.specs.ScriptStates.{LinkState, ListenerState, ClockState}
+use Rattle.outside_links.specs.ScriptStates.{script_link_told, script_listener_told}
+use Rattle.outside_links.specs.ScriptStates.{script_clock_told}
+use Rattle.outside_names.specs.Names.{AskedState}
+use Rattle.outside_names.specs.Outside.{NameEntry, untold, missing, lent, there, OutsideTold}
 
 -- what stands at a place
 abbrev pub at_place : {X : Type 0} → Option X → NameEntry X
@@ -42,12 +45,22 @@ AllNamed name_of [] = Unit {0}
 AllNamed name_of (place ∷ places) =
     IfSome place.1 (λ object. name_of object ≡ place.0) × AllNamed name_of places
 
--- an outside in memory, with the names that it was asked to open
+-- what stands where there is one place or none
+abbrev pub at_one_place : {X : Type 0} → Option (Option X) → NameEntry X
+at_one_place {X} None = missing
+at_one_place {X} (Some place) = at_place place
+
+-- an outside in memory, with the names and addresses that it was asked to open
 pub record MemoryState : Type 0 where
   pub sources : List (List ℕ × Option TextState)
   pub sinks : List (List ℕ × Option ByteState)
+  pub listeners : List (List ℕ × Option ListenerState)
+  pub links : List (List ℕ × Option LinkState)
+  pub clock : Option (Option ClockState)
   pub read_names : AskedState
   pub written_names : AskedState
+  pub listened : AskedState
+  pub connected : AskedState
   pub faults : ℕ
 
 abbrev pub memory_told : MemoryState → OutsideTold
@@ -56,5 +69,12 @@ memory_told o = record {
   sinks = λ name. told_there byte_told (standing o.sinks name);
   read_names = o.read_names.names;
   written_names = o.written_names.names;
+  network = record {
+    listeners = λ address. told_there script_listener_told (standing o.listeners address);
+    links = λ address. told_there script_link_told (standing o.links address);
+    clock = told_there script_clock_told (at_one_place o.clock);
+    listened = o.listened.names;
+    connected = o.connected.names;
+  };
   faults = o.faults;
 }

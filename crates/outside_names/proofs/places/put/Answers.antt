@@ -1,6 +1,6 @@
 use Rattle.std.proofs.Common.{◌∙◌, sym, Some}
-use Rattle.outside.proofs.NameEntries.{puts_found, puts_nowhere, named_found, AllNamed-push}
-use Rattle.outside.proofs.places.put.Goals as goal
+use Rattle.outside_names.proofs.NameEntries.{puts_found, puts_nowhere, named_found, AllNamed-push}
+use Rattle.outside_names.proofs.places.put.Goals as goal
 
 pub returns-in-Some-clause-told : goal.returns-in-Some-clause-told
 returns-in-Some-clause-told g c =

@@ -1,7 +1,7 @@
 -- The names that an outside in memory was asked for.
 use Rattle.std.specs.Prelude.{ℕ, ◌-◌, ◌&&◌, List, [], ◌∷◌, ◌++◌, length, Option, None, option_map}
 use Rattle.std.specs.Prelude.{nat_lt, nat_le, if◌then◌else◌}
-use Rattle.outside.specs.declared.asked.TheConstants.{NAME_ROOM}
+use Rattle.outside_names.specs.declared.asked.TheConstants.{NAME_ROOM}
 
 -- the names in order, none of them once one had no room; and how many more have room
 pub record AskedState : Type 0 where

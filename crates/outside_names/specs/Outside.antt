@@ -4,6 +4,9 @@ use Rattle.std.specs.Prelude.{nat_lt, bytes_eq, if◌then◌else◌}
 use Rattle.outside.specs.Faults.{counted}
 use Rattle.outside.specs.Source.{SourceTold}
 use Rattle.outside.specs.Sink.{SinkTold}
+use Rattle.outside_links.specs.Links.{LinkTold, IsNewLink}
+use Rattle.outside_links.specs.Listeners.{ListenerTold}
+use Rattle.outside_links.specs.Clocks.{ClockTold}
 
 -- what is told of a name: nothing; that it isn't there; that its object is handed out; that this
 -- object stands there
@@ -12,6 +15,18 @@ pub data NameEntry (X : Type 0) : Type 0 where
   missing : NameEntry X
   lent : NameEntry X
   there : X → NameEntry X
+
+-- what an outside tells of other nodes and of the time
+pub record NetworkTold : Type 0 where
+  -- what stands at each address to listen at
+  pub listeners : List ℕ → NameEntry ListenerTold
+  -- the link that stands at each address to connect to
+  pub links : List ℕ → NameEntry LinkTold
+  pub clock : NameEntry ClockTold
+  -- the addresses that it was asked to listen at, in order, also those at which nothing stood
+  pub listened : Option (List (List ℕ))
+  -- the addresses that it was asked to connect to
+  pub connected : Option (List (List ℕ))
 
 -- what an outside tells
 pub record OutsideTold : Type 0 where
@@ -24,6 +39,7 @@ pub record OutsideTold : Type 0 where
   pub read_names : Option (List (List ℕ))
   -- the names that it was asked to open for writing
   pub written_names : Option (List (List ℕ))
+  pub network : NetworkTold
   -- how many faults there were, of opens and of objects when they were closed
   pub faults : ℕ
 
@@ -82,6 +98,7 @@ pub record OpensIn (before after : OutsideTold) (name : List ℕ)
   pub sinks : after.sinks ≡ before.sinks
   pub read_names : Asks before.read_names after.read_names (name ∷ [])
   pub written_names : after.written_names ≡ before.written_names
+  pub network : after.network ≡ before.network
   -- the count rises by one exactly where nothing is handed out
   pub faults : after.faults ≡ counted (is_none result) before.faults
 
@@ -92,6 +109,7 @@ pub record ClosesIn (before after : OutsideTold) (source : SourceTold) : Type 0 
   pub sinks : after.sinks ≡ before.sinks
   pub read_names : after.read_names ≡ before.read_names
   pub written_names : after.written_names ≡ before.written_names
+  pub network : after.network ≡ before.network
   -- the count rises by one exactly where the source had faults
   pub faults : after.faults ≡ counted (nat_lt 0 source.faults) before.faults
 
@@ -107,6 +125,7 @@ pub record OpensOut (before after : OutsideTold) (name : List ℕ)
   pub sources : after.sources ≡ before.sources
   pub written_names : Asks before.written_names after.written_names (name ∷ [])
   pub read_names : after.read_names ≡ before.read_names
+  pub network : after.network ≡ before.network
   -- the count rises by one exactly where nothing is handed out
   pub faults : after.faults ≡ counted (is_none result) before.faults
 
@@ -116,5 +135,98 @@ pub record ClosesOut (before after : OutsideTold) (sink : SinkTold) : Type 0 whe
   pub sources : after.sources ≡ before.sources
   pub written_names : after.written_names ≡ before.written_names
   pub read_names : after.read_names ≡ before.read_names
+  pub network : after.network ≡ before.network
   -- the count rises by one exactly where the sink had faults
   pub faults : after.faults ≡ counted (nat_lt 0 sink.faults) before.faults
+
+-- the network changed in one member, and in another that says what was asked; all else is as before
+abbrev pub with_listeners : OutsideTold → OutsideTold → OutsideTold
+with_listeners before after = record before {
+  network = record before.network {
+    listeners = after.network.listeners;
+    listened = after.network.listened;
+  };
+  faults = after.faults;
+}
+
+abbrev pub with_links : OutsideTold → OutsideTold → OutsideTold
+with_links before after = record before {
+  network = record before.network {
+    links = after.network.links;
+    connected = after.network.connected;
+  };
+  faults = after.faults;
+}
+
+abbrev pub with_clock : OutsideTold → OutsideTold → OutsideTold
+with_clock before after = record before {
+  network = record before.network { clock = after.network.clock };
+  faults = after.faults;
+}
+
+pub record Listens (before after : OutsideTold) (address : List ℕ)
+    (result : Option ListenerTold) : Type 0 where
+  -- it hands out what stood there
+  pub listener : HandsOutObject (λ listener. listener.name) (λ listener. listener.faults)
+      before.network.listeners address (before.network.listeners address) result
+  -- which is handed out now
+  pub listeners : Changes lent_from before.network.listeners after.network.listeners address
+  pub asked : Asks before.network.listened after.network.listened (address ∷ [])
+  -- the count rises by one exactly where nothing is handed out
+  pub faults : after.faults ≡ counted (is_none result) before.faults
+  pub rest : after ≡ with_listeners before after
+
+pub record ClosesListener (before after : OutsideTold) (listener : ListenerTold) : Type 0 where
+  -- the listener stands at its address again
+  pub listeners : Changes (λ standing. put_back_at standing listener) before.network.listeners
+      after.network.listeners listener.name
+  pub asked : after.network.listened ≡ before.network.listened
+  -- the count rises by one exactly where the listener had faults
+  pub faults : after.faults ≡ counted (nat_lt 0 listener.faults) before.faults
+  pub rest : after ≡ with_listeners before after
+
+pub record Connects (before after : OutsideTold) (address : List ℕ)
+    (result : Option LinkTold) : Type 0 where
+  -- it hands out what stood there
+  pub link : HandsOutObject (λ link. link.name) (λ link. link.faults)
+      before.network.links address (before.network.links address) result
+  -- a link of which nothing was told is new
+  pub fresh : before.network.links address ≡ untold → IfSome result IsNewLink
+  -- which is handed out now
+  pub links : Changes lent_from before.network.links after.network.links address
+  pub asked : Asks before.network.connected after.network.connected (address ∷ [])
+  -- the count rises by one exactly where nothing is handed out
+  pub faults : after.faults ≡ counted (is_none result) before.faults
+  pub rest : after ≡ with_links before after
+
+pub record ClosesLink (before after : OutsideTold) (link : LinkTold) : Type 0 where
+  -- the link stands at its address again
+  pub links : Changes (λ standing. put_back_at standing link) before.network.links
+      after.network.links link.name
+  pub asked : after.network.connected ≡ before.network.connected
+  -- the count rises by one exactly where the link had faults
+  pub faults : after.faults ≡ counted (nat_lt 0 link.faults) before.faults
+  pub rest : after ≡ with_links before after
+
+-- what a call hands out as the clock: exactly the one that stands there; where nothing is told, one
+-- without faults, or none
+abbrev pub HandsOutClock : NameEntry ClockTold → Option ClockTold → Type 0
+HandsOutClock untold result = IfSome result (λ clock. clock.faults ≡ 0)
+HandsOutClock missing result = result ≡ None
+HandsOutClock lent result = result ≡ None
+HandsOutClock (there clock) result = result ≡ Some clock
+
+pub record OpensClock (before after : OutsideTold) (result : Option ClockTold) : Type 0 where
+  pub clock : HandsOutClock before.network.clock result
+  -- it is handed out now
+  pub lent : after.network.clock ≡ lent_from before.network.clock
+  -- the count rises by one exactly where none is handed out
+  pub faults : after.faults ≡ counted (is_none result) before.faults
+  pub rest : after ≡ with_clock before after
+
+pub record ClosesClock (before after : OutsideTold) (clock : ClockTold) : Type 0 where
+  -- it stands there again
+  pub back : after.network.clock ≡ put_back_at before.network.clock clock
+  -- the count rises by one exactly where the clock had faults
+  pub faults : after.faults ≡ counted (nat_lt 0 clock.faults) before.faults
+  pub rest : after ≡ with_clock before after

@@ -1,8 +1,8 @@
 //! The names that an outside in memory was asked for.
 ghost use Rattle.std.specs.Prelude.{◌≡◌, ℕ, ◌+◌, ◌≤◌, List, [], Option, Some, None, IfOk};
 ghost use Rattle.std.specs.Prelude.{option_map, length, take, vec_len, vec_capacity, if◌then◌else◌};
-ghost use Rattle.outside.specs.Names.{AskedState, with_name_asked};
-ghost use Rattle.outside.specs.declared.asked.TheConstants.{MOST_NAMES, NAME_ROOM};
+ghost use Rattle.outside_names.specs.Names.{AskedState, with_name_asked};
+ghost use Rattle.outside_names.specs.declared.asked.TheConstants.{MOST_NAMES, NAME_ROOM};
 
 use std::alloc::{AllocError, Global};
 use std::marker::Model;

@@ -1,7 +1,7 @@
 use Rattle.std.proofs.Common.{◌∙◌, sym, ap}
-use Rattle.outside.specs.Places.{object_there}
-use Rattle.outside.proofs.NameEntries.{standing_found, standing_none, object_at_place}
-use Rattle.outside.proofs.places.look.Goals as goal
+use Rattle.outside_names.specs.Places.{object_there}
+use Rattle.outside_names.proofs.NameEntries.{standing_found, standing_none, object_at_place}
+use Rattle.outside_names.proofs.places.look.Goals as goal
 
 pub returns-in_err-at : goal.returns-in_err-at
 returns-in_err-at g c =

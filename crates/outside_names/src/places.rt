@@ -1,19 +1,12 @@
 //! The places of an outside in memory.
 ghost use Rattle.std.specs.Prelude.{◌≡◌, ℕ, List, Option, OnOk, OnErr, IfSome, Some, None};
 ghost use Rattle.std.specs.Prelude.{position, bytes_eq, option_copied, string_bytes};
-ghost use Rattle.outside.specs.Outside.{Changes, lent_from, put_back_at};
-ghost use Rattle.outside.specs.Places.{standing, object_there, PutsUnder, AllNamed};
+ghost use Rattle.outside_names.specs.Outside.{Changes, lent_from, put_back_at};
+ghost use Rattle.outside_names.specs.Places.{standing, object_there, PutsUnder, AllNamed};
 
+use crate::named::Named;
 use std::alloc::{AllocError, Global};
 use std::marker::Model;
-
-/// An object that bears the name of its place.
-pub(crate) trait Named {
-    ghost name_of: { Self → List ℕ };
-
-    fn name(&self) -> &str
-        ensures { result.now ≡ name_of self.now };
-}
 
 /// A name, and the object that stands under it. None: it is handed out.
 #[derive(Drop)]
@@ -91,7 +84,7 @@ pub(crate) fn close<X: Named + Drop>(places: &mut Vec<Place<X>>, object: X)
         (standing places.new.items) (X.name_of object) }
     ensures named { AllNamed X.name_of places.old.items → AllNamed X.name_of places.new.items }
 {
-    if let Some(at) = find(places, object.name()) {
+    if let Some(at) = find(places, object.place_name()) {
         places[at].put_back(object);
     }
 }

@@ -7,7 +7,7 @@ use Rattle.std.proofs.lemmas.Slice.Eq.{bytes_eq-Decides}
 use Rattle.outside.specs.Faults.{counted}
 use Rattle.outside.specs.Source.{SourceTold}
 use Rattle.outside.specs.Sink.{SinkTold}
-use Rattle.outside.specs.Outside.{OutsideTold, OpensIn, ClosesIn, OpensOut, ClosesOut, NameEntry, untold, missing, lent, there, lent_from, put_back_at, HandsOutObject, Changes, Acts, Asks}
+use Rattle.outside_names.specs.Outside.{OutsideTold, OpensIn, ClosesIn, OpensOut, ClosesOut, NameEntry, untold, missing, lent, there, lent_from, put_back_at, HandsOutObject, Changes, Acts, Asks}
 
 pub bytes_are : (xs ys : List ℕ) → bytes_eq xs ys ≡ true → xs ≡ ys
 bytes_are xs ys = (bytes_eq-Decides xs ys).0

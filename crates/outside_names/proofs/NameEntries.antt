@@ -8,8 +8,8 @@ use Rattle.std.proofs.lemmas.Bool.Decides.{nat_tests}
 use Rattle.std.proofs.lemmas.List.Quantifiers.{position-Some}
 use Rattle.std.proofs.lemmas.List.Sums.{fails_before_first}
 use Rattle.std.proofs.lemmas.Slice.Eq.{bytes_eq-Decides}
-use Rattle.outside.specs.Outside.{NameEntry, untold, missing, lent, there, Changes, lent_from, put_back_at}
-use Rattle.outside.specs.Places.{at_place, standing, object_there, PutsUnder, AllNamed}
+use Rattle.outside_names.specs.Outside.{NameEntry, untold, missing, lent, there, Changes, lent_from, put_back_at}
+use Rattle.outside_names.specs.Places.{at_place, standing, object_there, PutsUnder, AllNamed}
 
 -- the places with this at the name, where the name is there
 abbrev pub placed : {X : Type 0} → List (List ℕ × Option X) → List ℕ → Option X

@@ -1,7 +1,7 @@
 use Rattle.std.proofs.Common.{◌∙◌, sym, ap, None}
-use Rattle.outside.specs.Places.{object_there}
-use Rattle.outside.proofs.NameEntries.{lends_found, lends_nothing, named_found, named_at, standing_found, standing_none, object_at_place}
-use Rattle.outside.proofs.places.open.Goals as goal
+use Rattle.outside_names.specs.Places.{object_there}
+use Rattle.outside_names.proofs.NameEntries.{lends_found, lends_nothing, named_found, named_at, standing_found, standing_none, object_at_place}
+use Rattle.outside_names.proofs.places.open.Goals as goal
 
 pub returns-in_err-at-clause-object : goal.returns-in_err-at-clause-object
 returns-in_err-at-clause-object g c =

@@ -1,0 +1,2 @@
+mod NameEntries
+pub mod Opening
