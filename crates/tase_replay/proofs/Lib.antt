@@ -1,6 +1,3 @@
-pub mod Foreign
-pub mod CallParts
-pub mod SetCalls
 pub mod CallRead
 pub mod Taking
 pub mod Reached
@@ -18,7 +15,6 @@ pub mod Own
 pub mod Players
 pub mod TakenLines
 pub mod Printable
-pub mod TextLines
 pub mod PrintedBack
 pub mod PlayPrints
 pub mod OrdersTaken

@@ -44,7 +44,7 @@ use Rattle.tase_replay.proofs.Printable.{IsPrintable, of_words, printable-append
 use Rattle.tase_replay.proofs.Printable.{reply-printable, report-printable, order-printable}
 use Rattle.tase_replay.proofs.Printable.{end-printable}
 use Rattle.tase_replay.proofs.PrintedBack.{line-printable}
-use Rattle.tase_replay.proofs.TextLines.{lines-more}
+use Rattle.journal_text.proofs.TextLines.{lines-more}
 
 -- ---- events
 
@@ -172,7 +172,7 @@ line-shows : (line rest : List ℕ) → IsPrintable line
     ≡ cons_option (behind_front (codes "order ") line) (orders_shown rest)
 line-shows line rest are =
     ap orders_shown (append_assoc line (10 ∷ []) rest)
-    ∙ ap (λ ls. filter_map (behind_front (codes "order ")) ls) (lines-more line rest are)
+    ∙ ap (λ ls. filter_map (behind_front (codes "order ")) ls) (lines-more line rest are.octets)
 
 -- the lines of orders show these
 pub orders-show : (rows : CentreRows) (orders : List Order) (rest : List ℕ)

@@ -47,7 +47,7 @@ use Rattle.tase_replay.specs.Standing.{HasOctets}
 use Rattle.tase_replay.proofs.Printable.{IsPrintable, of_words, printable-append, printable-cons}
 use Rattle.tase_replay.proofs.Printable.{decimal-printable, hex-printable, reply-printable}
 use Rattle.tase_replay.proofs.Printable.{report-printable, order-printable, end-printable}
-use Rattle.tase_replay.proofs.TextLines.{lines-more}
+use Rattle.journal_text.proofs.TextLines.{lines-more}
 
 -- ---- which steps these are
 
@@ -165,7 +165,7 @@ line-shown : (who : ℕ) (line rest : List ℕ) → IsPrintable line
     → shown_to who ((line ++ 10 ∷ []) ++ rest) ≡ line_shows who line ++ shown_to who rest
 line-shown who line rest are =
     ap (shown_to who) (append_assoc line (10 ∷ []) rest)
-    ∙ ap (flat_map (line_shows who)) (lines-more line rest are)
+    ∙ ap (flat_map (line_shows who)) (lines-more line rest are.octets)
 
 -- words, a number, a space and something more
 pub line-printable : (words : List ℕ) (who : ℕ) (more : List ℕ) → IsPrintable words

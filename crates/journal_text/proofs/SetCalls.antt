@@ -26,21 +26,16 @@ use Rattle.mms_text.proofs.TextReading.{datum_in-found, datum_in-text}
 use Rattle.mms_text.proofs.TextBreaks as breaks
 use Rattle.mms_text.proofs.WordText.{chosen}
 use Rattle.tase_views.specs.declared.call.CallKind.{CallKind}
-use Rattle.tase_views.specs.declared.call.CallKind.TheVariants.{ReadSet, WriteSet, Define, MembersOf}
-use Rattle.tase_views.specs.declared.call.CallKind.TheVariants.{Delete, DeleteScope}
+use Rattle.tase_views.specs.declared.call.CallKind.TheVariants.{ReadSet, WriteSet, Define}
+use Rattle.tase_views.specs.declared.call.CallKind.TheVariants.{MembersOf, Delete, DeleteScope}
 use Rattle.tase_views.specs.EventTexts.{read_set_verb}
 use Rattle.event_text.specs.CallWords.{SpellsCall}
-use Rattle.tase_map.specs.Asked.{is_odd}
-use Rattle.tase_replay.specs.CallIn.{some_in, signed_64_in, sole_in, read_set_in}
-use Rattle.tase_replay.specs.CallIn.{write_set_in, define_in, delete_in, if_other, delete_scope_in}
-use Rattle.tase_replay.specs.CallIn.{set_call_in}
-use Rattle.tase_replay.proofs.CallParts.{class_in-found, class_in-text, each_in-found}
-use Rattle.tase_replay.proofs.CallParts.{each_in-words}
-use Rattle.tase_replay.proofs.CallParts.{if_some-found, if_some-whole}
-
--- words spell a call that isn't odd
-abbrev pub Said : List (List ℕ) → CallKind → Type 0
-Said words call = SpellsCall words call × (is_odd call ≡ false)
+use Rattle.journal_text.specs.CallIn.{some_in, signed_64_in, sole_in, read_set_in}
+use Rattle.journal_text.specs.CallIn.{write_set_in, define_in, delete_in, if_other, delete_scope_in}
+use Rattle.journal_text.specs.CallIn.{set_call_in}
+use Rattle.journal_text.proofs.CallParts.{class_in-found, class_in-text, each_in-found}
+use Rattle.journal_text.proofs.CallParts.{each_in-words}
+use Rattle.journal_text.proofs.CallParts.{if_some-found, if_some-whole}
 
 sole-found : (words : List (List ℕ)) (name : ObjectName) → sole_in words ≡ Some name
     → (words ≡ name_text name ∷ []) × IsName name
@@ -50,54 +45,45 @@ sole-found (word ∷ []) name e =
 sole-found (word ∷ next ∷ more) name e = absurd (none-some name e)
 
 read_set_in-found : (echo : Bool) (words : List (List ℕ)) (call : CallKind)
-    → read_set_in echo words ≡ Some call → Said (read_set_verb echo ∷ words) call
+    → read_set_in echo words ≡ Some call → SpellsCall (read_set_verb echo ∷ words) call
 read_set_in-found echo words call e =
     option_map-found (λ set. ReadSet set echo) (sole_in words) call e
     (λ set is whole.
     let found = sole-found words set is in
-    subst (λ (c : CallKind). Said (read_set_verb echo ∷ words) c) (sym whole) (
-      record {
-        spelled = ap (λ ws. read_set_verb echo ∷ ws) found.0;
-        lawful = tt;
-        textual = found.1;
-      },
-      refl,
-    ))
+    subst (λ (c : CallKind). SpellsCall (read_set_verb echo ∷ words) c) (sym whole) (record {
+      spelled = ap (λ ws. read_set_verb echo ∷ ws) found.0;
+      lawful = tt;
+      textual = found.1;
+    }))
 
 members_in-found : (words : List (List ℕ)) (call : CallKind)
     → option_map (λ set. MembersOf set) (sole_in words) ≡ Some call
-    → Said (codes "members" ∷ words) call
+    → SpellsCall (codes "members" ∷ words) call
 members_in-found words call e =
     option_map-found (λ set. MembersOf set) (sole_in words) call e
     (λ set is whole.
     let found = sole-found words set is in
-    subst (λ (c : CallKind). Said (codes "members" ∷ words) c) (sym whole) (
-      record {
-        spelled = ap (λ ws. codes "members" ∷ ws) found.0;
-        lawful = tt;
-        textual = found.1;
-      },
-      refl,
-    ))
+    subst (λ (c : CallKind). SpellsCall (codes "members" ∷ words) c) (sym whole) (record {
+      spelled = ap (λ ws. codes "members" ∷ ws) found.0;
+      lawful = tt;
+      textual = found.1;
+    }))
 
 delete_in-found : (words : List (List ℕ)) (call : CallKind) → delete_in words ≡ Some call
-    → Said (codes "delete" ∷ words) call
+    → SpellsCall (codes "delete" ∷ words) call
 delete_in-found words call e =
     option_map-found (λ sets. Delete sets) (some_in name_in words) call e
     (λ sets is whole.
     let some = if_some-found (each_in name_in words) sets is in
     let found = each_in-found name_in name_text IsName name_in-found words sets some.0 in
-    subst (λ (c : CallKind). Said (codes "delete" ∷ words) c) (sym whole) (
-      record {
-        spelled = ap (λ ws. codes "delete" ∷ ws) found.0;
-        lawful = some.1;
-        textual = found.1;
-      },
-      refl,
-    ))
+    subst (λ (c : CallKind). SpellsCall (codes "delete" ∷ words) c) (sym whole) (record {
+      spelled = ap (λ ws. codes "delete" ∷ ws) found.0;
+      lawful = some.1;
+      textual = found.1;
+    }))
 
 define_in-found : (words : List (List ℕ)) (call : CallKind) → define_in words ≡ Some call
-    → Said (codes "define" ∷ words) call
+    → SpellsCall (codes "define" ∷ words) call
 define_in-found [] call e = absurd (none-some call e)
 define_in-found (set ∷ members) call e =
     option_and_then_some (λ s. option_map (λ ms. Define s ms) (some_in name_in members))
@@ -108,14 +94,11 @@ define_in-found (set ∷ members) call e =
     let first = name_in-found set s is_s in
     let some = if_some-found (each_in name_in members) ms is in
     let found = each_in-found name_in name_text IsName name_in-found members ms some.0 in
-    subst (λ (c : CallKind). Said (codes "define" ∷ set ∷ members) c) (sym whole) (
-      record {
-        spelled = λ i. codes "define" ∷ first.0 i ∷ found.0 i;
-        lawful = some.1;
-        textual = (first.1, found.1);
-      },
-      refl,
-    )))
+    subst (λ (c : CallKind). SpellsCall (codes "define" ∷ set ∷ members) c) (sym whole) (record {
+      spelled = λ i. codes "define" ∷ first.0 i ∷ found.0 i;
+      lawful = some.1;
+      textual = (first.1, found.1);
+    })))
 
 -- data keep what all data that are read keep
 all_lawful : (values : List Datum) → All HasText values → All IsLawful values
@@ -129,7 +112,7 @@ value-found : (word : List ℕ) (value : Datum) → datum_in word ≡ Some value
 value-found word value e = let found = datum_in-found word value e in (found.1, found.0)
 
 write_set_in-found : (words : List (List ℕ)) (call : CallKind) → write_set_in words ≡ Some call
-    → Said (codes "writeset" ∷ words) call
+    → SpellsCall (codes "writeset" ∷ words) call
 write_set_in-found [] call e = absurd (none-some call e)
 write_set_in-found (set ∷ values) call e =
     option_and_then_some (λ s. option_map (λ vs. WriteSet s vs) (some_in datum_in values))
@@ -140,14 +123,11 @@ write_set_in-found (set ∷ values) call e =
     let first = name_in-found set s is_s in
     let some = if_some-found (each_in datum_in values) vs is in
     let found = each_in-found datum_in data_text HasText value-found values vs some.0 in
-    subst (λ (c : CallKind). Said (codes "writeset" ∷ set ∷ values) c) (sym whole) (
-      record {
-        spelled = λ i. codes "writeset" ∷ first.0 i ∷ found.0 i;
-        lawful = (some.1, all_lawful vs found.1);
-        textual = (first.1, found.1);
-      },
-      refl,
-    )))
+    subst (λ (c : CallKind). SpellsCall (codes "writeset" ∷ set ∷ values) c) (sym whole) (record {
+      spelled = λ i. codes "writeset" ∷ first.0 i ∷ found.0 i;
+      lawful = (some.1, all_lawful vs found.1);
+      textual = (first.1, found.1);
+    })))
 
 other-found : (scope : ℤ) (b : Bool) (call : CallKind) → int_eq scope (pos 0) ≡ b
     → if_other scope ≡ Some call → (call ≡ DeleteScope scope) × (scope ≡ pos 0 → ⊥)
@@ -159,46 +139,45 @@ other-found scope false call other e =
     λ k. let t : int_eq scope (pos 0) ≡ true = (Decides-int_eq scope (pos 0)).1 k in absurd cc in
     (sym (same_Some (DeleteScope scope) call is), apart)
 
-delete_scope_in-found : (words : List (List ℕ)) (call : CallKind) → delete_scope_in words ≡ Some call
-    → Said (codes "deletescope" ∷ words) call
+delete_scope_in-found : (words : List (List ℕ)) (call : CallKind)
+    → delete_scope_in words ≡ Some call → SpellsCall (codes "deletescope" ∷ words) call
 delete_scope_in-found [] call e = absurd (none-some call e)
 delete_scope_in-found (word ∷ []) call e =
     option_and_then_some if_other (signed_64_in word) call e
     (λ scope is k.
     let found = class_in-found word scope is in
     let other = other-found scope (int_eq scope (pos 0)) call refl k in
-    subst (λ (c : CallKind). Said (codes "deletescope" ∷ word ∷ []) c) (sym other.0) (
-      record {
-        spelled = ap (λ w. codes "deletescope" ∷ w ∷ []) found.0;
-        lawful = other.1;
-        textual = found.1;
-      },
-      refl,
-    ))
+    subst (λ (c : CallKind). SpellsCall (codes "deletescope" ∷ word ∷ []) c) (sym other.0) (record {
+      spelled = ap (λ w. codes "deletescope" ∷ w ∷ []) found.0;
+      lawful = other.1;
+      textual = found.1;
+    }))
 delete_scope_in-found (word ∷ next ∷ more) call e = absurd (none-some call e)
 
 -- a verb, and what stands behind it
 pub verb_is : (verb word : List ℕ) (words : List (List ℕ)) (call : CallKind)
-    → bytes_eq verb word ≡ true → Said (word ∷ words) call → Said (verb ∷ words) call
+    → bytes_eq verb word ≡ true → SpellsCall (word ∷ words) call → SpellsCall (verb ∷ words) call
 verb_is verb word words call e said =
-    subst (λ (v : List ℕ). Said (v ∷ words) call) (sym ((bytes_eq-Decides verb word).0 e)) said
+    subst (λ (v : List ℕ). SpellsCall (v ∷ words) call) (sym ((bytes_eq-Decides verb word).0 e))
+    said
 
 pub set_call_in-found : (verb : List ℕ) (words : List (List ℕ)) (call : CallKind)
-    → set_call_in verb words ≡ Some call → Said (verb ∷ words) call
+    → set_call_in verb words ≡ Some call → SpellsCall (verb ∷ words) call
 set_call_in-found verb words call e =
-    chosen (Said (verb ∷ words) call) call (bytes_eq verb (codes "readset")) _ _
+    chosen (SpellsCall (verb ∷ words) call) call (bytes_eq verb (codes "readset")) _ _
     (λ is k. verb_is verb (codes "readset") words call is (read_set_in-found false words call k))
-    (λ other k. chosen (Said (verb ∷ words) call) call (bytes_eq verb (codes "readset+")) _ _
+    (λ other k. chosen (SpellsCall (verb ∷ words) call) call (bytes_eq verb (codes "readset+")) _ _
     (λ is m. verb_is verb (codes "readset+") words call is (read_set_in-found true words call m))
-    (λ other m. chosen (Said (verb ∷ words) call) call (bytes_eq verb (codes "writeset")) _ _
+    (λ other m. chosen (SpellsCall (verb ∷ words) call) call (bytes_eq verb (codes "writeset")) _ _
     (λ is n. verb_is verb (codes "writeset") words call is (write_set_in-found words call n))
-    (λ other n. chosen (Said (verb ∷ words) call) call (bytes_eq verb (codes "define")) _ _
+    (λ other n. chosen (SpellsCall (verb ∷ words) call) call (bytes_eq verb (codes "define")) _ _
     (λ is o. verb_is verb (codes "define") words call is (define_in-found words call o))
-    (λ other o. chosen (Said (verb ∷ words) call) call (bytes_eq verb (codes "members")) _ _
+    (λ other o. chosen (SpellsCall (verb ∷ words) call) call (bytes_eq verb (codes "members")) _ _
     (λ is p. verb_is verb (codes "members") words call is (members_in-found words call p))
-    (λ other p. chosen (Said (verb ∷ words) call) call (bytes_eq verb (codes "delete")) _ _
+    (λ other p. chosen (SpellsCall (verb ∷ words) call) call (bytes_eq verb (codes "delete")) _ _
     (λ is q. verb_is verb (codes "delete") words call is (delete_in-found words call q))
-    (λ other q. chosen (Said (verb ∷ words) call) call (bytes_eq verb (codes "deletescope")) _ _
+    (λ other q. chosen (SpellsCall (verb ∷ words) call) call
+    (bytes_eq verb (codes "deletescope")) _ _
     (λ is r. verb_is verb (codes "deletescope") words call is (delete_scope_in-found words call r))
     (λ other r. absurd (none-some call r)) q) p) o) n) m) k) e
 

@@ -32,9 +32,9 @@ use Rattle.mms_text.proofs.ReadName.{position-append}
 use Rattle.mms_text.proofs.TextReading.{datum_in-found, datum_in-text}
 use Rattle.mms_text.proofs.WordText.{word-found, is_same, chosen}
 use Rattle.event_text.specs.CallWords.{assigned_word, after_words}
-use Rattle.tase_replay.specs.CallIn.{assigned_at, assigned_in, if_some}
-use Rattle.tase_replay.specs.CallIn.{signed_64_in, scope_at, scope_of_word, after_in}
-use Rattle.tase_replay.proofs.Foreign.{name_foreign, identifier_foreign, separator_foreign}
+use Rattle.journal_text.specs.CallIn.{assigned_at, assigned_in, if_some}
+use Rattle.journal_text.specs.CallIn.{signed_64_in, scope_at, scope_of_word, after_in}
+use Rattle.journal_text.proofs.Foreign.{name_foreign, identifier_foreign, separator_foreign}
 
 -- a name and the value that it is to have
 abbrev pub Assigned : Type 0

@@ -1,0 +1,10 @@
+pub mod Foreign
+pub mod CallParts
+pub mod SetCalls
+pub mod CallRead
+pub mod EventWords
+pub mod EventTexts
+pub mod TextLines
+pub mod EntryRead
+pub mod Kept
+pub mod Worked

@@ -1,0 +1,3 @@
+pub mod CallIn
+pub mod Journals
+pub mod Entries

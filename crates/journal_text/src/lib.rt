@@ -1,0 +1,13 @@
+//! The entries of a history as the lines of a journal, written and read.
+#![tactic(auto)]
+
+mod laws;
+mod parts;
+mod reading;
+mod values;
+mod writing;
+
+pub use laws::{calls_are_their_words, entries_are_their_text, journals_are_their_entries};
+pub use parts::entries_have_texts;
+pub use reading::read_entry;
+pub use writing::spell_entry;

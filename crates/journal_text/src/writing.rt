@@ -1,0 +1,31 @@
+//! The text of an entry, written.
+ghost use Rattle.std.specs.Prelude.{◌≡◌, ◌++◌, OnOk, OnErr};
+ghost use Rattle.plain_text.specs.Extends.{Extends};
+ghost use Rattle.journal_text.specs.Journals.{entry_text};
+
+use ber_values::or_undo;
+use event_text::spell_event;
+use plain_text::push_decimal;
+use std::alloc::AllocError;
+use tase_views::Entry;
+
+/// Appends the text of an entry: the number of its seat, a space and its event, as
+/// [`spell_event`](event_text::spell_event) writes that. After want of memory `out` is as before.
+pub fn spell_entry(out: &mut Vec<u8>, entry: &Entry) -> Result<(), AllocError>
+    ensures ok { OnOk result (out.new.items ≡ out.old.items ++ entry_text entry.now) }
+    ensures err { OnErr result (out.new.items ≡ out.old.items) }
+{
+    let before = out.len();
+    let spelled = put_entry(out, entry);
+    or_undo(out, before, spelled)
+}
+
+/// Appends the number of a seat, a space and an event.
+fn put_entry(out: &mut Vec<u8>, entry: &Entry) -> Result<(), AllocError>
+    ensures ok { OnOk result (out.new.items ≡ out.old.items ++ entry_text entry.now) }
+    ensures err { OnErr result (Extends out.old.items out.new.items) }
+{
+    push_decimal(out, entry.who)?;
+    out.push(b' ')?;
+    spell_event(out, &entry.event)
+}
