@@ -276,116 +276,120 @@ pub Asks-none : (before : Option (List (List ℕ))) → Asks before before []
 Asks-none None = refl
 Asks-none (Some names) = inr (ap Some (sym (append-nil names)))
 
-module _ (f g : Bool) (first second outputs : List (List ℕ)) (b m a : OutsideTold) where
-  module _ (sources : Keeps source_faults IsTextRead f first b.sources m.sources)
-      (more : Keeps source_faults IsTextRead g second m.sources a.sources)
-      (sinks : m.sinks ≡ b.sinks)
-      (more_sinks : Keeps sink_faults IsWritten g outputs m.sinks a.sinks) where
-    reason_first : HasReason first [] b m → HasReason (first ++ second) outputs b a
-    reason_first (inl some) = inl (SomeOf-left first second _ (SomeOf-map first _ _
-        (λ name h. FailedAt-after source_faults g (b.sources name) (m.sources name)
-        (a.sources name) h (more.again name)) some))
-    reason_first (inr none) = absurd none
+module _ (f g : Bool) (first second outs others : List (List ℕ)) (b m a : OutsideTold)
+    (used : Uses first outs f b m) (then : Uses second others g m a) where
+  reason_first : HasReason first outs b m → HasReason (first ++ second) (outs ++ others) b a
+  reason_first (inl some) = inl (SomeOf-left first second _ (SomeOf-map first _ _
+      (λ name h. FailedAt-after source_faults g (b.sources name) (m.sources name)
+      (a.sources name) h (then.sources.again name)) some))
+  reason_first (inr some) = inr (SomeOf-left outs others _ (SomeOf-map outs _ _
+      (λ name h. FailedAt-after sink_faults g (b.sinks name) (m.sinks name)
+      (a.sinks name) h (then.sinks.again name)) some))
 
-    reason_second : HasReason second outputs m a → HasReason (first ++ second) outputs b a
-    reason_second (inl some) = inl (SomeOf-right first second _ (SomeOf-map second _ _
-        (λ name h. FailedAt-before source_faults f (b.sources name) (m.sources name)
-        (a.sources name) (sources.again name) h) some))
-    reason_second (inr some) =
-        inr (subst
-        (λ (s : List ℕ → NameEntry SinkTold). SomeOf outputs
-        (λ name. FailedAt sink_faults (s name) (a.sinks name))) sinks some)
+  reason_second : HasReason second others m a → HasReason (first ++ second) (outs ++ others) b a
+  reason_second (inl some) = inl (SomeOf-right first second _ (SomeOf-map second _ _
+      (λ name h. FailedAt-before source_faults f (b.sources name) (m.sources name)
+      (a.sources name) (used.sources.again name) h) some))
+  reason_second (inr some) = inr (SomeOf-right outs others _ (SomeOf-map others _ _
+      (λ name h. FailedAt-before sink_faults f (b.sinks name) (m.sinks name)
+      (a.sinks name) (used.sinks.again name) h) some))
 
-    faulty_first : HasFaulty first [] b m → HasFaulty (first ++ second) outputs b a
-    faulty_first (inl some) = inl (SomeOf-left first second _ (SomeOf-map first _ _
-        (λ name h. FaultyAt-after source_faults g (b.sources name) (m.sources name)
-        (a.sources name) h (more.again name)) some))
-    faulty_first (inr none) = absurd none
+  faulty_first : HasFaulty first outs b m → HasFaulty (first ++ second) (outs ++ others) b a
+  faulty_first (inl some) = inl (SomeOf-left first second _ (SomeOf-map first _ _
+      (λ name h. FaultyAt-after source_faults g (b.sources name) (m.sources name)
+      (a.sources name) h (then.sources.again name)) some))
+  faulty_first (inr some) = inr (SomeOf-left outs others _ (SomeOf-map outs _ _
+      (λ name h. FaultyAt-after sink_faults g (b.sinks name) (m.sinks name)
+      (a.sinks name) h (then.sinks.again name)) some))
 
-    faulty_second : HasFaulty second outputs m a → HasFaulty (first ++ second) outputs b a
-    faulty_second (inl some) = inl (SomeOf-right first second _ (SomeOf-map second _ _
-        (λ name h. FaultyAt-before source_faults f (b.sources name) (m.sources name)
-        (a.sources name) (sources.again name) h) some))
-    faulty_second (inr some) =
-        inr (subst
-        (λ (s : List ℕ → NameEntry SinkTold). SomeOf outputs
-        (λ name. FaultyAt sink_faults (s name) (a.sinks name))) sinks some)
+  faulty_second : HasFaulty second others m a → HasFaulty (first ++ second) (outs ++ others) b a
+  faulty_second (inl some) = inl (SomeOf-right first second _ (SomeOf-map second _ _
+      (λ name h. FaultyAt-before source_faults f (b.sources name) (m.sources name)
+      (a.sources name) (used.sources.again name) h) some))
+  faulty_second (inr some) = inr (SomeOf-right outs others _ (SomeOf-map others _ _
+      (λ name h. FaultyAt-before sink_faults f (b.sinks name) (m.sinks name)
+      (a.sinks name) (used.sinks.again name) h) some))
 
-    IsCounted-then : IsCounted first [] f b m → IsCounted second outputs g m a
-        → IsCounted (first ++ second) outputs (f || g) b a
-    IsCounted-then counted then = record {
-      cause = λ failed. rises (or-true f g failed);
-      reason = λ failed. reasons (or-true f g failed);
-      kept = keeps counted.kept then.kept;
-      exact = λ clean none. exact clean (or-false f g none);
-    }
-      where
-        low : Grows b.faults m.faults
-        low = elim counted.kept
-            [ inl same ↦ Grows-same _ _ same | inr rose ↦ Rises-grows _ _ rose.0 ]
+  -- a part that didn't fail leaves what is clean clean
+  clean_second : (f ≡ false) → IsClean second others b → IsClean second others m
+  clean_second none clean = (
+    EachOf-map second _ _
+        (λ name h. CleanAt-after source_faults (b.sources name) (m.sources name)
+        (subst (λ (t : Bool). StandsAgain source_faults t (b.sources name) (m.sources name)) none
+        (used.sources.again name)) h) clean.0,
+    EachOf-map others _ _
+        (λ name h. CleanAt-after sink_faults (b.sinks name) (m.sinks name)
+        (subst (λ (t : Bool). StandsAgain sink_faults t (b.sinks name) (m.sinks name)) none
+        (used.sinks.again name)) h) clean.1,
+  )
 
-        low_then : Grows m.faults a.faults
-        low_then =
-            elim then.kept [ inl same ↦ Grows-same _ _ same | inr rose ↦ Rises-grows _ _ rose.0 ]
+  IsCounted-then : IsCounted (first ++ second) (outs ++ others) (f || g) b a
+  IsCounted-then = record {
+    cause = λ failed. rises (or-true f g failed);
+    reason = λ failed. reasons (or-true f g failed);
+    kept = keeps used.counted.kept then.counted.kept;
+    exact = λ clean none. exact clean (or-false f g none);
+  }
+    where
+      low : Grows b.faults m.faults
+      low = elim used.counted.kept
+          [ inl same ↦ Grows-same _ _ same | inr rose ↦ Rises-grows _ _ rose.0 ]
 
-        rises : ((f ≡ true) ⊎ (g ≡ true)) → Rises b.faults a.faults
-        rises (inl failed) = Rises-before b.faults m.faults a.faults (counted.cause failed) low_then
-        rises (inr failed) = Rises-after b.faults m.faults a.faults low (then.cause failed)
+      low_then : Grows m.faults a.faults
+      low_then = elim then.counted.kept
+          [ inl same ↦ Grows-same _ _ same | inr rose ↦ Rises-grows _ _ rose.0 ]
 
-        reasons : ((f ≡ true) ⊎ (g ≡ true)) → HasReason (first ++ second) outputs b a
-        reasons (inl failed) = reason_first (counted.reason failed)
-        reasons (inr failed) = reason_second (then.reason failed)
+      rises : ((f ≡ true) ⊎ (g ≡ true)) → Rises b.faults a.faults
+      rises (inl failed) =
+          Rises-before b.faults m.faults a.faults (used.counted.cause failed) low_then
+      rises (inr failed) = Rises-after b.faults m.faults a.faults low (then.counted.cause failed)
 
-        keeps : ((m.faults ≡ b.faults) ⊎ (Rises b.faults m.faults × HasFaulty first [] b m))
-            → ((a.faults ≡ m.faults) ⊎ (Rises m.faults a.faults × HasFaulty second outputs m a))
-            → (a.faults ≡ b.faults)
-            ⊎ (Rises b.faults a.faults × HasFaulty (first ++ second) outputs b a)
-        keeps (inl same) (inl again) = inl (again ∙ same)
-        keeps (inr rose) then_kept =
-            inr (Rises-before b.faults m.faults a.faults rose.0 low_then, faulty_first rose.1)
-        keeps (inl same) (inr rose) =
-            inr (Rises-after b.faults m.faults a.faults low rose.0, faulty_second rose.1)
+      reasons : ((f ≡ true) ⊎ (g ≡ true)) → HasReason (first ++ second) (outs ++ others) b a
+      reasons (inl failed) = reason_first (used.counted.reason failed)
+      reasons (inr failed) = reason_second (then.counted.reason failed)
 
-        exact : IsClean (first ++ second) outputs b → (f ≡ false) × (g ≡ false)
-            → a.faults ≡ b.faults
-        exact clean none =
-            let parts = EachOf-parts first second _ clean.0 in
-            then.exact (
-              EachOf-map second _ _
-                  (λ name h. CleanAt-after source_faults (b.sources name) (m.sources name)
-                  (subst (λ (t : Bool). StandsAgain source_faults t (b.sources name)
-                  (m.sources name)) none.0 (sources.again name)) h) parts.1,
-              subst (λ (s : List ℕ → NameEntry SinkTold). EachOf outputs
-                  (λ name. CleanAt sink_faults (s name))) (sym sinks) clean.1,
-            ) none.1
-            ∙ counted.exact (parts.0, tt) none.0
+      keeps : ((m.faults ≡ b.faults) ⊎ (Rises b.faults m.faults × HasFaulty first outs b m))
+          → ((a.faults ≡ m.faults) ⊎ (Rises m.faults a.faults × HasFaulty second others m a))
+          → (a.faults ≡ b.faults)
+          ⊎ (Rises b.faults a.faults × HasFaulty (first ++ second) (outs ++ others) b a)
+      keeps (inl same) (inl again) = inl (again ∙ same)
+      keeps (inr rose) then_kept =
+          inr (Rises-before b.faults m.faults a.faults rose.0 low_then, faulty_first rose.1)
+      keeps (inl same) (inr rose) =
+          inr (Rises-after b.faults m.faults a.faults low rose.0, faulty_second rose.1)
 
-  -- one part of a call, which opens no sink, and then the rest of it
-  pub Uses-then : Uses first [] f b m → Asks b.read_names m.read_names first → m.sinks ≡ b.sinks
-      → m.written_names ≡ b.written_names → Uses second outputs g m a
-      → Uses (first ++ second) outputs (f || g) b a
-  Uses-then used asked sinks written then = record {
-    counted = IsCounted-then used.sources then.sources sinks then.sinks used.counted then.counted;
+      exact : IsClean (first ++ second) (outs ++ others) b → (f ≡ false) × (g ≡ false)
+          → a.faults ≡ b.faults
+      exact clean none =
+          let read = EachOf-parts first second _ clean.0 in
+          let written = EachOf-parts outs others _ clean.1 in
+          then.counted.exact (clean_second none.0 (read.1, written.1)) none.1
+          ∙ used.counted.exact (read.0, written.0) none.0
+
+  -- one part of a call, and then the rest of it
+  pub Uses-then : Asks b.read_names m.read_names first
+      → Asks b.written_names m.written_names outs
+      → Uses (first ++ second) (outs ++ others) (f || g) b a
+  Uses-then read written = record {
+    counted = IsCounted-then;
     sources =
         Keeps-then f g first second source_faults IsTextRead b.sources m.sources a.sources
         used.sources then.sources;
-    sinks = record {
-      others = λ name absent. then.sinks.others name absent
-          ∙ ap (λ (s : List ℕ → NameEntry SinkTold). s name) sinks;
-      again = λ name. StandsAgain-more name;
-      acts = λ name. subst (λ (s : List ℕ → NameEntry SinkTold).
-          Acts (AtMost IsWritten (times outputs name)) (s name) (a.sinks name)) sinks
-          (then.sinks.acts name);
-    };
-    read = AsksFront-then b.read_names m.read_names a.read_names first second asked then.read;
-    written = subst (λ w. AsksFront w a.written_names outputs) written then.written;
+    sinks =
+        Keeps-then f g outs others sink_faults IsWritten b.sinks m.sinks a.sinks
+        used.sinks then.sinks;
+    read = AsksFront-then b.read_names m.read_names a.read_names first second read then.read;
+    written =
+        AsksFront-then b.written_names m.written_names a.written_names outs others written
+        then.written;
     network = then.network ∙ used.network;
   }
-    where
-      StandsAgain-more : (name : List ℕ)
-          → StandsAgain sink_faults (f || g) (b.sinks name) (a.sinks name)
-      StandsAgain-more name =
-          StandsAgain-then sink_faults f g (b.sinks name) (b.sinks name) (a.sinks name)
-          (StandsAgain-refl sink_faults f (b.sinks name))
-          (subst (λ (s : List ℕ → NameEntry SinkTold). StandsAgain sink_faults g (s name)
-          (a.sinks name)) sinks (then.sinks.again name))
+
+-- the same of a part that opens no sink
+pub Uses-read : (f g : Bool) (first second outputs : List (List ℕ)) (b m a : OutsideTold)
+    → Uses first [] f b m → Asks b.read_names m.read_names first
+    → m.written_names ≡ b.written_names → Uses second outputs g m a
+    → Uses (first ++ second) outputs (f || g) b a
+Uses-read f g first second outputs b m a used asked written then =
+    Uses-then f g first second [] outputs b m a used then asked
+    (subst (λ w. Asks b.written_names w []) (sym written) (Asks-none b.written_names))

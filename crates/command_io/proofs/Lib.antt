@@ -3,3 +3,4 @@ pub mod Exchanging
 pub mod Reading
 pub mod Running
 pub mod Printing
+pub mod Filing

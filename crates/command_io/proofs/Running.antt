@@ -5,6 +5,7 @@ use Rattle.std.proofs.Common.{Option, Some, None, refl, sym, ◌∙◌, ap, subs
 use Rattle.std.specs.Prelude.{IfSome}
 use Rattle.std.proofs.Math.Nat.{min-zero, suc-min-suc, zero-min}
 use Rattle.std.proofs.lemmas.List.{append-nil}
+use Rattle.std.proofs.Math.Seq.{take-append_seam}
 use Rattle.outside.specs.Octets.{Adds}
 use Rattle.outside.specs.Sink.{SinkTold}
 use Rattle.outside_names.specs.Outside.{NameEntry, OutsideTold, Asks}
@@ -12,15 +13,15 @@ use Rattle.command_io.specs.declared.status.Status.{Status}
 use Rattle.command_io.specs.declared.status.Status.TheVariants.{Done, Usage, Input, Outside, Full}
 use Rattle.command_io.specs.declared.status.Status.TheVariants.{Memory}
 use Rattle.command_io.specs.Statuses.{is_outside, OnWhole}
-use Rattle.command_io.specs.OutsideUse.{is_among, SomeOf, Rises, Uses}
-use Rattle.command_io.specs.OutsideUse.{source_faults, sink_faults, FailedAt, FaultyAt, IsTextRead}
-use Rattle.command_io.specs.OutsideUse.{IsWritten}
-use Rattle.command_io.specs.Saying.{Said, Duty}
+use Rattle.command_io.specs.OutsideUse.{is_among, SomeOf, AsksFront, Keeps, Rises, Uses}
+use Rattle.command_io.specs.OutsideUse.{source_faults, sink_faults, IsTextRead, IsWritten}
+use Rattle.command_io.specs.Saying.{Said, Duty, files_written, names_in}
 use Rattle.command_io.specs.Runs.{output_name, taken_of, Took, EachFile, IsSaid, MatchesWords}
-use Rattle.command_io.specs.Runs.{IsSinkThere, IsComplete, IsRun}
+use Rattle.command_io.specs.Runs.{IsSinkThere, AreFilesThere, AreOutputsThere, AsksOutputs}
+use Rattle.command_io.specs.Runs.{outputs_of, IsComplete, IsRun}
 use Rattle.command_io.specs.Inputs.{OpensInput}
 use Rattle.command_io.proofs.Leaving.{or-false, is_among-append, SomeOf-left, EachOf-parts}
-use Rattle.command_io.proofs.Leaving.{Asks-none, Asks-append, Acts-wider, Uses-then}
+use Rattle.command_io.proofs.Leaving.{Asks-none, Asks-append, Acts-wider, Uses-read}
 use Rattle.command_io.proofs.Reading.{Keeps-same}
 
 pub OnWhole-all : (status : Status) {P : Type 0} → P → OnWhole status P
@@ -61,14 +62,14 @@ IsComplete-from Memory before now said answered cause = λ none. inr refl
 
 pub complete_of : (duty : Duty) (before after : OutsideTold) (status : Status)
     → IfSome duty.says (IsSaid status before.sinks after.sinks)
-    → Uses duty.inputs (output_name ∷ []) (is_outside status) before after
+    → Uses duty.inputs (outputs_of duty) (is_outside status) before after
     → IfSome duty.says (IsComplete before.faults after.faults status)
 complete_of duty before after status said uses = IfSome-map duty.says _ _
     (λ words h.
     IsComplete-from status before.faults after.faults words h.answered uses.counted.cause) said
 
 -- nothing more was taken
-Adds-none : (octets : Option (List ℕ)) → Adds octets octets []
+pub Adds-none : (octets : Option (List ℕ)) → Adds octets octets []
 Adds-none None = refl
 Adds-none (Some octets) = ap Some (sym (append-nil octets))
 
@@ -161,7 +162,7 @@ module _ (duty : Duty) (b a : OutsideTold) where
   -- a run that ended with nothing said
   pub cut_run : (status : Status) → IsCut status → (duty.is_command ≡ false → status ≡ Outside)
       → ((name : List ℕ) → taken_of (a.sinks name) ≡ taken_of (b.sinks name))
-      → Uses duty.inputs (output_name ∷ []) (is_outside status) b a → IsRun duty b a status
+      → Uses duty.inputs (outputs_of duty) (is_outside status) b a → IsRun duty b a status
   cut_run status cut lost same uses =
       let said : IfSome duty.says
       (IsSaid status b.sinks a.sinks) =
@@ -180,7 +181,7 @@ module _ (duty : Duty) (b a : OutsideTold) where
 pub IsRun-idle : (duty : Duty) (b : OutsideTold) → duty.is_command ≡ true → IsRun duty b b Memory
 IsRun-idle duty b command =
     cut_run duty b b Memory tt (λ none. absurd cc) (λ name. refl)
-    (Uses-idle duty.inputs (output_name ∷ []) b)
+    (Uses-idle duty.inputs (outputs_of duty) b)
 
 -- an input isn't there, since something outside failed or memory ran out
 pub IsRun-unread : (duty : Duty) (b a : OutsideTold) (name : List ℕ) (more : List (List ℕ))
@@ -190,10 +191,10 @@ pub IsRun-unread : (duty : Duty) (b a : OutsideTold) (name : List ℕ) (more : L
 IsRun-unread duty b a name more status cut command inputs opens =
     cut_run duty b a status cut (λ none. absurd cc)
     (λ n. ap (λ (s : List ℕ → NameEntry SinkTold). taken_of (s n)) opens.sinks)
-    (subst (λ names. Uses names (output_name ∷ []) (is_outside status) b a) (sym inputs)
-    (subst (λ f. Uses (name ∷ more) (output_name ∷ []) f b a) (or-right (is_outside status))
-    (Uses-then (is_outside status) false (name ∷ []) more (output_name ∷ []) b a a
-    opens.uses opens.asked opens.sinks opens.written (Uses-idle more (output_name ∷ []) a))))
+    (subst (λ names. Uses names (outputs_of duty) (is_outside status) b a) (sym inputs)
+    (subst (λ f. Uses (name ∷ more) (outputs_of duty) f b a) (or-right (is_outside status))
+    (Uses-read (is_outside status) false (name ∷ []) more (outputs_of duty) b a a
+    opens.uses opens.asked opens.written (Uses-idle more (outputs_of duty) a))))
   where
     or-right : (f : Bool) → (f || false) ≡ f
     or-right true = refl
@@ -207,61 +208,86 @@ take-append-min (suc n) [] more = rw (min-zero (suc n)) refl
 take-append-min (suc n) (name ∷ names) more =
     rw suc-min-suc (ap (λ (l : List (List ℕ)). name ∷ l) (take-append-min n names more))
 
-Uses-wider : (inputs more outputs : List (List ℕ)) (failed : Bool) (b a : OutsideTold)
-    → Uses inputs outputs failed b a
-    → Uses (inputs ++ more) outputs failed b a
-Uses-wider inputs more outputs failed b a uses = record {
+AsksFront-wider : (before after : Option (List (List ℕ))) (names more : List (List ℕ))
+    → AsksFront before after names → AsksFront before after (names ++ more)
+AsksFront-wider before after names more asked = (
+  min asked.0 (length names),
+  subst (λ some. Asks before after some) (sym (take-append-min asked.0 names more)) asked.1,
+)
+
+Keeps-wider : {X : Type 0} (faults : X → ℕ) (step : X → X → Type 0) (failed : Bool)
+    (names more : List (List ℕ)) (before after : List ℕ → NameEntry X)
+    → Keeps faults step failed names before after
+    → Keeps faults step failed (names ++ more) before after
+Keeps-wider faults step failed names more before after kept = record {
+  others = λ name absent. kept.others name
+      (or-false (is_among names name) (is_among more name)
+      (sym (is_among-append names more name) ∙ absent)).0;
+  again = kept.again;
+  acts = λ name. Acts-wider step names more name (before name) (after name) (kept.acts name);
+}
+
+wider : (inputs more outputs others : List (List ℕ)) (P Q : List ℕ → Type 0)
+    → (SomeOf inputs P ⊎ SomeOf outputs Q)
+    → (SomeOf (inputs ++ more) P ⊎ SomeOf (outputs ++ others) Q)
+wider inputs more outputs others P Q (inl some) = inl (SomeOf-left inputs more P some)
+wider inputs more outputs others P Q (inr some) = inr (SomeOf-left outputs others Q some)
+
+-- names that might have been opened too
+pub Uses-wider : (inputs more outputs others : List (List ℕ)) (failed : Bool) (b a : OutsideTold)
+    → Uses inputs outputs failed b a → Uses (inputs ++ more) (outputs ++ others) failed b a
+Uses-wider inputs more outputs others failed b a uses = record {
   counted = record {
     cause = uses.counted.cause;
-    reason = λ is. wider (λ name. FailedAt source_faults (b.sources name) (a.sources name))
-        (SomeOf outputs (λ name. FailedAt sink_faults (b.sinks name) (a.sinks name)))
-        (uses.counted.reason is);
+    reason = λ is. wider inputs more outputs others _ _ (uses.counted.reason is);
     kept = elim uses.counted.kept [
       | inl same ↦ inl same
-      | inr rose ↦ inr (
-        rose.0,
-        wider (λ name. FaultyAt source_faults (b.sources name) (a.sources name))
-            (SomeOf outputs (λ name. FaultyAt sink_faults (b.sinks name) (a.sinks name))) rose.1,
-      )
+      | inr rose ↦ inr (rose.0, wider inputs more outputs others _ _ rose.1)
     ];
-    exact = λ clean none. uses.counted.exact ((EachOf-parts inputs more _ clean.0).0, clean.1) none;
+    exact = λ clean none. uses.counted.exact (
+      (EachOf-parts inputs more _ clean.0).0,
+      (EachOf-parts outputs others _ clean.1).0,
+    ) none;
   };
-  sources = record {
-    others = λ name absent. uses.sources.others name
-        (or-false (is_among inputs name) (is_among more name)
-        (sym (is_among-append inputs more name) ∙ absent)).0;
-    again = uses.sources.again;
-    acts = λ name. Acts-wider IsTextRead inputs more name (b.sources name) (a.sources name)
-        (uses.sources.acts name);
-  };
-  sinks = uses.sinks;
-  read = (
-    min uses.read.0 (length inputs),
-    subst (λ names. Asks b.read_names a.read_names names)
-        (sym (take-append-min uses.read.0 inputs more)) uses.read.1,
-  );
-  written = uses.written;
+  sources = Keeps-wider source_faults IsTextRead failed inputs more b.sources a.sources
+      uses.sources;
+  sinks = Keeps-wider sink_faults IsWritten failed outputs others b.sinks a.sinks uses.sinks;
+  read = AsksFront-wider b.read_names a.read_names inputs more uses.read;
+  written = AsksFront-wider b.written_names a.written_names outputs others uses.written;
   network = uses.network;
 }
-  where
-    wider : (P : List ℕ → Type 0) (Q : Type 0) → (SomeOf inputs P ⊎ Q)
-        → (SomeOf (inputs ++ more) P ⊎ Q)
-    wider P Q (inl some) = inl (SomeOf-left inputs more P some)
-    wider P Q (inr other) = inr other
 
 -- what a run owes whose first input is read, and which then goes on with another duty: the same is
 -- said, or nothing is told of it
 pub data Follows (duty : Duty) (name : List ℕ) (rest : Duty) : Type 0 where
-  same_said : duty.says ≡ rest.says → duty.inputs ≡ name ∷ rest.inputs → Follows duty name rest
-  nothing_told : (more : List (List ℕ)) → duty.says ≡ None
-      → duty.inputs ≡ name ∷ (rest.inputs ++ more) → Follows duty name rest
+  same_said : duty.says ≡ rest.says → duty.inputs ≡ name ∷ rest.inputs
+      → duty.may_write ≡ rest.may_write → Follows duty name rest
+  nothing_told : (more others : List (List ℕ)) → duty.says ≡ None
+      → duty.inputs ≡ name ∷ (rest.inputs ++ more)
+      → duty.may_write ≡ files_written rest.says rest.may_write ++ others
+      → Follows duty name rest
+
+-- what is asked for where nothing is told
+asked_untold : (says : Option Said) (names others : List (List ℕ))
+    (before after : Option (List (List ℕ))) → AsksOutputs says names before after
+    → AsksOutputs None (files_written says names ++ others) before after
+asked_untold None names others before after asked = (
+  min asked.0 (length names),
+  subst (λ (some : List (List ℕ)). Asks before after (output_name ∷ some))
+      (sym (take-append-min asked.0 names others)) asked.1,
+)
+asked_untold (Some said) names others before after asked = (
+  length (names_in said.files),
+  subst (λ (some : List (List ℕ)). Asks before after (output_name ∷ some))
+      (sym (take-append_seam (names_in said.files) others)) asked,
+)
 
 module _ (duty rest : Duty) (b m a : OutsideTold) (name : List ℕ) (status : Status) where
   then_uses : OpensInput b m name false → IsRun rest m a status
-      → Uses (name ∷ rest.inputs) (output_name ∷ []) (is_outside status) b a
+      → Uses (name ∷ rest.inputs) (outputs_of rest) (is_outside status) b a
   then_uses opens run =
-      Uses-then false (is_outside status) (name ∷ []) rest.inputs (output_name ∷ []) b m a
-      opens.uses opens.asked opens.sinks opens.written run.uses
+      Uses-read false (is_outside status) (name ∷ []) rest.inputs (outputs_of rest) b m a
+      opens.uses opens.asked opens.written run.uses
 
   Asks-then : Asks b.read_names m.read_names (name ∷ [])
       → Asks m.read_names a.read_names rest.inputs
@@ -278,14 +304,15 @@ module _ (duty rest : Duty) (b m a : OutsideTold) (name : List ℕ) (status : St
       words : MatchesWords duty.is_command status
       words = subst (λ c. MatchesWords c status) (rest_command ∙ sym command) run.words
 
-      output : OnWhole status (IsSinkThere (b.sinks output_name))
+      output : OnWhole status (AreOutputsThere rest.says b.sinks)
       output =
-          subst (λ (s : List ℕ → NameEntry SinkTold). OnWhole status (IsSinkThere (s output_name)))
+          subst (λ (s : List ℕ → NameEntry SinkTold). OnWhole status (AreOutputsThere rest.says s))
           opens.sinks run.output
 
-      printed : OnWhole status (Asks b.written_names a.written_names (output_name ∷ []))
+      printed : OnWhole status
+          (AsksOutputs rest.says rest.may_write b.written_names a.written_names)
       printed =
-          subst (λ w. OnWhole status (Asks w a.written_names (output_name ∷ [])))
+          subst (λ w. OnWhole status (AsksOutputs rest.says rest.may_write w a.written_names))
           opens.written run.printed
 
       said : IfSome rest.says (IsSaid status b.sinks a.sinks)
@@ -300,16 +327,21 @@ module _ (duty rest : Duty) (b m a : OutsideTold) (name : List ℕ) (status : St
           run.opened
 
       here : Follows duty name rest → IsRun duty b a status
-      here (same_said says inputs) =
-          let uses : Uses duty.inputs (output_name ∷ []) (is_outside status) b a =
-          subst (λ names. Uses names (output_name ∷ []) (is_outside status) b a) (sym inputs)
-          (then_uses opens run) in
+      here (same_said says inputs files) =
+          let outs : outputs_of duty ≡ outputs_of rest = cc in
+          let uses : Uses duty.inputs (outputs_of duty) (is_outside status) b a =
+          subst (λ (names : List (List ℕ)). Uses names (outputs_of duty) (is_outside status) b a)
+          (sym inputs)
+          (subst (λ (names : List (List ℕ)). Uses (name ∷ rest.inputs) names (is_outside status)
+          b a) (sym outs) (then_uses opens run)) in
           let told : IfSome duty.says (IsSaid status b.sinks a.sinks) =
           subst (λ (s : Option Said). IfSome s (IsSaid status b.sinks a.sinks)) (sym says) said in
           record {
             words = words;
             said = told;
-            output = output;
+            output =
+                subst (λ (s : Option Said). OnWhole status (AreOutputsThere s b.sinks)) (sym says)
+                output;
             uses = uses;
             opened =
                 subst (λ (s : Option Said). OnWhole status
@@ -317,25 +349,45 @@ module _ (duty rest : Duty) (b m a : OutsideTold) (name : List ℕ) (status : St
                 (subst (λ names. OnWhole status
                 (IfSome rest.says (λ _. Asks b.read_names a.read_names names))) (sym inputs)
                 opened);
-            printed = printed;
+            printed =
+                subst (λ (s : Option Said). OnWhole status
+                (AsksOutputs s duty.may_write b.written_names a.written_names)) (sym says)
+                (subst (λ (names : List (List ℕ)). OnWhole status
+                (AsksOutputs rest.says names b.written_names a.written_names)) (sym files)
+                printed);
             complete = complete_of duty b a status told uses;
           }
-      here (nothing_told more says inputs) =
-          let uses : Uses duty.inputs (output_name ∷ []) (is_outside status) b a =
-          subst (λ names. Uses names (output_name ∷ []) (is_outside status) b a) (sym inputs)
-          (Uses-wider (name ∷ rest.inputs) more (output_name ∷ []) (is_outside status) b a
-          (then_uses opens run)) in
+      here (nothing_told more others says inputs files) =
+          let outs : outputs_of duty ≡ outputs_of rest ++ others =
+          ap (λ (s : Option Said). output_name ∷ files_written s duty.may_write) says
+          ∙ ap (λ (names : List (List ℕ)). output_name ∷ names) files in
+          let uses : Uses duty.inputs (outputs_of duty) (is_outside status) b a =
+          subst (λ (names : List (List ℕ)). Uses names (outputs_of duty) (is_outside status) b a)
+          (sym inputs)
+          (subst (λ (names : List (List ℕ)). Uses (name ∷ (rest.inputs ++ more)) names
+          (is_outside status) b a) (sym outs)
+          (Uses-wider (name ∷ rest.inputs) more (outputs_of rest) others (is_outside status) b a
+          (then_uses opens run))) in
           let told : IfSome duty.says (IsSaid status b.sinks a.sinks) =
           subst (λ (s : Option Said). IfSome s (IsSaid status b.sinks a.sinks)) (sym says) tt in
           record {
             words = words;
             said = told;
-            output = output;
+            output =
+                subst (λ (s : Option Said). OnWhole status (AreOutputsThere s b.sinks)) (sym says)
+                (OnWhole-map status (λ there. (there.0, tt)) output);
             uses = uses;
             opened =
                 subst (λ (s : Option Said). OnWhole status
                 (IfSome s (λ _. Asks b.read_names a.read_names duty.inputs))) (sym says)
                 (OnWhole-all status tt);
-            printed = printed;
+            printed =
+                subst (λ (s : Option Said). OnWhole status
+                (AsksOutputs s duty.may_write b.written_names a.written_names)) (sym says)
+                (subst (λ (names : List (List ℕ)). OnWhole status
+                (AsksOutputs None names b.written_names a.written_names)) (sym files)
+                (OnWhole-map status
+                (asked_untold rest.says rest.may_write others b.written_names a.written_names)
+                printed));
             complete = complete_of duty b a status told uses;
           }

@@ -1,6 +1,6 @@
 -- What a run leaves outside, by its status.
 use Rattle.std.specs.Prelude.{◌≡◌, ◌≢◌, ◌⊎◌, ℕ, Bool, true, false, List, [], ◌∷◌, take}
-use Rattle.std.specs.Prelude.{Option, None, IfSome, codes, Result, Ok, Err, Vec}
+use Rattle.std.specs.Prelude.{Option, Some, None, IfSome, codes, Result, Ok, Err, Vec}
 use Rattle.std.specs.declared.alloc.Global.{Global}
 use Rattle.outside.specs.Octets.{Adds}
 use Rattle.outside.specs.Sink.{SinkTold, AppendsAll, AppendsPart}
@@ -13,7 +13,8 @@ use Rattle.command_io.specs.declared.input.InputEnd.TheVariants.{Refused}
 use Rattle.command_io.specs.declared.input.InputEnd.TheVariants as ends
 use Rattle.command_io.specs.Statuses.{is_outside, OnWhole}
 use Rattle.command_io.specs.OutsideUse.{Uses, Rises}
-use Rattle.command_io.specs.Saying.{Said, Duty, prints, refusal_text, duty_to_say}
+use Rattle.command_io.specs.Saying.{Said, Duty, names_in, files_written, prints, refusal_text}
+use Rattle.command_io.specs.Saying.{duty_to_say}
 
 -- the name of standard output among the sinks
 abbrev pub output_name : List ℕ
@@ -62,6 +63,27 @@ IsSinkThere missing = ⊥
 IsSinkThere lent = ⊥
 IsSinkThere (there sink) = Unit {0}
 
+-- and so does one under the name of each file that is said
+abbrev pub AreFilesThere : Option Said → (List ℕ → NameEntry SinkTold) → Type 0
+AreFilesThere None before = Unit {0}
+AreFilesThere (Some said) before = EachFile said.files (λ name octets. IsSinkThere (before name))
+
+abbrev pub AreOutputsThere : Option Said → (List ℕ → NameEntry SinkTold) → Type 0
+AreOutputsThere says before = IsSinkThere (before output_name) × AreFilesThere says before
+
+-- what a run may open for writing: standard output, and then the files that are said
+abbrev pub outputs_of : Duty → List (List ℕ)
+outputs_of duty = output_name ∷ files_written duty.says duty.may_write
+
+-- all of them were opened; where nothing is told, standard output, and as many of the files as it
+-- came to
+abbrev pub AsksOutputs : Option Said → List (List ℕ) → Option (List (List ℕ))
+    → Option (List (List ℕ)) → Type 0
+AsksOutputs None names before after =
+    (count : ℕ) × Asks before after (output_name ∷ take count names)
+AsksOutputs (Some said) names before after =
+    Asks before after (output_name ∷ names_in said.files)
+
 -- where nothing outside failed, the status is the one said, but for want of memory
 abbrev pub IsComplete : ℕ → ℕ → Status → Said → Type 0
 IsComplete before now status said =
@@ -73,15 +95,16 @@ pub record IsRun (duty : Duty) (before after : OutsideTold) (status : Status) : 
   pub words : MatchesWords duty.is_command status
   -- where the inputs are told, the status and what is printed are those said
   pub said : IfSome duty.says (IsSaid status before.sinks after.sinks)
-  -- nothing is called whole where standard output couldn't be opened
-  pub output : OnWhole status (IsSinkThere (before.sinks output_name))
-  -- the inputs and standard output alone are opened, in order, and each is closed again; a fault
-  -- outside has its cause and its reason
-  pub uses : Uses duty.inputs (output_name ∷ []) (is_outside status) before after
-  -- where the output is whole, all of the inputs were opened, and standard output
+  -- nothing is called whole where standard output or a file that is said couldn't be opened
+  pub output : OnWhole status (AreOutputsThere duty.says before.sinks)
+  -- the inputs, standard output and the files that are said alone are opened, in order, and each is
+  -- closed again; a fault outside has its cause and its reason
+  pub uses : Uses duty.inputs (outputs_of duty) (is_outside status) before after
+  -- where the output is whole, all of the inputs were opened, and all outputs
   pub opened : OnWhole status
       (IfSome duty.says (λ _. Asks before.read_names after.read_names duty.inputs))
-  pub printed : OnWhole status (Asks before.written_names after.written_names (output_name ∷ []))
+  pub printed : OnWhole status
+      (AsksOutputs duty.says duty.may_write before.written_names after.written_names)
   -- where nothing outside failed, all is done, but for want of memory
   pub complete : IfSome duty.says (IsComplete before.faults after.faults status)
 
@@ -94,6 +117,35 @@ TellsSaid said before after Input = (said.status ≡ Input) × AppendsAll before
 TellsSaid said before after Full = (said.status ≡ Full) × AppendsAll before after said.text
 TellsSaid said before after Outside = AppendsPart before after said.text true
 TellsSaid said before after Memory = AppendsPart before after said.text false
+
+-- a sink was opened, told a text, and closed again; no other was opened, and no input
+pub record TellsOut (name text : List ℕ) (before after : OutsideTold) (status : Status) : Type 0
+  where
+    pub took : Took status (taken_of (before.sinks name)) (taken_of (after.sinks name)) text
+    -- nothing is called whole where it couldn't be opened
+    pub there : OnWhole status (IsSinkThere (before.sinks name))
+    pub uses : Uses [] (name ∷ []) (is_outside status) before after
+    pub asked : Asks before.written_names after.written_names (name ∷ [])
+    pub unread : after.read_names ≡ before.read_names
+
+-- a status that tells how a file was written
+abbrev pub IsFileEnd : Status → Type 0
+IsFileEnd Done = Unit {0}
+IsFileEnd Outside = Unit {0}
+IsFileEnd Memory = Unit {0}
+IsFileEnd status = ⊥
+
+-- a text was written to a file
+pub record WritesFile (name text : List ℕ) (before after : OutsideTold) (status : Status) : Type 0
+  where
+    pub ends : IsFileEnd status
+    pub tells : TellsOut name text before after status
+
+-- the status of a command that has ended with one, and has written a file with another since
+abbrev pub status_behind : Status → Status → Status
+status_behind status Outside = Outside
+status_behind status Memory = Memory
+status_behind status written = status
 
 -- what a command comes to that has no input: a refusal is printed, whether memory is left or not;
 -- each other end is answered as it is

@@ -1,5 +1,5 @@
 -- What a command says, and what is told of its inputs.
-use Rattle.std.specs.Prelude.{ℕ, Bool, List, [], ◌∷◌, ◌++◌, Option, Some, None, codes, decimal}
+use Rattle.std.specs.Prelude.{ℕ, Bool, List, [], ◌∷◌, ◌++◌, map, Option, Some, None, codes, decimal}
 use Rattle.outside.specs.Source.{SourceTold}
 use Rattle.outside_names.specs.Outside.{NameEntry, OutsideTold, lent, there}
 use Rattle.outside_names.specs.Outside.{untold as untold_name, missing as missing_name}
@@ -16,6 +16,10 @@ pub record Said : Type 0 where
 -- a status and what is printed with it; no file is written
 abbrev pub prints : Status → List ℕ → Said
 prints status text = record { status = status; text = text; files = [] }
+
+-- the same, and a file that is written
+abbrev pub with_file : List ℕ → List ℕ → Said → Said
+with_file name octets said = record said { files = (name, octets) ∷ [] }
 
 -- the line that refuses an input
 abbrev pub refusal_text : List ℕ → Refusal → List ℕ
@@ -55,14 +59,25 @@ emptied untold = untold
 emptied missing = missing
 emptied (told octets) = told []
 
--- what a run owes: whether its words are a command, what is said where the inputs are told, and
--- the names that are opened for reading, in order
+-- the names of files
+abbrev pub names_in : List (List ℕ × List ℕ) → List (List ℕ)
+names_in files = map (λ file. file.0) files
+
+-- what a run owes: whether its words are a command, what is said where the inputs are told, the
+-- names that are opened for reading, in order, and, where nothing is told, the files that may be
+-- written behind standard output, in order
 pub record Duty : Type 0 where
   pub is_command : Bool
   pub says : Option Said
   pub inputs : List (List ℕ)
+  pub may_write : List (List ℕ)
+
+-- the files that are written where this is said, or may be where nothing is told
+abbrev pub files_written : Option Said → List (List ℕ) → List (List ℕ)
+files_written None names = names
+files_written (Some said) names = names_in said.files
 
 -- the duty to say this, with no input opened
 abbrev pub duty_to_say : Bool → Said → Duty
 duty_to_say is_command said =
-    record { is_command = is_command; says = Some said; inputs = [] }
+    record { is_command = is_command; says = Some said; inputs = []; may_write = [] }

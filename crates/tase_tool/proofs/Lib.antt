@@ -4,3 +4,5 @@ mod Playing
 mod Telling
 mod Sending
 mod Unasked
+mod Keeping
+mod Journals

@@ -1,6 +1,7 @@
 -- What a listing says, piece by piece.
 use Rattle.std.proofs.Common.{◌≡◌, ℕ, Bool, true, false, List, [], ◌++◌}
-use Rattle.std.proofs.Common.{Ok, Err, sym, ap, subst, ◌∙◌, ◌≢◌}
+use Rattle.std.proofs.Common.{Ok, Err, refl, sym, ap, subst, ◌∙◌, ◌≢◌}
+use Rattle.std.specs.Prelude.{Result}
 use Rattle.outside.specs.Sink.{SinkTold, AppendsAll, AppendsPart}
 use Rattle.outside.proofs.Writing.{Appends-append, AppendsPart-append, AppendsPart-front}
 use Rattle.command_io.specs.declared.status.Status.{Status}
@@ -9,7 +10,7 @@ use Rattle.command_io.specs.declared.status.Status.TheVariants.{Memory}
 use Rattle.command_io.specs.Runs.{TellsSaid}
 use Rattle.stream_listing.specs.Listings.{Listing, State, listing_of, yet_listed, with_text, ListsPiece}
 use Rattle.stream_listing.proofs.Listing.{with_text-twice}
-use Rattle.tase_tool.specs.Listing.{status_of, listing_said, ListsOn}
+use Rattle.tase_tool.specs.Listing.{status_of, listing_said, stream_said, ListsOn}
 
 -- a listing is no answer to words that are no command
 pub lists_command : (listing : Listing) (k l : SinkTold) (status : Status)
@@ -88,3 +89,8 @@ stopped_piece old next piece before text k l lists none part more =
     (AppendsPart-front k l lists.added (yet_listed next more).text true
     (subst (λ (os : List ℕ). AppendsPart k l os true)
     (lists.is ∙ ap (λ (os : List ℕ). os ++ lists.added) none) part))
+
+-- nothing but standard output is written
+pub listings_alone : (capture : Result (List ℕ) ℕ) → (stream_said capture).files ≡ []
+listings_alone (Ok octets) = refl
+listings_alone (Err line) = refl

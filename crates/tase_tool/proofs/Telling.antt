@@ -1,5 +1,5 @@
 -- What is said of a PDU that was read, and of the first rule that octets break.
-use Rattle.std.proofs.Common.{◌≡◌, ℕ, List, true, Ok, Err, ap, refl, sym, subst}
+use Rattle.std.proofs.Common.{◌≡◌, ℕ, List, [], true, Ok, Err, ap, refl, sym, subst}
 use Rattle.std.specs.Prelude.{length, codes, Result, Vec, IfOk, MatchResult}
 use Rattle.std.specs.declared.alloc.AllocError.{AllocError}
 use Rattle.std.specs.declared.alloc.Global.{Global}
@@ -10,6 +10,8 @@ use Rattle.command_io.specs.Saying.{prints, duty_to_say}
 use Rattle.command_io.specs.Runs.{IsRun, EndsRead}
 use Rattle.command_io.proofs.Running.{IsRun-idle}
 use Rattle.capture_text.specs.Captures.{capture_in}
+use Rattle.ber_values.specs.declared.fault.BerFault.{BerFault}
+use Rattle.ber_values.specs.Reading.{Taken}
 use Rattle.ber_values.specs.Readers.{IsReadBy, taken_whole}
 use Rattle.mms_services.specs.declared.fault.MmsFault.{MmsFault}
 use Rattle.mms_services.specs.declared.pdu.MmsPdu.{MmsPdu}
@@ -49,3 +51,13 @@ said_of_capture text (Err out_of_memory) b a status is run =
     let duty = duty_to_say true (capture_said (capture_in text)) in
     subst (λ s. IsRun duty b a s) (sym run.0)
     (subst (λ o. IsRun duty b o Memory) (sym run.1) (IsRun-idle duty b refl))
+
+-- nothing but standard output is written
+pub captures_alone : (capture : Result (List ℕ) ℕ) → (capture_said capture).files ≡ []
+captures_alone (Ok octets) = read_alone (length octets) (pdu.reading 0 octets)
+  where
+    read_alone : (len : ℕ) (read : Result (Taken MmsPdu) BerFault)
+        → (read_said len read).files ≡ []
+    read_alone len (Ok taken) = refl
+    read_alone len (Err fault) = refl
+captures_alone (Err line) = refl

@@ -1,16 +1,22 @@
--- Words of which no command has so many.
-use Rattle.std.proofs.Common.{◌≡◌, ◌≢◌, List, [], ◌∷◌, length, None, refl}
+-- Words of which no replay has so many behind its inputs.
+use Rattle.std.proofs.Common.{◌≡◌, ◌≢◌, ◌<◌, List, [], ◌∷◌, length, None, refl, arith}
 use Rattle.std.specs.Prelude.{String, map, string_bytes}
 use Rattle.std.specs.declared.alloc.Global.{Global}
-use Rattle.tase_tool.specs.Words.{task_in}
+use Rattle.tase_tool.specs.Words.{options_in, task_in}
 
--- what such words ask for is nothing
-pub unasked : (words : List (String Global)) → length words ≢ 2 → length words ≢ 3
-    → length words ≢ 5 → None ≡ task_in (map string_bytes words)
-unasked [] two three five = refl
-unasked (a ∷ []) two three five = refl
-unasked (a ∷ b ∷ []) two three five = absurd (two refl)
-unasked (a ∷ b ∷ c ∷ []) two three five = absurd (three refl)
-unasked (a ∷ b ∷ c ∷ d ∷ []) two three five = refl
-unasked (a ∷ b ∷ c ∷ d ∷ e ∷ []) two three five = absurd (five refl)
-unasked (a ∷ b ∷ c ∷ d ∷ e ∷ f ∷ more) two three five = refl
+-- what such words say is nothing
+pub no_more_options : (words : List (String Global)) → length words ≢ 0 → length words ≢ 2
+    → length words ≢ 4 → None ≡ options_in (map string_bytes words)
+no_more_options [] none two four = absurd (none refl)
+no_more_options (a ∷ []) none two four = refl
+no_more_options (a ∷ b ∷ []) none two four = absurd (two refl)
+no_more_options (a ∷ b ∷ c ∷ []) none two four = refl
+no_more_options (a ∷ b ∷ c ∷ d ∷ []) none two four = absurd (four refl)
+no_more_options (a ∷ b ∷ c ∷ d ∷ e ∷ more) none two four = refl
+
+-- fewer than two words are no command
+pub no_task : (words : List (String Global)) → length words < 2
+    → None ≡ task_in (map string_bytes words)
+no_task [] few = refl
+no_task (a ∷ []) few = refl
+no_task (a ∷ b ∷ more) few = absurd (omega (arith, few))

@@ -5,3 +5,4 @@ pub mod Saying
 pub mod Tables
 pub mod Sent
 pub mod Playing
+pub mod Kept

@@ -14,7 +14,7 @@ use Rattle.node_core.specs.NodeState.{NodeState}
 use Rattle.tase_replay.specs.Play.{TakenLine, Played, play, first_scene, steps_in, printed_in}
 use Rattle.tase_replay.specs.AllSent.{AreSentOver}
 use Rattle.tase_replay.specs.OrdersPrinted.{AreOrdersPrinted}
-use Rattle.tase_tool.specs.Words.{Task, replays, lists_stream, decodes_pdu}
+use Rattle.tase_tool.specs.Words.{limit_of, Task, replays, lists_stream, decodes_pdu}
 use Rattle.tase_tool.specs.Saying.{setup_of, tables_read, second_text}
 
 -- a new node of a centre
@@ -69,8 +69,8 @@ SendsOver (Err refusal) limit text status before after = Unit {0}
 abbrev pub SendsBy : Option Task → (List ℕ → Text) → Status → Option (List ℕ) → Option (List ℕ)
     → Type 0
 SendsBy None texts status before after = Unit {0}
-SendsBy (Some (replays tables scenario limit)) texts status before after =
-    OnTold (λ octets. SendsOver (tables_read octets) limit (second_text texts tables scenario)
-    status before after) (texts tables)
+SendsBy (Some (replays tables scenario options)) texts status before after =
+    OnTold (λ octets. SendsOver (tables_read octets) (limit_of options)
+    (second_text texts tables scenario) status before after) (texts tables)
 SendsBy (Some (lists_stream capture)) texts status before after = Unit {0}
 SendsBy (Some (decodes_pdu capture)) texts status before after = Unit {0}

@@ -11,6 +11,7 @@ use Rattle.command_io.specs.Inputs.{is_lost, OpensInput}
 use Rattle.command_io.specs.Runs.{IsRun, EndsUnread}
 use Rattle.bilateral.specs.Rows.{CentreRows}
 use Rattle.bilateral.specs.declared.fault.TableFault.{TableFault}
+use Rattle.tase_tool.specs.Words.{ReplayOptions}
 use Rattle.tase_tool.specs.Saying.{tables_read, scenario_duty}
 
 -- the centre of tables that were read to this, or why there is none: their first bad line, or want
@@ -52,9 +53,9 @@ pub record ReadsTables (before after : OutsideTold) (name : List ℕ)
   pub opens : OpensInput before after name (is_lost result)
 
 -- what a replay comes to whose tables were read to this
-abbrev pub RunsOver : Result CentreRows InputEnd → ℕ → List ℕ → OutsideTold → OutsideTold → Status
-    → Type 0
-RunsOver (Ok rows) limit name before after status =
-    IsRun (scenario_duty rows limit name (texts_of before name)) before after status
-RunsOver (Err end) limit name before after status =
+abbrev pub RunsOver : Result CentreRows InputEnd → ReplayOptions → List ℕ → OutsideTold
+    → OutsideTold → Status → Type 0
+RunsOver (Ok rows) options name before after status =
+    IsRun (scenario_duty rows options name (texts_of before name)) before after status
+RunsOver (Err end) options name before after status =
     EndsUnread (codes "tables") end before after status

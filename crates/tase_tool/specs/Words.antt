@@ -1,17 +1,33 @@
 -- The words of a command.
-use Rattle.std.specs.Prelude.{ℕ, ◌≤◌, Bool, false, not, ◌&&◌, ◌||◌, ◌==◌, if◌then◌else◌}
+use Rattle.std.specs.Prelude.{◌≡◌, ℕ, ◌≤◌, Bool, false, not, ◌&&◌, ◌||◌, ◌==◌, if◌then◌else◌}
 use Rattle.std.specs.Prelude.{List, [], ◌∷◌, Option, Some, None, option_map, option_and_then}
-use Rattle.std.specs.Prelude.{nat_le, codes, bytes_eq}
+use Rattle.std.specs.Prelude.{is_some, unwrap_or, IfSome, nat_le, codes, bytes_eq}
 use Rattle.plain_text.specs.Numbers.{if_passes, number_up_to}
 use Rattle.tase_tool.specs.declared.words.TheConstants.{HISTORY_LIMIT, MOST_LIMIT}
+use Rattle.tase_tool.specs.declared.words.Options.{Options}
 use Rattle.tase_tool.specs.declared.words.Command.{Command}
 use Rattle.tase_tool.specs.declared.words.Command.TheVariants.{Replay, Decode, DecodePdu}
 
+-- the octets that a history may weigh, and the file for its journal, where they are given
+pub record ReplayOptions : Type 0 where
+  pub limit : Option ℕ
+  pub journal : Option (List ℕ)
+
+-- the limit on a history's weight
+abbrev pub limit_of : ReplayOptions → ℕ
+limit_of options = unwrap_or options.limit HISTORY_LIMIT
+
+-- the options of a command
+abbrev pub options_seen : Options → ReplayOptions
+options_seen options = record {
+  limit = options.limit;
+  journal = option_map (λ name. name.now) options.journal;
+}
+
 -- what words ask for
 pub data Task : Type 0 where
-  -- the scenario under the second name is played over the tables under the first, on a node whose
-  -- history may weigh so many octets
-  replays : List ℕ → List ℕ → ℕ → Task
+  -- the scenario under the second name is played over the tables under the first, as options say
+  replays : List ℕ → List ℕ → ReplayOptions → Task
   -- the messages of the stream that the capture under the name holds are listed
   lists_stream : List ℕ → Task
   -- the PDU that the capture under the name holds is told
@@ -19,13 +35,18 @@ pub data Task : Type 0 where
 
 -- what a command asks for
 abbrev pub task_of : Command → Task
-task_of (Replay tables scenario limit) = replays tables.now scenario.now limit
+task_of (Replay tables scenario options) =
+    replays tables.now scenario.now (options_seen options)
 task_of (Decode capture) = lists_stream capture.now
 task_of (DecodePdu capture) = decodes_pdu capture.now
 
--- a limit that a history may have
+-- a limit that a history may have, and a journal that isn't standard output
+pub record AreOptions (options : ReplayOptions) : Type 0 where
+  pub limit : limit_of options ≤ MOST_LIMIT
+  pub journal : IfSome options.journal (λ name. bytes_eq name (codes "-") ≡ false)
+
 abbrev pub IsLimited : Command → Type 0
-IsLimited (Replay tables scenario limit) = limit ≤ MOST_LIMIT
+IsLimited (Replay tables scenario options) = AreOptions (options_seen options)
 IsLimited (Decode capture) = Unit {0}
 IsLimited (DecodePdu capture) = Unit {0}
 
@@ -39,11 +60,41 @@ abbrev pub is_replay : List ℕ → List ℕ → List ℕ → Bool
 is_replay verb tables scenario =
     bytes_eq verb (codes "replay") && is_file_name tables && is_file_name scenario
 
--- `--limit N`: from 1 to 268,435,456
-abbrev pub limit_word_in : List ℕ → List ℕ → Option ℕ
-limit_word_in option word = if bytes_eq option (codes "--limit")
-    then option_and_then (if_passes (λ limit. nat_le 1 limit)) (number_up_to MOST_LIMIT word)
-    else None
+-- no option
+abbrev pub no_options : ReplayOptions
+no_options = record { limit = None; journal = None }
+
+-- a limit: from 1 to 268,435,456
+abbrev pub limit_in : List ℕ → Option ℕ
+limit_in word =
+    option_and_then (if_passes (λ limit. nat_le 1 limit)) (number_up_to MOST_LIMIT word)
+
+-- the file of a journal, which isn't standard output
+abbrev pub is_journal_name : List ℕ → Bool
+is_journal_name word = is_file_name word && not (bytes_eq word (codes "-"))
+
+-- `--limit N` or `--journal FILE` behind options, each once at most
+abbrev pub with_limit : List ℕ → ReplayOptions → Option ReplayOptions
+with_limit word options = if is_some options.limit then None
+    else option_map (λ limit. record options { limit = Some limit }) (limit_in word)
+
+abbrev pub with_journal : List ℕ → ReplayOptions → Option ReplayOptions
+with_journal word options =
+    if is_some options.journal || not (is_journal_name word) then None
+    else Some (record options { journal = Some word })
+
+abbrev pub with_option : List ℕ → List ℕ → ReplayOptions → Option ReplayOptions
+with_option option word options =
+    if bytes_eq option (codes "--limit") then with_limit word options
+    else (if bytes_eq option (codes "--journal") then with_journal word options else None)
+
+-- the options of a replay, in any order
+abbrev pub options_in : List (List ℕ) → Option ReplayOptions
+options_in [] = Some no_options
+options_in (option ∷ word ∷ []) = with_option option word no_options
+options_in (option ∷ word ∷ next ∷ other ∷ []) =
+    option_and_then (with_option next other) (with_option option word no_options)
+options_in words = None
 
 -- `decode IN`
 abbrev pub is_decode : List ℕ → List ℕ → Bool
@@ -54,14 +105,20 @@ abbrev pub is_decode_pdu : List ℕ → List ℕ → List ℕ → Bool
 is_decode_pdu verb option capture =
     bytes_eq verb (codes "decode") && bytes_eq option (codes "--pdu") && is_file_name capture
 
+-- nothing behind `decode --pdu IN`
+abbrev pub pdu_task_in : List ℕ → List (List ℕ) → Option Task
+pdu_task_in capture [] = Some (decodes_pdu capture)
+pdu_task_in capture more = None
+
+-- `replay TABLES SCENARIO` and its options, or `decode --pdu IN`
+abbrev pub task_in_three : List ℕ → List ℕ → List ℕ → List (List ℕ) → Option Task
+task_in_three first second third more =
+    if is_replay first second third then option_map (replays second third) (options_in more)
+    else (if is_decode_pdu first second third then pdu_task_in third more else None)
+
 -- no other words are a command
 abbrev pub task_in : List (List ℕ) → Option Task
 task_in (first ∷ second ∷ []) =
     if is_decode first second then Some (lists_stream second) else None
-task_in (first ∷ second ∷ third ∷ []) =
-    if is_replay first second third then Some (replays second third HISTORY_LIMIT)
-    else (if is_decode_pdu first second third then Some (decodes_pdu third) else None)
-task_in (first ∷ second ∷ third ∷ option ∷ word ∷ []) =
-    if is_replay first second third
-    then option_map (λ limit. replays second third limit) (limit_word_in option word) else None
+task_in (first ∷ second ∷ third ∷ more) = task_in_three first second third more
 task_in words = None

@@ -2,6 +2,7 @@
 #![tactic(auto)]
 
 mod decoding;
+mod journal;
 mod listing;
 mod running;
 mod tables;

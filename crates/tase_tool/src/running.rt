@@ -1,18 +1,23 @@
 //! The commands.
-ghost use Rattle.std.specs.Prelude.{◌≡◌, ◌≤◌, ◌^◌, map, string_bytes, Some, IfOk, true, codes};
+ghost use Rattle.std.specs.Prelude.{◌≡◌, ◌≤◌, ◌^◌, [], map, string_bytes, Some, IfOk, true, codes};
+ghost use Rattle.std.specs.Prelude.{false, IfSome, option_map, bytes_eq};
 ghost use Rattle.command_io.specs.Saying.{texts_of, duty_to_say, prints};
 ghost use Rattle.command_io.specs.Runs.{IsRun, EndsRead, TellsSaid, Took, taken_of, output_name};
-ghost use Rattle.tase_tool.specs.Words.{task_in, replays};
+ghost use Rattle.tase_tool.specs.Words.{task_in, replays, limit_of, options_seen, AreOptions};
 ghost use Rattle.tase_tool.specs.Saying.{scenario_said, scenario_duty, duty_of, played_said};
+ghost use Rattle.tase_tool.specs.Saying.{kept_said};
 ghost use Rattle.tase_tool.specs.Tables.{RunsOver};
 ghost use Rattle.tase_tool.specs.Playing.{EndsPlay};
 ghost use Rattle.tase_tool.specs.Sent.{node_of, played_on, SendsSoFar, SendsWithin, OnTold};
 ghost use Rattle.tase_tool.specs.Sent.{SendsBy};
+ghost use Rattle.tase_tool.specs.Kept.{HasPlayed};
+ghost use Rattle.command_io.specs.Statuses.{OnWhole};
 
 use crate::decoding::run_decode;
+use crate::journal::keep_journal;
 use crate::listing::run_listing;
 use crate::tables::read_tables;
-use crate::words::{Command, read_command};
+use crate::words::{Command, Options, read_command};
 use bilateral::Centre;
 use command_io::{
     InputEnd, OUTPUT, Refusal, Status, end_unread, print, read_input, tell_full, tell_refusal,
@@ -27,7 +32,8 @@ use tase_replay::{ReplayEnd, replay};
 /// Runs the command of these words: `replay TABLES SCENARIO` plays a scenario over tables and
 /// prints what the peers are answered and sent, as lines `reply`, `report`, `out` and `ended`, on a
 /// node whose history may weigh 134,217,728 octets, or as many as `--limit N` behind it says, from
-/// 1 to 268,435,456; `decode IN` lists the messages of a captured stream of either end of a
+/// 1 to 268,435,456, and behind it writes that history to the file that `--journal FILE` names, a
+/// line for each entry; `decode IN` lists the messages of a captured stream of either end of a
 /// connection, `decode --pdu IN` tells which PDU (ISO 9506-2) a capture holds. All is printed on
 /// standard output, which is `-` of the outside's sinks.
 ///
@@ -57,9 +63,9 @@ pub fn run<O: Outside>(alloc: Global, words: &[String], outside: &mut O) -> Stat
             Command::Replay {
                 tables,
                 scenario,
-                limit,
+                options,
             },
-        ) => run_replay(alloc, outside, tables, scenario, limit),
+        ) => run_replay(alloc, outside, tables, scenario, options),
         Some(Command::Decode { capture }) => run_listing(alloc, outside, capture),
         Some(Command::DecodePdu { capture }) => run_decode(alloc, outside, capture),
         None => print(outside, Status::Usage, b"usage\n"),
@@ -72,18 +78,19 @@ fn run_replay<O: Outside>(
     outside: &mut O,
     tables: &str,
     scenario: &str,
-    limit: u64,
+    options: Options<'_>,
 ) -> Status
-    requires { limit ≤ 2 ^ 31 }
+    requires { AreOptions (options_seen options) }
     ensures runs { let told = O.told outside.old in
-        IsRun (duty_of (Some (replays tables.now scenario.now limit)) (texts_of told))
-        told (O.told outside.new) result }
+        IsRun (duty_of (Some (replays tables.now scenario.now (options_seen options.entry)))
+        (texts_of told)) told (O.told outside.new) result }
     ensures sent { let told = O.told outside.old in
-        SendsBy (Some (replays tables.now scenario.now limit)) (texts_of told) result
-        (taken_of (told.sinks output_name)) (taken_of ((O.told outside.new).sinks output_name)) }
+        SendsBy (Some (replays tables.now scenario.now (options_seen options.entry)))
+        (texts_of told) result (taken_of (told.sinks output_name))
+        (taken_of ((O.told outside.new).sinks output_name)) }
 {
     let read = read_tables(alloc, outside, tables);
-    run_over(alloc, outside, read, scenario, limit)
+    run_over(alloc, outside, read, scenario, options)
 }
 
 // Runs the scenario over tables that were read to this.
@@ -92,18 +99,19 @@ fn run_over<O: Outside>(
     outside: &mut O,
     read: Result<Centre, InputEnd>,
     scenario: &str,
-    limit: u64,
+    options: Options<'_>,
 ) -> Status
-    requires { limit ≤ 2 ^ 31 }
-    ensures runs { RunsOver read limit scenario.now
+    requires { AreOptions (options_seen options) }
+    ensures runs { RunsOver read (options_seen options.entry) scenario.now
         (O.told outside.old) (O.told outside.new) result }
     ensures sent { let told = O.told outside.old in
-        IfOk read (λ rows. OnTold (SendsWithin (node_of rows limit) result
+        IfOk read (λ rows. OnTold (SendsWithin
+        (node_of rows (limit_of (options_seen options.entry))) result
         (taken_of (told.sinks output_name)) (taken_of ((O.told outside.new).sinks output_name)))
         (texts_of told scenario.now)) }
 {
     match read {
-        Ok(centre) => run_scenario(alloc, outside, centre, scenario, limit),
+        Ok(centre) => run_scenario(alloc, outside, centre, scenario, options),
         Err(end) => end_unread(outside, "tables", end),
     }
 }
@@ -114,19 +122,19 @@ fn run_scenario<O: Outside>(
     outside: &mut O,
     centre: Centre,
     scenario: &str,
-    limit: u64,
+    options: Options<'_>,
 ) -> Status
-    requires { limit ≤ 2 ^ 31 }
+    requires { AreOptions (options_seen options) }
     ensures runs { let told = O.told outside.old in
-        IsRun (scenario_duty centre limit scenario.now (texts_of told scenario.now))
-        told (O.told outside.new) result }
+        IsRun (scenario_duty centre (options_seen options.entry) scenario.now
+        (texts_of told scenario.now)) told (O.told outside.new) result }
     ensures sent { let told = O.told outside.old in
-        OnTold (SendsWithin (node_of centre limit) result
+        OnTold (SendsWithin (node_of centre (limit_of (options_seen options.entry))) result
         (taken_of (told.sinks output_name)) (taken_of ((O.told outside.new).sinks output_name)))
         (texts_of told scenario.now) }
 {
     let read = read_input(alloc, outside, scenario);
-    play_read(alloc, outside, centre, limit, read)
+    play_read(alloc, outside, centre, options, read)
 }
 
 // Plays a scenario that was read to this.
@@ -134,18 +142,20 @@ fn play_read<O: Outside>(
     alloc: Global,
     outside: &mut O,
     centre: Centre,
-    limit: u64,
+    options: Options<'_>,
     read: Result<Vec<u8>, InputEnd>,
 ) -> Status
-    requires { limit ≤ 2 ^ 31 }
-    ensures runs { EndsRead (codes "scenario") (scenario_said centre limit) read
+    requires { AreOptions (options_seen options) }
+    ensures runs { EndsRead (codes "scenario")
+        (scenario_said centre (options_seen options.entry)) read
         (O.told outside.old) (O.told outside.new) result }
-    ensures sent { IfOk read (λ text. SendsWithin (node_of centre limit) result
+    ensures sent { IfOk read (λ text.
+        SendsWithin (node_of centre (limit_of (options_seen options.entry))) result
         (taken_of ((O.told outside.old).sinks output_name))
         (taken_of ((O.told outside.new).sinks output_name)) text.items) }
 {
     match read {
-        Ok(text) => play_scenario(alloc, outside, centre, limit, &text),
+        Ok(text) => play_scenario(alloc, outside, centre, options, &text),
         Err(end) => end_unread(outside, "scenario", end),
     }
 }
@@ -158,34 +168,67 @@ fn new_node(alloc: Global, centre: Centre, limit: u64) -> Result<Node, AllocErro
     Node::new(alloc, Arc::new(alloc, centre)?, limit)
 }
 
-// Plays a scenario on a new node of this centre, on standard output.
+// Plays a scenario on a new node of this centre, on standard output, and writes its journal.
 fn play_scenario<O: Outside>(
     alloc: Global,
     outside: &mut O,
     centre: Centre,
-    limit: u64,
+    options: Options<'_>,
     scenario: &[u8],
 ) -> Status
-    requires { limit ≤ 2 ^ 31 }
-    ensures runs { IsRun (duty_to_say true (scenario_said centre limit scenario.now))
+    requires { AreOptions (options_seen options) }
+    ensures runs { IsRun (duty_to_say true
+        (scenario_said centre (options_seen options.entry) scenario.now))
         (O.told outside.old) (O.told outside.new) result }
-    ensures sent { SendsSoFar (node_of centre limit) scenario.now result
-        (Took result (taken_of ((O.told outside.old).sinks output_name))
+    ensures sent { SendsSoFar (node_of centre (limit_of (options_seen options.entry))) scenario.now
+        result (Took result (taken_of ((O.told outside.old).sinks output_name))
         (taken_of ((O.told outside.new).sinks output_name))) }
 {
-    match new_node(alloc, centre, limit) {
-        Ok(node) => play_on_output(alloc, outside, node, scenario),
+    match new_node(alloc, centre, options.limit()) {
+        Ok(node) => play_and_keep(alloc, outside, node, options.journal, scenario),
         Err(AllocError) => Status::Memory,
     }
 }
 
-// Opens standard output, plays a scenario on a node, and closes it.
-fn play_on_output<O: Outside>(alloc: Global, outside: &mut O, node: Node, scenario: &[u8]) -> Status
-    ensures runs { IsRun (duty_to_say true (played_said (played_on node scenario.now)))
+// Plays a scenario on a node without a history, on standard output, and writes the node's journal
+// to the file that is named, if one is.
+fn play_and_keep<O: Outside>(
+    alloc: Global,
+    outside: &mut O,
+    node: Node,
+    journal: Option<&str>,
+    scenario: &[u8],
+) -> Status
+    requires new { node.history ≡ [] }
+    requires file { IfSome journal (λ name. bytes_eq name.now output_name ≡ false) }
+    ensures runs { IsRun (duty_to_say true (kept_said (option_map (λ name. name.now) journal.entry)
+        (played_on node scenario.now)))
         (O.told outside.old) (O.told outside.new) result }
     ensures sent { SendsSoFar node scenario.now result
         (Took result (taken_of ((O.told outside.old).sinks output_name))
         (taken_of ((O.told outside.new).sinks output_name))) }
+{
+    let mut node = node;
+    let status = play_on_output(alloc, outside, &mut node, scenario);
+    match journal {
+        Some(name) => keep_journal(alloc, outside, &node, name, status),
+        None => status,
+    }
+}
+
+// Opens standard output, plays a scenario on a node, and closes it.
+fn play_on_output<O: Outside>(
+    alloc: Global,
+    outside: &mut O,
+    node: &mut Node,
+    scenario: &[u8],
+) -> Status
+    ensures runs { IsRun (duty_to_say true (played_said (played_on node.old scenario.now)))
+        (O.told outside.old) (O.told outside.new) result }
+    ensures sent { SendsSoFar node.old scenario.now result
+        (Took result (taken_of ((O.told outside.old).sinks output_name))
+        (taken_of ((O.told outside.new).sinks output_name))) }
+    ensures kept { OnWhole result (HasPlayed node.old scenario.now node.new.history) }
 {
     let Some(sink) = outside.open_out(OUTPUT) else {
         return Status::Outside;
@@ -196,12 +239,18 @@ fn play_on_output<O: Outside>(alloc: Global, outside: &mut O, node: Node, scenar
 }
 
 // Plays a scenario on a node; what it shows is gathered, and goes out in large pieces.
-fn play_gathered<K: Sink + Drop>(alloc: Global, node: Node, scenario: &[u8], sink: K) -> (K, Status)
+fn play_gathered<K: Sink + Drop>(
+    alloc: Global,
+    node: &mut Node,
+    scenario: &[u8],
+    sink: K,
+) -> (K, Status)
     requires { (K.told sink).held ≡ 0 }
-    ensures tells { TellsSaid (played_said (played_on node scenario.now))
+    ensures tells { TellsSaid (played_said (played_on node.old scenario.now))
         (K.told sink) (K.told result.0) result.1 }
-    ensures sent { SendsSoFar node scenario.now result.1
+    ensures sent { SendsSoFar node.old scenario.now result.1
         (λ octets. TellsSaid (prints result.1 octets) (K.told sink) (K.told result.0) result.1) }
+    ensures kept { OnWhole result.1 (HasPlayed node.old scenario.now node.new.history) }
 {
     let mut gathering = match BufferedSink::new(alloc, sink) {
         Ok(gathering) => gathering,
@@ -218,14 +267,14 @@ fn play_gathered<K: Sink + Drop>(alloc: Global, node: Node, scenario: &[u8], sin
 
 // Plays a scenario on a node, and prints the refusal of a bad line, or of an event for which the
 // history has no room, after what the lines before it show.
-fn play_on<K: Sink>(alloc: Global, node: Node, scenario: &[u8], sink: &mut K) -> Status
-    ensures tells { TellsSaid (played_said (played_on node scenario.now))
+fn play_on<K: Sink>(alloc: Global, node: &mut Node, scenario: &[u8], sink: &mut K) -> Status
+    ensures tells { TellsSaid (played_said (played_on node.old scenario.now))
         (K.told sink.old) (K.told sink.new) result }
-    ensures sent { SendsSoFar node scenario.now result
+    ensures sent { SendsSoFar node.old scenario.now result
         (λ octets. TellsSaid (prints result octets) (K.told sink.old) (K.told sink.new) result) }
+    ensures kept { OnWhole result (HasPlayed node.old scenario.now node.new.history) }
 {
-    let mut node = node;
-    let end = replay(alloc, &mut node, scenario, sink);
+    let end = replay(alloc, node, scenario, sink);
     tell_end(sink, end)
 }
 

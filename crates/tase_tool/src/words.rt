@@ -1,7 +1,7 @@
 //! The words of a command.
 ghost use Rattle.std.specs.Prelude.{◌≡◌, ◌≤◌, [], ◌∷◌, map, string_bytes, IfSome};
 ghost use Rattle.std.specs.Option.{option_map};
-ghost use Rattle.tase_tool.specs.Words.{task_of, task_in, IsLimited};
+ghost use Rattle.tase_tool.specs.Words.{task_of, task_in, IsLimited, AreOptions, options_seen};
 ghost use Rattle.tase_tool.specs.Words as own;
 
 use plain_text::read_number;
@@ -17,15 +17,32 @@ const _: () = prove!(HISTORY_LIMIT == 134_217_728);
 
 const _: () = prove!(MOST_LIMIT == 268_435_456);
 
+/// The options of a replay.
+#[derive(Clone, Copy)]
+pub(crate) struct Options<'a> {
+    /// `--limit N`: the octets that the history may weigh.
+    pub(crate) limit: Option<u64>,
+    /// `--journal FILE`: the file to which the history is written.
+    pub(crate) journal: Option<&'a str>,
+}
+
+impl<'a> Options<'a> {
+    /// The octets that the history may weigh.
+    pub(crate) fn limit(&self) -> u64
+        ensures { result ≡ own.limit_of (own.options_seen self.now) }
+    {
+        self.limit.unwrap_or(HISTORY_LIMIT)
+    }
+}
+
 /// What words ask for.
 #[derive(Clone, Copy)]
 pub(crate) enum Command<'a> {
-    /// `replay TABLES SCENARIO`, and perhaps `--limit N`: the scenario is played over the tables,
-    /// on a node whose history may weigh so many octets.
+    /// `replay TABLES SCENARIO`, and perhaps options: the scenario is played over the tables.
     Replay {
         tables: &'a str,
         scenario: &'a str,
-        limit: u64,
+        options: Options<'a>,
     },
     /// `decode IN`: the messages of the stream that the capture holds are listed.
     Decode {
@@ -77,76 +94,132 @@ fn of_two<'a>(first: &'a str, second: &'a str) -> Option<Command<'a>>
     None
 }
 
-// The command of three words.
-fn of_three<'a>(first: &'a str, second: &'a str, third: &'a str) -> Option<Command<'a>>
+// The limit that a word gives.
+fn read_limit(word: &str) -> Option<u64>
+    ensures value { result ≡ own.limit_in word.now }
+    ensures most { IfSome result (λ limit. limit ≤ MOST_LIMIT) }
+{
+    let limit = read_number(word.as_bytes(), MOST_LIMIT)?;
+    if limit >= 1 { Some(limit) } else { None }
+}
+
+// Whether a word is the name of a file other than standard output.
+fn is_journal_name(word: &str) -> bool
+    ensures { result ≡ own.is_journal_name word.now }
+{
+    is_name(word) && word != "-"
+}
+
+// Options with a limit that a word gives.
+fn with_limit<'a>(word: &'a str, options: Options<'a>) -> Option<Options<'a>>
+    requires { AreOptions (options_seen options) }
+    ensures value { option_map options_seen result
+        ≡ own.with_limit word.now (options_seen options.entry) }
+    ensures lawful { IfSome result (λ o. AreOptions (options_seen o)) }
+{
+    if options.limit.is_some() {
+        return None;
+    }
+    let limit = read_limit(word)?;
+    Some(Options {
+        limit: Some(limit),
+        journal: options.journal,
+    })
+}
+
+// Options with a journal that a word names.
+fn with_journal<'a>(word: &'a str, options: Options<'a>) -> Option<Options<'a>>
+    requires { AreOptions (options_seen options) }
+    ensures value { option_map options_seen result
+        ≡ own.with_journal word.now (options_seen options.entry) }
+    ensures lawful { IfSome result (λ o. AreOptions (options_seen o)) }
+{
+    if options.journal.is_some() || !is_journal_name(word) {
+        return None;
+    }
+    Some(Options {
+        limit: options.limit,
+        journal: Some(word),
+    })
+}
+
+// Options with one more.
+fn with_option<'a>(option: &'a str, word: &'a str, options: Options<'a>) -> Option<Options<'a>>
+    requires { AreOptions (options_seen options) }
+    ensures value { option_map options_seen result
+        ≡ own.with_option option.now word.now (options_seen options.entry) }
+    ensures lawful { IfSome result (λ o. AreOptions (options_seen o)) }
+{
+    if option == "--limit" {
+        with_limit(word, options)
+    } else if option == "--journal" {
+        with_journal(word, options)
+    } else {
+        None
+    }
+}
+
+fn no_options<'a>() -> Options<'a>
+    ensures value { options_seen result ≡ own.no_options }
+    ensures lawful { AreOptions (options_seen result) }
+{
+    Options {
+        limit: None,
+        journal: None,
+    }
+}
+
+// The options that words give, each once at most.
+fn read_options(words: &[String]) -> Option<Options<'_>>
+    ensures value { option_map options_seen result ≡ own.options_in (map string_bytes words.now) }
+    ensures lawful { IfSome result (λ o. AreOptions (options_seen o)) }
+{
+    match words {
+        [] => Some(no_options()),
+        [option, word] => with_option(option.as_str(), word.as_str(), no_options()),
+        [option, word, next, other] => {
+            let options = with_option(option.as_str(), word.as_str(), no_options())?;
+            with_option(next.as_str(), other.as_str(), options)
+        }
+        _ => None,
+    }
+}
+
+// The command of three words and more behind them.
+fn of_three<'a>(
+    first: &'a str,
+    second: &'a str,
+    third: &'a str,
+    more: &'a [String],
+) -> Option<Command<'a>>
     ensures asked { option_map task_of result
-        ≡ task_in (first.now ∷ second.now ∷ third.now ∷ []) }
+        ≡ own.task_in_three first.now second.now third.now (map string_bytes more.now) }
     ensures limit { IfSome result IsLimited }
 {
     if is_replay(first, second, third) {
+        let options = read_options(more)?;
         return Some(Command::Replay {
             tables: second,
             scenario: third,
-            limit: HISTORY_LIMIT,
+            options,
         });
     }
-    if is_decode_pdu(first, second, third) {
+    if is_decode_pdu(first, second, third) && more.is_empty() {
         return Some(Command::DecodePdu { capture: third });
     }
     None
 }
 
-// The limit that two words give.
-fn read_limit(option: &str, word: &str) -> Option<u64>
-    ensures value { result ≡ own.limit_word_in option.now word.now }
-    ensures most { IfSome result (λ limit. limit ≤ MOST_LIMIT) }
-{
-    if option != "--limit" {
-        return None;
-    }
-    let limit = read_number(word.as_bytes(), MOST_LIMIT)?;
-    if limit >= 1 { Some(limit) } else { None }
-}
-
-// The command of five words.
-fn of_five<'a>(
-    first: &'a str,
-    tables: &'a str,
-    scenario: &'a str,
-    option: &'a str,
-    word: &'a str,
-) -> Option<Command<'a>>
-    ensures limit { IfSome result IsLimited }
-    ensures asked { option_map task_of result ≡ task_in
-        (first.now ∷ tables.now ∷ scenario.now ∷ option.now ∷ word.now ∷ []) }
-{
-    if !is_replay(first, tables, scenario) {
-        return None;
-    }
-    let limit = read_limit(option, word)?;
-    Some(Command::Replay {
-        tables,
-        scenario,
-        limit,
-    })
-}
-
 /// The command of these words; nothing where they are none.
-#[tactic(auto, using(crate::proofs::Unasked::unasked))]
 pub(crate) fn read_command(words: &[String]) -> Option<Command<'_>>
     ensures asked { option_map task_of result ≡ task_in (map string_bytes words.now) }
     ensures limit { IfSome result IsLimited }
 {
     match words {
         [first, second] => of_two(first.as_str(), second.as_str()),
-        [first, second, third] => of_three(first.as_str(), second.as_str(), third.as_str()),
-        [first, second, third, option, word] => of_five(
-            first.as_str(),
-            second.as_str(),
-            third.as_str(),
-            option.as_str(),
-            word.as_str(),
-        ),
+        [first, second, third, more @ ..] => {
+            of_three(first.as_str(), second.as_str(), third.as_str(), more)
+        }
         _ => None,
     }
 }

@@ -13,14 +13,14 @@ use Rattle.tase_tool.proofs.running.play_gathered.Goals as goal
 
 pub returns-in-Err-clause-tells : goal.returns-in-Err-clause-tells
 returns-in-Err-clause-tells g c =
-    let played = played_on c.args.node c.args.scenario.now in
+    let played = played_on c.args.node.now c.args.scenario.now in
     subst (λ s. AppendsPart (g.K.Sink.told c.args.sink) (g.K.Sink.told s)
     (played_said played).text false) (sym c.in-Err.ensures.err)
     (AppendsPart-none (g.K.Sink.told c.args.sink) (played_said played).text)
 
 pub returns-in-Outside-clause-tells : goal.returns-in-Outside-clause-tells
 returns-in-Outside-clause-tells g c =
-    let played = played_on c.args.node c.args.scenario.now in
+    let played = played_on c.args.node.now c.args.scenario.now in
     subst (λ s. TellsSaid (played_said played) (g.K.Sink.told c.args.sink) (g.K.Sink.told s) Outside)
     (sym c.into_sink.ensures)
     (Tells-failed (g.K.Sink.told c.args.sink) (g.K.Sink.told c.play_on.new.sink.0)
@@ -32,7 +32,7 @@ returns-in-Outside-clause-tells g c =
 
 pub returns-in_default-Ok-clause-tells : goal.returns-in_default-Ok-clause-tells
 returns-in_default-Ok-clause-tells g c =
-    let played = played_on c.args.node c.args.scenario.now in
+    let played = played_on c.args.node.now c.args.scenario.now in
     Tells-handed (g.K.Sink.told c.args.sink) (g.K.Sink.told c.play_on.new.sink.0)
     (g.K.Sink.told c.finish.result.0) c.play_on.new.sink.1 c.requires
     (played_said played) c.play_on.result c.in_default.not-Outside
@@ -44,7 +44,7 @@ returns-in_default-Ok-clause-tells g c =
 
 pub returns-in_default-Err-clause-tells : goal.returns-in_default-Err-clause-tells
 returns-in_default-Err-clause-tells g c =
-    let played = played_on c.args.node c.args.scenario.now in
+    let played = played_on c.args.node.now c.args.scenario.now in
     Tells-unhanded (g.K.Sink.told c.args.sink) (g.K.Sink.told c.play_on.new.sink.0)
     (g.K.Sink.told c.finish.result.0) c.play_on.new.sink.1 c.requires
     (played_said played) c.play_on.result c.in_default-Err.field-0-1 c.in_default.not-Outside
@@ -56,7 +56,7 @@ returns-in_default-Err-clause-tells g c =
 
 pub returns-in-Err-clause-sent : goal.returns-in-Err-clause-sent
 returns-in-Err-clause-sent g c =
-    SendsSoFar-none c.args.node c.args.scenario.now Memory (λ octets. AppendsPart
+    SendsSoFar-none c.args.node.now c.args.scenario.now Memory (λ octets. AppendsPart
     (g.K.Sink.told c.args.sink) (g.K.Sink.told c.in-Err.sink) octets false) refl
     (subst (λ s. AppendsPart (g.K.Sink.told c.args.sink) (g.K.Sink.told s) [] false)
     (sym c.in-Err.ensures.err) (AppendsPart-none (g.K.Sink.told c.args.sink) []))
@@ -65,16 +65,16 @@ pub returns-in-Outside-clause-sent : goal.returns-in-Outside-clause-sent
 returns-in-Outside-clause-sent g c =
     let k = g.K.Sink.told c.args.sink in
     let m = g.K.Sink.told c.play_on.new.sink.0 in
-    subst (λ s. SendsSoFar c.args.node c.args.scenario.now Outside
+    subst (λ s. SendsSoFar c.args.node.now c.args.scenario.now Outside
     (λ octets. TellsSaid (prints Outside octets) k (g.K.Sink.told s) Outside))
     (sym c.into_sink.ensures)
-    (SendsSoFar-further c.args.node c.args.scenario.now Outside Outside
+    (SendsSoFar-further c.args.node.now c.args.scenario.now Outside Outside
     (λ octets. TellsSaid (prints Outside octets) (buffered_told k [])
     (buffered_told m c.play_on.new.sink.1) Outside)
     (λ octets. TellsSaid (prints Outside octets) k m Outside) (λ told_so. told_so)
     (λ (octets : List ℕ) tells. Tells-failed k m m c.play_on.new.sink.1 c.requires
     (prints Outside octets) tells)
-    (subst (λ s. SendsSoFar c.args.node c.args.scenario.now Outside
+    (subst (λ s. SendsSoFar c.args.node.now c.args.scenario.now Outside
     (λ octets. TellsSaid (prints Outside octets) (buffered_told (g.K.Sink.told s.0) s.1)
     (buffered_told m c.play_on.new.sink.1) Outside)) c.in-Ok.ensures.ok c.in-Outside.ensures.sent))
 
@@ -84,14 +84,14 @@ returns-in_default-Ok-clause-sent g c =
     let m = g.K.Sink.told c.play_on.new.sink.0 in
     let l = g.K.Sink.told c.finish.result.0 in
     let status = c.play_on.result in
-    SendsSoFar-further c.args.node c.args.scenario.now status status
+    SendsSoFar-further c.args.node.now c.args.scenario.now status status
     (λ octets. TellsSaid (prints status octets) (buffered_told k [])
     (buffered_told m c.play_on.new.sink.1) status)
     (λ octets. TellsSaid (prints status octets) k l status) (λ told_so. told_so)
     (λ (octets : List ℕ) tells. Tells-handed k m l c.play_on.new.sink.1 c.requires
     (prints status octets) status c.in_default.not-Outside tells
     (subst (λ r. Finishes m l c.play_on.new.sink.1 r) c.in_default-Ok.is-1 c.finish.ensures))
-    (subst (λ s. SendsSoFar c.args.node c.args.scenario.now status
+    (subst (λ s. SendsSoFar c.args.node.now c.args.scenario.now status
     (λ octets. TellsSaid (prints status octets) (buffered_told (g.K.Sink.told s.0) s.1)
     (buffered_told m c.play_on.new.sink.1) status)) c.in-Ok.ensures.ok c.play_on.ensures.sent)
 
@@ -101,13 +101,13 @@ returns-in_default-Err-clause-sent g c =
     let m = g.K.Sink.told c.play_on.new.sink.0 in
     let l = g.K.Sink.told c.finish.result.0 in
     let status = c.play_on.result in
-    SendsSoFar-further c.args.node c.args.scenario.now status Outside
+    SendsSoFar-further c.args.node.now c.args.scenario.now status Outside
     (λ octets. TellsSaid (prints status octets) (buffered_told k [])
     (buffered_told m c.play_on.new.sink.1) status)
     (λ octets. TellsSaid (prints Outside octets) k l Outside) (λ told_so. absurd cc)
     (λ (octets : List ℕ) tells. Tells-unhanded k m l c.play_on.new.sink.1 c.requires
     (prints status octets) status c.in_default-Err.field-0-1 c.in_default.not-Outside tells
     (subst (λ r. Finishes m l c.play_on.new.sink.1 r) c.in_default-Err.is-1 c.finish.ensures))
-    (subst (λ s. SendsSoFar c.args.node c.args.scenario.now status
+    (subst (λ s. SendsSoFar c.args.node.now c.args.scenario.now status
     (λ octets. TellsSaid (prints status octets) (buffered_told (g.K.Sink.told s.0) s.1)
     (buffered_told m c.play_on.new.sink.1) status)) c.in-Ok.ensures.ok c.play_on.ensures.sent)

@@ -12,14 +12,14 @@ use Rattle.tase_tool.proofs.running.play_on_output.Goals as goal
 
 pub returns-in_default-clause-runs : goal.returns-in_default-clause-runs
 returns-in_default-clause-runs g c =
-    let played = played_on c.args.node c.args.scenario.now in
+    let played = played_on c.args.node.now c.args.scenario.now in
     IsRun-unprinted (g.O.Outside.told c.args.outside.now) (g.O.Outside.told c.open_out.new.self)
     (g.O.Outside.told c.open_out.new.self) true
     (played_said played) (plays_alone (shown_of played) played.end) c.in_default.ensures
 
 pub returns-clause-runs : goal.returns-clause-runs
 returns-clause-runs g c =
-    let played = played_on c.args.node c.args.scenario.now in
+    let played = played_on c.args.node.now c.args.scenario.now in
     IsRun-printed (g.O.Outside.told c.args.outside.now) (g.O.Outside.told c.open_out.new.self)
     (g.O.Outside.told c.close_out.new.self) true
     (played_said played) (plays_alone (shown_of played) played.end)
@@ -35,19 +35,19 @@ returns-in_default-clause-sent g c =
     let m = g.O.Outside.told c.open_out.new.self in
     let said : IsSaid Outside b.sinks m.sinks (prints Outside []) =
     (IsRun-unprinted b m m true (prints Outside []) refl c.in_default.ensures).said in
-    SendsSoFar-none c.args.node c.args.scenario.now Outside
+    SendsSoFar-none c.args.node.now c.args.scenario.now Outside
     (Took Outside (output_of b.sinks) (output_of m.sinks)) refl
     said.output
 
 pub returns-clause-sent : goal.returns-clause-sent
 returns-clause-sent g c =
-    let played = played_on c.args.node c.args.scenario.now in
+    let played = played_on c.args.node.now c.args.scenario.now in
     let status = c.play_gathered-sink.result.1 in
     let b = g.O.Outside.told c.args.outside.now in
     let a = g.O.Outside.told c.close_out.new.self in
     let k = g.O.Out.Sink.told c.in-Some.sink in
     let l = g.O.Out.Sink.told c.play_gathered-sink.result.0 in
-    SendsSoFar-further c.args.node c.args.scenario.now status status
+    SendsSoFar-further c.args.node.now c.args.scenario.now status status
     (λ octets. TellsSaid (prints status octets) k l status)
     (Took status (output_of b.sinks) (output_of a.sinks))
     (λ told_so. told_so)

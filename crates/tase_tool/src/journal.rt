@@ -1,0 +1,129 @@
+//! The journal of a node: its history as a text, a line for each entry.
+ghost use Rattle.std.specs.Prelude.{◌≡◌, OnOk, IfSome, slice_get};
+ghost use Rattle.command_io.specs.Saying.{prints};
+ghost use Rattle.command_io.specs.Runs.{TellsSaid, IsFileEnd, WritesFile, status_behind};
+ghost use Rattle.journal_text.specs.Journals.{entry_line, journal_text};
+ghost use Rattle.tase_tool.specs.Kept.{KeepsJournal, status_of_write};
+
+use command_io::Status;
+use journal_text::spell_entry;
+use node_core::Node;
+use outside::{BufferedSink, Sink, SinkFailed, write_all};
+use outside_names::Outside;
+use std::alloc::{AllocError, Global};
+use tase_views::Entry;
+
+/// Writes the journal of a node to the file of this name, once a command has ended with a status
+/// whose output is whole; behind another it leaves the file as it was. It answers the status of
+/// both.
+pub(crate) fn keep_journal<O: Outside>(
+    alloc: Global,
+    outside: &mut O,
+    node: &Node,
+    name: &str,
+    status: Status,
+) -> Status
+    ensures { KeepsJournal name.now (journal_text node.now.history) status
+        (O.told outside.old) (O.told outside.new) result }
+{
+    match status {
+        Status::Outside | Status::Memory => status,
+        _ => behind(status, write_journal(alloc, outside, node, name)),
+    }
+}
+
+// The status of a command that has ended with one, and has written a file with another since.
+fn behind(status: Status, written: Status) -> Status
+    ensures { result ≡ status_behind status written }
+{
+    match written {
+        Status::Outside | Status::Memory => written,
+        _ => status,
+    }
+}
+
+// Opens the file of a journal, writes it, and closes the file.
+fn write_journal<O: Outside>(alloc: Global, outside: &mut O, node: &Node, name: &str) -> Status
+    ensures { WritesFile name.now (journal_text node.now.history)
+        (O.told outside.old) (O.told outside.new) result }
+{
+    let Some(sink) = outside.open_out(name) else {
+        return Status::Outside;
+    };
+    let (sink, status) = write_gathered(alloc, node, sink);
+    outside.close_out(sink);
+    status
+}
+
+// Writes the journal of a node; it is gathered, and goes out in large pieces.
+fn write_gathered<K: Sink + Drop>(alloc: Global, node: &Node, sink: K) -> (K, Status)
+    requires { (K.told sink).held ≡ 0 }
+    ensures ends { IsFileEnd result.1 }
+    ensures tells { TellsSaid (prints Status.Done (journal_text node.now.history))
+        (K.told sink) (K.told result.0) result.1 }
+{
+    let mut gathering = match BufferedSink::new(alloc, sink) {
+        Ok(gathering) => gathering,
+        Err(sink) => return (sink, Status::Memory),
+    };
+    match write_entries(alloc, node, &mut gathering) {
+        Status::Outside => (gathering.into_sink(), Status::Outside),
+        status => match gathering.finish() {
+            (sink, Ok(())) => (sink, status),
+            (sink, Err(SinkFailed)) => (sink, Status::Outside),
+        },
+    }
+}
+
+// Writes a line for each entry of a node's history.
+fn write_entries<K: Sink>(alloc: Global, node: &Node, sink: &mut K) -> Status
+    ensures ends { IsFileEnd result }
+    ensures tells { TellsSaid (prints Status.Done (journal_text node.now.history))
+        (K.told sink.old) (K.told sink.new) result }
+{
+    let mut text = Vec::new(alloc);
+    for place in 0..node.history_len() {
+        match write_entry(node, place, sink, &mut text) {
+            Status::Done => {}
+            end => return end,
+        }
+    }
+    Status::Done
+}
+
+// Writes the line of the entry at a place. `text` is where the line is put together.
+fn write_entry<K: Sink>(node: &Node, place: u64, sink: &mut K, text: &mut Vec<u8>) -> Status
+    ensures ends { IsFileEnd result }
+    ensures tells { IfSome (slice_get node.now.history place) (λ entry.
+        TellsSaid (prints Status.Done (entry_line entry))
+        (K.told sink.old) (K.told sink.new) result) }
+{
+    match node.entry(place) {
+        Ok(Some(entry)) => match spell_line(text, &entry) {
+            Ok(()) => written(write_all(sink, text.as_slice())),
+            Err(AllocError) => Status::Memory,
+        },
+        Ok(None) => Status::Done,
+        Err(AllocError) => Status::Memory,
+    }
+}
+
+// How a line ends that was written so.
+fn written(end: Result<(), SinkFailed>) -> Status
+    ensures { result ≡ status_of_write end }
+{
+    match end {
+        Ok(()) => Status::Done,
+        Err(SinkFailed) => Status::Outside,
+    }
+}
+
+// Puts the line of an entry into `text`, in place of what that held.
+fn spell_line(text: &mut Vec<u8>, entry: &Entry) -> Result<(), AllocError>
+    ensures { OnOk result (text.new.items ≡ entry_line entry.now) }
+{
+    text.clear();
+    spell_entry(text, entry)?;
+    text.push(b'\n')?;
+    Ok(())
+}
