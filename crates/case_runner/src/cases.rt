@@ -32,6 +32,14 @@ pub(crate) enum Wanted {
     Count(u64),
 }
 
+/// A file that may be written: what it must take, and the numbers of its writes that fail.
+#[derive(Drop)]
+pub(crate) struct WantedFile {
+    pub(crate) name: String,
+    pub(crate) octets: Vec<u8>,
+    pub(crate) failed_writes: Vec<u64>,
+}
+
 /// A case: the words of a command, what stands outside, and what must come of it.
 #[derive(Drop)]
 pub(crate) struct Case {
@@ -46,6 +54,7 @@ pub(crate) struct Case {
     pub(crate) room: Option<u64>,
     pub(crate) is_cut: bool,
     pub(crate) wanted: Wanted,
+    pub(crate) files: Vec<WantedFile>,
     pub(crate) status: u64,
 }
 
@@ -143,11 +152,12 @@ pub(crate) fn words_in(alloc: Global, text: &str) -> Result<Vec<String>, AllocEr
     Ok(words)
 }
 
-/// The name of the input that the words are about: the last word, or that before `--limit`.
+/// The name of the input that the words are about: the last word, or that before `--limit` and
+/// `--journal`.
 pub(crate) fn subject(words: &[String]) -> &str {
     let mut name = "";
     for word in words {
-        if word.as_str() == "--limit" {
+        if word.as_str() == "--limit" || word.as_str() == "--journal" {
             return name;
         }
         name = word.as_str();
@@ -175,6 +185,7 @@ impl Case {
             room: None,
             is_cut: false,
             wanted: Wanted::Octets(Vec::new(alloc)),
+            files: Vec::new(alloc),
             status: 0,
         })
     }

@@ -31,6 +31,16 @@ fn is_wanted(wanted: &Wanted, shown: &[u8]) -> bool {
     }
 }
 
+// Whether each file took what it must.
+fn are_written(case: &Case, played: &Played) -> bool {
+    for (file, came) in case.files.iter().zip(played.files.iter()) {
+        if file.octets.as_slice() != came.as_slice() {
+            return false;
+        }
+    }
+    true
+}
+
 // Whether what was printed in pieces is, joined, what is wanted.
 fn is_wanted_joined(alloc: Global, wanted: &Wanted, shown: &[u8]) -> Result<bool, AllocError> {
     match wanted {
@@ -111,7 +121,8 @@ fn judge_each_cut(alloc: Global, case: &Case) -> Result<Verdict, AllocError> {
 /// Plays a case, and where it says so with its streams cut.
 pub(crate) fn judge(alloc: Global, case: &Case) -> Result<Verdict, AllocError> {
     let played = play(alloc, case)?;
-    if played.status != case.status || !is_wanted(&case.wanted, &played.shown) {
+    let is_right = is_wanted(&case.wanted, &played.shown) && are_written(case, &played);
+    if played.status != case.status || !is_right {
         return Ok(Verdict::Failed(Manner::AsItStands, played));
     }
     if case.is_cut {

@@ -6,11 +6,12 @@ use outside_names::MemoryOutside;
 use std::alloc::{AllocError, Global};
 use tase_tool::run;
 
-/// How a command ended, and what it printed.
+/// How a command ended, what it printed, and what each file took that the case names.
 #[derive(Drop)]
 pub(crate) struct Played {
     pub(crate) status: u64,
     pub(crate) shown: Vec<u8>,
+    pub(crate) files: Vec<Vec<u8>>,
 }
 
 // The most octets of room, and what there is of it beyond what is wanted.
@@ -74,15 +75,36 @@ fn outside_of(alloc: Global, case: &Case) -> Result<MemoryOutside, AllocError> {
     let fails = Vec::from_slice(alloc, &case.failed_writes)?;
     let output = ByteSink::new(alloc, room_of(case), fails)?;
     outside.put_out(alloc, "-", output)?;
+    for file in &case.files {
+        let fails = Vec::from_slice(alloc, &file.failed_writes)?;
+        let room = (file.octets.len() as u64)
+            .saturating_add(MORE_ROOM)
+            .min(MOST_ROOM);
+        let sink = ByteSink::new(alloc, room as usize, fails)?;
+        outside.put_out(alloc, file.name.as_str(), sink)?;
+    }
     Ok(outside)
 }
 
-// What standard output took.
-fn printed(outside: &MemoryOutside) -> &[u8] {
-    match outside.sink("-") {
+// What the sink of this name took.
+fn written<'a>(outside: &'a MemoryOutside, name: &str) -> &'a [u8] {
+    match outside.sink(name) {
         Some(sink) => sink.taken(),
         None => &[],
     }
+}
+
+// What each file of a case took.
+fn files_of(
+    alloc: Global,
+    case: &Case,
+    outside: &MemoryOutside,
+) -> Result<Vec<Vec<u8>>, AllocError> {
+    let mut files = Vec::new(alloc);
+    for file in &case.files {
+        files.push(Vec::from_slice(alloc, written(outside, file.name.as_str()))?)?;
+    }
+    Ok(files)
 }
 
 // Runs the words of a case.
@@ -92,8 +114,13 @@ fn run_words(
     outside: &mut MemoryOutside,
 ) -> Result<Played, AllocError> {
     let status = u64::from(run(alloc, &case.words, outside).code());
-    let shown = Vec::from_slice(alloc, printed(outside))?;
-    Ok(Played { status, shown })
+    let shown = Vec::from_slice(alloc, written(outside, "-"))?;
+    let files = files_of(alloc, case, outside)?;
+    Ok(Played {
+        status,
+        shown,
+        files,
+    })
 }
 
 /// Plays a case as it stands.

@@ -1,6 +1,6 @@
 //! How case files are read.
 
-use crate::cases::{BadLine, Case, FailedRead, Input, Wanted, append_to, subject};
+use crate::cases::{BadLine, Case, FailedRead, Input, Wanted, WantedFile, append_to, subject};
 use crate::entries::{Entry, entries_in};
 use plain_text::{read_hex, read_number};
 use std::alloc::{AllocError, Global};
@@ -123,13 +123,40 @@ impl Case {
         Ok(())
     }
 
-    // `fails read NAME N`, `fails write N`.
+    // `writes NAME`: a file that takes a block, or nothing.
+    fn take_file(&mut self, alloc: Global, name: &str, octets: Vec<u8>) -> Result<(), Refused> {
+        let file = WantedFile {
+            name: String::from_str(alloc, name_in(name)?)?,
+            octets,
+            failed_writes: Vec::new(alloc),
+        };
+        self.files.push(file).map_err(AllocError::from)?;
+        Ok(())
+    }
+
+    // `fails file NAME N` behind `writes NAME`.
+    fn take_failed_file(&mut self, rest: &str) -> Result<(), Refused> {
+        let (name, number) = rest.split_once(' ').ok_or(Refused::NotRead)?;
+        let number = number_in(number)?;
+        for file in self.files.iter_mut() {
+            if file.name.as_str() == name {
+                file.failed_writes.push(number).map_err(AllocError::from)?;
+                return Ok(());
+            }
+        }
+        Err(Refused::NotRead)
+    }
+
+    // `fails read NAME N`, `fails write N`, `fails file NAME N`.
     fn take_fails(&mut self, alloc: Global, rest: &str) -> Result<(), Refused> {
         if let Some(number) = rest.strip_prefix("write ") {
             self.failed_writes
                 .push(number_in(number)?)
                 .map_err(AllocError::from)?;
             return Ok(());
+        }
+        if let Some(file) = rest.strip_prefix("file ") {
+            return self.take_failed_file(file);
         }
         let read = rest.strip_prefix("read ").ok_or(Refused::NotRead)?;
         let (name, number) = read.split_once(' ').ok_or(Refused::NotRead)?;
@@ -163,6 +190,7 @@ impl Case {
     ) -> Result<(), Refused> {
         match word {
             "text" => self.take_input(alloc, rest, block, 1),
+            "writes" => self.take_file(alloc, rest, block),
             "repeat" => {
                 let (number, name) = rest.split_once(' ').ok_or(Refused::NotRead)?;
                 self.take_input(alloc, name, block, number_in(number)?)
@@ -181,6 +209,7 @@ impl Case {
             }
             // An empty text.
             "text" => self.take_input(alloc, rest, Vec::new(alloc), 1)?,
+            "writes" => self.take_file(alloc, rest, Vec::new(alloc))?,
             "fails" => self.take_fails(alloc, rest)?,
             "room" => self.room = Some(number_in(rest)?),
             "cuts" => self.is_cut = true,

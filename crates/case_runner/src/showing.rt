@@ -79,15 +79,33 @@ fn push_played(
         &format!(in alloc; "status {wanted} wanted, {came} came")?,
     )?;
     match &case.wanted {
-        Wanted::Octets(octets) => push_shown(alloc, out, octets, &played.shown),
+        Wanted::Octets(octets) => push_shown(alloc, out, octets, &played.shown)?,
         Wanted::Count(count) => {
             let (wanted, came) = (*count, played.shown.len());
             push(
                 out,
                 &format!(in alloc; "; {wanted} octets wanted, {came} came")?,
-            )
+            )?;
         }
     }
+    push_files(alloc, out, case, played)
+}
+
+// The files that took something else than they must.
+fn push_files(
+    alloc: Global,
+    out: &mut Vec<u8>,
+    case: &Case,
+    played: &Played,
+) -> Result<(), AllocError> {
+    for (file, came) in case.files.iter().zip(played.files.iter()) {
+        if file.octets.as_slice() != came.as_slice() {
+            push(out, "; file ")?;
+            push(out, file.name.as_str())?;
+            push_shown(alloc, out, &file.octets, came)?;
+        }
+    }
+    Ok(())
 }
 
 fn push_manner(alloc: Global, out: &mut Vec<u8>, manner: Manner) -> Result<(), AllocError> {
