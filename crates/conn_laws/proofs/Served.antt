@@ -41,7 +41,8 @@ use Rattle.tase_conn.specs.declared.stage.Stage.TheVariants as stages
 use Rattle.tase_conn.specs.Talking.{Talking, IsResting}
 use Rattle.tase_conn.specs.Places.{Runs, IsDone, ReadsBy}
 use Rattle.tase_conn.specs.Places.{BeginsTurns, turns_held, Position, position_by, Reach}
-use Rattle.tase_conn.proofs.LastTurns.{or_left, goes_front, uncut, at_end, brought_whole}
+use Rattle.stack_assoc.proofs.Enough.{or_left}
+use Rattle.tase_conn.proofs.LastTurns.{goes_front, uncut, at_end, brought_whole}
 use Rattle.tase_map.proofs.AskedOn.{asks_join}
 use Rattle.conn_laws.specs.Serving.{IsWaiting, SaysBy, Serves, IsAllSaid, IsSaidButOwed}
 use Rattle.conn_laws.specs.Serving.{HasServed, HoldsOfAllInput}

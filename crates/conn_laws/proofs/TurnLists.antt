@@ -18,7 +18,7 @@ use Rattle.tase_map.specs.Asks.{asks_behind, without_pauses}
 use Rattle.tase_map.proofs.Uncut.{without-append}
 use Rattle.tase_map.proofs.TurnOrder.{offered, concluded, IsBegun, AllFollow, turns_follow}
 use Rattle.tase_conn.specs.Wanting.{quiet_at, quiet_behind}
-use Rattle.tase_conn.proofs.LastTurns.{or_left, or_right}
+use Rattle.stack_assoc.proofs.Enough.{or_left, or_right}
 use Rattle.conn_laws.specs.Serving.{HoldsOfAllInput}
 
 -- ---- lists

@@ -1,23 +1,18 @@
 //! The lines of a feed, and of the clock, read.
-ghost use Rattle.std.specs.Prelude.{◌≡◌, ◌<◌, ◌≤◌, length, option_and_then, IfOk};
-ghost use Rattle.plain_text.specs.Escaped.{unescaped};
-ghost use Rattle.plain_text.specs.Numbers.{if_passes};
+ghost use Rattle.std.specs.Prelude.{◌≡◌, ◌<◌, ◌≤◌, length, IfOk};
 ghost use Rattle.plain_text.specs.Words.{words};
-ghost use Rattle.mms_text.specs.WordValue.{is_visible as visible};
 ghost use Rattle.event_text.specs.declared.feed.TheConstants.{SLOT_NUMBER_LIMIT};
 ghost use Rattle.event_text.specs.FeedLines.{feed_event_in, update_in, update_of};
-ghost use Rattle.event_text.specs.FeedLines.{choice_in, choice_of, tagging_in, tag_words_in};
-ghost use Rattle.event_text.specs.FeedLines.{reason_in, ask_in, ask_of, tick_in, orders_in};
+ghost use Rattle.event_text.specs.FeedLines.{choice_in, choice_of, tagging_in};
+ghost use Rattle.event_text.specs.FeedLines.{ask_in, ask_of, tick_in, orders_in};
 ghost use Rattle.event_text.specs.FeedLines.{centre_event_in};
 
-use crate::values::read_value;
-use ber_values::{Visible, is_visible};
+use crate::values::{read_tag, read_value};
 use bilateral::Centre;
-use plain_text::{is_spaced, next_word, read_escaped, read_number, three_words, two_words};
-use sbo_device::TAG_LIMIT;
+use plain_text::{is_spaced, next_word, read_number, three_words, two_words};
 use std::alloc::{AllocError, Global};
 use tase_points::PointValue;
-use tase_views::{DeviceTag, Event, EventKind, has_slot};
+use tase_views::{Event, EventKind, has_slot};
 
 /// The largest number of a table that a line names; a peer has fewer.
 pub const TABLE_NUMBER_LIMIT: u64 = 4294967295;
@@ -181,43 +176,6 @@ fn read_tagging(alloc: Global, centre: &Centre, text: &[u8]) -> Result<Option<Ev
         return Ok(None);
     };
     Ok(Some(Event::new(EventKind::Tag { device, tag })))
-}
-
-/// The tag that a number and a reason are.
-fn read_tag(alloc: Global, number: &[u8], reason: &[u8]) -> Result<Option<DeviceTag>, AllocError>
-    ensures { IfOk result (λ tag. tag ≡ tag_words_in number.now reason.now) }
-{
-    let Some(tag) = read_number(number, u64::from(TAG_LIMIT)) else {
-        return Ok(None);
-    };
-    let Some(reason) = read_reason(alloc, reason)? else {
-        return Ok(None);
-    };
-    Ok(Some(DeviceTag::new(tag as u8, reason)))
-}
-
-/// The reason of a tag: `v` and escaped text.
-fn read_reason(alloc: Global, word: &[u8]) -> Result<Option<Visible>, AllocError>
-    ensures { IfOk result (λ reason. reason ≡ reason_in word.now) }
-{
-    match word {
-        [b'v', held @ ..] => read_visible(alloc, held),
-        _ => Ok(None),
-    }
-}
-
-/// The text of visible octets that a word stands for.
-fn read_visible(alloc: Global, word: &[u8]) -> Result<Option<Visible>, AllocError>
-    ensures { IfOk result (λ octets. octets
-        ≡ option_and_then (if_passes visible) (unescaped word.now)) }
-{
-    let Some(octets) = read_escaped(alloc, word)? else {
-        return Ok(None);
-    };
-    if !is_visible(&octets) {
-        return Ok(None);
-    }
-    Ok(Some(Visible::new(octets)))
 }
 
 /// `KEY NUMBER` behind `ask`: the operator asks for a report of a transfer set of a peer.

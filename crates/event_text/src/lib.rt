@@ -13,4 +13,5 @@ pub use laws::{
     written_calls_are_read,
 };
 pub use reading::{read_call, read_call_words};
+pub use values::{read_small, read_tag, read_value};
 pub use writing::{spell_call, spell_event, spell_reply};

@@ -4,10 +4,9 @@
 mod laws;
 mod parts;
 mod reading;
-mod values;
 mod writing;
 
 pub use laws::{calls_are_their_words, entries_are_their_text, journals_are_their_entries};
-pub use parts::entries_have_texts;
+pub use parts::{calls_have_words, entries_have_texts, events_have_texts};
 pub use reading::read_entry;
-pub use writing::spell_entry;
+pub use writing::{spell_entry, spell_seat_event};

@@ -26,16 +26,16 @@ pub fn entries_have_texts(entry: &Entry)
     ensures { IsEntry entry.now }
 {
     is_long(entry.who);
-    event_has_text(&entry.event);
+    events_have_texts(&entry.event);
 }
 
 /// Each part of an event is one that a word spells.
-fn event_has_text(event: &Event)
+pub fn events_have_texts(event: &Event)
     ensures { IsEvent event.now }
 {
     match event.kind() {
         EventKind::Open { peer } => is_short(*peer),
-        EventKind::Request { call } => call_has_words(call),
+        EventKind::Request { call } => calls_have_words(call),
         EventKind::Take => {}
         EventKind::Close => {}
         EventKind::Update { point, value } => {
@@ -116,7 +116,7 @@ fn are_octets(octets: &[u8])
 }
 
 /// Each part of a call is one that a word spells.
-fn call_has_words(call: &Call)
+pub fn calls_have_words(call: &Call)
     ensures lawful { IsCall call.now }
     ensures textual { HasWords call.now }
 {

@@ -5,8 +5,7 @@ ghost use Rattle.tase_views.specs.declared.event.EventKind.TheVariants as events
 ghost use Rattle.journal_text.specs.CallIn.{call_in};
 ghost use Rattle.journal_text.specs.Entries as own;
 
-use crate::values::{read_small, read_tag, read_value};
-use event_text::read_call_words;
+use event_text::{read_call_words, read_small, read_tag, read_value};
 use plain_text::{next_part, next_word, read_number, three_words, two_words};
 use std::alloc::{AllocError, Global};
 use tase_views::{Call, Entry, Event, EventKind};

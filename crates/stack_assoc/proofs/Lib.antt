@@ -15,3 +15,4 @@ pub mod FewOffers
 pub mod Modest
 pub mod Standings
 pub mod Holdings
+pub mod Enough

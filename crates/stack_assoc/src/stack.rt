@@ -5,6 +5,7 @@ ghost use Rattle.stack_messages.specs.declared.fault.StackFault.{StackFault};
 ghost use Rattle.tpkt_cotp.specs.declared.limits.TheConstants.{PIECE_LIMIT};
 ghost use Rattle.tpkt_cotp.specs.declared.limits.TheConstants.{TPKT_LIMIT, TSDU_LIMIT};
 ghost use Rattle.tpkt_cotp.specs.Written.{connection_request_octets};
+ghost use Rattle.stack_wire.specs.Setups.{IsSetup};
 ghost use Rattle.stack_assoc.specs.declared.input.StackState.TheVariants as states;
 ghost use Rattle.stack_assoc.specs.Arrivals.{Arrival, Role, called, calling};
 ghost use Rattle.stack_assoc.specs.Expectations.{setup_by};
@@ -118,6 +119,15 @@ impl Stack {
     {
         write_cr(out, 1)?;
         Ok(Stack::new(alloc, tpkt_cotp::Role::Calling, Side::Calling, title))
+    }
+
+    /// What its connect has fixed.
+    pub fn setup(&self) -> &AssociationSetup
+        ensures value { result.now ≡ self.now.setup }
+        ensures sized { IsSetup self.now.setup }
+        ensures named { self.now.setup.acse ≤ 65535 }
+    {
+        &self.setup
     }
 
     /// How far the association has come.

@@ -1,15 +1,12 @@
 -- What each kind of thing that was read asks for, or how it ends the connection.
 use Rattle.std.proofs.Common.{◌≡◌, ℕ, Bool, true, false, List, [], ◌∷◌, ◌++◌, Option, Some}
-use Rattle.std.proofs.Common.{None}
-use Rattle.std.proofs.Common.{ℤ, pos, int_lt, ◌<ℤ◌, arith, refl, sym, ap, subst, ◌∙◌, inl, inr}
+use Rattle.std.proofs.Common.{None, ℤ, refl, sym, ap, subst, ◌∙◌, inl, inr}
 use Rattle.std.specs.Prelude.{◌⊎◌, ◌||◌, ◌&&◌, not, if◌then◌else◌, MatchOption, is_some, option_map}
 use Rattle.std.specs.List.{list_any}
 use Rattle.std.proofs.lemmas.Bool.{false≢true}
-use Rattle.std.proofs.lemmas.Int.{ints}
 use Rattle.std.proofs.lemmas.List.{append-nil}
 use Rattle.bilateral.specs.Rows.{CentreRows, place_of_title}
-use Rattle.mms_services.specs.Negotiations.{granted, IsTooLittle, IsBelow}
-use Rattle.mms_services.specs.declared.initiate.TheConstants.{LEAST_DETAIL}
+use Rattle.mms_services.specs.Negotiations.{granted}
 use Rattle.mms_services.specs.declared.initiate.Initiate.{Initiate}
 use Rattle.mms_services.specs.declared.pdu.MmsPdu.{MmsPdu}
 use Rattle.mms_services.specs.declared.pdu.MmsPdu.TheVariants as pdus
@@ -22,7 +19,6 @@ use Rattle.stack_assoc.specs.Arrivals.{Arrival, called, heard, is_conclude}
 use Rattle.stack_assoc.specs.Courses.{CourseStands, is_accepted}
 use Rattle.stack_assoc.specs.Courses as courses
 use Rattle.stack_assoc.specs.Tellings.{StopsTelling}
-use Rattle.stack_assoc.specs.Handing.{is_offered_below, is_too_little}
 use Rattle.stack_assoc.specs.Expectations.{setup_after}
 use Rattle.tase_views.specs.declared.event.EventKind.TheVariants as events
 use Rattle.tase_map.specs.Asked.{call_of_request, invalid}
@@ -46,7 +42,6 @@ use Rattle.tase_conn.specs.Places.{Runs, InputIsDue, PduIsDue, IsAgreed, has_beg
 use Rattle.tase_conn.specs.Places.{Position, position_by, coming_by, turn_for, turn_listed}
 use Rattle.tase_conn.specs.Wanting.{behind_close, refusal_said}
 use Rattle.tase_conn.proofs.Acted.{HasToldAll, ends_with, Asking, Ending, Passing}
-use Rattle.tase_conn.proofs.LastTurns.{or_left, or_right}
 
 -- ---- an offer
 
@@ -81,51 +76,6 @@ asks_open rows told turns title initiate offered peer (stages.Open p d) due plac
     absurd due
 asks_open rows told turns title initiate offered peer (stages.Closed p) due place g goes =
     absurd due
-
-no_less : (a b : ℤ) → int_lt a b ≡ false → a <ℤ b → ⊥
-no_less a b e h = omega (arith, ints)
-
-no_below : (least : ℤ) (number : Option ℤ) → is_offered_below least number ≡ false
-    → IsBelow least number → ⊥
-no_below least None e h = h
-no_below least (Some number) e h = no_less number least e h
-
--- where enough is offered something is granted
-pub is_enough : (i : Initiate) → is_too_little i ≡ false → IsTooLittle i → ⊥
-is_enough i e h = elim h [
-  | inl h ↦ no_less i.version (pos 1) (or_left version (calling || (called || rest)) e) h
-  | inr (inl h) ↦ no_less i.calling (pos 1) (or_left calling (called || rest) more) h
-  | inr (inr (inl h)) ↦ no_less i.called (pos 1) (or_left called rest most) h
-  | inr (inr (inr (inl h))) ↦ no_below LEAST_DETAIL i.detail (or_left detail nesting last) h
-  | inr (inr (inr (inr h))) ↦ no_below (pos 1) i.nesting (or_right detail nesting last) h
-]
-  where
-    version : Bool
-    version = int_lt i.version (pos 1)
-
-    calling : Bool
-    calling = int_lt i.calling (pos 1)
-
-    called : Bool
-    called = int_lt i.called (pos 1)
-
-    detail : Bool
-    detail = is_offered_below LEAST_DETAIL i.detail
-
-    nesting : Bool
-    nesting = is_offered_below (pos 1) i.nesting
-
-    rest : Bool
-    rest = detail || nesting
-
-    more : (calling || (called || rest)) ≡ false
-    more = or_right version (calling || (called || rest)) e
-
-    most : (called || rest) ≡ false
-    most = or_right calling (called || rest) more
-
-    last : rest ≡ false
-    last = or_right called rest most
 
 -- ---- what an open association asks for
 

@@ -3,13 +3,13 @@ use Rattle.std.proofs.Common.{◌≡◌, Bool, true, false, ℕ, List, [], ◌�
 use Rattle.std.proofs.Common.{refl, sym, ap, subst, ◌∙◌, append_assoc}
 use Rattle.std.specs.Prelude.{◌||◌, if◌then◌else◌, filter, slice_get, option_map, option_and_then}
 use Rattle.std.specs.List.{list_any}
-use Rattle.std.proofs.lemmas.Bool.{false≢true}
 use Rattle.std.proofs.lemmas.List.{append-nil}
 use Rattle.std.proofs.lemmas.Grind.{flat_map-append}
 use Rattle.bilateral.specs.Rows.{CentreRows}
 use Rattle.stack_messages.specs.declared.fault.StackFault.{StackFault}
 use Rattle.stack_assoc.specs.Arrivals.{Arrival, called}
 use Rattle.stack_assoc.proofs.StreamLaws.{fault_stays}
+use Rattle.stack_assoc.proofs.Enough.{or_left, or_right}
 use Rattle.tase_map.specs.Inputs.{Item, given_octets, text_given}
 use Rattle.tase_map.specs.Readings.{Reading, TellsReading, reading_of}
 use Rattle.tase_map.specs.Turns.{Turn, turns_of}
@@ -47,14 +47,6 @@ broken_stays items more fault e =
     (reading_of (text_given items)).broken fault (reading_found (text_given items)) e
 
 -- ---- the first turn behind which nothing follows
-
-pub or_left : (a b : Bool) → (a || b) ≡ false → a ≡ false
-or_left true b e = e
-or_left false b e = refl
-
-pub or_right : (a b : Bool) → (a || b) ≡ false → b ≡ false
-or_right true b e = absurd (false≢true (sym e))
-or_right false b e = e
 
 -- those behind which something follows, and then the others
 pub goes_front : (rows : CentreRows) (front more : List Turn)

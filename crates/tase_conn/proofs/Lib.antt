@@ -10,5 +10,4 @@ pub mod Fetched
 pub mod Placing
 pub mod LastTurns
 pub mod AnswersNoted
-pub mod Sized
 pub mod Reported

@@ -60,7 +60,8 @@ use Rattle.tase_conn.proofs.ToldAll.{all_open, all_some, all_broken, all_ended}
 use Rattle.tase_conn.proofs.Cases.{asks_open, asks_request, asks_badly, asks_take, asks_close}
 use Rattle.tase_conn.proofs.Cases.{setup_known, declines_offer, declines_badly, ends_released}
 use Rattle.tase_conn.proofs.Cases.{ends_aborted, ends_linked, ends_broken, broken_is, passes_pdu}
-use Rattle.tase_conn.proofs.Cases.{passes_pause, IsShut, shut_open, is_enough}
+use Rattle.stack_assoc.proofs.Enough.{is_enough}
+use Rattle.tase_conn.proofs.Cases.{passes_pause, IsShut, shut_open}
 
 -- ---- results
 

@@ -9,7 +9,7 @@ ghost use Rattle.stack_assoc.specs.declared.end_state.EndState.TheVariants as st
 ghost use Rattle.stack_assoc.specs.Courses.{stack_state_of};
 ghost use Rattle.stack_assoc.specs.Saying.{says_conclude};
 ghost use Rattle.tase_map.specs.Replied.{pdu_of_reply, pdu_of_report};
-ghost use Rattle.tase_map.specs.Out.{within, too_long, reports_said, first_too_long};
+ghost use Rattle.tase_map.specs.Out.{within, reports_said, first_too_long};
 ghost use Rattle.tase_conn.specs.declared.stage.PendingEvent.TheVariants as askeds;
 ghost use Rattle.tase_conn.specs.declared.stage.Stage.TheVariants as stages;
 ghost use Rattle.tase_conn.specs.declared.stage.Progress.TheVariants as progresses;
@@ -27,9 +27,9 @@ ghost use Rattle.tase_conn.specs.Noting.{said_up_to};
 
 use crate::conn::Conn;
 use crate::stage::{Cause, ConnEnd, PendingEvent, Progress, Stage};
-use mms_services::{ErrorPdu, Initiate, MOST_DETAIL, MmsPdu, pdu_len};
+use mms_services::{Initiate, MOST_DETAIL, MmsPdu, pdu_len};
 use std::alloc::AllocError;
-use tase_map::{pdu_of, report_pdu};
+use tase_map::{pdu_of, report_pdu, within};
 use tase_views::{Answer, Reply, Report, StepFault};
 
 /// The end of a connection whose event is refused so.
@@ -48,33 +48,6 @@ fn detail_of(granted: &Initiate) -> i64
     ensures { result ≡ detail_in granted.now }
 {
     granted.detail.unwrap_or(MOST_DETAIL)
-}
-
-/// A PDU, or, where it has more octets than that, the error that answers in its place.
-fn within(detail: i64, invoke: u32, pdu: MmsPdu) -> MmsPdu
-    requires writable { IsWritablePdu pdu }
-    requires detail { detail ≤ℤ MOST_DETAIL }
-    ensures value { result ≡ within detail invoke pdu }
-    ensures writable { IsWritablePdu result }
-    ensures few { pdu_len result ≤ 65000 }
-{
-    if pdu_len(&pdu) as i64 > detail {
-        too_long(invoke)
-    } else {
-        pdu
-    }
-}
-
-fn too_long(invoke: u32) -> MmsPdu
-    ensures value { result ≡ too_long invoke }
-    ensures writable { IsWritablePdu result }
-    ensures few { pdu_len result ≤ 65000 }
-{
-    MmsPdu::Error(ErrorPdu {
-        invoke,
-        class: 3,
-        code: 0,
-    })
 }
 
 impl Conn {

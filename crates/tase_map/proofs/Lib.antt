@@ -16,6 +16,7 @@ pub mod TurnOrder
 pub mod InTurn
 pub mod Growing
 pub mod Unrefused
+pub mod Sized
 pub mod Worked
 pub mod WorkedStream
 mod WorkedSets

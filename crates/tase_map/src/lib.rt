@@ -5,12 +5,14 @@
 mod calls;
 mod copies;
 mod laws;
+mod limits;
 mod octet_laws;
 mod replies;
 mod reports;
 
 pub use calls::{call_of, invalid_call, request_of};
 pub use laws::{calls_are_requests, replies_are_pdus, reports_are_pdus};
+pub use limits::within;
 pub use octet_laws::{
     asking_goes_on, closed_associations_stay, each_entry_adds_its_octets,
     equal_worlds_give_equal_octets, events_come_in_turn, octets_tell_one_thing,

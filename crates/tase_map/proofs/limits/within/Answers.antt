@@ -1,8 +1,8 @@
 use Rattle.std.proofs.Common.{◌≤◌, pos, ◌≤ℤ◌, rules, arith}
 use Rattle.std.proofs.lemmas.Int.{ints}
 use borrow.Author.Differences.{lt-false}
-use Rattle.tase_conn.proofs.Sized.{pdu_len_most, within_same}
-use Rattle.tase_conn.proofs.telling.within.Goals as goal
+use Rattle.tase_map.proofs.Sized.{pdu_len_most, within_same}
+use Rattle.tase_map.proofs.limits.within.Goals as goal
 
 pub overflow_cast-pdu_len : goal.overflow_cast-pdu_len
 overflow_cast-pdu_len c =

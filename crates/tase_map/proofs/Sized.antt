@@ -1,4 +1,4 @@
--- How long the PDUs are that a connection says of itself.
+-- How long the PDUs are that the called end says of itself.
 use Rattle.std.proofs.Common.{◌≡◌, ℕ, ◌+◌, ◌<◌, ◌≤◌, ◌^◌, ℤ, pos, ◌≤ℤ◌, List, [], ◌∷◌, ◌++◌, length}
 use Rattle.std.proofs.Common.{refl, arith}
 use Rattle.std.specs.Prelude.{int_lt}
