@@ -29,6 +29,7 @@ pub mod NodeSteps
 pub mod PeerViews
 pub mod Outcomes
 pub mod Causes
+pub mod LogLines
 pub mod Rooms
 pub mod NodeAnswers
 pub mod SlotNames

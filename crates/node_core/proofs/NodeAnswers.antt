@@ -8,9 +8,9 @@ use Rattle.tase_views.specs.declared.event.EventKind.{EventKind}
 use Rattle.tase_views.specs.History.{association_in}
 use Rattle.tase_views.specs.Outcomes.{is_ending, refusal_of}
 use Rattle.node_core.specs.declared.hub.Hub.{Hub}
-use Rattle.node_core.specs.declared.log.Log.{Log}
 use Rattle.node_core.specs.declared.node.Node.TheInside.{Inside}
 use Rattle.node_core.specs.declared.parts.Parts.{Parts}
+use Rattle.node_core.specs.LogState.{LogState}
 use Rattle.node_core.specs.NodeState.{NodeState}
 use Rattle.node_core.specs.Room.{past_of, HasRoom, IsReserved, LeavesSeats, MayAppend}
 use Rattle.node_core.specs.Stored.{IsNode, found_by}
@@ -23,30 +23,31 @@ use Rattle.node_core.proofs.NodeSteps.{seat_there}
 abbrev pub seen_as : Inside → NodeState
 seen_as node = record {
   setup = record { centre = arc_value node.centre; limit = node.log.limit };
-  history = node.log.entries.items;
+  history = node.log.entries;
 }
 
 -- what a node keeps, with another log, hub and parts
-abbrev pub Keeps : Inside → Log → Hub → Parts → Type 0
+abbrev pub Keeps : Inside → LogState → Hub → Parts → Type 0
 Keeps node log hub parts = IsNode (arc_value node.centre) (past_of log) hub parts
     × HasRoom log (hash_map_len hub.seats)
 
 -- what an entry's place and the closes behind it take is reserved
-abbrev pub Reserves : Log → Log → ℕ → Type 0
-Reserves old new seats = record {
+abbrev pub Reserves : LogState → LogState → ℕ → ℕ → EventKind → Type 0
+Reserves old new seats who event = record {
   limit : new.limit ≡ old.limit;
-  entries : new.entries.items ≡ old.entries.items;
+  entries : new.entries ≡ old.entries;
   room : (before : ℕ) → HasRoom old before → HasRoom new before;
-  ok : IsReserved new seats;
+  ok : IsReserved new seats who event;
+  few : length new.entries < 2 ^ 63;
 }
 
 -- an entry is appended
-abbrev pub Appends : Log → Log → ℕ → EventKind → Type 0
+abbrev pub Appends : LogState → LogState → ℕ → EventKind → Type 0
 Appends old new who event = record {
   limit : new.limit ≡ old.limit;
-  entries : new.entries.items ≡ old.entries.items ++ record { who = who; event = event } ∷ [];
+  entries : new.entries ≡ old.entries ++ record { who = who; event = event } ∷ [];
   room : (before behind : ℕ) → HasRoom old before → LeavesSeats event before behind
-      → MayAppend old event behind → HasRoom new behind;
+      → MayAppend old who event behind → HasRoom new behind;
 }
 
 -- a seat has this association, whose peer is there
@@ -55,7 +56,7 @@ IsSeated node who key = (association_in (past_of node.log) who ≡ Some key)
     × (key.peer < length (arc_value node.centre).tables)
 
 -- a log is light enough for one more entry
-pub light_enough : {log : Log} {seats : ℕ} → HasRoom log seats → log.weight ≤ 2 ^ 62
+pub light_enough : {log : LogState} {seats : ℕ} → HasRoom log seats → log.weight ≤ 2 ^ 62
 light_enough room = omega (arith, room.bounded, room.light)
 
 module _ (node : Inside) where
@@ -76,18 +77,18 @@ module _ (node : Inside) where
         (seated, seat_there _ _ _ _ kept.0 who key seated)
 
     -- where room is reserved, and nothing is appended
-    pub unlogged : {hub : Hub} {parts : Parts} (mid : Log)
-        → mid.entries.items ≡ node.log.entries.items
+    pub unlogged : {hub : Hub} {parts : Parts} (mid : LogState)
+        → mid.entries ≡ node.log.entries
         → ((before : ℕ) → HasRoom node.log before → HasRoom mid before)
         → hash_map_len hub.seats ≡ hash_map_len node.hub.seats
         → IsNode (arc_value node.centre) (past_of node.log) hub parts → Keeps node mid hub parts
     unlogged mid entries room same n = (rw entries n, rw same (room _ kept.1))
 
     -- an event for which there is room is appended
-    pub ended : {hub : Hub} {parts : Parts} {event is : EventKind} (who : ℕ) (new : Log)
+    pub ended : {hub : Hub} {parts : Parts} {event is : EventKind} (who : ℕ) (new : LogState)
         → event ≡ is → Appends node.log new who event
         → LeavesSeats is (hash_map_len node.hub.seats) (hash_map_len hub.seats)
-        → MayAppend node.log is (hash_map_len hub.seats)
+        → MayAppend node.log who is (hash_map_len hub.seats)
         → IsNode (arc_value node.centre) (record { who = who; event = is } ∷ past_of node.log) hub
         parts
         → Keeps node new hub parts
@@ -98,9 +99,9 @@ module _ (node : Inside) where
 
     -- an event that isn't ending and isn't refused, for which room is reserved, is appended
     pub logged : {hub : Hub} {parts : Parts} {now : NodeState} {event is : EventKind} (who : ℕ)
-        (mid new : Log) (count : ℕ) → seen_as node ≡ now → event ≡ is
+        (mid new : LogState) (count : ℕ) → seen_as node ≡ now → event ≡ is
         → refusal_of now.setup (reverse now.history) who event ≡ None → is_ending is ≡ false
-        → Reserves node.log mid count → Appends mid new who event
+        → Reserves node.log mid count who event → Appends mid new who event
         → LeavesSeats is (hash_map_len node.hub.seats) (hash_map_len hub.seats)
         → count ≡ hash_map_len hub.seats
         → IsNode (arc_value node.centre) (record { who = who; event = is } ∷ past_of node.log) hub
@@ -112,6 +113,6 @@ module _ (node : Inside) where
         (free_at who seen e free).light in (
           rw (more.entries, reserved.entries, reverse_push, e) n,
           more.room _ _ (reserved.room _ kept.1) (rw e leaves)
-              (rw e (MayAppend-reserved node.log mid is _ goes_on reserved.limit reserved.entries
-              fits (omega (arith, reserved.ok, counted)))),
+              (rw e (MayAppend-reserved node.log mid who is _ goes_on reserved.limit
+              reserved.entries fits (rw (← counted, ← e) reserved.ok))),
         )

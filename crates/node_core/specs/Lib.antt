@@ -12,4 +12,6 @@ pub mod CallSorts
 pub mod PeerParts
 pub mod PartFeeds
 pub mod Stored
+pub mod LogState
+pub mod LogLines
 pub mod Room

@@ -1,5 +1,6 @@
 ghost use Rattle.std.specs.Prelude.{◌≡◌, ◌<◌, ◌≤◌, ◌^◌, [], length, reverse, slice_get, Some};
-ghost use Rattle.std.specs.Prelude.{None, false, IfOk, OnOk, OnErr};
+ghost use Rattle.std.specs.Prelude.{None, false, option_map, IfOk, OnOk, OnErr};
+ghost use Rattle.std.specs.Option.{option_copied};
 ghost use Rattle.std.specs.Arc.{arc_value};
 ghost use Rattle.bilateral.specs.Rows.{device_of, variants_of};
 ghost use Rattle.sbo_device.specs.States.{hold_of};
@@ -16,6 +17,7 @@ ghost use Rattle.tase_views.specs.View as views;
 ghost use Rattle.tase_views.specs.Weights.{weight_of};
 ghost use Rattle.tase_views.specs.Answers as answers;
 ghost use Rattle.tase_views.specs.Outcomes.{is_ending, refusal_of, IsAnswer, IsRightOutcome};
+ghost use Rattle.journal_text.specs.Journals.{entry_text};
 ghost use Rattle.node_core.specs.NodeState.{with_entry};
 ghost use Rattle.node_core.specs.declared.sorts.CallSort.TheVariants as sorts;
 ghost use Rattle.node_core.specs.Shown.{IsCalm};
@@ -67,7 +69,7 @@ impl Model for Node {
 
     ghost view = { λ n. record {
       setup = record { centre = arc_value n.centre; limit = n.log.limit };
-      history = n.log.entries.items;
+      history = n.log.entries;
     } };
 
     ghost invariant = { λ n. IsNode (arc_value n.centre) (past_of n.log) n.hub n.parts
@@ -117,6 +119,14 @@ impl Node {
         ensures { IfOk result (λ entry. entry ≡ slice_get self.now.history place) }
     {
         self.log.entry(place)
+    }
+
+    /// The text of the entry at this place of the history, which counts from 0.
+    pub fn journal_line(&self, place: u64) -> Option<&[u8]>
+        ensures { option_copied result
+            ≡ option_map entry_text (slice_get self.now.history place) }
+    {
+        self.log.line(place)
     }
 
     pub fn centre(&self) -> &Centre
@@ -263,7 +273,7 @@ impl Node {
         ensures ok { OnOk result (self.new ≡ with_entry self.old who event) }
         ensures err { OnErr result (self.new ≡ self.old) }
     {
-        self.log.reserve(self.hub.open_count() + 1)?;
+        self.log.reserve(who, &event, self.hub.open_count() + 1)?;
         let key = self.parts.next_key(peer);
         self.hub.seat(who, key)?;
         match self.parts.open(alloc, peer) {
@@ -292,7 +302,7 @@ impl Node {
         ensures ok { OnOk result (self.new ≡ with_entry self.old who event) }
         ensures err { OnErr result (self.new ≡ self.old) }
     {
-        self.log.reserve(self.hub.open_count())?;
+        self.log.reserve(who, &event, self.hub.open_count())?;
         self.parts.prepare_all(&self.centre, point)?;
         let changed = self.hub.plant.points.update(point, value);
         let count = self.hub.plant.points.cov(point);
@@ -317,7 +327,7 @@ impl Node {
         ensures ok { OnOk result (self.new ≡ with_entry self.old who event) }
         ensures err { OnErr result (self.new ≡ self.old) }
     {
-        self.log.reserve(self.hub.open_count())?;
+        self.log.reserve(who, &event, self.hub.open_count())?;
         self.parts.choose(alloc, &self.centre, peer, variant);
         self.log.append(who, event);
         Ok(Answer::Noted)
@@ -336,7 +346,7 @@ impl Node {
             unreachable!();
         };
         let reason = tag.reason().clone()?;
-        self.log.reserve(self.hub.open_count())?;
+        self.log.reserve(who, &event, self.hub.open_count())?;
         self.hub.plant.devices.tag(device, tag.tag(), reason);
         self.log.append(who, event);
         Ok(Answer::Noted)
@@ -351,7 +361,7 @@ impl Node {
         ensures ok { OnOk result (self.new ≡ with_entry self.old who event) }
         ensures err { OnErr result (self.new ≡ self.old) }
     {
-        self.log.reserve(self.hub.open_count())?;
+        self.log.reserve(who, &event, self.hub.open_count())?;
         let orders = self.hub.plant.devices.take_orders(alloc);
         self.log.append(who, event);
         Ok(Answer::Orders(Orders::from_vec(orders)))
@@ -377,7 +387,7 @@ impl Node {
             from: self.hub.last_tick(),
             to: now,
         };
-        self.log.reserve(self.hub.open_count())?;
+        self.log.reserve(who, &event, self.hub.open_count())?;
         self.parts
             .draft_all(alloc, &self.centre, &self.hub.plant, cause)?;
         self.parts.report_all(&self.centre, cause);
@@ -407,7 +417,7 @@ impl Node {
             slot,
             now: self.hub.last_tick(),
         };
-        self.log.reserve(self.hub.open_count())?;
+        self.log.reserve(who, &event, self.hub.open_count())?;
         self.parts
             .draft(alloc, &self.centre, &self.hub.plant, peer, cause)?;
         self.parts.report(peer, cause);
@@ -456,7 +466,7 @@ impl Node {
         };
         let shown = peer_view(&self.centre, &self.parts, &self.hub.plant, key.peer);
         let ReadReply { reply, handed } = shown.read_reply(alloc, key.ordinal, names, *echo)?;
-        self.log.reserve(self.hub.open_count())?;
+        self.log.reserve(who, &event, self.hub.open_count())?;
         let table = InForce::new(&self.centre, key.peer, self.parts.force(key.peer));
         let now = self.hub.last_tick();
         select_all(&mut self.hub.plant.devices, &table, key, now, names);
@@ -487,7 +497,7 @@ impl Node {
         left.reserve(asked.len())?;
         let mut results = Vec::new(alloc);
         results.reserve(asked.len())?;
-        self.log.reserve(self.hub.open_count())?;
+        self.log.reserve(who, &event, self.hub.open_count())?;
         self.hub.plant.devices.room(asked.len())?;
         write_devices(&mut self.hub.plant.devices, key, asked, &mut left);
         let now = self.hub.last_tick();
@@ -531,7 +541,7 @@ impl Node {
         ensures ok { OnOk result (self.new ≡ with_entry self.old who event) }
         ensures err { OnErr result (self.new ≡ self.old) }
     {
-        self.log.reserve(self.hub.open_count())?;
+        self.log.reserve(who, &event, self.hub.open_count())?;
         self.parts.request(&self.centre, key, &event, reply)?;
         self.log.append(who, event);
         Ok(())
@@ -547,7 +557,7 @@ impl Node {
         ensures err { OnErr result (self.new ≡ self.old) }
     {
         let key = self.hub.association(who).unwrap();
-        self.log.reserve(self.hub.open_count())?;
+        self.log.reserve(who, &event, self.hub.open_count())?;
         let reports = self.parts.take(alloc, key);
         self.log.append(who, event);
         Ok(Answer::Reports(reports))

@@ -13,8 +13,8 @@ use Rattle.bilateral.proofs.centre.Centre.TheSendSync as centre
 use Rattle.tase_views.proofs.tag.DeviceTag.TheSendSync as tag
 use Rattle.tase_views.specs.contracts.call.Call as call
 use Rattle.tase_views.specs.contracts.event.Event as event
-use Rattle.tase_views.specs.contracts.event.Entry as entry
 use Rattle.node_core.proofs.hub.Hub.TheSendSync as hub
+use Rattle.node_core.proofs.log.Log.TheSendSync as log
 use Rattle.tase_views.specs.contracts.reply.Report as report
 use Rattle.transfer_sets.proofs.bank.SlotBank.TheSendSync as bank
 use Rattle.data_sets.proofs.book.SetBook.TheSendSync as book
@@ -22,7 +22,6 @@ use Rattle.node_core.specs.contracts.associations.Association as association
 use Rattle.node_core.specs.contracts.associations.Associations as associations
 use Rattle.node_core.specs.contracts.peer.Peer as peer
 use Rattle.node_core.specs.contracts.parts.Parts as parts
-use Rattle.node_core.specs.contracts.log.Log as log
 use Rattle.node_core.specs.contracts.node.Node as node
 use Rattle.node_core.specs.contracts.node.Node.TheInside as inside
 use Rattle.node_turn.specs.contracts.turn_node.TurnNode as turn
@@ -40,9 +39,6 @@ call_send = search (
 
 pub event_send : IsSend event.the_row
 event_send = search (call_send, value.the_send, tag.the_send, sendable, crosses) depth 20
-
-entry_send : IsSend entry.the_row
-entry_send = search (event_send, sendable, crosses) depth 20
 
 report_send : IsSend report.the_row
 report_send = search (
@@ -67,14 +63,11 @@ peer_send = search (associations_send, book.the_send, bank.the_send, sendable, c
 parts_send : IsSend parts.the_row
 parts_send = search (peer_send, sendable, crosses) depth 20
 
-log_send : IsSend log.the_row
-log_send = search (entry_send, sendable, crosses) depth 20
-
 inside_send : IsSend inside.the_row
 inside_send = declared_send
     inside.the_type (
       search (centre.the_send, centre.the_sync, sendable, crosses) depth 20,
-      (log_send, (hub.the_send, (parts_send, tt))),
+      (log.the_send, (hub.the_send, (parts_send, tt))),
     )
 
 node_send : IsSend node.the_row

@@ -1,4 +1,5 @@
-use Rattle.std.proofs.Common.{ℕ, is_some, map, sym, ap, subst, ◌∙◌}
+use Rattle.std.proofs.Common.{◌≡◌, ◌+◌, ℕ, is_some, map, sym, ap, subst, ◌∙◌, arith}
+use Rattle.std.specs.HashMap.{hash_map_len}
 use Rattle.bilateral.specs.Rows.{CentreRows}
 use Rattle.tase_views.specs.History.{association_in}
 use Rattle.tase_views.specs.Moves.{closes}
@@ -13,7 +14,9 @@ use Rattle.node_core.specs.Stored.{IsPeerThere, IsChanged}
 use Rattle.node_core.proofs.Causes.{seated-take}
 use Rattle.node_core.proofs.NodeAnswers.{light_enough, free_at, seated_by, ended}
 use Rattle.node_core.proofs.NodeSteps.{IsNode-close, peer_there}
+use Rattle.node_core.proofs.Rooms.{line-close}
 use Rattle.node_core.proofs.node.Node.close.Goals as goal
+use Rattle.node_core.proofs.node.Node.close.Goals.{After-close-2}
 
 pub unwrap-key-requires : goal.unwrap-key-requires
 unwrap-key-requires c =
@@ -30,6 +33,27 @@ close-requires-2 c =
       there = subst (λ (those : CentreRows). IsPeerThere those c.self.inside.parts.peers.items peer)
           (sym c.deref.ensures) (peer_there _ _ _ _ c.self.invariant.0 peer seat.1);
     }
+
+one_less : (c : After-close-2) → hash_map_len c.unseat.new.self.seats + 1
+    ≡ hash_map_len c.self.inside.hub.seats
+one_less c = c.unseat.ensures.count (ap is_some (sym c.association.ensures ∙ c.unwrap-key.ensures))
+
+pub append-requires-clause-line : goal.append-requires-clause-line
+append-requires-clause-line c =
+    omega (
+      arith,
+      one_less (goal.at.append-requires-clause-line c).After-close-2,
+      c.self.invariant.1.lines,
+    )
+
+pub append-requires-clause-octets : goal.append-requires-clause-octets
+append-requires-clause-octets c =
+    rw c.requires.close (omega (
+      arith,
+      one_less (goal.at.append-requires-clause-octets c).After-close-2,
+      c.self.invariant.1.octets,
+      line-close c.args.who c.ranges.who.fits,
+    ))
 
 pub append-requires-clause-light : goal.append-requires-clause-light
 append-requires-clause-light c = light_enough c.self.invariant.1

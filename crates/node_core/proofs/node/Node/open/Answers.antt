@@ -55,7 +55,12 @@ pub open-requires-clause-room : goal.open-requires-clause-room
 open-requires-clause-room c =
     let entries = c.self.inside.log.entries in
     may_open _ _ _ _ c.self.invariant.0 c.args.peer
-    (omega (arith, length-reverse entries.items, entries.ok, entries.small))
+    (omega (
+      arith,
+      length-reverse entries,
+      ap length c.in_ok-reserve.ensures.entries,
+      c.in_ok-reserve.ensures.few,
+    ))
 
 pub invariant_of-self-in-Ok : goal.invariant_of-self-in-Ok
 invariant_of-self-in-Ok c =
