@@ -1,0 +1,9 @@
+pub mod Answered
+pub mod Stray
+pub mod Verdicts
+pub mod Asking
+pub mod Saying
+pub mod Hearing
+pub mod Terms
+pub mod Spelled
+pub mod Accounts
