@@ -1,0 +1,6 @@
+pub mod JournalIn
+pub mod LinkText
+pub mod Cuts
+pub mod Verifying
+pub mod Watching
+pub mod Reading
