@@ -1,13 +1,12 @@
 -- A run that writes a file once all is said.
-use Rattle.std.proofs.Common.{◌≡◌, ◌≢◌, ℕ, Bool, true, false, List, [], ◌∷◌, length, take, Option}
-use Rattle.std.proofs.Common.{Some, refl, sym, ap, subst}
+use Rattle.std.proofs.Common.{◌≡◌, ℕ, Bool, true, false, List, [], ◌∷◌, length, Option}
+use Rattle.std.proofs.Common.{refl, sym, subst}
 use Rattle.std.proofs.Math.Seq.{take-length}
 use Rattle.outside.specs.Octets.{Adds}
-use Rattle.outside.specs.Sink.{SinkTold}
-use Rattle.outside_names.specs.Outside.{NameEntry, OutsideTold, Asks}
+use Rattle.outside_names.specs.Outside.{OutsideTold, Asks}
 use Rattle.command_io.specs.declared.status.Status.{Status}
 use Rattle.command_io.specs.declared.status.Status.TheVariants.{Done, Usage, Input, Outside, Full}
-use Rattle.command_io.specs.declared.status.Status.TheVariants.{Memory}
+use Rattle.command_io.specs.declared.status.Status.TheVariants.{Differs, Memory}
 use Rattle.command_io.specs.Statuses.{is_outside, is_whole, OnWhole}
 use Rattle.command_io.specs.OutsideUse.{is_among, Uses}
 use Rattle.command_io.specs.Saying.{Said, names_in, with_file, duty_to_say}
@@ -22,6 +21,7 @@ on_whole Done whole fact = fact
 on_whole Usage whole fact = fact
 on_whole Input whole fact = fact
 on_whole Full whole fact = fact
+on_whole Differs whole fact = fact
 on_whole Outside whole fact = absurd cc
 on_whole Memory whole fact = absurd cc
 
@@ -32,6 +32,7 @@ all_took Done before after octets whole took = took
 all_took Usage before after octets whole took = took
 all_took Input before after octets whole took = took
 all_took Full before after octets whole took = took
+all_took Differs before after octets whole took = took
 all_took Outside before after octets whole took = absurd cc
 all_took Memory before after octets whole took = absurd cc
 
@@ -41,6 +42,7 @@ took_all Done before after octets adds = adds
 took_all Usage before after octets adds = adds
 took_all Input before after octets adds = adds
 took_all Full before after octets adds = adds
+took_all Differs before after octets adds = adds
 took_all Outside before after octets adds =
     (length octets, subst (λ o. Adds before after o) (sym (take-length octets)) adds)
 took_all Memory before after octets adds =
@@ -51,6 +53,7 @@ whole_inside Done whole = refl
 whole_inside Usage whole = refl
 whole_inside Input whole = refl
 whole_inside Full whole = refl
+whole_inside Differs whole = refl
 whole_inside Outside whole = absurd cc
 whole_inside Memory whole = absurd cc
 
@@ -140,6 +143,7 @@ module _ (b : OutsideTold) (said : Said) (alone : said.files ≡ []) (name octet
           outputs_there Usage file = there_both file
           outputs_there Input file = there_both file
           outputs_there Full file = there_both file
+          outputs_there Differs file = there_both file
           outputs_there Outside file = tt
           outputs_there Memory file = tt
 
@@ -162,6 +166,7 @@ module _ (b : OutsideTold) (said : Said) (alone : said.files ≡ []) (name octet
   IsRun-filed m a status Usage whole run files = absurd files.ends
   IsRun-filed m a status Input whole run files = absurd files.ends
   IsRun-filed m a status Full whole run files = absurd files.ends
+  IsRun-filed m a status Differs whole run files = absurd files.ends
 
   -- none was written behind one whose output isn't whole
   unfiled : (a : OutsideTold) (status : Status) → IsRun (duty_to_say true said) b a status
@@ -203,3 +208,4 @@ module _ (b : OutsideTold) (said : Said) (alone : said.files ≡ []) (name octet
   IsRun-unfiled a Usage cut run = absurd cc
   IsRun-unfiled a Input cut run = absurd cc
   IsRun-unfiled a Full cut run = absurd cc
+  IsRun-unfiled a Differs cut run = absurd cc

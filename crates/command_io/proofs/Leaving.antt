@@ -9,7 +9,6 @@ use Rattle.std.proofs.lemmas.List.Folds.{list_any-append}
 use Rattle.std.proofs.lemmas.List.{append-nil}
 use Rattle.std.proofs.Math.Seq.{take-append-add}
 use Rattle.outside.specs.Faults.{next_count}
-use Rattle.outside.specs.Sink.{SinkTold}
 use Rattle.outside_names.specs.Outside.{NameEntry, untold, missing, lent, there, OutsideTold, Asks}
 use Rattle.outside_names.specs.Outside.{Acts}
 use Rattle.command_io.specs.OutsideUse.{is_among, SomeOf, EachOf, StandsAgain, FailedAt, FaultyAt}

@@ -4,3 +4,4 @@ pub mod Reading
 pub mod Running
 pub mod Printing
 pub mod Filing
+pub mod Plans

@@ -14,9 +14,8 @@ use Rattle.outside_names.specs.Outside.{NameEntry, untold as untold_name, missin
 use Rattle.outside_names.specs.Outside.{lent}
 use Rattle.outside_names.specs.Outside.{there, OutsideTold, Asks, Acts, OpensIn, ClosesIn}
 use Rattle.outside_names.specs.Outside.{HandsOutObject}
-use Rattle.command_io.specs.declared.input.TheConstants.{TEXT_LIMIT}
 use Rattle.command_io.specs.declared.input.InputEnd.TheVariants.{Outside}
-use Rattle.command_io.specs.OutsideUse.{SomeOf, Keeps, Rises, source_faults}
+use Rattle.command_io.specs.OutsideUse.{IsLimit, SomeOf, Keeps, Rises, source_faults}
 use Rattle.command_io.specs.OutsideUse.{sink_faults, FailedAt, FaultyAt, IsTextRead, IsWritten}
 use Rattle.command_io.specs.Saying.{told, told_by, text_of, emptied}
 use Rattle.command_io.specs.Inputs.{input_of, IsInput, is_lost, IsReadTo, OpensInput, ReadsInput}
@@ -32,34 +31,34 @@ is_lost-input_of (Ok (Err Long)) = refl
 is_lost-input_of (Err out_of_memory) = refl
 
 -- what is read is what was told to be left
-input_taken : (result : TextResult) (left rest : Option (List ℕ)) (octets : List ℕ)
+input_taken : (limit : ℕ) (result : TextResult) (left rest : Option (List ℕ)) (octets : List ℕ)
     → TakesOctets left rest octets
-    → IsTextOf octets rest TEXT_LIMIT result → IsInput (input_of result) (told_by left)
-input_taken result None rest octets took text = tt
-input_taken result (Some all) None octets took text = absurd cc
-input_taken (Ok (Ok read)) (Some all) (Some more) octets took text =
+    → IsTextOf octets rest limit result → IsInput limit (input_of result) (told_by left)
+input_taken limit result None rest octets took text = tt
+input_taken limit result (Some all) None octets took text = absurd cc
+input_taken limit (Ok (Ok read)) (Some all) (Some more) octets took text =
     let whole : all ≡ octets = (let e : all ≡ octets ++ more = cc in e)
     ∙ ap (λ (l : List ℕ). octets ++ l) text.2 ∙ append-nil octets in
-    (whole ∙ text.0, subst (λ (l : List ℕ). length l ≤ TEXT_LIMIT) (sym whole) text.1)
-input_taken (Ok (Err Failed)) (Some all) (Some more) octets took text = tt
-input_taken (Ok (Err Long)) (Some all) (Some more) octets took text =
+    (whole ∙ text.0, subst (λ (l : List ℕ). length l ≤ limit) (sym whole) text.1)
+input_taken limit (Ok (Err Failed)) (Some all) (Some more) octets took text = tt
+input_taken limit (Ok (Err Long)) (Some all) (Some more) octets took text =
     let whole : all ≡ octets ++ more = cc in
-    subst (λ (l : List ℕ). TEXT_LIMIT < length l) (sym whole)
+    subst (λ (l : List ℕ). limit < length l) (sym whole)
     (rw length-append (omega (arith, text)))
-input_taken (Err out_of_memory) (Some all) (Some more) octets took text = tt
+input_taken limit (Err out_of_memory) (Some all) (Some more) octets took text = tt
 
 -- nothing is left of a text that was read
-rest_spent : (result : TextResult) (left rest : Option (List ℕ)) (octets : List ℕ)
+rest_spent : (limit : ℕ) (result : TextResult) (left rest : Option (List ℕ)) (octets : List ℕ)
     → TakesOctets left rest octets
-    → IsTextOf octets rest TEXT_LIMIT result
+    → IsTextOf octets rest limit result
     → OnOk (input_of result) (told_by rest ≡ emptied (told_by left))
-rest_spent (Ok (Ok read)) None None octets took text = refl
-rest_spent (Ok (Ok read)) None (Some more) octets took text = absurd cc
-rest_spent (Ok (Ok read)) (Some all) None octets took text = absurd cc
-rest_spent (Ok (Ok read)) (Some all) (Some more) octets took text = ap told text.2
-rest_spent (Ok (Err Failed)) left rest octets took text = tt
-rest_spent (Ok (Err Long)) left rest octets took text = tt
-rest_spent (Err out_of_memory) left rest octets took text = tt
+rest_spent limit (Ok (Ok read)) None None octets took text = refl
+rest_spent limit (Ok (Ok read)) None (Some more) octets took text = absurd cc
+rest_spent limit (Ok (Ok read)) (Some all) None octets took text = absurd cc
+rest_spent limit (Ok (Ok read)) (Some all) (Some more) octets took text = ap told text.2
+rest_spent limit (Ok (Err Failed)) left rest octets took text = tt
+rest_spent limit (Ok (Err Long)) left rest octets took text = tt
+rest_spent limit (Err out_of_memory) left rest octets took text = tt
 
 OnOk-same : {T E : Type 0} (result : Result T E) {X : Type 0} (x y : X) → x ≡ y
     → OnOk result (x ≡ y)
@@ -81,16 +80,16 @@ pub Keeps-same : {X : Type 0} (faults : X → ℕ) (step : X → X → Type 0) (
 Keeps-same faults step failed names before after same =
     Keeps-alike faults step failed names before after (λ name. ap (λ s. s name) same)
 
-module _ (b m a : OutsideTold) (name : List ℕ) where
+module _ (b m a : OutsideTold) (name : List ℕ) (limit : ℕ) where
   source_name : SourceTold → List ℕ
   source_name source = source.name
 
   -- one that is there
-  pub ReadsInput-from : (s t : SourceTold) (result : TextResult) (octets : List ℕ)
+  pub ReadsInput-from : IsLimit limit → (s t : SourceTold) (result : TextResult) (octets : List ℕ)
       → OpensIn b m name (Some s)
-      → ReadsText s t TEXT_LIMIT result octets → ClosesIn m a t
-      → ReadsInput b a name (input_of result)
-  ReadsInput-from s t result octets opens reads closes = record {
+      → ReadsText s t limit result octets → ClosesIn m a t
+      → ReadsInput b a name limit (input_of result)
+  ReadsInput-from lawful s t result octets opens reads closes = record {
     text = text exchanged;
     spent = spent exchanged;
     read = read exchanged;
@@ -109,10 +108,11 @@ module _ (b m a : OutsideTold) (name : List ℕ) where
 
       text : IsExchanged (λ source. source.name)
           source_faults name b.sources m.sources a.sources s t
-          → IsInput (input_of result) (text_of (b.sources name))
-      text (inl nothing) = subst (λ s. IsInput (input_of result) (text_of s)) (sym nothing.0) tt
-      text (inr stood) = subst (λ s. IsInput (input_of result) (text_of s)) (sym stood.0)
-          (input_taken result s.left t.left octets reads.took reads.text)
+          → IsInput limit (input_of result) (text_of (b.sources name))
+      text (inl nothing) =
+          subst (λ s. IsInput limit (input_of result) (text_of s)) (sym nothing.0) tt
+      text (inr stood) = subst (λ s. IsInput limit (input_of result) (text_of s)) (sym stood.0)
+          (input_taken limit result s.left t.left octets reads.took reads.text)
 
       spent : IsExchanged (λ source. source.name)
           source_faults name b.sources m.sources a.sources s t
@@ -121,16 +121,16 @@ module _ (b m a : OutsideTold) (name : List ℕ) where
           (ap text_of (nothing.2 name ∙ nothing.0) ∙ ap (λ s. emptied (text_of s)) (sym nothing.0))
       spent (inr stood) = OnOk-map (input_of result)
           (λ same. ap text_of stood.1 ∙ same ∙ ap (λ s. emptied (text_of s)) (sym stood.0))
-          (rest_spent result s.left t.left octets reads.took reads.text)
+          (rest_spent limit result s.left t.left octets reads.took reads.text)
 
       read : IsExchanged (λ source. source.name)
           source_faults name b.sources m.sources a.sources s t
-          → Acts (IsReadTo (input_of result)) (b.sources name) (a.sources name)
+          → Acts (IsReadTo limit (input_of result)) (b.sources name) (a.sources name)
       read (inl nothing) =
-          subst (λ s. Acts (IsReadTo (input_of result)) s (a.sources name)) (sym nothing.0)
+          subst (λ s. Acts (IsReadTo limit (input_of result)) s (a.sources name)) (sym nothing.0)
           (nothing.2 name ∙ nothing.0)
       read (inr stood) =
-          subst (λ s. Acts (IsReadTo (input_of result)) s (a.sources name)) (sym stood.0)
+          subst (λ s. Acts (IsReadTo limit (input_of result)) s (a.sources name)) (sym stood.0)
           (t, stood.1, (result, refl, (octets, reads)))
 
       opened_count : m.faults ≡ b.faults
@@ -184,7 +184,7 @@ module _ (b m a : OutsideTold) (name : List ℕ) where
           sources =
               Keeps-exchanged (λ source. source.name)
               source_faults name b.sources m.sources a.sources s t failed reads.faults
-              exchanged IsTextRead (result, octets, reads);
+              exchanged IsTextRead (limit, lawful, (result, (octets, reads)));
           sinks = Keeps-same sink_faults IsWritten failed [] b.sinks a.sinks
               (closes.sinks ∙ opens.sinks);
           read = (
@@ -206,7 +206,7 @@ module _ (b m a : OutsideTold) (name : List ℕ) where
       }
 
   -- one that isn't there
-  pub ReadsInput-unopened : OpensIn b m name None → ReadsInput b m name (Err Outside)
+  pub ReadsInput-unopened : OpensIn b m name None → ReadsInput b m name limit (Err Outside)
   ReadsInput-unopened opens = record {
     text = text (b.sources name) opens.source;
     spent = tt;
@@ -245,7 +245,7 @@ module _ (b m a : OutsideTold) (name : List ℕ) where
 
       read : (s : NameEntry SourceTold) → b.sources name ≡ s
           → HandsOutObject (λ source. source.name) source_faults b.sources name s None
-          → Acts (IsReadTo (Err Outside)) s (m.sources name)
+          → Acts (IsReadTo limit (Err Outside)) s (m.sources name)
       read untold_name at hands = nothing.0 name ∙ at
       read missing_name at hands = nothing.0 name ∙ at
       read lent at hands = nothing.0 name ∙ at
@@ -253,7 +253,7 @@ module _ (b m a : OutsideTold) (name : List ℕ) where
 
       text : (s : NameEntry SourceTold)
           → HandsOutObject (λ source. source.name) source_faults b.sources name s None
-          → IsInput (Err Outside) (text_of s)
+          → IsInput limit (Err Outside) (text_of s)
       text untold_name hands = tt
       text missing_name hands = refl
       text lent hands = refl

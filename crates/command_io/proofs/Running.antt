@@ -11,13 +11,13 @@ use Rattle.outside.specs.Sink.{SinkTold}
 use Rattle.outside_names.specs.Outside.{NameEntry, OutsideTold, Asks}
 use Rattle.command_io.specs.declared.status.Status.{Status}
 use Rattle.command_io.specs.declared.status.Status.TheVariants.{Done, Usage, Input, Outside, Full}
-use Rattle.command_io.specs.declared.status.Status.TheVariants.{Memory}
+use Rattle.command_io.specs.declared.status.Status.TheVariants.{Differs, Memory}
 use Rattle.command_io.specs.Statuses.{is_outside, OnWhole}
 use Rattle.command_io.specs.OutsideUse.{is_among, SomeOf, AsksFront, Keeps, Rises, Uses}
 use Rattle.command_io.specs.OutsideUse.{source_faults, sink_faults, IsTextRead, IsWritten}
 use Rattle.command_io.specs.Saying.{Said, Duty, files_written, names_in}
 use Rattle.command_io.specs.Runs.{output_name, taken_of, Took, EachFile, IsSaid, MatchesWords}
-use Rattle.command_io.specs.Runs.{IsSinkThere, AreFilesThere, AreOutputsThere, AsksOutputs}
+use Rattle.command_io.specs.Runs.{AreOutputsThere, AsksOutputs}
 use Rattle.command_io.specs.Runs.{outputs_of, IsComplete, IsRun}
 use Rattle.command_io.specs.Inputs.{OpensInput}
 use Rattle.command_io.proofs.Leaving.{or-false, is_among-append, SomeOf-left, EachOf-parts}
@@ -29,6 +29,7 @@ OnWhole-all Done p = p
 OnWhole-all Usage p = p
 OnWhole-all Input p = p
 OnWhole-all Full p = p
+OnWhole-all Differs p = p
 OnWhole-all Outside p = tt
 OnWhole-all Memory p = tt
 
@@ -37,6 +38,7 @@ OnWhole-map Done f h = f h
 OnWhole-map Usage f h = f h
 OnWhole-map Input f h = f h
 OnWhole-map Full f h = f h
+OnWhole-map Differs f h = f h
 OnWhole-map Outside f h = tt
 OnWhole-map Memory f h = tt
 
@@ -57,6 +59,7 @@ IsComplete-from Done before now said answered cause = λ none. inl (sym answered
 IsComplete-from Usage before now said answered cause = λ none. inl (sym answered)
 IsComplete-from Input before now said answered cause = λ none. inl (sym answered)
 IsComplete-from Full before now said answered cause = λ none. inl (sym answered)
+IsComplete-from Differs before now said answered cause = λ none. inl (sym answered)
 IsComplete-from Outside before now said answered cause = λ none. absurd (none (cause refl))
 IsComplete-from Memory before now said answered cause = λ none. inr refl
 
@@ -78,6 +81,7 @@ Took-untold Done octets = refl
 Took-untold Usage octets = refl
 Took-untold Input octets = refl
 Took-untold Full octets = refl
+Took-untold Differs octets = refl
 Took-untold Outside octets = (0, refl)
 Took-untold Memory octets = (0, refl)
 
@@ -87,6 +91,7 @@ IsCut Done = ⊥
 IsCut Usage = ⊥
 IsCut Input = ⊥
 IsCut Full = ⊥
+IsCut Differs = ⊥
 IsCut Outside = Unit {0}
 IsCut Memory = Unit {0}
 
@@ -98,6 +103,7 @@ module _ (status : Status) (cut : IsCut status) (before after : List ℕ → Nam
   nothing_took Usage is name octets = absurd is
   nothing_took Input is name octets = absurd is
   nothing_took Full is name octets = absurd is
+  nothing_took Differs is name octets = absurd is
   nothing_took Outside is name octets = (
     0,
     subst (λ t. Adds (taken_of (before name)) t []) (sym (same name))
@@ -114,6 +120,7 @@ module _ (status : Status) (cut : IsCut status) (before after : List ℕ → Nam
   cut_whole Usage is P = absurd is
   cut_whole Input is P = absurd is
   cut_whole Full is P = absurd is
+  cut_whole Differs is P = absurd is
   cut_whole Outside is P = tt
   cut_whole Memory is P = tt
 
@@ -139,6 +146,7 @@ cut_words true Done cut lost = absurd cut
 cut_words true Usage cut lost = absurd cut
 cut_words true Input cut lost = absurd cut
 cut_words true Full cut lost = absurd cut
+cut_words true Differs cut lost = absurd cut
 cut_words true Outside cut lost = λ same. absurd cc
 cut_words true Memory cut lost = λ same. absurd cc
 

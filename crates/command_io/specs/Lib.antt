@@ -3,3 +3,4 @@ pub mod Statuses
 pub mod Saying
 pub mod Runs
 pub mod Inputs
+pub mod Plans

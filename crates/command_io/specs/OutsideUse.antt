@@ -8,7 +8,7 @@ use Rattle.outside.specs.Sink.{SinkTold, Appends}
 use Rattle.outside.specs.Text.{TextResult, ReadsText}
 use Rattle.outside_names.specs.Outside.{NameEntry, untold, missing, lent, there, OutsideTold, Asks}
 use Rattle.outside_names.specs.Outside.{Acts}
-use Rattle.command_io.specs.declared.input.TheConstants.{TEXT_LIMIT}
+use Rattle.command_io.specs.declared.input.TheConstants.{TEXT_LIMIT, JOURNAL_LIMIT}
 
 -- a count of faults after so many more
 abbrev pub raised : ℕ → ℕ → ℕ
@@ -38,10 +38,14 @@ AtMost {X} step zero before after = after ≡ before
 AtMost {X} step (suc n) before after =
     (after ≡ before) ⊎ ((mid : X) × step before mid × AtMost step n mid after)
 
--- all calls of a source: it was read as one text is, to its end, to a fault or past the limit
+-- the octets that an input may have: those of a text, or those of a journal
+abbrev pub IsLimit : ℕ → Type 0
+IsLimit limit = (limit ≡ TEXT_LIMIT) ⊎ (limit ≡ JOURNAL_LIMIT)
+
+-- all calls of a source: it was read as one input is, to its end, to a fault or past its limit
 abbrev pub IsTextRead : SourceTold → SourceTold → Type 0
-IsTextRead before after =
-    (result : TextResult) × (octets : List ℕ) × ReadsText before after TEXT_LIMIT result octets
+IsTextRead before after = (limit : ℕ) × IsLimit limit
+    × ((result : TextResult) × ((octets : List ℕ) × ReadsText before after limit result octets))
 
 -- all calls of a sink: writes of which the last alone may have failed
 abbrev pub IsWritten : SinkTold → SinkTold → Type 0

@@ -1,13 +1,12 @@
 -- What a run leaves outside, by its status.
 use Rattle.std.specs.Prelude.{◌≡◌, ◌≢◌, ◌⊎◌, ℕ, Bool, true, false, List, [], ◌∷◌, take}
-use Rattle.std.specs.Prelude.{Option, Some, None, IfSome, codes, Result, Ok, Err, Vec}
-use Rattle.std.specs.declared.alloc.Global.{Global}
+use Rattle.std.specs.Prelude.{Option, Some, None, IfSome, codes}
 use Rattle.outside.specs.Octets.{Adds}
 use Rattle.outside.specs.Sink.{SinkTold, AppendsAll, AppendsPart}
 use Rattle.outside_names.specs.Outside.{NameEntry, untold, missing, lent, there, OutsideTold, Asks}
 use Rattle.command_io.specs.declared.status.Status.{Status}
 use Rattle.command_io.specs.declared.status.Status.TheVariants.{Done, Usage, Input, Outside, Full}
-use Rattle.command_io.specs.declared.status.Status.TheVariants.{Memory}
+use Rattle.command_io.specs.declared.status.Status.TheVariants.{Differs, Memory}
 use Rattle.command_io.specs.declared.input.InputEnd.{InputEnd}
 use Rattle.command_io.specs.declared.input.InputEnd.TheVariants.{Refused}
 use Rattle.command_io.specs.declared.input.InputEnd.TheVariants as ends
@@ -33,6 +32,7 @@ Took Done before after octets = Adds before after octets
 Took Usage before after octets = Adds before after octets
 Took Input before after octets = Adds before after octets
 Took Full before after octets = Adds before after octets
+Took Differs before after octets = Adds before after octets
 Took Outside before after octets = (count : ℕ) × Adds before after (take count octets)
 Took Memory before after octets = (count : ℕ) × Adds before after (take count octets)
 
@@ -115,6 +115,7 @@ TellsSaid said before after Done = (said.status ≡ Done) × AppendsAll before a
 TellsSaid said before after Usage = (said.status ≡ Usage) × AppendsAll before after said.text
 TellsSaid said before after Input = (said.status ≡ Input) × AppendsAll before after said.text
 TellsSaid said before after Full = (said.status ≡ Full) × AppendsAll before after said.text
+TellsSaid said before after Differs = (said.status ≡ Differs) × AppendsAll before after said.text
 TellsSaid said before after Outside = AppendsPart before after said.text true
 TellsSaid said before after Memory = AppendsPart before after said.text false
 
@@ -155,11 +156,3 @@ EndsUnread input (Refused refusal) before after status =
     × ((status ≡ Input) ⊎ (status ≡ Outside))
 EndsUnread input ends.Outside before after status = (status ≡ Outside) × (after ≡ before)
 EndsUnread input ends.Memory before after status = (status ≡ Memory) × (after ≡ before)
-
--- what a command comes to whose input was read to this: it says so much of the text, or it ends
--- without one
-abbrev pub EndsRead : List ℕ → (List ℕ → Said) → Result (Vec ℕ Global) InputEnd → OutsideTold
-    → OutsideTold → Status → Type 0
-EndsRead input say (Ok text) before after status =
-    IsRun (duty_to_say true (say text.items)) before after status
-EndsRead input say (Err end) before after status = EndsUnread input end before after status

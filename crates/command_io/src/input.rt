@@ -1,6 +1,8 @@
 //! The inputs of a command: their texts, each opened, read to its end and closed.
 ghost use Rattle.std.specs.Prelude.{◌≡◌};
+ghost use Rattle.command_io.specs.OutsideUse.{IsLimit};
 ghost use Rattle.command_io.specs.Inputs.{input_of, ReadsInput};
+ghost use Rattle.command_io.specs.Inputs as own;
 
 use outside::{TextEnd, read_text};
 use outside_names::Outside;
@@ -9,13 +11,18 @@ use std::alloc::{AllocError, Global};
 /// So many octets may a text have.
 pub const TEXT_LIMIT: u64 = 67_108_864;
 
-// Definitions cite this limit, so that it stands here as a number too.
+// Definitions cite these limits, so that each stands here as a number too.
 const _: () = prove!(TEXT_LIMIT == 67_108_864);
+
+/// So many octets may a journal have.
+pub const JOURNAL_LIMIT: u64 = 2_147_483_648;
+
+const _: () = prove!(JOURNAL_LIMIT == 2_147_483_648);
 
 /// Why an input is refused.
 #[derive(Clone, Copy, Debug, PartialEq, Eq)]
 pub enum Refusal {
-    /// The input has more octets than a text may have.
+    /// The input has more octets than it may have.
     Long,
     /// The first bad line of the input. Lines count from 1.
     BadLine(u64),
@@ -44,18 +51,33 @@ fn input_from(read: Result<Result<Vec<u8>, TextEnd>, AllocError>) -> Result<Vec<
     }
 }
 
-/// Opens the source of this name, reads its whole text, and closes it.
+/// What an input is to a command whose octets were read to a value, to their first bad line, or ran
+/// out of memory.
+pub fn value_or_end<T>(read: Result<Result<T, u64>, AllocError>) -> Result<T, InputEnd>
+    ensures { result ≡ own.value_or_end read }
+{
+    match read {
+        Ok(Ok(value)) => Ok(value),
+        Ok(Err(line)) => Err(InputEnd::Refused(Refusal::BadLine(line))),
+        Err(AllocError) => Err(InputEnd::Memory),
+    }
+}
+
+/// Opens the source of this name, reads its whole text, which may have so many octets, and closes
+/// it.
 pub fn read_input<O: Outside>(
     alloc: Global,
     outside: &mut O,
     name: &str,
+    limit: u64,
 ) -> Result<Vec<u8>, InputEnd>
-    ensures { ReadsInput (O.told outside.old) (O.told outside.new) name.now result }
+    requires { IsLimit limit }
+    ensures { ReadsInput (O.told outside.old) (O.told outside.new) name.now limit result }
 {
     let Some(mut source) = outside.open_in(name) else {
         return Err(InputEnd::Outside);
     };
-    let read = read_text(alloc, &mut source, TEXT_LIMIT);
+    let read = read_text(alloc, &mut source, limit);
     outside.close_in(source);
     input_from(read)
 }

@@ -6,6 +6,6 @@ mod input;
 mod output;
 mod status;
 
-pub use input::{InputEnd, Refusal, TEXT_LIMIT, read_input};
+pub use input::{InputEnd, JOURNAL_LIMIT, Refusal, TEXT_LIMIT, read_input, value_or_end};
 pub use output::{OUTPUT, end_unread, print, refuse, tell_full, tell_refusal};
 pub use status::Status;

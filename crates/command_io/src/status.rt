@@ -18,6 +18,8 @@ pub enum Status {
     /// 5: an event was refused since the history would have weighed more than its limit; the last
     /// line printed has both numbers.
     Full,
+    /// 6: a check found a difference; the line printed says which.
+    Differs,
     /// 7: memory ran out.
     Memory,
 }
@@ -35,6 +37,7 @@ impl Status {
             Status::Input => 3,
             Status::Outside => 4,
             Status::Full => 5,
+            Status::Differs => 6,
             Status::Memory => 7,
         }
     }

@@ -1,20 +1,23 @@
 -- The lines of a journal, written one after another.
 use Rattle.std.proofs.Common.{◌≡◌, ◌≢◌, ℕ, ◌+◌, ◌<◌, ◌≤◌, Bool, true, false, List, [], ◌∷◌, ◌++◌, take, drop, length}
-use Rattle.std.proofs.Common.{Some, refl, sym, ap, ◌∙◌, subst, inl, inr, arith}
+use Rattle.std.proofs.Common.{Option, Some, None, refl, sym, ap, ◌∙◌, subst, inl, inr, arith}
 use Rattle.std.proofs.Common.{take-append-drop}
-use Rattle.std.specs.Prelude.{IfSome, slice_get, get_or}
+use Rattle.std.specs.Prelude.{IfSome, slice_get, get_or, Result, Ok, Err}
+use Rattle.std.specs.Option.{option_map}
 use Rattle.std.proofs.lemmas.Grind.{flat_map-append}
 use Rattle.std.proofs.lemmas.List.{append-nil, take_more, take_all}
 use Rattle.std.proofs.lemmas.Option.{slice_get_cases, get_or_from_slice_get}
-use Rattle.outside.specs.Sink.{SinkTold, AppendsAll, AppendsPart}
+use Rattle.outside.specs.declared.sink.SinkFailed.{SinkFailed}
+use Rattle.outside.specs.Sink.{SinkTold, AppendsAll, AppendsPart, WritesAll}
 use Rattle.outside.proofs.Writing.{Appends-append, AppendsPart-append, AppendsPart-front}
 use Rattle.command_io.specs.declared.status.Status.{Status}
 use Rattle.command_io.specs.declared.status.Status.TheVariants.{Done, Usage, Input, Outside, Full}
-use Rattle.command_io.specs.declared.status.Status.TheVariants.{Memory}
+use Rattle.command_io.specs.declared.status.Status.TheVariants.{Differs, Memory}
 use Rattle.command_io.specs.Saying.{prints}
 use Rattle.command_io.specs.Runs.{TellsSaid, IsFileEnd}
 use Rattle.tase_views.specs.declared.event.Entry.{Entry}
-use Rattle.journal_text.specs.Journals.{entry_line, journal_text}
+use Rattle.tase_tool.specs.Kept.{status_of_write}
+use Rattle.journal_text.specs.Journals.{entry_text, entry_line, journal_text}
 
 -- the text with one entry more
 with_line : (history : List Entry) (place : ℕ) (entry : Entry) → place < length history
@@ -77,6 +80,7 @@ module _ (history : List Entry) (place : ℕ) (within : place < length history) 
   journal_stopped Usage ends other tells = absurd ends
   journal_stopped Input ends other tells = absurd ends
   journal_stopped Full ends other tells = absurd ends
+  journal_stopped Differs ends other tells = absurd ends
   journal_stopped Outside ends other tells = line_stopped true tells
   journal_stopped Memory ends other tells = line_stopped false tells
 
@@ -89,3 +93,25 @@ journal_written history place a l past all = (
   subst (λ (octets : List ℕ). AppendsAll a l octets)
       (ap journal_text (take_all place history past)) all,
 )
+
+-- a fact of the text of an entry that is there, and of none
+pub of_entry : (P : List ℕ → Type 0) (line : List ℕ) (found : Option Entry)
+    → Some line ≡ option_map entry_text found → P (line ++ 10 ∷ [])
+    → IfSome found (λ entry. P (entry_line entry))
+of_entry P line None is fact = absurd cc
+of_entry P line (Some entry) is fact =
+    subst (λ octets. P (octets ++ 10 ∷ [])) (some_text line (entry_text entry) is) fact
+  where
+    some_text : (one other : List ℕ) → Some one ≡ Some other → one ≡ other
+    some_text one other is = cc
+
+pub of_no_entry : (P : Entry → Type 0) (found : Option Entry)
+    → None ≡ option_map entry_text found → IfSome found P
+of_no_entry P None is = tt
+of_no_entry P (Some entry) is = absurd cc
+
+-- a text that was written, whole or not
+pub tells_written : (b a : SinkTold) (octets : List ℕ) (end : Result (Unit {0}) SinkFailed)
+    → WritesAll b a octets end → TellsSaid (prints Done octets) b a (status_of_write end)
+tells_written b a octets (Ok done) all = (refl, all)
+tells_written b a octets (Err failed) part = part

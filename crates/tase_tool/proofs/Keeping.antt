@@ -1,5 +1,5 @@
 -- What a replay leaves whose journal is written to a file.
-use Rattle.std.proofs.Common.{◌≡◌, ◌≢◌, ℕ, Bool, true, false, ◌||◌, List, [], ◌∷◌}
+use Rattle.std.proofs.Common.{◌≡◌, ℕ, Bool, true, false, ◌||◌, List, [], ◌∷◌}
 use Rattle.std.proofs.Common.{refl, sym, ap, ◌∙◌, subst, inl}
 use Rattle.std.specs.Prelude.{bytes_eq}
 use Rattle.std.proofs.lemmas.Slice.Eq.{bytes_eq-Decides}
@@ -7,7 +7,7 @@ use Rattle.outside.specs.Sink.{SinkTold}
 use Rattle.outside_names.specs.Outside.{OutsideTold}
 use Rattle.command_io.specs.declared.status.Status.{Status}
 use Rattle.command_io.specs.declared.status.Status.TheVariants.{Done, Usage, Input, Outside, Full}
-use Rattle.command_io.specs.declared.status.Status.TheVariants.{Memory}
+use Rattle.command_io.specs.declared.status.Status.TheVariants.{Differs, Memory}
 use Rattle.command_io.specs.Statuses.{is_whole, OnWhole}
 use Rattle.command_io.specs.OutsideUse.{is_among}
 use Rattle.command_io.specs.Saying.{Said, with_file, duty_to_say}
@@ -20,7 +20,7 @@ use Rattle.tase_replay.specs.declared.playing.ReplayEnd.{ReplayEnd}
 use Rattle.tase_replay.specs.declared.playing.ReplayEnd.TheVariants as plays
 use Rattle.tase_replay.specs.Ends.{IsPlayed}
 use Rattle.tase_tool.specs.Playing.{EndsPlay}
-use Rattle.tase_tool.specs.Sent.{played_on, is_told, SendsSoFar}
+use Rattle.tase_tool.specs.Sent.{played_on, SendsSoFar}
 use Rattle.tase_tool.specs.Kept.{HasPlayed, KeepsJournal}
 use Rattle.tase_tool.proofs.Sending.{output_of}
 
@@ -79,22 +79,23 @@ module _ (b m a : OutsideTold) (said : Said) (alone : said.files ≡ [])
   IsRun-kept Usage result run same kept = kept_whole Usage result refl run same kept
   IsRun-kept Input result run same kept = kept_whole Input result refl run same kept
   IsRun-kept Full result run same kept = kept_whole Full result refl run same kept
+  IsRun-kept Differs result run same kept = kept_whole Differs result refl run same kept
   IsRun-kept Outside result run same kept = kept_cut Outside result refl run kept
   IsRun-kept Memory result run same kept = kept_cut Memory result refl run kept
 
   -- and what was sent before it
   module _ (node : NodeState) (scenario : List ℕ) where
-    told_before : (status result : Status) → is_told status ≡ true
+    whole_before : (status result : Status) → is_whole status ≡ true
         → SendsSoFar node scenario status (Took status (output_of b.sinks) (output_of m.sinks))
         → SendsSoFar node scenario result (Took result (output_of b.sinks) (output_of a.sinks))
-    told_before status result told_so s = record {
+    whole_before status result whole s = record {
       taken = s.taken;
       others = s.others;
       lines = s.lines;
-      all = λ is. s.all told_so;
+      all = λ is. s.all whole;
       sent = s.sent;
       orders = s.orders;
-      printed = inl (s.all told_so);
+      printed = inl (s.all whole);
     }
 
     same_before : (status result : Status) → (result ≡ status) × (a ≡ m)
@@ -106,13 +107,13 @@ module _ (b m a : OutsideTold) (said : Said) (alone : said.files ≡ [])
         (subst (λ (o : OutsideTold). SendsSoFar node scenario status
         (Took status (output_of b.sinks) (output_of o.sinks))) (sym kept.1) s)
 
-    pub SendsSoFar-kept : (status result : Status) → status ≢ Usage
-        → KeepsJournal name octets status m a result
+    pub SendsSoFar-kept : (status result : Status) → KeepsJournal name octets status m a result
         → SendsSoFar node scenario status (Took status (output_of b.sinks) (output_of m.sinks))
         → SendsSoFar node scenario result (Took result (output_of b.sinks) (output_of a.sinks))
-    SendsSoFar-kept Done result other kept s = told_before Done result refl s
-    SendsSoFar-kept Usage result other kept s = absurd (other refl)
-    SendsSoFar-kept Input result other kept s = told_before Input result refl s
-    SendsSoFar-kept Full result other kept s = told_before Full result refl s
-    SendsSoFar-kept Outside result other kept s = same_before Outside result kept s
-    SendsSoFar-kept Memory result other kept s = same_before Memory result kept s
+    SendsSoFar-kept Done result kept s = whole_before Done result refl s
+    SendsSoFar-kept Usage result kept s = whole_before Usage result refl s
+    SendsSoFar-kept Input result kept s = whole_before Input result refl s
+    SendsSoFar-kept Full result kept s = whole_before Full result refl s
+    SendsSoFar-kept Differs result kept s = whole_before Differs result refl s
+    SendsSoFar-kept Outside result kept s = same_before Outside result kept s
+    SendsSoFar-kept Memory result kept s = same_before Memory result kept s

@@ -6,3 +6,4 @@ mod Sending
 mod Unasked
 mod Keeping
 mod Journals
+mod Verified

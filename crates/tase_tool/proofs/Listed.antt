@@ -6,7 +6,7 @@ use Rattle.outside.specs.Sink.{SinkTold, AppendsAll, AppendsPart}
 use Rattle.outside.proofs.Writing.{Appends-append, AppendsPart-append, AppendsPart-front}
 use Rattle.command_io.specs.declared.status.Status.{Status}
 use Rattle.command_io.specs.declared.status.Status.TheVariants.{Done, Usage, Input, Outside, Full}
-use Rattle.command_io.specs.declared.status.Status.TheVariants.{Memory}
+use Rattle.command_io.specs.declared.status.Status.TheVariants.{Differs, Memory}
 use Rattle.command_io.specs.Runs.{TellsSaid}
 use Rattle.stream_listing.specs.Listings.{Listing, State, listing_of, yet_listed, with_text, ListsPiece}
 use Rattle.stream_listing.proofs.Listing.{with_text-twice}
@@ -23,6 +23,7 @@ lists_command listing k l Usage tells = absurd (no_usage listing.broken tells.0)
     no_usage false e = cc
 lists_command listing k l Input tells = λ same. absurd cc
 lists_command listing k l Full tells = λ same. absurd cc
+lists_command listing k l Differs tells = λ same. absurd cc
 lists_command listing k l Outside tells = λ same. absurd cc
 lists_command listing k l Memory tells = λ same. absurd cc
 
@@ -37,6 +38,8 @@ Tells-behind k m l text listing Usage all tells =
 Tells-behind k m l text listing Input all tells =
     (tells.0, Appends-append k m l text listing.text false all tells.1)
 Tells-behind k m l text listing Full all tells =
+    (tells.0, Appends-append k m l text listing.text false all tells.1)
+Tells-behind k m l text listing Differs all tells =
     (tells.0, Appends-append k m l text listing.text false all tells.1)
 Tells-behind k m l text listing Outside all tells =
     AppendsPart-append k m l text listing.text true all tells

@@ -11,7 +11,7 @@ use Rattle.outside.proofs.Writing.{AppendsPart-front}
 use Rattle.outside.proofs.Buffering.{buffered_empty, unbuffered, handed_all, handed_part}
 use Rattle.command_io.specs.declared.status.Status.{Status}
 use Rattle.command_io.specs.declared.status.Status.TheVariants.{Done, Usage, Input, Outside, Full}
-use Rattle.command_io.specs.declared.status.Status.TheVariants.{Memory}
+use Rattle.command_io.specs.declared.status.Status.TheVariants.{Differs, Memory}
 use Rattle.command_io.specs.declared.input.Refusal.TheVariants.{BadLine}
 use Rattle.command_io.specs.Saying.{Said, prints, refusal_text, full_text}
 use Rattle.command_io.specs.Runs.{TellsSaid}
@@ -38,12 +38,14 @@ plays_command shown done k l Done tells = λ same. absurd cc
 plays_command shown done k l Usage tells = absurd (let e = tells.0 in cc)
 plays_command shown done k l Input tells = λ same. absurd cc
 plays_command shown done k l Full tells = λ same. absurd cc
+plays_command shown done k l Differs tells = λ same. absurd cc
 plays_command shown done k l Outside tells = λ same. absurd cc
 plays_command shown done k l Memory tells = λ same. absurd cc
 plays_command shown (bad_line line) k l Done tells = λ same. absurd cc
 plays_command shown (bad_line line) k l Usage tells = absurd (let e = tells.0 in cc)
 plays_command shown (bad_line line) k l Input tells = λ same. absurd cc
 plays_command shown (bad_line line) k l Full tells = λ same. absurd cc
+plays_command shown (bad_line line) k l Differs tells = λ same. absurd cc
 plays_command shown (bad_line line) k l Outside tells = λ same. absurd cc
 plays_command shown (bad_line line) k l Memory tells = λ same. absurd cc
 plays_command shown (history_full weight limit) k l Done tells = λ same. absurd cc
@@ -51,6 +53,7 @@ plays_command shown (history_full weight limit) k l Usage tells = absurd (let e 
 plays_command shown (history_full weight limit) k l Input tells = λ same. absurd cc
 plays_command shown (history_full weight limit) k l Outside tells = λ same. absurd cc
 plays_command shown (history_full weight limit) k l Full tells = λ same. absurd cc
+plays_command shown (history_full weight limit) k l Differs tells = λ same. absurd cc
 plays_command shown (history_full weight limit) k l Memory tells = λ same. absurd cc
 
 -- a refusal after what was shown
@@ -66,6 +69,8 @@ Tells-after answer k m l shown refusal Input all tells =
 Tells-after answer k m l shown refusal Outside all tells =
     AppendsPart-append k m l shown refusal true all tells
 Tells-after answer k m l shown refusal Full all tells =
+    (tells.0, Appends-append k m l shown refusal false all tells.1)
+Tells-after answer k m l shown refusal Differs all tells =
     (tells.0, Appends-append k m l shown refusal false all tells.1)
 Tells-after answer k m l shown refusal Memory all tells =
     AppendsPart-append k m l shown refusal false all tells
@@ -149,6 +154,11 @@ module _ (k m l : SinkTold) (gathered : List ℕ) (held : k.held ≡ 0) where
     handed_all k m l gathered handed.0 said.text tt (from_sink said.text false tells.1)
         handed.1,
   )
+  Tells-handed said Differs other tells handed = (
+    tells.0,
+    handed_all k m l gathered handed.0 said.text tt (from_sink said.text false tells.1)
+        handed.1,
+  )
   Tells-handed said Outside other tells handed = absurd (other refl)
   Tells-handed said Memory other tells handed = (
     tells.0,
@@ -170,6 +180,9 @@ module _ (k m l : SinkTold) (gathered : List ℕ) (held : k.held ≡ 0) where
       handed_part k m l gathered handed.0 said.text failed held (from_sink said.text false tells.1)
       handed.1
   Tells-unhanded said Full failed other tells handed =
+      handed_part k m l gathered handed.0 said.text failed held (from_sink said.text false tells.1)
+      handed.1
+  Tells-unhanded said Differs failed other tells handed =
       handed_part k m l gathered handed.0 said.text failed held (from_sink said.text false tells.1)
       handed.1
   Tells-unhanded said Outside failed other tells handed = absurd (other refl)

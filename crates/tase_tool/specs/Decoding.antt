@@ -1,12 +1,7 @@
--- What is said of a capture, which holds one PDU.
-use Rattle.std.specs.Prelude.{ℕ, List, [], ◌∷◌, ◌++◌, length, Result, Ok, Err, Vec, codes, decimal}
-use Rattle.std.specs.declared.alloc.AllocError.{AllocError}
-use Rattle.std.specs.declared.alloc.Global.{Global}
+-- What is said of the octets of a capture, which are one PDU.
+use Rattle.std.specs.Prelude.{ℕ, List, [], ◌∷◌, ◌++◌, length, Result, Ok, Err, codes, decimal}
 use Rattle.command_io.specs.declared.status.Status.TheVariants.{Done, Input}
-use Rattle.command_io.specs.declared.input.Refusal.TheVariants.{BadLine}
-use Rattle.command_io.specs.declared.input.InputEnd.{InputEnd}
-use Rattle.command_io.specs.declared.input.InputEnd.TheVariants.{Refused, Memory}
-use Rattle.command_io.specs.Saying.{Said, prints, refusal_text}
+use Rattle.command_io.specs.Saying.{Said, prints}
 use Rattle.ber_values.specs.declared.fault.BerFault.{BerFault}
 use Rattle.ber_values.specs.Reading.{Taken}
 use Rattle.mms_services.specs.declared.pdu.MmsPdu.{MmsPdu}
@@ -29,16 +24,3 @@ read_said len (Err fault) = prints Input (pdu_fault_line fault.place (why_name f
 -- the PDU that all octets are, or the first rule that they break
 abbrev pub pdu_said : List ℕ → Said
 pdu_said octets = read_said (length octets) (pdu.reading 0 octets)
-
--- what is said of the PDU that a capture is read to; a bad line refuses the capture
-abbrev pub capture_said : Result (List ℕ) ℕ → Said
-capture_said (Ok octets) = pdu_said octets
-capture_said (Err line) = prints Input (refusal_text (codes "in") (BadLine line))
-
--- the octets of a capture that was read to this, or why there are none: its first bad line, or want
--- of memory alone
-abbrev pub octets_or_end : Result (Result (Vec ℕ Global) ℕ) AllocError
-    → Result (Vec ℕ Global) InputEnd
-octets_or_end (Ok (Ok octets)) = Ok octets
-octets_or_end (Ok (Err line)) = Err (Refused (BadLine line))
-octets_or_end (Err out_of_memory) = Err Memory

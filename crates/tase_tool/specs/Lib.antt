@@ -6,3 +6,4 @@ pub mod Tables
 pub mod Sent
 pub mod Playing
 pub mod Kept
+pub mod Verifying

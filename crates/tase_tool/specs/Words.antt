@@ -1,12 +1,13 @@
 -- The words of a command.
-use Rattle.std.specs.Prelude.{◌≡◌, ℕ, ◌≤◌, Bool, false, not, ◌&&◌, ◌||◌, ◌==◌, if◌then◌else◌}
-use Rattle.std.specs.Prelude.{List, [], ◌∷◌, Option, Some, None, option_map, option_and_then}
+use Rattle.std.specs.Prelude.{◌≡◌, ℕ, ◌≤◌, ◌-◌, ◌^◌, Bool, false, not, ◌&&◌, ◌||◌, ◌==◌}
+use Rattle.std.specs.Prelude.{if◌then◌else◌, List, [], ◌∷◌, Option, Some, None, option_map, option_and_then}
 use Rattle.std.specs.Prelude.{is_some, unwrap_or, IfSome, nat_le, codes, bytes_eq}
 use Rattle.plain_text.specs.Numbers.{if_passes, number_up_to}
 use Rattle.tase_tool.specs.declared.words.TheConstants.{HISTORY_LIMIT, MOST_LIMIT}
 use Rattle.tase_tool.specs.declared.words.Options.{Options}
+use Rattle.tase_tool.specs.declared.words.Question.{Question as Questions}
 use Rattle.tase_tool.specs.declared.words.Command.{Command}
-use Rattle.tase_tool.specs.declared.words.Command.TheVariants.{Replay, Decode, DecodePdu}
+use Rattle.tase_tool.specs.declared.words.Command.TheVariants.{Replay, Decode, DecodePdu, Verify}
 
 -- the octets that a history may weigh, and the file for its journal, where they are given
 pub record ReplayOptions : Type 0 where
@@ -24,6 +25,27 @@ options_seen options = record {
   journal = option_map (λ name. name.now) options.journal;
 }
 
+-- an association by the key of its peer and by how many that peer had opened before, and the files
+-- that tell of it: the tables, the journal, and what its link gave and was sent
+pub record Question : Type 0 where
+  pub tables : List ℕ
+  pub journal : List ℕ
+  pub peer : List ℕ
+  pub ordinal : ℕ
+  pub given : List ℕ
+  pub sent : List ℕ
+
+-- what contracts see of it
+abbrev pub question_seen : Questions → Question
+question_seen question = record {
+  tables = question.tables.now;
+  journal = question.journal.now;
+  peer = question.peer.now;
+  ordinal = question.ordinal;
+  given = question.given.now;
+  sent = question.sent.now;
+}
+
 -- what words ask for
 pub data Task : Type 0 where
   -- the scenario under the second name is played over the tables under the first, as options say
@@ -32,6 +54,8 @@ pub data Task : Type 0 where
   lists_stream : List ℕ → Task
   -- the PDU that the capture under the name holds is told
   decodes_pdu : List ℕ → Task
+  -- what an association was sent is held against its history and what its link gave
+  verifies : Question → Task
 
 -- what a command asks for
 abbrev pub task_of : Command → Task
@@ -39,6 +63,7 @@ task_of (Replay tables scenario options) =
     replays tables.now scenario.now (options_seen options)
 task_of (Decode capture) = lists_stream capture.now
 task_of (DecodePdu capture) = decodes_pdu capture.now
+task_of (Verify question) = verifies (question_seen question)
 
 -- a limit that a history may have, and a journal that isn't standard output
 pub record AreOptions (options : ReplayOptions) : Type 0 where
@@ -49,6 +74,7 @@ abbrev pub IsLimited : Command → Type 0
 IsLimited (Replay tables scenario options) = AreOptions (options_seen options)
 IsLimited (Decode capture) = Unit {0}
 IsLimited (DecodePdu capture) = Unit {0}
+IsLimited (Verify question) = Unit {0}
 
 -- a name of a file: not empty, and beginning with `-` only where it is `-`, which is standard input
 abbrev pub is_file_name : List ℕ → Bool
@@ -110,11 +136,43 @@ abbrev pub pdu_task_in : List ℕ → List (List ℕ) → Option Task
 pdu_task_in capture [] = Some (decodes_pdu capture)
 pdu_task_in capture more = None
 
--- `replay TABLES SCENARIO` and its options, or `decode --pdu IN`
+-- `verify TABLES JOURNAL`
+abbrev pub is_verify : List ℕ → List ℕ → List ℕ → Bool
+is_verify verb tables journal =
+    bytes_eq verb (codes "verify") && is_file_name tables && is_file_name journal
+
+-- three names of files
+abbrev pub are_file_names : List ℕ → List ℕ → List ℕ → Bool
+are_file_names first second third =
+    is_file_name first && is_file_name second && is_file_name third
+
+-- `KEY ORDINAL IN OUT` behind it: a name, a number and two files
+abbrev pub question_in : List ℕ → List ℕ → List ℕ → List ℕ → List ℕ → List ℕ → Option Question
+question_in tables journal peer ordinal given sent =
+    if not (are_file_names peer given sent) then None
+    else option_map (λ number. record {
+      tables = tables;
+      journal = journal;
+      peer = peer;
+      ordinal = number;
+      given = given;
+      sent = sent;
+    }) (number_up_to (2 ^ 64 - 1) ordinal)
+
+-- exactly these four words
+abbrev pub question_of : List ℕ → List ℕ → List (List ℕ) → Option Question
+question_of tables journal (peer ∷ ordinal ∷ given ∷ sent ∷ []) =
+    question_in tables journal peer ordinal given sent
+question_of tables journal words = None
+
+-- `replay TABLES SCENARIO` and its options, `decode --pdu IN`, or
+-- `verify TABLES JOURNAL KEY ORDINAL IN OUT`
 abbrev pub task_in_three : List ℕ → List ℕ → List ℕ → List (List ℕ) → Option Task
 task_in_three first second third more =
     if is_replay first second third then option_map (replays second third) (options_in more)
-    else (if is_decode_pdu first second third then pdu_task_in third more else None)
+    else (if is_decode_pdu first second third then pdu_task_in third more
+    else (if is_verify first second third
+    then option_map verifies (question_of second third more) else None))
 
 -- no other words are a command
 abbrev pub task_in : List (List ℕ) → Option Task

@@ -1,16 +1,17 @@
 //! The command `decode --pdu`: which PDU a capture holds.
 ghost use Rattle.std.specs.Prelude.{◌≡◌, IfOk, string_bytes, true, codes};
+ghost use Rattle.command_io.specs.Inputs.{value_as};
 ghost use Rattle.command_io.specs.Saying.{texts_of, prints, duty_to_say};
-ghost use Rattle.command_io.specs.Runs.{IsRun, EndsRead};
-ghost use Rattle.capture_text.specs.Captures.{capture_in};
-ghost use Rattle.tase_tool.specs.Decoding.{capture_said, pdu_said};
+ghost use Rattle.command_io.specs.Runs.{IsRun};
+ghost use Rattle.command_io.specs.Plans.{says, duty_by, EndsPlan, octets_of};
+ghost use Rattle.tase_tool.specs.Decoding.{pdu_said};
 ghost use Rattle.tase_tool.specs.Decoding as own;
-ghost use Rattle.tase_tool.specs.Saying.{decode_duty};
+ghost use Rattle.tase_tool.specs.Saying.{decode_plan};
 ghost use Rattle.stream_listing.specs.Names.{message_name_text, pdu_name, why_name};
 
+use crate::captures::read_octets;
 use ber_values::Why;
-use capture_text::read_capture;
-use command_io::{InputEnd, Refusal, Status, end_unread, print, read_input};
+use command_io::{InputEnd, Status, end_unread, print};
 use mms_services::{MmsPdu, read_pdu};
 use outside_names::Outside;
 use std::alloc::{AllocError, Global};
@@ -19,46 +20,10 @@ use stream_listing::{name_of_pdu, why_name};
 /// Reads a capture, and prints which PDU its octets are, or the first rule that they break.
 pub(crate) fn run_decode<O: Outside>(alloc: Global, outside: &mut O, capture: &str) -> Status
     ensures { let told = O.told outside.old in
-        IsRun (decode_duty capture.now (texts_of told capture.now))
-        told (O.told outside.new) result }
+        IsRun (duty_by (decode_plan capture.now) (texts_of told)) told (O.told outside.new) result }
 {
-    let read = read_input(alloc, outside, capture);
-    decode_read(alloc, outside, read)
-}
-
-// Tells the PDU of a capture that was read to this.
-fn decode_read<O: Outside>(
-    alloc: Global,
-    outside: &mut O,
-    read: Result<Vec<u8>, InputEnd>,
-) -> Status
-    ensures { EndsRead (codes "in") (λ octets. capture_said (capture_in octets)) read
-        (O.told outside.old) (O.told outside.new) result }
-{
-    match read {
-        Ok(text) => decode_capture(alloc, outside, &text),
-        Err(end) => end_unread(outside, "in", end),
-    }
-}
-
-// Tells the PDU that a capture holds.
-fn decode_capture<O: Outside>(alloc: Global, outside: &mut O, text: &[u8]) -> Status
-    ensures { IsRun (duty_to_say true (capture_said (capture_in text.now)))
-        (O.told outside.old) (O.told outside.new) result }
-{
-    let octets = octets_or_end(read_capture(alloc, text));
-    decode_octets(alloc, outside, octets)
-}
-
-// The octets of a capture, or why there are none.
-fn octets_or_end(read: Result<Result<Vec<u8>, u64>, AllocError>) -> Result<Vec<u8>, InputEnd>
-    ensures { result ≡ own.octets_or_end read }
-{
-    match read {
-        Ok(Ok(octets)) => Ok(octets),
-        Ok(Err(line)) => Err(InputEnd::Refused(Refusal::BadLine(line))),
-        Err(AllocError) => Err(InputEnd::Memory),
-    }
+    let read = read_octets(alloc, outside, capture);
+    decode_octets(alloc, outside, read)
 }
 
 // Tells the PDU that the octets of a capture are, which was read to this.
@@ -67,7 +32,7 @@ fn decode_octets<O: Outside>(
     outside: &mut O,
     octets: Result<Vec<u8>, InputEnd>,
 ) -> Status
-    ensures { EndsRead (codes "in") pdu_said octets
+    ensures { EndsPlan (codes "in") (λ octets. says (pdu_said octets)) (value_as octets_of octets)
         (O.told outside.old) (O.told outside.new) result }
 {
     match octets {

@@ -1,17 +1,16 @@
 //! The journal of a node: its history as a text, a line for each entry.
-ghost use Rattle.std.specs.Prelude.{◌≡◌, OnOk, IfSome, slice_get};
+ghost use Rattle.std.specs.Prelude.{◌≡◌, ◌∷◌, [], ◌++◌, IfSome, slice_get};
+ghost use Rattle.outside.specs.Sink.{WritesAll};
 ghost use Rattle.command_io.specs.Saying.{prints};
 ghost use Rattle.command_io.specs.Runs.{TellsSaid, IsFileEnd, WritesFile, status_behind};
 ghost use Rattle.journal_text.specs.Journals.{entry_line, journal_text};
 ghost use Rattle.tase_tool.specs.Kept.{KeepsJournal, status_of_write};
 
 use command_io::Status;
-use journal_text::spell_entry;
 use node_core::Node;
 use outside::{BufferedSink, Sink, SinkFailed, write_all};
 use outside_names::Outside;
-use std::alloc::{AllocError, Global};
-use tase_views::Entry;
+use std::alloc::Global;
 
 /// Writes the journal of a node to the file of this name, once a command has ended with a status
 /// whose output is whole; behind another it leaves the file as it was. It answers the status of
@@ -66,7 +65,7 @@ fn write_gathered<K: Sink + Drop>(alloc: Global, node: &Node, sink: K) -> (K, St
         Ok(gathering) => gathering,
         Err(sink) => return (sink, Status::Memory),
     };
-    match write_entries(alloc, node, &mut gathering) {
+    match write_entries(node, &mut gathering) {
         Status::Outside => (gathering.into_sink(), Status::Outside),
         status => match gathering.finish() {
             (sink, Ok(())) => (sink, status),
@@ -76,14 +75,13 @@ fn write_gathered<K: Sink + Drop>(alloc: Global, node: &Node, sink: K) -> (K, St
 }
 
 // Writes a line for each entry of a node's history.
-fn write_entries<K: Sink>(alloc: Global, node: &Node, sink: &mut K) -> Status
+fn write_entries<K: Sink>(node: &Node, sink: &mut K) -> Status
     ensures ends { IsFileEnd result }
     ensures tells { TellsSaid (prints Status.Done (journal_text node.now.history))
         (K.told sink.old) (K.told sink.new) result }
 {
-    let mut text = Vec::new(alloc);
     for place in 0..node.history_len() {
-        match write_entry(node, place, sink, &mut text) {
+        match write_entry(node, place, sink) {
             Status::Done => {}
             end => return end,
         }
@@ -91,21 +89,25 @@ fn write_entries<K: Sink>(alloc: Global, node: &Node, sink: &mut K) -> Status
     Status::Done
 }
 
-// Writes the line of the entry at a place. `text` is where the line is put together.
-fn write_entry<K: Sink>(node: &Node, place: u64, sink: &mut K, text: &mut Vec<u8>) -> Status
+// Writes the line of the entry at a place.
+fn write_entry<K: Sink>(node: &Node, place: u64, sink: &mut K) -> Status
     ensures ends { IsFileEnd result }
     ensures tells { IfSome (slice_get node.now.history place) (λ entry.
         TellsSaid (prints Status.Done (entry_line entry))
         (K.told sink.old) (K.told sink.new) result) }
 {
-    match node.entry(place) {
-        Ok(Some(entry)) => match spell_line(text, &entry) {
-            Ok(()) => written(write_all(sink, text.as_slice())),
-            Err(AllocError) => Status::Memory,
-        },
-        Ok(None) => Status::Done,
-        Err(AllocError) => Status::Memory,
+    match node.journal_line(place) {
+        Some(line) => written(write_line(sink, line)),
+        None => Status::Done,
     }
+}
+
+// Writes a line and its end.
+fn write_line<K: Sink>(sink: &mut K, line: &[u8]) -> Result<(), SinkFailed>
+    ensures { WritesAll (K.told sink.old) (K.told sink.new) (line.now ++ 10 ∷ []) result }
+{
+    write_all(sink, line)?;
+    write_all(sink, b"\n")
 }
 
 // How a line ends that was written so.
@@ -116,14 +118,4 @@ fn written(end: Result<(), SinkFailed>) -> Status
         Ok(()) => Status::Done,
         Err(SinkFailed) => Status::Outside,
     }
-}
-
-// Puts the line of an entry into `text`, in place of what that held.
-fn spell_line(text: &mut Vec<u8>, entry: &Entry) -> Result<(), AllocError>
-    ensures { OnOk result (text.new.items ≡ entry_line entry.now) }
-{
-    text.clear();
-    spell_entry(text, entry)?;
-    text.push(b'\n')?;
-    Ok(())
 }

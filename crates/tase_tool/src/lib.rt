@@ -1,11 +1,13 @@
 //! The commands of the program: `run` runs the command of its words over an outside.
 #![tactic(auto)]
 
+mod captures;
 mod decoding;
 mod journal;
 mod listing;
 mod running;
 mod tables;
+mod verifying;
 mod words;
 
 pub use running::run;

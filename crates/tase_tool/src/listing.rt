@@ -1,16 +1,17 @@
 //! The command `decode`: the messages of a captured stream.
 ghost use Rattle.std.specs.Prelude.{◌≡◌, ◌≤◌, ◌⊎◌, [], length, true, codes, IsErr};
 ghost use Rattle.command_io.specs.Saying.{texts_of, duty_to_say};
-ghost use Rattle.command_io.specs.Runs.{IsRun, EndsRead, TellsSaid};
+ghost use Rattle.command_io.specs.Runs.{IsRun, TellsSaid};
+ghost use Rattle.command_io.specs.Plans.{says, duty_by, EndsPlan, octets_of};
 ghost use Rattle.capture_text.specs.Captures.{capture_in};
 ghost use Rattle.tpkt_cotp.specs.declared.limits.TheConstants.{PIECE_LIMIT};
 ghost use Rattle.stream_listing.specs.Listings.{listing_of, yet_listed};
 ghost use Rattle.tase_tool.specs.Listing.{stream_said, listing_said, ListsOn};
 ghost use Rattle.tase_tool.specs.Listing as own;
-ghost use Rattle.tase_tool.specs.Saying.{list_duty};
+ghost use Rattle.tase_tool.specs.Saying.{list_plan};
 
 use capture_text::{Pieces, read_pieces};
-use command_io::{InputEnd, OUTPUT, Refusal, Status, end_unread, read_input, refuse};
+use command_io::{InputEnd, OUTPUT, Refusal, Status, TEXT_LIMIT, end_unread, read_input, refuse};
 use outside::{BufferedSink, Sink, SinkFailed, write_all};
 use outside_names::Outside;
 use std::alloc::{AllocError, Global};
@@ -20,16 +21,15 @@ use tpkt_cotp::PIECE_LIMIT;
 /// Reads a capture, and lists the messages of the stream that its octets are.
 pub(crate) fn run_listing<O: Outside>(alloc: Global, outside: &mut O, capture: &str) -> Status
     ensures { let told = O.told outside.old in
-        IsRun (list_duty capture.now (texts_of told capture.now))
-        told (O.told outside.new) result }
+        IsRun (duty_by (list_plan capture.now) (texts_of told)) told (O.told outside.new) result }
 {
-    let read = read_input(alloc, outside, capture);
+    let read = read_input(alloc, outside, capture, TEXT_LIMIT);
     list_read(alloc, outside, read)
 }
 
 // Lists the stream of a capture that was read to this.
 fn list_read<O: Outside>(alloc: Global, outside: &mut O, read: Result<Vec<u8>, InputEnd>) -> Status
-    ensures { EndsRead (codes "in") (λ octets. stream_said (capture_in octets)) read
+    ensures { EndsPlan (codes "in") (λ text. says (stream_said (capture_in (octets_of text)))) read
         (O.told outside.old) (O.told outside.new) result }
 {
     match read {

@@ -2,14 +2,13 @@
 ghost use Rattle.std.specs.Prelude.{◌≡◌, ◌≤◌, ◌^◌, [], map, string_bytes, Some, IfOk, true, codes};
 ghost use Rattle.std.specs.Prelude.{false, IfSome, option_map, bytes_eq};
 ghost use Rattle.command_io.specs.Saying.{texts_of, duty_to_say, prints};
-ghost use Rattle.command_io.specs.Runs.{IsRun, EndsRead, TellsSaid, Took, taken_of, output_name};
+ghost use Rattle.command_io.specs.Runs.{IsRun, TellsSaid, Took, taken_of, output_name};
+ghost use Rattle.command_io.specs.Plans.{says, duty_by, EndsPlan, octets_of};
 ghost use Rattle.tase_tool.specs.Words.{task_in, replays, limit_of, options_seen, AreOptions};
-ghost use Rattle.tase_tool.specs.Saying.{scenario_said, scenario_duty, duty_of, played_said};
-ghost use Rattle.tase_tool.specs.Saying.{kept_said};
-ghost use Rattle.tase_tool.specs.Tables.{RunsOver};
+ghost use Rattle.tase_tool.specs.Saying.{scenario_said, scenario_plan, replay_plan, duty_of};
+ghost use Rattle.tase_tool.specs.Saying.{played_said, kept_said};
 ghost use Rattle.tase_tool.specs.Playing.{EndsPlay};
-ghost use Rattle.tase_tool.specs.Sent.{node_of, played_on, SendsSoFar, SendsWithin, OnTold};
-ghost use Rattle.tase_tool.specs.Sent.{SendsBy};
+ghost use Rattle.tase_tool.specs.Sent.{node_of, played_on, SendsSoFar, SendsOver, SendsBy};
 ghost use Rattle.tase_tool.specs.Kept.{HasPlayed};
 ghost use Rattle.command_io.specs.Statuses.{OnWhole};
 
@@ -17,10 +16,12 @@ use crate::decoding::run_decode;
 use crate::journal::keep_journal;
 use crate::listing::run_listing;
 use crate::tables::read_tables;
+use crate::verifying::run_verify;
 use crate::words::{Command, Options, read_command};
 use bilateral::Centre;
 use command_io::{
-    InputEnd, OUTPUT, Refusal, Status, end_unread, print, read_input, tell_full, tell_refusal,
+    InputEnd, OUTPUT, Refusal, Status, TEXT_LIMIT, end_unread, print, read_input, tell_full,
+    tell_refusal,
 };
 use node_core::Node;
 use outside::{BufferedSink, Sink, SinkFailed};
@@ -34,15 +35,18 @@ use tase_replay::{ReplayEnd, replay};
 /// node whose history may weigh 134,217,728 octets, or as many as `--limit N` behind it says, from
 /// 1 to 268,435,456, and behind it writes that history to the file that `--journal FILE` names, a
 /// line for each entry; `decode IN` lists the messages of a captured stream of either end of a
-/// connection, `decode --pdu IN` tells which PDU (ISO 9506-2) a capture holds. All is printed on
-/// standard output, which is `-` of the outside's sinks.
+/// connection, `decode --pdu IN` tells which PDU (ISO 9506-2) a capture holds; `verify TABLES
+/// JOURNAL KEY ORDINAL IN OUT` holds what an association was sent against its history and what its
+/// link gave. All is printed on standard output, which is `-` of the outside's sinks.
 ///
 /// What it answers and prints is, where the outside tells its octets, what the definitions say of
 /// those octets alone: the tables that the first text spells, and over them what the scenario
 /// shows, each reply from the asking peer's own tables and its view of the history, up to the first
 /// bad line or the first event with which the history would weigh more than its limit, which is
 /// told so; or the messages that the octets of a capture are, each with its place, and the first
-/// rule that they break; or the PDU that they are, or that rule.
+/// rule that they break; or the PDU that they are, or that rule; or that the octets that an
+/// association was sent are those that its journal and its link account for, or where they first
+/// differ, or the first event of the journal that the link doesn't account for, with the status 6.
 ///
 /// Where it answers 0, 3 or 5, all that was printed for the peer of each link is what that peer is
 /// owed for the lines that were taken: over the tables, the history that these lines leave and all
@@ -68,6 +72,7 @@ pub fn run<O: Outside>(alloc: Global, words: &[String], outside: &mut O) -> Stat
         ) => run_replay(alloc, outside, tables, scenario, options),
         Some(Command::Decode { capture }) => run_listing(alloc, outside, capture),
         Some(Command::DecodePdu { capture }) => run_decode(alloc, outside, capture),
+        Some(Command::Verify { question }) => run_verify(alloc, outside, question),
         None => print(outside, Status::Usage, b"usage\n"),
     }
 }
@@ -82,7 +87,7 @@ fn run_replay<O: Outside>(
 ) -> Status
     requires { AreOptions (options_seen options) }
     ensures runs { let told = O.told outside.old in
-        IsRun (duty_of (Some (replays tables.now scenario.now (options_seen options.entry)))
+        IsRun (duty_by (replay_plan tables.now scenario.now (options_seen options.entry))
         (texts_of told)) told (O.told outside.new) result }
     ensures sent { let told = O.told outside.old in
         SendsBy (Some (replays tables.now scenario.now (options_seen options.entry)))
@@ -102,12 +107,12 @@ fn run_over<O: Outside>(
     options: Options<'_>,
 ) -> Status
     requires { AreOptions (options_seen options) }
-    ensures runs { RunsOver read (options_seen options.entry) scenario.now
+    ensures runs { EndsPlan (codes "tables")
+        (λ rows. scenario_plan rows (options_seen options.entry) scenario.now) read
         (O.told outside.old) (O.told outside.new) result }
     ensures sent { let told = O.told outside.old in
-        IfOk read (λ rows. OnTold (SendsWithin
-        (node_of rows (limit_of (options_seen options.entry))) result
-        (taken_of (told.sinks output_name)) (taken_of ((O.told outside.new).sinks output_name)))
+        IfOk read (SendsOver (options_seen options.entry) result
+        (taken_of (told.sinks output_name)) (taken_of ((O.told outside.new).sinks output_name))
         (texts_of told scenario.now)) }
 {
     match read {
@@ -126,14 +131,14 @@ fn run_scenario<O: Outside>(
 ) -> Status
     requires { AreOptions (options_seen options) }
     ensures runs { let told = O.told outside.old in
-        IsRun (scenario_duty centre (options_seen options.entry) scenario.now
-        (texts_of told scenario.now)) told (O.told outside.new) result }
+        IsRun (duty_by (scenario_plan centre (options_seen options.entry) scenario.now)
+        (texts_of told)) told (O.told outside.new) result }
     ensures sent { let told = O.told outside.old in
-        OnTold (SendsWithin (node_of centre (limit_of (options_seen options.entry))) result
-        (taken_of (told.sinks output_name)) (taken_of ((O.told outside.new).sinks output_name)))
-        (texts_of told scenario.now) }
+        SendsOver (options_seen options.entry) result
+        (taken_of (told.sinks output_name)) (taken_of ((O.told outside.new).sinks output_name))
+        (texts_of told scenario.now) centre }
 {
-    let read = read_input(alloc, outside, scenario);
+    let read = read_input(alloc, outside, scenario, TEXT_LIMIT);
     play_read(alloc, outside, centre, options, read)
 }
 
@@ -146,13 +151,13 @@ fn play_read<O: Outside>(
     read: Result<Vec<u8>, InputEnd>,
 ) -> Status
     requires { AreOptions (options_seen options) }
-    ensures runs { EndsRead (codes "scenario")
-        (scenario_said centre (options_seen options.entry)) read
+    ensures runs { EndsPlan (codes "scenario")
+        (λ text. says (scenario_said centre (options_seen options.entry) (octets_of text))) read
         (O.told outside.old) (O.told outside.new) result }
     ensures sent { IfOk read (λ text.
-        SendsWithin (node_of centre (limit_of (options_seen options.entry))) result
-        (taken_of ((O.told outside.old).sinks output_name))
-        (taken_of ((O.told outside.new).sinks output_name)) text.items) }
+        SendsSoFar (node_of centre (limit_of (options_seen options.entry))) text.items result
+        (Took result (taken_of ((O.told outside.old).sinks output_name))
+        (taken_of ((O.told outside.new).sinks output_name)))) }
 {
     match read {
         Ok(text) => play_scenario(alloc, outside, centre, options, &text),

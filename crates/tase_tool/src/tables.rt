@@ -1,30 +1,37 @@
 //! The tables of a command.
-ghost use Rattle.std.specs.Prelude.{◌≡◌};
-ghost use Rattle.bilateral.specs.Reading.{centre_in};
-ghost use Rattle.tase_tool.specs.Tables.{IsCentreFrom, ReadsTables};
+ghost use Rattle.std.specs.Prelude.{◌≡◌, IfOk};
+ghost use Rattle.command_io.specs.declared.input.TheConstants.{TEXT_LIMIT};
+ghost use Rattle.command_io.specs.Plans.{IsSpelled, ReadsValue};
+ghost use Rattle.tase_tool.specs.Tables.{tables_in};
 ghost use Rattle.tase_tool.specs.Tables as own;
 
 use bilateral::{Centre, TableFault, read_centre};
-use command_io::{InputEnd, Refusal, read_input};
+use command_io::{InputEnd, TEXT_LIMIT, read_input, value_or_end};
 use outside_names::Outside;
 use std::alloc::{AllocError, Global};
 
-// The centre of a text of tables.
-fn centre_from(alloc: Global, text: &[u8]) -> Result<Centre, InputEnd>
-    ensures { IsCentreFrom result (centre_in text.now) }
-{
-    centre_or_end(read_centre(alloc, text))
-}
-
-// The centre of tables that were read to this, or why there is none.
-fn centre_or_end(read: Result<Result<Centre, TableFault>, AllocError>) -> Result<Centre, InputEnd>
-    ensures { result ≡ own.centre_or_end read }
+// Tables that were read to this, by the number of their first bad line.
+fn centre_or_line(read: Result<Centre, TableFault>) -> Result<Centre, u64>
+    ensures { result ≡ own.centre_or_line read }
 {
     match read {
-        Ok(Ok(centre)) => Ok(centre),
-        Ok(Err(fault)) => Err(InputEnd::Refused(Refusal::BadLine(fault.line))),
-        Err(AllocError) => Err(InputEnd::Memory),
+        Ok(centre) => Ok(centre),
+        Err(fault) => Err(fault.line),
     }
+}
+
+// The centre of a text of tables, or the number of its first bad line.
+fn read_lines(alloc: Global, text: &[u8]) -> Result<Result<Centre, u64>, AllocError>
+    ensures { IfOk result (λ read. read ≡ tables_in text.now) }
+{
+    Ok(centre_or_line(read_centre(alloc, text)?))
+}
+
+// The centre of a text of tables, or why there is none.
+fn centre_from(alloc: Global, text: &[u8]) -> Result<Centre, InputEnd>
+    ensures { IsSpelled result (tables_in text.now) }
+{
+    value_or_end(read_lines(alloc, text))
 }
 
 /// Reads the tables under a name.
@@ -33,8 +40,11 @@ pub(crate) fn read_tables<O: Outside>(
     outside: &mut O,
     name: &str,
 ) -> Result<Centre, InputEnd>
-    ensures { ReadsTables (O.told outside.old) (O.told outside.new) name.now result }
+    ensures { ReadsValue tables_in name.now TEXT_LIMIT result (O.told outside.old)
+        (O.told outside.new) }
 {
-    let text = read_input(alloc, outside, name)?;
-    centre_from(alloc, &text)
+    match read_input(alloc, outside, name, TEXT_LIMIT) {
+        Ok(text) => centre_from(alloc, &text),
+        Err(end) => Err(end),
+    }
 }

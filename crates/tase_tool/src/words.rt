@@ -2,6 +2,7 @@
 ghost use Rattle.std.specs.Prelude.{◌≡◌, ◌≤◌, [], ◌∷◌, map, string_bytes, IfSome};
 ghost use Rattle.std.specs.Option.{option_map};
 ghost use Rattle.tase_tool.specs.Words.{task_of, task_in, IsLimited, AreOptions, options_seen};
+ghost use Rattle.tase_tool.specs.Words.{question_seen};
 ghost use Rattle.tase_tool.specs.Words as own;
 
 use plain_text::read_number;
@@ -35,6 +36,23 @@ impl<'a> Options<'a> {
     }
 }
 
+/// What is asked of an association's captured octets.
+#[derive(Clone, Copy)]
+pub(crate) struct Question<'a> {
+    /// The file of the tables.
+    pub(crate) tables: &'a str,
+    /// The file of the journal.
+    pub(crate) journal: &'a str,
+    /// The key of the association's peer in the tables.
+    pub(crate) peer: &'a str,
+    /// How many associations that peer had opened before.
+    pub(crate) ordinal: u64,
+    /// The capture of what the association's link gave.
+    pub(crate) given: &'a str,
+    /// The capture of what the association was sent.
+    pub(crate) sent: &'a str,
+}
+
 /// What words ask for.
 #[derive(Clone, Copy)]
 pub(crate) enum Command<'a> {
@@ -51,6 +69,11 @@ pub(crate) enum Command<'a> {
     /// `decode --pdu IN`: the PDU that the capture holds is told.
     DecodePdu {
         capture: &'a str,
+    },
+    /// `verify TABLES JOURNAL KEY ORDINAL IN OUT`: what an association was sent is held against its
+    /// history.
+    Verify {
+        question: Question<'a>,
     },
 }
 
@@ -81,6 +104,13 @@ fn is_decode_pdu(verb: &str, option: &str, capture: &str) -> bool
     ensures { result ≡ own.is_decode_pdu verb.now option.now capture.now }
 {
     verb == "decode" && option == "--pdu" && is_name(capture)
+}
+
+// Whether words begin with `verify TABLES JOURNAL`.
+fn is_verify(verb: &str, tables: &str, journal: &str) -> bool
+    ensures { result ≡ own.is_verify verb.now tables.now journal.now }
+{
+    verb == "verify" && is_name(tables) && is_name(journal)
 }
 
 // The command of two words.
@@ -185,6 +215,57 @@ fn read_options(words: &[String]) -> Option<Options<'_>>
     }
 }
 
+// Whether three words are names of files.
+fn are_names(first: &str, second: &str, third: &str) -> bool
+    ensures { result ≡ own.are_file_names first.now second.now third.now }
+{
+    is_name(first) && is_name(second) && is_name(third)
+}
+
+// What `KEY ORDINAL IN OUT` ask of an association of these tables and this journal.
+fn of_question<'a>(
+    tables: &'a str,
+    journal: &'a str,
+    peer: &'a str,
+    ordinal: &str,
+    given: &'a str,
+    sent: &'a str,
+) -> Option<Question<'a>>
+    ensures { option_map question_seen result ≡ own.question_in tables.now journal.now peer.now
+        ordinal.now given.now sent.now }
+{
+    if !are_names(peer, given, sent) {
+        return None;
+    }
+    let ordinal = read_number(ordinal.as_bytes(), u64::MAX)?;
+    Some(Question {
+        tables,
+        journal,
+        peer,
+        ordinal,
+        given,
+        sent,
+    })
+}
+
+// What four words ask of an association of these tables and this journal.
+fn read_question<'a>(tables: &'a str, journal: &'a str, words: &'a [String]) -> Option<Question<'a>>
+    ensures { option_map question_seen result
+        ≡ own.question_of tables.now journal.now (map string_bytes words.now) }
+{
+    match words {
+        [peer, ordinal, given, sent] => of_question(
+            tables,
+            journal,
+            peer.as_str(),
+            ordinal.as_str(),
+            given.as_str(),
+            sent.as_str(),
+        ),
+        _ => None,
+    }
+}
+
 // The command of three words and more behind them.
 fn of_three<'a>(
     first: &'a str,
@@ -206,6 +287,10 @@ fn of_three<'a>(
     }
     if is_decode_pdu(first, second, third) && more.is_empty() {
         return Some(Command::DecodePdu { capture: third });
+    }
+    if is_verify(first, second, third) {
+        let question = read_question(second, third, more)?;
+        return Some(Command::Verify { question });
     }
     None
 }

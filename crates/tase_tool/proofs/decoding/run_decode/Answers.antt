@@ -1,14 +1,19 @@
-use Rattle.std.proofs.Common.{codes}
+use Rattle.std.proofs.Common.{[]}
+use Rattle.command_io.specs.Inputs.{value_as}
+use Rattle.command_io.specs.Plans.{says, octets_of}
+use Rattle.command_io.proofs.Plans.{IsRun-value, Fits-alone}
 use Rattle.capture_text.specs.Captures.{capture_in}
-use Rattle.tase_tool.specs.Decoding.{capture_said}
-use Rattle.tase_tool.proofs.Telling.{captures_alone}
-use Rattle.tase_tool.proofs.Duties.{IsRun-read_alone}
+use Rattle.tase_tool.specs.Decoding.{pdu_said}
+use Rattle.tase_tool.specs.Saying.{capture_asked}
+use Rattle.tase_tool.proofs.Telling.{pdus_alone}
 use Rattle.tase_tool.proofs.decoding.run_decode.Goals as goal
 
 pub returns : goal.returns
 returns g c =
-    IsRun-read_alone (g.O.Outside.told c.args.outside.now)
-    (g.O.Outside.told c.read_input-read.new.outside) (g.O.Outside.told c.decode_read.new.outside)
-    (codes "in") (λ octets. capture_said (capture_in octets))
-    (λ octets. captures_alone (capture_in octets)) c.args.capture.now
-    c.read_input-read.result c.decode_read.result c.read_input-read.ensures c.decode_read.ensures
+    IsRun-value (g.O.Outside.told c.args.outside.now)
+    (g.O.Outside.told c.read_octets-read.new.outside)
+    (g.O.Outside.told c.decode_octets.new.outside)
+    (capture_asked c.args.capture.now) capture_in (λ octets. says (pdu_said octets))
+    (λ octets. Fits-alone (pdu_said octets) [] [] (pdus_alone octets))
+    (value_as octets_of c.read_octets-read.result) c.decode_octets.result
+    c.read_octets-read.ensures c.decode_octets.ensures

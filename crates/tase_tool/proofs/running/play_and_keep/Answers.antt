@@ -37,5 +37,5 @@ returns-in-Some-clause-sent g c =
     (journal_text c.play_on_output-status.new.node.history)
     (rw c.in-Some.is at c.requires.file) c.args.node c.args.scenario.now
     c.play_on_output-status.result c.keep_journal.result
-    c.play_on_output-status.ensures.runs.words c.keep_journal.ensures
+    c.keep_journal.ensures
     c.play_on_output-status.ensures.sent

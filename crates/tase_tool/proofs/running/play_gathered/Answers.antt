@@ -71,7 +71,7 @@ returns-in-Outside-clause-sent g c =
     (SendsSoFar-further c.args.node.now c.args.scenario.now Outside Outside
     (λ octets. TellsSaid (prints Outside octets) (buffered_told k [])
     (buffered_told m c.play_on.new.sink.1) Outside)
-    (λ octets. TellsSaid (prints Outside octets) k m Outside) (λ told_so. told_so)
+    (λ octets. TellsSaid (prints Outside octets) k m Outside) (λ whole. whole)
     (λ (octets : List ℕ) tells. Tells-failed k m m c.play_on.new.sink.1 c.requires
     (prints Outside octets) tells)
     (subst (λ s. SendsSoFar c.args.node.now c.args.scenario.now Outside
@@ -87,7 +87,7 @@ returns-in_default-Ok-clause-sent g c =
     SendsSoFar-further c.args.node.now c.args.scenario.now status status
     (λ octets. TellsSaid (prints status octets) (buffered_told k [])
     (buffered_told m c.play_on.new.sink.1) status)
-    (λ octets. TellsSaid (prints status octets) k l status) (λ told_so. told_so)
+    (λ octets. TellsSaid (prints status octets) k l status) (λ whole. whole)
     (λ (octets : List ℕ) tells. Tells-handed k m l c.play_on.new.sink.1 c.requires
     (prints status octets) status c.in_default.not-Outside tells
     (subst (λ r. Finishes m l c.play_on.new.sink.1 r) c.in_default-Ok.is-1 c.finish.ensures))
@@ -104,7 +104,7 @@ returns-in_default-Err-clause-sent g c =
     SendsSoFar-further c.args.node.now c.args.scenario.now status Outside
     (λ octets. TellsSaid (prints status octets) (buffered_told k [])
     (buffered_told m c.play_on.new.sink.1) status)
-    (λ octets. TellsSaid (prints Outside octets) k l Outside) (λ told_so. absurd cc)
+    (λ octets. TellsSaid (prints Outside octets) k l Outside) (λ whole. absurd cc)
     (λ (octets : List ℕ) tells. Tells-unhanded k m l c.play_on.new.sink.1 c.requires
     (prints status octets) status c.in_default-Err.field-0-1 c.in_default.not-Outside tells
     (subst (λ r. Finishes m l c.play_on.new.sink.1 r) c.in_default-Err.is-1 c.finish.ensures))

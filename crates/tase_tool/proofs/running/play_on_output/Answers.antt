@@ -50,7 +50,7 @@ returns-clause-sent g c =
     SendsSoFar-further c.args.node.now c.args.scenario.now status status
     (λ octets. TellsSaid (prints status octets) k l status)
     (Took status (output_of b.sinks) (output_of a.sinks))
-    (λ told_so. told_so)
+    (λ whole. whole)
     (λ (octets : List ℕ) tells. let said : IsSaid status b.sinks a.sinks (prints status octets) =
     (IsRun-printed b (g.O.Outside.told c.open_out.new.self) a true (prints status octets) refl k l
     status c.in-Some.ensures tells c.close_out.ensures (plays_command (shown_of played)

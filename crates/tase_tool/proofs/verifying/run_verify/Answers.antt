@@ -1,0 +1,20 @@
+use Rattle.std.proofs.Common.{codes, [], ◌∷◌}
+use Rattle.command_io.specs.declared.input.TheConstants.{TEXT_LIMIT}
+use Rattle.command_io.proofs.Plans.{IsRun-value}
+use Rattle.tase_tool.specs.Words.{question_seen}
+use Rattle.tase_tool.specs.Tables.{tables_in}
+use Rattle.tase_tool.specs.Verifying.{input_asked, journal_plan}
+use Rattle.tase_tool.proofs.Verified.{journal_fits}
+use Rattle.tase_tool.proofs.verifying.run_verify.Goals as goal
+
+pub returns : goal.returns
+returns g c =
+    let question = question_seen c.args.question in
+    IsRun-value (g.O.Outside.told c.args.outside.now)
+    (g.O.Outside.told c.read_tables-read.new.outside)
+    (g.O.Outside.told c.verify_over.new.outside)
+    (input_asked (codes "tables") TEXT_LIMIT
+    (question.journal ∷ question.given ∷ question.sent ∷ []) question.tables)
+    tables_in (journal_plan question) (journal_fits question)
+    c.read_tables-read.result c.verify_over.result
+    c.read_tables-read.ensures c.verify_over.ensures

@@ -1,0 +1,22 @@
+use Rattle.std.proofs.Common.{◌∙◌, ap, subst, codes}
+use Rattle.std.specs.Arc.{arc_value}
+use Rattle.command_io.specs.Plans.{EndsPlan}
+use Rattle.tase_tool.specs.Words.{question_seen}
+use Rattle.tase_tool.specs.Verifying.{key_meant, given_plan, AreAnswers}
+use Rattle.tase_tool.proofs.Verified.{IsRun-journal}
+use Rattle.tase_tool.proofs.verifying.verify_centre.Goals as goal
+
+pub returns : goal.returns
+returns g c =
+    let question = question_seen c.args.question in
+    let key = c.key_meant-key.result in
+    let read = c.read_answered-read.ensures in
+    let m = g.O.Outside.told c.read_answered-read.new.outside in
+    let a = g.O.Outside.told c.verify_answered.new.outside in
+    IsRun-journal question (arc_value c.args.centre.now) key
+    (g.O.Outside.told c.args.outside.now) m a c.verify_answered.result
+    (c.key_meant-key.ensures ∙ ap (λ rows. key_meant rows question) c.deref-tables.ensures)
+    read.0 read.1.0
+    (subst (λ rows. AreAnswers rows key read.0 c.read_answered-read.result
+    → EndsPlan (codes "journal") (given_plan question rows key) read.0 m a
+    c.verify_answered.result) c.deref-tables.ensures (c.verify_answered.ensures read.0) read.1.1)

@@ -1,0 +1,33 @@
+//! The captures of a command.
+ghost use Rattle.std.specs.Prelude.{◌≡◌};
+ghost use Rattle.command_io.specs.declared.input.TheConstants.{TEXT_LIMIT};
+ghost use Rattle.command_io.specs.Inputs.{value_as};
+ghost use Rattle.command_io.specs.Plans.{IsSpelled, ReadsValue, octets_of};
+ghost use Rattle.capture_text.specs.Captures.{capture_in};
+
+use capture_text::read_capture;
+use command_io::{InputEnd, TEXT_LIMIT, read_input, value_or_end};
+use outside_names::Outside;
+use std::alloc::Global;
+
+// The octets of a capture, or why there are none.
+fn octets_from(alloc: Global, text: &[u8]) -> Result<Vec<u8>, InputEnd>
+    ensures { IsSpelled (value_as octets_of result) (capture_in text.now) }
+{
+    value_or_end(read_capture(alloc, text))
+}
+
+/// Reads the octets of the capture under a name.
+pub(crate) fn read_octets<O: Outside>(
+    alloc: Global,
+    outside: &mut O,
+    name: &str,
+) -> Result<Vec<u8>, InputEnd>
+    ensures { ReadsValue capture_in name.now TEXT_LIMIT (value_as octets_of result)
+        (O.told outside.old) (O.told outside.new) }
+{
+    match read_input(alloc, outside, name, TEXT_LIMIT) {
+        Ok(text) => octets_from(alloc, &text),
+        Err(end) => Err(end),
+    }
+}
