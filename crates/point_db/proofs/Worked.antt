@@ -1,5 +1,5 @@
 -- Four updates of two states: a first one, the same again at another time, one of the other point,
--- and one of the first.
+-- and one of the first. Slots that watch two points, begin to and end to.
 use Rattle.std.proofs.Common.{◌≡◌, ℕ, List, [], ◌∷◌, refl}
 use Rattle.tase_points.specs.declared.kind.Kind.{Kind}
 use Rattle.tase_points.specs.declared.kind.Kind.TheVariants.{State as state_kind}
@@ -8,6 +8,7 @@ use Rattle.tase_points.specs.Sample.{Sample}
 use Rattle.tase_points.specs.Values.{unknown_sample}
 use Rattle.point_db.specs.Updates.{Updates, last_value, change_count, serial_of}
 use Rattle.point_db.specs.Stored.{last_serial}
+use Rattle.point_db.specs.WatchLists.{PointSlots, point_slots, with_watch, without_slot}
 
 abbrev kinds : List Kind
 kinds = state_kind ∷ state_kind ∷ []
@@ -43,3 +44,22 @@ at_last = refl
 
 at_other : last_serial kinds past 1 ≡ 2
 at_other = refl
+
+abbrev watch : List PointSlots
+watch = record { slots = 2 ∷ 5 ∷ []; spare = 2 } ∷ record { slots = 5 ∷ []; spare = 0 } ∷ []
+
+-- between two others, by one of the spare
+added : with_watch watch 0 3
+    ≡ record { slots = 2 ∷ 3 ∷ 5 ∷ []; spare = 1 } ∷ record { slots = 5 ∷ []; spare = 0 } ∷ []
+added = refl
+
+-- a slot that is there takes none
+added_again : with_watch watch 1 5 ≡ watch
+added_again = refl
+
+added_behind : (point_slots (with_watch watch 0 7) 0).slots ≡ 2 ∷ 5 ∷ 7 ∷ []
+added_behind = refl
+
+removed : without_slot watch 5
+    ≡ record { slots = 2 ∷ []; spare = 2 } ∷ record { slots = []; spare = 0 } ∷ []
+removed = refl

@@ -1,2 +1,3 @@
 pub mod Updates
 pub mod Stored
+pub mod WatchLists

@@ -3,6 +3,8 @@
 
 mod laws;
 mod store;
+mod watch;
 
-pub use laws::marks_tell_changes;
+pub use laws::{marks_tell_changes, watches_change_slot_by_slot, watching_slots_ascend};
 pub use store::{PointDb, SERIAL_LIMIT};
+pub use watch::Watch;

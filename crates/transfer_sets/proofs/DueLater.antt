@@ -60,13 +60,13 @@ due_later s from to later a b le x y = record {
   );
 }
 
-none_128 : HasCondition 0 128 → ⊥
+pub none_128 : HasCondition 0 128 → ⊥
 none_128 h = absurd (omega arith)
 
-none_64 : HasCondition 0 64 → ⊥
+pub none_64 : HasCondition 0 64 → ⊥
 none_64 h = absurd (omega arith)
 
-none_32 : HasCondition 0 32 → ⊥
+pub none_32 : HasCondition 0 32 → ⊥
 none_32 h = absurd (omega arith)
 
 neither : (H P G : Type 0) → (H → ⊥) → (P → G) → (G → H) → H ↔ P
@@ -85,7 +85,7 @@ none_off s from to off = record {
     never on = false≢true (sym off ∙ on)
 
 -- where nothing is due, nothing was due earlier
-none_earlier : (s : SlotState) (from to later : ℕ) → to ≤ later → AreDue s from later 0
+pub none_earlier : (s : SlotState) (from to later : ℕ) → to ≤ later → AreDue s from later 0
     → AreDue s from to 0
 none_earlier s from to later le x =
     let some = some_number s from to in

@@ -3,5 +3,9 @@ pub mod DueNumbers
 mod DueLater
 pub mod Followed
 mod Worked
+mod WorkedNext
 mod WorkedMoves
 mod BankLists
+mod FirstMoments
+mod NextMoments
+mod DueIndexes

@@ -11,7 +11,7 @@ use Rattle.transfer_sets.specs.Due.{conditions_due}
 abbrev each_two : Wish
 each_two = record empty_wish { interval = 2; conditions = 128 }
 
-abbrev running : SlotState
+abbrev pub running : SlotState
 running = enabled_by each_two 10000
 
 not_after_one_second : conditions_due running 10000 11000 ≡ 0
@@ -49,7 +49,7 @@ a_start_that_is_over = refl
 abbrev on_change : Wish
 on_change = record empty_wish { buffer = 3; conditions = 32; rbe = true }
 
-abbrev changed : SlotState
+abbrev pub changed : SlotState
 changed = record (enabled_by on_change 20000) { first = noted_at 21000 (noted_at 20000 None) }
 
 first_change_is_kept : changed.first ≡ Some 20000
@@ -73,7 +73,7 @@ nothing_left = refl
 
 -- every change told: 499 within the buffer make none due, 500 do, and so do 501; once the buffer
 -- has run out some are enough
-abbrev all_told : Wish
+abbrev pub all_told : Wish
 all_told = record on_change { all_changes = true }
 
 abbrev noted : Noted
@@ -83,7 +83,7 @@ noted = record {
   cov = 7;
 }
 
-abbrev with_notes : Wish → ℕ → SlotState
+abbrev pub with_notes : Wish → ℕ → SlotState
 with_notes w n = record (enabled_by w 20000) { first = Some 21000; noted = replicate n noted }
 
 not_of_499 : conditions_due (with_notes all_told 499) 21000 22000 ≡ 0
@@ -118,7 +118,7 @@ not_while_off :
 not_while_off = refl
 
 -- both at once, and none of a slot that isn't enabled
-abbrev both : Wish
+abbrev pub both : Wish
 both = record empty_wish { interval = 2; integrity = 3; conditions = 192 }
 
 both_at_six_seconds : conditions_due (enabled_by both 10000) 15000 16000 ≡ 192

@@ -5,3 +5,5 @@ pub mod Due
 pub mod SlotMoves
 pub mod Components
 pub mod WishData
+pub mod NextDue
+pub mod DueIndex

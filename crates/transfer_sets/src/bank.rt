@@ -5,6 +5,7 @@ ghost use Rattle.transfer_sets.specs.SlotState.{with_status};
 ghost use Rattle.transfer_sets.specs.Banks.{OwnedSlot, free_slot, free_slots, handed_slot, slot_at};
 ghost use Rattle.transfer_sets.specs.Banks.{with_wish, freed, told, HasMoreRoom, HasChanged};
 ghost use Rattle.transfer_sets.specs.Due.{AreDue};
+ghost use Rattle.transfer_sets.specs.NextDue.{IsNextMoment};
 
 use crate::noted::Noted;
 use crate::slot::Slot;
@@ -174,6 +175,16 @@ impl SlotBank {
         ensures { AreDue (slot_at self.now slot).state from to result }
     {
         self.slots[slot as usize].slot.due(from, to)
+    }
+
+    /// The next moment after another, below the limit of all such moments, at which something of a
+    /// transfer set is due if nothing befalls it until then; none where nothing is. In milliseconds
+    /// since 1970.
+    pub fn next_due(&self, slot: u32, from: u64) -> Option<u64>
+        requires { slot < length self.now }
+        ensures { IsNextMoment (slot_at self.now slot).state from result }
+    {
+        self.slots[slot as usize].slot.next_due(from)
     }
 
     /// Whether a member of the data set of a transfer set has changed since its last report.

@@ -7,8 +7,11 @@ ghost use Rattle.transfer_sets.specs.SlotState.{is_noted, noted_behind};
 ghost use Rattle.transfer_sets.specs.SlotMoves.{SlotMove, handed_out, wishes, changes, reports};
 ghost use Rattle.transfer_sets.specs.SlotMoves.{Places, last_wish, slot_in, FollowsMoves};
 ghost use Rattle.transfer_sets.specs.Due.{PassesMultiple, HasWaited, IsFull, AreDue, milliseconds};
+ghost use Rattle.transfer_sets.specs.NextDue.{IsNextMoment, IsFirstMoment, IsPassedTime};
+ghost use Rattle.transfer_sets.specs.NextDue.{IsRipeChange};
 ghost use Rattle.transfer_sets.specs.Wishes.{HasCondition};
 
+use crate::next_due::{DUE_LIMIT, below_limit, earlier, next_multiple, next_waited};
 use crate::noted::Noted;
 use crate::wish::{CHANGE, INTEGRITY, INTERVAL, Wish, base_of, has};
 use std::alloc::{AllocError, Global};
@@ -152,6 +155,48 @@ impl Slot {
             && passes_multiple(self.base, u64::from(self.wish.integrity) * 1000, from, to);
         let change = has(wished, CHANGE) && self.has_changes(to);
         sum_of(interval, integrity, change)
+    }
+
+    /// The next moment after another, below the limit of all such moments, at which something is
+    /// due if nothing befalls the slot until then; none where nothing is.
+    pub fn next_due(&self, from: u64) -> Option<u64>
+        ensures { IsNextMoment self.now.state from result }
+    {
+        if !self.wish.status {
+            return None;
+        }
+        if from >= DUE_LIMIT {
+            return None;
+        }
+        let interval = self.next_time(INTERVAL, self.wish.interval, from);
+        let integrity = self.next_time(INTEGRITY, self.wish.integrity, from);
+        earlier(earlier(interval, integrity), self.next_change(from))
+    }
+
+    /// The first moment at which a condition of time is due, where the wish has it.
+    fn next_time(&self, condition: u8, seconds: u32, from: u64) -> Option<u64>
+        requires some { 0 < condition }
+        requires limit { from < DUE_LIMIT }
+        ensures { IsFirstMoment (IsPassedTime self.now.state condition seconds from) from result }
+    {
+        if !has(self.wish.conditions, condition) {
+            return None;
+        }
+        next_multiple(self.base, seconds, from)
+    }
+
+    /// The first moment at which changes are to be told, where the wish has their condition.
+    fn next_change(&self, from: u64) -> Option<u64>
+        requires { from < DUE_LIMIT }
+        ensures { IsFirstMoment (IsRipeChange self.now.state) from result }
+    {
+        if !has(self.wish.conditions, CHANGE) {
+            return None;
+        }
+        if self.is_full() {
+            return below_limit(from + 1);
+        }
+        next_waited(self.first, self.wish.buffer, from)
     }
 
     /// Whether changes are to be told at this moment: the first has waited for the time of the
