@@ -142,6 +142,17 @@ timed-tick last now e = by (leb MOMENT_LIMIT now) refl e
     by true same none = absurd (none-some ClockRange (sym none))
     by false same none = leb-false MOMENT_LIMIT now same
 
+-- and above the last one
+pub later-tick : (last now : ℕ) → clock_refusal_by last (sort_of (Tick now)) ≡ None → last < now
+later-tick last now e = by (leb MOMENT_LIMIT now) (leb now last) refl e
+  where
+    by : (a b : Bool) → leb now last ≡ b
+        → (if a then Some ClockRange else (if b then Some (Backward last) else None)) ≡ None
+        → last < now
+    by true b same none = absurd (none-some ClockRange (sym none))
+    by false true same none = absurd (none-some (Backward last) (sym none))
+    by false false same none = leb-false now last same
+
 pub named-table : (rows : CentreRows) (peer variant : ℕ)
     → name_refusal rows (Table peer variant) ≡ None
     → (peer < length rows.tables) × (variant < length (variants_of rows peer))

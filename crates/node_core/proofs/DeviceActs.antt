@@ -22,15 +22,18 @@ use Rattle.tase_views.specs.Objects.{Object, constant, report_variable, indicati
 use Rattle.tase_views.specs.Objects.{next_transfer_set, control_point, selection, device_tag}
 use Rattle.tase_views.specs.Objects.{timeout, transfer_set, transfer_set_status, object_named}
 use Rattle.tase_views.specs.Moves.{Act, reads, writes, deletes, writes_of, acts_of_call}
-use Rattle.tase_views.specs.Devices.{Deed, done_by, deed_of, write_deed, read_deed, number_in, tag_in}
+use Rattle.tase_views.specs.Devices.{Deed, done_by, deed_of, write_deed, read_deed, number_in}
+use Rattle.tase_views.specs.Devices.{tag_in}
 use Rattle.tase_views.specs.Slots.{type_inconsistent, value_invalid}
-use Rattle.node_devices.specs.DeviceBanks.{row_control, number_of, devices_by, orders_given_by, devices_behind}
+use Rattle.node_devices.specs.DeviceBanks.{row_control, number_of, devices_by, orders_given_by}
+use Rattle.node_devices.specs.DeviceBanks.{devices_behind}
 use Rattle.node_devices.specs.DeviceBanks.{orders_behind, HaveActed}
 use Rattle.node_core.specs.declared.writes.Asked.{Asked}
 use Rattle.node_core.specs.declared.writes.Asked.TheVariants.{Answered, Wished, Switched}
 use Rattle.node_core.specs.declared.writes.Asked.TheVariants.{Operated, Tagged}
 use Rattle.node_core.specs.SlotWrites.{operand, asked_of, all_asked}
-use Rattle.node_core.specs.DeviceWrites.{AreOfRows, devices_read, devices_asked, orders_asked, all_devices}
+use Rattle.node_core.specs.DeviceWrites.{AreOfRows, devices_read, devices_asked, orders_asked}
+use Rattle.node_core.specs.DeviceWrites.{all_devices}
 use Rattle.node_core.specs.DeviceWrites.{all_left, all_orders}
 use Rattle.node_core.specs.PeerParts.{EachAct}
 use Rattle.node_core.specs.Shown.{IsCalm}

@@ -45,3 +45,9 @@ pub mod DeviceNames
 pub mod SelectionsEnded
 pub mod LateSelections
 pub mod TagForms
+pub mod WatchRoom
+pub mod Indexes
+pub mod Indexing
+pub mod TickDrafts
+pub mod PeerTotals
+pub mod Bounds

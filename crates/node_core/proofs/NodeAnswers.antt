@@ -1,8 +1,9 @@
 -- What the answers of a node's functions have in common.
-use Rattle.std.proofs.Common.{◌≡◌, ◌^◌, ◌≤◌, ◌<◌, ℕ, false, [], ◌∷◌, ◌++◌, length, reverse}
-use Rattle.std.proofs.Common.{Option, Some, None, sym, ◌∙◌, arith}
+use Rattle.std.proofs.Common.{◌≡◌, ◌^◌, ◌≤◌, ◌<◌, ℕ, false, List, [], ◌∷◌, ◌++◌, length, reverse}
+use Rattle.std.proofs.Common.{Option, Some, None, sym, subst, ◌∙◌, arith}
 use Rattle.std.specs.Arc.{arc_value}
 use Rattle.std.specs.HashMap.{hash_map_len}
+use Rattle.bilateral.specs.Rows.{CentreRows, IsCentre}
 use Rattle.sbo_device.specs.declared.key.Key.{Key}
 use Rattle.tase_views.specs.declared.event.EventKind.{EventKind}
 use Rattle.tase_views.specs.History.{association_in}
@@ -14,10 +15,14 @@ use Rattle.node_core.specs.LogState.{LogState}
 use Rattle.node_core.specs.NodeState.{NodeState}
 use Rattle.node_core.specs.Room.{past_of, HasRoom, IsReserved, LeavesSeats, MayAppend}
 use Rattle.node_core.specs.Stored.{IsNode, found_by}
+use Rattle.node_core.specs.declared.index.PeerIndex.{PeerIndex}
+use Rattle.node_core.specs.declared.peer.Peer.{Peer}
+use Rattle.node_core.specs.Indexed.{AreIndexed, OthersStay, HasIndex}
 use Rattle.node_core.proofs.Causes.{IsFree, free_in, light-fits}
 use Rattle.node_core.proofs.Outcomes.{reverse_push}
 use Rattle.node_core.proofs.Rooms.{MayAppend-reserved}
 use Rattle.node_core.proofs.NodeSteps.{seat_there}
+use Rattle.node_core.proofs.Indexing.{has_index-of}
 
 -- what a node is seen as
 abbrev pub seen_as : Inside → NodeState
@@ -58,6 +63,14 @@ IsSeated node who key = (association_in (past_of node.log) who ≡ Some key)
 -- a log is light enough for one more entry
 pub light_enough : {log : LogState} {seats : ℕ} → HasRoom log seats → log.weight ≤ 2 ^ 62
 light_enough room = omega (arith, room.bounded, room.light)
+
+-- indexes as the node keeps them, of those that code of these rows left
+pub indexed_as : {rows is : CentreRows} {now clock : ℕ} (parts : Parts) → rows ≡ is
+    → now ≡ clock → AreIndexed rows now parts.peers.items parts.indexes.items
+    → AreIndexed is clock parts.peers.items parts.indexes.items
+indexed_as {rows} {is} {now} {clock} parts same at a =
+    subst (λ (r : CentreRows). AreIndexed r clock parts.peers.items parts.indexes.items) same
+    (subst (λ (m : ℕ). AreIndexed rows m parts.peers.items parts.indexes.items) at a)
 
 module _ (node : Inside) where
   -- that an event isn't refused
@@ -116,3 +129,39 @@ module _ (node : Inside) where
               (rw e (MayAppend-reserved node.log mid who is _ goes_on reserved.limit
               reserved.entries fits (rw (← counted, ← e) reserved.ok))),
         )
+
+    -- the indexes as code of these rows finds them, at the clock's moment
+    pub indexed_at : {rows : CentreRows} {now : ℕ} → rows ≡ arc_value node.centre
+        → now ≡ node.hub.last_tick
+        → AreIndexed rows now node.parts.peers.items node.parts.indexes.items
+    indexed_at {rows} {now} is clock =
+        subst (λ (r : CentreRows). AreIndexed r now node.parts.peers.items
+        node.parts.indexes.items) (sym is)
+        (subst (λ (m : ℕ). AreIndexed (arc_value node.centre) m node.parts.peers.items
+        node.parts.indexes.items) (sym clock) kept.0.indexed)
+
+    -- the indexes where that of one peer was made anew behind a change of its part
+    pub reindexed : {rows : CentreRows} {now peer : ℕ} (mid new : Parts)
+        → rows ≡ arc_value node.centre → now ≡ node.hub.last_tick
+        → mid.indexes.items ≡ node.parts.indexes.items
+        → OthersStay peer node.parts.peers.items mid.peers.items
+        → ((before : List Peer) → OthersStay peer before mid.peers.items
+        → AreIndexed rows now before mid.indexes.items
+        → AreIndexed rows now new.peers.items new.indexes.items)
+        → AreIndexed (arc_value node.centre) node.hub.last_tick new.peers.items new.indexes.items
+    reindexed {rows} {now} {peer} mid new is clock indexes stay anew =
+        indexed_as new is clock (anew node.parts.peers.items stay
+        (subst (λ (l : List PeerIndex). AreIndexed rows now node.parts.peers.items l) (sym indexes)
+        (indexed_at is clock)))
+
+    -- a peer has its index
+    pub has_index : {rows : CentreRows} {peer : ℕ} {indexes : List PeerIndex}
+        → rows ≡ arc_value node.centre → indexes ≡ node.parts.indexes.items
+        → peer < length (arc_value node.centre).tables → HasIndex rows peer indexes
+    has_index {rows} {peer} {indexes} is same known =
+        subst (λ (r : CentreRows). HasIndex r peer indexes) (sym is)
+        (subst (λ (l : List PeerIndex). HasIndex (arc_value node.centre) peer l) (sym same)
+        (has_index-of _ _ _ _ kept.0.indexed peer (omega (arith, known, kept.0.peers.many))))
+
+    pub lawful_at : {rows : CentreRows} → rows ≡ arc_value node.centre → IsCentre rows
+    lawful_at {rows} is = subst IsCentre (sym is) kept.0.common.lawful

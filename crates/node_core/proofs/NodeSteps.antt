@@ -1,6 +1,7 @@
 -- What a node keeps is that of the history with one more entry.
 use Rattle.std.proofs.Common.{◌≡◌, ◌≢◌, ◌==◌, ℕ, ◌+◌, ◌^◌, ◌%◌, ◌<◌, Bool, true, false, List, []}
-use Rattle.std.proofs.Common.{◌∷◌, ◌++◌, map, Option, Some, None, length, refl, sym, ap, subst, ◌∙◌, ⊎_elim}
+use Rattle.std.proofs.Common.{◌∷◌, ◌++◌, map, Option, Some, None, length, refl, sym, ap, subst, ◌∙◌}
+use Rattle.std.proofs.Common.{⊎_elim}
 use Rattle.std.proofs.Common.{arith}
 use Rattle.std.proofs.lemmas.Bool.{false≢true, eq-eqb, ne_eqb, eqb-true, cases_eq}
 use Rattle.std.proofs.lemmas.Option.{slice_get_within, same_Some}
@@ -58,6 +59,8 @@ use Rattle.node_core.specs.DeviceWrites.{devices_read, all_left, all_devices, al
 use Rattle.node_core.specs.PeerParts.{IsReplyTo, IsReplyBy, acts_asked}
 use Rattle.node_core.specs.Stored.{AreParts, IsNode, found_by, IsPeerThere, MayOpen, IsChanged}
 use Rattle.node_core.specs.Stored.{IsAsked}
+use Rattle.node_core.specs.Indexed.{AreIndexed}
+use Rattle.node_core.proofs.Indexing.{IsSameIndexed, AreIndexed-alike, AreIndexed-set}
 use Rattle.node_core.specs.Stored.{IsCalmRequest, IsReplied}
 use Rattle.node_core.specs.declared.writes.Asked.{Asked}
 use Rattle.transfer_sets.specs.Banks.{OwnedSlot}
@@ -85,9 +88,9 @@ use Rattle.node_core.proofs.Steps.{opens_in-le-length}
 pub IsNode-alike : (rows : CentreRows) (past : Past) (hub new : Hub) (parts after : Parts)
     → new.plant ≡ hub.plant → new.last_tick ≡ hub.last_tick
     → ((who : ℕ) → found_by new who ≡ found_by hub who)
-    → after.peers.items ≡ parts.peers.items → IsNode rows past hub parts
-    → IsNode rows past new after
-IsNode-alike rows past hub new parts after plant clock seats peers n = record {
+    → after.peers.items ≡ parts.peers.items → after.indexes.items ≡ parts.indexes.items
+    → IsNode rows past hub parts → IsNode rows past new after
+IsNode-alike rows past hub new parts after plant clock seats peers indexes n = record {
   common = record {
     lawful = n.common.lawful;
     kept = rw plant n.common.kept;
@@ -98,6 +101,7 @@ IsNode-alike rows past hub new parts after plant clock seats peers n = record {
   clock = clock ∙ n.clock;
   timed = rw clock n.timed;
   peers = rw peers n.peers;
+  indexed = rw (clock, peers, indexes) n.indexed;
 }
 
 -- a seat that is given an association, which is taken back, is as before
@@ -150,16 +154,35 @@ one_each peer old new one = record {
 
 pub IsNode-drafted : (rows : CentreRows) (past : Past) (hub : Hub) (parts after : Parts)
     → EachBecomes (λ peer. IsAlike) parts.peers.items after.peers.items
+    → after.indexes.items ≡ parts.indexes.items
     → IsNode rows past hub parts → IsNode rows past hub after
-IsNode-drafted rows past hub parts after alike n = record {
+IsNode-drafted rows past hub parts after alike indexes n = record {
   common = n.common;
   clock = n.clock;
   timed = n.timed;
   peers = AreParts-alike rows past parts.peers.items after.peers.items alike n.peers;
+  indexed = rw indexes (AreIndexed-alike rows hub.last_tick parts.peers.items after.peers.items
+      parts.indexes.items alike n.indexed);
 }
 
 module _ (rows : CentreRows) (past : Past) (hub : Hub) (parts : Parts)
     (n : IsNode rows past hub parts) where
+  -- where no part's transfer sets, data sets or table in force change, nor the indexes
+  still_indexed : (new : Hub) (after : Parts) → new.last_tick ≡ hub.last_tick
+      → after ≡ parts → AreIndexed rows new.last_tick after.peers.items after.indexes.items
+  still_indexed new after clock same = rw (clock, same) n.indexed
+
+  -- where one part changes, and as far as indexes go is as before
+  set_indexed : (new : Hub) (after : Parts) (peer : ℕ) (part behind : Peer)
+      → new.last_tick ≡ hub.last_tick → after.indexes.items ≡ parts.indexes.items
+      → slice_get parts.peers.items peer ≡ Some part
+      → after.peers.items ≡ slice_set parts.peers.items peer behind
+      → IsSameIndexed part behind
+      → AreIndexed rows new.last_tick after.peers.items after.indexes.items
+  set_indexed new after peer part behind clock indexes at is same =
+      rw (clock, indexes) (AreIndexed-set rows hub.last_tick parts.peers.items after.peers.items
+      parts.indexes.items peer part behind at is same n.indexed)
+
   -- a peer's part
   pub its_part : (peer : ℕ) → peer < length rows.tables
       → (part : Peer) × (slice_get parts.peers.items peer ≡ Some part)
@@ -228,14 +251,15 @@ module _ (rows : CentreRows) (past : Past) (hub : Hub) (parts : Parts)
         subst (λ (found : Option Key).
         IsDeviceBank rows (moves_by found (act ∷ []) ++ moves_in past) bank) (sym seated) b
 
-    pub IsNode-open : (peer : ℕ) (key : Key) → peer < length rows.tables
+    pub IsNode-open : after.indexes.items ≡ parts.indexes.items
+        → (peer : ℕ) (key : Key) → peer < length rows.tables
         → key ≡ next_key past peer → new.plant ≡ hub.plant → new.last_tick ≡ hub.last_tick
         → ((asked : ℕ) → found_by new asked
         ≡ (if who == asked then Some key else found_by hub asked))
         → ((tables : OwnTables) (now : ℕ) → IsChanged parts.peers.items peer
         (λ part. part_after tables now (own part.opened_in_all opens) part) after.peers.items)
         → IsNode rows (record { who = who; event = Open peer } ∷ past) new after
-    IsNode-open peer key there key_is plant clock seats changed =
+    IsNode-open indexes peer key there key_is plant clock seats changed =
         let part = its_part peer there in
         let all = opens-at rows past parts.peers.items n.peers peer part.0 part.1 in
         record {
@@ -246,6 +270,9 @@ module _ (rows : CentreRows) (past : Past) (hub : Hub) (parts : Parts)
               (λ asked. seats asked ∙ ap (λ (k : Key). if who == asked then Some k
               else found_by hub asked) key_is);
           clock = clock ∙ n.clock;
+          indexed = set_indexed new after peer part.0 _ clock indexes part.1
+              (changed (own_tables rows peer) (last_tick past) part.0 part.1)
+              (record { many = refl; state = λ s. refl; book = refl; variant = refl });
           timed = rw clock n.timed;
           peers = rw (changed (own_tables rows peer) (last_tick past) part.0 part.1
               ∙ ap (λ (k : ℕ). slice_set parts.peers.items peer (part_after (own_tables rows peer)
@@ -262,10 +289,12 @@ module _ (rows : CentreRows) (past : Past) (hub : Hub) (parts : Parts)
         → new.last_tick ≡ hub.last_tick
         → ((asked : ℕ) → found_by new asked
         ≡ (if who == asked then None else found_by hub asked))
-        → ((now : ℕ) → IsChanged parts.peers.items key.peer
-        (part_after (own_tables rows key.peer) now (own key.ordinal closes)) after.peers.items)
+        → IsChanged parts.peers.items key.peer
+        (part_after (own_tables rows key.peer) (last_tick past) (own key.ordinal closes))
+        after.peers.items
+        → AreIndexed rows new.last_tick after.peers.items after.indexes.items
         → IsNode rows (record { who = who; event = Close } ∷ past) new after
-    IsNode-close key seated points devices clock seats changed =
+    IsNode-close key seated points devices clock seats changed indexed =
         let part = its_part key.peer (seat_there who key seated) in
         record {
           common = IsCommon-close rows past hub.plant (found_by hub) who n.common new.plant
@@ -275,17 +304,19 @@ module _ (rows : CentreRows) (past : Past) (hub : Hub) (parts : Parts)
               (ap (λ (b : BankState). b.orders) devices) n.common.devices))
               seats;
           clock = clock ∙ n.clock;
+          indexed = indexed;
           timed = rw clock n.timed;
-          peers = rw (changed (last_tick past) part.0 part.1)
+          peers = rw (changed part.0 part.1)
               (AreParts-close rows n.common.lawful past who parts.peers.items key part.0 seated
               part.1 n.peers);
         }
 
-    pub IsNode-take : (key : Key) → association_in past who ≡ Some key → new ≡ hub
+    pub IsNode-take : after.indexes.items ≡ parts.indexes.items
+        → (key : Key) → association_in past who ≡ Some key → new ≡ hub
         → ((tables : OwnTables) (now : ℕ) → IsChanged parts.peers.items key.peer
         (part_after tables now (own key.ordinal takes)) after.peers.items)
         → IsNode rows (record { who = who; event = Take } ∷ past) new after
-    IsNode-take key seated same changed =
+    IsNode-take indexes key seated same changed =
         let part = its_part key.peer (seat_there who key seated) in
         record {
           common = rw same (IsCommon-still rows past hub.plant (found_by hub) who n.common hub.plant
@@ -293,6 +324,10 @@ module _ (rows : CentreRows) (past : Past) (hub : Hub) (parts : Parts)
               (at_seat key seated takes (idle_followed rows (moves_in past) (acts key takes)
               hub.plant.devices hub.plant.devices tt refl refl n.common.devices)));
           clock = rw same n.clock;
+          indexed = set_indexed new after key.peer part.0 _ (ap (λ (h : Hub). h.last_tick) same)
+              indexes part.1
+              (changed (own_tables rows key.peer) (last_tick past) part.0 part.1)
+              (record { many = refl; state = λ s. refl; book = refl; variant = refl });
           timed = rw same n.timed;
           peers = rw (changed (own_tables rows key.peer) (last_tick past) part.0 part.1)
               (AreParts-take rows n.common.lawful past who parts.peers.items key part.0 seated
@@ -322,7 +357,8 @@ module _ (rows : CentreRows) (past : Past) (hub : Hub) (parts : Parts)
         (view_of rows peer past) shown before)
         r p
 
-    pub IsNode-tick : (centre : CentreRows) (plant : Plant) (from now : ℕ) (mid : Parts)
+    pub IsNode-tick : AreIndexed rows new.last_tick after.peers.items after.indexes.items
+        → (centre : CentreRows) (plant : Plant) (from now : ℕ) (mid : Parts)
         → now < MOMENT_LIMIT → centre ≡ rows → plant ≡ hub.plant → from ≡ hub.last_tick
         → EachBecomes (λ peer. IsAlike) parts.peers.items mid.peers.items
         → EachBecomes (λ peer part behind.
@@ -339,7 +375,7 @@ module _ (rows : CentreRows) (past : Past) (hub : Hub) (parts : Parts)
           };
         }
         → IsNode rows (record { who = who; event = Tick now } ∷ past) new after
-    IsNode-tick centre plant from now mid below is kept clock alike drafted noted same =
+    IsNode-tick indexed centre plant from now mid below is kept clock alike drafted noted same =
         let cause = ReportCause.Tick from now in
         let m = AreParts-alike rows past parts.peers.items mid.peers.items alike n.peers in
         record {
@@ -348,6 +384,7 @@ module _ (rows : CentreRows) (past : Past) (hub : Hub) (parts : Parts)
               (ticked_followed rows (moves_in past) now hub.plant.devices _ refl refl
               n.common.devices));
           clock = rw same refl;
+          indexed = indexed;
           timed = rw same below;
           peers = AreParts-each rows n.common.lawful past who mid.peers.items (Tick now)
               after.peers.items (λ before. refl) noted.many
@@ -363,7 +400,8 @@ module _ (rows : CentreRows) (past : Past) (hub : Hub) (parts : Parts)
               )) m;
         }
 
-    pub IsNode-ask : (centre : CentreRows) (plant : Plant) (from asker slot : ℕ)
+    pub IsNode-ask : AreIndexed rows new.last_tick after.peers.items after.indexes.items
+        → (centre : CentreRows) (plant : Plant) (from asker slot : ℕ)
         (mid : Parts) → centre ≡ rows → plant ≡ hub.plant → from ≡ hub.last_tick
         → asker < length rows.tables
         → OneBecomes IsAlike asker parts.peers.items mid.peers.items
@@ -374,7 +412,7 @@ module _ (rows : CentreRows) (past : Past) (hub : Hub) (parts : Parts)
         after.peers.items
         → new ≡ hub
         → IsNode rows (record { who = who; event = Ask asker slot } ∷ past) new after
-    IsNode-ask centre plant from asker slot mid is kept clock there alike drafted noted same =
+    IsNode-ask indexed centre plant from asker slot mid is kept clock there alike drafted noted same =
         let cause = ReportCause.Ask slot from in
         let m = AreParts-alike rows past parts.peers.items mid.peers.items
         (one_each asker parts.peers.items mid.peers.items alike) n.peers in
@@ -382,6 +420,7 @@ module _ (rows : CentreRows) (past : Past) (hub : Hub) (parts : Parts)
           common = rw same (IsCommon-still rows past hub.plant (found_by hub) who n.common hub.plant
               (Ask asker slot) (λ before. refl) n.common.kept (stays (asks asker slot) tt));
           clock = rw same n.clock;
+          indexed = indexed;
           timed = rw same n.timed;
           peers = AreParts-each rows n.common.lawful past who mid.peers.items (Ask asker slot)
               after.peers.items (λ before. refl) noted.many
@@ -421,6 +460,7 @@ module _ (rows : CentreRows) (past : Past) (hub : Hub) (parts : Parts)
       common = rw same (IsCommon-still rows past hub.plant (found_by hub) who n.common hub.plant
           Stop (λ before. refl) n.common.kept (stays stops tt));
       clock = rw same n.clock;
+      indexed = still_indexed new after (ap (λ (h : Hub). h.last_tick) same) alike;
       timed = rw same n.timed;
       peers = rw alike (AreParts-stop rows n.common.lawful past who parts.peers.items n.peers);
     }
@@ -441,15 +481,17 @@ module _ (rows : CentreRows) (past : Past) (hub : Hub) (parts : Parts)
         mid.peers.items after.peers.items)
         → (changed ≡ false → after.peers.items ≡ mid.peers.items)
         → new.seats ≡ hub.seats → new.last_tick ≡ hub.last_tick
+        → AreIndexed rows new.last_tick after.peers.items after.indexes.items
         → IsNode rows (record { who = who; event = Update point value } ∷ past) new after
     IsNode-update centre from point value mid changed cov same at_now known alike ready kept
-        devices is cov_is noting leaving seats clock =
+        devices is cov_is noting leaving seats clock indexed =
         let m = AreParts-alike rows past parts.peers.items mid.peers.items alike n.peers in
         record {
           common = rw seats (IsCommon-still rows past hub.plant (found_by hub) who n.common
               new.plant (Update point value) (λ before. refl) kept
               (idled (updates point value) tt devices));
           clock = clock ∙ n.clock;
+          indexed = indexed;
           timed = rw clock n.timed;
           peers = by m changed refl;
         }
@@ -498,19 +540,21 @@ module _ (rows : CentreRows) (past : Past) (hub : Hub) (parts : Parts)
                   ∙ open_one,
             )) m
 
-    pub IsNode-chosen : (peer variant : ℕ) → peer < length rows.tables
+    pub IsNode-chosen : AreIndexed rows new.last_tick after.peers.items after.indexes.items
+        → (peer variant : ℕ) → peer < length rows.tables
         → variant < length (variants_of rows peer) → new ≡ hub
-        → ((now : ℕ) → IsChanged parts.peers.items peer
-        (part_after (own_tables rows peer) now (chose variant)) after.peers.items)
+        → IsChanged parts.peers.items peer
+        (part_after (own_tables rows peer) (last_tick past) (chose variant)) after.peers.items
         → IsNode rows (record { who = who; event = Table peer variant } ∷ past) new after
-    IsNode-chosen peer variant there known same changed =
+    IsNode-chosen indexed peer variant there known same changed =
         let part = its_part peer there in
         record {
           common = rw same (IsCommon-still rows past hub.plant (found_by hub) who n.common hub.plant
               (Table peer variant) (λ before. refl) n.common.kept (stays (chooses peer variant) tt));
           clock = rw same n.clock;
+          indexed = indexed;
           timed = rw same n.timed;
-          peers = rw (changed (last_tick past) part.0 part.1)
+          peers = rw (changed part.0 part.1)
               (AreParts-chosen rows n.common.lawful past who parts.peers.items peer variant part.0
               known part.1 n.peers);
         }
@@ -528,6 +572,7 @@ module _ (rows : CentreRows) (past : Past) (hub : Hub) (parts : Parts)
           n.common.lawful known (ap (λ (b : BankState). b.devices) devices)
           (ap (λ (b : BankState). b.orders) devices) n.common.devices));
       clock = clock ∙ n.clock;
+      indexed = still_indexed new after clock alike;
       timed = rw clock n.timed;
       peers = rw alike (AreParts-tagged rows n.common.lawful past who parts.peers.items device tag
           n.peers);
@@ -545,12 +590,14 @@ module _ (rows : CentreRows) (past : Past) (hub : Hub) (parts : Parts)
           (ap (λ (b : BankState). b.devices) devices) (ap (λ (b : BankState). b.orders) devices)
           n.common.devices));
       clock = clock ∙ n.clock;
+      indexed = still_indexed new after clock alike;
       timed = rw clock n.timed;
       peers = rw alike (AreParts-orders rows n.common.lawful past who parts.peers.items n.peers);
     }
 
     -- a call, behind whose acts its peer's part and the devices stand
-    IsNode-called : (key : Key) (call : CallKind) → association_in past who ≡ Some key
+    IsNode-called : AreIndexed rows new.last_tick after.peers.items after.indexes.items
+        → (key : Key) (call : CallKind) → association_in past who ≡ Some key
         → new.plant.points ≡ hub.plant.points → new.seats ≡ hub.seats
         → new.last_tick ≡ hub.last_tick
         → ((part : Peer) → slice_get parts.peers.items key.peer ≡ Some part
@@ -563,7 +610,7 @@ module _ (rows : CentreRows) (past : Past) (hub : Hub) (parts : Parts)
         (part_behind (own_tables rows key.peer) (last_tick past) key.ordinal (acts_of_call call)
         part))
         → IsNode rows (record { who = who; event = Request call } ∷ past) new after
-    IsNode-called key call seated points seats clock acted lawful changed =
+    IsNode-called indexed key call seated points seats clock acted lawful changed =
         let part = its_part key.peer (seat_there who key seated) in
         let table_is = ap (table_in (own_tables rows key.peer)) part.2.in_force
         ∙ held-seen rows (own_tables rows) key.peer (moves_in past) in
@@ -579,6 +626,7 @@ module _ (rows : CentreRows) (past : Past) (hub : Hub) (parts : Parts)
               (moves_by found (acts_of_call call) ++ moves_in past) new.plant.devices) (sym seated)
               devices));
           clock = clock ∙ n.clock;
+          indexed = indexed;
           timed = rw clock n.timed;
           peers = rw (changed part.0 part.1 part.2)
               (AreParts-called rows n.common.lawful past who parts.peers.items key call part.0
@@ -601,10 +649,11 @@ module _ (rows : CentreRows) (past : Past) (hub : Hub) (parts : Parts)
         → IsChanged parts.peers.items key.peer
         (λ part. record part { slots = handed_all key.ordinal handed part.slots })
         after.peers.items
+        → AreIndexed rows new.last_tick after.peers.items after.indexes.items
         → IsNode rows (record { who = who; event = Request (Read names echo) } ∷ past) new after
     IsNode-read now key names echo handed at_now seated points seats clock devices orders hands
-        changed =
-        IsNode-called key (Read names echo) seated points seats clock
+        changed indexed =
+        IsNode-called indexed key (Read names echo) seated points seats clock
         (λ part at.
         let table = table_in (own_tables rows key.peer) part.variant in
         subst (λ (k : ℕ). HaveActed rows table k key (acts_of_call (Read names echo))
@@ -634,10 +683,11 @@ module _ (rows : CentreRows) (past : Past) (hub : Hub) (parts : Parts)
               key.ordinal now (all_left key asked hub.plant.devices.devices) part.slots;
         })
         after.peers.items
+        → AreIndexed rows new.last_tick after.peers.items after.indexes.items
         → IsNode rows (record { who = who; event = Request (Write names values) } ∷ past) new after
     IsNode-write now key names values asked at_now seated points seats clock asking devices orders
-        changed =
-        IsNode-called key (Write names values) seated points seats clock
+        changed indexed =
+        IsNode-called indexed key (Write names values) seated points seats clock
         (λ part at.
         let table = table_in (own_tables rows key.peer) part.variant in
         subst (λ (k : ℕ). HaveActed rows table k key (acts_of_call (Write names values))
@@ -666,7 +716,8 @@ module _ (rows : CentreRows) (past : Past) (hub : Hub) (parts : Parts)
         at_now))
 
     -- a request that neither reads nor writes, whose reply is that which the view gives
-    pub IsNode-request : (key : Key) (event : EventKind) (reply : ReplyKind)
+    pub IsNode-request : AreIndexed rows new.last_tick after.peers.items after.indexes.items
+        → (key : Key) (event : EventKind) (reply : ReplyKind)
         → association_in past who ≡ Some key → IsCalmRequest event
         → IsReplied rows past key event reply → new ≡ hub
         → EachAct IsLawfulAct (acts_asked event)
@@ -674,24 +725,24 @@ module _ (rows : CentreRows) (past : Past) (hub : Hub) (parts : Parts)
         (λ table book. IsReplyBy table book event reply)
         parts.peers.items after.peers.items
         → IsNode rows (record { who = who; event = event } ∷ past) new after
-    IsNode-request key (Open peer) reply seated request replied same lawful asked = absurd request
-    IsNode-request key Take reply seated request replied same lawful asked = absurd request
-    IsNode-request key Close reply seated request replied same lawful asked = absurd request
-    IsNode-request key (Update point value) reply seated request replied same lawful asked =
+    IsNode-request indexed key (Open peer) reply seated request replied same lawful asked = absurd request
+    IsNode-request indexed key Take reply seated request replied same lawful asked = absurd request
+    IsNode-request indexed key Close reply seated request replied same lawful asked = absurd request
+    IsNode-request indexed key (Update point value) reply seated request replied same lawful asked =
         absurd request
-    IsNode-request key (Table peer variant) reply seated request replied same lawful asked =
+    IsNode-request indexed key (Table peer variant) reply seated request replied same lawful asked =
         absurd request
-    IsNode-request key (Tick now) reply seated request replied same lawful asked =
+    IsNode-request indexed key (Tick now) reply seated request replied same lawful asked =
         absurd request
-    IsNode-request key (Ask asker slot) reply seated request replied same lawful asked =
+    IsNode-request indexed key (Ask asker slot) reply seated request replied same lawful asked =
         absurd request
-    IsNode-request key (events.Tag device tag) reply seated request replied same lawful asked =
+    IsNode-request indexed key (events.Tag device tag) reply seated request replied same lawful asked =
         absurd request
-    IsNode-request key TakeOrders reply seated request replied same lawful asked =
+    IsNode-request indexed key TakeOrders reply seated request replied same lawful asked =
         absurd request
-    IsNode-request key Stop reply seated request replied same lawful asked = absurd request
-    IsNode-request key (Request call) reply seated request replied same lawful asked =
-        IsNode-called key call seated (ap (λ (h : Hub). h.plant.points) same)
+    IsNode-request indexed key Stop reply seated request replied same lawful asked = absurd request
+    IsNode-request indexed key (Request call) reply seated request replied same lawful asked =
+        IsNode-called indexed key call seated (ap (λ (h : Hub). h.plant.points) same)
         (ap (λ (h : Hub). h.seats) same) (ap (λ (h : Hub). h.last_tick) same)
         (λ part at. subst (λ (h : Hub). HaveActed rows
         (table_in (own_tables rows key.peer) part.variant) (last_tick past) key

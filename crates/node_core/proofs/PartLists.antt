@@ -3,6 +3,7 @@
 use Rattle.std.proofs.Common.{◌≡◌, ◌≢◌, ℕ, ◌+◌, ◌<◌, ◌≤◌, List, map, set, length, get_or, Some}
 use Rattle.std.proofs.Common.{refl, sym, ap, ◌∙◌, subst, ⊎_elim, arith, length-set}
 use Rattle.std.proofs.Common.{get_or-set_same, get_or-set_other, slice_get}
+use Rattle.std.specs.List.{All}
 use Rattle.std.proofs.lemmas.Bool.{cases_eq, cases_lt}
 use Rattle.std.proofs.lemmas.List.{length-map}
 use Rattle.std.proofs.lemmas.Option.{slice_get_read, slice_get_within, get_or_from_slice_get}
@@ -17,7 +18,7 @@ use Rattle.node_core.specs.declared.plant.Plant.{Plant}
 use Rattle.node_core.specs.Associations.{OpenAssociation, association_at, undrafted, drafted_by}
 use Rattle.node_core.specs.Shown.{Shown, InEachView, shown_of}
 use Rattle.node_core.specs.SlotFeeds.{move_of, moment_before}
-use Rattle.node_core.specs.PartFeeds.{IsAlike, IsDrafted, OneBecomes, EachBecomes}
+use Rattle.node_core.specs.PartFeeds.{IsAlike, OneBecomes, EachBecomes}
 use Rattle.node_core.specs.Stored.{IsPeerThere, IsPeerShown, IsPeerBanked}
 use Rattle.node_core.proofs.SlotFeeds.{HasMoreRoom-refl}
 
@@ -34,7 +35,7 @@ pub part_is : (old : List Peer) (peer : ℕ) (part before : Peer) → peer < len
 part_is old peer part before there read at =
     same_Some part before (sym (part_read old peer part there read) ∙ at)
 
-slice_get-set_other : (old : List Peer) (peer other : ℕ) (after : Peer) → other ≢ peer
+pub slice_get-set_other : (old : List Peer) (peer other : ℕ) (after : Peer) → other ≢ peer
     → slice_get (set old peer after) other ≡ slice_get old other
 slice_get-set_other old peer other after apart =
     let many = length-set old peer after in
@@ -150,62 +151,73 @@ IsAlike-refl part = record {
   slots = HasMoreRoom-refl part.slots;
 }
 
+-- a part that is as it was but for its drafts
+pub IsAlike-drafts : (old now : Peer) → now ≡ record old { associations = now.associations }
+    → map undrafted now.associations ≡ map undrafted old.associations → IsAlike old now
+IsAlike-drafts old now same alike =
+    subst (λ (x : Peer). map undrafted x.associations ≡ map undrafted old.associations
+    → IsAlike old x) (sym same)
+    (λ drafts. record { same = refl; associations = drafts; slots = HasMoreRoom-refl old.slots })
+    alike
+
 -- the reports of a cause for one association, by what its peer is shown
-abbrev pub IsMade : Shown → ReportCause → ℕ → List ReportKind → Type 0
-IsMade shown cause ordinal made =
+abbrev pub IsMade : ReportCause → Shown → ℕ → List ReportKind → Type 0
+IsMade cause shown ordinal made =
     InEachView shown (λ tables view. moment_in view ≡ moment_before cause
     → made ≡ reports_by tables view ordinal (move_of cause))
 
--- a part that is as it was but for its drafts, which are made of so many first associations
+-- a part that is as it was but for its drafts, of which those of so many first associations are made
 pub record FirstDrafted (rows : CentreRows) (peer : ℕ) (plant : Plant)
-    (cause : ReportCause) (count : ℕ) (old now : Peer) : Type 0 where
+    (Made : Shown → ℕ → List ReportKind → Type 0) (count : ℕ) (old now : Peer) : Type 0 where
   pub same : now ≡ record old { associations = now.associations }
   pub associations : map undrafted now.associations ≡ map undrafted old.associations
   pub done : (k : ℕ) (d : OpenAssociation) → k < count
-      → IsMade (shown_of rows peer now plant) cause (get_or now.associations k d).ordinal
+      → Made (shown_of rows peer now plant) (get_or now.associations k d).ordinal
       (get_or now.associations k d).drafted
 
-module _ (rows : CentreRows) (peer : ℕ) (plant : Plant) (cause : ReportCause) where
+module _ (rows : CentreRows) (peer : ℕ) (plant : Plant)
+    (Made : Shown → ℕ → List ReportKind → Type 0) where
   pub FirstDrafted-step : (count : ℕ) (old now : Peer) (those : List OpenAssociation)
-      (made : List ReportKind) → FirstDrafted rows peer plant cause count old now
+      (made : List ReportKind) → FirstDrafted rows peer plant Made count old now
       → count < length now.associations
-      → IsMade (shown_of rows peer now plant) cause
+      → Made (shown_of rows peer now plant)
       (association_at now.associations count).ordinal made
       → map undrafted those ≡ map undrafted now.associations
       → those ≡ set now.associations count
       (drafted_by made (association_at now.associations count))
-      → FirstDrafted rows peer plant cause (count + 1) old (record now { associations = those })
+      → FirstDrafted rows peer plant Made (count + 1) old (record now { associations = those })
   FirstDrafted-step count old now those made f there is alike set_is = record {
     same = ap (λ (x : Peer). record x { associations = those }) f.same;
     associations = alike ∙ f.associations;
     done = λ k d below.
         let a = drafted_by made (association_at now.associations count) in
         subst (λ (x : OpenAssociation).
-        IsMade (shown_of rows peer now plant) cause x.ordinal x.drafted)
+        Made (shown_of rows peer now plant) x.ordinal x.drafted)
         (ap (λ (l : List OpenAssociation). get_or l k d) (sym set_is))
         (⊎_elim
         (λ (same : k ≡ count).
         subst (λ (x : OpenAssociation).
-        IsMade (shown_of rows peer now plant) cause x.ordinal x.drafted)
+        Made (shown_of rows peer now plant) x.ordinal x.drafted)
         (sym (ap (λ (n : ℕ). get_or (set now.associations count a) n d) same
         ∙ get_or-set_same now.associations count a d there)) is)
         (λ apart.
         subst (λ (x : OpenAssociation).
-        IsMade (shown_of rows peer now plant) cause x.ordinal x.drafted)
+        Made (shown_of rows peer now plant) x.ordinal x.drafted)
         (sym (get_or-set_other now.associations count k a d apart))
         (f.done k d (omega (arith, below, apart))))
         (cases_eq k count));
   }
 
   pub FirstDrafted-all : (count : ℕ) (old now : Peer)
-      → FirstDrafted rows peer plant cause count old now → length now.associations ≤ count
-      → IsDrafted rows peer plant cause now
+      → FirstDrafted rows peer plant Made count old now → length now.associations ≤ count
+      → All (λ (a : OpenAssociation). Made (shown_of rows peer now plant) a.ordinal a.drafted)
+      now.associations
   FirstDrafted-all count old now f all =
       λ k d there. f.done k d (omega (arith, there, all))
 
   -- how many associations there are
   pub FirstDrafted-many : (count : ℕ) (old now : Peer)
-      → FirstDrafted rows peer plant cause count old now
+      → FirstDrafted rows peer plant Made count old now
       → length now.associations ≡ length old.associations
   FirstDrafted-many count old now f =
       sym (length-map now.associations undrafted)

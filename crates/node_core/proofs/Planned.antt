@@ -3,17 +3,19 @@ use Rattle.std.proofs.Common.{◌≡◌, ◌==◌, ℕ, zero, suc, ◌+◌, ◌<
 use Rattle.std.proofs.Common.{List, [], ◌∷◌, ◌++◌, map, length, set, get_or, drop, Option, Some}
 use Rattle.std.proofs.Common.{None, bytes_eq, codes, Bor, IfSome, refl, sym, ap, subst, ◌∙◌, arith}
 use Rattle.std.proofs.Common.{below_more, get_or-set_same, get_or-set_other, append_assoc}
-use Rattle.std.proofs.Common.{le_refl, zero-le, add-one, drop_of_length-le}
-use Rattle.std.specs.Prelude.{if◌then◌else◌}
+use Rattle.std.proofs.Common.{le_refl, zero-le, add-one, drop_of_length-le, ◌-◌, ◌*◌, ⊎_elim}
+use Rattle.std.specs.Prelude.{if◌then◌else◌, filter, nat_lt, min}
 use Rattle.std.specs.List.{All, list_all, find, flat_map, range_with_len}
 use Rattle.std.specs.Option.{option_map, option_copied}
 use Rattle.std.proofs.lemmas.Bool.{and_parts, true_from_ne_false, not-true, not-false}
-use Rattle.std.proofs.lemmas.Bool.{false≢true, eqb-true}
+use Rattle.std.proofs.lemmas.Bool.{false≢true, eqb-true, cases_lt, cases_eq}
+use Rattle.std.proofs.lemmas.Bool.Decides.{nat_tests}
 use Rattle.std.proofs.lemmas.List.{at_drop_more, get_or-map, get_or_past, length-map, map-set}
 use Rattle.std.proofs.lemmas.List.Elements.{All-head, All-tail}
 use Rattle.std.proofs.lemmas.List.Folds.{list_all-append}
 use Rattle.std.proofs.lemmas.Option.{same_Some}
 use Rattle.std.proofs.lemmas.Slice.Eq.{bytes_eq-Decides}
+use Rattle.bilateral.specs.declared.rows.TheConstants.{SLOT_LIMIT}
 use Rattle.mms_data.specs.ObjectName.{ObjectName}
 use Rattle.tase_points.specs.Sample.{Sample}
 use Rattle.data_sets.specs.declared.book.DataSet.{DataSet}
@@ -21,15 +23,17 @@ use Rattle.data_sets.specs.declared.book.TheConstants.{MOST_MEMBERS}
 use Rattle.data_sets.specs.Books.{Book, is_set_named, members_in}
 use Rattle.transfer_sets.specs.SlotState.{SlotState}
 use Rattle.transfer_sets.specs.SlotMoves.{SlotMove, PointChange, Places, FollowsMoves, changes}
-use Rattle.transfer_sets.specs.Banks.{OwnedSlot, slot_at, HasChanged}
+use Rattle.transfer_sets.specs.Banks.{OwnedSlot, free_slot, slot_at, HasChanged, HasMoreRoom}
+use Rattle.transfer_sets.specs.Due.{conditions_due}
 use Rattle.tase_views.specs.OwnTables.{OwnPoint, OwnDevice, OwnTable, is_scope_of}
 use Rattle.tase_views.specs.Objects.{Object, NamedObject, named_by, next_transfer_set}
 use Rattle.tase_views.specs.Objects.{indication_point, is_named, object_named, objects}
 use Rattle.tase_views.specs.Objects.{selection, timeout, special_objects, next_objects}
 use Rattle.tase_views.specs.Objects.{objects_of_device, objects_of_slot, point_object}
 use Rattle.tase_views.specs.Slots.{is_point, places_from}
-use Rattle.node_core.specs.SlotFeeds.{IsSlotChanged, places_by, places_at, IsPlanned}
-use Rattle.node_core.specs.SlotFeeds.{places_planned, no_places}
+use Rattle.node_core.specs.SlotFeeds.{IsSlotChanged, places_by, places_at, IsPlanned, HasPlanRoom}
+use Rattle.node_core.specs.SlotFeeds.{places_planned, no_places, watches_point, slot_count}
+use Rattle.node_core.specs.SlotFeeds.{watch_count, due_count, planned_count}
 
 -- ---- which name stands for a point
 
@@ -202,6 +206,13 @@ module _ {A : Type 0} (f : A → List ℕ) (plans : List A) where
       → places_at (map f plans) n ≡ f (get_or plans n d)
   planned-at n d within = get_or-map f plans n d [] within
 
+  -- what is read at a place is what is planned there
+  pub planned-read : (plan : List (List ℕ)) (n : ℕ) (one : A) (read : List ℕ) → n < length plans
+      → one ≡ get_or plans n one → read ≡ f one → map f plans ≡ plan → read ≡ places_at plan n
+  planned-read plan n one read within there here is =
+      here ∙ ap f there ∙ sym (planned-at n one within)
+      ∙ ap (λ (all : List (List ℕ)). places_at all n) is
+
   -- one plan more
   pub planned-more : (n : ℕ) (one : A) (want : ℕ → List ℕ) → n < length plans
       → ((s : ℕ) → s < n → places_at (map f plans) s ≡ want s) → f one ≡ want n
@@ -213,6 +224,60 @@ module _ {A : Type 0} (f : A → List ℕ) (plans : List A) where
       (λ s less. let apart : s ≡ n → ⊥ = omega arith in
       get_or-set_other (map f plans) n s (f one) [] apart ∙ below s less)
       (get_or-set_same (map f plans) n (f one) [] there ∙ here))
+
+-- past those that there are nothing is to be planned
+pub none_free : (table : OwnTable) (book : Book) (name : List ℕ) (slots : List OwnedSlot) (s : ℕ)
+    → length slots ≤ s → places_planned table book name (slot_at slots s) ≡ []
+none_free table book name slots s past =
+    ap (places_planned table book name) (get_or_past slots s free_slot past)
+
+-- a plan of as many transfer sets as there are
+pub all_planned : (table : OwnTable) (book : Book) (name : List ℕ) (slots : List OwnedSlot)
+    (plan : List (List ℕ)) (n : ℕ) → length plan ≡ SLOT_LIMIT → length slots ≡ SLOT_LIMIT
+    → SLOT_LIMIT ≤ n
+    → ((s : ℕ) → s < n → places_at plan s ≡ places_planned table book name (slot_at slots s))
+    → IsPlanned table book name slots plan
+all_planned table book name slots plan n many there all below = record {
+  many = many;
+  each = λ s. ⊎_elim (below s)
+      (λ past. get_or_past plan s [] (omega (arith, past, many, all))
+      ∙ sym (none_free table book name slots s (omega (arith, past, there, all))))
+      (cases_lt s n);
+}
+
+-- ---- room for what is planned
+
+module _ (plan : List (List ℕ)) (n : ℕ) (mid : List OwnedSlot)
+    (below : (s : ℕ) → s < n → length (places_at plan s) ≤ (slot_at mid s).spare) where
+  pub room-more : (new : List OwnedSlot) → HasMoreRoom mid new
+      → length (places_at plan n) ≤ (slot_at new n).spare
+      → (s : ℕ) → s < n + 1 → length (places_at plan s) ≤ (slot_at new s).spare
+  room-more new more =
+      below_more (λ s. length (places_at plan s) ≤ (slot_at new s).spare) n
+      (λ s less. omega (arith, below s less, more.spare s))
+
+  pub room-passed : (length (places_at plan n) == 0) ≡ true
+      → (s : ℕ) → s < n + 1 → length (places_at plan s) ≤ (slot_at mid s).spare
+  room-passed none =
+      let zero_long : length (places_at plan n) ≡ 0 = eqb-true _ _ none in
+      below_more (λ s. length (places_at plan s) ≤ (slot_at mid s).spare) n below
+      (omega (arith, zero_long))
+
+  pub all_room : length plan ≤ n → HasPlanRoom plan mid
+  all_room all s = ⊎_elim (below s)
+      (λ past. let free : places_at plan s ≡ [] =
+      get_or_past plan s [] (omega (arith, past, all)) in rw free zero-le)
+      (cases_lt s n)
+
+-- room is made once and again
+pub HasMoreRoom-then : (old mid new : List OwnedSlot) → HasMoreRoom old mid → HasMoreRoom mid new
+    → HasMoreRoom old new
+HasMoreRoom-then old mid new a b = record {
+  many = b.many ∙ a.many;
+  owner = λ s. b.owner s ∙ a.owner s;
+  state = λ s. b.state s ∙ a.state s;
+  spare = λ s. omega (arith, a.spare s, b.spare s);
+}
 
 -- ---- what is noted
 
@@ -235,6 +300,18 @@ abbrev pub Passes : Type 0
 Passes = (places : Places) (moves : List SlotMove) (s : SlotState) (change : PointChange)
     → FollowsMoves places moves s → (s.wish.status ≡ true → places change.point ≡ [])
     → FollowsMoves places (changes change ∷ moves) s
+
+-- a change of a point leaves each wish
+pub wishes_changed : (places : List ℕ) (change : PointChange) (slot : ℕ)
+    (old mid new : List OwnedSlot) → HasChanged places change slot mid new
+    → ((s : ℕ) → (slot_at mid s).state.wish ≡ (slot_at old s).state.wish) → (s : ℕ)
+    → (slot_at new s).state.wish ≡ (slot_at old s).state.wish
+wishes_changed places change slot old mid new h before s =
+    ⊎_elim
+    (λ (same : s ≡ slot). ap (λ (k : ℕ). (slot_at new k).state.wish) same ∙ h.wish
+    ∙ sym (ap (λ (k : ℕ). (slot_at mid k).state.wish) same) ∙ before s)
+    (λ apart. ap (λ (x : OwnedSlot). x.state.wish) (h.others s apart) ∙ before s)
+    (cases_eq s slot)
 
 -- one on which a change doesn't bear stays
 slot_stays : Passes → (here : List ℕ) (change : PointChange) (slot : OwnedSlot)
@@ -326,3 +403,139 @@ module _ (change : List ℕ → PointChange) (plan : List (List ℕ)) (n : ℕ) 
         (changed_here old mid new (so.rest n (le_refl n)) (some_planned (places_at plan n) some)
         changed table book name planned);
   }
+
+-- where those that are noted are as many as there are, all are behind the change
+pub all_noted : (change : List ℕ → PointChange) (plan : List (List ℕ)) (n : ℕ)
+    (old new : List OwnedSlot) → Passes → length old ≡ SLOT_LIMIT → SLOT_LIMIT ≤ n
+    → IsNotedTo change n plan old new → (table : OwnTable) (book : Book) (name : List ℕ)
+    → IsPlanned table book name old plan → (s : ℕ)
+    → IsSlotChanged (places_by table book (slot_at old s).state.wish name) (change name)
+    (slot_at old s) (slot_at new s)
+all_noted change plan n old new passes many all so table book name planned s =
+    ⊎_elim (so.each table book name planned s)
+    (λ past. rw (so.rest s past) (unplanned_stays passes table book name (change name)
+    (slot_at old s) (none_free table book name old s (omega (arith, past, many, all)))))
+    (cases_lt s n)
+
+-- ---- how many are looked at
+
+-- of the transfer sets that a table may offer, how many from one on have a property
+abbrev pub count_from : (ℕ → Bool) → ℕ → ℕ
+count_from has n = length (filter has (range_with_len n (SLOT_LIMIT - n)))
+
+-- so many were looked at that with those from one on it is no more than all of them, over what it
+-- was before
+abbrev pub IsLookedTo : (ℕ → Bool) → ℕ → ℕ → ℕ → Type 0
+IsLookedTo has n old now = now + count_from has n ≤ old + count_from has 0
+
+-- whether something is planned for a transfer set; whether it is enabled and names a point
+abbrev pub is_planned : List (List ℕ) → ℕ → Bool
+is_planned plan s = nat_lt 0 (length (places_at plan s))
+
+abbrev pub is_watcher : OwnTable → Book → List ℕ → List OwnedSlot → ℕ → Bool
+is_watcher table book name slots s = watches_point table book name (slot_at slots s)
+
+module _ (has : ℕ → Bool) (n : ℕ) where
+  count_step : n < SLOT_LIMIT → (here : Bool) → has n ≡ here → count_from has n
+      ≡ (if here then suc (count_from has (n + 1)) else count_from has (n + 1))
+  count_step within true here =
+      let more : SLOT_LIMIT - n ≡ suc (SLOT_LIMIT - (n + 1)) = omega arith in rw (more, here) refl
+  count_step within false here =
+      let more : SLOT_LIMIT - n ≡ suc (SLOT_LIMIT - (n + 1)) = omega arith in rw (more, here) refl
+
+  -- one that has the property is looked at, another isn't
+  pub looked-at : (old mid new limit : ℕ) → n < SLOT_LIMIT → has n ≡ true
+      → new ≡ min (mid + 1) limit → IsLookedTo has n old mid → IsLookedTo has (n + 1) old new
+  looked-at old mid new limit within here one so =
+      let step = count_step within true here in omega (arith, step, one, so)
+
+  pub looked-past : (old now : ℕ) → n < SLOT_LIMIT → has n ≡ false → IsLookedTo has n old now
+      → IsLookedTo has (n + 1) old now
+  looked-past old now within other so =
+      let step = count_step within false other in omega (arith, step, so)
+
+-- how many they are stays within all of them
+pub looked-within : (has : ℕ → Bool) (n old now : ℕ) → IsLookedTo has n old now
+    → now ≤ old + count_from has 0
+looked-within has n old now so = omega (arith, so)
+
+filter_alike : (has other : ℕ → Bool) → ((s : ℕ) → has s ≡ other s) → (l : List ℕ)
+    → filter has l ≡ filter other l
+filter_alike has other same [] = refl
+filter_alike has other same (s ∷ l) = rw (same s, filter_alike has other same l) refl
+
+-- as much is planned as is looked for
+pub planned_count-watched : (table : OwnTable) (book : Book) (name : List ℕ)
+    (slots : List OwnedSlot) (plan : List (List ℕ)) → IsPlanned table book name slots plan
+    → planned_count plan ≡ watch_count table book name slots
+planned_count-watched table book name slots plan planned =
+    ap length (filter_alike (is_planned plan) (is_watcher table book name slots)
+    (λ s. ap (λ (places : List ℕ). nat_lt 0 (length places)) (planned.each s))
+    (range_with_len 0 SLOT_LIMIT))
+
+-- those that were looked at while a change was planned, and while room was made for it
+pub looked-twice : (table : OwnTable) (book : Book) (name : List ℕ) (slots : List OwnedSlot)
+    (plan : List (List ℕ)) (old mid new : ℕ) → IsPlanned table book name slots plan
+    → mid ≤ old + watch_count table book name slots → new ≤ mid + planned_count plan
+    → new ≤ old + 2 * watch_count table book name slots
+looked-twice table book name slots plan old mid new planned first second =
+    let same = planned_count-watched table book name slots plan planned in
+    omega (arith, same, first, second)
+
+-- what is planned is planned where there is more room
+pub planned-roomier : (table : OwnTable) (book : Book) (name : List ℕ) (old new : List OwnedSlot)
+    (plan : List (List ℕ)) → HasMoreRoom old new → IsPlanned table book name old plan
+    → IsPlanned table book name new plan
+planned-roomier table book name old new plan more planned = record {
+  many = planned.many;
+  each = λ s. planned.each s ∙ ap (λ (state : SlotState). if state.wish.status
+      then places_by table book state.wish name else []) (sym (more.state s));
+}
+
+-- what is counted by the states alone is as much where there is more room
+roomier_count : (has : SlotState → Bool) (old new : List OwnedSlot) → HasMoreRoom old new
+    → slot_count (λ slot. has slot.state) new ≡ slot_count (λ slot. has slot.state) old
+roomier_count has old new more =
+    ap length (filter_alike (λ s. has (slot_at new s).state) (λ s. has (slot_at old s).state)
+    (λ s. ap has (more.state s)) (range_with_len 0 SLOT_LIMIT))
+
+pub watch_count-roomier : (table : OwnTable) (book : Book) (name : List ℕ)
+    (old new : List OwnedSlot) → HasMoreRoom old new
+    → watch_count table book name new ≡ watch_count table book name old
+watch_count-roomier table book name old new =
+    roomier_count (λ state. nat_lt 0 (length (if state.wish.status
+    then places_by table book state.wish name else []))) old new
+
+pub due_count-roomier : (from to : ℕ) (old new : List OwnedSlot) → HasMoreRoom old new
+    → due_count from to new ≡ due_count from to old
+due_count-roomier from to old new =
+    roomier_count (λ state. not (conditions_due state from to == 0)) old new
+
+some_length : (n : ℕ) → nat_lt 0 (suc n) ≡ true
+some_length n = grind (arith, nat_tests)
+
+no_long : (places : List ℕ) → nat_lt 0 (length places) ≡ false → places ≡ []
+no_long [] none = refl
+no_long (place ∷ places) none = absurd (false≢true (sym none ∙ some_length (length places)))
+
+-- for one that doesn't watch a point nothing is to be planned
+pub unwatched-planned : (table : OwnTable) (book : Book) (name : List ℕ) (slot : OwnedSlot)
+    → watches_point table book name slot ≡ false → places_planned table book name slot ≡ []
+unwatched-planned table book name slot =
+    no_long (places_planned table book name slot)
+
+some_long : (places : List ℕ) → (length places == 0) ≡ false → nat_lt 0 (length places) ≡ true
+some_long [] some = absurd cc
+some_long (place ∷ places) some = some_length (length places)
+
+none_long : (places : List ℕ) → (length places == 0) ≡ true → nat_lt 0 (length places) ≡ false
+none_long places none = rw (none_planned places none) refl
+
+-- something is planned for a transfer set exactly where there are places for it
+pub planned-some : (plan : List (List ℕ)) (s : ℕ) → (length (places_at plan s) == 0) ≡ false
+    → is_planned plan s ≡ true
+planned-some plan s = some_long (places_at plan s)
+
+pub planned-none : (plan : List (List ℕ)) (s : ℕ) → (length (places_at plan s) == 0) ≡ true
+    → is_planned plan s ≡ false
+planned-none plan s = none_long (places_at plan s)

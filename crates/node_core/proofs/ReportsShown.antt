@@ -166,6 +166,20 @@ module _ (updates : Updates) (tables : OwnTables) (view : View) (shown : Shown)
       ∙ ap (λ (b : Bool). if b then slot_reports (held tables view) view slot now
       (conditions_by cause slot seen) seen told else []) (sym mine ∙ owned_shown ordinal)
 
+  -- where nothing is due
+  pub own-undue : (cause : ReportCause) (ordinal : ℕ) → conditions_by cause slot kept ≡ 0
+      → [] ≡ own_reports tables view ordinal (moment_at cause)
+      (λ s. conditions_by cause s (slot_state tables view s)) slot
+  own-undue cause ordinal none = by (is_owned_by ordinal (slot_at shown.slots slot)) refl
+    where
+      by : (b : Bool) → is_owned_by ordinal (slot_at shown.slots slot) ≡ b
+          → [] ≡ own_reports tables view ordinal (moment_at cause)
+          (λ s. conditions_by cause s (slot_state tables view s)) slot
+      by true mine =
+          ap (λ (c : ℕ). slot_reports own view slot (moment_at cause) c kept (unwrap_or wished []))
+          (sym none) ∙ own-made cause ordinal mine
+      by false other = own-none cause ordinal other
+
 -- ---- one of the three ways of a report
 
 pick-whole : {R : Type 0} (makes tells : Bool) (whole : R) (rest : List R) → makes ≡ true

@@ -3,12 +3,14 @@
 use Rattle.std.proofs.Common.{◌≡◌, ℕ, ◌+◌, ◌<◌, ◌≤◌, ◌==◌, Bool, true, false, ◌&&◌, List, []}
 use Rattle.std.proofs.Common.{◌∷◌, ◌++◌, map, length, Option, Some, None, bytes_eq, refl, sym, ap}
 use Rattle.std.proofs.Common.{subst, ◌∙◌, ◌≢◌, ⊎_elim, set, length-set, get_or-set_same, arith}
-use Rattle.std.proofs.Common.{get_or-set_other, below_more}
+use Rattle.std.proofs.Common.{get_or-set_other, below_more, suc, not, min, ◌-◌}
 use Rattle.std.specs.Prelude.{if◌then◌else◌, flat_map, find, option_map, is_some}
-use Rattle.std.specs.Prelude.{codes}
+use Rattle.std.specs.Prelude.{codes, is_none, filter}
 use Rattle.std.specs.List.{list_any, range_with_len}
 use Rattle.std.specs.Option.{unwrap_or}
+use Rattle.std.proofs.Math.Nat.{min-le_left}
 use Rattle.std.proofs.lemmas.Bool.{cases_lt, or_from, or_parts, and_left}
+use Rattle.std.proofs.lemmas.Bool.Decides.{nat_tests}
 use Rattle.std.proofs.lemmas.List.{get_or_past, set-get_or}
 use Rattle.std.proofs.lemmas.List.Folds.{list_any-append}
 use Rattle.mms_data.specs.ObjectName.{ObjectName}
@@ -22,6 +24,10 @@ use Rattle.transfer_sets.specs.SlotMoves.{SlotMove, PointChange, changes}
 use Rattle.transfer_sets.specs.SlotMoves.{reports, owner_in}
 use Rattle.transfer_sets.proofs.Followed as follows
 use Rattle.transfer_sets.specs.Due.{conditions_due}
+use Rattle.transfer_sets.specs.NextDue.{IsNextMoment, has_come}
+use Rattle.transfer_sets.specs.DueIndex.{next_at, HaveNotCome, IsTurningIndex}
+use Rattle.transfer_sets.specs.declared.looks.TheConstants.{LOOK_LIMIT}
+use Rattle.bilateral.specs.declared.rows.TheConstants.{SLOT_LIMIT}
 use Rattle.transfer_sets.specs.Banks.{OwnedSlot, free_slot, slot_at, HasMoreRoom, told}
 use Rattle.tase_views.specs.OwnTables.{OwnPoint, OwnDevice, OwnTable, OwnTables}
 use Rattle.tase_views.specs.Objects.{NamedObject, named_by, special_objects, next_objects}
@@ -30,14 +36,15 @@ use Rattle.tase_views.specs.Objects.{objects, object_named, next_transfer_set, c
 use Rattle.tase_views.specs.Objects.{device_tag, selection, timeout}
 use Rattle.tase_views.specs.View.{View, updated, asked, ticked, held, moment_in}
 use Rattle.tase_views.specs.Values.{values_in}
-use Rattle.tase_views.specs.Slots.{makes_report, is_point, sets_in, with_report, state_by}
+use Rattle.tase_views.specs.Slots.{makes_report, only_changes, is_point, sets_in, with_report}
+use Rattle.tase_views.specs.Slots.{state_by}
 use Rattle.tase_views.specs.Slots.{places_from, changes_point, count_shown, wished_members}
 use Rattle.tase_views.specs.Slots.{members_told, places_told, slot_moves}
 use Rattle.tase_views.specs.Reports.{slot_state}
 use Rattle.tase_views.specs.Sets.{Sets}
 use Rattle.node_core.specs.SlotsKept.{IsBank}
 use Rattle.node_core.specs.SlotFeeds.{move_of, moment_before, conditions_by, reported_on}
-use Rattle.node_core.specs.SlotFeeds.{AreReported, AreChanged}
+use Rattle.node_core.specs.SlotFeeds.{AreReported, AreChanged, due_count}
 use Rattle.node_core.specs.declared.cause.ReportCause.{ReportCause}
 use Rattle.node_core.specs.declared.cause.ReportCause.TheVariants.{Tick, Ask}
 use Rattle.node_core.proofs.ReportsAlike.{conditions-alike, off-none}
@@ -139,14 +146,22 @@ set_if : (made : Bool) (slots : List OwnedSlot) (n : ℕ) (x : OwnedSlot)
 set_if true slots n x = refl
 set_if false slots n x = sym (set-get_or slots n free_slot)
 
+-- a transfer set that is told where conditions make a report, by numbers in other words
+pub set_reported : (slots new : List OwnedSlot) (n conditions due : ℕ) (made : Bool)
+    → conditions ≡ due → made ≡ makes_report (slot_at slots n).state conditions
+    → new ≡ (if made then set slots n (told (slot_at slots n)) else slots)
+    → new ≡ set slots n (reported_on due (slot_at slots n))
+set_reported slots new n conditions due made same makes is =
+    is ∙ set_if made slots n (told (slot_at slots n))
+    ∙ ap (λ (b : Bool). set slots n (if b then told (slot_at slots n) else slot_at slots n))
+    (makes ∙ ap (makes_report (slot_at slots n).state) same)
+
 -- one more of them
-pub one_reported : (cause : ReportCause) (n : ℕ) (old now : List OwnedSlot) → n < length old
-    → AreReportedTo cause n old now → (conditions : ℕ)
-    → conditions ≡ conditions_by cause n (slot_at now n).state → (made : Bool)
-    → made ≡ makes_report (slot_at now n).state conditions → (new : List OwnedSlot)
-    → new ≡ (if made then set now n (told (slot_at now n)) else now)
+pub reported_more : (cause : ReportCause) (n : ℕ) (old now new : List OwnedSlot) → n < length old
+    → AreReportedTo cause n old now → new ≡ set now n
+    (reported_on (conditions_by cause n (slot_at now n).state) (slot_at now n))
     → AreReportedTo cause (n + 1) old new
-one_reported cause n old now within r conditions due made makes new is = record {
+reported_more cause n old now new within r here = record {
   many = ap length here ∙ length-set now n _ ∙ r.many;
   done = below_more _ _
       (λ s below. apart s (λ same. omega (arith, same, below)) ∙ r.done s below)
@@ -157,15 +172,27 @@ one_reported cause n old now within r conditions due made makes new is = record 
   left = λ s past. apart s (λ same. omega (arith, same, past)) ∙ r.left s (omega (arith, past));
 }
   where
-    here : new ≡ set now n
-        (reported_on (conditions_by cause n (slot_at now n).state) (slot_at now n))
-    here = is ∙ set_if made now n (told (slot_at now n))
-        ∙ ap (λ (b : Bool). set now n (if b then told (slot_at now n) else slot_at now n))
-        (makes ∙ ap (makes_report (slot_at now n).state) due)
-
     apart : (s : ℕ) → s ≢ n → slot_at new s ≡ slot_at now s
     apart s other = ap (λ (slots : List OwnedSlot). slot_at slots s) here
         ∙ get_or-set_other now n s _ free_slot other
+
+pub one_reported : (cause : ReportCause) (n : ℕ) (old now : List OwnedSlot) → n < length old
+    → AreReportedTo cause n old now → (conditions : ℕ)
+    → conditions ≡ conditions_by cause n (slot_at now n).state → (made : Bool)
+    → made ≡ makes_report (slot_at now n).state conditions → (new : List OwnedSlot)
+    → new ≡ (if made then set now n (told (slot_at now n)) else now)
+    → AreReportedTo cause (n + 1) old new
+one_reported cause n old now within r conditions due made makes new is =
+    reported_more cause n old now new within r
+    (set_reported now new n conditions (conditions_by cause n (slot_at now n).state) made due makes
+    is)
+
+-- where nothing is due nothing is told
+pub undue_reported : (slot : OwnedSlot) (conditions : ℕ) → not (conditions == 0) ≡ false
+    → slot ≡ reported_on conditions slot
+undue_reported slot conditions none =
+    ap (λ (due : Bool). if due && not (slot.state.wish.rbe && only_changes conditions
+    && is_none slot.state.first) then told slot else slot) (sym none)
 
 -- as many as there are; where none stands, a report tells nothing
 pub all_reported : (cause : ReportCause) (n : ℕ) (old new : List OwnedSlot) → length old ≤ n
@@ -179,6 +206,120 @@ all_reported cause n old new all r = record {
       (λ made. free_slot ≡ (if made then free_slot else free_slot)) [ true ↦ refl | false ↦ refl ]))
       (cases_lt s n);
 }
+
+-- ---- a tick, by what its index has
+
+pub none_due : (conditions : ℕ) → not (conditions == 0) ≡ false → conditions ≡ 0
+none_due conditions none = grind (arith, nat_tests)
+
+-- how many of so many numbers, from one on, have a property
+abbrev pub counted_from : (ℕ → Bool) → ℕ → ℕ → ℕ
+counted_from has n k = length (filter has (range_with_len n k))
+
+counted_more : (has : ℕ → Bool) (n k more : ℕ) (b : Bool) → k ≡ suc more → has n ≡ b
+    → counted_from has n k
+    ≡ (if b then suc (counted_from has (n + 1) more) else counted_from has (n + 1) more)
+counted_more has n k more b next test =
+    ap (counted_from has n) next
+    ∙ ap (λ (c : Bool). length (if c then n ∷ filter has (range_with_len (n + 1) more)
+    else filter has (range_with_len (n + 1) more))) test
+    ∙ elim b as (λ (c : Bool). length (if c then n ∷ filter has (range_with_len (n + 1) more)
+    else filter has (range_with_len (n + 1) more))
+    ≡ (if c then suc (counted_from has (n + 1) more) else counted_from has (n + 1) more))
+    [ true ↦ refl | false ↦ refl ]
+
+-- of how many transfer sets, from one on, something is due at a tick
+abbrev pub due_from : ℕ → ℕ → List OwnedSlot → ℕ → ℕ
+due_from from to slots n =
+    counted_from (λ s. not (conditions_due (slot_at slots s).state from to == 0)) n
+    (SLOT_LIMIT - n)
+
+pub due_from-all : (from to : ℕ) (slots : List OwnedSlot)
+    → due_from from to slots 0 ≡ due_count from to slots
+due_from-all from to slots =
+    let all : SLOT_LIMIT - 0 ≡ SLOT_LIMIT = omega arith in
+    ap (counted_from (λ s. not (conditions_due (slot_at slots s).state from to == 0)) 0) all
+
+module _ (from to n : ℕ) (slots : List OwnedSlot) (looks bound : ℕ) (within : n < SLOT_LIMIT)
+    (few : looks + due_from from to slots n ≤ bound) where
+  -- a transfer set of which something is due is looked at, another isn't
+  pub due-looked : (new : ℕ) → not (conditions_due (slot_at slots n).state from to == 0) ≡ true
+      → new ≡ min (looks + 1) LOOK_LIMIT → new + due_from from to slots (n + 1) ≤ bound
+  due-looked new due looked =
+      let one = counted_more (λ s. not (conditions_due (slot_at slots s).state from to == 0)) n
+      (SLOT_LIMIT - n) (SLOT_LIMIT - (n + 1)) true (omega arith) due in
+      let more = min-le_left (looks + 1) LOOK_LIMIT in
+      omega (arith, few, one, more, looked)
+
+  pub undue-passed : not (conditions_due (slot_at slots n).state from to == 0) ≡ false
+      → looks + due_from from to slots (n + 1) ≤ bound
+  undue-passed due =
+      let one = counted_more (λ s. not (conditions_due (slot_at slots s).state from to == 0)) n
+      (SLOT_LIMIT - n) (SLOT_LIMIT - (n + 1)) false (omega arith) due in
+      omega (arith, few, one)
+
+-- of transfer sets the first so many are behind a tick, the index is brought along with them, and
+-- those were looked at of which something was due
+pub record IsTicking (from to n : ℕ) (old now : List OwnedSlot) (index : List (Option ℕ))
+    (looks bound : ℕ) : Type 0 where
+  pub reported : AreReportedTo (Tick from to) n old now
+  pub dues : IsTurningIndex now n from to index
+  pub few : looks + due_from from to old n ≤ bound
+
+module _ (from to n : ℕ) (old now : List OwnedSlot) (index : List (Option ℕ)) (looks bound : ℕ)
+    (t : IsTicking from to n old now index looks bound) (within : n < SLOT_LIMIT)
+    (many : length old ≡ SLOT_LIMIT) where
+  abbrev due : ℕ
+  due = conditions_due (slot_at now n).state from to
+
+  -- as it stood before the tick
+  due_before : (b : Bool) → not (due == 0) ≡ b
+      → not (conditions_due (slot_at old n).state from to == 0) ≡ b
+  due_before b is =
+      ap (λ (slot : OwnedSlot). not (conditions_due slot.state from to == 0))
+      (sym (t.reported.left n (omega arith))) ∙ is
+
+  there : n < length now
+  there = omega (arith, many, within, t.reported.many)
+
+  pub IsTicking-due : (new : List OwnedSlot) (next : Option ℕ) (after : List (Option ℕ)) (more : ℕ)
+      → not (due == 0) ≡ true
+      → ((slot : OwnedSlot) → IsNextMoment slot.state to next
+      → IsTurningIndex (set now n slot) (n + 1) from to (set index n next))
+      → new ≡ set now n (reported_on due (slot_at now n))
+      → IsNextMoment (slot_at new n).state to next → after ≡ set index n next
+      → more ≡ min (looks + 1) LOOK_LIMIT → IsTicking from to (n + 1) old new after more bound
+  IsTicking-due new next after more is put set_is moment index_is looked = record {
+    reported = reported_more (Tick from to) n old now new (omega (arith, many, within)) t.reported
+        set_is;
+    dues =
+        let slot = reported_on due (slot_at now n) in
+        let here : slot_at new n ≡ slot =
+        ap (λ (slots : List OwnedSlot). slot_at slots n) set_is
+        ∙ get_or-set_same now n slot free_slot there in
+        subst (λ (slots : List OwnedSlot). IsTurningIndex slots (n + 1) from to after) (sym set_is)
+        (subst (λ (x : List (Option ℕ)). IsTurningIndex (set now n slot) (n + 1) from to x)
+        (sym index_is) (put slot (subst (λ (s : OwnedSlot). IsNextMoment s.state to next) here
+        moment)));
+    few = due-looked from to n old looks bound within t.few more (due_before true is) looked;
+  }
+
+  pub IsTicking-undue : not (due == 0) ≡ false → IsTurningIndex now (n + 1) from to index
+      → IsTicking from to (n + 1) old now index looks bound
+  IsTicking-undue is dues = record {
+    reported = reported_more (Tick from to) n old now now (omega (arith, many, within)) t.reported
+        (sym (set-get_or now n free_slot) ∙ ap (set now n) (undue_reported (slot_at now n) due is));
+    dues = dues;
+    few = undue-passed from to n old looks bound within t.few (due_before false is);
+  }
+
+-- one whose moment hasn't come
+pub one_ahead : (index : List (Option ℕ)) (to n : ℕ) → has_come (next_at index n) to ≡ false
+    → HaveNotCome index to n (n + 1)
+one_ahead index to n ahead =
+    λ s after below.
+    let same : s ≡ n = omega (arith, after, below) in
+    ap (λ (k : ℕ). has_come (next_at index k) to) same ∙ ahead
 
 -- ---- changes of points
 

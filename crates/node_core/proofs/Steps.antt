@@ -138,7 +138,7 @@ own_few rows lawful peer n =
     (omega arith))
     (cases_lt n (length (variants_of rows peer)))
 
-own_count : (rows : CentreRows) (peer : ℕ)
+pub own_count : (rows : CentreRows) (peer : ℕ)
     → length (own_tables rows peer).tables ≡ length (variants_of rows peer)
 own_count rows peer = length-map (variants_of rows peer) (own_table rows)
 

@@ -11,6 +11,8 @@ pub mod Shown
 pub mod CallSorts
 pub mod PeerParts
 pub mod PartFeeds
+pub mod Indexed
+pub mod Concerned
 pub mod Stored
 pub mod LogState
 pub mod LogLines

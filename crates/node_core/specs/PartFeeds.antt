@@ -1,20 +1,21 @@
 -- What the clock, the operator and the points do to the parts of peers: first what may fail is made
 -- ready, which changes nothing that a peer sees, then it is noted.
-use Rattle.std.specs.Prelude.{◌≡◌, ◌≢◌, ℕ, List, length, map, Some, slice_get}
+use Rattle.std.specs.Prelude.{◌≡◌, ◌≢◌, ℕ, ◌<◌, ◌++◌, List, length, map, Some, slice_get}
 use Rattle.std.specs.List.{All}
 use Rattle.tase_points.specs.Sample.{Sample}
 use Rattle.bilateral.specs.Rows.{CentreRows, point_of}
 use Rattle.data_sets.specs.Books.{Book}
 use Rattle.transfer_sets.specs.Banks.{HasMoreRoom}
-use Rattle.tase_views.specs.OwnTables.{OwnTable}
-use Rattle.tase_views.specs.View.{moment_in}
+use Rattle.tase_views.specs.declared.reply.ReportKind.{ReportKind}
+use Rattle.tase_views.specs.OwnTables.{OwnTable, OwnTables}
+use Rattle.tase_views.specs.View.{View, moment_in}
 use Rattle.tase_views.specs.Reports.{reports_by}
 use Rattle.node_core.specs.declared.cause.ReportCause.{ReportCause}
 use Rattle.node_core.specs.declared.peer.Peer.{Peer}
 use Rattle.node_core.specs.declared.plant.Plant.{Plant}
-use Rattle.node_core.specs.Associations.{OpenAssociation, undrafted, with_drafted}
+use Rattle.node_core.specs.Associations.{OpenAssociation, undrafted, with_drafted, association_at}
 use Rattle.node_core.specs.Found.{offered, table_at}
-use Rattle.node_core.specs.Shown.{InEachView, shown_of}
+use Rattle.node_core.specs.Shown.{Shown, InEachView, shown_of}
 use Rattle.node_core.specs.SlotFeeds.{move_of, moment_before, AreReported, AreChanged, IsPlanned}
 use Rattle.node_core.specs.SlotFeeds.{HasPlanRoom}
 
@@ -36,6 +37,14 @@ IsDrafted rows peer plant cause part =
     All (λ (a : OpenAssociation). InEachView (shown_of rows peer part plant)
     (λ tables view. moment_in view ≡ moment_before cause
     → a.drafted ≡ reports_by tables view a.ordinal (move_of cause))) part.associations
+
+-- associations of whose drafts each has more behind it, by what the peer is shown
+pub record AreDraftedMore (shown : Shown) (more : OwnTables → View → ℕ → List ReportKind)
+    (old new : List OpenAssociation) : Type 0 where
+  pub same : map undrafted new ≡ map undrafted old
+  pub each : (place : ℕ) → place < length old → InEachView shown (λ tables view.
+      (association_at new place).drafted ≡ (association_at old place).drafted
+      ++ more tables view (association_at old place).ordinal)
 
 -- a part behind a cause of reports, which are those that were drafted
 pub record IsReported (cause : ReportCause) (old new : Peer) : Type 0 where

@@ -1,6 +1,8 @@
 -- What the clock, the operator and the points of the centre do to the transfer sets of a peer.
 use Rattle.std.specs.Prelude.{◌≡◌, ℕ, zero, suc, ◌≤◌, ◌==◌, if◌then◌else◌, true, List, [], ◌∷◌}
-use Rattle.std.specs.Prelude.{length}
+use Rattle.std.specs.Prelude.{length, ◌<◌, not, nat_lt, Bool, filter}
+use Rattle.std.specs.List.{range_with_len}
+use Rattle.transfer_sets.specs.declared.next_due.TheConstants.{DUE_LIMIT}
 use Rattle.std.specs.Prelude.{slice_index_or}
 use Rattle.std.specs.Option.{unwrap_or}
 use Rattle.bilateral.specs.declared.rows.TheConstants.{SLOT_LIMIT}
@@ -37,6 +39,19 @@ moment_at (Ask slot now) = now
 abbrev pub conditions_by : ReportCause → ℕ → SlotState → ℕ
 conditions_by (Tick from to) s state = conditions_due state from to
 conditions_by (Ask slot now) s state = if slot == s then asked_conditions state else 0
+
+-- the clock goes on from a moment to a later one, below the limit of all moments
+abbrev pub IsForward : ℕ → ℕ → Type 0
+IsForward from to = (from < to) × (to < DUE_LIMIT)
+
+-- how many of the transfer sets that a table may offer have a property
+abbrev pub slot_count : (OwnedSlot → Bool) → List OwnedSlot → ℕ
+slot_count has slots = length (filter (λ s. has (slot_at slots s)) (range_with_len 0 SLOT_LIMIT))
+
+-- of how many something is due where the clock goes on from a moment to another
+abbrev pub due_count : ℕ → ℕ → List OwnedSlot → ℕ
+due_count from to slots =
+    slot_count (λ (slot : OwnedSlot). not (conditions_due slot.state from to == 0)) slots
 
 -- a transfer set behind conditions: where they make a report, all is told
 abbrev pub reported_on : ℕ → OwnedSlot → OwnedSlot
@@ -81,6 +96,19 @@ places_at plan s = slice_index_or plan s []
 abbrev pub places_planned : OwnTable → Book → List ℕ → OwnedSlot → List ℕ
 places_planned table book name slot =
     if slot.state.wish.status then places_by table book slot.state.wish name else []
+
+-- whether a transfer set is enabled and its data set names a point
+abbrev pub watches_point : OwnTable → Book → List ℕ → OwnedSlot → Bool
+watches_point table book name slot = nat_lt 0 (length (places_planned table book name slot))
+
+-- how many of the transfer sets that a table may offer do
+abbrev pub watch_count : OwnTable → Book → List ℕ → List OwnedSlot → ℕ
+watch_count table book name slots = slot_count (watches_point table book name) slots
+
+-- for how many of them something is planned
+abbrev pub planned_count : List (List ℕ) → ℕ
+planned_count plan =
+    length (filter (λ s. nat_lt 0 (length (places_at plan s))) (range_with_len 0 SLOT_LIMIT))
 
 -- nothing is planned of so many transfer sets
 abbrev pub no_places : ℕ → List (List ℕ)

@@ -27,6 +27,7 @@ use Rattle.node_core.specs.Shown.{IsCalm, IsShowable, shown_of}
 use Rattle.node_core.specs.SlotFeeds.{HasPlanRoom}
 use Rattle.node_core.specs.Associations.{is_open_in}
 use Rattle.node_core.specs.PeerParts.{IsPart, part_behind}
+use Rattle.node_core.specs.Indexed.{AreIndexed}
 
 -- the centre is lawful; the points and the devices, and each seat's association, are those of this
 -- past
@@ -56,6 +57,7 @@ pub record IsNode (rows : CentreRows) (past : Past) (hub : Hub) (parts : Parts) 
   pub clock : hub.last_tick ≡ last_tick past
   pub timed : hub.last_tick < MOMENT_LIMIT
   pub peers : AreParts rows past parts.peers.items
+  pub indexed : AreIndexed rows hub.last_tick parts.peers.items parts.indexes.items
 
 -- a peer has a table and a part, whose tables are there, with room for their transfer sets
 pub record IsPeerThere (rows : CentreRows) (peers : List Peer) (peer : ℕ) : Type 0 where

@@ -67,6 +67,16 @@ impl Association {
         Ok(())
     }
 
+    /// Drafts reports behind those that were.
+    fn draft_more(&mut self, reports: Reports) -> Result<(), AllocError>
+        ensures made { undrafted self.new ≡ undrafted self.old }
+        ensures ok { OnOk result (self.new ≡ drafted_by (self.old.drafted ++ reports) self.old) }
+    {
+        let mut reports = reports.into_vec();
+        self.reports.append(&mut reports)?;
+        Ok(())
+    }
+
     /// What is drafted is made.
     fn keep_draft(&mut self)
         ensures { self.new ≡ with_drafted self.old }
@@ -165,6 +175,17 @@ impl Associations {
             ≡ slice_set self.old place (drafted_by reports (association_at self.old place))) }
     {
         self.list[place].draft(reports)?;
+        Ok(())
+    }
+
+    /// Drafts reports for the association at a place, behind those that were.
+    pub fn draft_more(&mut self, place: usize, reports: Reports) -> Result<(), AllocError>
+        requires { place < length self.old }
+        ensures made { map undrafted self.new ≡ map undrafted self.old }
+        ensures ok { OnOk result (let old = association_at self.old place in
+            self.new ≡ slice_set self.old place (drafted_by (old.drafted ++ reports) old)) }
+    {
+        self.list[place].draft_more(reports)?;
         Ok(())
     }
 

@@ -7,6 +7,7 @@ mod device_acts;
 mod draft;
 mod hub;
 mod in_force;
+mod index;
 mod listing;
 mod log;
 mod naming;

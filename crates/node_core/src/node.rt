@@ -1,4 +1,5 @@
-ghost use Rattle.std.specs.Prelude.{◌≡◌, ◌<◌, ◌≤◌, ◌^◌, [], length, reverse, slice_get, Some};
+ghost use Rattle.std.specs.Prelude.{◌≡◌, ◌<◌, ◌≤◌, ◌^◌, ◌+◌, ◌*◌, [], length, reverse, slice_get};
+ghost use Rattle.std.specs.Prelude.{Some};
 ghost use Rattle.std.specs.Prelude.{None, false, option_map, IfOk, OnOk, OnErr};
 ghost use Rattle.std.specs.Option.{option_copied};
 ghost use Rattle.std.specs.Arc.{arc_value};
@@ -23,13 +24,15 @@ ghost use Rattle.node_core.specs.declared.sorts.CallSort.TheVariants as sorts;
 ghost use Rattle.node_core.specs.Shown.{IsCalm};
 ghost use Rattle.node_core.specs.CallSorts.{IsRequestOf};
 ghost use Rattle.node_core.specs.Stored.{IsTaggingOf, IsCalmRequest, IsReplied};
+ghost use Rattle.node_core.specs.Concerned.{concerned, due_in_all, watching_total};
 
-use crate::cause::ReportCause;
+use crate::cause::{Advance, ReportCause};
 use crate::device_acts::{select_all, write_devices};
 use crate::hub::Hub;
 use crate::in_force::InForce;
 use crate::log::Log;
 use crate::parts::{Parts, peer_view};
+use crate::plan::Change;
 use crate::refusals::{clock_refusal, first_refusal, name_refusal, seat_refusal};
 use crate::replies::ReadReply;
 use crate::sorts::{CallSort, sort_of};
@@ -43,6 +46,7 @@ use tase_points::PointValue;
 use tase_views::{
     Answer, Call, CallKind, Entry, Event, EventKind, Orders, Reply, ReplyKind, StepFault,
 };
+use transfer_sets::Looks;
 
 /// A TASE.2 node without input and output: its centre's tables and the history of its accepted
 /// events.
@@ -101,10 +105,30 @@ impl Node {
         ensures ok { OnOk result (self.new ≡ with_entry self.old who event) }
         ensures err { OnErr result (self.new ≡ self.old) }
     {
+        let mut looks = Looks::new();
+        self.counted_step(alloc, who, event, &mut looks)
+    }
+
+    /// Takes one event of a seat as [`Node::step`] does, and counts its looks at transfer sets in
+    /// ticks and updates: a tick looks at those of which something is due, an update at those that
+    /// are enabled and whose data set names its point, each time a few times.
+    pub fn counted_step(
+        &mut self,
+        alloc: Global,
+        who: u64,
+        event: Event,
+        looks: &mut Looks,
+    ) -> Result<Answer, StepFault>
+        ensures right { IsRightOutcome self.old.setup (reverse self.old.history) who event result }
+        ensures ok { OnOk result (self.new ≡ with_entry self.old who event) }
+        ensures err { OnErr result (self.new ≡ self.old) }
+        ensures looks { looks.new ≤ looks.old
+            + 8 * concerned self.old.setup.centre (reverse self.old.history) event }
+    {
         if let Some(fault) = self.refusal(who, &event) {
             return Err(fault);
         }
-        Ok(self.accept(alloc, who, event)?)
+        Ok(self.accept(alloc, who, event, looks)?)
     }
 
     /// How many entries the history has.
@@ -206,13 +230,21 @@ impl Node {
     }
 
     /// Takes an event that isn't refused.
-    fn accept(&mut self, alloc: Global, who: u64, event: Event) -> Result<Answer, AllocError>
+    fn accept(
+        &mut self,
+        alloc: Global,
+        who: u64,
+        event: Event,
+        looks: &mut Looks,
+    ) -> Result<Answer, AllocError>
         requires { refusal_of self.old.setup (reverse self.old.history) who event ≡ None }
         ensures answer { IfOk result
             (IsAnswer self.old.setup (reverse self.old.history) who event) }
         ensures ok { OnOk result (self.new ≡ with_entry self.old who event) }
         ensures err { OnErr result (self.new ≡ self.old) }
         ensures ending { OnErr result (is_ending event ≡ false) }
+        ensures looks { looks.new ≤ looks.old
+            + 8 * concerned self.old.setup.centre (reverse self.old.history) event }
     {
         match event.kind() {
             EventKind::Open { peer } => {
@@ -231,7 +263,7 @@ impl Node {
             EventKind::Update { point, value } => {
                 let point = *point;
                 let value = *value;
-                self.update(who, point, value, event)
+                self.update(who, point, value, event, looks)
             }
             EventKind::Table { peer, variant } => {
                 let peer = *peer;
@@ -244,7 +276,7 @@ impl Node {
             }
             EventKind::Tick { now } => {
                 let now = *now;
-                self.tick(alloc, who, now, event)
+                self.tick(alloc, who, now, event, looks)
             }
             EventKind::Ask { peer, slot } => {
                 let peer = *peer;
@@ -294,6 +326,7 @@ impl Node {
         point: u32,
         value: PointValue,
         event: Event,
+        looks: &mut Looks,
     ) -> Result<Answer, AllocError>
         requires update { event ≡ Update point value }
         requires free { refusal_of self.old.setup (reverse self.old.history) who event ≡ None }
@@ -301,13 +334,16 @@ impl Node {
             (IsAnswer self.old.setup (reverse self.old.history) who event) }
         ensures ok { OnOk result (self.new ≡ with_entry self.old who event) }
         ensures err { OnErr result (self.new ≡ self.old) }
+        ensures looks { looks.new ≤ looks.old + 8 * watching_total self.old.setup.centre
+            (reverse self.old.history) point }
     {
         self.log.reserve(who, &event, self.hub.open_count())?;
-        self.parts.prepare_all(&self.centre, point)?;
+        let now = self.hub.last_tick();
+        self.parts.prepare_all(&self.centre, point, now, looks)?;
         let changed = self.hub.plant.points.update(point, value);
-        let count = self.hub.plant.points.cov(point);
-        self.parts
-            .note_all(&self.centre, changed, self.hub.last_tick(), value, count);
+        let cov = self.hub.plant.points.cov(point);
+        let change = Change { now, value, cov };
+        self.parts.note_all(&self.centre, changed, change, looks);
         self.log.append(who, event);
         Ok(Answer::Noted)
     }
@@ -329,6 +365,7 @@ impl Node {
     {
         self.log.reserve(who, &event, self.hub.open_count())?;
         self.parts.choose(alloc, &self.centre, peer, variant);
+        self.parts.rebuild(&self.centre, peer, self.hub.last_tick());
         self.log.append(who, event);
         Ok(Answer::Noted)
     }
@@ -375,6 +412,7 @@ impl Node {
         who: u64,
         now: u64,
         event: Event,
+        looks: &mut Looks,
     ) -> Result<Answer, AllocError>
         requires tick { event ≡ Tick now }
         requires free { refusal_of self.old.setup (reverse self.old.history) who event ≡ None }
@@ -382,15 +420,17 @@ impl Node {
             (IsAnswer self.old.setup (reverse self.old.history) who event) }
         ensures ok { OnOk result (self.new ≡ with_entry self.old who event) }
         ensures err { OnErr result (self.new ≡ self.old) }
+        ensures looks { looks.new ≤ looks.old + 8 * due_in_all self.old.setup.centre
+            (reverse self.old.history) now }
     {
-        let cause = ReportCause::Tick {
+        let advance = Advance {
             from: self.hub.last_tick(),
             to: now,
         };
         self.log.reserve(who, &event, self.hub.open_count())?;
         self.parts
-            .draft_all(alloc, &self.centre, &self.hub.plant, cause)?;
-        self.parts.report_all(&self.centre, cause);
+            .draft_all(alloc, &self.centre, &self.hub.plant, advance, looks)?;
+        self.parts.report_all(&self.centre, advance, looks);
         self.hub.plant.devices.expire(now);
         self.hub.tick(now);
         self.log.append(who, event);
@@ -413,14 +453,13 @@ impl Node {
         ensures ok { OnOk result (self.new ≡ with_entry self.old who event) }
         ensures err { OnErr result (self.new ≡ self.old) }
     {
-        let cause = ReportCause::Ask {
-            slot,
-            now: self.hub.last_tick(),
-        };
+        let now = self.hub.last_tick();
+        let cause = ReportCause::Ask { slot, now };
         self.log.reserve(who, &event, self.hub.open_count())?;
         self.parts
             .draft(alloc, &self.centre, &self.hub.plant, peer, cause)?;
         self.parts.report(peer, cause);
+        self.parts.rebuild(&self.centre, peer, now);
         self.log.append(who, event);
         Ok(Answer::Noted)
     }
@@ -470,7 +509,8 @@ impl Node {
         let table = InForce::new(&self.centre, key.peer, self.parts.force(key.peer));
         let now = self.hub.last_tick();
         select_all(&mut self.hub.plant.devices, &table, key, now, names);
-        self.parts.hand_out(alloc, key, handed.as_slice());
+        self.parts
+            .hand_out(alloc, &self.centre, key, now, handed.as_slice());
         self.log.append(who, event);
         Ok(Answer::Reply(reply))
     }
@@ -502,6 +542,7 @@ impl Node {
         write_devices(&mut self.hub.plant.devices, key, asked, &mut left);
         let now = self.hub.last_tick();
         self.parts.write(&self.centre, key, now, left, &mut results);
+        self.parts.rebuild(&self.centre, key.peer, now);
         self.log.append(who, event);
         Ok(Answer::Reply(written(results)))
     }
@@ -542,7 +583,8 @@ impl Node {
         ensures err { OnErr result (self.new ≡ self.old) }
     {
         self.log.reserve(who, &event, self.hub.open_count())?;
-        self.parts.request(&self.centre, key, &event, reply)?;
+        let now = self.hub.last_tick();
+        self.parts.request(&self.centre, key, now, &event, reply)?;
         self.log.append(who, event);
         Ok(())
     }
@@ -572,6 +614,8 @@ impl Node {
         self.hub.unseat(who);
         self.hub.plant.devices.close(key);
         self.parts.close(alloc, &self.centre, key);
+        self.parts
+            .rebuild(&self.centre, key.peer, self.hub.last_tick());
         self.log.append(who, event);
     }
 

@@ -1,5 +1,6 @@
 //! What a node keeps of its peers.
-ghost use Rattle.std.specs.Prelude.{◌≡◌, ◌<◌, ◌≤◌, ◌+◌, ◌++◌, ℕ, [], ◌∷◌, map, length, Some};
+ghost use Rattle.std.specs.Prelude.{◌≡◌, ◌≢◌, ◌<◌, ◌≤◌, ◌+◌, ◌*◌, ◌++◌, ℕ, [], ◌∷◌, map, length};
+ghost use Rattle.std.specs.Prelude.{Some, List};
 ghost use Rattle.std.specs.Prelude.{slice_get, vec_len, vec_capacity, IfOk, OnOk, OnErr};
 ghost use Rattle.std.specs.Prelude.{true, false};
 ghost use Rattle.std.specs.List.{All};
@@ -9,6 +10,7 @@ ghost use Rattle.tase_views.specs.declared.call.CallKind.{CallKind as AnyCall};
 ghost use Rattle.tase_views.specs.Moves.{acts_of_call, opens, takes, closes, defines};
 ghost use Rattle.tase_views.specs.OwnTables.{OwnTables, own_tables, table_in};
 ghost use Rattle.tase_views.specs.View.{own, chose};
+ghost use Rattle.node_core.specs.declared.index.PeerIndex.{PeerIndex as AnyIndex};
 ghost use Rattle.node_core.specs.declared.peer.Peer.{Peer as AnyPeer};
 ghost use Rattle.node_core.specs.Associations.{made_for};
 ghost use Rattle.node_core.specs.PeerParts.{new_part, part_after, EachAct, IsLawfulAct};
@@ -20,10 +22,17 @@ ghost use Rattle.node_core.specs.Stored.{IsPeerThere, MayOpen, IsChanged, IsAske
 ghost use Rattle.node_core.specs.Stored.{IsPeerShown, IsPeerBanked, HasPeerRoom};
 ghost use Rattle.node_core.specs.PartFeeds.{IsAlike, IsDrafted, IsReported, IsReady, IsNoted};
 ghost use Rattle.node_core.specs.PartFeeds.{OneBecomes, EachBecomes};
+ghost use Rattle.node_core.specs.declared.cause.ReportCause.{ReportCause as AnyCause};
+ghost use Rattle.node_core.specs.SlotFeeds.{IsForward, due_count, planned_count};
+ghost use Rattle.node_core.specs.Indexed.{AreIndexed, OthersStay, HasIndex, IsIndexed, IsWatched};
+ghost use Rattle.node_core.specs.Indexed.{KeepsSlots};
+ghost use Rattle.node_core.specs.Indexed.{due_total, watch_total, plan_total, watch_of_part};
 
-use crate::cause::ReportCause;
+use crate::cause::{Advance, ReportCause};
 use crate::in_force::InForce;
+use crate::index::PeerIndex;
 use crate::peer::Peer;
+use crate::plan::Change;
 use crate::plant::Plant;
 use crate::replies::PeerView;
 use crate::sets::is_defined;
@@ -32,13 +41,14 @@ use bilateral::Centre;
 use mms_data::{Name, Names};
 use sbo_device::Key;
 use std::alloc::{AllocError, Global};
-use tase_points::PointValue;
 use tase_views::{Call, CallKind, Event, EventKind, ReplyKind, Reports};
+use transfer_sets::Looks;
 
-/// The part of each peer, by its number.
+/// The part of each peer, by its number, and beside it its index.
 #[derive(Drop)]
 pub struct Parts {
     peers: Vec<Peer>,
+    indexes: Vec<PeerIndex>,
 }
 
 impl Parts {
@@ -47,12 +57,35 @@ impl Parts {
         ensures parts { IfOk result (λ parts. parts.peers.items
             ≡ map (λ table. new_part table.sets) centre.now.tables) }
         ensures lawful { OnOk result (IsCentre centre.now) }
+        ensures indexed { IfOk result (λ parts. AreIndexed centre.now 0 parts.peers.items
+            parts.indexes.items) }
     {
         let mut peers = Vec::new(alloc);
+        let mut indexes = Vec::new(alloc);
         for peer in 0..centre.peers() {
-            peers.push(Peer::new(alloc, centre.table(peer).sets)?)?;
+            let part = Peer::new(alloc, centre.table(peer).sets)?;
+            let index = PeerIndex::new(alloc, centre, peer)?;
+            peers.push(part)?;
+            indexes.push(index)?;
         }
-        Ok(Parts { peers })
+        Ok(Parts { peers, indexes })
+    }
+
+    /// Makes the index of a peer anew, at this moment, in milliseconds since 1970, where what is
+    /// kept of it has changed since all indexes were those of `before`. It takes no memory.
+    pub fn rebuild(&mut self, centre: &Centre, peer: u32, now: u64)
+        requires there { IsPeerThere centre.now self.old.peers.items peer }
+        requires lawful { IsCentre centre.now }
+        requires index { HasIndex centre.now peer self.old.indexes.items }
+        ensures peers { self.new.peers.items ≡ self.old.peers.items }
+        ensures indexed { (before : List AnyPeer) → OthersStay peer before self.old.peers.items
+            → AreIndexed centre.now now before self.old.indexes.items
+            → AreIndexed centre.now now self.new.peers.items self.new.indexes.items }
+    {
+        let place = peer as usize;
+        let part = &self.peers[place];
+        let table = InForce::new(centre, peer, part.variant);
+        self.indexes[place].rebuild(&table, &part.book, &part.slots, now);
     }
 
     /// The association that a peer opens next.
@@ -93,6 +126,7 @@ impl Parts {
             (λ part. part_after tables now (own part.opened_in_all opens) part)
             self.new.peers.items) }
         ensures err { OnErr result (self.new.peers.items ≡ self.old.peers.items) }
+        ensures indexes { self.new.indexes.items ≡ self.old.indexes.items }
     {
         self.peers[peer as usize].open(alloc)?;
         Ok(())
@@ -101,9 +135,10 @@ impl Parts {
     /// An association of a peer is closed.
     pub fn close(&mut self, alloc: Global, centre: &Centre, key: Key)
         requires there { IsPeerThere centre.now self.old.peers.items key.peer }
-        ensures { (now : ℕ) → IsChanged self.old.peers.items key.peer
+        ensures parts { (now : ℕ) → IsChanged self.old.peers.items key.peer
             (part_after (own_tables centre.now key.peer) now (own key.ordinal closes))
             self.new.peers.items }
+        ensures indexes { self.new.indexes.items ≡ self.old.indexes.items }
     {
         let place = key.peer as usize;
         let limit = centre.variant(key.peer, self.peers[place].chosen_last).sets;
@@ -114,34 +149,40 @@ impl Parts {
     pub fn choose(&mut self, alloc: Global, centre: &Centre, peer: u32, variant: u32)
         requires there { IsPeerThere centre.now self.old.peers.items peer }
         requires variant { variant < length (variants_of centre.now peer) }
-        ensures { (now : ℕ) → IsChanged self.old.peers.items peer
+        ensures parts { (now : ℕ) → IsChanged self.old.peers.items peer
             (part_after (own_tables centre.now peer) now (chose variant)) self.new.peers.items }
+        ensures indexes { self.new.indexes.items ≡ self.old.indexes.items }
     {
         let limit = centre.variant(peer, variant).sets;
         self.peers[peer as usize].choose(alloc, variant, limit);
     }
 
-    /// An association asks something that neither reads nor writes variables, which has this reply.
-    /// After want of memory nothing has changed.
+    /// An association asks something that neither reads nor writes variables, which has this reply,
+    /// at this moment, in milliseconds since 1970. After want of memory nothing has changed.
     pub fn request(
         &mut self,
         centre: &Centre,
         key: Key,
+        now: u64,
         event: &Event,
         reply: &ReplyKind,
     ) -> Result<(), AllocError>
         requires request { IsCalmRequest event.now }
         requires there { IsPeerThere centre.now self.old.peers.items key.peer }
-        ensures ok { (now : ℕ) → OnOk result (IsAsked centre.now now key (acts_asked event.now)
+        requires lawful { IsCentre centre.now }
+        requires indexed { AreIndexed centre.now now self.old.peers.items self.old.indexes.items }
+        ensures ok { OnOk result (IsAsked centre.now now key (acts_asked event.now)
             (λ table book. IsReplyBy table book event.now reply.now)
             self.old.peers.items self.new.peers.items) }
         ensures lawful { OnOk result (EachAct IsLawfulAct (acts_asked event.now)) }
         ensures err { OnErr result (self.new.peers.items ≡ self.old.peers.items) }
+        ensures indexes { OnErr result (self.new.indexes.items ≡ self.old.indexes.items) }
+        ensures indexed { AreIndexed centre.now now self.new.peers.items self.new.indexes.items }
     {
         let EventKind::Request { call } = event.kind() else {
             return Ok(());
         };
-        self.call(centre, key, call, reply)
+        self.call(centre, key, now, call, reply)
     }
 
     /// An association makes a call: a definition that has no error, a deletion, or one that changes
@@ -150,26 +191,33 @@ impl Parts {
         &mut self,
         centre: &Centre,
         key: Key,
+        now: u64,
         call: &Call,
         reply: &ReplyKind,
     ) -> Result<(), AllocError>
         requires calm { IsCalm call.now }
         requires there { IsPeerThere centre.now self.old.peers.items key.peer }
-        ensures ok { (now : ℕ) → OnOk result (IsAsked centre.now now key (acts_of_call call.now)
+        requires lawful { IsCentre centre.now }
+        requires indexed { AreIndexed centre.now now self.old.peers.items self.old.indexes.items }
+        ensures ok { OnOk result (IsAsked centre.now now key (acts_of_call call.now)
             (λ table book. IsReplyTo table book call.now reply.now)
             self.old.peers.items self.new.peers.items) }
         ensures lawful { OnOk result (EachAct IsLawfulAct (acts_of_call call.now)) }
         ensures err { OnErr result (self.new.peers.items ≡ self.old.peers.items) }
+        ensures indexes { OnErr result (self.new.indexes.items ≡ self.old.indexes.items) }
+        ensures indexed { AreIndexed centre.now now self.new.peers.items self.new.indexes.items }
     {
         match call.kind() {
             CallKind::Define { set, members } => {
                 self.define(key, set, members, reply)?;
+                self.rebuild(centre, key.peer, now);
                 Ok(())
             }
             CallKind::Delete { sets } => {
                 let place = key.peer as usize;
                 let table = centre.variant(key.peer, self.peers[place].variant);
                 self.peers[place].delete(&table.domain, table.slots, sets.as_slice());
+                self.rebuild(centre, key.peer, now);
                 Ok(())
             }
             _ => Ok(()),
@@ -192,6 +240,9 @@ impl Parts {
             self.old.peers.items self.new.peers.items) }
         ensures lawful { EachAct IsLawfulAct (defines set.now members.now ∷ []) }
         ensures err { OnErr result (self.new.peers.items ≡ self.old.peers.items) }
+        ensures kept { OneBecomes KeepsSlots key.peer self.old.peers.items
+            self.new.peers.items }
+        ensures indexes { self.new.indexes.items ≡ self.old.indexes.items }
     {
         let name = set.item();
         if !is_defined(reply) {
@@ -201,15 +252,35 @@ impl Parts {
         Ok(())
     }
 
-    /// Hands transfer sets of a peer out to an association, in order. It takes no memory.
-    pub fn hand_out(&mut self, alloc: Global, key: Key, handed: &[u32])
+    /// Hands transfer sets of a peer out to an association, in order, at this moment, in
+    /// milliseconds since 1970, and keeps its index. It takes no memory.
+    pub fn hand_out(&mut self, alloc: Global, centre: &Centre, key: Key, now: u64, handed: &[u32])
+        requires there { IsPeerThere centre.now self.old.peers.items key.peer }
+        requires lawful { IsCentre centre.now }
+        requires indexed { AreIndexed centre.now now self.old.peers.items self.old.indexes.items }
+        requires slots { AreSlots handed.now }
+        ensures parts { IsChanged self.old.peers.items key.peer
+            (λ part. record part { slots = handed_all key.ordinal handed.now part.slots })
+            self.new.peers.items }
+        ensures indexed { AreIndexed centre.now now self.new.peers.items self.new.indexes.items }
+    {
+        if handed.is_empty() {
+            return;
+        }
+        self.hand_out_some(alloc, key, handed);
+        self.rebuild(centre, key.peer, now);
+    }
+
+    /// Hands transfer sets of a peer out to an association, in order.
+    fn hand_out_some(&mut self, alloc: Global, key: Key, handed: &[u32])
         requires known { key.peer < vec_len self.old.peers }
         requires many { (part : Peer) → slice_get self.old.peers.items key.peer ≡ Some part
             → length part.slots ≡ SLOT_LIMIT }
         requires there { AreSlots handed.now }
-        ensures { IsChanged self.old.peers.items key.peer
+        ensures parts { IsChanged self.old.peers.items key.peer
             (λ part. record part { slots = handed_all key.ordinal handed.now part.slots })
             self.new.peers.items }
+        ensures indexes { self.new.indexes.items ≡ self.old.indexes.items }
     {
         self.peers[key.peer as usize].hand_out(alloc, key.ordinal, handed);
     }
@@ -235,6 +306,7 @@ impl Parts {
           slots = all_slots (table_in (own_tables centre.now key.peer) part.variant) part.book
               key.ordinal now asked.items part.slots;
         }) self.new.peers.items }
+        ensures indexes { self.new.indexes.items ≡ self.old.indexes.items }
     {
         let place = key.peer as usize;
         let domain = &centre.variant(key.peer, self.peers[place].variant).domain;
@@ -249,6 +321,7 @@ impl Parts {
             → result ≡ made_for key.ordinal part.associations }
         ensures left { (tables : OwnTables) (now : ℕ) → IsChanged self.old.peers.items key.peer
             (part_after tables now (own key.ordinal takes)) self.new.peers.items }
+        ensures indexes { self.new.indexes.items ≡ self.old.indexes.items }
     {
         self.peers[key.peer as usize].take(alloc, key.ordinal)
     }
@@ -267,30 +340,68 @@ impl Parts {
         ensures ok { OnOk result (OneBecomes
             (λ part after. IsDrafted centre.now peer plant.now cause after) peer
             self.old.peers.items self.new.peers.items) }
+        ensures indexes { self.new.indexes.items ≡ self.old.indexes.items }
     {
         self.peers[peer as usize].draft(alloc, centre, peer, plant, cause)?;
         Ok(())
     }
 
-    /// Drafts for each association of each peer the reports that a cause makes.
+    /// Drafts for each association of a peer the reports that a tick makes.
+    fn draft_tick(
+        &mut self,
+        alloc: Global,
+        centre: &Centre,
+        plant: &Plant,
+        peer: u32,
+        advance: Advance,
+        looks: &mut Looks,
+    ) -> Result<(), AllocError>
+        requires shown { IsPeerShown centre.now plant.now self.old.peers.items peer }
+        requires indexed { AreIndexed centre.now advance.from self.old.peers.items
+            self.old.indexes.items }
+        requires forward { IsForward advance.from advance.to }
+        ensures alike { OneBecomes IsAlike peer self.old.peers.items self.new.peers.items }
+        ensures ok { OnOk result (OneBecomes (λ part after. IsDrafted centre.now peer plant.now
+            (AnyCause.Tick advance.from advance.to) after) peer
+            self.old.peers.items self.new.peers.items) }
+        ensures indexes { self.new.indexes.items ≡ self.old.indexes.items }
+        ensures looks { (part : AnyPeer) → slice_get self.old.peers.items peer ≡ Some part
+            → looks.new ≤ looks.old + due_count advance.from advance.to part.slots }
+    {
+        let place = peer as usize;
+        let index = &self.indexes[place];
+        self.peers[place].draft_tick(alloc, centre, peer, plant, advance, index, looks)?;
+        Ok(())
+    }
+
+    /// Drafts for each association of each peer the reports that a tick makes. It looks at those
+    /// transfer sets alone of which something is due.
     pub fn draft_all(
         &mut self,
         alloc: Global,
         centre: &Centre,
         plant: &Plant,
-        cause: ReportCause,
+        advance: Advance,
+        looks: &mut Looks,
     ) -> Result<(), AllocError>
         requires few { length self.old.peers.items ≡ length centre.now.tables }
         requires shown { (peer : ℕ) → peer < length self.old.peers.items
             → IsPeerShown centre.now plant.now self.old.peers.items peer }
+        requires indexed { AreIndexed centre.now advance.from self.old.peers.items
+            self.old.indexes.items }
+        requires forward { IsForward advance.from advance.to }
         ensures alike { EachBecomes (λ peer. IsAlike) self.old.peers.items
             self.new.peers.items }
         ensures ok { OnOk result (EachBecomes
-            (λ peer part after. IsDrafted centre.now peer plant.now cause after)
+            (λ peer part after. IsDrafted centre.now peer plant.now
+            (AnyCause.Tick advance.from advance.to) after)
             self.old.peers.items self.new.peers.items) }
+        ensures indexes { self.new.indexes.items ≡ self.old.indexes.items }
+        ensures looks { looks.new ≤ looks.old
+            + due_total advance.from advance.to self.old.peers.items }
     {
         for peer in 0..centre.peers() {
-            self.draft(alloc, centre, plant, peer, cause)?;
+            self.draft_tick(alloc, centre, plant, peer, advance, looks)?;
         }
         Ok(())
     }
@@ -298,90 +409,185 @@ impl Parts {
     /// Notes the reports of a peer that were drafted. It takes no memory.
     pub fn report(&mut self, peer: u32, cause: ReportCause)
         requires { IsPeerBanked self.old.peers.items peer }
-        ensures { OneBecomes (IsReported cause) peer self.old.peers.items self.new.peers.items }
+        ensures reported { OneBecomes (IsReported cause) peer self.old.peers.items
+            self.new.peers.items }
+        ensures indexes { self.new.indexes.items ≡ self.old.indexes.items }
     {
         self.peers[peer as usize].report(cause);
     }
 
-    /// Notes the reports of all peers that were drafted. It takes no memory.
-    pub fn report_all(&mut self, centre: &Centre, cause: ReportCause)
+    /// Notes the reports of a peer that were drafted for a tick. It takes no memory.
+    fn report_tick(&mut self, centre: &Centre, peer: u32, advance: Advance, looks: &mut Looks)
+        requires banked { IsPeerBanked self.old.peers.items peer }
+        requires index { peer < length self.old.indexes.items }
+        requires forward { IsForward advance.from advance.to }
+        requires indexed { (part : AnyPeer) (index : AnyIndex)
+            → slice_get self.old.peers.items peer ≡ Some part
+            → slice_get self.old.indexes.items peer ≡ Some index
+            → IsIndexed centre.now peer advance.from part index }
+        ensures reported { OneBecomes (IsReported (AnyCause.Tick advance.from advance.to)) peer
+            self.old.peers.items self.new.peers.items }
+        ensures indexed { (part : AnyPeer) (index : AnyIndex)
+            → slice_get self.new.peers.items peer ≡ Some part
+            → slice_get self.new.indexes.items peer ≡ Some index
+            → IsIndexed centre.now peer advance.to part index }
+        ensures others { (other : ℕ) → other ≢ peer → slice_get self.new.indexes.items other
+            ≡ slice_get self.old.indexes.items other }
+        ensures many { length self.new.indexes.items ≡ length self.old.indexes.items }
+        ensures looks { (part : AnyPeer) → slice_get self.old.peers.items peer ≡ Some part
+            → looks.new ≤ looks.old + due_count advance.from advance.to part.slots }
+    {
+        let place = peer as usize;
+        self.peers[place].report_tick(advance, &mut self.indexes[place], looks);
+    }
+
+    /// Notes the reports of all peers that were drafted for a tick. It takes no memory, and looks
+    /// at those transfer sets alone of which something is due.
+    pub fn report_all(&mut self, centre: &Centre, advance: Advance, looks: &mut Looks)
         requires few { length self.old.peers.items ≡ length centre.now.tables }
         requires banked { (peer : ℕ) → peer < length self.old.peers.items
             → IsPeerBanked self.old.peers.items peer }
-        ensures { EachBecomes (λ peer. IsReported cause) self.old.peers.items
-            self.new.peers.items }
+        requires indexed { AreIndexed centre.now advance.from self.old.peers.items
+            self.old.indexes.items }
+        requires forward { IsForward advance.from advance.to }
+        ensures reported { EachBecomes (λ peer. IsReported (AnyCause.Tick advance.from advance.to))
+            self.old.peers.items self.new.peers.items }
+        ensures indexed { AreIndexed centre.now advance.to self.new.peers.items
+            self.new.indexes.items }
+        ensures looks { looks.new ≤ looks.old
+            + due_total advance.from advance.to self.old.peers.items }
     {
         for peer in 0..centre.peers() {
-            self.report(peer, cause);
+            self.report_tick(centre, peer, advance, looks);
         }
     }
 
     /// Plans a change of a point in the transfer sets of a peer.
-    fn prepare(&mut self, centre: &Centre, peer: u32, point: u32) -> Result<(), AllocError>
+    fn prepare(
+        &mut self,
+        centre: &Centre,
+        peer: u32,
+        point: u32,
+        looks: &mut Looks,
+    ) -> Result<(), AllocError>
         requires there { IsPeerThere centre.now self.old.peers.items peer }
         requires lawful { IsCentre centre.now }
         requires known { point < length centre.now.points }
+        requires index { peer < length self.old.indexes.items }
+        requires indexed { (part : AnyPeer) (index : AnyIndex)
+            → slice_get self.old.peers.items peer ≡ Some part
+            → slice_get self.old.indexes.items peer ≡ Some index
+            → IsWatched centre.now peer part index }
         ensures alike { OneBecomes IsAlike peer self.old.peers.items self.new.peers.items }
         ensures ok { OnOk result (OneBecomes (λ part after. IsReady centre.now peer point after)
             peer self.old.peers.items self.new.peers.items) }
+        ensures indexes { self.new.indexes.items ≡ self.old.indexes.items }
+        ensures looks { (part : AnyPeer) → slice_get self.old.peers.items peer ≡ Some part
+            → looks.new ≤ looks.old + 2 * watch_of_part centre.now peer point part }
     {
-        self.peers[peer as usize].prepare(centre, peer, point)?;
+        let place = peer as usize;
+        let index = &self.indexes[place];
+        self.peers[place].prepare(centre, peer, point, index, looks)?;
         Ok(())
     }
 
-    /// Plans a change of a point in the transfer sets of all peers.
-    pub fn prepare_all(&mut self, centre: &Centre, point: u32) -> Result<(), AllocError>
+    /// Plans a change of a point in the transfer sets of all peers. It looks at those alone that
+    /// are enabled and whose data set names it.
+    pub fn prepare_all(
+        &mut self,
+        centre: &Centre,
+        point: u32,
+        now: u64,
+        looks: &mut Looks,
+    ) -> Result<(), AllocError>
         requires few { length self.old.peers.items ≡ length centre.now.tables }
         requires there { (peer : ℕ) → peer < length self.old.peers.items
             → IsPeerThere centre.now self.old.peers.items peer }
         requires lawful { IsCentre centre.now }
+        requires indexed { AreIndexed centre.now now self.old.peers.items self.old.indexes.items }
         requires known { point < length centre.now.points }
         ensures alike { EachBecomes (λ peer. IsAlike) self.old.peers.items
             self.new.peers.items }
         ensures ok { OnOk result (EachBecomes
             (λ peer part after. IsReady centre.now peer point after)
             self.old.peers.items self.new.peers.items) }
+        ensures indexes { self.new.indexes.items ≡ self.old.indexes.items }
+        ensures looks { looks.new ≤ looks.old
+            + 2 * watch_total centre.now point self.old.peers.items }
     {
         for peer in 0..centre.peers() {
-            self.prepare(centre, peer, point)?;
+            self.prepare(centre, peer, point, looks)?;
         }
         Ok(())
     }
 
     /// Notes a change of a point in the transfer sets of a peer, as it was planned.
-    fn note(&mut self, peer: u32, now: u64, value: PointValue, cov: u16)
+    fn note(&mut self, centre: &Centre, peer: u32, change: Change, looks: &mut Looks)
         requires banked { IsPeerBanked self.old.peers.items peer }
         requires room { HasPeerRoom self.old.peers.items peer }
-        ensures { OneBecomes (IsNoted now value cov) peer self.old.peers.items
-            self.new.peers.items }
+        requires index { peer < length self.old.indexes.items }
+        requires indexed { (part : AnyPeer) (index : AnyIndex)
+            → slice_get self.old.peers.items peer ≡ Some part
+            → slice_get self.old.indexes.items peer ≡ Some index
+            → IsIndexed centre.now peer change.now part index }
+        ensures noted { OneBecomes (IsNoted change.now change.value change.cov) peer
+            self.old.peers.items self.new.peers.items }
+        ensures indexed { (part : AnyPeer) (index : AnyIndex)
+            → slice_get self.new.peers.items peer ≡ Some part
+            → slice_get self.new.indexes.items peer ≡ Some index
+            → IsIndexed centre.now peer change.now part index }
+        ensures others { (other : ℕ) → other ≢ peer → slice_get self.new.indexes.items other
+            ≡ slice_get self.old.indexes.items other }
+        ensures many { length self.new.indexes.items ≡ length self.old.indexes.items }
+        ensures looks { (part : AnyPeer) → slice_get self.old.peers.items peer ≡ Some part
+            → looks.new ≤ looks.old + planned_count part.plan }
     {
-        self.peers[peer as usize].note(now, value, cov);
+        let place = peer as usize;
+        self.peers[place].note(change, &mut self.indexes[place], looks);
     }
 
-    /// Notes a change of a point at this moment in the transfer sets of all peers, as it was
-    /// planned; nothing, where the point hasn't changed. It takes no memory.
-    pub fn note_all(
-        &mut self,
-        centre: &Centre,
-        changed: bool,
-        now: u64,
-        value: PointValue,
-        cov: u16,
-    )
+    /// Notes a change of a point in the transfer sets of all peers, as it was planned; nothing,
+    /// where the point hasn't changed. It takes no memory, and looks at those alone for which
+    /// something is planned.
+    pub fn note_all(&mut self, centre: &Centre, changed: bool, change: Change, looks: &mut Looks)
         requires few { length self.old.peers.items ≡ length centre.now.tables }
         requires banked { (peer : ℕ) → peer < length self.old.peers.items
             → IsPeerBanked self.old.peers.items peer }
         requires room { (peer : ℕ) → peer < length self.old.peers.items
             → HasPeerRoom self.old.peers.items peer }
-        ensures changed { changed ≡ true → EachBecomes (λ peer. IsNoted now value cov)
+        requires indexed { AreIndexed centre.now change.now self.old.peers.items
+            self.old.indexes.items }
+        ensures changed { changed ≡ true → EachBecomes
+            (λ peer. IsNoted change.now change.value change.cov)
             self.old.peers.items self.new.peers.items }
         ensures same { changed ≡ false → self.new.peers.items ≡ self.old.peers.items }
+        ensures indexed { AreIndexed centre.now change.now self.new.peers.items
+            self.new.indexes.items }
+        ensures looks { looks.new ≤ looks.old + plan_total self.old.peers.items }
     {
-        if !changed {
-            return;
+        if changed {
+            self.note_each(centre, change, looks);
         }
+    }
+
+    /// Notes a change of a point in the transfer sets of all peers, as it was planned.
+    fn note_each(&mut self, centre: &Centre, change: Change, looks: &mut Looks)
+        requires few { length self.old.peers.items ≡ length centre.now.tables }
+        requires banked { (peer : ℕ) → peer < length self.old.peers.items
+            → IsPeerBanked self.old.peers.items peer }
+        requires room { (peer : ℕ) → peer < length self.old.peers.items
+            → HasPeerRoom self.old.peers.items peer }
+        requires indexed { AreIndexed centre.now change.now self.old.peers.items
+            self.old.indexes.items }
+        ensures noted { EachBecomes (λ peer. IsNoted change.now change.value change.cov)
+            self.old.peers.items self.new.peers.items }
+        ensures indexed { AreIndexed centre.now change.now self.new.peers.items
+            self.new.indexes.items }
+        ensures looks { looks.new ≤ looks.old + plan_total self.old.peers.items }
+    {
+        let Change { now, value, cov } = change;
         for peer in 0..centre.peers() {
-            self.note(peer, now, value, cov);
+            self.note(centre, peer, Change { now, value, cov }, looks);
         }
     }
 }

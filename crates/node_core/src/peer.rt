@@ -1,6 +1,7 @@
 //! What a node keeps of one peer.
-ghost use Rattle.std.specs.Prelude.{◌≡◌, ◌+◌, ◌-◌, ◌^◌, ◌<◌, ◌≤◌, [], ◌∷◌, ◌++◌, length, map};
-ghost use Rattle.std.specs.Prelude.{vec_len, vec_capacity, IfOk, OnOk, OnErr};
+ghost use Rattle.std.specs.Prelude.{[], length, map, ℕ, ◌*◌, ◌++◌};
+ghost use Rattle.std.specs.Prelude.{◌+◌, ◌-◌, ◌<◌, ◌^◌, ◌∷◌, ◌≡◌, ◌≤◌};
+ghost use Rattle.std.specs.Prelude.{vec_len, vec_capacity, IfOk, OnOk, OnErr, filter_map, true};
 ghost use Rattle.std.specs.List.{All};
 ghost use Rattle.bilateral.specs.declared.rows.TheConstants.{SLOT_LIMIT as SLOTS};
 ghost use Rattle.data_sets.specs.Books.{defined};
@@ -15,26 +16,39 @@ ghost use Rattle.node_core.specs.Shown.{IsShowable, shown_of, InEachView};
 ghost use Rattle.node_core.specs.SetsKept.{left_by};
 ghost use Rattle.node_core.specs.SlotsKept.{is_kept, handed_all, AreSlots};
 ghost use Rattle.node_core.specs.SlotWrites.{IsAskedThere, all_answers, all_slots};
-ghost use Rattle.node_core.specs.SlotFeeds.{move_of, moment_before, HasPlanRoom};
+ghost use Rattle.transfer_sets.specs.DueIndex.{IsDueIndex};
+ghost use Rattle.bilateral.specs.Rows.{point_of};
+ghost use Rattle.node_core.specs.declared.cause.ReportCause.{ReportCause as AnyCause};
+ghost use Rattle.node_core.specs.Found.{offered, table_at};
+ghost use Rattle.node_core.specs.Indexed.{IsWatch};
+ghost use Rattle.node_core.specs.SlotFeeds.{move_of, moment_before, HasPlanRoom, IsForward};
+ghost use Rattle.node_core.specs.SlotFeeds.{due_count, watch_count, planned_count};
+ghost use Rattle.node_core.specs.SlotFeeds.{conditions_by};
 ghost use Rattle.node_core.specs.PeerParts.{new_part, settled_by};
 ghost use Rattle.node_core.specs.PartFeeds.{IsAlike, IsDrafted, IsReported, IsReady, IsNoted};
+ghost use Rattle.node_core.specs.PartFeeds.{AreDraftedMore};
+ghost use Rattle.transfer_sets.specs.Banks.{slot_at, is_owned_by};
+ghost use Rattle.tase_views.specs.View.{held};
+ghost use Rattle.tase_views.specs.Reports.{timeout_report, own_reports, slot_state};
 
 use crate::associations::Associations;
-use crate::cause::{ReportCause, report_all};
+use crate::cause::{Advance, ReportCause, report_all, report_due};
 use crate::in_force::InForce;
-use crate::plan::ChangePlan;
+use crate::index::PeerIndex;
+use crate::plan::{Change, ChangePlan};
 use crate::plant::Plant;
 use crate::replies::PeerView;
+use crate::reports::owns;
 use crate::sets::delete_sets;
+use crate::timeouts::add_timeouts;
 use crate::writes::{Asked, write_all};
 use ber_values::Visible;
 use bilateral::{Centre, SLOT_LIMIT};
 use data_sets::SetBook;
 use mms_data::{Name, Names};
 use std::alloc::{AllocError, Global};
-use tase_points::PointValue;
 use tase_views::Reports;
-use transfer_sets::SlotBank;
+use transfer_sets::{Looks, SlotBank, due_is_one_number, next_moments_last};
 
 /// The part of one peer.
 #[derive(Drop)]
@@ -249,6 +263,154 @@ impl Peer {
         shown.reports(alloc, self.associations.ordinal(place), cause)
     }
 
+    /// Drafts for each association the reports that a tick makes. `number` is that of the peer. It
+    /// looks at those transfer sets alone of which something is due.
+    pub fn draft_tick(
+        &mut self,
+        alloc: Global,
+        centre: &Centre,
+        number: u32,
+        plant: &Plant,
+        advance: Advance,
+        index: &PeerIndex,
+        looks: &mut Looks,
+    ) -> Result<(), AllocError>
+        requires there { IsThere centre.now number self.old.variant }
+        requires shown { IsShowable (shown_of centre.now number self.old plant.now) }
+        requires forward { IsForward advance.from advance.to }
+        requires dues { IsDueIndex self.old.slots advance.from index.now.dues }
+        ensures alike { IsAlike self.old self.new }
+        ensures ok { OnOk result (IsDrafted centre.now number plant.now
+            (AnyCause.Tick advance.from advance.to) self.new) }
+        ensures looks { looks.new ≤ looks.old + due_count advance.from advance.to self.old.slots }
+    {
+        due_is_one_number();
+        next_moments_last();
+        for place in 0..self.associations.len() {
+            let timeouts = self.timeouts(alloc, centre, number, plant, place, advance.to)?;
+            self.associations.draft(place, timeouts)?;
+        }
+        for slot in 0..self.slot_count(centre, number) {
+            if index.dues.has_come(slot, advance.to) {
+                looks.add();
+                self.draft_slot(alloc, centre, number, plant, slot, advance)?;
+            }
+        }
+        Ok(())
+    }
+
+    /// How many transfer sets the table in force offers.
+    fn slot_count(&self, centre: &Centre, number: u32) -> u32
+        requires { IsThere centre.now number self.now.variant }
+        ensures count { result ≡ (table_at centre.now number self.now.variant).table.slots }
+        ensures most { result ≤ SLOTS }
+    {
+        let table = InForce::new(centre, number, self.variant);
+        table.table().slots
+    }
+
+    /// The time-outs that a tick to this moment makes for the association at a place.
+    fn timeouts(
+        &self,
+        alloc: Global,
+        centre: &Centre,
+        number: u32,
+        plant: &Plant,
+        place: usize,
+        to: u64,
+    ) -> Result<Reports, AllocError>
+        requires there { IsThere centre.now number self.now.variant }
+        requires shown { IsShowable (shown_of centre.now number self.now plant.now) }
+        requires place { place < length self.now.associations }
+        ensures { IfOk result (λ made. InEachView (shown_of centre.now number self.now plant.now)
+            (λ tables view. made ≡ filter_map (timeout_report tables view
+            (association_at self.now.associations place).ordinal to)
+            (held tables view).devices)) }
+    {
+        let table = InForce::new(centre, number, self.variant);
+        let shown = PeerView::new(number, table, &self.book, &self.slots, plant);
+        let mut made = Reports::new(alloc);
+        add_timeouts(
+            &shown,
+            alloc,
+            self.associations.ordinal(place),
+            to,
+            &mut made,
+        )?;
+        Ok(made)
+    }
+
+    /// Adds to the drafts of the owner of a transfer set the reports that a tick makes of it.
+    fn draft_slot(
+        &mut self,
+        alloc: Global,
+        centre: &Centre,
+        number: u32,
+        plant: &Plant,
+        slot: u32,
+        advance: Advance,
+    ) -> Result<(), AllocError>
+        requires there { IsThere centre.now number self.old.variant }
+        requires shown { IsShowable (shown_of centre.now number self.old plant.now) }
+        requires slot { slot < SLOTS }
+        ensures alike { IsAlike self.old self.new }
+        ensures same { self.new ≡ record self.old { associations = self.new.associations } }
+        ensures ok { OnOk result (AreDraftedMore (shown_of centre.now number self.old plant.now)
+            (λ tables view ordinal. own_reports tables view ordinal advance.to
+            (λ s. conditions_by (AnyCause.Tick advance.from advance.to) s
+            (slot_state tables view s)) slot)
+            self.old.associations self.new.associations) }
+    {
+        for place in 0..self.associations.len() {
+            if owns(&self.slots, self.associations.ordinal(place), slot) {
+                let made = self.slot_reports(alloc, centre, number, plant, slot, advance)?;
+                self.associations.draft_more(place, made)?;
+            }
+        }
+        Ok(())
+    }
+
+    /// The reports that a tick makes of a transfer set.
+    fn slot_reports(
+        &self,
+        alloc: Global,
+        centre: &Centre,
+        number: u32,
+        plant: &Plant,
+        slot: u32,
+        advance: Advance,
+    ) -> Result<Reports, AllocError>
+        requires there { IsThere centre.now number self.now.variant }
+        requires shown { IsShowable (shown_of centre.now number self.now plant.now) }
+        requires slot { slot < SLOTS }
+        ensures { IfOk result (λ made. InEachView (shown_of centre.now number self.now plant.now)
+            (λ tables view. (ordinal : ℕ)
+            → is_owned_by ordinal (slot_at self.now.slots slot) ≡ true
+            → made ≡ own_reports tables view ordinal advance.to
+            (λ s. conditions_by (AnyCause.Tick advance.from advance.to) s
+            (slot_state tables view s)) slot)) }
+    {
+        let table = InForce::new(centre, number, self.variant);
+        let shown = PeerView::new(number, table, &self.book, &self.slots, plant);
+        shown.slot_reports(alloc, advance.cause(), slot)
+    }
+
+    /// Notes the reports of a tick that were drafted, and that all is told of the transfer sets of
+    /// which it makes one; the index is brought to its moment. It takes no memory, and looks at
+    /// those transfer sets alone of which something is due.
+    pub fn report_tick(&mut self, advance: Advance, index: &mut PeerIndex, looks: &mut Looks)
+        requires many { length self.old.slots ≡ SLOTS }
+        requires forward { IsForward advance.from advance.to }
+        requires dues { IsDueIndex self.old.slots advance.from index.old.dues }
+        ensures reported { IsReported (AnyCause.Tick advance.from advance.to) self.old self.new }
+        ensures dues { IsDueIndex self.new.slots advance.to index.new.dues }
+        ensures watch { index.new.watch ≡ index.old.watch }
+        ensures looks { looks.new ≤ looks.old + due_count advance.from advance.to self.old.slots }
+    {
+        self.associations.keep_drafts();
+        report_due(&mut self.slots, advance, &mut index.dues, looks);
+    }
+
     /// Notes the reports that were drafted, and that all is told of the transfer sets of which the
     /// cause makes one. It takes no memory.
     pub fn report(&mut self, cause: ReportCause)
@@ -259,28 +421,50 @@ impl Peer {
         report_all(&mut self.slots, cause);
     }
 
-    /// Plans a change of a point, and makes room for it. `number` is that of the peer.
-    pub fn prepare(&mut self, centre: &Centre, number: u32, point: u32) -> Result<(), AllocError>
+    /// Plans a change of a point, and makes room for it. `number` is that of the peer. It looks at
+    /// those transfer sets alone whose data set names the point.
+    pub fn prepare(
+        &mut self,
+        centre: &Centre,
+        number: u32,
+        point: u32,
+        index: &PeerIndex,
+        looks: &mut Looks,
+    ) -> Result<(), AllocError>
         requires there { IsThere centre.now number self.old.variant }
         requires many { length self.old.slots ≡ SLOTS }
         requires known { point < length centre.now.points }
+        requires points { length index.now.watch ≡ length centre.now.points }
+        requires watch { IsWatch (table_at centre.now number self.old.variant) self.old.book
+            self.old.slots index.now.watch }
         ensures alike { IsAlike self.old self.new }
         ensures ok { OnOk result (IsReady centre.now number point self.new) }
+        ensures looks { looks.new ≤ looks.old
+            + 2 * watch_count (offered (table_at centre.now number self.old.variant)) self.old.book
+            (point_of centre.now point).name self.old.slots }
     {
         let table = InForce::new(centre, number, self.variant);
-        self.plan.plan(&table, &self.book, &self.slots, point)?;
-        self.plan.make_room(&mut self.slots)?;
+        self.plan.plan(&table, &self.book, &self.slots, &index.watch, point, looks)?;
+        self.plan.make_room(&mut self.slots, looks)?;
         Ok(())
     }
 
-    /// Notes a change of a point as it was planned: its moment, in milliseconds since 1970, and its
-    /// value and the shown count of changes just after it. It takes no memory.
-    pub fn note(&mut self, now: u64, value: PointValue, cov: u16)
+    /// Notes a change of a point as it was planned, and keeps the index. It takes no memory, and
+    /// looks at those transfer sets alone for which something is planned.
+    pub fn note(&mut self, change: Change, index: &mut PeerIndex, looks: &mut Looks)
         requires many { length self.old.slots ≡ SLOTS }
         requires room { HasPlanRoom self.old.plan self.old.slots }
-        ensures { IsNoted now value cov self.old self.new }
+        requires dues { IsDueIndex self.old.slots change.now index.old.dues }
+        ensures noted { IsNoted change.now change.value change.cov self.old self.new }
+        ensures slots { length self.new.slots ≡ length self.old.slots }
+        ensures wishes { (s : ℕ) → (slot_at self.new.slots s).state.wish
+            ≡ (slot_at self.old.slots s).state.wish }
+        ensures dues { IsDueIndex self.new.slots change.now index.new.dues }
+        ensures watch { index.new.watch ≡ index.old.watch }
+        ensures looks { looks.new ≤ looks.old + planned_count self.old.plan }
     {
-        self.plan.note(&mut self.slots, now, value, cov);
+        self.plan
+            .note(&mut self.slots, change, &mut index.dues, looks);
     }
 }
 

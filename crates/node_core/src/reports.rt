@@ -1,5 +1,6 @@
 //! The reports that are made of a peer's transfer sets.
-ghost use Rattle.std.specs.Prelude.{◌≡◌, ◌<◌, ◌%◌, ◌/◌, ◌==◌, ◌||◌, ◌&&◌, ◌++◌, pos, length};
+ghost use Rattle.std.specs.Prelude.{◌≡◌, ℕ, true, ◌<◌, ◌%◌, ◌/◌, ◌==◌, ◌||◌, ◌&&◌, ◌++◌, pos};
+ghost use Rattle.std.specs.Prelude.{length};
 ghost use Rattle.std.specs.Prelude.{if◌then◌else◌, map, [], ◌∷◌, Some, IfOk, OnOk, IfSome};
 ghost use Rattle.std.specs.List.{All, list_any};
 ghost use Rattle.std.specs.Option.{option_copied, unwrap_or};
@@ -61,6 +62,24 @@ impl<'a> PeerView<'a> {
             ReportCause::Tick { from, to } => tick_reports(self, alloc, ordinal, from, to),
             ReportCause::Ask { slot, now } => asked_reports(self, alloc, ordinal, slot, now),
         }
+    }
+
+    /// The reports that a cause makes of a transfer set, for its owner.
+    pub fn slot_reports(
+        &self,
+        alloc: Global,
+        cause: ReportCause,
+        slot: u32,
+    ) -> Result<Reports, AllocError>
+        requires { slot < SLOTS }
+        ensures { IfOk result (λ made. InEachView self.now (λ tables view. (ordinal : ℕ)
+            → is_owned_by ordinal (slot_at self.now.slots slot) ≡ true
+            → made ≡ reports.own_reports tables view ordinal (moment_at cause)
+            (λ s. conditions_by cause s (slot_state tables view s)) slot)) }
+    {
+        let mut made = Reports::new(alloc);
+        add_reports(self, alloc, cause, slot, &mut made)?;
+        Ok(made)
     }
 }
 
@@ -124,7 +143,7 @@ fn add_own(
 }
 
 /// Whether an association owns a transfer set.
-fn owns(bank: &SlotBank, ordinal: u64, slot: u32) -> bool
+pub fn owns(bank: &SlotBank, ordinal: u64, slot: u32) -> bool
     requires { slot < length bank.now }
     ensures { result ≡ is_owned_by ordinal (slot_at bank.now slot) }
 {

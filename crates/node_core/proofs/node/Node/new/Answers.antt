@@ -1,4 +1,4 @@
-use Rattle.std.proofs.Common.{◌≡◌, [], map, subst, arith}
+use Rattle.std.proofs.Common.{◌≡◌, [], map, sym, subst, arith}
 use Rattle.std.specs.Arc.{arc_value}
 use Rattle.point_db.specs.Stored.{Keeps as KeepsPoints}
 use Rattle.bilateral.specs.declared.rows.Table.{Table}
@@ -7,6 +7,7 @@ use Rattle.node_devices.specs.DeviceBanks.{IsDeviceBank}
 use Rattle.node_core.specs.LastValues.{kinds_of}
 use Rattle.node_core.specs.PeerParts.{new_part}
 use Rattle.node_core.specs.Stored.{IsNode, found_by}
+use Rattle.node_core.proofs.NodeAnswers.{indexed_as}
 use Rattle.node_core.proofs.Steps.{IsCommon-new, AreParts-new}
 use Rattle.node_core.proofs.node.Node.new.Goals as goal
 
@@ -30,6 +31,8 @@ invariant_of-result c =
           (subst (λ (those : CentreRows). parts.peers.items
           ≡ map (λ (table : Table). new_part table.sets) those.tables) c.deref-2.ensures
           c.in_ok-parts.ensures.parts);
+      indexed = indexed_as c.in_ok-parts.parts c.deref-2.ensures (sym c.in_ok-hub.ensures.clock)
+          c.in_ok-parts.ensures.indexed;
     } in (
       rw c.in_ok-log.ensures.entries start,
       rw c.in_ok-hub.ensures.none c.in_ok-log.ensures.room,

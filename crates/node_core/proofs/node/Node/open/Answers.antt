@@ -44,7 +44,7 @@ invariant_of-self-in_err-seat c =
     unlogged c.self.inside c.self.invariant c.reserve.new.self c.in_ok-reserve.ensures.entries
     c.in_ok-reserve.ensures.room c.in_err-seat.ensures.same_count
     (IsNode-alike _ _ _ c.seat.new.self _ c.self.inside.parts c.in_err-seat.ensures.plant
-    c.in_err-seat.ensures.clock c.in_err-seat.ensures.err refl c.self.invariant.0)
+    c.in_err-seat.ensures.clock c.in_err-seat.ensures.err refl refl c.self.invariant.0)
 
 pub open-requires-clause-known : goal.open-requires-clause-known
 open-requires-clause-known c =
@@ -74,7 +74,7 @@ invariant_of-self-in-Ok c =
     c.in_ok-reserve.ensures c.append.ensures one_more
     (ap (λ (k : ℕ). k + 1) c.open_count.ensures.count ∙ sym one_more)
     (IsNode-open _ _ _ _ c.self.invariant.0 c.args.who c.seat.new.self c.open.new.self
-    c.args.peer c.next_key-key.result known key_is c.in_ok-seat.ensures.plant
+    c.open.ensures.indexes c.args.peer c.next_key-key.result known key_is c.in_ok-seat.ensures.plant
     c.in_ok-seat.ensures.clock c.in_ok-seat.ensures.ok c.in-Ok.ensures.ok)
 
 pub returns-in-Ok-clause-answer : goal.returns-in-Ok-clause-answer
@@ -102,4 +102,4 @@ invariant_of-self-in-Err-12 c =
     (unseated_again c.args.who c.next_key-key.result (found_by c.self.inside.hub)
     (found_by c.seat.new.self) (found_by c.unseat.new.self) none c.in_ok-seat.ensures.ok
     c.unseat.ensures.seats)
-    c.in-Err.ensures.err c.self.invariant.0)
+    c.in-Err.ensures.err c.open.ensures.indexes c.self.invariant.0)

@@ -14,7 +14,7 @@ use Rattle.node_core.specs.Found.{TableInForce, IsThere, table_at, offered}
 use Rattle.node_core.specs.DeviceWrites.{AreOfRows, devices_read}
 use Rattle.node_core.specs.Stored.{IsPeerThere}
 use Rattle.node_core.proofs.NodeAnswers.{IsSeated, seen_as, light_enough, seated_by}
-use Rattle.node_core.proofs.NodeAnswers.{unlogged, logged}
+use Rattle.node_core.proofs.NodeAnswers.{unlogged, logged, lawful_at, indexed_at, indexed_as}
 use Rattle.node_core.proofs.Outcomes.{IsAnswer-request}
 use Rattle.node_core.proofs.NodeSteps.{IsNode-read, peer_there, its_part}
 use Rattle.node_core.proofs.DevicesKept.{bank_many, bank_rows}
@@ -51,14 +51,20 @@ invariant_of-self c =
     unlogged c.self.inside c.self.invariant c.reserve.new.self c.reserve.ensures.entries
     c.reserve.ensures.room refl c.self.invariant.0
 
-pub hand_out-requires-clause-known : goal.hand_out-requires-clause-known
-hand_out-requires-clause-known c =
-    let known = (seat (goal.at.hand_out-requires-clause-known c).After-unwrap-key).1 in
-    omega (arith, known, c.self.invariant.0.peers.many, c.self.inside.parts.peers.ok)
+pub hand_out-requires-clause-there : goal.hand_out-requires-clause-there
+hand_out-requires-clause-there c =
+    let peer = c.unwrap-key.result.peer in
+    subst (λ (those : CentreRows). IsPeerThere those c.self.inside.parts.peers.items peer)
+    (sym c.deref-3.ensures)
+    (peer_there _ _ _ _ c.self.invariant.0 peer
+    (seat (goal.at.hand_out-requires-clause-there c).After-unwrap-key).1)
 
-pub hand_out-requires-clause-many : goal.hand_out-requires-clause-many
-hand_out-requires-clause-many c = λ part at.
-    (c.self.invariant.0.peers.each c.unwrap-key.result.peer part at).slots.many
+pub hand_out-requires-clause-lawful : goal.hand_out-requires-clause-lawful
+hand_out-requires-clause-lawful c = lawful_at c.self.inside c.self.invariant c.deref-3.ensures
+
+pub hand_out-requires-clause-indexed : goal.hand_out-requires-clause-indexed
+hand_out-requires-clause-indexed c =
+    indexed_at c.self.inside c.self.invariant c.deref-3.ensures c.last_tick-now.ensures
 
 pub append-requires-clause-light : goal.append-requires-clause-light
 append-requires-clause-light c = light_enough (c.in_ok-reserve.ensures.room _ c.self.invariant.1)
@@ -90,7 +96,8 @@ invariant_of-self-2 c =
     c.in_ok-reserve.ensures c.append.ensures refl c.open_count.ensures.count
     (IsNode-read _ _ _ _ n c.args.who _ c.hand_out.new.self now key c.in-Read.names
     c.in-Read.echo c.as_slice.result.now (c.last_tick-now.ensures ∙ n.clock) seated.0 refl refl
-    refl selected c.select_all.ensures.orders hands c.hand_out.ensures)
+    refl selected c.select_all.ensures.orders hands c.hand_out.ensures.parts
+    (indexed_as c.hand_out.new.self c.deref-3.ensures c.last_tick-now.ensures c.hand_out.ensures.indexed))
 
 pub returns-clause-answer : goal.returns-clause-answer
 returns-clause-answer c =

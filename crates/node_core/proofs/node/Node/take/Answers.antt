@@ -30,7 +30,8 @@ invariant_of-self-2 c =
     c.open_count.result c.self.view_is c.requires.take c.requires.free refl
     c.in_ok-reserve.ensures c.append.ensures refl c.open_count.ensures.count
     (IsNode-take _ _ _ _ c.self.invariant.0 c.args.who c.self.inside.hub c.take-reports.new.self
-    c.unwrap-key.result (seat (goal.at.invariant_of-self-2 c).After-unwrap-key).0 refl
+    c.take-reports.ensures.indexes c.unwrap-key.result
+    (seat (goal.at.invariant_of-self-2 c).After-unwrap-key).0 refl
     c.take-reports.ensures.left)
 
 pub returns-clause-answer : goal.returns-clause-answer

@@ -10,7 +10,7 @@ use Rattle.node_core.specs.declared.peer.Peer.{Peer}
 use Rattle.node_core.specs.Room.{past_of}
 use Rattle.node_core.specs.Stored.{IsPeerThere, IsChanged}
 use Rattle.node_core.proofs.NodeAnswers.{IsSeated, seen_as, light_enough, seated_by}
-use Rattle.node_core.proofs.NodeAnswers.{unlogged, logged}
+use Rattle.node_core.proofs.NodeAnswers.{unlogged, logged, reindexed, has_index, lawful_at}
 use Rattle.node_core.proofs.Outcomes.{IsAnswer-request}
 use Rattle.std.specs.Prelude.{slice_get}
 use Rattle.mms_data.specs.Datum.{Datum}
@@ -25,10 +25,12 @@ use Rattle.node_core.specs.SlotWrites.{IsAskedThere, all_asked, all_answers, all
 use Rattle.node_core.specs.DeviceWrites.{all_left, all_devices, all_orders}
 use Rattle.node_core.proofs.DevicesKept.{bank_many}
 use Rattle.node_core.proofs.DeviceActs.{left_many}
+use Rattle.node_core.proofs.Indexing.{stays_changed, there_slots, length-all_slots}
 use Rattle.node_core.proofs.NodeSteps.{IsNode-write, peer_there, its_part}
 use Rattle.node_core.proofs.PeerViews.{there_is, offered_is, written_is}
 use Rattle.node_core.proofs.node.Node.write.Goals as goal
-use Rattle.node_core.proofs.node.Node.write.Goals.{After-unwrap-key, After-write_devices, After-write}
+use Rattle.node_core.proofs.node.Node.write.Goals.{After-unwrap-key, After-write_devices}
+use Rattle.node_core.proofs.node.Node.write.Goals.{After-write}
 
 seat : (c : After-unwrap-key) → IsSeated c.self.inside c.args.who c.unwrap-key.result
 seat c =
@@ -103,6 +105,57 @@ write-requires-clause-there c =
 pub append-requires-clause-light : goal.append-requires-clause-light
 append-requires-clause-light c = light_enough (c.in_ok-reserve-3.ensures.room _ c.self.invariant.1)
 
+-- the part of the peer behind the write
+written_part : (c : After-write) → c.write_devices.new.left.items
+    ≡ all_left c.unwrap-key.result c.in_ok-asked.asked.items
+    c.self.inside.hub.plant.devices.devices
+    → IsChanged c.self.inside.parts.peers.items
+    c.unwrap-key.result.peer (λ (part : Peer). record part {
+      slots = all_slots (table_in (own_tables (arc_value c.self.inside.centre)
+          c.unwrap-key.result.peer) part.variant) part.book c.unwrap-key.result.ordinal
+          c.last_tick-now.result (all_left c.unwrap-key.result c.in_ok-asked.asked.items
+          c.self.inside.hub.plant.devices.devices) part.slots;
+    }) c.write.new.self.peers.items
+written_part c left =
+    let key = c.unwrap-key.result in
+    let now = c.last_tick-now.result in
+    subst (λ (those : CentreRows). IsChanged c.self.inside.parts.peers.items key.peer
+    (λ (part : Peer). record part {
+      slots = all_slots (table_in (own_tables those key.peer) part.variant) part.book key.ordinal
+          now (all_left key c.in_ok-asked.asked.items
+          c.self.inside.hub.plant.devices.devices) part.slots;
+    }) c.write.new.self.peers.items) c.deref-2.ensures
+    (subst (λ (these : List Asked). IsChanged c.self.inside.parts.peers.items key.peer
+    (λ (part : Peer). record part {
+      slots = all_slots (table_in (own_tables c.deref-2.result.now key.peer) part.variant)
+          part.book key.ordinal now these part.slots;
+    }) c.write.new.self.peers.items) left
+    c.write.ensures.parts)
+
+pub rebuild-requires-clause-there : goal.rebuild-requires-clause-there
+rebuild-requires-clause-there c =
+    let rows = arc_value c.self.inside.centre in
+    let key = c.unwrap-key.result in
+    let known = (seat (goal.at.rebuild-requires-clause-there c).After-unwrap-key).1 in
+    let part = its_part _ _ _ _ c.self.invariant.0 key.peer known in
+    subst (λ (r : CentreRows). IsPeerThere r c.write.new.self.peers.items key.peer)
+    (sym c.deref-3.ensures)
+    (there_slots rows c.self.invariant.0.common.lawful key.peer c.self.inside.parts.peers.items
+    c.write.new.self.peers.items (peer_there _ _ _ _ c.self.invariant.0 key.peer known) part.0 _
+    part.1 (written_part (goal.at.rebuild-requires-clause-there c).After-write
+    (left_is (goal.at.rebuild-requires-clause-there c).After-write_devices) part.0 part.1)
+    refl refl (length-all_slots (table_in (own_tables rows key.peer) part.0.variant)
+    part.0.book key.ordinal c.last_tick-now.result (all_left key c.in_ok-asked.asked.items
+    c.self.inside.hub.plant.devices.devices) part.0.slots))
+
+pub rebuild-requires-clause-lawful : goal.rebuild-requires-clause-lawful
+rebuild-requires-clause-lawful c = lawful_at c.self.inside c.self.invariant c.deref-3.ensures
+
+pub rebuild-requires-clause-index : goal.rebuild-requires-clause-index
+rebuild-requires-clause-index c =
+    has_index c.self.inside c.self.invariant c.deref-3.ensures c.write.ensures.indexes
+    (seat (goal.at.rebuild-requires-clause-index c).After-unwrap-key).1
+
 pub invariant_of-self-2 : goal.invariant_of-self-2
 invariant_of-self-2 c =
     let n = c.self.invariant.0 in
@@ -111,22 +164,14 @@ invariant_of-self-2 c =
     let now = c.last_tick-now.result in
     let asked = c.in_ok-asked.asked.items in
     let devices = c.self.inside.hub.plant.devices.devices in
-    let changed = subst (λ (those : CentreRows). IsChanged c.self.inside.parts.peers.items key.peer
-    (λ (part : Peer). record part {
-      slots = all_slots (table_in (own_tables those key.peer) part.variant) part.book key.ordinal
-          now (all_left key asked devices) part.slots;
-    }) c.write.new.self.peers.items) c.deref-2.ensures
-    (subst (λ (these : List Asked). IsChanged c.self.inside.parts.peers.items key.peer
-    (λ (part : Peer). record part {
-      slots = all_slots (table_in (own_tables c.deref-2.result.now key.peer) part.variant)
-          part.book key.ordinal now these part.slots;
-    }) c.write.new.self.peers.items) (left_is (goal.at.invariant_of-self-2 c).After-write_devices)
-    c.write.ensures.parts) in
+    let changed = written_part (goal.at.invariant_of-self-2 c).After-write
+    (left_is (goal.at.invariant_of-self-2 c).After-write_devices) in
+    let stay = stays_changed _ _ key.peer _ (peer_there _ _ _ _ n key.peer seated.1).part changed in
     logged c.self.inside c.self.invariant c.args.who c.reserve-3.new.self c.append.new.self
     c.open_count.result c.self.view_is (called (goal.at.invariant_of-self-2 c).After-write)
     c.requires.free refl c.in_ok-reserve-3.ensures c.append.ensures refl
     c.open_count.ensures.count
-    (IsNode-write _ _ _ _ n c.args.who _ c.write.new.self now key
+    (IsNode-write _ _ _ _ n c.args.who _ c.rebuild.new.self now key
     c.in-Write.names c.in-Write.values asked (c.last_tick-now.ensures ∙ n.clock) seated.0 refl refl
     refl (asks (goal.at.invariant_of-self-2 c).After-write seated.1)
     (c.write_devices.ensures.devices ∙ ap (all_devices key asked) c.room.ensures.devices)
@@ -134,7 +179,10 @@ invariant_of-self-2 c =
     ∙ ap (λ (orders : List Order). orders ++ all_orders key asked c.room.new.self.devices)
     c.room.ensures.orders
     ∙ ap (λ (these : List DeviceRecord). c.self.inside.hub.plant.devices.orders
-    ++ all_orders key asked these) c.room.ensures.devices) changed)
+    ++ all_orders key asked these) c.room.ensures.devices)
+    (λ part at. c.rebuild.ensures.peers ∙ changed part at)
+    (reindexed c.self.inside c.self.invariant c.write.new.self c.rebuild.new.self c.deref-3.ensures c.last_tick-now.ensures
+    c.write.ensures.indexes stay c.rebuild.ensures.indexed))
 
 pub returns-clause-answer : goal.returns-clause-answer
 returns-clause-answer c =

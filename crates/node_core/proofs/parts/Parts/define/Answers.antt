@@ -10,7 +10,9 @@ use Rattle.node_core.specs.PeerParts.{fault_in}
 use Rattle.node_core.proofs.Faults.{error_of_reply, no_error_of_reply}
 use Rattle.node_core.proofs.CallActs.{refused_call, defining_call}
 use Rattle.node_core.proofs.Steps.{set_same}
-use Rattle.node_core.proofs.PartLists.{part_is}
+use Rattle.node_core.proofs.PartLists.{part_is, OneBecomes-set}
+use Rattle.node_core.specs.Indexed.{KeepsSlots}
+use Rattle.node_core.proofs.Indexing.{one_kept, one_kept-as, kept_by}
 use Rattle.node_core.proofs.parts.Parts.define.Goals as goal
 
 pub returns-then-not-is_defined-clause-ok : goal.returns-then-not-is_defined-clause-ok
@@ -56,3 +58,19 @@ returns-clause-ok c = λ rows now part at replied.
 
 pub returns-clause-lawful : goal.returns-clause-lawful
 returns-clause-lawful c = ((c.item-name.ensures.named.1, c.requires.some), tt)
+
+pub returns-then-not-is_defined-clause-kept : goal.returns-then-not-is_defined-clause-kept
+returns-then-not-is_defined-clause-kept c = one_kept _ _
+
+pub returns-in_err-define-clause-kept : goal.returns-in_err-define-clause-kept
+returns-in_err-define-clause-kept c =
+    one_kept-as c.args.key.peer c.args.self.now.peers.items c.index_mut.result.now
+    c.define.new.self (omega (arith, c.requires.known, c.args.self.now.peers.ok))
+    c.index_mut.ensures.value c.in_err-define.ensures.err
+
+pub returns-clause-kept : goal.returns-clause-kept
+returns-clause-kept c =
+    OneBecomes-set KeepsSlots c.args.self.now.peers.items c.args.key.peer c.index_mut.result.now
+    c.define.new.self (omega (arith, c.requires.known, c.args.self.now.peers.ok))
+    c.index_mut.ensures.value (kept_by c.index_mut.result.now c.define.new.self _
+    c.in_ok-define.ensures.ok)

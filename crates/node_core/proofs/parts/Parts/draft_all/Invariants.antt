@@ -1,4 +1,8 @@
+use Rattle.std.proofs.Common.{◌≡◌, ◌+◌, ◌≤◌, length}
+use Rattle.node_core.specs.declared.cause.ReportCause.TheVariants.{Tick}
+use Rattle.node_core.specs.SlotFeeds.{due_count}
 use Rattle.node_core.specs.PartFeeds.{IsAlike, IsDrafted}
+use Rattle.node_core.specs.Indexed.{over_peers, of_part}
 use Rattle.node_core.proofs.PartLists.{FirstBecome}
 use Rattle.node_core.proofs.parts.Parts.draft_all.Given as goal
 
@@ -6,6 +10,10 @@ abbrev pub invariant-loop-peer : goal.invariant-loop-peer
 invariant-loop-peer l = record {
   alike : FirstBecome (λ peer. IsAlike) l.peer l.initial.self.peers.items l.self.peers.items;
   drafted : FirstBecome
-      (λ peer part after. IsDrafted l.centre peer l.plant l.cause after) l.peer
-      l.initial.self.peers.items l.self.peers.items;
+      (λ peer part after. IsDrafted l.centre peer l.plant (Tick l.advance.from l.advance.to) after)
+      l.peer l.initial.self.peers.items l.self.peers.items;
+  indexes : l.self.indexes.items ≡ l.initial.self.indexes.items;
+  within : l.peer ≤ length l.initial.self.peers.items;
+  looks : l.looks ≤ l.initial.looks + over_peers l.peer (of_part l.initial.self.peers.items
+      (λ part. due_count l.advance.from l.advance.to part.slots));
 }

@@ -1,6 +1,7 @@
-use Rattle.std.proofs.Common.{◌≡◌, map, take}
+use Rattle.std.proofs.Common.{◌≡◌, map, take, length}
 use Rattle.bilateral.specs.declared.rows.Table.{Table}
 use Rattle.node_core.specs.declared.peer.Peer.{Peer}
+use Rattle.node_core.specs.Indexed.{AreIndexed}
 use Rattle.node_core.specs.PeerParts.{new_part}
 use Rattle.node_core.proofs.parts.Parts.new.Given as goal
 
@@ -8,4 +9,8 @@ abbrev pub part_of : Table → Peer
 part_of table = new_part table.sets
 
 abbrev pub invariant-loop-peer : goal.invariant-loop-peer
-invariant-loop-peer l = l.peers.items ≡ map part_of (take l.peer l.centre.tables)
+invariant-loop-peer l = record {
+  parts : l.peers.items ≡ map part_of (take l.peer l.centre.tables);
+  many : length l.peers.items ≡ l.peer;
+  indexed : AreIndexed l.centre 0 l.peers.items l.indexes.items;
+}

@@ -8,9 +8,9 @@ pub returns : goal.returns
 returns c =
     let part = c.args.self.now in
     let shown : Shown = shown_of c.args.centre.now c.args.number part c.args.plant.now in
-    subst (λ (ordinal : ℕ). IfOk c.reports.result (IsMade shown c.args.cause ordinal))
+    subst (λ (ordinal : ℕ). IfOk c.reports.result (IsMade c.args.cause shown ordinal))
     c.ordinal.ensures
-    (subst (λ (s : Shown). IfOk c.reports.result (IsMade s c.args.cause c.ordinal.result))
+    (subst (λ (s : Shown). IfOk c.reports.result (IsMade c.args.cause s c.ordinal.result))
     (c.new-shown.ensures ∙ ap (λ (t : TableInForce). record shown { table = t })
     c.new-table.ensures)
     c.reports.ensures)

@@ -4,6 +4,7 @@ use Rattle.bilateral.specs.Rows.{point_of}
 use Rattle.transfer_sets.specs.Banks.{slot_at}
 use Rattle.node_core.specs.Found.{offered}
 use Rattle.node_core.specs.SlotFeeds.{places_at, places_planned}
+use Rattle.node_core.proofs.Planned.{IsLookedTo, is_watcher}
 use Rattle.node_core.proofs.plan.ChangePlan.plan.Given as goal
 
 abbrev pub invariant-loop-slot : goal.invariant-loop-slot
@@ -13,4 +14,6 @@ invariant-loop-slot l = record {
       → places_at (map (λ places. places.items) l.self-inside.places.items) s
       ≡ places_planned (offered l.table) l.book (point_of l.table.rows l.point).name
       (slot_at l.bank s);
+  looks : IsLookedTo (is_watcher (offered l.table) l.book (point_of l.table.rows l.point).name
+      l.bank) l.slot l.initial.looks l.looks;
 }

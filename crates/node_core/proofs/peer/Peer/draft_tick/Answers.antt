@@ -1,0 +1,104 @@
+use Rattle.std.proofs.Common.{◌≡◌, ◌<◌, ◌==◌, List, not, length, sym, subst, ap, ◌∙◌, arith}
+use Rattle.bilateral.specs.declared.rows.TheConstants.{SLOT_LIMIT}
+use Rattle.transfer_sets.specs.Banks.{OwnedSlot, slot_at}
+use Rattle.transfer_sets.specs.Due.{conditions_due}
+use Rattle.transfer_sets.specs.DueIndex.{next_at, IsDueIndex}
+use Rattle.node_core.specs.declared.peer.Peer.{Peer}
+use Rattle.node_core.specs.Found.{table_at}
+use Rattle.node_core.specs.SlotFeeds.{due_count}
+use Rattle.node_core.proofs.SlotFeeds.{due_from-all, due-looked}
+use Rattle.node_core.proofs.PartLists.{FirstDrafted-many, FirstDrafted-step, IsAlike-drafts}
+use Rattle.node_core.proofs.TickDrafts.{IsTickDrafted-start, IsTickDrafted-all}
+use Rattle.node_core.proofs.TickDrafts.{IsDraftingTick-due, IsDraftingTick-undue}
+use Rattle.node_core.proofs.peer.Peer.draft_tick.Goals as goal
+use Rattle.node_core.proofs.peer.Peer.draft_tick.Goals.{then-has_come+in_ok-draft_slot}
+use Rattle.node_core.proofs.peer.Peer.draft_tick.Goals.{else-has_come, After-has_come}
+
+pub loop-place-preserved : goal.loop-place-preserved
+loop-place-preserved c =
+    let f = c.loop-place.invariant in
+    let many = FirstDrafted-many _ _ _ _ _ _ _ f in
+    FirstDrafted-step _ _ _ _ _ _ _ _ _ f
+    (omega (arith, many, c.loop-place-test.true, c.len-place-end.ensures))
+    c.in_ok-timeouts.ensures c.draft.ensures.made c.in_ok-draft.ensures.ok
+
+pub loop-slot-init : goal.loop-slot-init
+loop-slot-init c =
+    let f = c.loop-place.invariant in
+    let many = FirstDrafted-many _ _ _ _ _ _ _ f in
+    let all = due_from-all c.args.advance.from c.args.advance.to c.loop-place.self.slots in
+    record {
+      drafted = IsTickDrafted-start _ _ _ _ _ _ _ _ f
+          (omega (arith, many, c.loop-place-test.false, c.len-place-end.ensures));
+      few = omega (arith, all);
+    }
+
+within : (c : After-has_come) → c.loop-slot.slot < SLOT_LIMIT
+within c = omega (arith, c.loop-slot-test.true, c.slot_count-slot-end.ensures.most)
+
+-- something is due of a transfer set where its moment has come
+come : (c : After-has_come) → not (conditions_due
+    (slot_at c.loop-place.self.slots c.loop-slot.slot).state c.args.advance.from c.args.advance.to
+    == 0) ≡ c.has_come.result
+come c =
+    let from = c.args.advance.from in
+    let to = c.args.advance.to in
+    let n = c.loop-slot.slot in
+    let slots = c.loop-place.self.slots in
+    let state = (slot_at slots n).state in
+    let same : slots ≡ c.args.self.now.slots =
+    ap (λ (p : Peer). p.slots) c.loop-place.invariant.same in
+    let many : length slots ≡ SLOT_LIMIT =
+    ap (λ (l : List OwnedSlot). length l) same ∙ c.requires.shown.slots in
+    let dues = subst (λ (l : List OwnedSlot). IsDueIndex l from c.args.index.now.dues) (sym same)
+    c.requires.dues in
+    c.next_moments_last.ensures.due state from to (conditions_due state from to)
+    (next_at c.args.index.now.dues n) c.requires.forward.0 c.requires.forward.1
+    (dues.each n (omega (arith, within c, many)))
+    (c.due_is_one_number.ensures.some state from to) ∙ sym c.has_come.ensures
+
+pub loop-slot-preserved : goal.loop-slot-preserved
+loop-slot-preserved c =
+    let before = (goal.at.loop-slot-preserved c).After-has_come in
+    let below : c.loop-slot.slot
+    < (table_at c.args.centre.now c.args.number c.loop-place.self.variant).table.slots =
+    omega (arith, c.loop-slot-test.true, c.slot_count-slot-end.ensures.count) in
+    elim c.if-has_come.branch [
+      | then-has_come+in_ok-draft_slot w ↦
+          IsDraftingTick-due _ _ _ _ _ _ _ _ _ _ c.loop-slot.invariant below (within before) _ _
+          w.draft_slot.new.self (come before ∙ w.if-has_come.true) w.draft_slot.ensures.same
+          w.in_ok-draft_slot.ensures.ok w.self-is (w.looks-is ∙ w.add.ensures)
+      | else-has_come w ↦
+          IsDraftingTick-undue _ _ _ _ _ _ _ _ _ _ c.loop-slot.invariant below (within before) _ _
+          (come before ∙ w.if-has_come.false) w.self-is w.looks-is
+    ]
+
+pub returns-in_err-draft_slot-clause-looks : goal.returns-in_err-draft_slot-clause-looks
+returns-in_err-draft_slot-clause-looks c =
+    let before = (goal.at.returns-in_err-draft_slot-clause-looks c).After-has_come in
+    let from = c.args.advance.from in
+    let to = c.args.advance.to in
+    let all = ap (λ (p : Peer). due_count from to p.slots) c.loop-place.invariant.same in
+    let few = due-looked from to c.loop-slot.slot c.loop-place.self.slots _ _ (within before)
+    c.loop-slot.invariant.few c.add.new.self (come before ∙ c.if-has_come.true) c.add.ensures in
+    omega (arith, few, all)
+
+pub returns-clause-ok : goal.returns-clause-ok
+returns-clause-ok c =
+    IsTickDrafted-all _ _ _ _ _ _ c.loop-slot.slot _
+    (omega (arith, c.loop-slot-test.false, c.slot_count-slot-end.ensures.count))
+    c.loop-slot.invariant.drafted
+
+pub returns-clause-alike : goal.returns-clause-alike
+returns-clause-alike c =
+    let f = c.loop-place.invariant in
+    let t = c.loop-slot.invariant.drafted in
+    IsAlike-drafts c.args.self.now c.loop-slot.self
+    (t.same ∙ ap (λ (p : Peer). record p { associations = c.loop-slot.self.associations }) f.same)
+    (t.associations ∙ f.associations)
+
+pub returns-clause-looks : goal.returns-clause-looks
+returns-clause-looks c =
+    let all = ap (λ (p : Peer). due_count c.args.advance.from c.args.advance.to p.slots)
+    c.loop-place.invariant.same in
+    let few = c.loop-slot.invariant.few in omega (arith, few, all)
