@@ -1,0 +1,5 @@
+pub mod FirstErrors
+pub mod Spelled
+pub mod Playable
+pub mod PlayedOn
+mod Worked

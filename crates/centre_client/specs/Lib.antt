@@ -1,0 +1,4 @@
+pub mod NumberedLines
+pub mod StepLines
+pub mod Scripts
+pub mod Plays

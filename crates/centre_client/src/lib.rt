@@ -1,0 +1,17 @@
+//! The client: the calling end of an association, which plays a script.
+#![tactic(auto)]
+
+mod end;
+mod fault;
+mod laws;
+mod numbered;
+mod play;
+mod script;
+mod steps;
+
+pub use end::ClientEnd;
+pub use fault::{ScriptFault, ScriptWhy};
+pub use laws::scripts_may_be_played;
+pub use play::{Awaiting, ClientMove, Play};
+pub use script::{Script, Step, StepKind, Steps, read_script};
+pub use steps::{LAST_INVOKE, REQUEST_LIMIT, WAIT_LIMIT};
