@@ -1,0 +1,10 @@
+pub mod Calling
+pub mod LinesCut
+pub mod FedEvents
+pub mod FeedRead
+pub mod Refused
+pub mod Ticked
+pub mod TickRuns
+pub mod Fed
+pub mod FedOnce
+pub mod FeedRuns
