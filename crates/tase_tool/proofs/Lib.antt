@@ -7,3 +7,4 @@ mod Unasked
 mod Keeping
 mod Journals
 mod Verified
+mod Counting

@@ -7,3 +7,4 @@ pub mod Sent
 pub mod Playing
 pub mod Kept
 pub mod Verifying
+pub mod Loading

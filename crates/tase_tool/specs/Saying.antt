@@ -1,22 +1,22 @@
 -- What each command says, and which inputs it opens, from the octets of its inputs.
-use Rattle.std.specs.Prelude.{ℕ, true, false, List, [], ◌∷◌, ◌++◌}
+use Rattle.std.specs.Prelude.{ℕ, false, List, [], ◌∷◌, ◌++◌, length}
 use Rattle.std.specs.Prelude.{Option, Some, None, Result, Ok, Err, codes}
 use Rattle.command_io.specs.declared.status.Status.TheVariants.{Done, Usage, Input, Full}
 use Rattle.command_io.specs.declared.input.Refusal.TheVariants.{BadLine}
 use Rattle.command_io.specs.declared.input.TheConstants.{TEXT_LIMIT}
 use Rattle.command_io.specs.Saying.{Said, prints, refusal_text, full_text, Text, with_file}
 use Rattle.command_io.specs.Saying.{Duty, duty_to_say}
-use Rattle.command_io.specs.Plans.{Asked, Plan, says, reads, reads_value, duty_by}
+use Rattle.command_io.specs.Plans.{Asked, Plan, says, reads, reads_value, duty_by, refused_said}
 use Rattle.capture_text.specs.Captures.{capture_in}
 use Rattle.bilateral.specs.Rows.{CentreRows}
-use Rattle.bilateral.specs.Reading.{centre_in}
-use Rattle.bilateral.specs.declared.fault.TableFault.{TableFault}
 use Rattle.tase_views.specs.Setup.{Setup}
 use Rattle.tase_replay.specs.Play.{Played, PlayEnd, done, bad_line, history_full, shown_of}
 use Rattle.tase_replay.specs.Play.{steps_of, entries_in, scenario_of}
 use Rattle.journal_text.specs.Journals.{journal_text}
+use Rattle.load_run.specs.Generated.{load_tables, load_scenario}
+use Rattle.load_run.specs.Summaries.{summary_text}
 use Rattle.tase_tool.specs.Words.{ReplayOptions, limit_of, Task, replays, lists_stream}
-use Rattle.tase_tool.specs.Words.{decodes_pdu, verifies}
+use Rattle.tase_tool.specs.Words.{no_options, decodes_pdu, verifies, loads}
 use Rattle.tase_tool.specs.Decoding.{pdu_said}
 use Rattle.tase_tool.specs.Listing.{stream_said}
 use Rattle.tase_tool.specs.Tables.{tables_in}
@@ -100,6 +100,27 @@ capture_asked name = record {
   files = [];
 }
 
+-- what is counted of a play, in place of all that it shows; a refusal is told as a replay tells it,
+-- without what the lines before show
+abbrev pub counted_at : Played → PlayEnd → Said
+counted_at played done =
+    prints Done (summary_text (length (entries_in (steps_of played))) (shown_of played))
+counted_at played (bad_line line) = refused_said (codes "scenario") (BadLine line)
+counted_at played (history_full weight limit) = prints Full (full_text weight limit)
+
+abbrev pub counted_said : Played → Said
+counted_said played = counted_at played played.end
+
+-- what is said of a load with so many rounds, over its tables as they are read: what is counted of
+-- the play that a replay of its two texts without options prints
+abbrev pub load_over : ℕ → Result CentreRows ℕ → Said
+load_over rounds (Ok rows) =
+    counted_said (scenario_of (setup_of rows (limit_of no_options)) (load_scenario rounds))
+load_over rounds (Err line) = refused_said (codes "tables") (BadLine line)
+
+abbrev pub load_said : ℕ → Said
+load_said rounds = load_over rounds (tables_in load_tables)
+
 -- the PDU that a capture holds is told
 abbrev pub decode_plan : List ℕ → Plan
 decode_plan name = reads_value (capture_asked name) capture_in (λ octets. says (pdu_said octets))
@@ -114,6 +135,7 @@ plan_of (replays tables scenario options) = replay_plan tables scenario options
 plan_of (lists_stream capture) = list_plan capture
 plan_of (decodes_pdu capture) = decode_plan capture
 plan_of (verifies question) = verify_plan question
+plan_of (loads rounds) = says (load_said rounds)
 
 -- what a run of these words owes, by what is told under each name
 abbrev pub duty_of : Option Task → (List ℕ → Text) → Duty

@@ -3,11 +3,13 @@ use Rattle.std.specs.Prelude.{◌≡◌, ℕ, ◌≤◌, ◌-◌, ◌^◌, Bool,
 use Rattle.std.specs.Prelude.{if◌then◌else◌, List, [], ◌∷◌, Option, Some, None, option_map, option_and_then}
 use Rattle.std.specs.Prelude.{is_some, unwrap_or, IfSome, nat_le, codes, bytes_eq}
 use Rattle.plain_text.specs.Numbers.{if_passes, number_up_to}
+use Rattle.load_run.specs.declared.scenario.TheConstants.{MOST_ROUNDS}
 use Rattle.tase_tool.specs.declared.words.TheConstants.{HISTORY_LIMIT, MOST_LIMIT}
 use Rattle.tase_tool.specs.declared.words.Options.{Options}
 use Rattle.tase_tool.specs.declared.words.Question.{Question as Questions}
 use Rattle.tase_tool.specs.declared.words.Command.{Command}
 use Rattle.tase_tool.specs.declared.words.Command.TheVariants.{Replay, Decode, DecodePdu, Verify}
+use Rattle.tase_tool.specs.declared.words.Command.TheVariants.{Load}
 
 -- the octets that a history may weigh, and the file for its journal, where they are given
 pub record ReplayOptions : Type 0 where
@@ -56,6 +58,8 @@ pub data Task : Type 0 where
   decodes_pdu : List ℕ → Task
   -- what an association was sent is held against its history and what its link gave
   verifies : Question → Task
+  -- the scenario of the load run with so many rounds is played over its tables, and counted
+  loads : ℕ → Task
 
 -- what a command asks for
 abbrev pub task_of : Command → Task
@@ -64,6 +68,7 @@ task_of (Replay tables scenario options) =
 task_of (Decode capture) = lists_stream capture.now
 task_of (DecodePdu capture) = decodes_pdu capture.now
 task_of (Verify question) = verifies (question_seen question)
+task_of (Load rounds) = loads rounds
 
 -- a limit that a history may have, and a journal that isn't standard output
 pub record AreOptions (options : ReplayOptions) : Type 0 where
@@ -75,6 +80,7 @@ IsLimited (Replay tables scenario options) = AreOptions (options_seen options)
 IsLimited (Decode capture) = Unit {0}
 IsLimited (DecodePdu capture) = Unit {0}
 IsLimited (Verify question) = Unit {0}
+IsLimited (Load rounds) = rounds ≤ MOST_ROUNDS
 
 -- a name of a file: not empty, and beginning with `-` only where it is `-`, which is standard input
 abbrev pub is_file_name : List ℕ → Bool
@@ -126,6 +132,17 @@ options_in words = None
 abbrev pub is_decode : List ℕ → List ℕ → Bool
 is_decode verb capture = bytes_eq verb (codes "decode") && is_file_name capture
 
+-- a number of rounds: from 1 to 2,000
+abbrev pub rounds_in : List ℕ → Option ℕ
+rounds_in word =
+    option_and_then (if_passes (λ rounds. nat_le 1 rounds)) (number_up_to MOST_ROUNDS word)
+
+-- `decode IN`, or `load N`
+abbrev pub task_in_two : List ℕ → List ℕ → Option Task
+task_in_two first second =
+    if is_decode first second then Some (lists_stream second)
+    else (if bytes_eq first (codes "load") then option_map loads (rounds_in second) else None)
+
 -- `decode --pdu IN`
 abbrev pub is_decode_pdu : List ℕ → List ℕ → List ℕ → Bool
 is_decode_pdu verb option capture =
@@ -176,7 +193,6 @@ task_in_three first second third more =
 
 -- no other words are a command
 abbrev pub task_in : List (List ℕ) → Option Task
-task_in (first ∷ second ∷ []) =
-    if is_decode first second then Some (lists_stream second) else None
+task_in (first ∷ second ∷ []) = task_in_two first second
 task_in (first ∷ second ∷ third ∷ more) = task_in_three first second third more
 task_in words = None

@@ -5,6 +5,7 @@ mod captures;
 mod decoding;
 mod journal;
 mod listing;
+mod loading;
 mod running;
 mod tables;
 mod verifying;

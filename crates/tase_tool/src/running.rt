@@ -15,6 +15,7 @@ ghost use Rattle.command_io.specs.Statuses.{OnWhole};
 use crate::decoding::run_decode;
 use crate::journal::keep_journal;
 use crate::listing::run_listing;
+use crate::loading::run_load;
 use crate::tables::read_tables;
 use crate::verifying::run_verify;
 use crate::words::{Command, Options, read_command};
@@ -37,7 +38,9 @@ use tase_replay::{ReplayEnd, replay};
 /// line for each entry; `decode IN` lists the messages of a captured stream of either end of a
 /// connection, `decode --pdu IN` tells which PDU (ISO 9506-2) a capture holds; `verify TABLES
 /// JOURNAL KEY ORDINAL IN OUT` holds what an association was sent against its history and what its
-/// link gave. All is printed on standard output, which is `-` of the outside's sinks.
+/// link gave; `load N` plays a scenario of N rounds, from 1 to 2,000, over tables of 64 peers, both
+/// generated, and prints what is counted of it. All is printed on standard output, which is `-` of
+/// the outside's sinks.
 ///
 /// What it answers and prints is, where the outside tells its octets, what the definitions say of
 /// those octets alone: the tables that the first text spells, and over them what the scenario
@@ -46,7 +49,9 @@ use tase_replay::{ReplayEnd, replay};
 /// told so; or the messages that the octets of a capture are, each with its place, and the first
 /// rule that they break; or the PDU that they are, or that rule; or that the octets that an
 /// association was sent are those that its journal and its link account for, or where they first
-/// differ, or the first event of the journal that the link doesn't account for, with the status 6.
+/// differ, or the first event of the journal that the link doesn't account for, with the status 6;
+/// or of all that the generated scenario shows over the generated tables the entries of its
+/// history, the replies, the reports, the outcomes in these, and the sum of its octets.
 ///
 /// Where it answers 0, 3 or 5, all that was printed for the peer of each link is what that peer is
 /// owed for the lines that were taken: over the tables, the history that these lines leave and all
@@ -73,6 +78,7 @@ pub fn run<O: Outside>(alloc: Global, words: &[String], outside: &mut O) -> Stat
         Some(Command::Decode { capture }) => run_listing(alloc, outside, capture),
         Some(Command::DecodePdu { capture }) => run_decode(alloc, outside, capture),
         Some(Command::Verify { question }) => run_verify(alloc, outside, question),
+        Some(Command::Load { rounds }) => run_load(alloc, outside, rounds),
         None => print(outside, Status::Usage, b"usage\n"),
     }
 }
@@ -165,8 +171,8 @@ fn play_read<O: Outside>(
     }
 }
 
-// A node of this centre, with an empty history, which may weigh so many octets.
-fn new_node(alloc: Global, centre: Centre, limit: u64) -> Result<Node, AllocError>
+/// A node of this centre, with an empty history, which may weigh so many octets.
+pub(crate) fn new_node(alloc: Global, centre: Centre, limit: u64) -> Result<Node, AllocError>
     requires { limit ≤ 2 ^ 31 }
     ensures { IfOk result (λ node. node ≡ node_of centre limit) }
 {

@@ -20,8 +20,8 @@ fn centre_or_line(read: Result<Centre, TableFault>) -> Result<Centre, u64>
     }
 }
 
-// The centre of a text of tables, or the number of its first bad line.
-fn read_lines(alloc: Global, text: &[u8]) -> Result<Result<Centre, u64>, AllocError>
+/// The centre of a text of tables, or the number of its first bad line.
+pub(crate) fn read_lines(alloc: Global, text: &[u8]) -> Result<Result<Centre, u64>, AllocError>
     ensures { IfOk result (λ read. read ≡ tables_in text.now) }
 {
     Ok(centre_or_line(read_centre(alloc, text)?))

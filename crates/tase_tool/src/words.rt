@@ -4,7 +4,9 @@ ghost use Rattle.std.specs.Option.{option_map};
 ghost use Rattle.tase_tool.specs.Words.{task_of, task_in, IsLimited, AreOptions, options_seen};
 ghost use Rattle.tase_tool.specs.Words.{question_seen};
 ghost use Rattle.tase_tool.specs.Words as own;
+ghost use Rattle.load_run.specs.declared.scenario.TheConstants.{MOST_ROUNDS};
 
+use load_run::MOST_ROUNDS;
 use plain_text::read_number;
 
 /// The limit on the weight of a history, in octets, where no other is given.
@@ -75,6 +77,10 @@ pub(crate) enum Command<'a> {
     Verify {
         question: Question<'a>,
     },
+    /// `load N`: the scenario of the load run with so many rounds is played, and counted.
+    Load {
+        rounds: u64,
+    },
 }
 
 // Whether a word is the name of a file: not empty, and beginning with `-` only where it is `-`.
@@ -113,6 +119,15 @@ fn is_verify(verb: &str, tables: &str, journal: &str) -> bool
     verb == "verify" && is_name(tables) && is_name(journal)
 }
 
+// The number of rounds that a word gives.
+fn read_rounds(word: &str) -> Option<u64>
+    ensures value { result ≡ own.rounds_in word.now }
+    ensures most { IfSome result (λ rounds. rounds ≤ MOST_ROUNDS) }
+{
+    let rounds = read_number(word.as_bytes(), MOST_ROUNDS)?;
+    if rounds >= 1 { Some(rounds) } else { None }
+}
+
 // The command of two words.
 fn of_two<'a>(first: &'a str, second: &'a str) -> Option<Command<'a>>
     ensures asked { option_map task_of result ≡ task_in (first.now ∷ second.now ∷ []) }
@@ -120,6 +135,10 @@ fn of_two<'a>(first: &'a str, second: &'a str) -> Option<Command<'a>>
 {
     if is_decode(first, second) {
         return Some(Command::Decode { capture: second });
+    }
+    if first == "load" {
+        let rounds = read_rounds(second)?;
+        return Some(Command::Load { rounds });
     }
     None
 }

@@ -1,0 +1,4 @@
+mod Growing
+mod Counted
+mod SoFar
+mod Worked
