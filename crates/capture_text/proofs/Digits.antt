@@ -1,8 +1,9 @@
 -- Pairs of hexadecimal digits, and their first ones.
-use Rattle.std.proofs.Common.{◌≡◌, ℕ, zero, suc, ◌+◌, ◌*◌, ◌%◌, ◌≤◌, Bool, true, false}
-use Rattle.std.proofs.Common.{List, [], ◌∷◌, ◌++◌, length, take, drop, Option, Some, None, Result}
+use Rattle.std.proofs.Common.{◌≡◌, ℕ, zero, suc, ◌+◌, ◌*◌, ◌%◌, ◌<◌, ◌≤◌, Bool, true, false}
+use Rattle.std.proofs.Common.{List, [], ◌∷◌, ◌++◌, length, take, drop, get_or, Option, Some, None}
+use Rattle.std.proofs.Common.{Result}
 use Rattle.std.proofs.Common.{Ok, Err, refl, sym, ap, ◌∙◌, arith}
-use Rattle.std.specs.Prelude.{is_some, unwrap_or, MatchResult}
+use Rattle.std.specs.Prelude.{is_some, unwrap_or}
 use Rattle.std.specs.List.{list_all}
 use Rattle.std.specs.Result.{result_ok}
 use Rattle.std.proofs.lemmas.List.{take-append-drop, length-take-le, length-append}
@@ -164,12 +165,24 @@ front_of n digits pairs within =
       size = length-take-le n octets (omega (arith, ok.2));
     }
 
-pub written_by : (r : Hex (List ℕ)) (octets out : List ℕ) (answer : Result Unit FromHexError)
-    → r ≡ Ok octets
-    → MatchResult r (λ bytes. (answer ≡ Ok tt) × (out ≡ bytes)) (λ e. answer ≡ Err e)
-    → out ≡ octets
-written_by (Ok bytes) octets out answer is h = h.1 ∙ ap octets_in is
-written_by (Err e) octets out answer is h = absurd cc
+-- the front pairs are pairs
+pub front_pairs : (n : ℕ) (digits : List ℕ) → Front n digits → ArePairs (take (2 * n) digits)
+front_pairs n digits f = ap (λ (r : Hex (List ℕ)). is_some (result_ok r)) f.front
+
+-- each octet of pairs is a digit
+pub digit_at : (digits : List ℕ) → ArePairs digits → (k : ℕ) → k < length digits
+    → is_hex_digit (get_or digits k 0) ≡ true
+digit_at digits pairs k within =
+    (decode_of-ok digits (pairs_octets digits) (pairs_ok digits pairs)).1 k 0 within
+
+-- the octet of two digits whose values are known
+pub pair_known : (a b i high low : ℕ) → hex_digit_value a ≡ Some high → hex_digit_value b ≡ Some low
+    → pair_value a b i ≡ Ok (high * 16 + low)
+pair_known a b i high low first second =
+    bind_is (value_at a i) high (λ h. value_at b (i + 1) >>= λ l. Ok (h * 16 + l))
+    (ap (digit_or_error a i) first)
+    ∙ bind_is (value_at b (i + 1)) low (λ l. Ok (high * 16 + l))
+    (ap (digit_or_error b (i + 1)) second)
 
 -- an even number of digits, and no other octets
 pub are_pairs_even : (digits : List ℕ) → length digits % 2 ≡ 0
