@@ -1,3 +1,4 @@
 pub mod Digits
+pub mod LineEnds
 pub mod Walking
 mod Worked

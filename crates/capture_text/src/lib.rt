@@ -4,6 +4,7 @@
 ghost use Rattle.std.specs.Prelude.{◌≡◌, Ok, Err, IfOk, MatchResult};
 ghost use Rattle.capture_text.specs.Captures.{capture_in};
 
+mod lines;
 mod pieces;
 
 pub use pieces::{Pieces, read_pieces};

@@ -10,7 +10,8 @@ ghost use Rattle.capture_text.specs.Captures.{capture_in, is_bad, joined};
 ghost use Rattle.capture_text.specs.Pieces.{pairs_octets, ArePairs, HasNoBadLine, bad_line_from};
 ghost use Rattle.capture_text.specs.Pieces.{octets_left};
 
-use plain_text::{is_skipped, next_line};
+use crate::lines::next_line;
+use plain_text::is_skipped;
 use std::marker::Model;
 
 /// Where a walk over the lines of a capture stands.
