@@ -1,0 +1,21 @@
+//! What comes of a job.
+use node_server::{FeedEnd, TickEnd};
+use node_turn::TurnNode;
+use share_turn::Seat;
+
+/// What comes of a job: its seat, what it read, and how it ended.
+#[derive(Drop)]
+pub enum NodeDone<S, C> {
+    /// The feed was told.
+    Feed {
+        seat: Seat<TurnNode>,
+        source: S,
+        end: FeedEnd,
+    },
+    /// The clock was told.
+    Ticks {
+        seat: Seat<TurnNode>,
+        clock: C,
+        end: TickEnd,
+    },
+}

@@ -1,0 +1,82 @@
+//! A job of the server, to be run in a thread of its own.
+ghost use Rattle.std.specs.Prelude.{◌≡◌};
+ghost use Rattle.server_jobs.specs.Running.{MayRunJob, MayComeOfJob};
+
+use crate::done::NodeDone;
+use crate::parts::JobParts;
+use node_server::{feed_node, tick_node};
+use outside::Source;
+use outside_links::{Clock, Job};
+use std::marker::Model;
+use std::sync::Wait;
+
+/// A job that may be run: its seat is one of its shared node, and its centre is that node's.
+#[derive(Drop)]
+pub struct NodeJob<S, C> {
+    parts: JobParts<S, C>,
+}
+
+impl<S, C> Model for NodeJob<S, C> {
+    ghost use Rattle.std.specs.Coded.{codes};
+    ghost use Rattle.mms_data.specs.contracts.data.MmsData as datum;
+    ghost use Rattle.server_jobs.specs.declared.parts.JobParts.{JobParts};
+    ghost use Rattle.server_jobs.specs.Running.{MayRunJob};
+
+    ghost Value = { JobParts S C };
+
+    ghost coded = { Prim.hlevel (codes, datum.the_row.coded) };
+
+    ghost view = { λ j. j.parts };
+
+    ghost invariant = { λ j. MayRunJob j.parts };
+}
+
+impl<S, C> NodeJob<S, C> {
+    /// The job that is made of these parts.
+    pub fn new(parts: JobParts<S, C>) -> NodeJob<S, C>
+        requires { MayRunJob parts }
+        ensures { result ≡ parts }
+    {
+        NodeJob { parts }
+    }
+
+    /// The parts of a job that wasn't run.
+    pub fn into_parts(self) -> JobParts<S, C>
+        ensures parts { result ≡ self }
+        ensures may { MayRunJob result }
+    {
+        self.parts
+    }
+}
+
+impl<S: Source, C: Clock> Job for NodeJob<S, C> {
+    ghost use Rattle.server_jobs.specs.Running.{MayComeOfJob};
+
+    type Done = NodeDone<S, C>;
+
+    ghost may_give = { MayComeOfJob S.told C.told };
+
+    fn run<R: Wait>(self, rt: &R) -> NodeDone<S, C> {
+        match self.into_parts() {
+            JobParts::Feed {
+                centre,
+                shared,
+                mut seat,
+                mut source,
+                alloc,
+            } => {
+                let end = feed_node(rt, alloc, &centre, &shared, &mut seat, &mut source);
+                NodeDone::Feed { seat, source, end }
+            }
+            JobParts::Ticks {
+                shared,
+                mut seat,
+                mut clock,
+                alloc,
+            } => {
+                let end = tick_node(rt, alloc, &shared, &mut seat, &mut clock);
+                NodeDone::Ticks { seat, clock, end }
+            }
+        }
+    }
+}
