@@ -1,0 +1,9 @@
+pub mod Behind
+pub mod Over
+pub mod Shut
+pub mod Closing
+pub mod Left
+pub mod Answered
+pub mod Wanting
+pub mod Going
+pub mod Sending

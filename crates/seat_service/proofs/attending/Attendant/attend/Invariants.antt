@@ -1,0 +1,21 @@
+use Rattle.std.proofs.Common.{◌≡◌}
+use mathlib.Core.List.{IsPrefix}
+use Rattle.conn_service.specs.Attending.{IsServed, remaining}
+use Rattle.share_turn.specs.Public.{at}
+use Rattle.node_turn.specs.Logged.{past_in}
+use Rattle.seat_service.specs.Serving.{shared_setup}
+use Rattle.seat_service.proofs.Going.{SeatServes}
+use Rattle.seat_service.proofs.attending.Attendant.attend.Given as goal
+
+abbrev pub invariant-loop-event : goal.invariant-loop-event
+invariant-loop-event g l = record {
+  same : l.seat ≡ at l.initial.seat l.seat.front;
+  seen : IsPrefix l.initial.seat.front l.seat.front;
+  served : IsServed l.fn.self.shared.now.setup.centre (past_in l.seat.front) l.seat.number l.conn;
+  serves : SeatServes (shared_setup l.fn.self.shared.now.setup) l.initial.seat.number
+      (past_in l.initial.seat.front) l.initial.conn (past_in l.seat.front) l.conn;
+}
+
+abbrev pub decreases-loop-event : goal.decreases-loop-event
+decreases-loop-event g l = remaining (shared_setup l.fn.self.shared.now.setup)
+    (past_in l.seat.front) l.seat.number

@@ -1,0 +1,51 @@
+use Rattle.std.proofs.Common.{Option, subst}
+use Rattle.tase_views.specs.declared.event.EventKind.{EventKind}
+use Rattle.tase_conn.specs.Wanting.{Wants, WantsSo}
+use Rattle.conn_service.proofs.Going.{parting_free, parting_placed, parting_wants, parting_over}
+use Rattle.conn_service.proofs.Going.{wants_close}
+use Rattle.node_turn.specs.Logged.{past_in}
+use Rattle.seat_service.proofs.Closing.{unasked_closes, unasked_shut}
+use Rattle.seat_service.proofs.attending.Attendant.close.Goals as goal
+
+pub wanted_close-requires : goal.wanted_close-requires
+wanted_close-requires g c =
+    let rows = c.args.self.now.shared.now.setup.centre in
+    let past = past_in c.args.seat.now.front in
+    let who = c.args.seat.now.number in
+    let p = c.requires.left in
+    record {
+      over = parting_over c.args.conn.now.progress p.3 p.5.waits;
+      free = parting_free rows past who c.args.conn.now p;
+      placed = parting_placed rows past who c.args.conn.now p;
+    }
+
+pub take_close-requires-clause-asks : goal.take_close-requires-clause-asks
+take_close-requires-clause-asks g c =
+    parting_wants c.args.self.now.shared.now.setup.centre (past_in c.args.seat.now.front)
+    c.args.seat.now.number c.in-Some.event c.args.conn.now c.wanted_close.new.conn c.requires.left
+    (subst (λ (e : Option EventKind). WantsSo e c.args.conn.now c.wanted_close.new.conn)
+    c.in-Some.is c.wanted_close.ensures)
+
+pub returns-in-Some-clause-closes : goal.returns-in-Some-clause-closes
+returns-in-Some-clause-closes g c = λ past whole end standing items said h.
+    let rows = c.args.self.now.shared.now.setup.centre in
+    c.take_close.ensures.closes past whole end standing items said c.args.conn.now
+    (wants_close whole end standing rows past c.args.seat.now.number items said c.in-Some.event
+    c.args.conn.now c.wanted_close.new.conn h
+    (subst (λ (e : Option EventKind). Wants rows items h.told h.turns e c.args.conn.now
+    c.wanted_close.new.conn) c.in-Some.is
+    (c.wanted_close.ensures rows items h.told h.turns h.stands)))
+
+pub returns-in-None-clause-closes : goal.returns-in-None-clause-closes
+returns-in-None-clause-closes g c =
+    unasked_closes c.args.self.now.shared.now.setup.centre c.args.seat.now.number c.args.conn.now
+    c.wanted_close.new.conn
+    (subst (λ (e : Option EventKind). WantsSo e c.args.conn.now c.wanted_close.new.conn)
+    c.in-None.is c.wanted_close.ensures)
+
+pub returns-in-None-clause-shuts : goal.returns-in-None-clause-shuts
+returns-in-None-clause-shuts g c =
+    unasked_shut c.args.self.now.shared.now.setup.centre (past_in c.args.seat.now.front)
+    c.args.seat.now.number c.args.conn.now c.wanted_close.new.conn
+    (subst (λ (e : Option EventKind). WantsSo e c.args.conn.now c.wanted_close.new.conn)
+    c.in-None.is c.wanted_close.ensures) c.requires.left

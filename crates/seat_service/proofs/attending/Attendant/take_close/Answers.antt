@@ -1,0 +1,49 @@
+use Rattle.conn_service.proofs.Going.{close_placed, told_ok, close_leaves}
+use Rattle.node_turn.specs.Logged.{past_in}
+use Rattle.seat_service.specs.Serving.{shared_setup}
+use Rattle.seat_service.proofs.Behind.{came_behind}
+use Rattle.seat_service.proofs.Closing.{asked_answer, asked_shut, asked_unrefused}
+use Rattle.seat_service.proofs.Over.{closed_over}
+use Rattle.seat_service.proofs.attending.Attendant.take_close.Goals as goal
+
+pub tell-told-requires-clause-right : goal.tell-told-requires-clause-right
+tell-told-requires-clause-right g c = asked_answer (shared_setup c.args.self.now.shared.now.setup)
+    (past_in c.args.seat.now.front) (past_in c.call.new.seat.front) c.args.seat.now.number
+    c.args.event c.in-Ok.answer c.args.conn.now c.requires.asks
+    (came_behind c.args.self.now.shared.now.setup c.args.seat.now c.args.event _
+    c.call.new.seat.front c.in-Ok.ensures.one)
+
+pub tell-told-requires-clause-placed : goal.tell-told-requires-clause-placed
+tell-told-requires-clause-placed g c = close_placed c.requires.asks.6
+
+pub returns-in-Ok-clause-shuts : goal.returns-in-Ok-clause-shuts
+returns-in-Ok-clause-shuts g c = asked_shut (shared_setup c.args.self.now.shared.now.setup)
+    (past_in c.args.seat.now.front) (past_in c.call.new.seat.front) c.args.seat.now.number
+    c.args.event c.in-Ok.answer c.args.conn.now c.requires.asks
+    (came_behind c.args.self.now.shared.now.setup c.args.seat.now c.args.event _
+    c.call.new.seat.front c.in-Ok.ensures.one)
+
+pub returns-in-Ok-clause-closes : goal.returns-in-Ok-clause-closes
+returns-in-Ok-clause-closes g c = λ past whole end standing items said first a.
+    closed_over (shared_setup c.args.self.now.shared.now.setup) past whole end standing
+    c.args.seat.now.number items said c.args.event c.in-Ok.answer first c.args.conn.now
+    c.tell-told.new.self c.tell-told.ensures.stands
+    (told_ok _ c.tell-told.result
+    (c.tell-told.ensures.left (close_leaves c.args.conn.now end a.progress))
+    c.tell-told.ensures.told) a
+
+pub returns-in-Err-clause-shuts : goal.returns-in-Err-clause-shuts
+returns-in-Err-clause-shuts g c =
+    absurd (asked_unrefused (shared_setup c.args.self.now.shared.now.setup)
+    (past_in c.args.seat.now.front) (past_in c.call.new.seat.front) c.args.seat.now.number
+    c.args.event c.in-Err.field-0 c.args.conn.now c.requires.asks
+    (came_behind c.args.self.now.shared.now.setup c.args.seat.now c.args.event _
+    c.call.new.seat.front c.in-Err.ensures.one))
+
+pub returns-in-Err-clause-closes : goal.returns-in-Err-clause-closes
+returns-in-Err-clause-closes g c = λ past whole end standing items said first a.
+    absurd (asked_unrefused (shared_setup c.args.self.now.shared.now.setup)
+    (past_in c.args.seat.now.front) (past_in c.call.new.seat.front) c.args.seat.now.number
+    c.args.event c.in-Err.field-0 c.args.conn.now c.requires.asks
+    (came_behind c.args.self.now.shared.now.setup c.args.seat.now c.args.event _
+    c.call.new.seat.front c.in-Err.ensures.one))

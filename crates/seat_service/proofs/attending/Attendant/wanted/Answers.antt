@@ -1,0 +1,44 @@
+use Rattle.conn_service.proofs.Going.{served_free, served_placed}
+use Rattle.conn_service.proofs.Memory.{given_parting, given_placed, idle_free, runs_on}
+use Rattle.node_turn.specs.Logged.{past_in}
+use Rattle.seat_service.specs.Serving.{shared_setup}
+use Rattle.seat_service.proofs.Wanting.{wants_found, given_shut}
+use Rattle.seat_service.proofs.attending.Attendant.wanted.Goals as goal
+
+pub want-requires-clause-free : goal.want-requires-clause-free
+want-requires-clause-free g c = served_free c.args.self.now.shared.now.setup.centre
+    (past_in c.args.seat.now.front) c.args.seat.now.number c.args.conn.now c.requires.served
+
+pub want-requires-clause-placed : goal.want-requires-clause-placed
+want-requires-clause-placed g c = served_placed c.args.self.now.shared.now.setup.centre
+    (past_in c.args.seat.now.front) c.args.seat.now.number c.args.conn.now c.requires.served
+
+pub give_up-requires-clause-free : goal.give_up-requires-clause-free
+give_up-requires-clause-free g c = idle_free c.want.new.self.progress c.in-Err.ensures.again
+
+pub give_up-requires-clause-placed : goal.give_up-requires-clause-placed
+give_up-requires-clause-placed g c = given_placed c.args.self.now.shared.now.setup.centre
+    (past_in c.args.seat.now.front) c.args.seat.now.number c.args.conn.now c.want.new.self
+    c.in-Err.ensures.err c.requires.served
+
+pub close-requires-clause-left : goal.close-requires-clause-left
+close-requires-clause-left g c = given_parting c.args.self.now.shared.now.setup.centre
+    (past_in c.args.seat.now.front) c.args.seat.now.number c.args.conn.now c.want.new.self
+    c.give_up.new.self (runs_on c.args.conn.now.progress c.in-Err.ensures.over)
+    c.in-Err.ensures.err c.in-Err.ensures.again c.want.ensures.stage c.give_up.ensures.stands
+    c.give_up.ensures.left c.requires.served
+
+pub returns-in-Ok-clause-wants : goal.returns-in-Ok-clause-wants
+returns-in-Ok-clause-wants g c = λ items said s.
+    wants_found (shared_setup c.args.self.now.shared.now.setup) (past_in c.args.seat.now.front)
+    c.args.seat.now.number items said c.in-Ok.event c.args.conn.now c.want.new.self
+    c.want.ensures.stage c.in-Ok.ensures.ok s
+
+pub returns-in-Err-clause-wants : goal.returns-in-Err-clause-wants
+returns-in-Err-clause-wants g c = λ items said s.
+    given_shut (shared_setup c.args.self.now.shared.now.setup) (past_in c.args.seat.now.front)
+    (past_in c.close.new.seat.front) c.args.seat.now.number items said c.args.conn.now
+    c.want.new.self c.give_up.new.self c.close.new.conn
+    (runs_on c.args.conn.now.progress c.in-Err.ensures.over) c.in-Err.ensures.err
+    c.in-Err.ensures.again c.want.ensures.stage c.give_up.ensures.stands c.give_up.ensures.left
+    c.close.ensures.closes c.close.ensures.shuts s
