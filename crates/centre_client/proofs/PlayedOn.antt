@@ -1,9 +1,10 @@
 -- Whatever is heard, a script may be played on.
-use Rattle.std.proofs.Common.{ℕ, ℤ, Bool, true, false, List}
+use Rattle.std.proofs.Common.{◌≡◌, ℕ, ℤ, ◌+◌, ◌≤◌, Bool, true, false, List, refl, arith}
 use Rattle.std.proofs.Common.{[], ◌∷◌, Option, Some, None, drop}
-use Rattle.std.specs.Prelude.{if◌then◌else◌, nat_le, ◌-◌}
+use Rattle.std.specs.Prelude.{if◌then◌else◌, nat_le, nat_lt, ◌-◌}
 use Rattle.std.specs.List.{All}
 use Rattle.std.specs.Ordering.{int_eq}
+use Rattle.std.proofs.lemmas.Bool.{ltb-true}
 use Rattle.std.proofs.lemmas.List.Elements.{All-nil, All-tail}
 use Rattle.bilateral.specs.Rows.{CentreRows}
 use Rattle.tase_views.specs.declared.reply.ReplyKind.{ReplyKind}
@@ -16,7 +17,9 @@ use Rattle.centre_client.specs.declared.script.Step.{Step}
 use Rattle.centre_client.specs.StepLines.{IsStep}
 use Rattle.centre_client.specs.Scripts.{IsScript}
 use Rattle.centre_client.specs.Plays.{Playing, PlayMove, IsPlay}
-use Rattle.centre_client.specs.Plays.{at_call, begun, step_done, turned_to}
+use Rattle.centre_client.specs.declared.steps.TheConstants.{LAST_INVOKE}
+use Rattle.centre_client.specs.Plays.{at_call, begun, step_done, turned_to, left_behind}
+use Rattle.centre_client.specs.Plays.{request_behind, last_request, awaited_by}
 use Rattle.centre_client.specs.Plays.{compared, checked}
 use Rattle.centre_client.specs.Plays.{answered, reply_heeded, is_awaited}
 use Rattle.centre_client.specs.Plays.{number_awaited, number_answered, checkback_of, move_unawaited}
@@ -24,14 +27,33 @@ use Rattle.centre_client.specs.Plays.{report_counted, report_heeded, concluded_f
 
 pub new-plays : (rows : CentreRows) (script : Script) → IsScript rows script
     → IsPlay rows (at_call script)
-new-plays rows script h = record { peer = h.peer; rest = h.steps }
+new-plays rows script h = record { peer = h.peer; last = omega arith; rest = h.steps }
+
+-- a number is followed by one that requests have
+pub request_behind-most : (number : ℕ) → request_behind number ≤ LAST_INVOKE
+request_behind-most number = one (nat_lt number LAST_INVOKE) refl
+  where
+    one : (below : Bool) → nat_lt number LAST_INVOKE ≡ below
+        → (if below then number + 1 else 1) ≤ LAST_INVOKE
+    one true is = omega (arith, ltb-true number LAST_INVOKE is)
+    one false is = omega arith
+
+last_request-most : (awaiting : Awaiting) (number : ℕ) → number ≤ LAST_INVOKE
+    → last_request awaiting number ≤ LAST_INVOKE
+last_request-most awaits.Select number le = request_behind-most number
+last_request-most awaits.Reply number le = request_behind-most number
+last_request-most awaits.Association number le = le
+last_request-most (awaits.Reports left) number le = le
+last_request-most awaits.Conclusion number le = le
+last_request-most awaits.Release number le = le
 
 pub turned-plays : (rows : CentreRows) (awaiting : Awaiting) (p : Playing) → IsPlay rows p
     → IsPlay rows (turned_to awaiting p)
-turned-plays rows awaiting p h = record { peer = h.peer; rest = h.rest }
+turned-plays rows awaiting p h =
+    record { peer = h.peer; last = last_request-most awaiting p.last h.last; rest = h.rest }
 
 pub begun-plays : (rows : CentreRows) (p : Playing) → IsPlay rows p → IsPlay rows (begun rows p)
-begun-plays rows p h = record { peer = h.peer; rest = h.rest }
+begun-plays rows p h = turned-plays rows (awaited_by rows p.rest) p h
 
 rest-plays : (rows : CentreRows) (peer : ℕ) (steps : List Step)
     → All (λ step. IsStep rows peer step.kind) steps
@@ -40,7 +62,8 @@ rest-plays rows peer [] all = All-nil (λ step. IsStep rows peer step.kind)
 rest-plays rows peer (step ∷ more) all = All-tail (λ step. IsStep rows peer step.kind) step more all
 
 done-plays : (rows : CentreRows) (p : Playing) → IsPlay rows p → IsPlay rows (step_done rows p)
-done-plays rows p h = record { peer = h.peer; rest = rest-plays rows p.peer p.rest h.rest }
+done-plays rows p h = begun-plays rows (left_behind p)
+    (record { peer = h.peer; last = h.last; rest = rest-plays rows p.peer p.rest h.rest })
 
 abbrev first : PlayMove → Playing
 first m = m.0
@@ -88,7 +111,7 @@ counted-plays rows (awaits.Reports left) p h = one (nat_le left 1)
         (first (if last then (step_done rows p, moves.Say)
         else (record p { awaiting = awaits.Reports (left - 1) }, moves.Wait)))
     one true = done-plays rows p h
-    one false = record { peer = h.peer; rest = h.rest }
+    one false = record { peer = h.peer; last = h.last; rest = h.rest }
 counted-plays rows awaits.Association p h = h
 counted-plays rows awaits.Select p h = h
 counted-plays rows awaits.Reply p h = h
@@ -104,7 +127,7 @@ pub concluded-plays : (rows : CentreRows) (p : Playing) → IsPlay rows p
 concluded-plays rows p h = one p.awaiting
   where
     one : (awaiting : Awaiting) → IsPlay rows (concluded_for awaiting p).0
-    one awaits.Conclusion = record { peer = h.peer; rest = h.rest }
+    one awaits.Conclusion = record { peer = h.peer; last = h.last; rest = h.rest }
     one awaits.Association = h
     one awaits.Select = h
     one awaits.Reply = h

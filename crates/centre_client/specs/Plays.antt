@@ -3,7 +3,7 @@
 use Rattle.std.specs.Prelude.{ℕ, ℤ, pos, negsuc, ◌+◌, ◌-◌}
 use Rattle.std.specs.Prelude.{◌==◌, ◌^◌, nat_lt, nat_le, Bool, true, false}
 use Rattle.std.specs.Prelude.{if◌then◌else◌, List, [], ◌∷◌, ◌++◌, Option}
-use Rattle.std.specs.Prelude.{Some, None, codes, ◌<◌, length}
+use Rattle.std.specs.Prelude.{Some, None, codes, ◌<◌, ◌≤◌, length}
 use Rattle.std.specs.List.{All}
 use Rattle.std.proofs.Common.{drop}
 use Rattle.centre_client.specs.StepLines.{IsStep}
@@ -257,8 +257,9 @@ line_awaited awaiting rest = line_of_first rest
 abbrev pub line_done : Playing → Option ℕ
 line_done p = line_awaited p.awaiting p.rest
 
--- what every script that is played over these tables keeps: its peer is there, and the steps that
--- aren't done may be played
+-- what every script that is played over these tables keeps: its peer is there, the steps that
+-- aren't done may be played, and the last request has a number that requests have
 pub record IsPlay (rows : CentreRows) (p : Playing) : Type 0 where
   pub peer : p.peer < length rows.tables
+  pub last : p.last ≤ LAST_INVOKE
   pub rest : All (λ step. IsStep rows p.peer step.kind) p.rest

@@ -1,9 +1,18 @@
 //! What holds of every script that is played.
-ghost use Rattle.std.specs.Prelude.{◌≡◌, ℕ, Option};
+ghost use Rattle.std.specs.Prelude.{◌≡◌, ℕ, Option, Some, None, List};
+ghost use Rattle.tpkt_cotp.specs.declared.turn.Role.TheVariants.{Calling};
+ghost use Rattle.tpkt_cotp.specs.Streams.{Message};
+ghost use Rattle.stack_messages.specs.declared.fault.StackFault.{StackFault};
+ghost use Rattle.stack_assoc.specs.Arrivals.{Arrival};
+ghost use Rattle.stack_assoc.specs.Fronts.{StartsWith};
+ghost use Rattle.stack_assoc.specs.Tellings.{Tell, Tells, StopsTelling};
 ghost use Rattle.bilateral.specs.Rows.{CentreRows as AnyRows};
 ghost use Rattle.tase_views.specs.declared.reply.ReplyKind.{ReplyKind as AnyReply};
 ghost use Rattle.centre_client.specs.declared.script.Script.{Script as AnyScript};
+ghost use Rattle.centre_client.specs.declared.end.ClientEnd.{ClientEnd as AnyEnd};
 ghost use Rattle.centre_client.specs.Scripts.{IsScript};
+ghost use Rattle.centre_client.specs.Clients.{ClientStep, HasHeard, client_behind, step_then};
+ghost use Rattle.centre_client.specs.Clients.{broken_step};
 ghost use Rattle.centre_client.specs.Plays.{Playing, IsPlay, at_call, begun, reply_heeded};
 ghost use Rattle.centre_client.specs.Plays.{report_heeded, concluded_for};
 
@@ -18,4 +27,22 @@ pub fn scripts_may_be_played()
         → IsPlay rows (report_heeded rows p).0 }
     ensures concluded { (rows : AnyRows) (p : Playing) → IsPlay rows p
         → IsPlay rows (concluded_for p.awaiting p).0 }
+{}
+
+/// What all octets that have come make of a client is what the messages that they tell make of it,
+/// one after another: all of them, where they leave a rest; those before the rule that is broken,
+/// behind which it is refused; or those behind which it has ended, whatever octets follow.
+pub fn octets_make_a_client()
+    ensures rest { (rows : AnyRows) (script : AnyScript) (octets rest : List ℕ)
+        (told : List Arrival) (step : ClientStep) → HasHeard rows script told step
+        → Tells step.state.role octets told rest → client_behind rows script octets ≡ step }
+    ensures broken { (rows : AnyRows) (script : AnyScript) (octets : List ℕ) (told : List Arrival)
+        (step : ClientStep) (fault : StackFault) → HasHeard rows script told step
+        → step.state.end ≡ None → StopsTelling step.state.role octets told fault
+        → client_behind rows script octets ≡ step_then step (broken_step fault) }
+    ensures ended { (rows : AnyRows) (script : AnyScript) (octets : List ℕ) (told : List Arrival)
+        (step : ClientStep) (end : AnyEnd) (messages : List Message)
+        → HasHeard rows script told step → step.state.end ≡ Some end
+        → StartsWith Calling octets messages → Tell step.state.role told messages
+        → client_behind rows script octets ≡ step }
 {}

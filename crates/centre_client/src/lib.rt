@@ -3,15 +3,17 @@
 
 mod end;
 mod fault;
+mod hearing;
 mod laws;
 mod numbered;
 mod play;
 mod script;
+mod showing;
 mod steps;
 
 pub use end::ClientEnd;
 pub use fault::{ScriptFault, ScriptWhy};
-pub use laws::scripts_may_be_played;
+pub use laws::{octets_make_a_client, scripts_may_be_played};
 pub use play::{Awaiting, ClientMove, Play};
 pub use script::{Script, Step, StepKind, Steps, read_script};
 pub use steps::{LAST_INVOKE, REQUEST_LIMIT, WAIT_LIMIT};

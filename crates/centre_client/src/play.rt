@@ -148,7 +148,7 @@ impl Play {
     }
 
     /// Whether a reply to the request with this number, or to none that it tells, is awaited.
-    fn awaits(&self, number: Option<u32>) -> bool
+    pub(crate) fn awaits(&self, number: Option<u32>) -> bool
         ensures { result ≡ own.is_awaited (own.number_awaited self.now) number }
     {
         match (self.number(), number) {
