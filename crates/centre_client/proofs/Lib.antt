@@ -3,5 +3,7 @@ pub mod Spelled
 pub mod Playable
 pub mod PlayedOn
 pub mod HeardSteps
+pub mod ShortRequests
+pub mod DeviceRequests
 mod Worked
 mod WorkedClients

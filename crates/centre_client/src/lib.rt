@@ -1,6 +1,7 @@
 //! The client: the calling end of an association, which plays a script.
 #![tactic(auto)]
 
+mod asking;
 mod end;
 mod fault;
 mod hearing;

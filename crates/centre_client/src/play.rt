@@ -4,13 +4,19 @@ ghost use Rattle.std.specs.Prelude.{◌≡◌, ◌<◌, ◌≤◌, IfOk, IfSome,
 ghost use Rattle.mms_data.specs.declared.outcome.Outcome.TheVariants as outcomes;
 ghost use Rattle.tase_views.specs.declared.reply.ReplyKind.TheVariants as replies;
 ghost use Rattle.centre_client.specs.StepLines.{IsStep};
+ghost use Rattle.std.specs.Prelude.{option_map};
+ghost use Rattle.centre_client.specs.declared.play.Awaiting.TheVariants as awaits;
 ghost use Rattle.centre_client.specs.Plays as own;
+ghost use Rattle.centre_client.specs.Sayings.{request_pdu, request_awaited, IsSayable};
 
+use crate::asking::{operate_call, request_pdu, select_call};
 use crate::end::ClientEnd;
 use crate::script::{Script, Step, StepKind};
 use crate::steps::LAST_INVOKE;
 use bilateral::Centre;
 use mms_data::{DataKind, MmsData, Outcome};
+use mms_services::MmsPdu;
+use std::alloc::{AllocError, Global};
 use std::marker::Model;
 use tase_views::{Reply, ReplyKind};
 
@@ -122,6 +128,94 @@ impl Play {
             Some(self.last)
         } else {
             None
+        }
+    }
+
+    /// The request that is said where a reply is awaited.
+    pub fn request(&self, alloc: Global, centre: &Centre) -> Result<Option<MmsPdu>, AllocError>
+        requires { own.IsPlay centre.now self.now }
+        ensures value { IfOk result (λ pdu. pdu ≡ request_awaited centre.now self.now) }
+        ensures sayable { IfOk result (λ pdu. IfSome pdu IsSayable) }
+    {
+        match self.awaiting {
+            Awaiting::Association => Ok(None),
+            Awaiting::Select => self.first_select(alloc, centre),
+            Awaiting::Reply => self.first_request(alloc, centre),
+            Awaiting::Reports(_) => Ok(None),
+            Awaiting::Conclusion => Ok(None),
+            Awaiting::Release => Ok(None),
+        }
+    }
+
+    /// The select of the step at its place.
+    fn first_select(&self, alloc: Global, centre: &Centre) -> Result<Option<MmsPdu>, AllocError>
+        requires { own.IsPlay centre.now self.now }
+        ensures value { IfOk result (λ pdu. pdu ≡ option_map (request_pdu self.now.last)
+            (own.call_of_first centre.now self.now.peer awaits.Select self.now.rest)) }
+        ensures sayable { IfOk result (λ pdu. IfSome pdu IsSayable) }
+    {
+        match self.rest() {
+            [step, ..] => self.select_of(alloc, centre, &step.kind),
+            [] => Ok(None),
+        }
+    }
+
+    /// The request of the step at its place, of an operate the write.
+    fn first_request(&self, alloc: Global, centre: &Centre) -> Result<Option<MmsPdu>, AllocError>
+        requires { own.IsPlay centre.now self.now }
+        ensures value { IfOk result (λ pdu. pdu ≡ option_map (request_pdu self.now.last)
+            (own.call_of_first centre.now self.now.peer awaits.Reply self.now.rest)) }
+        ensures sayable { IfOk result (λ pdu. IfSome pdu IsSayable) }
+    {
+        match self.rest() {
+            [step, ..] => self.request_of(alloc, centre, &step.kind),
+            [] => Ok(None),
+        }
+    }
+
+    /// The select of a step.
+    fn select_of(
+        &self,
+        alloc: Global,
+        centre: &Centre,
+        kind: &StepKind,
+    ) -> Result<Option<MmsPdu>, AllocError>
+        requires play { own.IsPlay centre.now self.now }
+        requires step { IsStep centre.now self.now.peer kind.now }
+        ensures value { IfOk result (λ pdu. pdu ≡ option_map (request_pdu self.now.last)
+            (own.call_of_step centre.now self.now.peer awaits.Select kind.now)) }
+        ensures sayable { IfOk result (λ pdu. IfSome pdu IsSayable) }
+    {
+        match kind {
+            StepKind::Operate { device, .. } => {
+                let call = select_call(alloc, centre, self.script.peer, *device)?;
+                Ok(Some(request_pdu(alloc, self.last, &call)?))
+            }
+            StepKind::Call(_) => Ok(None),
+            StepKind::Wait { .. } => Ok(None),
+        }
+    }
+
+    /// The request of a step, of an operate the write.
+    fn request_of(
+        &self,
+        alloc: Global,
+        centre: &Centre,
+        kind: &StepKind,
+    ) -> Result<Option<MmsPdu>, AllocError>
+        requires play { own.IsPlay centre.now self.now }
+        requires step { IsStep centre.now self.now.peer kind.now }
+        ensures value { IfOk result (λ pdu. pdu ≡ option_map (request_pdu self.now.last)
+            (own.call_of_step centre.now self.now.peer awaits.Reply kind.now)) }
+        ensures sayable { IfOk result (λ pdu. IfSome pdu IsSayable) }
+    {
+        match kind {
+            StepKind::Call(call) => Ok(Some(request_pdu(alloc, self.last, call)?)),
+            StepKind::Operate { device, value } => {
+                let call = operate_call(alloc, centre, self.script.peer, *device, *value)?;
+                Ok(Some(request_pdu(alloc, self.last, &call)?))
+            }
+            StepKind::Wait { .. } => Ok(None),
         }
     }
 
