@@ -1,0 +1,4 @@
+pub mod LinkUses
+pub mod GivenItems
+pub mod Receiving
+pub mod Sending
