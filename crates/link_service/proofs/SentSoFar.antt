@@ -1,25 +1,20 @@
 -- A connection some of whose octets were sent.
-use Rattle.std.proofs.Common.{◌≡◌, ◌≢◌, ℕ, ◌+◌, ◌-◌, ◌<◌, ◌≤◌, Bool, true, false, List, [], ◌∷◌, ◌++◌}
-use Rattle.std.proofs.Common.{length, take, drop, Option, Some, None, IfSome, refl, sym, ap, subst, ◌∙◌}
-use Rattle.std.proofs.Common.{append_assoc, arith, length-append, length-drop}
+use Rattle.std.proofs.Common.{◌≡◌, ℕ, ◌≤◌, Bool, true, false, List, [], ◌∷◌, ◌++◌}
+use Rattle.std.proofs.Common.{length, take, drop, Option, Some, None}
+use Rattle.std.proofs.Common.{IfSome, refl, sym, ap, subst, ◌∙◌}
+use Rattle.std.proofs.Common.{append_assoc}
 use Rattle.std.specs.Prelude.{option_map}
 use Rattle.std.proofs.lemmas.List.{append-nil, take-append-drop, take-append-le}
 use Rattle.outside.specs.declared.sink.WriteEnd.{WriteEnd}
 use Rattle.outside.specs.declared.sink.WriteEnd.TheVariants.{Took, Failed as SendFailed}
-use Rattle.outside.specs.Sink.{octets_taken}
 use Rattle.outside_links.specs.LinkAnswers.{LinkAnswers, with_send, took_none}
 use Rattle.outside_links.specs.Links.{LinkTold, SendsPiece}
-use Rattle.bilateral.specs.Rows.{CentreRows}
-use Rattle.stack_assoc.specs.Arrivals.{Arrival}
-use Rattle.tase_map.specs.Inputs.{Item}
-use Rattle.tase_map.specs.Turns.{Turn}
 use Rattle.tase_conn.specs.Talking.{Talking, pending_of, next_pending, first_filled}
-use Rattle.tase_conn.specs.Places.{KeepsPlace, ConnStandsAt}
+use Rattle.tase_conn.specs.Places.{KeepsPlace}
 use Rattle.tase_conn.specs.Taken.{SendsSome}
 use Rattle.link_service.specs.LinkUses.{HasHeard, UsesLink, IsUntaken}
-use Rattle.link_service.specs.Sending.{SendsPending, is_failed_end, IsLeftBySends}
-use Rattle.link_service.specs.declared.sending.SendsEnd.{SendsEnd}
-use Rattle.link_service.specs.declared.sending.SendsEnd.TheVariants.{AllTaken, NoneTaken, Failed}
+use Rattle.link_service.specs.Sending.{SendsPending}
+use Rattle.link_service.specs.declared.sending.SendsEnd.TheVariants.{NoneTaken, Failed}
 use Rattle.link_service.proofs.Uses.{uses_none, uses_then, heard_then, send_uses}
 
 -- ---- what is sent next
@@ -31,20 +26,6 @@ next_first : (out farewell : List ℕ) (count : ℕ)
 next_first [] farewell count few = refl
 next_first (octet ∷ out) farewell count few =
     sym (take-append-le count (octet ∷ out) farewell few)
-
-pub next_few : (out farewell : List ℕ) → length (first_filled out farewell) ≤ length (out ++ farewell)
-next_few [] farewell = omega arith
-next_few (octet ∷ out) farewell = omega (arith, length-append (octet ∷ out) farewell)
-
-some_next : (out farewell : List ℕ) → (length (first_filled out farewell) ≡ 0)
-    → out ++ farewell ≡ []
-some_next [] [] none = refl
-some_next [] (octet ∷ farewell) none = absurd (omega (arith, none))
-some_next (octet ∷ out) farewell none = absurd (omega (arith, none))
-
--- where nothing is to be sent next, nothing waits
-pub none_waits : (v : Talking) → length (next_pending v) ≡ 0 → pending_of v ≡ []
-none_waits v none = some_next v.out v.farewell.items none
 
 -- ---- so far
 
@@ -148,15 +129,3 @@ module _ (before between after : LinkTold) (first : LinkAnswers) (old mid : Talk
         stands = so.stands;
         same = so.same;
       }
-
-  -- nothing waits any more
-  pub sent_all : pending_of mid ≡ [] → SendsPending before between first old mid AllTaken
-  sent_all none = record {
-    now = so.now;
-    taken = so.taken;
-    uses = so.uses;
-    waited = so.waited;
-    left = none;
-    stands = so.stands;
-    same = so.same;
-  }

@@ -1,19 +1,19 @@
 -- Uses of a link, one after another.
-use Rattle.std.proofs.Common.{◌≡◌, ℕ, ◌+◌, ◌≤◌, Bool, true, false, List, [], ◌∷◌, ◌++◌, length, take}
-use Rattle.std.proofs.Common.{Option, Some, None, IfSome, refl, sym, ap, subst, ◌∙◌, append_assoc, arith}
+use Rattle.std.proofs.Common.{◌≡◌, ℕ, ◌+◌, Bool, false, List, [], ◌∷◌, ◌++◌, length}
+use Rattle.std.proofs.Common.{Option, Some, None, IfSome, refl}
+use Rattle.std.proofs.Common.{sym, ap, subst, ◌∙◌, append_assoc, arith}
 use Rattle.std.proofs.Common.{length-append, length-take, add_assoc, add-zero}
 use Rattle.std.specs.Prelude.{option_map}
 use Rattle.std.proofs.lemmas.List.{append-nil}
 use Rattle.outside.specs.Faults.{counted}
-use Rattle.outside.specs.Octets.{Adds}
 use Rattle.outside.specs.Sink.{octets_taken, is_failed_write}
 use Rattle.outside.specs.declared.sink.WriteEnd.{WriteEnd}
 use Rattle.outside.specs.declared.sink.WriteEnd.TheVariants.{Took, Failed}
 use Rattle.outside.proofs.Writing.{Adds-append}
 use Rattle.outside_links.specs.declared.link.Recv.{Recv}
-use Rattle.outside_links.specs.LinkAnswers.{Received, LinkAnswer, LinkAnswers, LinkClose}
+use Rattle.outside_links.specs.LinkAnswers.{LinkAnswer, LinkAnswers, LinkClose}
 use Rattle.outside_links.specs.LinkAnswers.{received_of, next_answer, with_answer, count_taken}
-use Rattle.outside_links.specs.LinkAnswers.{with_send, answered_more}
+use Rattle.outside_links.specs.LinkAnswers.{with_send}
 use Rattle.outside_links.specs.Links.{LinkTold, ReceivesPiece, SendsPiece, is_failed_recv}
 use Rattle.outside_links.specs.Links.{IsSendCount}
 use Rattle.link_service.specs.LinkUses.{HasHeard, answered_by, UsesLink}

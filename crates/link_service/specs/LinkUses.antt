@@ -1,6 +1,6 @@
 -- What calls of recv and send do to a link.
 use Rattle.std.specs.Prelude.{◌≡◌, ℕ, ◌+◌, Bool, true, false, List, ◌++◌, length}
-use Rattle.std.specs.Prelude.{Option, Some, option_map, IfSome}
+use Rattle.std.specs.Prelude.{Some, option_map, IfSome}
 use Rattle.outside.specs.Faults.{counted}
 use Rattle.outside.specs.Octets.{Adds}
 use Rattle.outside_links.specs.LinkAnswers.{LinkAnswer, LinkAnswers, LinkClose}

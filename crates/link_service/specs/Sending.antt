@@ -5,7 +5,7 @@ use Rattle.outside_links.specs.Links.{LinkTold}
 use Rattle.tase_conn.specs.Talking.{Talking, pending_of}
 use Rattle.tase_conn.specs.Places.{KeepsPlace}
 use Rattle.tase_conn.specs.Taken.{SendsSome}
-use Rattle.link_service.specs.LinkUses.{HasHeard, UsesLink, IsUntaken}
+use Rattle.link_service.specs.LinkUses.{UsesLink, IsUntaken}
 use Rattle.link_service.specs.declared.sending.SendsEnd.{SendsEnd}
 use Rattle.link_service.specs.declared.sending.SendsEnd.TheVariants.{AllTaken, NoneTaken, Failed}
 
