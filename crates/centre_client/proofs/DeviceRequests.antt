@@ -9,7 +9,6 @@ use Rattle.ber_values.specs.Visible.{IsVisible, is_visible_octet}
 use Rattle.ber_values.specs.Writing.{written, number_size, integer_octets}
 use Rattle.ber_values.proofs.Written.{length-integer_octets}
 use Rattle.mms_data.specs.Datum.{Datum, integer}
-use Rattle.mms_data.specs.DataWritten.{datum_octets}
 use Rattle.mms_data.specs.NameOctets.{name_octets}
 use Rattle.mms_data.specs.ObjectName.{ObjectName, IsIdentifier}
 use Rattle.mms_data.specs.declared.object_name.Scope.TheVariants.{Domain}
@@ -17,7 +16,7 @@ use Rattle.mms_access.specs.declared.spec.Spec.TheVariants as specs
 use Rattle.mms_access.specs.Specifications.{variable_octets, variables_octets, spec_octets}
 use Rattle.mms_access.specs.Reads.{echo_octets, read_request_octets}
 use Rattle.mms_access.specs.Writes.{values_octets, write_request_octets}
-use Rattle.mms_services.specs.PduOctets.{invoke_octets, request_octets, pdu_octets, pdu_len}
+use Rattle.mms_services.specs.PduOctets.{invoke_octets, request_octets, pdu_octets}
 use Rattle.stack_wire.proofs.Sizes.{written-most}
 use Rattle.table_words.specs.Words.{is_name}
 use Rattle.table_words.specs.declared.words.TheConstants.{NAME_LIMIT}
