@@ -1,0 +1,13 @@
+pub mod Tests
+pub mod PlainWords
+pub mod Walked
+pub mod Forms
+pub mod OptionWords
+pub mod Limited
+pub mod KindTests
+pub mod Unasked
+pub mod LoadRead
+pub mod DecodeRead
+pub mod ReplayRead
+pub mod VerifyRead
+pub mod ReadForms

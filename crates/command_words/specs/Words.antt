@@ -1,0 +1,200 @@
+-- The words of a command.
+use Rattle.std.specs.Prelude.{◌≡◌, ℕ, ◌≤◌, ◌-◌, ◌^◌, Bool, false, not, ◌&&◌, ◌||◌, ◌==◌}
+use Rattle.std.specs.Prelude.{if◌then◌else◌, List, [], ◌∷◌, Option, Some, None, option_map}
+use Rattle.std.specs.Prelude.{option_and_then}
+use Rattle.std.specs.Prelude.{is_some, unwrap_or, IfSome, nat_le, codes, bytes_eq}
+use Rattle.plain_text.specs.Numbers.{if_passes, number_up_to}
+use Rattle.load_run.specs.declared.scenario.TheConstants.{MOST_ROUNDS}
+use Rattle.command_words.specs.declared.words.TheConstants.{HISTORY_LIMIT, MOST_LIMIT}
+use Rattle.command_words.specs.declared.words.Options.{Options}
+use Rattle.command_words.specs.declared.words.Question.{Question as Questions}
+use Rattle.command_words.specs.declared.words.Command.{Command}
+use Rattle.command_words.specs.declared.words.Command.TheVariants.{Replay, Decode, DecodePdu}
+use Rattle.command_words.specs.declared.words.Command.TheVariants.{Verify}
+use Rattle.command_words.specs.declared.words.Command.TheVariants.{Load}
+
+-- the octets that a history may weigh, and the file for its journal, where they are given
+pub record ReplayOptions : Type 0 where
+  pub limit : Option ℕ
+  pub journal : Option (List ℕ)
+
+-- the limit on a history's weight
+abbrev pub limit_of : ReplayOptions → ℕ
+limit_of options = unwrap_or options.limit HISTORY_LIMIT
+
+-- the options of a command
+abbrev pub options_seen : Options → ReplayOptions
+options_seen options = record {
+  limit = options.limit;
+  journal = option_map (λ name. name.now) options.journal;
+}
+
+-- an association by the key of its peer and by how many that peer had opened before, and the files
+-- that tell of it: the tables, the journal, and what its link gave and was sent
+pub record Question : Type 0 where
+  pub tables : List ℕ
+  pub journal : List ℕ
+  pub peer : List ℕ
+  pub ordinal : ℕ
+  pub given : List ℕ
+  pub sent : List ℕ
+
+-- what contracts see of it
+abbrev pub question_seen : Questions → Question
+question_seen question = record {
+  tables = question.tables.now;
+  journal = question.journal.now;
+  peer = question.peer.now;
+  ordinal = question.ordinal;
+  given = question.given.now;
+  sent = question.sent.now;
+}
+
+-- what words ask for
+pub data Task : Type 0 where
+  -- the scenario under the second name is played over the tables under the first, as options say
+  replays : List ℕ → List ℕ → ReplayOptions → Task
+  -- the messages of the stream that the capture under the name holds are listed
+  lists_stream : List ℕ → Task
+  -- the PDU that the capture under the name holds is told
+  decodes_pdu : List ℕ → Task
+  -- what an association was sent is held against its history and what its link gave
+  verifies : Question → Task
+  -- the scenario of the load run with so many rounds is played over its tables, and counted
+  loads : ℕ → Task
+
+-- what a command asks for
+abbrev pub task_of : Command → Task
+task_of (Replay tables scenario options) =
+    replays tables.now scenario.now (options_seen options)
+task_of (Decode capture) = lists_stream capture.now
+task_of (DecodePdu capture) = decodes_pdu capture.now
+task_of (Verify question) = verifies (question_seen question)
+task_of (Load rounds) = loads rounds
+
+-- a limit that a history may have, and a journal that isn't standard output
+pub record AreOptions (options : ReplayOptions) : Type 0 where
+  pub limit : limit_of options ≤ MOST_LIMIT
+  pub journal : IfSome options.journal (λ name. bytes_eq name (codes "-") ≡ false)
+
+abbrev pub IsLimited : Command → Type 0
+IsLimited (Replay tables scenario options) = AreOptions (options_seen options)
+IsLimited (Decode capture) = Unit {0}
+IsLimited (DecodePdu capture) = Unit {0}
+IsLimited (Verify question) = Unit {0}
+IsLimited (Load rounds) = rounds ≤ MOST_ROUNDS
+
+-- a name of a file: not empty, and beginning with `-` only where it is `-`, which is standard input
+abbrev pub is_file_name : List ℕ → Bool
+is_file_name [] = false
+is_file_name (first ∷ more) = not (first == 45) || bytes_eq more []
+
+-- `replay TABLES SCENARIO`
+abbrev pub is_replay : List ℕ → List ℕ → List ℕ → Bool
+is_replay verb tables scenario =
+    bytes_eq verb (codes "replay") && is_file_name tables && is_file_name scenario
+
+-- no option
+abbrev pub no_options : ReplayOptions
+no_options = record { limit = None; journal = None }
+
+-- a limit: from 1 to 268,435,456
+abbrev pub limit_in : List ℕ → Option ℕ
+limit_in word =
+    option_and_then (if_passes (λ limit. nat_le 1 limit)) (number_up_to MOST_LIMIT word)
+
+-- the file of a journal, which isn't standard output
+abbrev pub is_journal_name : List ℕ → Bool
+is_journal_name word = is_file_name word && not (bytes_eq word (codes "-"))
+
+-- `--limit N` or `--journal FILE` behind options, each once at most
+abbrev pub with_limit : List ℕ → ReplayOptions → Option ReplayOptions
+with_limit word options = if is_some options.limit then None
+    else option_map (λ limit. record options { limit = Some limit }) (limit_in word)
+
+abbrev pub with_journal : List ℕ → ReplayOptions → Option ReplayOptions
+with_journal word options =
+    if is_some options.journal || not (is_journal_name word) then None
+    else Some (record options { journal = Some word })
+
+abbrev pub with_option : List ℕ → List ℕ → ReplayOptions → Option ReplayOptions
+with_option option word options =
+    if bytes_eq option (codes "--limit") then with_limit word options
+    else (if bytes_eq option (codes "--journal") then with_journal word options else None)
+
+-- the options of a replay, in any order
+abbrev pub options_in : List (List ℕ) → Option ReplayOptions
+options_in [] = Some no_options
+options_in (option ∷ word ∷ []) = with_option option word no_options
+options_in (option ∷ word ∷ next ∷ other ∷ []) =
+    option_and_then (with_option next other) (with_option option word no_options)
+options_in words = None
+
+-- `decode IN`
+abbrev pub is_decode : List ℕ → List ℕ → Bool
+is_decode verb capture = bytes_eq verb (codes "decode") && is_file_name capture
+
+-- a number of rounds: from 1 to 2,000
+abbrev pub rounds_in : List ℕ → Option ℕ
+rounds_in word =
+    option_and_then (if_passes (λ rounds. nat_le 1 rounds)) (number_up_to MOST_ROUNDS word)
+
+-- `decode IN`, or `load N`
+abbrev pub task_in_two : List ℕ → List ℕ → Option Task
+task_in_two first second =
+    if is_decode first second then Some (lists_stream second)
+    else (if bytes_eq first (codes "load") then option_map loads (rounds_in second) else None)
+
+-- `decode --pdu IN`
+abbrev pub is_decode_pdu : List ℕ → List ℕ → List ℕ → Bool
+is_decode_pdu verb option capture =
+    bytes_eq verb (codes "decode") && bytes_eq option (codes "--pdu") && is_file_name capture
+
+-- nothing behind `decode --pdu IN`
+abbrev pub pdu_task_in : List ℕ → List (List ℕ) → Option Task
+pdu_task_in capture [] = Some (decodes_pdu capture)
+pdu_task_in capture more = None
+
+-- `verify TABLES JOURNAL`
+abbrev pub is_verify : List ℕ → List ℕ → List ℕ → Bool
+is_verify verb tables journal =
+    bytes_eq verb (codes "verify") && is_file_name tables && is_file_name journal
+
+-- three names of files
+abbrev pub are_file_names : List ℕ → List ℕ → List ℕ → Bool
+are_file_names first second third =
+    is_file_name first && is_file_name second && is_file_name third
+
+-- `KEY ORDINAL IN OUT` behind it: a name, a number and two files
+abbrev pub question_in : List ℕ → List ℕ → List ℕ → List ℕ → List ℕ → List ℕ → Option Question
+question_in tables journal peer ordinal given sent =
+    if not (are_file_names peer given sent) then None
+    else option_map (λ number. record {
+      tables = tables;
+      journal = journal;
+      peer = peer;
+      ordinal = number;
+      given = given;
+      sent = sent;
+    }) (number_up_to (2 ^ 64 - 1) ordinal)
+
+-- exactly these four words
+abbrev pub question_of : List ℕ → List ℕ → List (List ℕ) → Option Question
+question_of tables journal (peer ∷ ordinal ∷ given ∷ sent ∷ []) =
+    question_in tables journal peer ordinal given sent
+question_of tables journal words = None
+
+-- `replay TABLES SCENARIO` and its options, `decode --pdu IN`, or
+-- `verify TABLES JOURNAL KEY ORDINAL IN OUT`
+abbrev pub task_in_three : List ℕ → List ℕ → List ℕ → List (List ℕ) → Option Task
+task_in_three first second third more =
+    if is_replay first second third then option_map (replays second third) (options_in more)
+    else (if is_decode_pdu first second third then pdu_task_in third more
+    else (if is_verify first second third
+    then option_map verifies (question_of second third more) else None))
+
+-- no other words are a command
+abbrev pub task_in : List (List ℕ) → Option Task
+task_in (first ∷ second ∷ []) = task_in_two first second
+task_in (first ∷ second ∷ third ∷ more) = task_in_three first second third more
+task_in words = None

@@ -1,0 +1,10 @@
+//! The words of commands: whether words are a command, and the names and numbers that it uses.
+#![tactic(auto)]
+
+mod grammar;
+mod matched;
+mod reading;
+mod words;
+
+pub use reading::read_command;
+pub use words::{Command, HISTORY_LIMIT, Options, Question};
