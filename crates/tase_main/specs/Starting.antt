@@ -14,7 +14,7 @@ use Rattle.command_io.specs.declared.status.Status.TheVariants.{Memory}
 use Rattle.command_io.specs.Statuses.{code_of}
 use Rattle.command_io.specs.Saying.{texts_of}
 use Rattle.command_io.specs.Runs.{IsRun}
-use Rattle.tase_tool.specs.Words.{task_in}
+use Rattle.command_words.specs.Words.{task_in}
 use Rattle.tase_tool.specs.Saying.{duty_of}
 
 -- words in memory

@@ -1,6 +1,6 @@
 -- That a replay, a listing and the reading of a PDU go by their plans, and what a replay has sent.
-use Rattle.std.proofs.Common.{◌≡◌, ℕ, false, List, [], ◌∷◌, Option, Some, None}
-use Rattle.std.proofs.Common.{refl, sym, ◌∙◌, ap, subst}
+use Rattle.std.proofs.Common.{◌≡◌, ℕ, true, false, List, [], ◌∷◌, Option, Some, None, is_some}
+use Rattle.std.proofs.Common.{refl, sym, ◌∙◌, ap, subst, true≢false}
 use Rattle.std.specs.Prelude.{Result, Ok, Err, IfOk, Vec, codes}
 use Rattle.std.specs.declared.alloc.Global.{Global}
 use Rattle.std.proofs.lemmas.List.{append-nil}
@@ -15,15 +15,16 @@ use Rattle.command_io.specs.Saying.{Text, untold, missing, told, texts_of, names
 use Rattle.command_io.specs.Inputs.{value_as, ReadsInput}
 use Rattle.command_io.specs.Runs.{Took}
 use Rattle.command_io.specs.Plans.{Plan, says, whole_text, octets_of, texts_behind, EndsPlan}
-use Rattle.command_io.specs.Plans.{ReadsValue}
+use Rattle.command_io.specs.Plans.{ReadsValue, OnValue}
 use Rattle.command_io.proofs.Plans.{IsFront, Fits, OnEnd, OnValue-read, ReadsValue-text}
-use Rattle.command_io.proofs.Plans.{texts_valued}
+use Rattle.command_io.proofs.Plans.{texts_valued, plan_command}
 use Rattle.bilateral.specs.Rows.{CentreRows}
 use Rattle.tase_replay.specs.Play.{Played, shown_of, scenario_of}
 use Rattle.node_core.specs.NodeState.{NodeState}
-use Rattle.tase_tool.specs.Words.{ReplayOptions, limit_of, replays}
+use Rattle.command_words.specs.Words.{ReplayOptions, Task, limit_of, replays}
 use Rattle.tase_tool.specs.Tables.{tables_in}
 use Rattle.tase_tool.specs.Saying.{kept_said, journal_names, setup_of, scenario_said, scenario_plan}
+use Rattle.tase_tool.specs.Saying.{duty_of, plan_of}
 use Rattle.tase_tool.specs.Sent.{node_of, SendsSoFar, SendsOn, SendsOver, SendsBy}
 use Rattle.tase_tool.proofs.Playing.{plays_alone}
 use Rattle.tase_tool.proofs.Sending.{SendsSoFar-still, output_of, output_kept}
@@ -132,3 +133,27 @@ module _ (b m a : OutsideTold) (status : Status) where
           λ rows. SendsOn-still (node_of rows (limit_of options)) status (output_of b.sinks)
           (output_of a.sinks) (texts_behind (texts_of b) tables scenario) (ap is_whole ran.0)
           (output_kept b m a ran.1 input.1.opens.sinks)
+
+-- words that ask for a task are a command
+pub task_command : (task : Option Task) (texts : List ℕ → Text) → is_some task ≡ true
+    → (duty_of task texts).is_command ≡ true
+task_command None texts asks = absurd (true≢false (sym asks))
+task_command (Some task) texts asks = plan_command (plan_of task) texts
+
+-- with nothing printed, nothing was sent by whatever command
+pub SendsBy-still : (task : Option Task) (texts : List ℕ → Text) (status : Status)
+    (taken : Option (List ℕ)) → is_whole status ≡ false → SendsBy task texts status taken taken
+SendsBy-still (Some (replays tables scenario options)) texts status taken cut = here (texts tables)
+  where
+    over : (r : Result CentreRows ℕ)
+        → IfOk r (SendsOver options status taken taken (texts_behind texts tables scenario))
+    over (Ok rows) = SendsOn-still (node_of rows (limit_of options)) status taken taken
+        (texts_behind texts tables scenario) cut refl
+    over (Err line) = tt
+
+    here : (t : Text) → OnValue tables_in TEXT_LIMIT
+        (SendsOver options status taken taken (texts_behind texts tables scenario)) t
+    here untold = tt
+    here missing = tt
+    here (told octets) = λ within. over (tables_in octets)
+SendsBy-still _ texts status taken cut = tt

@@ -3,7 +3,6 @@ mod Listed
 mod Playing
 mod Telling
 mod Sending
-mod Unasked
 mod Keeping
 mod Journals
 mod Verified

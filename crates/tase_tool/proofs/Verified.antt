@@ -24,7 +24,7 @@ use Rattle.association_check.specs.declared.verdict.Verdict.TheVariants as verdi
 use Rattle.tase_verify.specs.JournalIn.{journal_in}
 use Rattle.tase_verify.specs.LinkText.{given_in}
 use Rattle.tase_verify.specs.Verifying.{journal_setup, answered_for, verdict_for, IsJournal}
-use Rattle.tase_tool.specs.Words.{Question}
+use Rattle.command_words.specs.Words.{Question}
 use Rattle.tase_tool.specs.Verifying.{verdict_said, key_meant, input_asked, sent_plan}
 use Rattle.tase_tool.specs.Verifying.{given_plan, journal_plan, AreAnswers}
 

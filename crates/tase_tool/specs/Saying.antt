@@ -15,8 +15,8 @@ use Rattle.tase_replay.specs.Play.{steps_of, entries_in, scenario_of}
 use Rattle.journal_text.specs.Journals.{journal_text}
 use Rattle.load_run.specs.Generated.{load_tables, load_scenario}
 use Rattle.load_run.specs.Summaries.{summary_text}
-use Rattle.tase_tool.specs.Words.{ReplayOptions, limit_of, Task, replays, lists_stream}
-use Rattle.tase_tool.specs.Words.{no_options, decodes_pdu, verifies, loads}
+use Rattle.command_words.specs.Words.{ReplayOptions, limit_of, Task, replays, lists_stream}
+use Rattle.command_words.specs.Words.{no_options, decodes_pdu, verifies, loads}
 use Rattle.tase_tool.specs.Decoding.{pdu_said}
 use Rattle.tase_tool.specs.Listing.{stream_said}
 use Rattle.tase_tool.specs.Tables.{tables_in}

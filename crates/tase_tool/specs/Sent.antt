@@ -13,7 +13,7 @@ use Rattle.node_core.specs.NodeState.{NodeState}
 use Rattle.tase_replay.specs.Play.{TakenLine, Played, play, first_scene, steps_in, printed_in}
 use Rattle.tase_replay.specs.AllSent.{AreSentOver}
 use Rattle.tase_replay.specs.OrdersPrinted.{AreOrdersPrinted}
-use Rattle.tase_tool.specs.Words.{ReplayOptions, limit_of, Task, replays}
+use Rattle.command_words.specs.Words.{ReplayOptions, limit_of, Task, replays}
 use Rattle.tase_tool.specs.Tables.{tables_in}
 use Rattle.tase_tool.specs.Saying.{setup_of}
 

@@ -21,7 +21,7 @@ use Rattle.tase_verify.specs.JournalIn.{journal_in}
 use Rattle.tase_verify.specs.LinkText.{given_in}
 use Rattle.tase_verify.specs.Verifying.{journal_setup, answered_for, verdict_for}
 use Rattle.tase_tool.specs.declared.verifying.Meant.{Meant}
-use Rattle.tase_tool.specs.Words.{Question}
+use Rattle.command_words.specs.Words.{Question}
 use Rattle.tase_tool.specs.Tables.{tables_in}
 
 -- two hexadecimal digits of an octet, or `-` where there is none

@@ -9,6 +9,5 @@ mod loading;
 mod running;
 mod tables;
 mod verifying;
-mod words;
 
 pub use running::run;

@@ -14,9 +14,9 @@ ghost use Rattle.tase_tool.specs.Saying as own;
 
 use crate::running::new_node;
 use crate::tables::read_lines;
-use crate::words::HISTORY_LIMIT;
 use bilateral::Centre;
 use command_io::{OUTPUT, Refusal, Status, print, refuse, tell_full};
+use command_words::HISTORY_LIMIT;
 use load_run::{KeptText, MOST_ROUNDS, spell_summary, write_load_scenario, write_load_tables};
 use node_core::Node;
 use outside_names::Outside;

@@ -4,9 +4,10 @@ ghost use Rattle.std.specs.Prelude.{false, IfSome, option_map, bytes_eq};
 ghost use Rattle.command_io.specs.Saying.{texts_of, duty_to_say, prints};
 ghost use Rattle.command_io.specs.Runs.{IsRun, TellsSaid, Took, taken_of, output_name};
 ghost use Rattle.command_io.specs.Plans.{says, duty_by, EndsPlan, octets_of};
-ghost use Rattle.tase_tool.specs.Words.{task_in, replays, limit_of, options_seen, AreOptions};
+ghost use Rattle.command_words.specs.Words.{task_in, task_of, replays, limit_of, options_seen};
+ghost use Rattle.command_words.specs.Words.{AreOptions, IsLimited};
 ghost use Rattle.tase_tool.specs.Saying.{scenario_said, scenario_plan, replay_plan, duty_of};
-ghost use Rattle.tase_tool.specs.Saying.{played_said, kept_said};
+ghost use Rattle.tase_tool.specs.Saying.{plan_of, played_said, kept_said};
 ghost use Rattle.tase_tool.specs.Playing.{EndsPlay};
 ghost use Rattle.tase_tool.specs.Sent.{node_of, played_on, SendsSoFar, SendsOver, SendsBy};
 ghost use Rattle.tase_tool.specs.Kept.{HasPlayed};
@@ -18,12 +19,12 @@ use crate::listing::run_listing;
 use crate::loading::run_load;
 use crate::tables::read_tables;
 use crate::verifying::run_verify;
-use crate::words::{Command, Options, read_command};
 use bilateral::Centre;
 use command_io::{
     InputEnd, OUTPUT, Refusal, Status, TEXT_LIMIT, end_unread, print, read_input, tell_full,
     tell_refusal,
 };
+use command_words::{Command, Options, read_command};
 use node_core::Node;
 use outside::{BufferedSink, Sink, SinkFailed};
 use outside_names::Outside;
@@ -67,19 +68,50 @@ pub fn run<O: Outside>(alloc: Global, words: &[String], outside: &mut O) -> Stat
         (taken_of (told.sinks output_name))
         (taken_of ((O.told outside.new).sinks output_name)) }
 {
-    match read_command(words) {
-        Some(
-            Command::Replay {
-                tables,
-                scenario,
-                options,
-            },
-        ) => run_replay(alloc, outside, tables, scenario, options),
-        Some(Command::Decode { capture }) => run_listing(alloc, outside, capture),
-        Some(Command::DecodePdu { capture }) => run_decode(alloc, outside, capture),
-        Some(Command::Verify { question }) => run_verify(alloc, outside, question),
-        Some(Command::Load { rounds }) => run_load(alloc, outside, rounds),
+    match read_command(alloc, words) {
+        Ok(command) => run_command(alloc, outside, command),
+        Err(AllocError) => Status::Memory,
+    }
+}
+
+// Runs the command that words ask for; where they ask for none, it says so.
+fn run_command<O: Outside>(alloc: Global, outside: &mut O, command: Option<Command<'_>>) -> Status
+    requires { IfSome command IsLimited }
+    ensures runs { let told = O.told outside.old in
+        IsRun (duty_of (option_map task_of command.entry) (texts_of told))
+        told (O.told outside.new) result }
+    ensures sent { let told = O.told outside.old in
+        SendsBy (option_map task_of command.entry) (texts_of told) result
+        (taken_of (told.sinks output_name))
+        (taken_of ((O.told outside.new).sinks output_name)) }
+{
+    match command {
+        Some(command) => run_task(alloc, outside, command),
         None => print(outside, Status::Usage, b"usage\n"),
+    }
+}
+
+// Runs a command.
+fn run_task<O: Outside>(alloc: Global, outside: &mut O, command: Command<'_>) -> Status
+    requires { IsLimited command }
+    ensures runs { let told = O.told outside.old in
+        IsRun (duty_by (plan_of (task_of command.entry)) (texts_of told))
+        told (O.told outside.new) result }
+    ensures sent { let told = O.told outside.old in
+        SendsBy (Some (task_of command.entry)) (texts_of told) result
+        (taken_of (told.sinks output_name))
+        (taken_of ((O.told outside.new).sinks output_name)) }
+{
+    match command {
+        Command::Replay {
+            tables,
+            scenario,
+            options,
+        } => run_replay(alloc, outside, tables, scenario, options),
+        Command::Decode { capture } => run_listing(alloc, outside, capture),
+        Command::DecodePdu { capture } => run_decode(alloc, outside, capture),
+        Command::Verify { question } => run_verify(alloc, outside, question),
+        Command::Load { rounds } => run_load(alloc, outside, rounds),
     }
 }
 

@@ -14,19 +14,19 @@ ghost use Rattle.tase_views.specs.History.{Past};
 ghost use Rattle.tase_verify.specs.JournalIn.{journal_in};
 ghost use Rattle.tase_verify.specs.LinkText.{given_in};
 ghost use Rattle.tase_verify.specs.Verifying.{journal_setup, verdict_for};
-ghost use Rattle.tase_tool.specs.Words.{question_seen};
+ghost use Rattle.command_words.specs.Words.{question_seen};
 ghost use Rattle.tase_tool.specs.Verifying.{verdict_said, link_given, AreAnswers, IsMeant};
 ghost use Rattle.tase_tool.specs.Verifying.{sent_plan, given_plan, journal_plan, verify_plan};
 ghost use Rattle.tase_tool.specs.Verifying as own;
 
 use crate::captures::read_octets;
 use crate::tables::read_tables;
-use crate::words::Question;
 use association_check::{AnsweredEvent, Verdict};
 use bilateral::Centre;
 use command_io::{
     InputEnd, JOURNAL_LIMIT, Status, TEXT_LIMIT, end_unread, print, read_input, value_or_end,
 };
+use command_words::Question;
 use outside_names::Outside;
 use plain_text::{push_decimal, push_hex};
 use sbo_device::Key;

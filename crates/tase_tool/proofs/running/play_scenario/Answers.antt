@@ -2,7 +2,7 @@ use Rattle.std.proofs.Common.{refl, subst, true, option_map}
 use Rattle.command_io.specs.declared.status.Status.TheVariants.{Memory}
 use Rattle.command_io.specs.Saying.{duty_to_say}
 use Rattle.command_io.specs.Runs.{IsRun, Took}
-use Rattle.tase_tool.specs.Words.{limit_of, options_seen}
+use Rattle.command_words.specs.Words.{limit_of, options_seen}
 use Rattle.command_io.proofs.Running.{IsRun-idle}
 use Rattle.tase_tool.specs.Saying.{kept_said, scenario_said}
 use Rattle.tase_tool.specs.Sent.{node_of, played_on, SendsSoFar}

@@ -1,5 +1,5 @@
 use Rattle.command_io.proofs.Plans.{IsRun-value}
-use Rattle.tase_tool.specs.Words.{options_seen}
+use Rattle.command_words.specs.Words.{options_seen}
 use Rattle.tase_tool.specs.Tables.{tables_in}
 use Rattle.tase_tool.specs.Saying.{tables_asked, scenario_plan}
 use Rattle.tase_tool.proofs.Duties.{scenario_fits, SendsBy-read}

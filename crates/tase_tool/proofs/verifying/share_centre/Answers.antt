@@ -4,7 +4,7 @@ use Rattle.command_io.specs.Runs.{IsRun}
 use Rattle.command_io.specs.Plans.{duty_by}
 use Rattle.command_io.proofs.Running.{IsRun-idle}
 use Rattle.command_io.proofs.Plans.{plan_command}
-use Rattle.tase_tool.specs.Words.{question_seen}
+use Rattle.command_words.specs.Words.{question_seen}
 use Rattle.tase_tool.specs.Verifying.{journal_plan}
 use Rattle.tase_tool.proofs.verifying.share_centre.Goals as goal
 

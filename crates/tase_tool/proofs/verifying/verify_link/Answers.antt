@@ -5,7 +5,7 @@ use Rattle.command_io.specs.Plans.{says, octets_of}
 use Rattle.command_io.proofs.Plans.{IsRun-value}
 use Rattle.capture_text.specs.Captures.{capture_in}
 use Rattle.tase_verify.specs.Verifying.{verdict_for}
-use Rattle.tase_tool.specs.Words.{question_seen}
+use Rattle.command_words.specs.Words.{question_seen}
 use Rattle.tase_tool.specs.Verifying.{input_asked, verdict_said}
 use Rattle.tase_tool.proofs.Verified.{verdict_fits}
 use Rattle.tase_tool.proofs.verifying.verify_link.Goals as goal

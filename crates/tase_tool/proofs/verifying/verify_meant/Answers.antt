@@ -3,7 +3,7 @@ use Rattle.command_io.specs.declared.input.TheConstants.{TEXT_LIMIT}
 use Rattle.command_io.specs.Inputs.{value_as}
 use Rattle.command_io.proofs.Plans.{IsRun-value}
 use Rattle.tase_verify.specs.LinkText.{given_in}
-use Rattle.tase_tool.specs.Words.{question_seen}
+use Rattle.command_words.specs.Words.{question_seen}
 use Rattle.tase_tool.specs.Verifying.{input_asked, link_given, sent_plan}
 use Rattle.tase_tool.proofs.Verified.{sent_fits}
 use Rattle.tase_tool.proofs.verifying.verify_meant.Goals as goal
