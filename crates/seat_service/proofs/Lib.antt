@@ -7,3 +7,4 @@ pub mod Answered
 pub mod Wanting
 pub mod Going
 pub mod Sending
+pub mod Peers

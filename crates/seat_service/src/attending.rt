@@ -15,6 +15,7 @@ ghost use Rattle.node_turn.specs.Logged.{past_in};
 ghost use Rattle.seat_service.specs.Serving.{shared_setup, SeatAttends, IsCutBySeat, SeatTakes};
 ghost use Rattle.seat_service.specs.Serving.{IsServersEnd, IsShut, ClosesOverAll, ClosesAsked};
 ghost use Rattle.seat_service.specs.Serving.{WantsOfSeat, AnswersOfSeat, GoesOrShuts};
+ghost use Rattle.seat_service.specs.Peers.{HasItsPeer, KeepsPeer};
 
 use node_turn::TurnNode;
 use share_turn::{Seat, Shared};
@@ -54,6 +55,8 @@ pub fn attend_seat<R: Wait>(
         conn.old
         → SendsOn (shared_setup shared.now.setup) seat.old.number items said conn.old
         (past_in seat.new.front) conn.new }
+    ensures peer { HasItsPeer (past_in seat.old.front) seat.old.number conn.old
+        → HasItsPeer (past_in seat.new.front) seat.new.number conn.new }
 {
     let attendant = Attendant { rt, alloc, shared };
     attendant.attend(seat, conn);
@@ -87,6 +90,8 @@ pub fn leave_seat<R: Wait>(
         conn.old
         → SendsOn (shared_setup shared.now.setup) seat.old.number items said conn.old
         (past_in seat.new.front) conn.new }
+    ensures peer { HasItsPeer (past_in seat.old.front) seat.old.number conn.old
+        → HasItsPeer (past_in seat.new.front) seat.new.number conn.new }
 {
     conn.give_up(end);
     let attendant = Attendant { rt, alloc, shared };
@@ -118,6 +123,8 @@ impl<'a, R: Wait> Attendant<'a, R> {
             items said None conn.old
             → SeatTakes (shared_setup self.now.shared.now.setup) (past_in seat.old.front)
             seat.old.number items (past_in seat.new.front) (conn_end_in conn.new.progress) }
+        ensures peer { HasItsPeer (past_in seat.old.front) seat.old.number conn.old
+            → HasItsPeer (past_in seat.new.front) seat.new.number conn.new }
     {
         while let Some(event) = self.wanted(seat, conn) {
             if !self.answer(seat, conn, event) {
@@ -139,6 +146,8 @@ impl<'a, R: Wait> Attendant<'a, R> {
             items said None conn.old
             → WantsOfSeat (shared_setup self.now.shared.now.setup) (past_in seat.old.front)
             seat.old.number items said conn.old result (past_in seat.new.front) conn.new }
+        ensures peer { HasItsPeer (past_in seat.old.front) seat.old.number conn.old
+            → HasItsPeer (past_in seat.new.front) seat.new.number conn.new }
     {
         match conn.want() {
             Ok(event) => event,
@@ -164,6 +173,8 @@ impl<'a, R: Wait> Attendant<'a, R> {
             items said (Some event) conn.old
             → AnswersOfSeat (shared_setup self.now.shared.now.setup) (past_in seat.old.front)
             seat.old.number items said event conn.old result (past_in seat.new.front) conn.new }
+        ensures peer { HasItsPeer (past_in seat.old.front) seat.old.number conn.old
+            → HasItsPeer (past_in seat.new.front) seat.new.number conn.new }
     {
         match self.shared.call(self.rt, self.alloc, seat, event) {
             Ok(answer) => match conn.tell(Ok(answer)) {
@@ -194,6 +205,7 @@ impl<'a, R: Wait> Attendant<'a, R> {
         ensures seen { IsPrefix seat.old.front seat.new.front }
         ensures goes { GoesOrShuts result self.now.shared.now.setup.centre seat.old.number
             (past_in seat.old.front) conn.old (past_in seat.new.front) conn.new }
+        ensures peer { KeepsPeer conn.old conn.new }
     {
         if !conn.is_leaving() {
             return true;
@@ -212,6 +224,7 @@ impl<'a, R: Wait> Attendant<'a, R> {
         ensures shuts { IsShut seat.old.number (past_in seat.old.front) (past_in seat.new.front) }
         ensures closes { ClosesOverAll self.now.shared.now.setup.centre seat.old.number conn.old
             conn.new }
+        ensures peer { KeepsPeer conn.old conn.new }
     {
         match wanted_close(conn) {
             Some(event) => self.take_close(seat, conn, event),
@@ -229,6 +242,7 @@ impl<'a, R: Wait> Attendant<'a, R> {
         ensures shuts { IsShut seat.old.number (past_in seat.old.front) (past_in seat.new.front) }
         ensures closes { ClosesAsked self.now.shared.now.setup.centre seat.old.number event
             conn.old conn.new }
+        ensures peer { KeepsPeer conn.old conn.new }
     {
         match self.shared.call(self.rt, self.alloc, seat, event) {
             Ok(answer) => {
@@ -246,7 +260,8 @@ fn wanted_close(conn: &mut Conn) -> Option<Event>
     requires over { is_running conn.old.progress ≡ false }
     requires free { IsFree conn.old.progress }
     requires placed { IsPlaced conn.old }
-    ensures { WantsSo result conn.old conn.new }
+    ensures wants { WantsSo result conn.old conn.new }
+    ensures stage { conn.new.stage ≡ conn.old.stage }
 {
     match conn.want() {
         Ok(event) => event,

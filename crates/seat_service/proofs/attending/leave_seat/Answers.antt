@@ -1,8 +1,12 @@
+use Rattle.std.proofs.Common.{ℕ}
 use Rattle.conn_service.proofs.Going.{served_placed}
 use Rattle.node_turn.specs.Logged.{past_in}
 use Rattle.seat_service.specs.Serving.{shared_setup}
 use Rattle.seat_service.proofs.Left.{running_free, left_parting, left_shut}
 use Rattle.seat_service.proofs.Sending.{cut_sends}
+use Rattle.seat_service.specs.Peers.{HasItsPeer}
+use Rattle.seat_service.proofs.Behind.{SeatLog, of_seat}
+use Rattle.seat_service.proofs.Peers.{given_peer, shut_peer}
 use Rattle.seat_service.proofs.attending.leave_seat.Goals as goal
 
 pub give_up-requires-clause-free : goal.give_up-requires-clause-free
@@ -30,3 +34,13 @@ returns-clause-sends g c = λ items said s.
     cut_sends (shared_setup c.args.shared.now.setup) c.args.seat.now.number items said c.args.end
     c.args.conn.now (past_in c.close.new.seat.front) c.close.new.conn
     (returns-clause-left g c items said s)
+
+pub returns-clause-peer : goal.returns-clause-peer
+returns-clause-peer g c = λ h.
+    let past = past_in c.args.seat.now.front in
+    let who = c.args.seat.now.number in
+    of_seat (λ (n : ℕ) (f : SeatLog). HasItsPeer (past_in f) n c.close.new.conn) c.args.seat.now
+    c.close.new.seat c.close.ensures.same
+    (shut_peer past (past_in c.close.new.seat.front) who c.give_up.new.self c.close.new.conn
+    c.close.ensures.shuts c.close.ensures.peer
+    (given_peer past who c.args.end c.args.conn.now c.give_up.new.self c.give_up.ensures.left h))

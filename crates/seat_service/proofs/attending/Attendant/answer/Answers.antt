@@ -1,4 +1,5 @@
-use Rattle.std.proofs.Common.{ℕ, refl, inl, inr}
+use Rattle.std.proofs.Common.{ℕ, refl, ap, inl, inr}
+use Rattle.tase_conn.specs.Talking.{Talking}
 use Rattle.conn_service.specs.Attending.{IsParting}
 use Rattle.conn_service.proofs.Going.{asking_placed}
 use Rattle.conn_service.proofs.Memory.{unnoted_free, stays_placed}
@@ -9,6 +10,8 @@ use Rattle.seat_service.proofs.Behind.{at_twice, prefix_then}
 use Rattle.seat_service.proofs.Answered.{answer_told, refusal_told, told_parting, told_on}
 use Rattle.seat_service.proofs.Answered.{unnoted_parting, unnoted_shut}
 use Rattle.seat_service.proofs.Answered.{refused_parting, refused_shut}
+use Rattle.seat_service.specs.Peers.{HasItsPeer}
+use Rattle.seat_service.proofs.Peers.{told_peer, refused_peer, given_peer, shut_peer, goes_peer}
 use Rattle.seat_service.proofs.attending.Attendant.answer.Goals as goal
 
 -- the node has answered
@@ -154,3 +157,51 @@ returns-in-Err-clause-same g c = at_twice c.args.seat.now c.call.new.seat c.clos
 pub returns-in-Err-clause-seen : goal.returns-in-Err-clause-seen
 returns-in-Err-clause-seen g c = prefix_then c.args.seat.now.front c.call.new.seat.front
     c.close-in-Err.new.seat.front c.call.ensures.seen c.close-in-Err.ensures.seen
+
+-- whose association it is
+pub returns-in-Ok-tell-clause-peer : goal.returns-in-Ok-tell-clause-peer
+returns-in-Ok-tell-clause-peer g c = λ h.
+    let middle = c.call.new.seat in
+    of_seat (λ (n : ℕ) (f : SeatLog). HasItsPeer (past_in f) n c.goes_on.new.conn) middle
+    c.goes_on.new.seat c.goes_on.ensures.same
+    (goes_peer c.goes_on.result c.args.self.now.shared.now.setup.centre (past_in middle.front)
+    (past_in c.goes_on.new.seat.front) middle.number c.tell.new.self c.goes_on.new.conn
+    c.goes_on.ensures.goes c.goes_on.ensures.peer
+    (of_seat (λ (n : ℕ) (f : SeatLog). HasItsPeer (past_in f) n c.tell.new.self) c.args.seat.now
+    middle c.call.ensures.same
+    (told_peer (shared_setup c.args.self.now.shared.now.setup) (past_in c.args.seat.now.front)
+    (past_in middle.front) c.args.seat.now.number c.args.event c.in-Ok.answer c.args.conn.now
+    c.tell.new.self (came_behind c.args.self.now.shared.now.setup c.args.seat.now c.args.event _
+    middle.front c.in-Ok.ensures.one) c.in-Ok-tell.ensures.told.stage c.requires.waits h)))
+
+pub returns-in-Err-tell-clause-peer : goal.returns-in-Err-tell-clause-peer
+returns-in-Err-tell-clause-peer g c = λ h.
+    let middle = c.call.new.seat in
+    of_seat (λ (n : ℕ) (f : SeatLog). HasItsPeer (past_in f) n c.close.new.conn) middle
+    c.close.new.seat c.close.ensures.same
+    (shut_peer (past_in middle.front) (past_in c.close.new.seat.front) middle.number
+    c.give_up.new.self c.close.new.conn c.close.ensures.shuts c.close.ensures.peer
+    (given_peer (past_in middle.front) middle.number _ c.tell.new.self c.give_up.new.self
+    c.give_up.ensures.left
+    (of_seat (λ (n : ℕ) (f : SeatLog). HasItsPeer (past_in f) n c.tell.new.self) c.args.seat.now
+    middle c.call.ensures.same
+    (told_peer (shared_setup c.args.self.now.shared.now.setup) (past_in c.args.seat.now.front)
+    (past_in middle.front) c.args.seat.now.number c.args.event c.in-Ok.answer c.args.conn.now
+    c.tell.new.self (came_behind c.args.self.now.shared.now.setup c.args.seat.now c.args.event _
+    middle.front c.in-Ok.ensures.one)
+    (ap (λ (v : Talking). v.stage) c.in-Err-tell.ensures.err) c.requires.waits h))))
+
+pub returns-in-Err-clause-peer : goal.returns-in-Err-clause-peer
+returns-in-Err-clause-peer g c = λ h.
+    let middle = c.call.new.seat in
+    let new = c.close-in-Err.new in
+    of_seat (λ (n : ℕ) (f : SeatLog). HasItsPeer (past_in f) n new.conn) middle new.seat
+    c.close-in-Err.ensures.same
+    (shut_peer (past_in middle.front) (past_in new.seat.front) middle.number c.tell-told.new.self
+    new.conn c.close-in-Err.ensures.shuts c.close-in-Err.ensures.peer
+    (of_seat (λ (n : ℕ) (f : SeatLog). HasItsPeer (past_in f) n c.tell-told.new.self)
+    c.args.seat.now middle c.call.ensures.same
+    (refused_peer (shared_setup c.args.self.now.shared.now.setup) (past_in c.args.seat.now.front)
+    (past_in middle.front) c.args.seat.now.number c.args.event c.in-Err.fault _ c.args.conn.now
+    c.tell-told.new.self (came_behind c.args.self.now.shared.now.setup c.args.seat.now c.args.event
+    _ middle.front c.in-Err.ensures.one) (c.tell-told.ensures.refused c.in-Err.fault refl) h)))

@@ -17,6 +17,7 @@ loop-event-init g c = record {
   served = c.requires.served;
   serves = serves_first (shared_setup c.args.self.now.shared.now.setup) c.args.seat.now.number
       (past_in c.args.seat.now.front) c.args.conn.now;
+  peer = λ h. h;
 }
 
 pub answer-requires-clause-waits : goal.answer-requires-clause-waits
@@ -66,6 +67,7 @@ loop-event-preserved g c =
           c.wanted.new.conn) first wants)
           (subst (λ (n : ℕ). SeatAnswers setup n next event c.wanted.new.conn true after
           c.answer.new.conn) first answers);
+      peer = λ h. c.answer.ensures.peer (c.wanted.ensures.peer (c.loop-event.invariant.peer h));
     }
 
 pub loop-event-smaller : goal.loop-event-smaller

@@ -4,6 +4,7 @@ use Rattle.conn_service.specs.Attending.{IsServed, remaining}
 use Rattle.share_turn.specs.Public.{at}
 use Rattle.node_turn.specs.Logged.{past_in}
 use Rattle.seat_service.specs.Serving.{shared_setup}
+use Rattle.seat_service.specs.Peers.{HasItsPeer}
 use Rattle.seat_service.proofs.Going.{SeatServes}
 use Rattle.seat_service.proofs.attending.Attendant.attend.Given as goal
 
@@ -14,6 +15,8 @@ invariant-loop-event g l = record {
   served : IsServed l.fn.self.shared.now.setup.centre (past_in l.seat.front) l.seat.number l.conn;
   serves : SeatServes (shared_setup l.fn.self.shared.now.setup) l.initial.seat.number
       (past_in l.initial.seat.front) l.initial.conn (past_in l.seat.front) l.conn;
+  peer : HasItsPeer (past_in l.initial.seat.front) l.initial.seat.number l.initial.conn
+      → HasItsPeer (past_in l.seat.front) l.seat.number l.conn;
 }
 
 abbrev pub decreases-loop-event : goal.decreases-loop-event

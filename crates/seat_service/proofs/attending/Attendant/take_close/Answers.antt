@@ -4,6 +4,7 @@ use Rattle.seat_service.specs.Serving.{shared_setup}
 use Rattle.seat_service.proofs.Behind.{came_behind}
 use Rattle.seat_service.proofs.Closing.{asked_answer, asked_shut, asked_unrefused}
 use Rattle.seat_service.proofs.Over.{closed_over}
+use Rattle.seat_service.proofs.Peers.{closed_keeps}
 use Rattle.seat_service.proofs.attending.Attendant.take_close.Goals as goal
 
 pub tell-told-requires-clause-right : goal.tell-told-requires-clause-right
@@ -42,6 +43,23 @@ returns-in-Err-clause-shuts g c =
 
 pub returns-in-Err-clause-closes : goal.returns-in-Err-clause-closes
 returns-in-Err-clause-closes g c = λ past whole end standing items said first a.
+    absurd (asked_unrefused (shared_setup c.args.self.now.shared.now.setup)
+    (past_in c.args.seat.now.front) (past_in c.call.new.seat.front) c.args.seat.now.number
+    c.args.event c.in-Err.field-0 c.args.conn.now c.requires.asks
+    (came_behind c.args.self.now.shared.now.setup c.args.seat.now c.args.event _
+    c.call.new.seat.front c.in-Err.ensures.one))
+
+pub returns-in-Ok-clause-peer : goal.returns-in-Ok-clause-peer
+returns-in-Ok-clause-peer g c =
+    let a = c.requires.asks in
+    closed_keeps c.args.self.now.shared.now.setup.centre (past_in c.args.seat.now.front)
+    c.args.seat.now.number c.args.event c.in-Ok.answer c.args.conn.now c.tell-told.new.self a
+    (told_ok _ c.tell-told.result
+    (c.tell-told.ensures.left (close_leaves c.args.conn.now a.1 a.6.progress))
+    c.tell-told.ensures.told)
+
+pub returns-in-Err-clause-peer : goal.returns-in-Err-clause-peer
+returns-in-Err-clause-peer g c =
     absurd (asked_unrefused (shared_setup c.args.self.now.shared.now.setup)
     (past_in c.args.seat.now.front) (past_in c.call.new.seat.front) c.args.seat.now.number
     c.args.event c.in-Err.field-0 c.args.conn.now c.requires.asks

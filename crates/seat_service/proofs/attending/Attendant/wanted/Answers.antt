@@ -1,8 +1,12 @@
+use Rattle.std.proofs.Common.{ℕ, ◌∙◌}
 use Rattle.conn_service.proofs.Going.{served_free, served_placed}
 use Rattle.conn_service.proofs.Memory.{given_parting, given_placed, idle_free, runs_on}
 use Rattle.node_turn.specs.Logged.{past_in}
 use Rattle.seat_service.specs.Serving.{shared_setup}
 use Rattle.seat_service.proofs.Wanting.{wants_found, given_shut}
+use Rattle.seat_service.specs.Peers.{HasItsPeer}
+use Rattle.seat_service.proofs.Behind.{SeatLog, of_seat}
+use Rattle.seat_service.proofs.Peers.{stage_keeps, given_peer, shut_peer}
 use Rattle.seat_service.proofs.attending.Attendant.wanted.Goals as goal
 
 pub want-requires-clause-free : goal.want-requires-clause-free
@@ -42,3 +46,18 @@ returns-in-Err-clause-wants g c = λ items said s.
     (runs_on c.args.conn.now.progress c.in-Err.ensures.over) c.in-Err.ensures.err
     c.in-Err.ensures.again c.want.ensures.stage c.give_up.ensures.stands c.give_up.ensures.left
     c.close.ensures.closes c.close.ensures.shuts s
+
+pub returns-in-Ok-clause-peer : goal.returns-in-Ok-clause-peer
+returns-in-Ok-clause-peer g c = λ h.
+    stage_keeps c.args.conn.now c.want.new.self c.want.ensures.stage ∙ h
+
+pub returns-in-Err-clause-peer : goal.returns-in-Err-clause-peer
+returns-in-Err-clause-peer g c = λ h.
+    let past = past_in c.args.seat.now.front in
+    let who = c.args.seat.now.number in
+    of_seat (λ (n : ℕ) (f : SeatLog). HasItsPeer (past_in f) n c.close.new.conn) c.args.seat.now
+    c.close.new.seat c.close.ensures.same
+    (shut_peer past (past_in c.close.new.seat.front) who c.give_up.new.self c.close.new.conn
+    c.close.ensures.shuts c.close.ensures.peer
+    (given_peer past who _ c.want.new.self c.give_up.new.self c.give_up.ensures.left
+    (stage_keeps c.args.conn.now c.want.new.self c.want.ensures.stage ∙ h)))
