@@ -80,3 +80,18 @@ impl<S: Source, C: Clock> Job for NodeJob<S, C> {
         }
     }
 }
+
+/// A job whose source and clock may go to another thread may go there too: this compiles. It gives
+/// the job back.
+pub fn job_may_be_sent<S: Send, C: Send>(job: NodeJob<S, C>) -> NodeJob<S, C>
+    ensures { result ≡ job }
+{
+    sent_over(job)
+}
+
+/// Takes what may go to another thread.
+fn sent_over<T: Send>(value: T) -> T
+    ensures { result ≡ value }
+{
+    value
+}

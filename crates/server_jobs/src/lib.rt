@@ -7,5 +7,5 @@ mod job;
 mod parts;
 
 pub use done::NodeDone;
-pub use job::NodeJob;
+pub use job::{NodeJob, job_may_be_sent};
 pub use parts::JobParts;
